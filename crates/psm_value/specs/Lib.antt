@@ -1,0 +1,4 @@
+pub mod Condition
+pub mod Datum
+pub mod Number
+pub mod Stored
