@@ -1,0 +1,9 @@
+pub mod Numeral
+pub mod Names
+pub mod Spelling
+pub mod Accepted
+pub mod Frame
+pub mod Meaning
+pub mod Piece
+pub mod Session
+pub mod Reading

@@ -1,0 +1,16 @@
+//! The tree of a module file and of a script, with its spelling, its meaning and its reader.
+//!
+//! `specs/` says what a file spells (`Spelling`), which files are accepted (`Accepted`), and what an
+//! accepted module and script mean (`Meaning`, `Session`). None of these knows the machine.
+#![tactic(auto)]
+
+mod fault;
+mod name;
+mod tree;
+
+pub use fault::ReadFault;
+pub use name::{Name, Numeral};
+pub use tree::{
+    Argument, Command, Mode, Module, Operand, Parameter, Procedure, Script, Sign, Signature,
+    Statement, Sum, Term,
+};
