@@ -1,0 +1,4 @@
+pub mod Entry
+pub mod Frames
+pub mod Simulation
+pub mod Agreement

@@ -1,0 +1,6 @@
+pub mod WellFormed
+pub mod Machine
+pub mod State
+pub mod RunEnd
+pub mod Lowered
+pub mod Played
