@@ -2,7 +2,7 @@
 ghost use Rattle.std.specs.Prelude.{◌≡◌, [], ◌∷◌, ◌++◌, None, IsSome, IfOk, OnErr, MatchResult};
 ghost use Rattle.psm_tree.specs.Names.{place_of, names_of};
 ghost use Rattle.psm_tree.specs.Accepted.{AreDistinct};
-ghost use Rattle.psm_tree.specs.NameIndex.{Adds};
+ghost use Rattle.psm_tree.specs.NameIndex.{Adds, Indexes};
 
 use crate::name::Name;
 use crate::tree::Parameter;
@@ -57,4 +57,31 @@ impl Names {
             Some(place) => Some(place as u32),
         }
     }
+
+    /// The names of parameters, which differ.
+    pub fn of(alloc: Global, parameters: &[Parameter]) -> Result<Names, AllocError>
+        requires { AreDistinct (names_of parameters.now) }
+        ensures { IfOk result (λ names. names ≡ names_of parameters.now) }
+    {
+        match distinct_names(alloc, parameters)? {
+            Some(names) => Ok(names),
+            None => unreachable!(),
+        }
+    }
+}
+
+/// The names of parameters, or `None` where one stands twice.
+pub(crate) fn distinct_names(
+    alloc: Global,
+    parameters: &[Parameter],
+) -> Result<Option<Names>, AllocError>
+    ensures { IfOk result (Indexes (names_of parameters.now)) }
+{
+    let mut names = Names::new(alloc);
+    for parameter in parameters {
+        if !names.add(alloc, &parameter.name)? {
+            return Ok(None);
+        }
+    }
+    Ok(Some(names))
 }
