@@ -7,3 +7,4 @@ pub mod Meaning
 pub mod Piece
 pub mod Session
 pub mod Reading
+pub mod NameIndex

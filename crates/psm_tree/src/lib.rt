@@ -6,10 +6,12 @@
 
 mod fault;
 mod name;
+mod names;
 mod tree;
 
 pub use fault::ReadFault;
 pub use name::{Name, Numeral};
+pub use names::Names;
 pub use tree::{
     Argument, Command, Mode, Module, Operand, Parameter, Procedure, Script, Sign, Signature,
     Statement, Sum, Term,
