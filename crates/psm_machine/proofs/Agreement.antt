@@ -40,30 +40,26 @@ ended-halted : (ps : List Parameter) (turns : ℕ) (outcome : Outcome) (frame : 
 ended-halted ps turns Normal frame s = ap (λ (values : List Datum). record { ending = meaning.Ended values; turns = turns }) (results-values ps frame s)
 ended-halted ps turns (meaning.Raised c) frame s = refl
 
--- the code of a procedure
-pub record IsCodeOf (p : Procedure) (code : Code) : Type 0 where
-  pub signature : code.signature ≡ p.signature
-  pub lines : code.lines ≡ body_lines (names_of p.signature.parameters) p.body
-
-run_with-turn : (p : Procedure) (code : Code) (frame : Frame) (turns : ℕ) → IsCodeOf p code → IsResolved p.signature.parameters p.body → Stands p.signature.parameters frame
+-- a code with that signature and those lines stands for the procedure
+run_with-turn : (p : Procedure) (code : Code) (frame : Frame) (turns : ℕ) → code.signature ≡ p.signature → code.lines ≡ body_lines (names_of p.signature.parameters) p.body → IsResolved p.signature.parameters p.body → Stands p.signature.parameters frame
     → run_with code turns (values_of frame) ≡ Some (from_entry p.body (Ok frame) turns)
-run_with-turn p code frame zero is resolved s = refl
-run_with-turn p code frame (suc turns) is resolved s =
-    ap (λ (ps : List Parameter). option_map (ended ps turns) (halt code.lines (with_operands frame []))) (ap (λ (x : Signature). x.parameters) is.signature)
+run_with-turn p code frame zero same lines resolved s = refl
+run_with-turn p code frame (suc turns) same lines resolved s =
+    ap (λ (ps : List Parameter). option_map (ended ps turns) (halt code.lines (with_operands frame []))) (ap (λ (x : Signature). x.parameters) same)
     ∙ ap (λ (h : Option Halt). option_map (ended p.signature.parameters turns) h)
-    (ap (λ ls. halt ls (with_operands frame [])) is.lines ∙ body_runs p.signature.parameters frame p.body s resolved)
+    (ap (λ ls. halt ls (with_operands frame [])) lines ∙ body_runs p.signature.parameters frame p.body s resolved)
     ∙ ap Some (ended-halted p.signature.parameters turns (executed p.body frame).outcome (executed p.body frame).frame (executed-stands p.signature.parameters frame p.body s))
 
-run_from-entry : (p : Procedure) (code : Code) (entry : Result Frame Condition) (turns : ℕ) → IsCodeOf p code → IsResolved p.signature.parameters p.body → IfFrame entry (Stands p.signature.parameters)
+run_from-entry : (p : Procedure) (code : Code) (entry : Result Frame Condition) (turns : ℕ) → code.signature ≡ p.signature → code.lines ≡ body_lines (names_of p.signature.parameters) p.body → IsResolved p.signature.parameters p.body → IfFrame entry (Stands p.signature.parameters)
     → run_from code turns (as_slots entry) ≡ Some (from_entry p.body entry turns)
-run_from-entry p code (Ok frame) turns is resolved s = run_with-turn p code frame turns is resolved s
-run_from-entry p code (Err c) turns is resolved s = refl
+run_from-entry p code (Ok frame) turns same lines resolved s = run_with-turn p code frame turns same lines resolved s
+run_from-entry p code (Err c) turns same lines resolved s = refl
 
-pub ran-activated : (p : Procedure) (code : Code) → IsCodeOf p code → IsResolved p.signature.parameters p.body → (args : List Datum) (turns : ℕ) → ran code args turns ≡ Some (activated p args turns)
-ran-activated p code is resolved args turns =
-    ap (λ (x : Signature). run_from code turns (entry_slots x.parameters args)) is.signature
+pub ran-activated : (p : Procedure) (code : Code) → code.signature ≡ p.signature → code.lines ≡ body_lines (names_of p.signature.parameters) p.body → IsResolved p.signature.parameters p.body → (args : List Datum) (turns : ℕ) → ran code args turns ≡ Some (activated p args turns)
+ran-activated p code same lines resolved args turns =
+    ap (λ (x : Signature). run_from code turns (entry_slots x.parameters args)) same
     ∙ ap (run_from code turns) (entry_slots-frame p.signature.parameters args)
-    ∙ run_from-entry p code (entry_frame p.signature.parameters args) turns is resolved (entry_frame-stands p.signature.parameters args)
+    ∙ run_from-entry p code (entry_frame p.signature.parameters args) turns same lines resolved (entry_frame-stands p.signature.parameters args)
 
 -- ---- scripts
 
@@ -75,13 +71,13 @@ after_call-same k signature call f g e = here call.ending
     here (meaning.Left c) = ap (λ (s : Session). then_more (call_piece k signature (meaning.Left c)) s) (e call.turns)
     here meaning.TurnsUsed = refl
 
-played_from-commands_from : (k : ℕ) (m : Module) (code : Code) (cs : List Command) (turns : ℕ) → IsCodeOf m.procedure code → IsResolved m.procedure.signature.parameters m.procedure.body
+played_from-commands_from : (k : ℕ) (m : Module) (code : Code) (cs : List Command) (turns : ℕ) → code.signature ≡ m.procedure.signature → code.lines ≡ body_lines (names_of m.procedure.signature.parameters) m.procedure.body → IsResolved m.procedure.signature.parameters m.procedure.body
     → played_from k code cs turns ≡ commands_from k m cs turns
-played_from-commands_from k m code [] turns is resolved = refl
-played_from-commands_from k m code (Call name args ∷ cs) turns is resolved =
-    ap (λ (run : Option Activated). after_run k code.signature run (played_from (k + 1) code cs)) (ran-activated m.procedure code is resolved (given args) turns)
-    ∙ ap (λ (x : Signature). after_call k x (activated m.procedure (given args) turns) (played_from (k + 1) code cs)) is.signature
-    ∙ after_call-same k m.procedure.signature (activated m.procedure (given args) turns) (played_from (k + 1) code cs) (commands_from (k + 1) m cs) (λ t. played_from-commands_from (k + 1) m code cs t is resolved)
+played_from-commands_from k m code [] turns same lines resolved = refl
+played_from-commands_from k m code (Call name args ∷ cs) turns same lines resolved =
+    ap (λ (run : Option Activated). after_run k code.signature run (played_from (k + 1) code cs)) (ran-activated m.procedure code same lines resolved (given args) turns)
+    ∙ ap (λ (x : Signature). after_call k x (activated m.procedure (given args) turns) (played_from (k + 1) code cs)) same
+    ∙ after_call-same k m.procedure.signature (activated m.procedure (given args) turns) (played_from (k + 1) code cs) (commands_from (k + 1) m cs) (λ t. played_from-commands_from (k + 1) m code cs t same lines resolved)
 
-pub played-session : (m : Module) (code : Code) → IsCodeOf m.procedure code → IsResolved m.procedure.signature.parameters m.procedure.body → (s : Script) (turns : ℕ) → played code s turns ≡ session m s turns
-played-session m code is resolved s turns = played_from-commands_from 1 m code s.commands turns is resolved
+pub played-session : (m : Module) (code : Code) → code.signature ≡ m.procedure.signature → code.lines ≡ body_lines (names_of m.procedure.signature.parameters) m.procedure.body → IsResolved m.procedure.signature.parameters m.procedure.body → (s : Script) (turns : ℕ) → played code s turns ≡ session m s turns
+played-session m code same lines resolved s turns = played_from-commands_from 1 m code s.commands turns same lines resolved

@@ -28,11 +28,11 @@ Stands (p ∷ ps) [] = ⊥
 
 -- ---- look-up and assignment
 
-some_suc : (o : Option ℕ) → IsSome (option_map suc o) → IsSome o
+pub some_suc : (o : Option ℕ) → IsSome (option_map suc o) → IsSome o
 some_suc (Some k) h = refl
 some_suc None h = absurd cc
 
-slot_suc : (o : Option ℕ) → IsSome o → unwrap_or (option_map suc o) 0 ≡ suc (unwrap_or o 0)
+pub slot_suc : (o : Option ℕ) → IsSome o → unwrap_or (option_map suc o) 0 ≡ suc (unwrap_or o 0)
 slot_suc (Some k) h = refl
 slot_suc None h = absurd cc
 

@@ -92,7 +92,7 @@ stored_runs : (ps : List Parameter) (frame : Frame) (target : List ℕ) (r : Res
 stored_runs ps frame target (Ok v) s known = store_runs ps frame target (stored Integer v) s known
 stored_runs ps frame target (Err c) s known = refl
 
-target_known : (ps : List Parameter) (target : List ℕ) → IsTarget target ps → IsSome (place_of target (names_of ps))
+pub target_known : (ps : List Parameter) (target : List ℕ) → IsTarget target ps → IsSome (place_of target (names_of ps))
 target_known ps target h = rw h.2 refl
 
 pub body_runs : (ps : List Parameter) (frame : Frame) (body : Statement) → Stands ps frame → IsResolved ps body

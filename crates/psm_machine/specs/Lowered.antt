@@ -1,8 +1,9 @@
 -- The lines that stand for a procedure's body.
-use Rattle.std.specs.Prelude.{ℕ, pos, List, [], ◌∷◌, ◌++◌, unwrap_or}
+use Rattle.std.specs.Prelude.{ℕ, pos, List, [], ◌∷◌, ◌++◌, unwrap_or, IsSome}
 use Rattle.std.specs.List.{flat_map}
 use Rattle.psm_value.specs.declared.datum.Datum.TheVariants.{Num}
 use Rattle.psm_tree.specs.Names.{place_of}
+use Rattle.psm_tree.specs.Accepted.{IsKnownSum}
 use Rattle.psm_tree.specs.Numeral.{number_of}
 use Rattle.psm_tree.specs.declared.tree.Operand.{Operand}
 use Rattle.psm_tree.specs.declared.tree.Operand.TheVariants as operands
@@ -35,3 +36,7 @@ sum_lines names s = operand_line names s.first ∷ flat_map (term_lines names) s
 
 abbrev pub body_lines : List (List ℕ) → Statement → List Instr
 body_lines names (Set target source) = sum_lines names source ++ Store (slot_of names target) ∷ End ∷ []
+
+-- each name in a body has a place
+abbrev pub IsKnownBody : List (List ℕ) → Statement → Type 0
+IsKnownBody names (Set target source) = IsSome (place_of target names) × IsKnownSum names source

@@ -3,8 +3,10 @@
 
 mod activation;
 mod code;
+mod lowering;
 mod machine;
 
 pub use activation::{RunEnd, run};
 pub use code::{Code, Instr};
+pub use lowering::lower;
 pub use machine::{Machine, Turned};

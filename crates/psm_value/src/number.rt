@@ -1,4 +1,4 @@
-ghost use Rattle.std.specs.Prelude.{◌≡◌, ◌+ℤ◌, ◌-ℤ◌};
+ghost use Rattle.std.specs.Prelude.{◌≡◌, ◌+ℤ◌, ◌-ℤ◌, pos};
 ghost use Rattle.std.specs.Result.{result_ok};
 ghost use Rattle.psm_value.specs.Number.{checked};
 
@@ -29,6 +29,15 @@ impl Number {
         ensures { result ≡ result_ok (checked value) }
     {
         bounded(value).ok()
+    }
+
+    /// A number of 32 bits, which has at most ten digits.
+    pub fn from_u32(value: u32) -> Number
+        ensures { result ≡ pos value }
+    {
+        Number {
+            value: i64::from(value),
+        }
     }
 
     /// The sum; more than 18 digits are out of range.
