@@ -1,3 +1,6 @@
 pub mod Count
+pub mod Failures
+pub mod MemShelf
+pub mod MemSink
 pub mod Shelf
 pub mod Sink

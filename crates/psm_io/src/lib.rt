@@ -2,8 +2,16 @@
 //! put into. Each has a form in memory, for tests, and the real one, which is the trusted edge.
 #![tactic(auto)]
 
+mod failures;
+mod mem_shelf;
+mod mem_sink;
 mod shelf;
 mod sink;
 
+pub use mem_shelf::MemShelf;
+pub use mem_sink::MemSink;
 pub use shelf::{Shelf, ShelfFault};
 pub use sink::{Sink, SinkFault};
+
+#[cfg(test)]
+mod tests;

@@ -1,0 +1,3 @@
+pub mod NameCounts
+pub mod Found
+pub mod Held
