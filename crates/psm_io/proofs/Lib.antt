@@ -1,3 +1,4 @@
-pub mod NameCounts
 pub mod Found
 pub mod Held
+pub mod Known
+pub mod NameCounts

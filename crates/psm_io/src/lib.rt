@@ -3,15 +3,19 @@
 #![tactic(auto)]
 
 mod failures;
+mod file_shelf;
 mod mem_shelf;
 mod mem_sink;
 mod shelf;
 mod sink;
+mod std_sink;
 
+pub use file_shelf::FileShelf;
 pub use mem_shelf::MemShelf;
 pub use mem_sink::MemSink;
 pub use shelf::{Shelf, ShelfFault};
 pub use sink::{Sink, SinkFault};
+pub use std_sink::StdSink;
 
 #[cfg(test)]
 mod tests;
