@@ -1,3 +1,4 @@
 pub mod Powers
 pub mod NamePlaces
 pub mod Distinct
+pub mod Words

@@ -8,3 +8,5 @@ pub mod Piece
 pub mod Session
 pub mod Reading
 pub mod NameIndex
+pub mod Follows
+pub mod Readers

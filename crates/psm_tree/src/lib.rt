@@ -7,6 +7,7 @@
 mod fault;
 mod name;
 mod names;
+mod read_words;
 mod tree;
 
 pub use fault::ReadFault;
