@@ -1,5 +1,6 @@
 -- The lines that a command prints.
 use Rattle.std.specs.Prelude.{ℕ, List, [], ◌∷◌, ◌++◌, codes, decimal}
+use Rattle.psm_value.specs.declared.condition.Condition.{Condition}
 use Rattle.psm_value.specs.declared.datum.Datum.{Datum}
 use Rattle.psm_value.specs.Condition.{state_of, message_of}
 use Rattle.psm_value.specs.Datum.{printed}
@@ -29,9 +30,13 @@ abbrev pub value_lines : List Parameter → List Datum → List ℕ
 value_lines [] values = []
 value_lines (p ∷ ps) values = next_value p.mode p.name values (value_lines ps)
 
+-- `SQLSTATE sssss message`
+abbrev pub condition_line : Condition → List ℕ
+condition_line c = codes "SQLSTATE " ++ state_of c ++ codes " " ++ message_of c ++ 10 ∷ []
+
 abbrev pub last_lines : List Parameter → Ending → List ℕ
 last_lines parameters (Ended values) = value_lines parameters values ++ codes "OK\n"
-last_lines parameters (Left c) = codes "SQLSTATE " ++ state_of c ++ codes " " ++ message_of c ++ 10 ∷ []
+last_lines parameters (Left c) = condition_line c
 last_lines parameters TurnsUsed = codes "TURNS USED\n"
 
 -- the piece of command k, a CALL of the procedure with that signature

@@ -1,0 +1,9 @@
+pub mod Status
+pub mod Words
+pub mod Message
+pub mod Put
+pub mod Script
+pub mod Program
+pub mod Contract
+pub mod Prepared
+pub mod Report

@@ -1,0 +1,131 @@
+-- What is known of the two files, step by step.
+use Rattle.std.specs.Prelude.{◌≡◌, ℕ, ◌<◌, ◌≤◌, List, [], ◌∷◌, length, Option, Result, Ok, Err}
+use Rattle.std.specs.Global.{Vec}
+use Rattle.psm_io.specs.Count.{Rose}
+use Rattle.psm_tree.specs.Accepted.{IsScriptFile}
+use Rattle.psm_tree.specs.Session.{session}
+use Rattle.psm_tree.specs.declared.tree.Module.{Module}
+use Rattle.psm_tree.specs.declared.tree.Signature.{Signature}
+use Rattle.psm_tree.specs.declared.tree.Script.{Script}
+use Rattle.psm_machine.specs.declared.code.Code.{Code}
+use Rattle.psm_machine.specs.Played.{played}
+use Rattle.psm.specs.Words.{Files}
+use Rattle.psm.specs.Message.{too_long, cannot_read, module_not_built, script_not_built}
+use Rattle.psm.specs.Program.{most_bytes, IsModuleOf, IsNoModule, IsScriptOf}
+use Rattle.psm.specs.Contract.{Fetches, Tells, NoneFailed, IsDue}
+use Rattle.psm.specs.declared.prepare.Which.{Which}
+use Rattle.psm.specs.declared.prepare.Which.TheVariants as which
+use Rattle.psm.specs.declared.prepare.Refusal.{Refusal}
+use Rattle.psm.specs.declared.prepare.Refusal.TheVariants as refusals
+use Rattle.psm.specs.declared.status.Status.{Status}
+use Rattle.psm.specs.declared.status.Status.TheVariants as status
+
+-- ---- a file's bytes
+
+-- the bytes that a fetch of a name gave
+pub record IsRead (fetches : Fetches) (name bytes : List ℕ) : Type 0 where
+  pub told : Tells (fetches.held name) bytes
+  pub short : length bytes ≤ most_bytes
+  pub fetched : NoneFailed fetches
+
+-- a file that is too long
+pub record IsTooLong (fetches : Fetches) (name : List ℕ) : Type 0 where
+  pub bytes : List ℕ
+  pub told : Tells (fetches.held name) bytes
+  pub long : most_bytes < length bytes
+  pub fetched : NoneFailed fetches
+
+-- a file that could not be read
+pub record IsFailed (fetches : Fetches) (name : List ℕ) : Type 0 where
+  pub rose : Rose (fetches.before name) (fetches.after name)
+
+abbrev pub Gets : Fetches → List ℕ → Which → Result (Vec ℕ) Refusal → Type 0
+Gets fetches name w (Ok bytes) = IsRead fetches name bytes.items
+Gets fetches name w (Err (refusals.Unread x)) = (x ≡ w) × IsFailed fetches name
+Gets fetches name w (Err (refusals.TooLong x)) = (x ≡ w) × IsTooLong fetches name
+Gets fetches name w (Err (refusals.NotBuilt x)) = ⊥
+Gets fetches name w (Err refusals.Memory) = Unit {0}
+
+-- ---- the module
+
+-- code on which every script plays as the session over the module
+pub record StandsFor (code : Code) (m : Module) : Type 0 where
+  pub signature : code.signature ≡ m.procedure.signature
+  pub plays : (s : Script) (turns : ℕ) → played code s turns ≡ session m s turns
+
+-- the bytes are the module file of a module, for which the code stands
+pub record IsCodeOf (bytes : List ℕ) (code : Code) : Type 0 where
+  pub tree : Module
+  pub is_module : IsModuleOf bytes tree
+  pub stands : StandsFor code tree
+
+abbrev pub Builds : List ℕ → Result Code Refusal → Type 0
+Builds bytes (Ok code) = IsCodeOf bytes code
+Builds bytes (Err (refusals.NotBuilt x)) = (x ≡ which.Module) × IsNoModule bytes
+Builds bytes (Err refusals.Memory) = Unit {0}
+Builds bytes (Err (refusals.Unread x)) = ⊥
+Builds bytes (Err (refusals.TooLong x)) = ⊥
+
+-- ---- the script
+
+-- the bytes are no script over the signature
+pub record IsNoScriptFor (signature : Signature) (bytes : List ℕ) : Type 0 where
+  pub short : length bytes ≤ most_bytes
+  pub none : (s : Script) → IsScriptFile signature bytes s → ⊥
+
+-- the bytes are that script over the signature
+pub record IsScriptFor (signature : Signature) (bytes : List ℕ) (s : Script) : Type 0 where
+  pub short : length bytes ≤ most_bytes
+  pub file : IsScriptFile signature bytes s
+
+abbrev pub Scripts : Signature → List ℕ → Result Script Refusal → Type 0
+Scripts signature bytes (Ok s) = IsScriptFor signature bytes s
+Scripts signature bytes (Err (refusals.NotBuilt x)) = (x ≡ which.Script) × IsNoScriptFor signature bytes
+Scripts signature bytes (Err refusals.Memory) = Unit {0}
+Scripts signature bytes (Err (refusals.Unread x)) = ⊥
+Scripts signature bytes (Err (refusals.TooLong x)) = ⊥
+
+-- ---- both
+
+abbrev pub name_of : Files → Which → List ℕ
+name_of f which.Module = f.for_module
+name_of f which.Script = f.for_script
+
+-- the status of a refusal
+abbrev pub status_of : Refusal → Status
+status_of (refusals.Unread w) = status.ReadFault
+status_of (refusals.TooLong w) = status.TooLong
+status_of (refusals.NotBuilt which.Module) = status.ModuleRefused
+status_of (refusals.NotBuilt which.Script) = status.ScriptRefused
+status_of refusals.Memory = status.Memory
+
+-- the line of a refusal
+abbrev pub line_of : Files → Refusal → List ℕ
+line_of f (refusals.Unread w) = cannot_read (name_of f w)
+line_of f (refusals.TooLong w) = too_long (name_of f w)
+line_of f (refusals.NotBuilt which.Module) = module_not_built
+line_of f (refusals.NotBuilt which.Script) = script_not_built
+line_of f refusals.Memory = []
+
+-- code and script of the two files
+pub record IsReady (fetches : Fetches) (f : Files) (code : Code) (s : Script) : Type 0 where
+  pub ms : List ℕ
+  pub ss : List ℕ
+  pub tree : Module
+  pub told_module : Tells (fetches.held f.for_module) ms
+  pub told_script : Tells (fetches.held f.for_script) ss
+  pub is_module : IsModuleOf ms tree
+  pub is_script : IsScriptOf tree ss s
+  pub stands : StandsFor code tree
+  pub fetched : NoneFailed fetches
+
+-- a refusal is the one that is due
+abbrev pub IsDueRefusal : Fetches → Files → Refusal → Type 0
+IsDueRefusal fetches f refusal = IsDue fetches f (status_of refusal) (line_of f refusal ∷ [])
+
+abbrev pub Prepares : Fetches → Files → Result (Code × Script) Refusal → Type 0
+Prepares fetches f (Ok r) = IsReady fetches f r.0 r.1
+Prepares fetches f (Err (refusals.Unread w)) = IsFailed fetches (name_of f w)
+Prepares fetches f (Err (refusals.TooLong w)) = IsDueRefusal fetches f (refusals.TooLong w)
+Prepares fetches f (Err (refusals.NotBuilt w)) = IsDueRefusal fetches f (refusals.NotBuilt w)
+Prepares fetches f (Err refusals.Memory) = Unit {0}

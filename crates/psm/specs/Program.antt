@@ -1,0 +1,85 @@
+-- What the program owes for two files, where nothing outside fails: a status and pieces of text.
+use Rattle.std.specs.Prelude.{◌≡◌, ℕ, ◌<◌, ◌≤◌, ◌⊎◌, List, [], ◌∷◌, length}
+use Rattle.psm_tree.specs.Accepted.{IsModuleFile, IsScriptFile}
+use Rattle.psm_tree.specs.Session.{Session, End, Done, Stopped, session}
+use Rattle.psm_tree.specs.declared.tree.Module.{Module}
+use Rattle.psm_tree.specs.declared.tree.Script.{Script}
+use Rattle.psm.specs.Words.{Files}
+use Rattle.psm.specs.Message.{too_long, module_not_built, script_not_built}
+use Rattle.psm.specs.declared.status.Status.{Status}
+use Rattle.psm.specs.declared.status.Status.TheVariants as status
+
+-- the most bytes of a file
+abbrev pub most_bytes : ℕ
+most_bytes = 16777216
+
+-- the turns of a session
+abbrev pub turns_bound : ℕ
+turns_bound = 1000000
+
+-- the bytes are within the bound, and the module file of that module
+pub record IsModuleOf (bytes : List ℕ) (m : Module) : Type 0 where
+  pub short : length bytes ≤ most_bytes
+  pub file : IsModuleFile bytes m
+
+-- the bytes are within the bound, and the module file of no module
+pub record IsNoModule (bytes : List ℕ) : Type 0 where
+  pub short : length bytes ≤ most_bytes
+  pub none : (m : Module) → IsModuleFile bytes m → ⊥
+
+-- the bytes are within the bound, and that script over the module
+pub record IsScriptOf (m : Module) (bytes : List ℕ) (s : Script) : Type 0 where
+  pub short : length bytes ≤ most_bytes
+  pub file : IsScriptFile m.procedure.signature bytes s
+
+-- the bytes are within the bound, and no script over the module
+pub record IsNoScript (m : Module) (bytes : List ℕ) : Type 0 where
+  pub short : length bytes ≤ most_bytes
+  pub none : (s : Script) → IsScriptFile m.procedure.signature bytes s → ⊥
+
+-- the session of the two files ends so, with these pieces
+pub record Ends (ms ss : List ℕ) (end : End) (pieces : List (List ℕ)) : Type 0 where
+  pub tree : Module
+  pub script : Script
+  pub is_module : IsModuleOf ms tree
+  pub is_script : IsScriptOf tree ss script
+  pub end_is : (session tree script turns_bound).end ≡ end
+  pub pieces_are : pieces ≡ (session tree script turns_bound).pieces
+
+-- the module file is too long
+pub record IsLongModule (f : Files) (ms : List ℕ) (pieces : List (List ℕ)) : Type 0 where
+  pub long : most_bytes < length ms
+  pub message : pieces ≡ too_long f.for_module ∷ []
+
+-- the module file is refused
+pub record IsRefusedModule (ms : List ℕ) (pieces : List (List ℕ)) : Type 0 where
+  pub none : IsNoModule ms
+  pub message : pieces ≡ module_not_built ∷ []
+
+-- the script is too long
+pub record IsLongScript (f : Files) (ms ss : List ℕ) (pieces : List (List ℕ)) : Type 0 where
+  pub tree : Module
+  pub is_module : IsModuleOf ms tree
+  pub long : most_bytes < length ss
+  pub message : pieces ≡ too_long f.for_script ∷ []
+
+-- the script is refused
+pub record IsRefusedScript (ms ss : List ℕ) (pieces : List (List ℕ)) : Type 0 where
+  pub tree : Module
+  pub is_module : IsModuleOf ms tree
+  pub none : IsNoScript tree ss
+  pub message : pieces ≡ script_not_built ∷ []
+
+-- What is due for two files with these contents, by the status. The first thing that fails decides, in
+-- the order: the module's length, its content, the script's length, its content, the run.
+abbrev pub Due : Files → List ℕ → List ℕ → Status → List (List ℕ) → Type 0
+Due f ms ss status.Done pieces = Ends ms ss Done pieces
+Due f ms ss status.Usage pieces = ⊥
+Due f ms ss status.ReadFault pieces = ⊥
+Due f ms ss status.WriteFault pieces = ⊥
+Due f ms ss status.ModuleRefused pieces = IsRefusedModule ms pieces
+Due f ms ss status.ScriptRefused pieces = IsRefusedScript ms ss pieces
+Due f ms ss status.TurnsUsed pieces = Ends ms ss Stopped pieces
+Due f ms ss status.Memory pieces = ⊥
+Due f ms ss status.ObjectRefused pieces = ⊥
+Due f ms ss status.TooLong pieces = IsLongModule f ms pieces ⊎ IsLongScript f ms ss pieces

@@ -1,0 +1,105 @@
+//! What is put for a refusal, and for a script that is run.
+ghost use Rattle.std.specs.Prelude.{◌≡◌, ◌++◌, IfOk};
+ghost use Rattle.psm_machine.specs.Played.{played};
+ghost use Rattle.psm.specs.Message.{usage};
+ghost use Rattle.psm.specs.Program.{turns_bound};
+ghost use Rattle.psm.specs.Prepared.{name_of};
+ghost use Rattle.psm.specs.Report.{Puts, Reports, Runs};
+ghost use Rattle.psm.specs.declared.status.Status.TheVariants as status;
+
+use crate::prepare::{Refusal, Which};
+use crate::script::{ScriptEnd, run_script};
+use crate::status::Status;
+use crate::words::Files;
+use psm_io::{Sink, SinkFault};
+use psm_machine::Code;
+use psm_tree::Script;
+use std::alloc::{AllocError, Global};
+
+/// The turns of a session.
+const TURNS: u64 = 1_000_000;
+
+/// Runs the script over the code, and puts the piece of each command.
+pub fn play<K: Sink>(alloc: Global, code: &Code, script: &Script, out: &mut K) -> Status
+    ensures { Runs (played code.now script.now turns_bound) (record { before = K.written out.old; after = K.written out.new; faults_before = K.faults out.old; faults_after = K.faults out.new }) result }
+{
+    let mut turns = TURNS;
+    match run_script(alloc, code, script, out, &mut turns) {
+        ScriptEnd::Done => Status::Done,
+        ScriptEnd::TurnsUsed => Status::TurnsUsed,
+        ScriptEnd::WriteFault => Status::WriteFault,
+        ScriptEnd::Memory => Status::Memory,
+    }
+}
+
+/// Puts the line that shows the form of the words.
+pub fn report_usage<K: Sink>(out: &mut K) -> Status
+    ensures { Puts usage status.Usage (record { before = K.written out.old; after = K.written out.new; faults_before = K.faults out.old; faults_after = K.faults out.new }) result }
+{
+    put_line(b"usage: psm run M S\n", Status::Usage, out)
+}
+
+/// Puts the line of a refusal.
+pub fn report<K: Sink>(
+    alloc: Global,
+    files: &Files<'_>,
+    refusal: Refusal,
+    out: &mut K,
+) -> Status
+    ensures { Reports refusal (record { for_module = files.now.for_module.now; for_script = files.now.for_script.now })
+        (record { before = K.written out.old; after = K.written out.new; faults_before = K.faults out.old; faults_after = K.faults out.new }) result }
+{
+    match refusal {
+        Refusal::Unread(which) => {
+            let Ok(line) = line_about(alloc, "cannot read ", name(files, which), "\n") else {
+                return Status::Memory;
+            };
+            put_line(&line, Status::ReadFault, out)
+        }
+        Refusal::TooLong(which) => {
+            let end = " is longer than 16777216 bytes\n";
+            let Ok(line) = line_about(alloc, "", name(files, which), end) else {
+                return Status::Memory;
+            };
+            put_line(&line, Status::TooLong, out)
+        }
+        Refusal::NotBuilt(Which::Module) => {
+            put_line(b"module not built\n", Status::ModuleRefused, out)
+        }
+        Refusal::NotBuilt(Which::Script) => {
+            put_line(b"script not built\n", Status::ScriptRefused, out)
+        }
+        Refusal::Memory => Status::Memory,
+    }
+}
+
+// The name of one of the files.
+fn name<'a>(files: &Files<'a>, which: Which) -> &'a str
+    ensures { result.now ≡ name_of (record { for_module = files.now.for_module.now; for_script = files.now.for_script.now }) which }
+{
+    match which {
+        Which::Module => files.for_module,
+        Which::Script => files.for_script,
+    }
+}
+
+// A line with a name in it.
+fn line_about(alloc: Global, before: &str, name: &str, after: &str) -> Result<Vec<u8>, AllocError>
+    ensures { IfOk result (λ line. line.items ≡ before.now ++ name.now ++ after.now) }
+{
+    let mut line = Vec::from_slice(alloc, before.as_bytes())?;
+    line.extend_from_slice(name.as_bytes())?;
+    line.extend_from_slice(after.as_bytes())?;
+    Ok(line)
+}
+
+// Puts a line for a status.
+fn put_line<K: Sink>(line: &[u8], status: Status, out: &mut K) -> Status
+    ensures { Puts line.now status (record { before = K.written out.old; after = K.written out.new; faults_before = K.faults out.old; faults_after = K.faults out.new }) result }
+{
+    match out.put(line) {
+        Ok(()) => status,
+        Err(SinkFault::Failed) => Status::WriteFault,
+        Err(SinkFault::Memory) => Status::Memory,
+    }
+}

@@ -1,0 +1,113 @@
+ghost use Rattle.std.specs.Prelude.{◌≡◌, IfOk};
+ghost use Rattle.psm_machine.specs.Played.{played};
+ghost use Rattle.psm_machine.specs.RunEnd.{ending_of};
+ghost use Rattle.psm_tree.specs.Session.{given};
+ghost use Rattle.psm_tree.specs.Piece.{call_piece};
+ghost use Rattle.psm.specs.Script.{Plays, Steps, Runs};
+
+use crate::piece::piece_of_call;
+use psm_io::{Sink, SinkFault};
+use psm_machine::{Code, RunEnd, run};
+use psm_tree::{Argument, Command, Script};
+use psm_value::{Datum, Number};
+use std::alloc::{AllocError, Global};
+
+/// How the run of a script ends.
+#[derive(Clone, Copy, Debug, PartialEq, Eq)]
+pub enum ScriptEnd {
+    Done,
+    TurnsUsed,
+    WriteFault,
+    Memory,
+}
+
+/// What a command comes to.
+#[derive(Clone, Copy, Debug, PartialEq, Eq)]
+pub enum Step {
+    /// The next command is due.
+    Next,
+    /// The turns ran out.
+    TurnsUsed,
+    WriteFault,
+    Memory,
+}
+
+/// Runs the commands of a script in order, and puts the piece of each.
+pub fn run_script<K: Sink>(
+    alloc: Global,
+    code: &Code,
+    script: &Script,
+    out: &mut K,
+    turns: &mut u64,
+) -> ScriptEnd
+    ensures { Plays (played code.now script.now turns.old) (record { before = K.written out.old; after = K.written out.new; faults_before = K.faults out.old; faults_after = K.faults out.new }) result }
+{
+    let commands = script.commands.items();
+    for (index, command) in commands.iter().enumerate() {
+        match run_command(alloc, code, index as u64 + 1, command, out, turns) {
+            Step::Next => {}
+            Step::TurnsUsed => return ScriptEnd::TurnsUsed,
+            Step::WriteFault => return ScriptEnd::WriteFault,
+            Step::Memory => return ScriptEnd::Memory,
+        }
+    }
+    ScriptEnd::Done
+}
+
+// Runs one command, and puts its piece.
+fn run_command<K: Sink>(
+    alloc: Global,
+    code: &Code,
+    number: u64,
+    command: &Command,
+    out: &mut K,
+    turns: &mut u64,
+) -> Step
+    ensures { Steps code.now number command.now turns.old turns.new (record { before = K.written out.old; after = K.written out.new; faults_before = K.faults out.old; faults_after = K.faults out.new }) result }
+{
+    let Ok((end, piece)) = play_call(alloc, code, number, command, turns) else {
+        return Step::Memory;
+    };
+    match out.put(&piece) {
+        Ok(()) => match end {
+            RunEnd::TurnsUsed => Step::TurnsUsed,
+            RunEnd::Ended(_) | RunEnd::Raised(_) => Step::Next,
+        },
+        Err(SinkFault::Failed) => Step::WriteFault,
+        Err(SinkFault::Memory) => Step::Memory,
+    }
+}
+
+// Runs a CALL: how it ends, and its piece.
+fn play_call(
+    alloc: Global,
+    code: &Code,
+    number: u64,
+    command: &Command,
+    turns: &mut u64,
+) -> Result<(RunEnd, Vec<u8>), AllocError>
+    ensures run { IfOk result (λ r. Runs code.now command.now turns.old r.0 turns.new) }
+    ensures piece { IfOk result (λ r. r.1.items ≡ call_piece number code.now.signature (ending_of r.0)) }
+{
+    let Command::Call { arguments, .. } = command;
+    let args = values_of(alloc, arguments.items())?;
+    let end = run(alloc, code, &args, turns)?;
+    let piece = piece_of_call(alloc, number, &code.signature, &end)?;
+    Ok((end, piece))
+}
+
+// The values of the arguments for IN and INOUT parameters.
+fn values_of(alloc: Global, arguments: &[Argument]) -> Result<Vec<Datum>, AllocError>
+    ensures { IfOk result (λ values. values.items ≡ given arguments.now) }
+{
+    let mut values = Vec::new(alloc);
+    for argument in arguments {
+        match argument {
+            Argument::Number(numeral) => {
+                values.push(Datum::Num(Number::from_u32(numeral.value())))?;
+            }
+            Argument::Placeholder => {}
+        }
+    }
+    Ok(values)
+}
