@@ -40,12 +40,7 @@ pub fn report_usage<K: Sink>(out: &mut K) -> Status
 }
 
 /// Puts the line of a refusal.
-pub fn report<K: Sink>(
-    alloc: Global,
-    files: &Files<'_>,
-    refusal: Refusal,
-    out: &mut K,
-) -> Status
+pub fn report<K: Sink>(alloc: Global, files: &Files<'_>, refusal: Refusal, out: &mut K) -> Status
     ensures { Reports refusal (record { for_module = files.now.for_module.now; for_script = files.now.for_script.now })
         (record { before = K.written out.old; after = K.written out.new; faults_before = K.faults out.old; faults_after = K.faults out.new }) result }
 {
