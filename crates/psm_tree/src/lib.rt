@@ -7,6 +7,8 @@
 mod fault;
 mod name;
 mod names;
+mod read_module;
+mod read_script;
 mod read_words;
 mod tree;
 
