@@ -3,3 +3,5 @@ pub mod NamePlaces
 pub mod Distinct
 pub mod Words
 pub mod Loop
+pub mod Exact
+pub mod Trees
