@@ -44,52 +44,52 @@ module _ {A B : Type 0} {read : Reader A} {text : A → List ℕ} {P : A → Typ
       → Exact (made f read) text' Q
   exact_made f e same there back = record {
     takes = λ bytes y rest h.
-      let b = bind_some (read bytes) (λ x. Some (f x.0, x.1)) (y, rest) h in
-      let t = e.takes bytes b.0.0 b.0.1 b.1 in
-      let is : (f b.0.0, b.0.1) ≡ (y, rest) = some_is (f b.0.0, b.0.1) (y, rest) b.2 in
-      let found : (bytes ≡ text' (f b.0.0) ++ b.0.1) × Q (f b.0.0) = (t.0 ∙ ap (λ (s : List ℕ). s ++ b.0.1) (same b.0.0), there b.0.0 t.1) in
-      subst (λ (p : B × List ℕ). (bytes ≡ text' p.0 ++ p.1) × Q p.0) is found;
+        let b = bind_some (read bytes) (λ x. Some (f x.0, x.1)) (y, rest) h in
+        let t = e.takes bytes b.0.0 b.0.1 b.1 in
+        let is : (f b.0.0, b.0.1) ≡ (y, rest) = some_is (f b.0.0, b.0.1) (y, rest) b.2 in
+        let found : (bytes ≡ text' (f b.0.0) ++ b.0.1) × Q (f b.0.0) = (t.0 ∙ ap (λ (s : List ℕ). s ++ b.0.1) (same b.0.0), there b.0.0 t.1) in
+        subst (λ (p : B × List ℕ). (bytes ≡ text' p.0 ++ p.1) × Q p.0) is found;
     again = λ y rest q.
-      let x = back y q in
-      let spelled : text' y ≡ text x.0 = ap text' (sym x.1) ∙ sym (same x.0) in
-      let answer : B → Option (B × List ℕ) = λ z. Some (z, rest) in
-      ap (λ (s : List ℕ). made f read (s ++ rest)) spelled ∙ rw (e.again x.0 rest x.2) (ap answer x.1);
+        let x = back y q in
+        let spelled : text' y ≡ text x.0 = ap text' (sym x.1) ∙ sym (same x.0) in
+        let answer : B → Option (B × List ℕ) = λ z. Some (z, rest) in
+        ap (λ (s : List ℕ). made f read (s ++ rest)) spelled ∙ rw (e.again x.0 rest x.2) (ap answer x.1);
   }
 
   pub exact_paired : {second : Reader B} → Exact read text P → Exact second text' Q → Exact (paired read second) (λ p. text p.0 ++ text' p.1) (λ p. P p.0 × Q p.1)
   exact_paired {second} e d = record {
     takes = λ bytes z rest h.
-      let a = bind_some (read bytes) (λ x. second x.1 >>= λ y. Some ((x.0, y.0), y.1)) (z, rest) h in
-      let b = bind_some (second a.0.1) (λ y. Some ((a.0.0, y.0), y.1)) (z, rest) a.2 in
-      let t = e.takes bytes a.0.0 a.0.1 a.1 in
-      let u = d.takes a.0.1 b.0.0 b.0.1 b.1 in
-      let both : (A × B) × List ℕ = ((a.0.0, b.0.0), b.0.1) in
-      let is : both ≡ (z, rest) = some_is both (z, rest) b.2 in
-      let parts : bytes ≡ (text a.0.0 ++ text' b.0.0) ++ b.0.1 = t.0 ∙ ap (λ (s : List ℕ). text a.0.0 ++ s) u.0 ∙ sym (append_assoc (text a.0.0) (text' b.0.0) b.0.1) in
-      subst (λ (p : (A × B) × List ℕ). (bytes ≡ (text p.0.0 ++ text' p.0.1) ++ p.1) × (P p.0.0 × Q p.0.1)) is (parts, (t.1, u.1));
+        let a = bind_some (read bytes) (λ x. second x.1 >>= λ y. Some ((x.0, y.0), y.1)) (z, rest) h in
+        let b = bind_some (second a.0.1) (λ y. Some ((a.0.0, y.0), y.1)) (z, rest) a.2 in
+        let t = e.takes bytes a.0.0 a.0.1 a.1 in
+        let u = d.takes a.0.1 b.0.0 b.0.1 b.1 in
+        let both : (A × B) × List ℕ = ((a.0.0, b.0.0), b.0.1) in
+        let is : both ≡ (z, rest) = some_is both (z, rest) b.2 in
+        let parts : bytes ≡ (text a.0.0 ++ text' b.0.0) ++ b.0.1 = t.0 ∙ ap (λ (s : List ℕ). text a.0.0 ++ s) u.0 ∙ sym (append_assoc (text a.0.0) (text' b.0.0) b.0.1) in
+        subst (λ (p : (A × B) × List ℕ). (bytes ≡ (text p.0.0 ++ text' p.0.1) ++ p.1) × (P p.0.0 × Q p.0.1)) is (parts, (t.1, u.1));
     again = λ z rest q.
-      ap (paired read second) (append_assoc (text z.0) (text' z.1) rest) ∙ rw (e.again z.0 (text' z.1 ++ rest) q.0, d.again z.1 rest q.1) refl;
+        ap (paired read second) (append_assoc (text z.0) (text' z.1) rest) ∙ rw (e.again z.0 (text' z.1 ++ rest) q.0, d.again z.1 rest q.1) refl;
   }
 
 module _ {A : Type 0} {read : Reader A} {text : A → List ℕ} {P : A → Type 0} where
   pub exact_behind : (w : List ℕ) → Exact read text P → Exact (behind w read) (λ x. w ++ text x) P
   exact_behind w e = record {
     takes = λ bytes x rest h.
-      let b = bind_some (literal_at w bytes) read (x, rest) h in
-      let t = e.takes b.0 x rest b.2 in
-      (literal_takes w bytes b.0 b.1 ∙ ap (λ (s : List ℕ). w ++ s) t.0 ∙ sym (append_assoc w (text x) rest), t.1);
+        let b = bind_some (literal_at w bytes) read (x, rest) h in
+        let t = e.takes b.0 x rest b.2 in
+        (literal_takes w bytes b.0 b.1 ∙ ap (λ (s : List ℕ). w ++ s) t.0 ∙ sym (append_assoc w (text x) rest), t.1);
     again = λ x rest q. ap (behind w read) (append_assoc w (text x) rest) ∙ rw (literal_again w (text x ++ rest)) (e.again x rest q);
   }
 
   pub exact_before : (w : List ℕ) → Exact read text P → Exact (before read w) (λ x. text x ++ w) P
   exact_before w e = record {
     takes = λ bytes x rest h.
-      let a = bind_some (read bytes) (λ y. literal_at w y.1 >>= λ r. Some (y.0, r)) (x, rest) h in
-      let b = bind_some (literal_at w a.0.1) (λ r. Some (a.0.0, r)) (x, rest) a.2 in
-      let t = e.takes bytes a.0.0 a.0.1 a.1 in
-      let is : (a.0.0, b.0) ≡ (x, rest) = some_is (a.0.0, b.0) (x, rest) b.2 in
-      let parts : bytes ≡ (text a.0.0 ++ w) ++ b.0 = t.0 ∙ ap (λ (s : List ℕ). text a.0.0 ++ s) (literal_takes w a.0.1 b.0 b.1) ∙ sym (append_assoc (text a.0.0) w b.0) in
-      subst (λ (p : A × List ℕ). (bytes ≡ (text p.0 ++ w) ++ p.1) × P p.0) is (parts, t.1);
+        let a = bind_some (read bytes) (λ y. literal_at w y.1 >>= λ r. Some (y.0, r)) (x, rest) h in
+        let b = bind_some (literal_at w a.0.1) (λ r. Some (a.0.0, r)) (x, rest) a.2 in
+        let t = e.takes bytes a.0.0 a.0.1 a.1 in
+        let is : (a.0.0, b.0) ≡ (x, rest) = some_is (a.0.0, b.0) (x, rest) b.2 in
+        let parts : bytes ≡ (text a.0.0 ++ w) ++ b.0 = t.0 ∙ ap (λ (s : List ℕ). text a.0.0 ++ s) (literal_takes w a.0.1 b.0 b.1) ∙ sym (append_assoc (text a.0.0) w b.0) in
+        subst (λ (p : A × List ℕ). (bytes ≡ (text p.0 ++ w) ++ p.1) × P p.0) is (parts, t.1);
     again = λ x rest q. ap (before read w) (append_assoc (text x) w rest) ∙ rw (e.again x (w ++ rest) q, literal_again w rest) refl;
   }
 
@@ -151,7 +151,7 @@ module _ {A : Type 0} {read : Reader A} {text : A → List ℕ} {P : A → Type 
   exact_until e items = record {
     takes = λ bytes xs rest h. fewer_takes e (length bytes) bytes xs rest h;
     again = λ xs rest q. fewer_again e items (length (items_text text w xs ++ rest)) xs rest
-      (omega (arith, length-append (items_text text w xs) rest, length-append (flat_map text xs) w, counted text w items xs, items.ends)) q;
+        (omega (arith, length-append (items_text text w xs) rest, length-append (flat_map text xs) w, counted text w items xs, items.ends)) q;
   }
 
 -- ---- all the bytes

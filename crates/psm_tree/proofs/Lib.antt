@@ -5,3 +5,5 @@ pub mod Words
 pub mod Loop
 pub mod Exact
 pub mod Trees
+pub mod Files
+pub mod Checks

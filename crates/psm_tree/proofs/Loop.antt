@@ -22,7 +22,7 @@ goes_on read w front count i bytes x after total lt more h so_far =
     let k : count - i ≡ suc (count - (i + 1)) = omega arith in
     let none : literal_at w bytes ≡ None = sym more in
     let one : with_front front (fewer read w (count - i) bytes) ≡ with_front (front ++ x ∷ []) (fewer read w (count - (i + 1)) after) =
-        rw (k, none, h) (regroup front x (fewer read w (count - (i + 1)) after)) in
+    rw (k, none, h) (regroup front x (fewer read w (count - (i + 1)) after)) in
     sym one ∙ so_far
 
 pub fails : {A : Type 0} (e : ReadFault) (read : Reader A) (w : List ℕ) (front : List A) (count i : ℕ) (bytes : List ℕ) (total : Option (List A × List ℕ))

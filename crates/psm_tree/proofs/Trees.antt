@@ -23,12 +23,12 @@ pub exact_name : Exact name_at word IsName
 unfolding name_at
 exact_name = record {
   takes = λ bytes x rest h.
-    let b = bind_some (word_at bytes) (λ y. cond (is_name y.0) (Some y) None) (x, rest) h in
-    let g = chosen (is_name b.0.0) b.0 (x, rest) b.2 in
-    subst (λ (p : List ℕ × List ℕ). (bytes ≡ word p.0 ++ p.1) × IsName p.0) g.1 (word_takes bytes b.0.0 b.0.1 b.1, name_from b.0.0 g.0);
+      let b = bind_some (word_at bytes) (λ y. cond (is_name y.0) (Some y) None) (x, rest) h in
+      let g = chosen (is_name b.0.0) b.0 (x, rest) b.2 in
+      subst (λ (p : List ℕ × List ℕ). (bytes ≡ word p.0 ++ p.1) × IsName p.0) g.1 (word_takes bytes b.0.0 b.0.1 b.1, name_from b.0.0 g.0);
   again = λ x rest q.
-    let is : is_name x ≡ true = name_to x q in
-    rw (word_again x rest (no_blank_name x q), is) refl;
+      let is : is_name x ≡ true = name_to x q in
+      rw (word_again x rest (no_blank_name x q), is) refl;
 }
 
 -- ---- operands
@@ -55,13 +55,14 @@ pub exact_operand : Exact operand_at operand_text IsOperand
 unfolding operand_at
 exact_operand = record {
   takes = λ bytes x rest h.
-    let b = bind_some (word_at bytes) operand_of (x, rest) h in
-    by bytes b.0.0 b.0.1 x rest (word_takes bytes b.0.0 b.0.1 b.1) (is_name b.0.0) refl b.2;
+      let b = bind_some (word_at bytes) operand_of (x, rest) h in
+      by bytes b.0.0 b.0.1 x rest (word_takes bytes b.0.0 b.0.1 b.1) (is_name b.0.0) refl b.2;
   again = again;
 }
   where
     either : Bool → List ℕ → List ℕ → Option (Operand × List ℕ)
     either c w r = if c then Some (operands.Name w, r) else (numeral_of w >>= λ digits. Some (operands.Number digits, r))
+
     by : (bytes w r : List ℕ) (x : Operand) (rest : List ℕ) → bytes ≡ word w ++ r → (c : Bool) → is_name w ≡ c
         → either c w r ≡ Some (x, rest) → Reads operand_text IsOperand bytes (x, rest)
     by bytes w r x rest at true is h =
@@ -72,6 +73,7 @@ exact_operand = record {
         let number : Operand × List ℕ = (operands.Number b.0, r) in
         let n = numeral_takes w b.0 b.1 in
         subst (Reads operand_text IsOperand bytes) (some_is number (x, rest) b.2) (at ∙ ap (λ (v : List ℕ). word v ++ r) n.0, n.1)
+
     again : (x : Operand) (rest : List ℕ) → IsOperand x → operand_at (operand_text x ++ rest) ≡ Some (x, rest)
     again (operands.Name name) rest q =
         let is : is_name name ≡ true = name_to name q in
@@ -123,6 +125,7 @@ exact_mode = record { takes = takes; again = again }
             | inr m ↦ literal_last mode_text (codes "OUT ") bytes Out x rest refl m
           ]
         ]
+
     again : (x : Mode) (rest : List ℕ) → Unit {0} → mode_at (mode_text x ++ rest) ≡ Some (x, rest)
     again In rest q = rw (literal_again (codes "IN ") rest) refl
     again InOut rest q = unfold literal_at in refl
@@ -138,6 +141,7 @@ exact_sign = record { takes = takes; again = again }
           | inl a ↦ literal_reads sign_text Always (codes "+ ") bytes Plus x rest refl tt a.0 a.1
           | inr m ↦ literal_last sign_text (codes "- ") bytes Minus x rest refl m
         ]
+
     again : (x : Sign) (rest : List ℕ) → Unit {0} → sign_at (sign_text x ++ rest) ≡ Some (x, rest)
     again Plus rest q = unfold literal_at in refl
     again Minus rest q = unfold literal_at in refl
@@ -166,6 +170,7 @@ exact_argument = record { takes = takes; again = again }
               let n = numeral_takes b.0.0 d.0 d.1 in
               subst (Reads argument_text IsArgument bytes) (some_is number (x, rest) d.2) (word_takes bytes b.0.0 b.0.1 b.1 ∙ ap (λ (v : List ℕ). word v ++ b.0.1) n.0, n.1)
         ]
+
     again : (x : Argument) (rest : List ℕ) → IsArgument x → argument_at (argument_text x ++ rest) ≡ Some (x, rest)
     again arguments.Placeholder rest q = rw (literal_again (codes "? ") rest) refl
     again (arguments.Number digits) rest q =
@@ -202,9 +207,9 @@ exact_listed : {A : Type 0} {read : Reader A} {text : A → List ℕ} {P : A →
     → Exact (made cons_of (listed read (c ∷ w))) (λ xs. separated text xs ++ (c ∷ w)) (SomeOf P)
 exact_listed {text = text} {P = P} c w h e =
     exact_made cons_of (exact_paired e (exact_until (c ∷ w) (exact_behind (codes ", ") e) (separated_items text c w h)))
-        (λ x. sym (append_assoc (text x.0) (flat_map (λ y. codes ", " ++ text y) x.1) (c ∷ w)))
-        (λ x q. (q, omega arith))
-        (first_and_others P)
+    (λ x. sym (append_assoc (text x.0) (flat_map (λ y. codes ", " ++ text y) x.1) (c ∷ w)))
+    (λ x q. (q, omega arith))
+    (first_and_others P)
 
 pub exact_parameters : Exact parameters_at (λ ps. separated parameter_text ps ++ codes ") ") (SomeOf IsParameter)
 unfolding parameters_at more_parameters_at

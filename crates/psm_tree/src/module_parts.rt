@@ -93,7 +93,13 @@ fn sum(alloc: Global, bytes: &[u8]) -> Result<(Sum, &[u8]), ReadFault>
 {
     let (first, rest) = operand(alloc, bytes)?;
     let (others, rest) = terms(alloc, rest)?;
-    Ok((Sum { first, rest: others }, rest))
+    Ok((
+        Sum {
+            first,
+            rest: others,
+        },
+        rest,
+    ))
 }
 
 #[tactic(auto, unfolding(crate::specs::Readers::statement_at))]

@@ -46,7 +46,13 @@ fn command(alloc: Global, bytes: &[u8]) -> Result<(Command, &[u8]), ReadFault>
     let (procedure, rest) = name(alloc, rest)?;
     let rest = expect(rest, b"( ")?;
     let (arguments, rest) = arguments(alloc, rest)?;
-    Ok((Command::Call { procedure, arguments }, rest))
+    Ok((
+        Command::Call {
+            procedure,
+            arguments,
+        },
+        rest,
+    ))
 }
 
 /// The command that all the bytes spell, whatever it calls.

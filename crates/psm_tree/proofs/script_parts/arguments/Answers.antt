@@ -3,7 +3,7 @@ use Rattle.std.proofs.lemmas.Result.{err_from_is_err_and}
 use Rattle.psm_tree.specs.declared.tree.Argument.{Argument}
 use Rattle.psm_tree.specs.Readers.{behind, argument_at, arguments_at, more_arguments_at}
 use Rattle.psm_tree.proofs.Loop.{begins, begins_with, goes_on, fails, is_done, runs_out, fails_first}
-use Rattle.psm_tree.proofs.read_script.arguments.Goals as goal
+use Rattle.psm_tree.proofs.script_parts.arguments.Goals as goal
 
 pub loop-init : goal.loop-init
 unfolding arguments_at more_arguments_at
