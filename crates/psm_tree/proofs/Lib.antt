@@ -7,3 +7,4 @@ pub mod Exact
 pub mod Trees
 pub mod Files
 pub mod Checks
+pub mod WholeFiles
