@@ -81,7 +81,7 @@ pub grows : (ps : List Parameter) (i : ℕ) (p : Parameter) (old new : List (Lis
 grows ps i p old new false e lt is seen distinct adds = absurd cc
 grows ps i p old new true e lt is seen distinct adds =
     let more : names_of (take (i + 1) ps) ≡ names_of (take i ps) ++ p.name ∷ [] =
-        ap names_of (take_more ps i p lt ∙ ap (λ (q : Parameter). take i ps ++ q ∷ []) (sym is)) ∙ map_push (λ (q : Parameter). q.name) (take i ps) p in
+    ap names_of (take_more ps i p lt ∙ ap (λ (q : Parameter). take i ps ++ q ∷ []) (sym is)) ∙ map_push (λ (q : Parameter). q.name) (take i ps) p in
     (adds.1 ∙ ap (λ (ns : List (List ℕ)). ns ++ p.name ∷ []) seen ∙ sym more, subst AreDistinct (sym adds.1) (distinct_push old p.name distinct adds.0))
 
 pub repeats : (ps : List Parameter) (i : ℕ) (p : Parameter) (old new : List (List ℕ)) (b : Bool) → b ≡ false → i < length ps → p ≡ get_or ps i p

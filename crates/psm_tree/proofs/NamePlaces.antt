@@ -62,6 +62,7 @@ puts_in f key keys after name old b named were new is =
   where
     place : is_some (place_of name old) ≡ list_any (λ k. same_name (f key) (f k)) keys
     place = ap (λ (n : List ℕ). is_some (place_of n old)) (sym named) ∙ ap (λ (ns : List (List ℕ)). is_some (place_of (f key) ns)) (sym were) ∙ is_found f (f key) keys
+
     by : (t : Bool) → list_any (λ k. same_name (f key) (f k)) keys ≡ t → Adds name old (map f after) (Ok b)
     by true e =
         let b-is : b ≡ false = new ∙ ap not e in

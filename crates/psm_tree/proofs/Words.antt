@@ -64,7 +64,7 @@ unfolding is_name
 name_to [] h = absurd h
 name_to (c ∷ ds) h =
     both_true (is_letter c) (leb (length ds) 8 && list_all is_digit ds) (between_to 65 90 c h.0.from_a (omega (arith, h.0.to_z)))
-        (both_true (leb (length ds) 8) (list_all is_digit ds) (grind (arith, h.2)) (digits_to ds h.1))
+    (both_true (leb (length ds) 8) (list_all is_digit ds) (grind (arith, h.2)) (digits_to ds h.1))
 
 pub numeral_from : (w : List ℕ) → is_numeral w ≡ true → IsNumeral w
 unfolding is_numeral
@@ -77,7 +77,7 @@ pub numeral_to : (w : List ℕ) → IsNumeral w → is_numeral w ≡ true
 unfolding is_numeral
 numeral_to w h =
     both_true (ltb 0 (length w)) (leb (length w) 9 && list_all is_digit w) (lt-ltb 0 (length w) h.some)
-        (both_true (leb (length w) 9) (list_all is_digit w) (grind (arith, h.few)) (digits_to w h.all))
+    (both_true (leb (length w) 9) (list_all is_digit w) (grind (arith, h.few)) (digits_to w h.all))
 
 -- ---- words are ASCII, and have no blank
 

@@ -164,11 +164,15 @@ procedure_of p = record { signature = p.0; body = p.1 }
 unfoldable pub procedure_at : Reader Procedure
 procedure_at = made procedure_of (paired (behind (codes "PROCEDURE ") signature_at) statement_at)
 
+-- a procedure, and the end of the module behind it
+unfoldable pub last_procedure_at : Reader Procedure
+last_procedure_at = before procedure_at (codes "END MODULE\n")
+
 abbrev pub module_of : List ℕ × Procedure → Module
 module_of m = record { name = m.0; procedure = m.1 }
 
 unfoldable pub module_at : Reader Module
-module_at = made module_of (paired (behind (codes "CREATE MODULE ") name_at) (before procedure_at (codes "END MODULE\n")))
+module_at = made module_of (paired (behind (codes "CREATE MODULE ") name_at) last_procedure_at)
 
 unfoldable pub more_arguments_at : Reader (List Argument)
 more_arguments_at = until (behind (codes ", ") argument_at) (codes ") ;\n")

@@ -4,15 +4,20 @@
 //! accepted module and script mean (`Meaning`, `Session`). None of these knows the machine.
 #![tactic(auto)]
 
+mod check;
 mod fault;
+mod module_parts;
 mod name;
 mod names;
+mod read;
 mod read_words;
+mod script_parts;
 mod tree;
 
 pub use fault::ReadFault;
 pub use name::{Name, Numeral};
 pub use names::Names;
+pub use read::{read_module, read_script};
 pub use tree::{
     Argument, Command, Mode, Module, Operand, Parameter, Procedure, Script, Sign, Signature,
     Statement, Sum, Term,

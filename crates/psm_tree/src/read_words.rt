@@ -62,7 +62,10 @@ fn is_name_text(word: &[u8]) -> bool
     ensures { result ≡ is_name word.now }
 {
     match word {
-        [first, digits @ ..] => b'A' <= *first && *first <= b'Z' && digits.len() <= 8 && all_digits(digits),
+        [first, digits @ ..] => b'A' <= *first
+            && *first <= b'Z'
+            && digits.len() <= 8
+            && all_digits(digits),
         [] => false,
     }
 }
