@@ -1,5 +1,6 @@
 pub mod Count
 pub mod Failures
+pub mod Faults
 pub mod FileShelf
 pub mod MemShelf
 pub mod MemSink

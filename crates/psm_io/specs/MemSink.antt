@@ -2,7 +2,7 @@
 use Rattle.std.specs.Prelude.{ℕ, nat_eq, List, [], take, find, Option, option_map, Some, None, Result, Ok, Err}
 use Rattle.psm_io.specs.Count.{next_count}
 use Rattle.psm_io.specs.declared.sink.SinkFault.{SinkFault}
-use Rattle.psm_io.specs.declared.sink.SinkFault.TheVariants.{Failed, Memory}
+use Rattle.psm_io.specs.declared.sink.SinkFault.TheVariants.{Failed}
 
 -- what is written, the calls that fail with the bytes that each keeps, how many calls there were, and how many failed
 pub record Sunk : Type 0 where
@@ -29,9 +29,3 @@ abbrev pub appended : Option ℕ → List ℕ → Result (Unit {0}) SinkFault �
 appended None piece (Ok _) = piece
 appended (Some kept) piece (Err Failed) = take kept piece
 appended _ piece _ = []
-
--- the count of faults after a put with that answer
-abbrev pub faults_after : ℕ → Result (Unit {0}) SinkFault → ℕ
-faults_after faults (Ok _) = faults
-faults_after faults (Err Failed) = next_count faults
-faults_after faults (Err Memory) = faults

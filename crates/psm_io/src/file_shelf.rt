@@ -1,7 +1,7 @@
 ghost use Rattle.std.specs.Prelude.{◌≡◌, ◌≢◌, ◌≤◌, ℕ, List, [], ◌++◌, Option, None, IfOk, length};
 ghost use Rattle.std.specs.Io.KnownBytes.{Consumes, IsAtEnd};
 ghost use Rattle.psm_io.specs.Shelf.{Fetched};
-ghost use Rattle.psm_io.specs.Failures.{times};
+ghost use Rattle.psm_io.specs.Failures.{times, names_after};
 ghost use Rattle.psm_io.specs.FileShelf.{Added, Reads};
 
 use crate::failures::Failures;
@@ -46,7 +46,13 @@ impl<R: Files> Shelf for FileShelf<R> {
 
     ghost faults = { λ shelf name. times name shelf };
 
-    fn fetch(&mut self, alloc: Global, name: &str, most: usize) -> Result<Vec<u8>, ShelfFault> {
+    fn fetch(&mut self, alloc: Global, name: &str, most: usize) -> Result<Vec<u8>, ShelfFault>
+        ensures answer { Fetched None most (times name.now self.old) (times name.now self.new) result }
+        ensures never_falls { times name.now self.old ≤ times name.now self.new }
+        ensures others { (n : List ℕ) → n ≢ name.now → times n self.new ≡ times n self.old }
+
+        ensures failed { self.new ≡ names_after self.old name.now result }
+    {
         match read_file(&self.rt, alloc, name, most) {
             Err(ShelfFault::Failed) => Err(self.failed.keep(alloc, name)),
             answer => answer,

@@ -1,7 +1,8 @@
 ghost use Rattle.std.specs.Prelude.{◌≡◌, ◌≤◌, ℕ, List, [], ◌++◌, Option, Some, ◌⊎◌};
 ghost use Rattle.psm_io.specs.Sink.{Put};
 ghost use Rattle.psm_io.specs.Count.{next_count};
-ghost use Rattle.psm_io.specs.MemSink.{kept_next, listed_at, due_put, appended, faults_after};
+ghost use Rattle.psm_io.specs.Faults.{faults_after};
+ghost use Rattle.psm_io.specs.MemSink.{kept_next, listed_at, due_put, appended};
 
 use crate::sink::{Sink, SinkFault};
 use std::alloc::Global;
@@ -60,7 +61,8 @@ impl Sink for MemSink {
     ghost faults = { λ sink. sink.faults };
 
     fn put(&mut self, bytes: &[u8]) -> Result<(), SinkFault>
-        ensures answer { Put (Some self.old.written) (Some self.new.written) self.old.faults self.new.faults bytes.now result }
+        ensures answer { Put (Some self.old.written) (Some self.new.written)
+            self.old.faults self.new.faults bytes.now result }
         ensures never_falls { self.old.faults ≤ self.new.faults }
 
         ensures due { (result ≡ due_put (kept_next self.old)) ⊎ (result ≡ Err SinkFault.Memory) }

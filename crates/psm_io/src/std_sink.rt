@@ -1,6 +1,7 @@
-ghost use Rattle.std.specs.Prelude.{◌≡◌, ◌≤◌, ℕ, List, Option, None, IfNone, IfSome, ◌<◌, length, take};
+ghost use Rattle.std.specs.Prelude.{◌≡◌, ◌≢◌, ◌≤◌, ℕ, List, Option, None, IfNone, IfSome, ◌<◌, length, take};
 ghost use Rattle.std.specs.Io.KnownBytes.{Appends, Keeps};
 ghost use Rattle.psm_io.specs.Sink.{Put};
+ghost use Rattle.psm_io.specs.Faults.{faults_after};
 ghost use Rattle.psm_io.specs.StdSink.{Writes};
 
 use crate::sink::{Sink, SinkFault};
@@ -36,7 +37,13 @@ impl<R: Print> Sink for StdSink<R> {
 
     ghost faults = { λ sink. sink };
 
-    fn put(&mut self, bytes: &[u8]) -> Result<(), SinkFault> {
+    fn put(&mut self, bytes: &[u8]) -> Result<(), SinkFault>
+        ensures answer { Put None None self.old self.new bytes.now result }
+        ensures never_falls { self.old ≤ self.new }
+
+        ensures faults { self.new ≡ faults_after self.old result }
+        ensures no_memory { result ≢ Err SinkFault.Memory }
+    {
         let put = write_whole(&mut io::writer(&self.rt), bytes);
         if put.is_err() {
             self.faults = self.faults.saturating_add(1);
