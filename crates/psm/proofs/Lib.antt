@@ -1,2 +1,6 @@
 pub mod Puts
 pub mod Sessions
+pub mod Fetched
+pub mod Preparing
+pub mod Answering
+pub mod Completeness

@@ -91,20 +91,27 @@ abbrev pub name_of : Files → Which → List ℕ
 name_of f which.Module = f.for_module
 name_of f which.Script = f.for_script
 
+-- the status and the line of a file that is not accepted
+abbrev pub status_of_not_built : Which → Status
+status_of_not_built which.Module = status.ModuleRefused
+status_of_not_built which.Script = status.ScriptRefused
+
+abbrev pub not_built : Which → List ℕ
+not_built which.Module = module_not_built
+not_built which.Script = script_not_built
+
 -- the status of a refusal
 abbrev pub status_of : Refusal → Status
 status_of (refusals.Unread w) = status.ReadFault
 status_of (refusals.TooLong w) = status.TooLong
-status_of (refusals.NotBuilt which.Module) = status.ModuleRefused
-status_of (refusals.NotBuilt which.Script) = status.ScriptRefused
+status_of (refusals.NotBuilt w) = status_of_not_built w
 status_of refusals.Memory = status.Memory
 
 -- the line of a refusal
 abbrev pub line_of : Files → Refusal → List ℕ
 line_of f (refusals.Unread w) = cannot_read (name_of f w)
 line_of f (refusals.TooLong w) = too_long (name_of f w)
-line_of f (refusals.NotBuilt which.Module) = module_not_built
-line_of f (refusals.NotBuilt which.Script) = script_not_built
+line_of f (refusals.NotBuilt w) = not_built w
 line_of f refusals.Memory = []
 
 -- code and script of the two files

@@ -6,10 +6,7 @@ mod prepare;
 mod report;
 mod script;
 mod status;
+mod top;
 mod words;
 
-use std::process::ExitCode;
-
-fn main(rt: HostRuntime) -> ExitCode {
-    ExitCode::from(0)
-}
+fn main() {}

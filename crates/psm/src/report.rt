@@ -3,7 +3,7 @@ ghost use Rattle.std.specs.Prelude.{◌≡◌, ◌++◌, IfOk};
 ghost use Rattle.psm_machine.specs.Played.{played};
 ghost use Rattle.psm.specs.Message.{usage};
 ghost use Rattle.psm.specs.Program.{turns_bound};
-ghost use Rattle.psm.specs.Prepared.{name_of};
+ghost use Rattle.psm.specs.Prepared.{name_of, not_built, status_of_not_built};
 ghost use Rattle.psm.specs.Report.{Puts, Reports, Runs};
 ghost use Rattle.psm.specs.declared.status.Status.TheVariants as status;
 
@@ -58,13 +58,18 @@ pub fn report<K: Sink>(alloc: Global, files: &Files<'_>, refusal: Refusal, out: 
             };
             put_line(&line, Status::TooLong, out)
         }
-        Refusal::NotBuilt(Which::Module) => {
-            put_line(b"module not built\n", Status::ModuleRefused, out)
-        }
-        Refusal::NotBuilt(Which::Script) => {
-            put_line(b"script not built\n", Status::ScriptRefused, out)
-        }
+        Refusal::NotBuilt(which) => report_not_built(which, out),
         Refusal::Memory => Status::Memory,
+    }
+}
+
+// Puts the line of a file that is not accepted.
+fn report_not_built<K: Sink>(which: Which, out: &mut K) -> Status
+    ensures { Puts (not_built which) (status_of_not_built which) (record { before = K.written out.old; after = K.written out.new; faults_before = K.faults out.old; faults_after = K.faults out.new }) result }
+{
+    match which {
+        Which::Module => put_line(b"module not built\n", Status::ModuleRefused, out),
+        Which::Script => put_line(b"script not built\n", Status::ScriptRefused, out),
     }
 }
 

@@ -8,3 +8,4 @@ pub mod Trees
 pub mod Files
 pub mod Checks
 pub mod WholeFiles
+pub mod Once

@@ -6,6 +6,7 @@
 
 mod check;
 mod fault;
+mod laws;
 mod module_parts;
 mod name;
 mod names;
@@ -15,6 +16,7 @@ mod script_parts;
 mod tree;
 
 pub use fault::ReadFault;
+pub use laws::one_tree;
 pub use name::{Name, Numeral};
 pub use names::Names;
 pub use read::{read_module, read_script};
