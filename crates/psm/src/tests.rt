@@ -1,0 +1,332 @@
+use crate::status::Status;
+use crate::top::psm;
+use psm_io::{MemShelf, MemSink};
+use std::alloc::Global;
+use std::test::Fail;
+
+const THREE_MODES: &str =
+    "CREATE MODULE M PROCEDURE P ( IN A INTEGER , INOUT B INTEGER , OUT C INTEGER ) SET B = B - A + 1 ; END MODULE\n";
+
+const TRIPLE: &str =
+    "CREATE MODULE M PROCEDURE P ( INOUT X INTEGER ) SET X = X + X + X ; END MODULE\n";
+
+const FIVE_SEVEN: &str = "CALL P ( 5 , 7 , ? ) ;\n";
+
+const THREE_LINES: &str = "1 CALL P\nB = 3\nC = NULL\nOK\n";
+
+// The outside of a call: the files M and S where they are there, the numbers of the fetches that fail,
+// and the number of bytes that a failing put keeps.
+#[derive(Drop)]
+struct Outside<'a> {
+    module_file: Option<&'a str>,
+    script: Option<&'a str>,
+    fails: &'a [u32],
+    keeps: Option<usize>,
+}
+
+fn file(alloc: Global, name: &str, text: &str) -> Result<(String, Vec<u8>), Fail> {
+    let bytes = Vec::from_slice(alloc, text.as_bytes())?;
+    Ok((String::from_str(alloc, name)?, bytes))
+}
+
+fn shelf(alloc: Global, outside: &Outside) -> Result<MemShelf, Fail> {
+    let mut files = Vec::new(alloc);
+    if let Some(text) = outside.module_file {
+        files.push(file(alloc, "M", text)?)?;
+    }
+    if let Some(text) = outside.script {
+        files.push(file(alloc, "S", text)?)?;
+    }
+    let fails = Vec::from_slice(alloc, outside.fails)?;
+    Ok(MemShelf::new(alloc, files, fails))
+}
+
+fn sink(alloc: Global, outside: &Outside) -> Result<MemSink, Fail> {
+    let mut fails = Vec::new(alloc);
+    if let Some(kept) = outside.keeps {
+        fails.push((1, kept))?;
+    }
+    Ok(MemSink::new(alloc, fails))
+}
+
+fn words(alloc: Global, text: &str) -> Result<Vec<String>, Fail> {
+    let mut words = Vec::new(alloc);
+    for word in text.split_whitespace() {
+        words.push(String::from_str(alloc, word)?)?;
+    }
+    Ok(words)
+}
+
+// The status of a call, and what it wrote.
+fn call(alloc: Global, given: &str, outside: &Outside) -> Result<(Status, String), Fail> {
+    let words = words(alloc, given)?;
+    let mut shelf = shelf(alloc, outside)?;
+    let mut out = sink(alloc, outside)?;
+    let status = psm(alloc, &words, &mut shelf, &mut out);
+    let written = Vec::from_slice(alloc, out.bytes())?;
+    Ok((status, String::from_utf8(written).ok().ok_or("text")?))
+}
+
+fn files<'a>(module_file: &'a str, script: &'a str) -> Outside<'a> {
+    Outside {
+        module_file: Some(module_file),
+        script: Some(script),
+        fails: &[],
+        keeps: None,
+    }
+}
+
+#[test]
+fn a_module_and_a_script_print_their_lines(rt: HostRuntime) -> Result<(), Fail> {
+    let greatest =
+        "CREATE MODULE M PROCEDURE P ( OUT X INTEGER ) SET X = 999999999 + 999999999 + 147483649 ; END MODULE\n";
+    let past =
+        "CREATE MODULE M PROCEDURE P ( OUT X INTEGER ) SET X = 999999999 + 999999999 + 147483650 ; END MODULE\n";
+    let least =
+        "CREATE MODULE M PROCEDURE P ( OUT X INTEGER ) SET X = 0 - 999999999 - 999999999 - 147483650 ; END MODULE\n";
+    let below =
+        "CREATE MODULE M PROCEDURE P ( OUT X INTEGER ) SET X = 0 - 999999999 - 999999999 - 147483651 ; END MODULE\n";
+    let null =
+        "CREATE MODULE M PROCEDURE Q1 ( OUT X INTEGER , INOUT Y INTEGER ) SET Y = Y + X ; END MODULE\n";
+    let left = "CREATE MODULE M PROCEDURE P ( INOUT X INTEGER ) SET X = 10 - 3 - 2 ; END MODULE\n";
+    let out_of_range = "1 CALL P\nSQLSTATE 22003 numeric value out of range\n";
+    for (shows, module_file, script, status, written) in [
+        ("modes", THREE_MODES, FIVE_SEVEN, Status::Done, THREE_LINES),
+        (
+            "range",
+            TRIPLE,
+            "CALL P ( 999999999 ) ;\n",
+            Status::Done,
+            out_of_range,
+        ),
+        (
+            "empty module",
+            "",
+            "CALL P ( 1 ) ;\n",
+            Status::ModuleRefused,
+            "module not built\n",
+        ),
+        (
+            "other procedure",
+            TRIPLE,
+            "CALL Q ( 1 ) ;\n",
+            Status::ScriptRefused,
+            "script not built\n",
+        ),
+        (
+            "empty script",
+            TRIPLE,
+            "",
+            Status::ScriptRefused,
+            "script not built\n",
+        ),
+        (
+            "module first",
+            "",
+            "",
+            Status::ModuleRefused,
+            "module not built\n",
+        ),
+        (
+            "greatest",
+            greatest,
+            "CALL P ( ? ) ;\n",
+            Status::Done,
+            "1 CALL P\nX = 2147483647\nOK\n",
+        ),
+        (
+            "past it",
+            past,
+            "CALL P ( ? ) ;\n",
+            Status::Done,
+            out_of_range,
+        ),
+        (
+            "least",
+            least,
+            "CALL P ( ? ) ;\n",
+            Status::Done,
+            "1 CALL P\nX = -2147483648\nOK\n",
+        ),
+        (
+            "below it",
+            below,
+            "CALL P ( ? ) ;\n",
+            Status::Done,
+            out_of_range,
+        ),
+        (
+            "null",
+            null,
+            "CALL Q1 ( ? , 007 ) ;\n",
+            Status::Done,
+            "1 CALL Q1\nX = NULL\nY = NULL\nOK\n",
+        ),
+        (
+            "from the left",
+            left,
+            "CALL P ( 1 ) ;\n",
+            Status::Done,
+            "1 CALL P\nX = 5\nOK\n",
+        ),
+    ] {
+        let (answer, text) = call(rt.alloc(), "run M S", &files(module_file, script))?;
+        assert_eq!(rt; answer, status, "at {shows}");
+        assert_eq!(rt; text.as_str(), written, "at {shows}");
+    }
+    Ok(())
+}
+
+#[test]
+fn other_words_show_the_usage(rt: HostRuntime) -> Result<(), Fail> {
+    for given in [
+        "",
+        "run",
+        "run M",
+        "run M S T",
+        "RUN M S",
+        "compile M",
+        "--help",
+        "--version",
+        "run M S --turns 5",
+    ] {
+        let (answer, text) = call(rt.alloc(), given, &files(TRIPLE, FIVE_SEVEN))?;
+        assert_eq!(rt; answer, Status::Usage, "at {given}");
+        assert_eq!(rt; text.as_str(), "usage: psm run M S\n", "at {given}");
+    }
+    Ok(())
+}
+
+#[test]
+fn faults_outside_have_their_statuses(rt: HostRuntime) -> Result<(), Fail> {
+    let module_file = Some(THREE_MODES);
+    let script = Some(FIVE_SEVEN);
+    for (shows, outside, status, written) in [
+        (
+            "fetch 1",
+            Outside {
+                module_file,
+                script,
+                fails: &[1],
+                keeps: None,
+            },
+            Status::ReadFault,
+            "cannot read M\n",
+        ),
+        (
+            "fetch 2",
+            Outside {
+                module_file,
+                script,
+                fails: &[2],
+                keeps: None,
+            },
+            Status::ReadFault,
+            "cannot read S\n",
+        ),
+        (
+            "fetch 3",
+            Outside {
+                module_file,
+                script,
+                fails: &[3],
+                keeps: None,
+            },
+            Status::Done,
+            THREE_LINES,
+        ),
+        (
+            "no module",
+            Outside {
+                module_file: None,
+                script,
+                fails: &[],
+                keeps: None,
+            },
+            Status::ReadFault,
+            "cannot read M\n",
+        ),
+        (
+            "no script",
+            Outside {
+                module_file,
+                script: None,
+                fails: &[],
+                keeps: None,
+            },
+            Status::ReadFault,
+            "cannot read S\n",
+        ),
+        (
+            "keeps 0",
+            Outside {
+                module_file,
+                script,
+                fails: &[],
+                keeps: Some(0),
+            },
+            Status::WriteFault,
+            "",
+        ),
+        (
+            "keeps 1",
+            Outside {
+                module_file,
+                script,
+                fails: &[],
+                keeps: Some(1),
+            },
+            Status::WriteFault,
+            "1",
+        ),
+        (
+            "keeps all",
+            Outside {
+                module_file,
+                script,
+                fails: &[],
+                keeps: Some(1000),
+            },
+            Status::WriteFault,
+            THREE_LINES,
+        ),
+        (
+            "both",
+            Outside {
+                module_file,
+                script,
+                fails: &[1],
+                keeps: Some(6),
+            },
+            Status::WriteFault,
+            "cannot",
+        ),
+    ] {
+        let (answer, text) = call(rt.alloc(), "run M S", &outside)?;
+        assert_eq!(rt; answer, status, "at {shows}");
+        assert_eq!(rt; text.as_str(), written, "at {shows}");
+    }
+    Ok(())
+}
+
+#[test]
+fn a_file_over_the_bound_is_too_long(rt: HostRuntime) -> Result<(), Fail> {
+    let alloc = rt.alloc();
+    for (length, status, written) in [
+        (16_777_216, Status::ModuleRefused, "module not built\n"),
+        (
+            16_777_217,
+            Status::TooLong,
+            "M is longer than 16777216 bytes\n",
+        ),
+    ] {
+        let mut held = Vec::new(alloc);
+        held.push((String::from_str(alloc, "M")?, vec![in alloc; b' '; length]?))?;
+        let mut shelf = MemShelf::new(alloc, held, Vec::new(alloc));
+        let mut out = MemSink::new(alloc, Vec::new(alloc));
+        let words = words(alloc, "run M M")?;
+        assert_eq!(rt; psm(alloc, &words, &mut shelf, &mut out), status);
+        assert_eq!(rt; out.bytes(), written.as_bytes());
+    }
+    Ok(())
+}
