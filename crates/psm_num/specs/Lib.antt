@@ -1,3 +1,4 @@
 pub mod Arithmetic
 pub mod Num
 pub mod Order
+pub mod Printed

@@ -4,7 +4,10 @@
 
 mod dec;
 mod fault;
+mod laws;
 mod power;
+mod print;
 
 pub use dec::Dec;
 pub use fault::NumFault;
+pub use laws::order_is_total;
