@@ -1,4 +1,4 @@
-ghost use Rattle.std.specs.Prelude.{◌≡◌, ◌≤◌};
+ghost use Rattle.std.specs.Prelude.{◌≡◌, ◌^◌, ◌<◌, ◌≤◌, unsigned_abs};
 ghost use Rattle.std.specs.Result.{result_ok};
 ghost use Rattle.psm_num.specs.Num.{Num, checked};
 ghost use Rattle.psm_num.specs.Arithmetic.{total, difference, product, divided, negated, at_scale};
@@ -42,14 +42,16 @@ impl Dec {
 
     /// The digits as one whole number, with the sign.
     pub fn coef(self) -> i64
-        ensures { result ≡ self.coef }
+        ensures value { result ≡ self.coef }
+        ensures digits { unsigned_abs result < 10 ^ 18 }
     {
         self.coef
     }
 
     /// How many of the digits stand behind the point.
     pub fn scale(self) -> u8
-        ensures { result ≡ self.scale }
+        ensures value { result ≡ self.scale }
+        ensures bound { result ≤ 18 }
     {
         self.scale
     }

@@ -1,4 +1,4 @@
-ghost use Rattle.std.specs.Prelude.{◌≡◌, ◌++◌, IfOk, OnOk, ◌≤◌, ◌<◌, ◌^◌};
+ghost use Rattle.std.specs.Prelude.{◌≡◌, ◌++◌, IfOk, OnOk};
 ghost use Rattle.std.specs.String.{string_bytes};
 ghost use Rattle.psm_num.specs.Printed.{printed, filled};
 
@@ -7,6 +7,7 @@ use itoa::Buffer;
 use std::alloc::{AllocError, Global};
 
 impl Dec {
+    #[tactic(auto, using(crate::proofs::Powers::power_pos))]
     /// The printed form: a minus sign if it is negative, at least one digit before the point, and exactly as
     /// many decimals as the scale, with no point at scale 0.
     pub fn print(self, alloc: Global) -> Result<String, AllocError>
@@ -33,7 +34,7 @@ fn push_filled(text: &mut String, number: u64, width: u8) -> Result<(), AllocErr
 {
     let mut buffer = Buffer::new();
     let digits = buffer.format(number);
-    for _zero in digits.len()..width as usize {
+    for _zero in 0..(width as usize).saturating_sub(digits.len()) {
         text.push('0')?;
     }
     text.push_str(digits)
