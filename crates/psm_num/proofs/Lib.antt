@@ -1,3 +1,6 @@
+pub mod Digits
+pub mod Literals
+pub mod OrderLaws
+pub mod Parts
 pub mod Powers
 pub mod Quotients
-pub mod OrderLaws

@@ -40,6 +40,15 @@ impl Dec {
         bounded(coef as i128, scale).ok()
     }
 
+    // A number that is known to lie within the bounds.
+    pub(crate) fn within(coef: i64, scale: u8) -> Dec
+        requires digits { unsigned_abs coef < 10 ^ 18 }
+        requires bound { scale ≤ 18 }
+        ensures { result ≡ record { coef = coef; scale = scale } }
+    {
+        Dec { coef, scale }
+    }
+
     /// The digits as one whole number, with the sign.
     pub fn coef(self) -> i64
         ensures value { result ≡ self.coef }

@@ -7,6 +7,7 @@ mod fault;
 mod laws;
 mod power;
 mod print;
+mod read;
 
 pub use dec::Dec;
 pub use fault::NumFault;
