@@ -4,3 +4,4 @@ pub mod OrderLaws
 pub mod Parts
 pub mod Powers
 pub mod Quotients
+pub mod RoundTrip

@@ -1,12 +1,10 @@
 -- A text is at most one literal: its parts spell it again, and a literal's text has its parts.
-use Rattle.std.proofs.Common.{◌≡◌, ℕ, zero, suc, ◌+◌, ◌-◌, ◌<◌, ◌≤◌, Bool, true, false, cond, not, ◌&&◌, ◌||◌, ◌==◌, nat_lt, nat_le, List, [], ◌∷◌, ◌++◌, length, take, drop, slice_index, Option, Some, None, Result, Ok, Err, refl, sym, ap, subst, ◌∙◌, append_assoc, arith, rules, eqb-true, ltb-true, lt-ltb}
-use Rattle.std.specs.Prelude.{is_some, IfOk, IsTrue, if◌then◌else◌}
+use Rattle.std.proofs.Common.{◌≡◌, ℕ, suc, ◌+◌, ◌<◌, ◌≤◌, Bool, true, false, cond, not, ◌&&◌, ◌||◌, ◌==◌, nat_lt, nat_le, List, [], ◌∷◌, ◌++◌, take, drop, Option, Some, None, Ok, Err, refl, sym, ap, ◌∙◌, append_assoc, arith, eqb-true, ltb-true, lt-ltb}
+use Rattle.std.specs.Prelude.{is_some, IfOk, if◌then◌else◌}
 use Rattle.std.specs.Char.{is_ascii_digit}
-use Rattle.std.specs.List.{list_all, list_any, prefix_len, position_or_len, before_first, after_first}
+use Rattle.std.specs.List.{list_all, list_any, position_or_len, before_first, after_first}
 use Rattle.std.proofs.lemmas.Bool.{leb-true, leb-false}
-use Rattle.psm_num.specs.declared.fault.NumFault.{NumFault}
-use Rattle.psm_num.specs.declared.fault.NumFault.TheVariants.{Range, Zero, NotNumber}
-use Rattle.psm_num.specs.Num.{Num}
+use Rattle.psm_num.specs.declared.fault.NumFault.TheVariants.{Range, NotNumber}
 use Rattle.psm_num.specs.Literal.{Literal, IsLiteral, Spells, Sign, Plus, Minus, sign_text, point_text, literal_text, literal_digits, literal_value, literal_number}
 use Rattle.psm_num.specs.Split.{sign_of, after_sign, is_point, literal_of, has_digits, number_of}
 
@@ -50,11 +48,11 @@ literal_text-literal_of t =
 digit_alone : (c : ℕ) → is_ascii_digit c ≡ true → ((c == 43) ≡ false) × ((c == 45) ≡ false) × ((c == 46) ≡ false)
 digit_alone c h = (grind (arith, h), grind (arith, h), grind (arith, h))
 
-and_first : (a b : Bool) → (a && b) ≡ true → a ≡ true
+pub and_first : (a b : Bool) → (a && b) ≡ true → a ≡ true
 and_first true b h = refl
 and_first false b h = h
 
-and_second : (a b : Bool) → (a && b) ≡ true → b ≡ true
+pub and_second : (a b : Bool) → (a && b) ≡ true → b ≡ true
 and_second true b h = h
 and_second false b h = cc
 
@@ -75,7 +73,7 @@ split_more_by false c n t ds fs p q e f g h =
 split_more : (c : ℕ) (t ds fs : List ℕ) (p : Bool) → (c == 46) ≡ false → IsSplit t ds p fs → IsSplit (c ∷ t) (c ∷ ds) p fs
 split_more c t ds fs p e s =
     let r : (take (cond (not (c == 46)) (1 + position_or_len is_point t) 0) (c ∷ t) ≡ c ∷ ds) × (drop (cond (not (c == 46)) (1 + position_or_len is_point t) 0 + 1) (c ∷ t) ≡ fs) × (((c == 46) || list_any is_point t) ≡ p)
-        = split_more_by (c == 46) c (position_or_len is_point t) t ds fs (list_any is_point t) p e s.before_is s.behind_is s.pointed_is in
+    = split_more_by (c == 46) c (position_or_len is_point t) t ds fs (list_any is_point t) p e s.before_is s.behind_is s.pointed_is in
     record { before_is = r.0; behind_is = r.1; pointed_is = r.2 }
 
 split_at_point : (ds fs : List ℕ) (b : Bool) → list_all is_ascii_digit ds ≡ true → (b ≡ false → fs ≡ []) → IsSplit (ds ++ (point_text b ++ fs)) ds b fs
@@ -84,7 +82,7 @@ split_at_point [] [] false h none = record { before_is = refl; behind_is = refl;
 split_at_point [] (c ∷ fs) false h none = let e : c ∷ fs ≡ [] = none refl in absurd (cc)
 split_at_point (c ∷ ds) fs b h none =
     split_more c (ds ++ (point_text b ++ fs)) ds fs b (digit_alone c (and_first (is_ascii_digit c) (list_all is_ascii_digit ds) h)).2
-      (split_at_point ds fs b (and_second (is_ascii_digit c) (list_all is_ascii_digit ds) h) none)
+    (split_at_point ds fs b (and_second (is_ascii_digit c) (list_all is_ascii_digit ds) h) none)
 
 unsigned_by : (p m : Bool) (c : ℕ) (u : List ℕ) → p ≡ false → m ≡ false
     → (cond p (Some Plus) (cond m (Some Minus) None) ≡ None) × (cond (is_some (cond p (Some Plus) (cond m (Some Minus) None))) (drop 1 (c ∷ u)) (c ∷ u) ≡ c ∷ u)
@@ -120,11 +118,11 @@ literal_of-literal_text l good =
     let parts : IsSplit rest l.whole l.pointed l.fraction = split_at_point l.whole l.fraction l.pointed good.whole_digits good.no_fraction in
     ap literal_of (flat (sign_text l.sign) l.whole (point_text l.pointed) l.fraction)
     ∙ same_literal (sign_of (sign_text l.sign ++ rest)) (before_first is_point (after_sign (sign_text l.sign ++ rest))) (after_first is_point (after_sign (sign_text l.sign ++ rest))) (list_any is_point (after_sign (sign_text l.sign ++ rest)))
-        l.sign l.whole l.fraction l.pointed
-        found.0
-        (ap (before_first is_point) found.1 ∙ parts.before_is)
-        (ap (after_first is_point) found.1 ∙ parts.behind_is)
-        (ap (list_any is_point) found.1 ∙ parts.pointed_is)
+    l.sign l.whole l.fraction l.pointed
+    found.0
+    (ap (before_first is_point) found.1 ∙ parts.before_is)
+    (ap (after_first is_point) found.1 ∙ parts.behind_is)
+    (ap (list_any is_point) found.1 ∙ parts.pointed_is)
 
 -- ---- the form of a literal, and the test of it
 
@@ -153,7 +151,7 @@ is_literal t h =
       whole_digits = and_first (list_all is_ascii_digit l.whole) (list_all is_ascii_digit l.fraction) both;
       fraction_digits = and_second (list_all is_ascii_digit l.whole) (list_all is_ascii_digit l.fraction) both;
       some_digit = ltb-true 0 (literal_digits l) (and_second (list_all is_ascii_digit l.whole && list_all is_ascii_digit l.fraction) (nat_lt 0 (literal_digits l)) h);
-      no_fraction = none_behind (after_sign t)
+      no_fraction = none_behind (after_sign t);
     }
 
 -- ---- what a text's number says of its literals
@@ -172,7 +170,7 @@ module _ (t : List ℕ) where
 
   value_by : (a b : Bool) → has_digits (literal_of t) ≡ a → nat_le (literal_digits (literal_of t)) 18 ≡ b
       → IfOk (if a then (if b then Ok (literal_value (literal_of t)) else Err Range) else Err NotNumber)
-          (λ d. (l : Literal) × Spells t l × (literal_digits l ≤ 18) × (d ≡ literal_value l))
+      (λ d. (l : Literal) × Spells t l × (literal_digits l ≤ 18) × (d ≡ literal_value l))
   value_by true true e f = (literal_of t, spelled e, leb-true (literal_digits (literal_of t)) 18 f, refl)
   value_by true false e f = tt
   value_by false b e f = tt

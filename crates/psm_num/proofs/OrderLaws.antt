@@ -1,5 +1,5 @@
 -- The order of exact numbers is that of any common multiple, so it has the laws of the order of whole numbers.
-use Rattle.std.proofs.Common.{◌≡◌, ℕ, zero, suc, ◌+◌, ◌-◌, ◌*◌, ◌^◌, ◌<◌, ◌≤◌, ℤ, pos, negsuc, ◌*ℤ◌, Bool, true, false, cond, nat_lt, int_lt, refl, sym, ap, ◌∙◌, arith, lt-ltb, ltb-true}
+use Rattle.std.proofs.Common.{◌≡◌, ℕ, zero, suc, ◌-◌, ◌*◌, ◌^◌, ◌<◌, ℤ, pos, negsuc, ◌*ℤ◌, nat_lt, int_lt, refl, sym, ap, ◌∙◌, arith, lt-ltb, ltb-true}
 use Rattle.std.proofs.Math.IntN.{neg_ℤ}
 use Rattle.std.proofs.Math.Nat.{mul_assoc, mul_comm}
 use Rattle.std.specs.Cmp.{IsTotalOrder, both_ways, int_cmp_total, tied_itself}
@@ -34,9 +34,9 @@ int_lt-times (negsuc a) (negsuc b) k h =
     let p : 0 < suc a * k = product_pos a k h in
     let q : 0 < suc b * k = product_pos b k h in
     rw (neg-pos (suc a * k) p, neg-pos (suc b * k) q)
-      (same_lt (suc b * k - 1) (suc a * k - 1) b a
-        (λ l. let e : suc b * k < suc a * k = omega arith in let f : suc b < suc a = lt-of_times (suc b) (suc a) k h e in omega (arith, f))
-        (λ l. let e : suc b * k < suc a * k = lt-times (suc b) (suc a) k h (omega arith) in omega (arith, e)))
+    (same_lt (suc b * k - 1) (suc a * k - 1) b a
+    (λ l. let e : suc b * k < suc a * k = omega arith in let f : suc b < suc a = lt-of_times (suc b) (suc a) k h e in omega (arith, f))
+    (λ l. let e : suc b * k < suc a * k = lt-times (suc b) (suc a) k h (omega arith) in omega (arith, e)))
 
 pub int_cmp-times : (x y : ℤ) (k : ℕ) → 0 < k → int_cmp (x *ℤ pos k) (y *ℤ pos k) ≡ int_cmp x y
 int_cmp-times x y k h = rw (int_lt-times x y k h, int_lt-times y x k h)
@@ -79,7 +79,7 @@ pub order_total : IsTotalOrder order
 order_total = record {
   antisymm = λ a b. int_cmp_total.antisymm (a.coef *ℤ pos (10 ^ b.scale)) (b.coef *ℤ pos (10 ^ a.scale));
   trans = λ a b c. chained a.coef b.coef c.coef (10 ^ a.scale) (10 ^ b.scale) (10 ^ c.scale) (power_pos a.scale) (power_pos b.scale) (power_pos c.scale);
-  congr = λ a b c. tied a.coef b.coef c.coef (10 ^ a.scale) (10 ^ b.scale) (10 ^ c.scale) (power_pos a.scale) (power_pos b.scale) (power_pos c.scale)
+  congr = λ a b c. tied a.coef b.coef c.coef (10 ^ a.scale) (10 ^ b.scale) (10 ^ c.scale) (power_pos a.scale) (power_pos b.scale) (power_pos c.scale);
 }
 
 pub order-same : (a : Num) → order a a ≡ Equal

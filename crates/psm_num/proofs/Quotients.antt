@@ -1,11 +1,11 @@
 -- Quotients that are cut toward zero, and when one has too many digits.
-use Rattle.std.proofs.Common.{◌≡◌, ℕ, zero, suc, ◌+◌, ◌-◌, ◌*◌, ◌/◌, ◌^◌, ◌<◌, ◌≤◌, ℤ, pos, negsuc, ◌*ℤ◌, max, unsigned_abs, int_div, refl, sym, ap, ◌∙◌, subst, Result, Ok, Err, arith}
+use Rattle.std.proofs.Common.{◌≡◌, ℕ, zero, suc, ◌+◌, ◌-◌, ◌*◌, ◌/◌, ◌^◌, ◌<◌, ◌≤◌, ℤ, pos, negsuc, ◌*ℤ◌, max, unsigned_abs, int_div, refl, Result, Err, arith}
 use Rattle.std.proofs.Math.IntN.{neg_ℤ}
 use Rattle.std.proofs.lemmas.Int.{unsigned_abs-mul}
 use Rattle.std.proofs.lemmas.Nat.{le-div}
 use Rattle.psm_num.specs.declared.fault.NumFault.{NumFault}
-use Rattle.psm_num.specs.declared.fault.NumFault.TheVariants.{Range, Zero}
-use Rattle.psm_num.specs.Arithmetic.{total, difference, quotient, divided}
+use Rattle.psm_num.specs.declared.fault.NumFault.TheVariants.{Range}
+use Rattle.psm_num.specs.Arithmetic.{quotient, divided}
 use Rattle.psm_num.specs.Num.{Num, checked}
 use Rattle.psm_num.proofs.Powers.{dividend_large}
 

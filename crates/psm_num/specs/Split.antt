@@ -1,5 +1,5 @@
 -- The parts of a text that may be a literal: its sign, and what stands before and behind its first point.
-use Rattle.std.specs.Prelude.{ℕ, ◌+◌, Bool, ◌&&◌, ◌==◌, List, drop, slice_index, nat_lt, Option, Some, None, is_some, Result, Err, if◌then◌else◌}
+use Rattle.std.specs.Prelude.{ℕ, Bool, ◌&&◌, ◌==◌, List, drop, slice_index, nat_lt, Option, Some, None, is_some, Result, Err, if◌then◌else◌}
 use Rattle.std.specs.List.{list_all, list_any, before_first, after_first}
 use Rattle.std.specs.Char.{is_ascii_digit}
 use Rattle.psm_num.specs.declared.fault.NumFault.{NumFault}
@@ -22,7 +22,7 @@ literal_of t = let unsigned = after_sign t in record {
   sign = sign_of t;
   whole = before_first is_point unsigned;
   fraction = after_first is_point unsigned;
-  pointed = list_any is_point unsigned
+  pointed = list_any is_point unsigned;
 }
 
 abbrev pub has_digits : Literal → Bool

@@ -91,7 +91,10 @@ impl Dec {
     pub fn mul(self, other: Dec) -> Result<Dec, NumFault>
         ensures { result ≡ checked (product self other) }
     {
-        bounded(self.coef as i128 * other.coef as i128, self.scale + other.scale)
+        bounded(
+            self.coef as i128 * other.coef as i128,
+            self.scale + other.scale,
+        )
     }
 
     /// The quotient at the larger scale, cut toward zero. A zero divisor is `Zero`, and then more than
@@ -116,7 +119,10 @@ impl Dec {
     pub fn neg(self) -> Dec
         ensures { result ≡ negated self }
     {
-        Dec { coef: -self.coef, scale: self.scale }
+        Dec {
+            coef: -self.coef,
+            scale: self.scale,
+        }
     }
 
     /// The number at another scale; digits that don't fit there are cut off, and more than 18 digits
@@ -146,7 +152,10 @@ fn bounded(coef: i128, scale: u8) -> Result<Dec, NumFault>
     ensures { result ≡ checked (record { coef = coef; scale = scale }) }
 {
     if scale <= 18 && -1_000_000_000_000_000_000 < coef && coef < 1_000_000_000_000_000_000 {
-        Ok(Dec { coef: coef as i64, scale })
+        Ok(Dec {
+            coef: coef as i64,
+            scale,
+        })
     } else {
         Err(NumFault::Range)
     }

@@ -11,4 +11,4 @@ mod read;
 
 pub use dec::Dec;
 pub use fault::NumFault;
-pub use laws::order_is_total;
+pub use laws::{order_is_total, read_inverts_print};

@@ -6,5 +6,5 @@ returns c = record {
   reflexive = order-same;
   turned = order_total.antisymm;
   transitive = order-chained;
-  total = order_total
+  total = order_total;
 }

@@ -16,5 +16,5 @@ overflow_add-spelled c =
 pub loop-digit-preserved : goal.loop-digit-preserved
 loop-digit-preserved c = record {
   value = c.loop-digit.invariant.value ∙ value_step c.loop-digit.spelled c.loop-digit.digit-index c.args.digits.now c.requires.digits c.loop-digit-test.true;
-  size = size_step c.args.number c.loop-digit.spelled c.loop-digit.digit-index c.args.digits.now c.requires.digits c.loop-digit-test.true c.loop-digit.invariant.size
+  size = size_step c.args.number c.loop-digit.spelled c.loop-digit.digit-index c.args.digits.now c.requires.digits c.loop-digit-test.true c.loop-digit.invariant.size;
 }
