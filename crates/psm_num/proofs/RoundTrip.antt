@@ -10,11 +10,10 @@ use Rattle.std.proofs.lemmas.List.{length-append, length-replicate, append-nil}
 use Rattle.std.proofs.lemmas.List.Folds.{list_all-append}
 use Rattle.std.proofs.lemmas.Nat.{div_below, mod_below}
 use Rattle.psm_num.specs.declared.fault.NumFault.TheVariants.{Range}
-use Rattle.psm_num.specs.Num.{Num, is_within}
+use Rattle.psm_num.specs.Num.{Num}
 use Rattle.psm_num.specs.Literal.{Literal, Spells, Sign, Minus, sign_text, point_text, literal_text, literal_digits, literal_value, literal_number, signed, is_minus}
 use Rattle.psm_num.specs.Printed.{filled, printed}
 use Rattle.psm_num.proofs.Digits.{own, digits_value-append}
-use Rattle.psm_num.proofs.Literals.{and_first, and_second}
 use Rattle.psm_num.proofs.Powers.{power_pos}
 
 -- ---- filled numbers
@@ -134,13 +133,7 @@ signed-abs (negsuc n) = refl
 
 -- ---- the law
 
-module _ (n : Num) (within : is_within n ≡ true) where
-  scale_bound : n.scale ≤ 18
-  scale_bound = leb-true n.scale 18 (and_first (nat_le n.scale 18) (nat_lt (unsigned_abs n.coef) 1000000000000000000) within)
-
-  size_bound : unsigned_abs n.coef < 10 ^ 18
-  size_bound = ltb-true (unsigned_abs n.coef) 1000000000000000000 (and_second (nat_le n.scale 18) (nat_lt (unsigned_abs n.coef) 1000000000000000000) within)
-
+module _ (n : Num) (scale_bound : n.scale ≤ 18) (size_bound : unsigned_abs n.coef < 10 ^ 18) where
   unit_pos : 0 < 10 ^ n.scale
   unit_pos = power_pos n.scale
 

@@ -1,10 +1,10 @@
 //! Laws of the definitions that the contracts cite, as contracts of functions that do nothing.
-ghost use Rattle.std.specs.Prelude.{◌≡◌, ◌<◌, IsTrue};
+ghost use Rattle.std.specs.Prelude.{◌≡◌, ◌^◌, ◌<◌, ◌≤◌, unsigned_abs};
 ghost use Rattle.std.specs.Cmp.{IsTotalOrder};
 ghost use Rattle.std.specs.Ordering.{ordering_reverse};
 ghost use Rattle.std.specs.declared.cmp.Ordering.{Ordering};
 ghost use Rattle.std.specs.declared.cmp.Ordering.TheVariants.{Equal};
-ghost use Rattle.psm_num.specs.Num.{Num, is_within};
+ghost use Rattle.psm_num.specs.Num.{Num};
 ghost use Rattle.psm_num.specs.Literal.{Literal, Spells, literal_value, literal_number};
 ghost use Rattle.psm_num.specs.Order.{order};
 ghost use Rattle.psm_num.specs.Printed.{printed};
@@ -23,7 +23,7 @@ pub fn order_is_total()
 /// What a number prints is a literal of it, so reading gives it back, except at scale 18: there a number
 /// prints 19 digits, which are out of range.
 pub fn read_inverts_print()
-    ensures value { (n : Num) → IsTrue (is_within n) → (l : Literal) × Spells (printed n) l × (literal_value l ≡ n) }
-    ensures number { (n : Num) → IsTrue (is_within n) → n.scale < 18 → (l : Literal) × Spells (printed n) l × (literal_number l ≡ Ok n) }
-    ensures range { (n : Num) → IsTrue (is_within n) → n.scale ≡ 18 → (l : Literal) × Spells (printed n) l × (literal_number l ≡ Err NumFault.Range) }
+    ensures value { (n : Num) → n.scale ≤ 18 → unsigned_abs n.coef < 10 ^ 18 → (l : Literal) × Spells (printed n) l × (literal_value l ≡ n) }
+    ensures number { (n : Num) → n.scale < 18 → unsigned_abs n.coef < 10 ^ 18 → (l : Literal) × Spells (printed n) l × (literal_number l ≡ Ok n) }
+    ensures range { (n : Num) → n.scale ≡ 18 → unsigned_abs n.coef < 10 ^ 18 → (l : Literal) × Spells (printed n) l × (literal_number l ≡ Err NumFault.Range) }
 {}
