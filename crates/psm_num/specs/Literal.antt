@@ -7,6 +7,7 @@ use Rattle.psm_num.specs.declared.fault.NumFault.{NumFault}
 use Rattle.psm_num.specs.declared.fault.NumFault.TheVariants.{Range}
 use Rattle.psm_num.specs.Num.{Num}
 
+-- a plus or a minus
 pub data Sign : Type 0 where
   Plus : Sign
   Minus : Sign
@@ -29,11 +30,13 @@ pub record IsLiteral (l : Literal) : Type 0 where
   pub some_digit : 0 < literal_digits l
   pub no_fraction : l.pointed ≡ false → l.fraction ≡ []
 
+-- how a sign or none is written
 abbrev pub sign_text : Option Sign → List ℕ
 sign_text None = []
 sign_text (Some Plus) = 43 ∷ []
 sign_text (Some Minus) = 45 ∷ []
 
+-- how a point or none is written
 abbrev pub point_text : Bool → List ℕ
 point_text true = 46 ∷ []
 point_text false = []
@@ -42,11 +45,13 @@ point_text false = []
 abbrev pub literal_text : Literal → List ℕ
 literal_text l = sign_text l.sign ++ l.whole ++ point_text l.pointed ++ l.fraction
 
+-- only a minus makes a number negative
 abbrev pub is_minus : Option Sign → Bool
 is_minus None = false
 is_minus (Some Plus) = false
 is_minus (Some Minus) = true
 
+-- a number with its sign
 abbrev pub signed : Bool → ℕ → ℤ
 signed negative n = if negative then neg_ℤ (pos n) else pos n
 

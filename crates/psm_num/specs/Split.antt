@@ -7,12 +7,15 @@ use Rattle.psm_num.specs.declared.fault.NumFault.TheVariants.{NotNumber}
 use Rattle.psm_num.specs.Num.{Num}
 use Rattle.psm_num.specs.Literal.{Literal, Sign, Plus, Minus, literal_digits, literal_number}
 
+-- the sign that stands first
 abbrev pub sign_of : List ℕ → Option Sign
 sign_of t = if slice_index t 0 == 43 then Some Plus else if slice_index t 0 == 45 then Some Minus else None
 
+-- what stands behind the sign
 abbrev pub after_sign : List ℕ → List ℕ
 after_sign t = if is_some (sign_of t) then drop 1 t else t
 
+-- a full stop
 abbrev pub is_point : ℕ → Bool
 is_point c = c == 46
 
@@ -25,6 +28,7 @@ literal_of t = let unsigned = after_sign t in record {
   pointed = list_any is_point unsigned;
 }
 
+-- whether the parts are digits, at least one
 abbrev pub has_digits : Literal → Bool
 has_digits l = list_all is_ascii_digit l.whole && list_all is_ascii_digit l.fraction && nat_lt 0 (literal_digits l)
 

@@ -16,14 +16,18 @@ use crate::fault::NumFault;
 pub fn order_is_total()
     ensures reflexive { (a : Num) → order a a ≡ Equal }
     ensures turned { (a b : Num) → order a b ≡ ordering_reverse (order b a) }
-    ensures transitive { (a b c : Num) (r : Ordering) → order a b ≡ r → order b c ≡ r → order a c ≡ r }
+    ensures transitive { (a b c : Num) (r : Ordering)
+        → order a b ≡ r → order b c ≡ r → order a c ≡ r }
     ensures total { IsTotalOrder order }
 {}
 
 /// What a number prints is a literal of it, so reading gives it back, except at scale 18: there a number
 /// prints 19 digits, which are out of range.
 pub fn read_inverts_print()
-    ensures value { (n : Num) → n.scale ≤ 18 → unsigned_abs n.coef < 10 ^ 18 → (l : Literal) × Spells (printed n) l × (literal_value l ≡ n) }
-    ensures number { (n : Num) → n.scale < 18 → unsigned_abs n.coef < 10 ^ 18 → (l : Literal) × Spells (printed n) l × (literal_number l ≡ Ok n) }
-    ensures range { (n : Num) → n.scale ≡ 18 → unsigned_abs n.coef < 10 ^ 18 → (l : Literal) × Spells (printed n) l × (literal_number l ≡ Err NumFault.Range) }
+    ensures value { (n : Num) → n.scale ≤ 18 → unsigned_abs n.coef < 10 ^ 18
+        → (l : Literal) × Spells (printed n) l × (literal_value l ≡ n) }
+    ensures number { (n : Num) → n.scale < 18 → unsigned_abs n.coef < 10 ^ 18
+        → (l : Literal) × Spells (printed n) l × (literal_number l ≡ Ok n) }
+    ensures range { (n : Num) → n.scale ≡ 18 → unsigned_abs n.coef < 10 ^ 18
+        → (l : Literal) × Spells (printed n) l × (literal_number l ≡ Err NumFault.Range) }
 {}

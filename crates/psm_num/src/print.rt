@@ -7,9 +7,9 @@ use itoa::Buffer;
 use std::alloc::{AllocError, Global};
 
 impl Dec {
-    #[tactic(auto, using(crate::proofs::Powers::power_pos))]
     /// The printed form: a minus sign if it is negative, at least one digit before the point, and exactly as
-    /// many decimals as the scale, with no point at scale 0.
+    /// many decimals as the scale, with no point at scale 0 (ISO/IEC 9075:1992, 6.10).
+    #[tactic(auto, using(crate::proofs::Powers::power_pos))]
     pub fn print(self, alloc: Global) -> Result<String, AllocError>
         ensures { IfOk result (λ text. string_bytes text ≡ printed self) }
     {
@@ -29,6 +29,7 @@ impl Dec {
     }
 }
 
+// Appends the number, filled with zeros on the left.
 fn push_filled(text: &mut String, number: u64, width: u8) -> Result<(), AllocError>
     ensures { OnOk result (string_bytes text.new ≡ string_bytes text.old ++ filled width number) }
 {

@@ -10,11 +10,15 @@ use crate::fault::NumFault;
 
 impl Dec {
     /// The number that a text spells: an optional sign, and digits with at most one point before, among or
-    /// behind them. More than 18 digits as written are `Range`, and every other text is `NotNumber`.
+    /// behind them (ISO/IEC 9075:1992, 5.3). More than 18 digits as written are `Range`, and every other
+    /// text is `NotNumber`.
     pub fn read(text: &str) -> Result<Dec, NumFault>
-        ensures ok { IfOk result (λ d. (l : Literal) × Spells text.now l × (literal_digits l ≤ 18) × (d ≡ literal_value l)) }
-        ensures range { result ≡ Err NumFault.Range → (l : Literal) × Spells text.now l × (18 < literal_digits l) }
-        ensures not_number { result ≡ Err NumFault.NotNumber → (l : Literal) → Spells text.now l → ⊥ }
+        ensures ok { IfOk result (λ d.
+            (l : Literal) × Spells text.now l × (literal_digits l ≤ 18) × (d ≡ literal_value l)) }
+        ensures range { result ≡ Err NumFault.Range
+            → (l : Literal) × Spells text.now l × (18 < literal_digits l) }
+        ensures not_number { result ≡ Err NumFault.NotNumber
+            → (l : Literal) → Spells text.now l → ⊥ }
         ensures no_other { result ≢ Err NumFault.Zero }
         ensures exact { (l : Literal) → Spells text.now l → result ≡ literal_number l }
     {
@@ -88,8 +92,8 @@ fn size_of(whole: &[u8], fraction: &[u8]) -> i64
     digits_after(digits_after(0, whole), fraction) as i64
 }
 
-#[tactic(auto, using(crate::proofs::Digits::steps))]
 // The number that the digits spell when they are written behind another number's.
+#[tactic(auto, using(crate::proofs::Digits::steps))]
 fn digits_after(number: u64, digits: &[u8]) -> u64
     requires digits { IsTrue (list_all is_ascii_digit digits.now) }
     requires small { (number + 1) * 10 ^ length digits.now ≤ 10 ^ 18 }

@@ -1,4 +1,7 @@
+ghost use Rattle.std.specs.Prelude.{◌≡◌, ◌<◌, IfOk};
+
 use super::*;
+use std::alloc::{AllocError, Global};
 use std::cmp::Ordering;
 use std::test::Fail;
 
@@ -28,6 +31,17 @@ fn answer(operation: Operation, left: Dec, right: Dec) -> Result<Dec, NumFault> 
         Operation::Mul => left.mul(right),
         Operation::Div => left.div(right),
     }
+}
+
+// The contracts of `print` and `read` join by the law: below scale 18 a number comes back.
+fn read_back(alloc: Global, number: Dec) -> Result<Result<Dec, NumFault>, AllocError>
+    requires { number.scale < 18 }
+    ensures { IfOk result (λ answer. answer ≡ Ok number) }
+{
+    read_inverts_print();
+    let _digits = number.coef();
+    let text = number.print(alloc)?;
+    Ok(Dec::read(text.as_str()))
 }
 
 #[test]
@@ -114,8 +128,18 @@ fn numbers_are_printed_and_read(rt: HostRuntime) -> Result<(), Fail> {
         (MOST, 18, "0.999999999999999999"),
         (-MOST, 0, "-999999999999999999"),
     ] {
-        let text = dec(coef, scale)?.print(rt.alloc())?;
+        let number = dec(coef, scale)?;
+        let text = number.print(rt.alloc())?;
         assert_eq!(rt; text.as_str(), expected);
+        if number.scale() < 18 {
+            assert_eq!(rt; read_back(rt.alloc(), number)?, Ok(number), "{expected}");
+        } else {
+            assert_eq!(rt;
+                Dec::read(text.as_str()),
+                Err(NumFault::Range),
+                "{expected}"
+            );
+        }
     }
     for (text, expected) in [
         ("12.5", Ok((125, 1))),

@@ -6,5 +6,5 @@ pub returns : goal.returns
 returns c = record {
   value = λ n bound small. (literal_for n, spells-printed n bound small, literal_value-printed n bound small);
   number = λ n below small. let bound : n.scale ≤ 18 = omega arith in (literal_for n, spells-printed n bound small, literal_number-printed n bound small below);
-  range = λ n full small. let bound : n.scale ≤ 18 = omega arith in (literal_for n, spells-printed n bound small, literal_number-full n bound small full)
+  range = λ n full small. let bound : n.scale ≤ 18 = omega arith in (literal_for n, spells-printed n bound small, literal_number-full n bound small full);
 }
