@@ -1,0 +1,15 @@
+//! SQL texts: lists of at most 4000 characters, with their comparison, their operations, LIKE, and how
+//! they are stored and fetched (ISO/IEC 9075:1992). Names stand here too.
+#![tactic(auto)]
+
+mod fault;
+mod order;
+mod text;
+
+pub use fault::TextFault;
+pub use order::padded_order_laws;
+pub use psm_list::{Boxed, List};
+pub use text::Text;
+
+#[cfg(test)]
+mod tests;
