@@ -4,10 +4,12 @@
 
 mod fault;
 mod order;
+mod parts;
 mod text;
 
 pub use fault::TextFault;
 pub use order::padded_order_laws;
+pub use parts::Side;
 pub use psm_list::{Boxed, List};
 pub use text::Text;
 

@@ -36,7 +36,8 @@ fn first_or_blank(characters: &[char]) -> char
     }
 }
 
-fn rest(characters: &[char]) -> &[char]
+/// The characters after the first.
+pub(crate) fn rest(characters: &[char]) -> &[char]
     ensures { result.now ≡ drop 1 characters.now }
 {
     match characters {

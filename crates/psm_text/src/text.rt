@@ -1,4 +1,4 @@
-ghost use Rattle.std.specs.Prelude.{◌≡◌, ◌≤◌, length, IfOk, encode_utf8_all};
+ghost use Rattle.std.specs.Prelude.{◌≡◌, ◌≤◌, length, IfOk, encode_utf8_all, vec_len};
 ghost use Rattle.std.specs.Str.{chars};
 ghost use Rattle.psm_text.specs.Text.{Gives, made, most};
 
@@ -6,7 +6,7 @@ use crate::fault::TextFault;
 use std::alloc::{AllocError, Global};
 use std::marker::Model;
 
-const MOST_CHARACTERS: usize = 4000;
+pub(crate) const MOST_CHARACTERS: usize = 4000;
 
 /// A text of at most 4000 characters, seen as the list of their code points and kept as a `Vec`.
 #[derive(Debug, Drop)]
@@ -50,6 +50,14 @@ impl Text {
         Ok(Text {
             items: Vec::from_slice(alloc, characters)?,
         })
+    }
+
+    /// The text of the characters in a vector.
+    pub(crate) fn from_vec(items: Vec<char>) -> Text
+        requires { vec_len items ≤ 4000 }
+        ensures { result ≡ items.items }
+    {
+        Text { items }
     }
 
     /// The same text in memory of its own.
