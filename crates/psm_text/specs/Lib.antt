@@ -1,3 +1,4 @@
 pub mod Order
 pub mod Parts
+pub mod Storing
 pub mod Text

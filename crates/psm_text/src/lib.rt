@@ -5,6 +5,7 @@
 mod fault;
 mod order;
 mod parts;
+mod storing;
 mod text;
 
 pub use fault::TextFault;
