@@ -1,3 +1,4 @@
+pub mod Name
 pub mod Order
 pub mod Parts
 pub mod Storing

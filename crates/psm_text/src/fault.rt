@@ -27,3 +27,25 @@ impl From<AllocError> for TextFault {
         TextFault::Memory
     }
 }
+
+/// Why a string isn't a name.
+#[derive(Clone, Copy, Debug, PartialEq, Eq)]
+pub enum NameFault {
+    /// There is no character.
+    Empty,
+    /// There are more than 128 characters.
+    TooLong,
+    /// Memory ran out.
+    Memory,
+}
+
+impl From<AllocError> for NameFault {
+    ghost use Rattle.std.specs.Prelude.{◌≡◌};
+    ghost use Rattle.psm_text.specs.declared.fault.NameFault.TheVariants.{Memory};
+
+    ghost from_gives = { λ _ e. e ≡ Memory };
+
+    fn from(_e: AllocError) -> NameFault {
+        NameFault::Memory
+    }
+}

@@ -3,12 +3,14 @@
 #![tactic(auto)]
 
 mod fault;
+mod name;
 mod order;
 mod parts;
 mod storing;
 mod text;
 
-pub use fault::TextFault;
+pub use fault::{NameFault, TextFault};
+pub use name::Name;
 pub use order::padded_order_laws;
 pub use parts::Side;
 pub use psm_list::{Boxed, List};
