@@ -1,3 +1,4 @@
+pub mod Like
 pub mod Name
 pub mod Order
 pub mod Parts

@@ -3,6 +3,7 @@
 #![tactic(auto)]
 
 mod fault;
+mod like;
 mod name;
 mod order;
 mod parts;
