@@ -1,6 +1,6 @@
 -- The characters at an interval of places, as a piece of the list; and the first place of a part.
-use Rattle.std.proofs.Common.{◌≡◌, ℕ, zero, suc, ◌+◌, ◌-◌, ◌<◌, ◌≤◌, max, List, [], ◌∷◌, ◌++◌, length, take, drop, map, refl, ap, sym, ◌∙◌, subst, arith, Bool, true, false, cond, ◌&&◌, ltb, leb, inl, inr, Option}
-use Rattle.std.specs.Prelude.{ℤ, pos, int_le, int_lt, nat_lt, nat_le, nat_eq, IsTrue, IsFalse}
+use Rattle.std.proofs.Common.{◌≡◌, ℕ, zero, suc, ◌+◌, ◌-◌, ◌<◌, ◌≤◌, max, List, [], ◌∷◌, length, take, drop, map, refl, ap, sym, ◌∙◌, arith, Bool, true, false, cond, ◌&&◌, inl, inr, Option}
+use Rattle.std.specs.Prelude.{ℤ, pos, int_le, nat_lt, nat_le, nat_eq}
 use Rattle.std.specs.List.{filter, enumerate_from, starts_with}
 use Rattle.std.specs.Cmp.Lexicographic.{unequal}
 use Rattle.std.proofs.lemmas.List.{length-take, length-drop, drop-drop}

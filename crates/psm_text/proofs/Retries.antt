@@ -1,8 +1,7 @@
 -- What the matcher keeps true: only the last item for any characters can still take another number.
-use Rattle.std.proofs.Common.{◌≡◌, ℕ, zero, suc, ◌+◌, ◌-◌, ◌*◌, ◌<◌, ◌≤◌, List, [], ◌∷◌, length, get_or, drop, refl, ap, sym, ◌∙◌, subst, arith, Option, Some, None, Bor}
+use Rattle.std.proofs.Common.{◌≡◌, ℕ, suc, ◌+◌, ◌*◌, ◌<◌, ◌≤◌, List, [], ◌∷◌, length, get_or, drop, ap, sym, subst, arith, Option, Some, None, Bor}
 use Rattle.std.specs.Prelude.{◌↔◌}
 use Rattle.std.proofs.Math.Nat.{mul-le-mul_right}
-use Rattle.psm_text.specs.declared.like.Step.{Step}
 use Rattle.psm_text.specs.declared.like.Step.TheVariants.{Skip, Take, Stop}
 use Rattle.psm_text.specs.Like.{Item, Any, Matches, items_of, step_at}
 use Rattle.psm_text.proofs.Steps.{take_step, later_step, stops, skips, twice, one_more, one_less}

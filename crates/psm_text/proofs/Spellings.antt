@@ -1,5 +1,5 @@
 -- Bytes and the characters that they spell.
-use Rattle.std.proofs.Common.{◌≡◌, ℕ, List, Bool, true, nat_eq, encode_utf8_all, ap, sym, ◌∙◌}
+use Rattle.std.proofs.Common.{◌≡◌, ℕ, List, Bool, nat_eq, encode_utf8_all, ap, sym, ◌∙◌}
 use Rattle.std.specs.Prelude.{◌↔◌, IsTrue}
 use Rattle.std.specs.Str.{chars, IsUtf8}
 use Rattle.std.specs.Cmp.Lexicographic.{pointwise, bytes_decides}

@@ -1,9 +1,8 @@
 -- How a match of a pattern changes as the matcher reads an item or a character.
-use Rattle.std.proofs.Common.{◌≡◌, ℕ, zero, suc, ◌+◌, ◌-◌, ◌*◌, ◌<◌, ◌≤◌, List, [], ◌∷◌, length, get_or, drop, refl, ap, sym, ◌∙◌, subst, arith, Bool, true, false, cond, nat_eq, inl, inr}
+use Rattle.std.proofs.Common.{◌≡◌, ℕ, zero, suc, ◌+◌, ◌<◌, List, [], ◌∷◌, length, get_or, drop, refl, ap, sym, ◌∙◌, subst, arith, true, cond, nat_eq, inl, inr}
 use Rattle.std.specs.Prelude.{◌↔◌}
 use Rattle.std.proofs.lemmas.List.{drop-drop}
 use Rattle.std.proofs.lemmas.Bool.{cases_eq, ne_eqb, eq-eqb, true≢false}
-use Rattle.psm_text.specs.declared.like.Step.{Step}
 use Rattle.psm_text.specs.declared.like.Step.TheVariants.{Skip, Take, Stop}
 use Rattle.psm_text.specs.Like.{Item, Literal, One, Any, Matches, step_at, begins_any}
 

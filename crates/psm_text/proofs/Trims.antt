@@ -1,10 +1,8 @@
 -- Blanks taken off one by one, at the front and at the end.
-use Rattle.std.proofs.Common.{◌≡◌, ◌≢◌, ℕ, zero, suc, ◌+◌, ◌-◌, ◌<◌, ◌≤◌, List, [], ◌∷◌, ◌++◌, length, take, drop, refl, ap, sym, ◌∙◌, subst, arith, Bool, true, false, Some, None}
-use Rattle.std.specs.Prelude.{slice_get, ◌↔◌, replicate, IsTrue}
+use Rattle.std.proofs.Common.{◌≡◌, ℕ, zero, suc, ◌+◌, ◌-◌, ◌<◌, List, [], ◌∷◌, ◌++◌, length, take, drop, refl, ap, sym, ◌∙◌, arith, Some}
+use Rattle.std.specs.Prelude.{slice_get, replicate}
 use Rattle.std.proofs.lemmas.List.{append_assoc, append-nil, replicate_more, length-take}
-use Rattle.std.proofs.lemmas.Bool.{true≢false}
 use Rattle.psm_text.specs.Order.{blank}
-use Rattle.psm_text.specs.Parts.{TrimmedFront, TrimmedEnd}
 
 -- t is blanks and then left
 abbrev pub Front : List ℕ → List ℕ → Type 0

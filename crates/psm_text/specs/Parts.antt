@@ -1,5 +1,6 @@
 -- Parts of texts and texts of parts (ISO/IEC 9075:1992, 6.6 and 6.7).
-use Rattle.std.specs.Prelude.{◌≡◌, ◌≢◌, ℕ, ◌+◌, ◌-◌, ◌<◌, ℤ, pos, ◌+ℤ◌, int_lt, int_le, Bool, true, false, ◌&&◌, List, ◌++◌, length, map, drop, replicate, slice_get, nat_eq, Option, Some, None, IsTrue, IsFalse, Result, Ok, Err, if◌then◌else◌}
+use Rattle.std.specs.Prelude.{◌≡◌, ◌≢◌, ℕ, ◌-◌, ◌<◌, ℤ, pos, ◌+ℤ◌, int_lt, int_le, Bool, true, false, ◌&&◌, List, ◌++◌, length, map, drop, replicate, slice_get, nat_eq, Option, Some, None, IsTrue, IsFalse, Result, Ok, Err, if◌then◌else◌}
+use Rattle.std.specs.Char.{to_ascii_uppercase, to_ascii_lowercase}
 use Rattle.std.specs.List.{filter, enumerate_from, starts_with}
 use Rattle.psm_text.specs.declared.fault.TextFault.{TextFault}
 use Rattle.psm_text.specs.declared.fault.TextFault.TheVariants.{Substring}
@@ -17,7 +18,7 @@ abbrev pub is_before_end : ℤ → Option ℤ → ℕ → Bool
 is_before_end from None place = true
 is_before_end from (Some count) place = int_lt (pos place) (from +ℤ count)
 
--- whether a place, counted from 1, is one of the count of places from a place on
+-- whether a place, counted from 1, is one that is asked for: from the place from on, and before the end
 abbrev pub is_asked : ℤ → Option ℤ → ℕ → Bool
 is_asked from count place = int_le from (pos place) && is_before_end from count place
 
@@ -33,6 +34,13 @@ has_negative (Some count) = int_lt count (pos 0)
 -- the substring, where the count isn't negative
 abbrev pub substring_of : ℤ → Option ℤ → List ℕ → Result (List ℕ) TextFault
 substring_of from count t = if has_negative count then Err Substring else Ok (asked_part from count t)
+
+-- the text with a to z as capital letters, and with A to Z as small ones; nothing else changes
+abbrev pub upper_of : List ℕ → List ℕ
+upper_of t = map to_ascii_uppercase t
+
+abbrev pub lower_of : List ℕ → List ℕ
+lower_of t = map to_ascii_lowercase t
 
 -- whether the part stands in the text at the place, counted from 1
 abbrev pub stands_at : List ℕ → List ℕ → ℕ → Bool

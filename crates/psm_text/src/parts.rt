@@ -1,8 +1,7 @@
-ghost use Rattle.std.specs.Prelude.{◌≡◌, ◌↔◌, ◌≤◌, ◌<◌, ◌-◌, ℕ, pos, int_lt, int_le, nat_lt, nat_le, length, map, take, drop, slice_get, IsTrue, IfOk};
-ghost use Rattle.std.specs.Char.{to_ascii_uppercase, to_ascii_lowercase};
+ghost use Rattle.std.specs.Prelude.{◌≡◌, ◌↔◌, ◌≤◌, ◌<◌, ◌-◌, ℕ, pos, int_lt, int_le, nat_lt, nat_le, length, take, drop, slice_get, IsTrue, IfOk};
 ghost use Rattle.psm_text.specs.Text.{Gives};
 ghost use Rattle.psm_text.specs.Order.{blank};
-ghost use Rattle.psm_text.specs.Parts.{joined, substring_of, has_negative, is_before_end, asked_part, IsPosition, Trimmed, TrimmedFront, TrimmedEnd};
+ghost use Rattle.psm_text.specs.Parts.{joined, substring_of, has_negative, is_before_end, asked_part, upper_of, lower_of, IsPosition, Trimmed, TrimmedFront, TrimmedEnd};
 
 use crate::fault::TextFault;
 use crate::order::rest;
@@ -78,7 +77,7 @@ impl Text {
 
     /// The text with a to z as capital letters; no other character changes (ISO/IEC 9075:1992, 6.7).
     pub fn upper(&self, alloc: Global) -> Result<Text, AllocError>
-        ensures { IfOk result (λ t. t ≡ map to_ascii_uppercase self.now) }
+        ensures { IfOk result (λ t. t ≡ upper_of self.now) }
     {
         let items = self
             .chars()
@@ -90,7 +89,7 @@ impl Text {
 
     /// The text with A to Z as small letters; no other character changes (ISO/IEC 9075:1992, 6.7).
     pub fn lower(&self, alloc: Global) -> Result<Text, AllocError>
-        ensures { IfOk result (λ t. t ≡ map to_ascii_lowercase self.now) }
+        ensures { IfOk result (λ t. t ≡ lower_of self.now) }
     {
         let items = self
             .chars()
