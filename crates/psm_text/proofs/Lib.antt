@@ -1,0 +1,6 @@
+pub mod Orders
+pub mod Places
+pub mod Retries
+pub mod Spellings
+pub mod Steps
+pub mod Trims

@@ -1,0 +1,71 @@
+-- Parts of texts and texts of parts (ISO/IEC 9075:1992, 6.6 and 6.7).
+use Rattle.std.specs.Prelude.{◌≡◌, ◌≢◌, ℕ, ◌-◌, ◌<◌, ℤ, pos, ◌+ℤ◌, int_lt, int_le, Bool, true, false, ◌&&◌, List, ◌++◌, length, map, drop, replicate, slice_get, nat_eq, Option, Some, None, IsTrue, IsFalse, Result, Ok, Err, if◌then◌else◌}
+use Rattle.std.specs.Char.{to_ascii_uppercase, to_ascii_lowercase}
+use Rattle.std.specs.List.{filter, enumerate_from, starts_with}
+use Rattle.psm_text.specs.declared.fault.TextFault.{TextFault}
+use Rattle.psm_text.specs.declared.fault.TextFault.TheVariants.{Substring}
+use Rattle.psm_text.specs.declared.parts.Side.{Side}
+use Rattle.psm_text.specs.declared.parts.Side.TheVariants.{Leading, Trailing, Both}
+use Rattle.psm_text.specs.Order.{blank}
+use Rattle.psm_text.specs.Text.{within_most}
+
+-- the one text behind the other
+abbrev pub joined : List ℕ → List ℕ → Result (List ℕ) TextFault
+joined a b = within_most (a ++ b)
+
+-- whether a place lies before the end of the places that are asked for; without a count these have no end
+abbrev pub is_before_end : ℤ → Option ℤ → ℕ → Bool
+is_before_end from None place = true
+is_before_end from (Some count) place = int_lt (pos place) (from +ℤ count)
+
+-- whether a place, counted from 1, is one that is asked for: from the place from on, and before the end
+abbrev pub is_asked : ℤ → Option ℤ → ℕ → Bool
+is_asked from count place = int_le from (pos place) && is_before_end from count place
+
+-- the characters at the places that are asked for
+abbrev pub asked_part : ℤ → Option ℤ → List ℕ → List ℕ
+asked_part from count t = map (λ c. c.1) (filter (λ c. is_asked from count c.0) (enumerate_from 1 t))
+
+-- whether there is a count and it is negative
+abbrev pub has_negative : Option ℤ → Bool
+has_negative None = false
+has_negative (Some count) = int_lt count (pos 0)
+
+-- the substring, where the count isn't negative
+abbrev pub substring_of : ℤ → Option ℤ → List ℕ → Result (List ℕ) TextFault
+substring_of from count t = if has_negative count then Err Substring else Ok (asked_part from count t)
+
+-- the text with a to z as capital letters, and with A to Z as small ones; nothing else changes
+abbrev pub upper_of : List ℕ → List ℕ
+upper_of t = map to_ascii_uppercase t
+
+abbrev pub lower_of : List ℕ → List ℕ
+lower_of t = map to_ascii_lowercase t
+
+-- whether the part stands in the text at the place, counted from 1
+abbrev pub stands_at : List ℕ → List ℕ → ℕ → Bool
+stands_at part t place = starts_with nat_eq (drop (place - 1) t) part
+
+-- the first place at which the part stands in the text, or 0 where there is none
+pub record IsPosition (part t : List ℕ) (place : ℕ) : Type 0 where
+  pub found : 0 < place → IsTrue (stands_at part t place)
+  pub first : (other : ℕ) → 0 < other → other < place → IsFalse (stands_at part t other)
+  pub none : place ≡ 0 → (other : ℕ) → 0 < other → IsFalse (stands_at part t other)
+
+-- r is t without the blanks at its front
+pub record TrimmedFront (t r : List ℕ) : Type 0 where
+  pub blanks : ℕ
+  pub parts : t ≡ replicate blanks blank ++ r
+  pub begins : slice_get r 0 ≢ Some blank
+
+-- r is t without the blanks at its end
+pub record TrimmedEnd (t r : List ℕ) : Type 0 where
+  pub blanks : ℕ
+  pub parts : t ≡ r ++ replicate blanks blank
+  pub ends : slice_get r (length r - 1) ≢ Some blank
+
+-- r is t without the blanks at that side
+abbrev pub Trimmed : Side → List ℕ → List ℕ → Type 0
+Trimmed Leading t r = TrimmedFront t r
+Trimmed Trailing t r = TrimmedEnd t r
+Trimmed Both t r = (middle : List ℕ) × TrimmedFront t middle × TrimmedEnd middle r
