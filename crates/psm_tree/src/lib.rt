@@ -22,3 +22,6 @@ pub use tree::{
     Argument, Command, Mode, Module, Operand, Parameter, Procedure, Script, Sign, Signature,
     Statement, Sum, Term,
 };
+
+#[cfg(test)]
+mod tests;

@@ -10,12 +10,12 @@ returns-in_err-tree-clause-only c =
 pub returns-then-not-branch-clause-only : goal.returns-then-not-branch-clause-only
 returns-then-not-branch-clause-only c = λ m file.
     module_unnamed c.args.bytes.now c.in_ok-tree.tree m c.in_ok-tree.ensures
-        (denies c.in_ok-is_well_named.field-0 c.in_ok-is_well_named.ensures (search c.if-not-branch.true)) file
+    (denies c.in_ok-is_well_named.field-0 c.in_ok-is_well_named.ensures (search c.if-not-branch.true)) file
 
 pub returns-clause-ok : goal.returns-clause-ok
 returns-clause-ok c =
     module_found c.args.bytes.now c.in_ok-tree.tree c.in_ok-tree.ensures
-        (tells c.in_ok-is_well_named.field-0 c.in_ok-is_well_named.ensures (search c.if-not-branch.false))
+    (tells c.in_ok-is_well_named.field-0 c.in_ok-is_well_named.ensures (search c.if-not-branch.false))
 
 pub returns-clause-only : goal.returns-clause-only
 returns-clause-only c = λ m file. module_only c.args.bytes.now c.in_ok-tree.tree m c.in_ok-tree.ensures file

@@ -12,13 +12,13 @@ returns-in_err-command-clause-only c =
 pub returns-then-not-calls-clause-only : goal.returns-then-not-calls-clause-only
 returns-then-not-calls-clause-only c = λ s file.
     script_miscalls c.args.signature.now c.args.bytes.now c.in_ok-command.command s c.in_ok-command.ensures
-        (denies c.calls.result c.calls.ensures (search c.if-not-calls.true)) file
+    (denies c.calls.result c.calls.ensures (search c.if-not-calls.true)) file
 
 pub returns-clause-ok : goal.returns-clause-ok
 returns-clause-ok c =
     let one : c.of.result ≡ c.in_ok-command.command ∷ [] = c.of.ensures ∙ c.in_ok-push.ensures.items ∙ ap (λ (cs : List Command). cs ++ c.in_ok-command.command ∷ []) c.new-commands.ensures.items in
     script_found c.args.signature.now c.args.bytes.now c.in_ok-command.command c.of.result one c.in_ok-command.ensures
-        (tells c.calls.result c.calls.ensures (search c.if-not-calls.false))
+    (tells c.calls.result c.calls.ensures (search c.if-not-calls.false))
 
 pub returns-clause-only : goal.returns-clause-only
 returns-clause-only c =
