@@ -1,12 +1,12 @@
 -- A reader is exact for a spelling: what it reads is spelled so, and what is spelled so is read, whatever follows.
-use Rattle.std.proofs.Common.{◌≡◌, ℕ, zero, suc, ◌+◌, ◌≤◌, ◌<◌, Bool, true, false, cond, eqb, List, [], ◌∷◌, ◌++◌, length, take, drop, Option, Some, None, refl, sym, ap, subst, ◌∙◌, append_assoc, arith, inl, inr}
-use Rattle.std.specs.Prelude.{nat_eq, ◌⊎◌}
+use Rattle.std.proofs.Common.{◌≡◌, ℕ, zero, suc, ◌≤◌, ◌<◌, Bool, true, false, cond, eqb, List, [], ◌∷◌, ◌++◌, length, take, drop, Option, Some, None, refl, sym, ap, subst, ◌∙◌, append_assoc, arith}
+use Rattle.std.specs.Prelude.{nat_eq}
 use Rattle.std.specs.List.{flat_map, AllByRecursion}
 use Rattle.std.specs.Cmp.Lexicographic.{pointwise, bytes_decides}
 use Rattle.std.proofs.lemmas.Bool.{eqb-true}
 use Rattle.std.proofs.lemmas.List.{append-nil, nil_from_length, length-append, take-append-drop, take_at, drop_at}
 use Rattle.std.proofs.lemmas.List.Concat.{flat_map-cons}
-use Rattle.psm_tree.specs.Readers.{Reader, ◌>>=◌, literal_at, pick, made, paired, behind, before, with_first, end_or, fewer, until, ended, whole}
+use Rattle.psm_tree.specs.Readers.{Reader, ◌>>=◌, literal_at, made, paired, behind, before, with_first, end_or, fewer, until, ended, whole}
 use Rattle.psm_tree.proofs.Words.{bind_some, some_is}
 
 pub record Exact {A : Type 0} (read : Reader A) (text : A → List ℕ) (P : A → Type 0) : Type 0 where

@@ -1,10 +1,9 @@
 -- The readers of whole files are exact for the spelling.
-use Rattle.std.proofs.Common.{◌≡◌, ℕ, ◌<◌, List, [], ◌∷◌, ◌++◌, length, codes, Option, Some, None, refl, sym, ap, subst, ◌∙◌, append_assoc, arith}
+use Rattle.std.proofs.Common.{◌≡◌, ℕ, ◌<◌, List, [], ◌∷◌, ◌++◌, length, codes, None, refl, sym, append_assoc, arith}
 use Rattle.std.specs.List.{flat_map, AllByRecursion}
-use Rattle.psm_tree.specs.Spelling.{IsName, IsOperand, IsTerm, IsParameter, IsSum, IsStatement, IsSignature, IsModule, IsArgument, IsCommand, word, separated, parameter_text, argument_text, operand_text, sign_text, term_text, sum_text, statement_text, signature_text, module_text, command_text}
+use Rattle.psm_tree.specs.Spelling.{IsName, IsTerm, IsSum, IsStatement, IsSignature, IsModule, IsArgument, IsCommand, word, separated, parameter_text, argument_text, operand_text, sign_text, term_text, sum_text, statement_text, signature_text, module_text, command_text}
 use Rattle.psm_tree.specs.declared.tree.Sign.{Sign}
 use Rattle.psm_tree.specs.declared.tree.Sign.TheVariants.{Plus, Minus}
-use Rattle.psm_tree.specs.declared.tree.Term.{Term}
 use Rattle.psm_tree.specs.declared.tree.Sum.{Sum}
 use Rattle.psm_tree.specs.declared.tree.Argument.{Argument}
 use Rattle.psm_tree.specs.declared.tree.Statement.{Statement}
@@ -13,7 +12,7 @@ use Rattle.psm_tree.specs.declared.tree.Procedure.{Procedure}
 use Rattle.psm_tree.specs.declared.tree.Command.{Command}
 use Rattle.psm_tree.specs.declared.tree.Command.TheVariants.{Call}
 use Rattle.psm_tree.specs.Readers.{literal_at, term_of, term_at, terms_at, sum_of, sum_at, set_of, statement_at, signature_of, signature_at, procedure_of, procedure_at, last_procedure_at, module_of, module_at, call_of, command_at}
-use Rattle.psm_tree.proofs.Exact.{Exact, Items, literal_apart, exact_made, exact_paired, exact_behind, exact_before, exact_until}
+use Rattle.psm_tree.proofs.Exact.{Exact, literal_apart, exact_made, exact_paired, exact_behind, exact_before, exact_until}
 use Rattle.psm_tree.proofs.Trees.{SomeOf, exact_name, exact_sign, exact_operand, exact_parameters, exact_arguments}
 
 -- ---- sums

@@ -4,7 +4,7 @@ use Rattle.std.proofs.lemmas.List.{append-nil}
 use Rattle.psm_tree.specs.declared.fault.ReadFault.{ReadFault}
 use Rattle.psm_tree.specs.declared.fault.ReadFault.TheVariants.{Refused, Memory}
 use Rattle.psm_tree.specs.Follows.{Fails}
-use Rattle.psm_tree.specs.Readers.{◌>>=◌, Reader, literal_at, with_first, end_or, fewer, until, made, paired, cons_of}
+use Rattle.psm_tree.specs.Readers.{◌>>=◌, Reader, literal_at, with_first, fewer, until, made, paired, cons_of}
 
 -- what was read before, and what is still read
 abbrev pub with_front : {A : Type 0} → List A → Option (List A × List ℕ) → Option (List A × List ℕ)

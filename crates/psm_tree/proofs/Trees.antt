@@ -1,9 +1,8 @@
 -- The readers are exact for the spelling.
-use Rattle.std.proofs.Common.{◌≡◌, ℕ, zero, suc, ◌+◌, ◌≤◌, ◌<◌, Bool, true, false, cond, if◌then◌else◌, eqb, List, [], ◌∷◌, ◌++◌, length, codes, Option, Some, None, refl, sym, ap, subst, ◌∙◌, append_assoc, arith, inl, inr}
+use Rattle.std.proofs.Common.{◌≡◌, ℕ, ◌<◌, Bool, true, false, cond, if◌then◌else◌, eqb, List, [], ◌∷◌, ◌++◌, length, codes, Option, Some, None, refl, sym, ap, subst, ◌∙◌, append_assoc, arith, inl, inr}
 use Rattle.std.specs.Prelude.{◌⊎◌}
 use Rattle.std.specs.List.{flat_map, AllByRecursion}
-use Rattle.std.proofs.lemmas.List.{length-append}
-use Rattle.psm_tree.specs.Numeral.{IsDigit, IsNumeral}
+use Rattle.psm_tree.specs.Numeral.{IsNumeral}
 use Rattle.psm_tree.specs.Spelling.{IsName, IsOperand, IsArgument, IsParameter, word, separated, parameter_text, mode_text, sign_text, operand_text, argument_text}
 use Rattle.psm_tree.specs.declared.tree.Mode.{Mode}
 use Rattle.psm_tree.specs.declared.tree.Mode.TheVariants.{In, Out, InOut}

@@ -1,5 +1,5 @@
 -- What is read is the tree of the file, and the tree of the file is read.
-use Rattle.std.proofs.Common.{◌≡◌, ℕ, List, [], ◌∷◌, ◌++◌, Bool, true, false, Option, Some, None, Ok, Err, refl, sym, ap, subst, ◌∙◌, true≢false}
+use Rattle.std.proofs.Common.{◌≡◌, ℕ, List, [], ◌∷◌, Bool, true, false, Some, Err, refl, sym, ap, subst, ◌∙◌, true≢false}
 use Rattle.std.specs.Prelude.{IsTrue, ◌↔◌}
 use Rattle.std.specs.List.{flat_map, AllByRecursion}
 use Rattle.std.proofs.lemmas.List.{append-nil}
@@ -10,7 +10,7 @@ use Rattle.psm_tree.specs.declared.tree.Module.{Module}
 use Rattle.psm_tree.specs.declared.tree.Signature.{Signature}
 use Rattle.psm_tree.specs.declared.tree.Command.{Command}
 use Rattle.psm_tree.specs.declared.tree.Script.{Script}
-use Rattle.psm_tree.specs.Spelling.{command_text, script_text, IsCommand, IsScript}
+use Rattle.psm_tree.specs.Spelling.{command_text, IsCommand, IsScript}
 use Rattle.psm_tree.specs.Accepted.{IsWellNamed, IsModuleFile, Calls, IsScriptFile}
 use Rattle.psm_tree.specs.Reading.{Gives}
 use Rattle.psm_tree.specs.Follows.{Fails}

@@ -1,5 +1,5 @@
 -- Which files are accepted, and the trees that they stand for.
-use Rattle.std.specs.Prelude.{◌≡◌, ◌≢◌, ℕ, List, [], ◌∷◌, length, Option, Some, None, IsSome, option_map, slice_get}
+use Rattle.std.specs.Prelude.{◌≡◌, ℕ, List, [], ◌∷◌, Some, None, IsSome, slice_get}
 use Rattle.std.specs.List.{AllByRecursion}
 use Rattle.psm_tree.specs.Names.{place_of, names_of}
 use Rattle.psm_tree.specs.Spelling.{module_text, script_text, IsModule, IsScript}

@@ -1,5 +1,5 @@
 -- What a module and a script mean together: the pieces of text that the commands print, in order.
-use Rattle.std.specs.Prelude.{ℕ, suc, pos, ◌+◌, List, [], ◌∷◌}
+use Rattle.std.specs.Prelude.{ℕ, pos, ◌+◌, List, [], ◌∷◌}
 use Rattle.psm_value.specs.declared.datum.Datum.{Datum}
 use Rattle.psm_value.specs.declared.datum.Datum.TheVariants.{Num}
 use Rattle.psm_tree.specs.Numeral.{number_of}

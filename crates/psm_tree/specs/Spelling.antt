@@ -1,6 +1,6 @@
 -- What a module file and a script are spelled like: words with one blank between two of them, and a line
 -- feed at the end.
-use Rattle.std.specs.Prelude.{ℕ, ◌<◌, ◌≤◌, ◌≢◌, List, [], ◌∷◌, ◌++◌, length, codes}
+use Rattle.std.specs.Prelude.{ℕ, ◌<◌, ◌≤◌, List, [], ◌∷◌, ◌++◌, length, codes}
 use Rattle.std.specs.List.{flat_map, AllByRecursion}
 use Rattle.psm_tree.specs.Numeral.{IsDigit, IsNumeral}
 use Rattle.psm_tree.specs.declared.tree.Mode.{Mode}

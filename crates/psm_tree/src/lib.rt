@@ -24,3 +24,6 @@ pub use tree::{
     Argument, Command, Mode, Module, Operand, Parameter, Procedure, Script, Sign, Signature,
     Statement, Sum, Term,
 };
+
+#[cfg(test)]
+mod tests;

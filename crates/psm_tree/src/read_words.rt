@@ -54,7 +54,7 @@ fn word(bytes: &[u8]) -> Result<(&[u8], &[u8]), ReadFault>
 fn all_digits(bytes: &[u8]) -> bool
     ensures { result ≡ list_all is_digit bytes.now }
 {
-    bytes.iter().all(|b| b'0' <= *b && *b <= b'9')
+    bytes.iter().all(|b| b.is_ascii_digit())
 }
 
 #[tactic(auto, unfolding(crate::specs::Readers::is_name))]
@@ -62,10 +62,9 @@ fn is_name_text(word: &[u8]) -> bool
     ensures { result ≡ is_name word.now }
 {
     match word {
-        [first, digits @ ..] => b'A' <= *first
-            && *first <= b'Z'
-            && digits.len() <= 8
-            && all_digits(digits),
+        [first, digits @ ..] => {
+            first.is_ascii_uppercase() && digits.len() <= 8 && all_digits(digits)
+        }
         [] => false,
     }
 }

@@ -2,7 +2,7 @@ use Rattle.std.proofs.Common.{ℕ, List, [], ◌∷◌, ◌++◌, length, codes,
 use Rattle.std.proofs.lemmas.Result.{err_from_is_err_and}
 use Rattle.psm_tree.specs.declared.tree.Parameter.{Parameter}
 use Rattle.psm_tree.specs.Readers.{behind, parameter_at, parameters_at, more_parameters_at}
-use Rattle.psm_tree.proofs.Loop.{begins, begins_with, goes_on, fails, is_done, runs_out, fails_first}
+use Rattle.psm_tree.proofs.Loop.{begins_with, goes_on, fails, is_done, runs_out, fails_first}
 use Rattle.psm_tree.proofs.module_parts.parameters.Goals as goal
 
 pub loop-init : goal.loop-init

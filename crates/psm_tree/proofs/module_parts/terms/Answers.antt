@@ -2,7 +2,7 @@ use Rattle.std.proofs.Common.{â„•, List, length, codes, Option, Some, sym, ap, â
 use Rattle.std.proofs.lemmas.Result.{err_from_is_err_and}
 use Rattle.psm_tree.specs.declared.tree.Term.{Term}
 use Rattle.psm_tree.specs.Readers.{term_at, terms_at}
-use Rattle.psm_tree.proofs.Loop.{begins, begins_with, goes_on, fails, is_done, runs_out}
+use Rattle.psm_tree.proofs.Loop.{begins, goes_on, fails, is_done, runs_out}
 use Rattle.psm_tree.proofs.module_parts.terms.Goals as goal
 
 pub loop-init : goal.loop-init

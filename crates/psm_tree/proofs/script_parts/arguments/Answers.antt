@@ -2,7 +2,7 @@ use Rattle.std.proofs.Common.{ℕ, List, [], ◌∷◌, ◌++◌, length, codes,
 use Rattle.std.proofs.lemmas.Result.{err_from_is_err_and}
 use Rattle.psm_tree.specs.declared.tree.Argument.{Argument}
 use Rattle.psm_tree.specs.Readers.{behind, argument_at, arguments_at, more_arguments_at}
-use Rattle.psm_tree.proofs.Loop.{begins, begins_with, goes_on, fails, is_done, runs_out, fails_first}
+use Rattle.psm_tree.proofs.Loop.{begins_with, goes_on, fails, is_done, runs_out, fails_first}
 use Rattle.psm_tree.proofs.script_parts.arguments.Goals as goal
 
 pub loop-init : goal.loop-init

@@ -1,4 +1,4 @@
-use Rattle.std.proofs.Common.{◌<◌, length, arith}
+use Rattle.std.proofs.Common.{◌<◌, arith}
 use Rattle.psm_tree.proofs.Powers.{power_small}
 use Rattle.psm_tree.proofs.name.Numeral.value.Goals as goal
 

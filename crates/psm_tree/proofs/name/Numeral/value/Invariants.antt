@@ -1,5 +1,4 @@
 use Rattle.std.proofs.Common.{◌≡◌, ◌<◌, ◌^◌, drop}
-use Rattle.std.specs.Prelude.{string_bytes}
 use Rattle.psm_tree.specs.Numeral.{number_of, number_after}
 use Rattle.psm_tree.proofs.name.Numeral.value.Given as goal
 
