@@ -1,0 +1,38 @@
+-- Characters between quotes, where a quote among them is doubled (ISO/IEC 9075:1992, 5.2 and 5.3).
+use Rattle.std.specs.Prelude.{◌≡◌, ℕ, ◌+◌, false, List, [], ◌∷◌, ◌++◌, length, nat_eq, Option, Some, None, if◌then◌else◌}
+use Rattle.std.specs.List.{flat_map}
+use Rattle.psm_token.specs.declared.quoted.Inside.{Inside}
+use Rattle.psm_token.specs.declared.quoted.Inside.TheVariants.{Nothing, Close, Kept}
+use Rattle.psm_token.specs.Characters.{begins}
+use Rattle.std.specs.Str.{chars}
+
+-- a character as it is written between quotes
+abbrev pub doubled_one : ℕ → ℕ → List ℕ
+doubled_one quote c = if nat_eq c quote then quote ∷ quote ∷ [] else c ∷ []
+
+-- characters as they are written between quotes
+abbrev pub doubled : ℕ → List ℕ → List ℕ
+doubled quote kept = flat_map (doubled_one quote) kept
+
+-- the first n of the characters are a quote, the kept ones, and a quote behind which there is no other
+pub record Quoted (quote : ℕ) (cs : List ℕ) (n : ℕ) (kept : List ℕ) : Type 0 where
+  pub rest : List ℕ
+  pub spelled : cs ≡ quote ∷ (doubled quote kept ++ quote ∷ rest)
+  pub size : n ≡ length (doubled quote kept) + 2
+  pub ends : begins (nat_eq quote) rest ≡ false
+
+-- reading on inside of quotes, with what is kept and how many characters are read: what is kept at the closing quote
+abbrev pub mutual
+  read_inside : ℕ → List ℕ → ℕ → List ℕ → Option (List ℕ × ℕ)
+  read_inside quote kept n [] = None
+  read_inside quote kept n (c ∷ cs) = if nat_eq c quote then read_quote quote kept n cs else read_inside quote (kept ++ c ∷ []) (n + 1) cs
+
+  read_quote : ℕ → List ℕ → ℕ → List ℕ → Option (List ℕ × ℕ)
+  read_quote quote kept n [] = Some (kept, n + 1)
+  read_quote quote kept n (c ∷ cs) = if nat_eq c quote then read_inside quote (kept ++ c ∷ []) (n + 2) cs else Some (kept, n + 1)
+
+-- what a step inside of quotes shows
+abbrev pub Shows : ℕ → List ℕ → Inside → Type 0
+Shows quote cs Nothing = cs ≡ []
+Shows quote cs Close = (kept : List ℕ) (n : ℕ) → read_inside quote kept n cs ≡ Some (kept, n + 1)
+Shows quote cs (Kept c k rest) = (kept : List ℕ) (n : ℕ) → read_inside quote kept n cs ≡ read_inside quote (kept ++ c ∷ []) (n + k) (chars rest.now)

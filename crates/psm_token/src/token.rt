@@ -1,0 +1,46 @@
+//! What a file is a list of.
+ghost use Rattle.std.specs.Prelude.{◌≡◌};
+ghost use Rattle.psm_token.specs.Tokens.{is_name as is_name_token};
+
+use crate::place::Place;
+use crate::sign::Sign;
+use crate::word::Word;
+use psm_num::Dec;
+use psm_text::{Name, Text};
+
+/// A token (ISO/IEC 9075:1992, 5.2).
+#[derive(Debug, Drop)]
+pub enum Token {
+    /// A word of the language.
+    Word(Word),
+    /// A name: in capital letters, or as it stands between quotation marks.
+    Name(Name),
+    /// A numeric literal.
+    Number(Dec),
+    /// A character string literal.
+    Text(Text),
+    /// A sign.
+    Sign(Sign),
+}
+
+impl Token {
+    /// Whether the token is a name where the grammar has a name.
+    pub(crate) fn is_name(&self) -> bool
+        ensures { result ≡ is_name_token self.now }
+    {
+        match self {
+            Token::Word(word) => !word.is_reserved(),
+            Token::Name(_) => true,
+            Token::Number(_) => false,
+            Token::Text(_) => false,
+            Token::Sign(_) => false,
+        }
+    }
+}
+
+/// A token and the place of its first character.
+#[derive(Debug, Drop)]
+pub struct Placed {
+    pub token: Token,
+    pub place: Place,
+}
