@@ -1,1 +1,6 @@
+pub mod Looking
+pub mod Quoting
+pub mod Runs
+pub mod Steps
+pub mod Utf8
 pub mod WordTexts

@@ -2,7 +2,7 @@
 use Rattle.std.specs.Prelude.{ℕ, Bool, false, not, ◌||◌, List, [], ◌∷◌, nat_eq}
 use Rattle.std.specs.Char.{is_ascii_digit, is_ascii_alphabetic}
 use Rattle.psm_token.specs.declared.scan.Class.{Class}
-use Rattle.psm_token.specs.declared.scan.Class.TheVariants.{Digit, NamePart, InLine}
+use Rattle.psm_token.specs.declared.scan.Class.TheVariants.{Digit, NameLetter, NamePart, InLine}
 
 -- a blank, a tab, a line feed or a carriage return
 abbrev pub is_separator : ℕ → Bool
@@ -23,6 +23,7 @@ is_in_line c = not (nat_eq c 10)
 -- whether a character is of a class
 abbrev pub is_of : Class → ℕ → Bool
 is_of Digit c = is_ascii_digit c
+is_of NameLetter c = is_name_letter c
 is_of NamePart c = is_name_part c
 is_of InLine c = is_in_line c
 

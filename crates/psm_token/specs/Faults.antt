@@ -19,7 +19,7 @@ IsOpen quote cs = (n : ℕ) (kept : List ℕ) → Quoted quote cs n kept → ⊥
 
 -- what is quoted at the front has more characters than a limit
 abbrev pub IsLong : ℕ → List ℕ → ℕ → Type 0
-IsLong quote cs limit = (n : ℕ) (kept : List ℕ) × Quoted quote cs n kept × (limit < length kept)
+IsLong quote cs limit = (n : ℕ) × (kept : List ℕ) × Quoted quote cs n kept × (limit < length kept)
 
 -- a name has too many characters
 abbrev pub NameFault : List ℕ → Place → LexFault → Type 0

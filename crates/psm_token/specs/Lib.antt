@@ -1,2 +1,15 @@
+pub mod Characters
+pub mod FaultTexts
+pub mod Faults
+pub mod Forms
+pub mod Fronts
+pub mod Listed
 pub mod Lookup
+pub mod Numbers
+pub mod Places
+pub mod Quotes
+pub mod Reading
+pub mod Signs
+pub mod Spells
+pub mod Tokens
 pub mod Words

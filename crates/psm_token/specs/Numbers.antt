@@ -1,5 +1,5 @@
 -- Numeric literals without a sign at the front of some characters (ISO/IEC 9075:1992, 5.3).
-use Rattle.std.specs.Prelude.{ℕ, ◌+◌, List, [], ◌∷◌, drop, nat_eq, None, if◌then◌else◌}
+use Rattle.std.specs.Prelude.{ℕ, Bool, ◌+◌, List, [], ◌∷◌, drop, nat_eq, None, if◌then◌else◌}
 use Rattle.std.specs.Char.{is_ascii_digit}
 use Rattle.std.specs.List.{prefix_len, take_while}
 use Rattle.psm_num.specs.Literal.{Literal}
@@ -12,10 +12,14 @@ digits_at cs = take_while is_ascii_digit cs
 abbrev pub behind_digits : List ℕ → List ℕ
 behind_digits cs = drop (prefix_len is_ascii_digit cs) cs
 
+-- a full stop
+abbrev pub is_point : ℕ → Bool
+is_point c = nat_eq c 46
+
 -- the digits behind a point at the front
 abbrev pub fraction_at : List ℕ → List ℕ
 fraction_at [] = []
-fraction_at (c ∷ cs) = if nat_eq c 46 then digits_at cs else []
+fraction_at (c ∷ cs) = if is_point c then digits_at cs else []
 
 -- the longest literal at the front: digits, a point, digits
 abbrev pub literal_at : List ℕ → Literal
@@ -23,13 +27,13 @@ literal_at cs = record {
   sign = None;
   whole = digits_at cs;
   fraction = fraction_at (behind_digits cs);
-  pointed = begins (nat_eq 46) (behind_digits cs);
+  pointed = begins is_point (behind_digits cs);
 }
 
 -- how many characters a point at the front and the digits behind it are
 abbrev pub fraction_len : List ℕ → ℕ
 fraction_len [] = 0
-fraction_len (c ∷ cs) = if nat_eq c 46 then 1 + prefix_len is_ascii_digit cs else 0
+fraction_len (c ∷ cs) = if is_point c then 1 + prefix_len is_ascii_digit cs else 0
 
 -- how many characters the longest literal at the front has
 abbrev pub literal_len : List ℕ → ℕ

@@ -72,7 +72,7 @@ pub record Spells (bytes : List ℕ) (ts : Tokens) : Type 0 where
 
 -- a token that has no fault stands at the front
 abbrev pub HasToken : At → Type 0
-HasToken s = (n : ℕ) (t : Token) × IsToken (front_of s.after_name s.rest) s.rest n t
+HasToken s = (n : ℕ) × (t : Token) × IsToken (front_of s.after_name s.rest) s.rest n t
 
 -- the token behind these ones is faulty, or it is one too many
 abbrev pub StopsAt : List Placed → At → LexFault → Type 0

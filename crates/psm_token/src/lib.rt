@@ -1,6 +1,18 @@
 //! The tokens of a file: names, words, numbers, texts and signs (ISO/IEC 9075:1992, 5.1 to 5.4).
 #![tactic(auto)]
 
+mod fault;
+mod front;
+mod piece;
+mod place;
+mod quoted;
+mod scan;
+mod sign;
+mod token;
 mod word;
 
+pub use fault::LexFault;
+pub use place::Place;
+pub use sign::Sign;
+pub use token::{Placed, Token};
 pub use word::Word;
