@@ -101,7 +101,7 @@ point_ascii true zero = omega arith
 point_ascii true (suc i) = omega arith
 point_ascii false i = omega arith
 
-take_literal : (cs : List ℕ) → take (literal_len cs) cs ≡ literal_text (literal_at cs)
+pub take_literal : (cs : List ℕ) → take (literal_len cs) cs ≡ literal_text (literal_at cs)
 take_literal cs =
     take-add (prefix_len is_ascii_digit cs) (fraction_len (behind_digits cs)) cs ∙ ap (λ (t : List ℕ). digits_at cs ++ t) (take_fraction (behind_digits cs))
     ∙ sym (append_assoc (digits_at cs) (point_text (begins is_point (behind_digits cs))) (fraction_at (behind_digits cs)))

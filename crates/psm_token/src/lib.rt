@@ -3,6 +3,8 @@
 
 mod fault;
 mod front;
+mod lexer;
+mod list;
 mod piece;
 mod place;
 mod quoted;
@@ -12,6 +14,8 @@ mod token;
 mod word;
 
 pub use fault::LexFault;
+pub use lexer::tokens;
+pub use list::TokenList;
 pub use place::Place;
 pub use sign::Sign;
 pub use token::{Placed, Token};

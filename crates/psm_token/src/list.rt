@@ -1,0 +1,43 @@
+//! A list of tokens.
+ghost use Rattle.std.specs.Prelude.{◌≡◌};
+
+use crate::place::Place;
+use crate::token::Placed;
+use std::marker::Model;
+
+/// The tokens of a file with their places, and the place just behind its last character.
+#[derive(Debug, Drop)]
+pub struct TokenList {
+    items: Vec<Placed>,
+    end: Place,
+}
+
+impl Model for TokenList {
+    ghost use Rattle.psm_token.specs.Listed.{Tokens};
+
+    ghost Value = { Tokens };
+
+    ghost view = { λ t. record { tokens = t.items.items; end = t.end } };
+}
+
+impl TokenList {
+    pub(crate) fn of(items: Vec<Placed>, end: Place) -> TokenList
+        ensures { result ≡ record { tokens = items.items; end = end } }
+    {
+        TokenList { items, end }
+    }
+
+    /// Lends the tokens in order, each with the place of its first character.
+    pub fn items(&self) -> &[Placed]
+        ensures { result.now ≡ self.now.tokens }
+    {
+        self.items.as_slice()
+    }
+
+    /// The place just behind the last character of the file.
+    pub fn end(&self) -> Place
+        ensures { result ≡ self.now.end }
+    {
+        self.end
+    }
+}
