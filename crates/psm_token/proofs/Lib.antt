@@ -1,7 +1,9 @@
 pub mod Looking
+pub mod Once
 pub mod Quoting
 pub mod Reaching
 pub mod Runs
 pub mod Steps
+pub mod TokenOnce
 pub mod Utf8
 pub mod WordTexts
