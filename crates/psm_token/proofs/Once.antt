@@ -17,8 +17,9 @@ use Rattle.psm_token.specs.Forms.{IsToken, IsGap}
 use Rattle.psm_token.specs.Fronts.{front_of}
 use Rattle.psm_token.specs.Listed.{Tokens}
 use Rattle.psm_token.specs.Places.{start, place_after}
-use Rattle.psm_token.specs.Reading.{OrMemory}
-use Rattle.psm_token.specs.Spells.{At, at_start, behind, Gap, One, Piece, Pieces, Reaches, Spells, HasToken, StopsAt, IsTokenFault, IsFirstFault, GivesTokens, GivesFault, most_tokens}
+use Rattle.psm_token.specs.Answers.{OrMemory}
+use Rattle.psm_token.specs.Spells.{At, at_start, behind, Gap, One, Piece, Pieces, Reaches, Spells, HasToken, StopsAt, IsTokenFault, IsFirstFault, most_tokens}
+use Rattle.psm_token.specs.Answers.{GivesTokens, GivesFault}
 use Rattle.psm_token.specs.Tokens.{is_name}
 use Rattle.psm_token.proofs.TokenOnce.{token_once, gap_once, gap_token, faulty_gap, faulty_token, faulty_once}
 

@@ -9,7 +9,8 @@ use Rattle.std.specs.Str.{chars}
 use Rattle.psm_token.specs.Characters.{begins}
 use Rattle.psm_token.specs.Faults.{IsOpen}
 use Rattle.psm_token.specs.Reading.{QuotedRead}
-use Rattle.psm_token.specs.Quotes.{is_quote, doubled_one, doubled, Quoted, read_inside, read_quote, kept_of}
+use Rattle.psm_token.specs.Quotes.{is_quote, doubled_one, doubled, Quoted}
+use Rattle.psm_token.specs.Unquoting.{read_inside, read_quote, kept_of}
 
 -- what was kept and read before, what is kept from here on, and what follows
 pub record Took (quote : ℕ) (kept : List ℕ) (n : ℕ) (cs : List ℕ) (all : List ℕ) (m : ℕ) : Type 0 where

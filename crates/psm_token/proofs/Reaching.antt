@@ -24,7 +24,8 @@ use Rattle.psm_token.specs.Forms.{IsToken, IsGap, name_len}
 use Rattle.psm_token.specs.Fronts.{front_of}
 use Rattle.psm_token.specs.Numbers.{digits_at, behind_digits, is_point, fraction_at, literal_at, literal_len}
 use Rattle.psm_token.specs.Places.{start, place_after}
-use Rattle.psm_token.specs.Reading.{OrMemory, PieceRead}
+use Rattle.psm_token.specs.Answers.{OrMemory}
+use Rattle.psm_token.specs.Reading.{PieceRead}
 use Rattle.psm_token.specs.Signs.{sign_text}
 use Rattle.psm_token.specs.Spells.{At, at_start, behind, Gap, One, Piece, Pieces, Reaches, StopsAt, IsTokenFault, most_tokens}
 use Rattle.psm_token.specs.Tokens.{is_name}

@@ -1,3 +1,4 @@
+pub mod Answers
 pub mod Characters
 pub mod FaultTexts
 pub mod Faults
@@ -12,4 +13,5 @@ pub mod Reading
 pub mod Signs
 pub mod Spells
 pub mod Tokens
+pub mod Unquoting
 pub mod Words

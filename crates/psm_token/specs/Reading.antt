@@ -5,20 +5,15 @@ use Rattle.std.specs.Str.{chars}
 use Rattle.psm_num.specs.Literal.{Literal, literal_digits, literal_value}
 use Rattle.psm_num.specs.Num.{Num}
 use Rattle.psm_token.specs.declared.fault.LexFault.{LexFault}
-use Rattle.psm_token.specs.declared.fault.LexFault.TheVariants.{BadUtf8, BadChar, OpenText, OpenName, LongText, LongNumber, LongName, ManyTokens, Memory}
 use Rattle.psm_token.specs.declared.front.Front.{Front}
 use Rattle.psm_token.specs.declared.piece.Piece.{Piece}
 use Rattle.psm_token.specs.declared.piece.Piece.TheVariants.{End, Gap, One}
 use Rattle.psm_token.specs.declared.place.Place.{Place}
 use Rattle.psm_token.specs.declared.token.Token.{Token}
+use Rattle.psm_token.specs.Answers.{OrMemory}
 use Rattle.psm_token.specs.Faults.{IsFaulty, IsOpen}
 use Rattle.psm_token.specs.Forms.{IsToken, IsGap, IsWord, most_digits}
 use Rattle.psm_token.specs.Quotes.{Quoted}
-
--- a fact about a fault, unless memory ran out
-abbrev pub OrMemory : LexFault → Type 0 → Type 0
-OrMemory Memory P = Unit {0}
-OrMemory _ P = P
 
 -- the word of a text, or its name
 abbrev pub WordRead : List ℕ → Token → Type 0

@@ -1,5 +1,5 @@
 -- A file as a list of tokens with places, with separators and comments between them (ISO/IEC 9075:1992, 5.2).
-use Rattle.std.specs.Prelude.{◌≡◌, ℕ, Result, Ok, Err, zero, suc, ◌≤◌, ◌⊎◌, Bool, false, List, [], ◌∷◌, ◌++◌, length, take, drop}
+use Rattle.std.specs.Prelude.{◌≡◌, ℕ, zero, suc, ◌≤◌, ◌⊎◌, Bool, false, List, [], ◌∷◌, ◌++◌, length, take, drop}
 use Rattle.std.specs.Str.{IsUtf8, chars}
 use Rattle.std.specs.Str.Lossy.{utf8_valid_len}
 use Rattle.psm_token.specs.declared.fault.LexFault.{LexFault}
@@ -90,13 +90,3 @@ pub record IsTokenFault (bytes : List ℕ) (f : LexFault) : Type 0 where
 abbrev pub IsFirstFault : List ℕ → LexFault → Type 0
 IsFirstFault bytes (BadUtf8 p) = ¬ (IsUtf8 bytes) × (p ≡ place_after (chars (take (utf8_valid_len bytes) bytes)) start)
 IsFirstFault bytes f = IsTokenFault bytes f
-
--- the answer is that list, but for want of memory
-abbrev pub GivesTokens : Tokens → Result Tokens LexFault → Type 0
-GivesTokens due (Ok ts) = ts ≡ due
-GivesTokens due (Err f) = f ≡ Memory
-
--- the answer is that fault, but for want of memory
-abbrev pub GivesFault : LexFault → Result Tokens LexFault → Type 0
-GivesFault due (Ok ts) = ⊥
-GivesFault due (Err f) = (f ≡ due) ⊎ (f ≡ Memory)

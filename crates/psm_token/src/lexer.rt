@@ -2,10 +2,10 @@
 ghost use Rattle.std.specs.Prelude.{◌≡◌, ◌<◌, length, IfOk, IfErr, take};
 ghost use Rattle.std.specs.Str.{IsUtf8, chars};
 ghost use Rattle.std.specs.Str.Lossy.{utf8_valid_len};
+ghost use Rattle.psm_token.specs.Answers.{OrMemory, GivesTokens, GivesFault};
 ghost use Rattle.psm_token.specs.Listed.{Tokens};
 ghost use Rattle.psm_token.specs.Places.{place_after, start};
-ghost use Rattle.psm_token.specs.Reading.{OrMemory};
-ghost use Rattle.psm_token.specs.Spells.{Spells, IsTokenFault, IsFirstFault, GivesTokens, GivesFault};
+ghost use Rattle.psm_token.specs.Spells.{Spells, IsTokenFault, IsFirstFault};
 ghost use Rattle.psm_token.specs.declared.fault.LexFault.{LexFault};
 
 use crate::fault::LexFault;

@@ -3,6 +3,7 @@
 
 mod fault;
 mod front;
+mod laws;
 mod lexer;
 mod list;
 mod piece;
@@ -14,6 +15,7 @@ mod token;
 mod word;
 
 pub use fault::LexFault;
+pub use laws::one_list;
 pub use lexer::tokens;
 pub use list::TokenList;
 pub use place::Place;

@@ -2,7 +2,7 @@
 ghost use Rattle.std.specs.Prelude.{◌≡◌, ◌∷◌, [], ◌+◌, length, IfOk, string_bytes, Some, None};
 ghost use Rattle.std.specs.Str.{chars};
 ghost use Rattle.std.specs.Option.{option_map};
-ghost use Rattle.psm_token.specs.Quotes.{Shows, ShowsBehind, IsShorter, kept_of, read_inside};
+ghost use Rattle.psm_token.specs.Unquoting.{Shows, ShowsBehind, IsShorter, kept_of, read_inside};
 
 use crate::scan::{first, push};
 use std::alloc::{AllocError, Global};

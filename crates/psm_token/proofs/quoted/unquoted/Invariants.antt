@@ -2,7 +2,7 @@ use Rattle.std.proofs.Common.{◌≡◌, [], ◌+◌, ◌≤◌, length, string_
 use denote.Text.{Utf8}
 use denote.Shadow.{shadow}
 use Rattle.std.specs.Str.{chars}
-use Rattle.psm_token.specs.Quotes.{read_inside}
+use Rattle.psm_token.specs.Unquoting.{read_inside}
 use Rattle.psm_token.proofs.quoted.unquoted.Given as goal
 
 abbrev pub invariant-loop-kept : goal.invariant-loop-kept
