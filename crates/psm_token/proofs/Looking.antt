@@ -44,10 +44,10 @@ pub digit_front : (after_name : Bool) (cs : List ℕ) → front_of after_name cs
 digit_front after_name [] h = absurd cc
 digit_front after_name (c ∷ ds) h =
     elim (digit_by (is_separator c) (is_ascii_alphabetic c) (is_ascii_digit c) (eqb c 34) (eqb c 39) (eqb c 45 && begins (eqb 45) ds) (eqb c 46 && not after_name && begins is_ascii_digit ds) h)
-      as (λ _. 0 < literal_digits (literal_at (c ∷ ds))) [
-        inl d ↦ (let some : 0 < length (digits_at (c ∷ ds)) = digits_some (c ∷ ds) d in omega (arith, some))
+    as (λ _. 0 < literal_digits (literal_at (c ∷ ds))) [
+      | inl d ↦ (let some : 0 < length (digits_at (c ∷ ds)) = digits_some (c ∷ ds) d in omega (arith, some))
       | inr p ↦ pointed p
-      ]
+    ]
   where
     pointed : (eqb c 46 && not after_name && begins is_ascii_digit ds) ≡ true → 0 < literal_digits (literal_at (c ∷ ds))
     pointed p =

@@ -59,13 +59,29 @@ longer (suc m) n s s' ts lt h = by (ltb n m) refl (longer m n s h.0 h.1)
     by : (b : Bool) → ltb n m ≡ b → (n < m → Pieces m s h.1 h.0 → Longer n s h.1) → Longer n s ts
     by true e again =
         let r = again (grind (arith, nat_tests, e)) h.3 in
-        record { front = r.front; next = r.next; others = r.others ++ h.2; mid = r.mid; then = r.then; before = r.before; piece = r.piece;
-            whole = h.5 ∙ ap (λ (l : List Placed). l ++ h.2) r.whole ∙ append_assoc (r.front ++ r.next) r.others h.2 }
+        record {
+          front = r.front;
+          next = r.next;
+          others = r.others ++ h.2;
+          mid = r.mid;
+          then = r.then;
+          before = r.before;
+          piece = r.piece;
+          whole = h.5 ∙ ap (λ (l : List Placed). l ++ h.2) r.whole ∙ append_assoc (r.front ++ r.next) r.others h.2;
+        }
     by false e again =
         let ge : m ≤ n = grind (arith, nat_tests, e) in
         let same : m ≡ n = omega arith in
-        record { front = h.1; next = h.2; others = []; mid = h.0; then = s'; before = subst (λ (k : ℕ). Pieces k s h.1 h.0) same h.3; piece = h.4;
-            whole = h.5 ∙ sym (append-nil (h.1 ++ h.2)) }
+        record {
+          front = h.1;
+          next = h.2;
+          others = [];
+          mid = h.0;
+          then = s';
+          before = subst (λ (k : ℕ). Pieces k s h.1 h.0) same h.3;
+          piece = h.4;
+          whole = h.5 ∙ sym (append-nil (h.1 ++ h.2));
+        }
 
 -- no piece more may be read
 abbrev pub IsStuck : List Placed → At → Type 0
@@ -76,7 +92,7 @@ not_shorter bytes ts us s1 s2 r stuck q lt =
     let l = longer q.count r.count (at_start bytes) s2 us lt q.pieces in
     let e = pieces_once r.count (at_start bytes) ts l.front s1 l.mid r.pieces l.before in
     stuck l.next l.then (subst (λ (m : At). Piece m l.next l.then) (sym e.1) l.piece)
-        (omega (arith, q.limit, ap length l.whole, length-append (l.front ++ l.next) l.others, ap (λ (x : List Placed). length (x ++ l.next)) e.0))
+    (omega (arith, q.limit, ap length l.whole, length-append (l.front ++ l.next) l.others, ap (λ (x : List Placed). length (x ++ l.next)) e.0))
 
 same_stop : (bytes : List ℕ) (ts us : List Placed) (s1 s2 : At) → Reaches bytes ts s1 → IsStuck ts s1 → Reaches bytes us s2 → IsStuck us s2 → (ts ≡ us) × (s1 ≡ s2)
 same_stop bytes ts us s1 s2 r stuck q blocked = by (ltb r.count q.count) (ltb q.count r.count) refl refl
@@ -201,8 +217,8 @@ pub answers_tokens : (text bytes : List ℕ) (r : Result Tokens LexFault) → te
 answers_tokens text bytes (Ok us) e h k ts s = spells_once text us ts h (subst (λ (b : List ℕ). Spells b ts) (sym e) s)
 answers_tokens text bytes (Err f) e h k ts s =
     elim (or_memory {P = IsTokenFault text f} f k) as (λ _. f ≡ Memory) [
-      inl m ↦ m
-    | inr t ↦ absurd (token_fault_not text f ts t (subst (λ (b : List ℕ). Spells b ts) (sym e) s))
+      | inl m ↦ m
+      | inr t ↦ absurd (token_fault_not text f ts t (subst (λ (b : List ℕ). Spells b ts) (sym e) s))
     ]
 
 pub answers_fault : (text bytes : List ℕ) (r : Result Tokens LexFault) → text ≡ bytes → IfOk r (λ ts. Spells text ts) → IfErr r (λ f. OrMemory f (IsTokenFault text f))
@@ -210,6 +226,6 @@ pub answers_fault : (text bytes : List ℕ) (r : Result Tokens LexFault) → tex
 answers_fault text bytes (Ok us) e h k f s = fault_excludes bytes f us s (subst (λ (b : List ℕ). Spells b us) e h)
 answers_fault text bytes (Err g) e h k f s =
     elim (or_memory {P = IsTokenFault text g} g k) as (λ _. (g ≡ f) ⊎ (g ≡ Memory)) [
-      inl m ↦ inr m
-    | inr t ↦ inl (first_first_once bytes g f (Tokened (subst (λ (b : List ℕ). IsTokenFault b g) e t)) (first_by bytes f s))
+      | inl m ↦ inr m
+      | inr t ↦ inl (first_first_once bytes g f (Tokened (subst (λ (b : List ℕ). IsTokenFault b g) e t)) (first_by bytes f s))
     ]

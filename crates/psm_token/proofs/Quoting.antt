@@ -1,16 +1,16 @@
 -- What is read inside of quotes is what is quoted there.
-use Rattle.std.proofs.Common.{◌≡◌, ℕ, ◌+◌, ◌<◌, Bool, true, false, cond, eqb, List, [], ◌∷◌, ◌++◌, length, drop, Option, Some, None, refl, sym, ap, subst, ◌∙◌, append_assoc, arith}
+use Rattle.std.proofs.Common.{◌≡◌, ℕ, ◌+◌, ◌<◌, Bool, true, false, cond, eqb, List, [], ◌∷◌, ◌++◌, length, ltb, zero, suc, ◌≤◌, take, drop, Option, Some, None, refl, sym, ap, subst, ◌∙◌, append_assoc, arith}
 use Rattle.std.proofs.lemmas.Bool.{eqb-true}
-use Rattle.std.proofs.lemmas.List.{append-nil, length-append}
-use Rattle.std.specs.Prelude.{Result, Ok, Err, IfOk, String, string_bytes, option_map}
+use Rattle.std.proofs.lemmas.Bool.Decides.{nat_tests}
+use Rattle.std.proofs.lemmas.List.{append-nil, length-append, length_push, length-take, take_all, take-append-le, nil_from_length}
+use Rattle.std.specs.Prelude.{Result, Ok, Err, IfOk, String}
 use Rattle.std.specs.declared.alloc.AllocError.{AllocError}
 use Rattle.std.specs.Global.{Global}
-use Rattle.std.specs.Str.{chars}
 use Rattle.psm_token.specs.Characters.{begins}
 use Rattle.psm_token.specs.Faults.{IsOpen}
 use Rattle.psm_token.specs.Reading.{QuotedRead}
 use Rattle.psm_token.specs.Quotes.{is_quote, doubled_one, doubled, Quoted}
-use Rattle.psm_token.specs.Unquoting.{read_inside, read_quote, kept_of}
+use Rattle.psm_token.specs.Unquoting.{read_inside, read_quote, Unquoted}
 
 -- what was kept and read before, what is kept from here on, and what follows
 pub record Took (quote : ℕ) (kept : List ℕ) (n : ℕ) (cs : List ℕ) (all : List ℕ) (m : ℕ) : Type 0 where
@@ -76,7 +76,7 @@ module _ (quote : ℕ) where
           let cq : c ≡ quote = eqb-true c quote e in
           let dq : d ≡ quote = eqb-true d quote f in
           took_more kept (quote ∷ quote ∷ []) cs (c ∷ d ∷ cs) all d n m 2 (ap (λ (t : Bool). cond t (quote ∷ quote ∷ []) (d ∷ [])) f) refl
-              (ap (λ (x : ℕ). x ∷ d ∷ cs) cq ∙ ap (λ (x : ℕ). quote ∷ x ∷ cs) dq) (twice k)
+          (ap (λ (x : ℕ). x ∷ d ∷ cs) cq ∙ ap (λ (x : ℕ). quote ∷ x ∷ cs) dq) (twice k)
       by true false e f k twice once = took_none kept (d ∷ cs) (c ∷ d ∷ cs) all n m k (ap (λ (x : ℕ). x ∷ d ∷ cs) (eqb-true c quote e)) f
       by false b e f k twice once = took_more kept (c ∷ []) (d ∷ cs) (c ∷ d ∷ cs) all c n m 1 (ap (λ (t : Bool). cond t (quote ∷ quote ∷ []) (c ∷ [])) e) refl refl (once k)
 
@@ -101,6 +101,7 @@ module _ (quote : ℕ) where
     where
       behind : List ℕ
       behind = doubled quote more ++ quote ∷ rest
+
       by : (b : Bool) → eqb c quote ≡ b
           → ((k : ℕ) → read_inside quote (kept ++ c ∷ []) k (doubled quote more ++ quote ∷ rest) ≡ ends_at ((kept ++ c ∷ []) ++ more) (k + length (doubled quote more) + 1))
           → read_inside quote kept n ((doubled_one quote c ++ doubled quote more) ++ quote ∷ rest) ≡ ends_at (kept ++ c ∷ more) (n + length (doubled quote (c ∷ more)) + 1)
@@ -150,11 +151,57 @@ quoted_takes quote c n cs ds kept e b h =
 open_takes : (quote c : ℕ) (cs ds : List ℕ) → cs ≡ c ∷ ds → read_inside quote [] 1 ds ≡ None → IsOpen quote cs
 open_takes quote c cs ds e h n kept q = let k = quoted_again quote c n cs ds kept e q in absurd (cc)
 
-quoted_read : (quote c : ℕ) (cs ds : List ℕ) → cs ≡ c ∷ ds → begins (is_quote quote) cs ≡ true → (o : Option (String Global × ℕ)) → option_map kept_of o ≡ read_inside quote [] 1 ds → QuotedRead quote cs o
-quoted_read quote c cs ds e b (Some p) h = quoted_takes quote c p.1 cs ds (chars (string_bytes p.0)) e b (sym h)
-quoted_read quote c cs ds e b None h = open_takes quote c cs ds e (sym h)
+quoted_read : (quote c limit : ℕ) (cs ds : List ℕ) → cs ≡ c ∷ ds → begins (is_quote quote) cs ≡ true → (o : Option (String Global × ℕ)) → Unquoted limit (read_inside quote [] 1 ds) o → QuotedRead quote cs limit o
+quoted_read quote c limit cs ds e b None h = open_takes quote c cs ds e h
+quoted_read quote c limit cs ds e b (Some p) h = (h.0, quoted_takes quote c p.1 cs ds h.0 e b h.1, h.2)
 
-pub quoted_ok : (quote c : ℕ) (cs ds : List ℕ) → cs ≡ c ∷ ds → begins (is_quote quote) cs ≡ true → (r : Result (Option (String Global × ℕ)) AllocError)
-    → IfOk r (λ o. option_map kept_of o ≡ read_inside quote [] 1 ds) → IfOk r (λ o. QuotedRead quote cs o)
-quoted_ok quote c cs ds e b (Ok o) h = quoted_read quote c cs ds e b o h
-quoted_ok quote c cs ds e b (Err x) h = tt
+pub quoted_ok : (quote c limit : ℕ) (cs ds : List ℕ) → cs ≡ c ∷ ds → begins (is_quote quote) cs ≡ true → (r : Result (Option (String Global × ℕ)) AllocError)
+    → IfOk r (λ o. Unquoted limit (read_inside quote [] 1 ds) o) → IfOk r (λ o. QuotedRead quote cs limit o)
+quoted_ok quote c limit cs ds e b (Ok o) h = quoted_read quote c limit cs ds e b o h
+quoted_ok quote c limit cs ds e b (Err x) h = tt
+
+-- ---- what is kept up to a limit
+
+-- what was kept on the way from rest to left
+pub record KeptSo (quote limit : ℕ) (rest kept : List ℕ) (size n : ℕ) (left : List ℕ) : Type 0 where
+  pub all : List ℕ
+  pub reading : read_inside quote [] 1 rest ≡ read_inside quote all n left
+  pub first : kept ≡ take limit all
+  pub counted : size ≡ length all
+
+pub kept_start : (quote limit : ℕ) (rest kept : List ℕ) → kept ≡ [] → KeptSo quote limit rest kept 0 1 rest
+kept_start quote zero rest kept e = record { all = []; reading = refl; first = e; counted = refl }
+kept_start quote (suc limit) rest kept e = record { all = []; reading = refl; first = e; counted = refl }
+
+pub kept_next : (quote limit : ℕ) (rest kept after left behind : List ℕ) (size n c k : ℕ) → KeptSo quote limit rest kept size n left
+    → ((all : List ℕ) (m : ℕ) → read_inside quote all m left ≡ read_inside quote (all ++ c ∷ []) (m + k) behind)
+    → after ≡ cond (ltb size limit) (kept ++ c ∷ []) kept → KeptSo quote limit rest after (size + 1) (n + k) behind
+kept_next quote limit rest kept after left behind size n c k r step e =
+    record { all = r.all ++ c ∷ []; reading = r.reading ∙ step r.all n; first = e ∙ by (ltb size limit) refl; counted = omega (arith, r.counted, length_push r.all c) }
+  where
+    by : (b : Bool) → ltb size limit ≡ b → cond b (kept ++ c ∷ []) kept ≡ take limit (r.all ++ c ∷ [])
+    by true f =
+        let lt : size < limit = grind (arith, nat_tests, f) in
+        let whole : take limit r.all ≡ r.all = take_all limit r.all (omega (arith, r.counted)) in
+        let more : take limit (r.all ++ c ∷ []) ≡ r.all ++ c ∷ [] = take_all limit (r.all ++ c ∷ []) (omega (arith, r.counted, length_push r.all c)) in
+        ap (λ (l : List ℕ). l ++ c ∷ []) (r.first ∙ whole) ∙ sym more
+    by false f =
+        let ge : limit ≤ size = grind (arith, nat_tests, f) in
+        r.first ∙ sym (take-append-le limit r.all (c ∷ []) (omega (arith, r.counted)))
+
+pub kept_open : (quote limit : ℕ) (rest kept : List ℕ) (size n : ℕ) (left : List ℕ) → KeptSo quote limit rest kept size n left → left ≡ [] → read_inside quote [] 1 rest ≡ None
+kept_open quote limit rest kept size n left r e = r.reading ∙ ap (read_inside quote r.all n) e
+
+pub kept_close : (quote limit : ℕ) (rest kept : List ℕ) (size n m : ℕ) (left : List ℕ) → KeptSo quote limit rest kept size n left
+    → ((all : List ℕ) (j : ℕ) → read_inside quote all j left ≡ Some (all, j + 1)) → m ≡ n + 1
+    → (all : List ℕ) × (read_inside quote [] 1 rest ≡ Some (all, m)) × (kept ≡ take limit all)
+kept_close quote limit rest kept size n m left r h e = (r.all, r.reading ∙ h r.all n ∙ same_end r.all r.all (n + 1) m refl (sym e), r.first)
+
+pub kept_whole : (n : ℕ) (xs : List ℕ) → length (take (suc n) xs) ≤ n → take (suc n) xs ≡ xs
+kept_whole n xs h = take_all (suc n) xs (omega (arith, h, length-take (suc n) xs))
+
+pub kept_long : (n : ℕ) (xs : List ℕ) → n < length (take (suc n) xs) → n < length xs
+kept_long n xs h = omega (arith, h, length-take (suc n) xs)
+
+pub kept_none : (n : ℕ) (xs : List ℕ) → length (take (suc n) xs) ≡ 0 → xs ≡ []
+kept_none n xs h = nil_from_length xs (omega (arith, h, length-take (suc n) xs))

@@ -54,8 +54,12 @@ pub reaches_one : (bytes : List ℕ) (ts us : List Placed) (a b : Bool) (p q : P
     → length ts ≢ 2000000 → us ≡ ts ++ placed t p ∷ [] → b ≡ is_name t → q ≡ place_after (take n cs) p → ds ≡ drop n cs → Reaches bytes us (at b q ds)
 reaches_one bytes ts us a b p q cs ds n t r g few h k e f =
     let piece : Piece (at a p cs) (placed t p ∷ []) (at b q ds) = inr (record { size = n; token = t; form = g; listed = refl; leads = same_at b _ q _ ds _ k e f }) in
-    record { utf8 = r.utf8; count = suc r.count; pieces = (at a p cs, ts, placed t p ∷ [], r.pieces, piece, h);
-        limit = omega (arith, r.limit, few, ap length h, length_push ts (placed t p)) }
+    record {
+      utf8 = r.utf8;
+      count = suc r.count;
+      pieces = (at a p cs, ts, placed t p ∷ [], r.pieces, piece, h);
+      limit = omega (arith, r.limit, few, ap length h, length_push ts (placed t p));
+    }
 
 pub gap_read : (f : Front) (cs : List ℕ) (p : Place) (piece : PieceOf) (n : ℕ) → piece ≡ GapOf n → PieceRead f cs p (Ok piece) → IsGap f cs n
 gap_read f cs p piece n e h = subst (λ (x : PieceOf). PieceRead f cs p (Ok x)) e h
@@ -110,9 +114,14 @@ take_within (suc n) (c ∷ cs) = let h = take_within n cs in omega (arith, h)
 
 digit_some : (a : Bool) (cs : List ℕ) → front_of a cs ≡ Digit → 0 < literal_len cs
 digit_some a cs h =
-    omega (arith, digit_front a cs h, take_within (literal_len cs) cs, ap length (take_literal cs),
-        length-append (digits_at cs ++ point_text (begins is_point (behind_digits cs))) (fraction_at (behind_digits cs)),
-        length-append (digits_at cs) (point_text (begins is_point (behind_digits cs))))
+    omega (
+      arith,
+      digit_front a cs h,
+      take_within (literal_len cs) cs,
+      ap length (take_literal cs),
+      length-append (digits_at cs ++ point_text (begins is_point (behind_digits cs))) (fraction_at (behind_digits cs)),
+      length-append (digits_at cs) (point_text (begins is_point (behind_digits cs))),
+    )
 
 token_some : (a : Bool) (cs : List ℕ) (n : ℕ) (t : Token) (f : Front) → front_of a cs ≡ f → IsToken f cs n t → 0 < n
 token_some a cs n t End e h = absurd h

@@ -34,11 +34,12 @@ module _ (p : ℕ → Bool) (f : ℕ → ℕ) (small : (c : ℕ) → p c ≡ tru
     where
       within : length (map f (take (prefix_len p cs) cs)) ≡ prefix_len p cs
       within = length-map (take (prefix_len p cs) cs) f ∙ length-prefix_len p cs
+
       by : (b : Bool) → ltb i (prefix_len p cs) ≡ b → get_or (map f (take (prefix_len p cs) cs)) i 0 < 128
       by true e =
           let lt : i < prefix_len p cs = grind (arith, nat_tests, e) in
           let got : get_or (map f (take (prefix_len p cs) cs)) i 0 ≡ f (get_or cs i 0) =
-              get_or-map f (take (prefix_len p cs) cs) i 0 0 (omega (arith, length-prefix_len p cs)) ∙ ap f (get_or-take (prefix_len p cs) cs i 0 lt) in
+          get_or-map f (take (prefix_len p cs) cs) i 0 0 (omega (arith, length-prefix_len p cs)) ∙ ap f (get_or-take (prefix_len p cs) cs i 0 lt) in
           let ok : f (get_or cs i 0) < 128 = small (get_or cs i 0) (prefix_len_passes p cs i 0 lt) in
           omega (arith, got, ok)
       by false e =
@@ -109,8 +110,8 @@ take_literal cs =
 literal_ascii : (cs : List ℕ) → IsAscii (literal_text (literal_at cs))
 literal_ascii cs =
     IsAscii-append (digits_at cs ++ point_text (begins is_point (behind_digits cs))) (fraction_at (behind_digits cs))
-        (IsAscii-append (digits_at cs) (point_text (begins is_point (behind_digits cs))) (digits_ascii cs) (point_ascii (begins is_point (behind_digits cs))))
-        (fraction_ascii (behind_digits cs))
+    (IsAscii-append (digits_at cs) (point_text (begins is_point (behind_digits cs))) (digits_ascii cs) (point_ascii (begins is_point (behind_digits cs))))
+    (fraction_ascii (behind_digits cs))
 
 -- the longest literal at the front is spelled there
 pub literal_spelled : (bs cs : List ℕ) (n : ℕ) → IsUtf8 bs → chars bs ≡ take n cs → n ≡ literal_len cs → 0 < literal_digits (literal_at cs) → Spells bs (literal_at cs)
@@ -125,6 +126,18 @@ literal_spelled bs cs n u e k some =
       };
       spelling = sym (ascii_text bs (literal_text (literal_at cs)) u all (literal_ascii cs));
     }
+
+fraction_most : (ds : List ℕ) → fraction_len ds ≤ length (fraction_at ds) + 1
+fraction_most [] = omega arith
+fraction_most (c ∷ ds) = by (is_point c)
+  where
+    by : (b : Bool) → cond b (1 + prefix_len is_ascii_digit ds) 0 ≤ length (cond b (digits_at ds) []) + 1
+    by true = omega (arith, length-prefix_len is_ascii_digit ds)
+    by false = omega arith
+
+-- all but one of a literal's characters are digits
+pub literal_most : (cs : List ℕ) → literal_len cs ≤ literal_digits (literal_at cs) + 1
+literal_most cs = omega (arith, length-prefix_len is_ascii_digit cs, fraction_most (behind_digits cs))
 
 pub number_ok : (l : Literal) (d : Num) → Ok d ≡ literal_number l → (literal_digits l ≤ 18) × (d ≡ literal_value l)
 number_ok l d h = by (leb (literal_digits l) 18) refl h

@@ -1,5 +1,6 @@
 -- One character more of those that a loop counts.
 use Rattle.std.proofs.Common.{◌≡◌, ℕ, zero, suc, ◌+◌, ◌-◌, ◌^◌, ◌<◌, ◌≤◌, Bool, true, false, cond, eqb, List, [], ◌∷◌, ◌++◌, length, take, drop, refl, sym, ap, subst, ◌∙◌, append_assoc, arith}
+use Rattle.std.proofs.lemmas.List.{drop-drop}
 use Rattle.std.specs.Char.{to_ascii_uppercase}
 use Rattle.psm_token.specs.Forms.{folded}
 use Rattle.psm_token.specs.Places.{place_after}
@@ -33,6 +34,9 @@ room_next p c cs ds e h =
     by : (b : Bool) → length ds ≡ suc (length cs) → HasRoom (cond b (record { line = p.line + 1; column = 1 }) (record { line = p.line; column = p.column + 1 })) cs
     by true n = record { lines = omega (arith, n, h.lines); columns = omega (arith, n, h.columns) }
     by false n = record { lines = omega (arith, n, h.lines); columns = omega (arith, n, h.columns) }
+
+pub drop_one_more : (cs ds : List ℕ) (n c : ℕ) → drop n cs ≡ c ∷ ds → drop (n + 1) cs ≡ ds
+drop_one_more cs ds n c e = sym (drop-drop 1 n cs) ∙ ap (drop 1) e
 
 pub gather_next : (text after all cs ds : List ℕ) (c n i : ℕ) → i < n → ds ≡ c ∷ cs → after ≡ text ++ c ∷ [] → text ++ take (n - i) ds ≡ all → after ++ take (n - (i + 1)) cs ≡ all
 gather_next text after all cs ds c n i l e k h =

@@ -11,7 +11,7 @@ use Rattle.psm_token.specs.Places.{HasRoom, start, place_after}
 pub pushed : (bs : List ℕ) (c : ℕ) → IsUtf8 bs → IsScalar c → chars (bs ++ encode_utf8 c) ≡ chars bs ++ c ∷ []
 pushed bs c u s =
     let one : chars (encode_utf8 c) ≡ c ∷ [] =
-        chars_past_char (encode_utf8 c) [] c (IsUtf8-encode c s) (sym (append-nil (encode_utf8 c))) ∙ ap (λ (r : List ℕ). c ∷ r) chars-nil in
+    chars_past_char (encode_utf8 c) [] c (IsUtf8-encode c s) (sym (append-nil (encode_utf8 c))) ∙ ap (λ (r : List ℕ). c ∷ r) chars-nil in
     chars-append bs (encode_utf8 c) u ∙ ap (λ (r : List ℕ). chars bs ++ r) one
 
 pub pushed_ok : {E : Type 0} (r : Result (Unit {0}) E) (bs ds : List ℕ) (c : ℕ) → ds ≡ (if is_ok r then bs ++ encode_utf8 c else bs) → IsUtf8 bs → IsScalar c

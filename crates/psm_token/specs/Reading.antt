@@ -1,5 +1,5 @@
 -- What reading at the front of some characters answers: what stands there, its fault, or want of memory.
-use Rattle.std.specs.Prelude.{◌≡◌, ℕ, ◌<◌, ◌≤◌, List, [], String, string_bytes, Option, Some, None, Result, Ok, Err}
+use Rattle.std.specs.Prelude.{◌≡◌, ℕ, ◌<◌, ◌≤◌, List, [], take, String, string_bytes, Option, Some, None, Result, Ok, Err}
 use Rattle.std.specs.Global.{Global}
 use Rattle.std.specs.Str.{chars}
 use Rattle.psm_num.specs.Literal.{Literal, literal_digits, literal_value}
@@ -15,19 +15,15 @@ use Rattle.psm_token.specs.Faults.{IsFaulty, IsOpen}
 use Rattle.psm_token.specs.Forms.{IsToken, IsGap, IsWord, most_digits}
 use Rattle.psm_token.specs.Quotes.{Quoted}
 
--- the word of a text, or its name
-abbrev pub WordRead : List ℕ → Token → Type 0
-WordRead text t = IsWord text t
-
 -- the number of a literal, or none where it has too many digits
 abbrev pub NumberRead : Literal → Option Num → Type 0
 NumberRead l (Some d) = (literal_digits l ≤ most_digits) × (d ≡ literal_value l)
 NumberRead l None = most_digits < literal_digits l
 
--- what is quoted at the front, or nothing where it has no end
-abbrev pub QuotedRead : ℕ → List ℕ → Option (String Global × ℕ) → Type 0
-QuotedRead quote cs (Some p) = Quoted quote cs p.1 (chars (string_bytes p.0))
-QuotedRead quote cs None = IsOpen quote cs
+-- the first characters, up to a limit, of what is quoted at the front, or nothing where it has no end
+abbrev pub QuotedRead : ℕ → List ℕ → ℕ → Option (String Global × ℕ) → Type 0
+QuotedRead quote cs limit None = IsOpen quote cs
+QuotedRead quote cs limit (Some p) = (all : List ℕ) × Quoted quote cs p.1 all × (chars (string_bytes p.0) ≡ take limit all)
 
 -- the token at the front, or its fault
 abbrev pub TokenRead : Front → List ℕ → Place → Result (ℕ × Token) LexFault → Type 0

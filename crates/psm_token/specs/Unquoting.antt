@@ -1,5 +1,5 @@
 -- Reading between quotes, step by step.
-use Rattle.std.specs.Prelude.{◌≡◌, ℕ, ◌+◌, ◌<◌, ◌≤◌, List, [], ◌∷◌, ◌++◌, length, nat_eq, Option, Some, None, String, string_bytes, if◌then◌else◌}
+use Rattle.std.specs.Prelude.{◌≡◌, ℕ, ◌+◌, ◌<◌, ◌≤◌, List, [], ◌∷◌, ◌++◌, length, take, nat_eq, Option, Some, None, String, string_bytes, if◌then◌else◌}
 use Rattle.std.specs.Global.{Global}
 use Rattle.std.specs.Str.{chars}
 use Rattle.psm_token.specs.declared.quoted.Inside.{Inside}
@@ -15,9 +15,10 @@ abbrev mutual
   read_quote quote kept n [] = Some (kept, n + 1)
   read_quote quote kept n (c ∷ cs) = if nat_eq c quote then read_inside quote (kept ++ c ∷ []) (n + 2) cs else Some (kept, n + 1)
 
--- what is kept, and how many characters are read
-abbrev pub kept_of : String Global × ℕ → List ℕ × ℕ
-kept_of p = (chars (string_bytes p.0), p.1)
+-- the first kept ones up to a limit, and how many characters are read
+abbrev pub Unquoted : ℕ → Option (List ℕ × ℕ) → Option (String Global × ℕ) → Type 0
+Unquoted limit read None = read ≡ None
+Unquoted limit read (Some p) = (all : List ℕ) × (read ≡ Some (all, p.1)) × (chars (string_bytes p.0) ≡ take limit all)
 
 -- what a step inside of quotes shows
 abbrev pub Shows : ℕ → List ℕ → Inside → Type 0

@@ -5,8 +5,8 @@ ghost use Rattle.psm_token.specs.Characters.{begins};
 ghost use Rattle.psm_token.specs.Fronts.{front_of};
 ghost use Rattle.psm_token.specs.Signs.{sign_at as sign_of};
 
-use crate::scan::{begins_in, first, is_separator, Class};
-use crate::sign::{lone_sign, pair_sign, Sign};
+use crate::scan::{Class, begins_in, first, is_separator};
+use crate::sign::{Sign, lone_sign, pair_sign};
 
 /// What stands at the front of a text, told by its first two characters.
 #[derive(Clone, Copy, Debug, PartialEq, Eq)]

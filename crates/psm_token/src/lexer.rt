@@ -10,7 +10,7 @@ ghost use Rattle.psm_token.specs.declared.fault.LexFault.{LexFault};
 
 use crate::fault::LexFault;
 use crate::list::TokenList;
-use crate::piece::{piece_at, Piece};
+use crate::piece::{Piece, piece_at};
 use crate::place::Place;
 use crate::scan::advanced;
 use crate::token::Placed;
@@ -84,9 +84,6 @@ pub fn tokens(alloc: Global, bytes: &[u8]) -> Result<TokenList, LexFault>
 {
     match str::from_utf8(bytes) {
         Ok(text) => text_tokens(alloc, text),
-        Err(error) => Err(LexFault::BadUtf8(place_behind(
-            bytes,
-            error.valid_up_to(),
-        ))),
+        Err(error) => Err(LexFault::BadUtf8(place_behind(bytes, error.valid_up_to()))),
     }
 }

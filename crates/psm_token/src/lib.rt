@@ -22,3 +22,6 @@ pub use place::Place;
 pub use sign::Sign;
 pub use token::{Placed, Token};
 pub use word::Word;
+
+#[cfg(test)]
+mod tests;

@@ -3,18 +3,18 @@ ghost use Rattle.std.specs.Prelude.{◌≡◌, ◌<◌, ◌≤◌, true, length,
 ghost use Rattle.std.specs.Str.{chars};
 ghost use Rattle.psm_num.specs.Literal.{literal_digits};
 ghost use Rattle.psm_token.specs.Characters.{begins};
-ghost use Rattle.psm_token.specs.Forms.{name_len};
+ghost use Rattle.psm_token.specs.Forms.{IsWord, name_len};
 ghost use Rattle.psm_token.specs.Fronts.{front_of};
 ghost use Rattle.psm_token.specs.Numbers.{literal_at, literal_len, fraction_len};
 ghost use Rattle.psm_token.specs.Places.{HasRoom};
 ghost use Rattle.psm_token.specs.Quotes.{is_quote};
-ghost use Rattle.psm_token.specs.Reading.{WordRead, NumberRead, QuotedRead, TokenRead, PieceRead, piece_of};
+ghost use Rattle.psm_token.specs.Reading.{NumberRead, QuotedRead, TokenRead, PieceRead, piece_of};
 
 use crate::fault::LexFault;
-use crate::front::{look, sign_at, Front};
+use crate::front::{Front, look, sign_at};
 use crate::place::Place;
 use crate::quoted::unquoted;
-use crate::scan::{advanced, begins_in, first, folded, gathered, next, run, Class};
+use crate::scan::{Class, advanced, begins_in, first, folded, gathered, run};
 use crate::token::Token;
 use crate::word::find;
 use psm_num::Dec;
@@ -22,6 +22,10 @@ use psm_text::{Name, NameFault, Text, TextFault};
 use std::alloc::{AllocError, Global};
 
 const MOST_IN_NAME: usize = 128;
+
+const MOST_IN_TEXT: usize = 4000;
+
+const MOST_DIGITS: usize = 18;
 
 /// What stands at the front of a text, and how many characters it is.
 #[derive(Debug, Drop)]
@@ -39,7 +43,7 @@ fn word_or_name(alloc: Global, text: &str) -> Result<Token, AllocError>
     requires ascii { chars text.now ≡ text.now }
     requires some { 0 < length text.now }
     requires limit { length text.now ≤ 128 }
-    ensures { IfOk result (λ t. WordRead text.now t) }
+    ensures { IfOk result (λ t. IsWord text.now t) }
 {
     match find(text) {
         Some(word) => Ok(Token::Word(word)),
@@ -55,7 +59,7 @@ fn read_name(alloc: Global, rest: &str, place: Place) -> Result<(usize, Token), 
     requires { 0 < name_len (chars rest.now) }
     ensures { TokenRead Front.Letter (chars rest.now) place result }
 {
-    let size = run(Class::NamePart, rest);
+    let (size, _) = run(Class::NamePart, rest);
     if size > MOST_IN_NAME {
         return Err(LexFault::LongName(place));
     }
@@ -70,27 +74,31 @@ fn fraction_size(rest: &str) -> usize
     ensures within { result ≤ length rest.now }
 {
     match first(rest) {
-        Some((c, behind)) if c == '.' => 1 + run(Class::Digit, behind),
+        Some((c, behind)) if c == '.' => {
+            let (digits, _) = run(Class::Digit, behind);
+            1 + digits
+        }
         _ => 0,
     }
 }
 
 /// How many characters the number at the front is.
-fn number_size(rest: &str, place: Place) -> usize
-    requires { HasRoom place (chars rest.now) }
-    ensures value { result ≡ literal_len (chars rest.now) }
+fn number_size(rest: &str) -> usize
+    ensures { result ≡ literal_len (chars rest.now) }
 {
-    let whole = run(Class::Digit, rest);
-    let (_, behind) = advanced(place, rest, whole);
+    let (whole, behind) = run(Class::Digit, rest);
     whole + fraction_size(behind)
 }
 
-/// The number of so many characters at the front, unless it has too many digits.
+/// The number at the front, which has `size` characters, unless it has too many digits.
 fn number_at(alloc: Global, rest: &str, size: usize) -> Result<Option<Dec>, AllocError>
     requires some { 0 < literal_digits (literal_at (chars rest.now)) }
     requires whole { size ≡ literal_len (chars rest.now) }
     ensures { IfOk result (λ o. NumberRead (literal_at (chars rest.now)) o) }
 {
+    if size > MOST_DIGITS + 1 {
+        return Ok(None);
+    }
     let text = gathered(alloc, rest, size)?;
     match Dec::read(text.as_str()) {
         Ok(number) => Ok(Some(number)),
@@ -103,7 +111,7 @@ fn read_number(alloc: Global, rest: &str, place: Place) -> Result<(usize, Token)
     requires room { HasRoom place (chars rest.now) }
     ensures { TokenRead Front.Digit (chars rest.now) place result }
 {
-    let size = number_size(rest, place);
+    let size = number_size(rest);
     match number_at(alloc, rest, size)? {
         None => Err(LexFault::LongNumber(place)),
         Some(number) => {
@@ -117,17 +125,18 @@ fn read_number(alloc: Global, rest: &str, place: Place) -> Result<(usize, Token)
     }
 }
 
-/// What is quoted at the front, and how many characters it is.
+/// The first characters of what is quoted at the front up to `limit`, and how many characters it is.
 fn quoted(
     alloc: Global,
     quote: char,
     rest: &str,
+    limit: usize,
 ) -> Result<Option<(String, usize)>, AllocError>
     requires { begins (is_quote quote) (chars rest.now) ≡ true }
-    ensures { IfOk result (λ o. QuotedRead quote (chars rest.now) o) }
+    ensures { IfOk result (λ o. QuotedRead quote (chars rest.now) limit o) }
 {
     match first(rest) {
-        Some((_, behind)) => unquoted(alloc, quote, behind),
+        Some((_, behind)) => unquoted(alloc, quote, behind, limit),
         None => unreachable!(),
     }
 }
@@ -137,7 +146,7 @@ fn read_delimited(alloc: Global, rest: &str, place: Place) -> Result<(usize, Tok
     requires room { HasRoom place (chars rest.now) }
     ensures { TokenRead Front.Quote (chars rest.now) place result }
 {
-    match quoted(alloc, '"', rest)? {
+    match quoted(alloc, '"', rest, MOST_IN_NAME + 1)? {
         None => Err(LexFault::OpenName(place)),
         Some((kept, size)) => match Name::make(alloc, kept.as_str()) {
             Ok(name) => Ok((size, Token::Name(name))),
@@ -155,7 +164,7 @@ fn read_text(alloc: Global, rest: &str, place: Place) -> Result<(usize, Token), 
     requires { begins (is_quote 39) (chars rest.now) ≡ true }
     ensures { TokenRead Front.Apostrophe (chars rest.now) place result }
 {
-    match quoted(alloc, '\'', rest)? {
+    match quoted(alloc, '\'', rest, MOST_IN_TEXT + 1)? {
         None => Err(LexFault::OpenText(place)),
         Some((kept, size)) => match Text::make(alloc, kept.as_str()) {
             Ok(text) => Ok((size, Token::Text(text))),
@@ -188,7 +197,10 @@ pub(crate) fn piece_at(
     match look(rest, after_name) {
         Front::End => Ok(Piece::End),
         Front::Separator => Ok(Piece::Gap(1)),
-        Front::Comment => Ok(Piece::Gap(run(Class::InLine, rest))),
+        Front::Comment => {
+            let (size, _) = run(Class::InLine, rest);
+            Ok(Piece::Gap(size))
+        }
         Front::Letter => one(read_name(alloc, rest, place)),
         Front::Digit => one(read_number(alloc, rest, place)),
         Front::Quote => one(read_delimited(alloc, rest, place)),

@@ -1,8 +1,7 @@
 //! What stands between quotes.
-ghost use Rattle.std.specs.Prelude.{◌≡◌, ◌∷◌, [], ◌+◌, length, IfOk, string_bytes, Some, None};
+ghost use Rattle.std.specs.Prelude.{◌≡◌, ◌∷◌, ◌++◌, [], ◌+◌, length, nat_lt, if◌then◌else◌, IfOk, OnOk, string_bytes};
 ghost use Rattle.std.specs.Str.{chars};
-ghost use Rattle.std.specs.Option.{option_map};
-ghost use Rattle.psm_token.specs.Unquoting.{Shows, ShowsBehind, IsShorter, kept_of, read_inside};
+ghost use Rattle.psm_token.specs.Unquoting.{Shows, ShowsBehind, IsShorter, Unquoted, read_inside};
 
 use crate::scan::{first, push};
 use std::alloc::{AllocError, Global};
@@ -50,25 +49,36 @@ fn step_behind_quote(quote: char, rest: &str) -> Inside<'_>
     }
 }
 
-/// What a quoted text keeps, and how many characters it is with its quotes, from behind its first quote on.
-#[tactic(auto, using(crate::proofs::Utf8::chars_none))]
+/// Puts a character behind what is kept, unless it is `limit` characters already.
+fn keep(kept: &mut String, c: char, size: usize, limit: usize) -> Result<(), AllocError>
+    ensures { OnOk result (chars (string_bytes kept.new) ≡
+        (if nat_lt size limit then chars (string_bytes kept.old) ++ c ∷ [] else chars (string_bytes kept.old))) }
+{
+    if size < limit { push(kept, c) } else { Ok(()) }
+}
+
+/// The first characters of a quoted text up to `limit`, and how many characters it is with its quotes, from
+/// behind its first quote on.
 pub(crate) fn unquoted(
     alloc: Global,
     quote: char,
     rest: &str,
+    limit: usize,
 ) -> Result<Option<(String, usize)>, AllocError>
-    ensures { IfOk result (λ o. option_map kept_of o ≡ read_inside quote [] 1 (chars rest.now)) }
+    ensures { IfOk result (λ o. Unquoted limit (read_inside quote [] 1 (chars rest.now)) o) }
 {
     let mut kept = String::new(alloc);
+    let mut size = 0;
     let mut count = 1;
     let mut left = rest;
     loop {
         match step_inside(quote, left) {
             Inside::Nothing => return Ok(None),
             Inside::Close => return Ok(Some((kept, count + 1))),
-            Inside::Kept(c, size, behind) => {
-                push(&mut kept, c)?;
-                count += size;
+            Inside::Kept(c, taken, behind) => {
+                keep(&mut kept, c, size, limit)?;
+                size += 1;
+                count += taken;
                 left = behind;
             }
         }

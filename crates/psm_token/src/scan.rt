@@ -64,10 +64,12 @@ pub(crate) fn begins_in(rest: &str, class: Class) -> bool
     }
 }
 
-/// How many characters at the front are of the class.
-pub(crate) fn run(class: Class, rest: &str) -> usize
-    ensures count { result ≡ prefix_len (is_of class) (chars rest.now) }
-    ensures within { result ≤ length rest.now }
+/// How many characters at the front are of the class, and what follows them.
+#[tactic(auto, using(crate::proofs::Steps::drop_one_more))]
+pub(crate) fn run(class: Class, rest: &str) -> (usize, &str)
+    ensures count { result.0 ≡ prefix_len (is_of class) (chars rest.now) }
+    ensures behind { chars result.1.now ≡ drop result.0 (chars rest.now) }
+    ensures within { result.0 + length result.1.now ≤ length rest.now }
 {
     let mut left = rest;
     let mut count = 0;
@@ -78,7 +80,7 @@ pub(crate) fn run(class: Class, rest: &str) -> usize
         left = behind;
         count += 1;
     }
-    count
+    (count, left)
 }
 
 /// Puts a character behind a text.
@@ -127,7 +129,7 @@ pub(crate) fn folded(alloc: Global, rest: &str, count: usize) -> Result<String, 
 }
 
 /// The place behind a character.
-pub(crate) fn next(place: Place, c: char) -> Place
+fn next(place: Place, c: char) -> Place
     requires lines { place.line < 4294967295 }
     requires columns { place.column < 4294967295 }
     ensures { result ≡ next_place c place }

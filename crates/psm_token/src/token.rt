@@ -44,3 +44,5 @@ pub struct Placed {
     pub token: Token,
     pub place: Place,
 }
+
+const _: () = prove!(size_of::<Placed>() <= 64);

@@ -348,19 +348,8 @@ fn shelf(letter: u8) -> &'static [Word]
     ensures { result.now ≡ shelf_of letter }
 {
     match letter {
-        b'A' => &[
-            Word::And,
-            Word::As,
-            Word::Asc,
-            Word::Atomic,
-            Word::Avg,
-        ],
-        b'B' => &[
-            Word::Begin,
-            Word::Between,
-            Word::Both,
-            Word::By,
-        ],
+        b'A' => &[Word::And, Word::As, Word::Asc, Word::Atomic, Word::Avg],
+        b'B' => &[Word::Begin, Word::Between, Word::Both, Word::By],
         b'C' => &[
             Word::Call,
             Word::Case,
@@ -414,14 +403,8 @@ fn shelf(letter: u8) -> &'static [Word]
             Word::From,
             Word::Function,
         ],
-        b'G' => &[
-            Word::Get,
-            Word::Group,
-        ],
-        b'H' => &[
-            Word::Handler,
-            Word::Having,
-        ],
+        b'G' => &[Word::Get, Word::Group],
+        b'H' => &[Word::Handler, Word::Having],
         b'I' => &[
             Word::If,
             Word::In,
@@ -435,12 +418,8 @@ fn shelf(letter: u8) -> &'static [Word]
             Word::Is,
             Word::Iterate,
         ],
-        b'J' => &[
-            Word::Join,
-        ],
-        b'K' => &[
-            Word::Key,
-        ],
+        b'J' => &[Word::Join],
+        b'K' => &[Word::Key],
         b'L' => &[
             Word::Language,
             Word::Leading,
@@ -475,11 +454,7 @@ fn shelf(letter: u8) -> &'static [Word]
             Word::Order,
             Word::Out,
         ],
-        b'P' => &[
-            Word::Position,
-            Word::Primary,
-            Word::Procedure,
-        ],
+        b'P' => &[Word::Position, Word::Primary, Word::Procedure],
         b'R' => &[
             Word::Read,
             Word::Reads,
@@ -519,18 +494,8 @@ fn shelf(letter: u8) -> &'static [Word]
             Word::Update,
             Word::Upper,
         ],
-        b'V' => &[
-            Word::Value,
-            Word::Values,
-            Word::VarChar,
-            Word::Varying,
-        ],
-        b'W' => &[
-            Word::When,
-            Word::Where,
-            Word::While,
-            Word::Work,
-        ],
+        b'V' => &[Word::Value, Word::Values, Word::VarChar, Word::Varying],
+        b'W' => &[Word::When, Word::Where, Word::While, Word::Work],
         _ => &[],
     }
 }
