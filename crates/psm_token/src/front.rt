@@ -39,6 +39,7 @@ pub(crate) fn look(rest: &str, after_name: bool) -> Front
     }
 }
 
+/// What begins with the character.
 fn look_at(c: char, behind: &str, after_name: bool) -> Front
     ensures { result ≡ front_of after_name (c ∷ chars behind.now) }
 {
@@ -61,6 +62,7 @@ fn look_at(c: char, behind: &str, after_name: bool) -> Front
     }
 }
 
+/// Whether a minus sign stands at the front.
 fn begins_dash(rest: &str) -> bool
     ensures { result ≡ begins (nat_eq 45) (chars rest.now) }
 {
@@ -78,6 +80,7 @@ pub(crate) fn sign_at(rest: &str) -> Option<Sign>
     sign_after(c, behind)
 }
 
+/// The longest sign that begins with the character.
 fn sign_after(c: char, behind: &str) -> Option<Sign>
     ensures { result ≡ sign_of (c ∷ chars behind.now) }
 {

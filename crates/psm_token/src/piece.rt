@@ -55,6 +55,7 @@ fn word_or_name(alloc: Global, text: &str) -> Result<Token, AllocError>
     }
 }
 
+/// The word or the name at the front, which isn't delimited.
 fn read_name(alloc: Global, rest: &str, place: Place) -> Result<(usize, Token), LexFault>
     requires { 0 < name_len (chars rest.now) }
     ensures { TokenRead Front.Letter (chars rest.now) place result }
@@ -106,6 +107,7 @@ fn number_at(alloc: Global, rest: &str, size: usize) -> Result<Option<Dec>, Allo
     }
 }
 
+/// The number at the front.
 fn read_number(alloc: Global, rest: &str, place: Place) -> Result<(usize, Token), LexFault>
     requires some { 0 < literal_digits (literal_at (chars rest.now)) }
     requires room { HasRoom place (chars rest.now) }
@@ -141,6 +143,7 @@ fn quoted(
     }
 }
 
+/// The delimited name at the front.
 fn read_delimited(alloc: Global, rest: &str, place: Place) -> Result<(usize, Token), LexFault>
     requires quote { begins (is_quote 34) (chars rest.now) ≡ true }
     requires room { HasRoom place (chars rest.now) }
@@ -160,6 +163,7 @@ fn read_delimited(alloc: Global, rest: &str, place: Place) -> Result<(usize, Tok
     }
 }
 
+/// The text at the front.
 fn read_text(alloc: Global, rest: &str, place: Place) -> Result<(usize, Token), LexFault>
     requires { begins (is_quote 39) (chars rest.now) ≡ true }
     ensures { TokenRead Front.Apostrophe (chars rest.now) place result }
@@ -175,6 +179,7 @@ fn read_text(alloc: Global, rest: &str, place: Place) -> Result<(usize, Token), 
     }
 }
 
+/// The longest sign at the front.
 fn read_sign(rest: &str, place: Place) -> Result<(usize, Token), LexFault>
     ensures { TokenRead Front.Other (chars rest.now) place result }
 {
@@ -209,6 +214,7 @@ pub(crate) fn piece_at(
     }
 }
 
+/// A token as a piece.
 fn one(read: Result<(usize, Token), LexFault>) -> Result<Piece, LexFault>
     ensures { result ≡ piece_of read }
 {

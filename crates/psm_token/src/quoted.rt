@@ -17,6 +17,7 @@ pub(crate) enum Inside<'a> {
     Kept(char, usize, &'a str),
 }
 
+/// What stands at the front inside of quotes.
 fn step_inside(quote: char, rest: &str) -> Inside<'_>
     ensures shows { Shows quote (chars rest.now) result }
     ensures shorter { IsShorter (length rest.now) result }
@@ -33,6 +34,7 @@ fn step_inside(quote: char, rest: &str) -> Inside<'_>
     }
 }
 
+/// What a quote inside of quotes and what follows it are.
 fn step_behind_quote(quote: char, rest: &str) -> Inside<'_>
     ensures shows { ShowsBehind quote (chars rest.now) result }
     ensures shorter { IsShorter (length rest.now + 1) result }

@@ -49,6 +49,7 @@ fn shown(alloc: Global, bytes: &[u8]) -> Result<String, AllocError>
             }
             put_place(alloc, &mut shown, list.end())?;
         }
+        Err(LexFault::Memory) => return Err(AllocError),
         Err(fault) => {
             shown.push_str(fault.text())?;
             if let Some(place) = fault.place() {
