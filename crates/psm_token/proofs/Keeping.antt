@@ -1,16 +1,13 @@
 -- What is kept of a quoted text tells whether it is within its limit.
-use Rattle.std.proofs.Common.{◌≡◌, ℕ, suc, ◌<◌, ◌≤◌, Bool, true, false, cond, eqb, leb, List, [], length, take, Option, Some, refl, sym, ap, subst, ◌∙◌, arith}
-use Rattle.std.specs.Prelude.{Result, Ok, Err, String, string_bytes}
+use Rattle.std.proofs.Common.{◌≡◌, ℕ, ◌<◌, ◌≤◌, Bool, true, false, cond, eqb, leb, List, length, take, Option, Some, refl, ap, subst, ◌∙◌, arith}
+use Rattle.std.specs.Prelude.{Ok, Err, String, string_bytes}
 use Rattle.std.specs.Global.{Global}
 use Rattle.std.specs.Str.{chars}
 use Rattle.std.proofs.lemmas.Bool.Decides.{nat_tests}
 use Rattle.psm_text.specs.Name.{name_of, named}
 use Rattle.psm_text.specs.Text.{within_most, made}
-use Rattle.psm_text.specs.declared.fault.NameFault.{NameFault}
 use Rattle.psm_text.specs.declared.fault.NameFault.TheVariants.{Empty, TooLong as LongName}
-use Rattle.psm_text.specs.declared.fault.TextFault.{TextFault}
 use Rattle.psm_text.specs.declared.fault.TextFault.TheVariants.{TooLong as LongText}
-use Rattle.psm_token.specs.declared.token.Token.{Token}
 use Rattle.psm_token.specs.declared.token.Token.TheVariants.{Name, Text}
 use Rattle.psm_token.specs.Faults.{IsLong}
 use Rattle.psm_token.specs.Forms.{IsKeptName, IsKeptText}

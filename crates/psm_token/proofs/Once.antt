@@ -1,5 +1,5 @@
 -- A file is one list of tokens at most, or it has one first fault.
-use Rattle.std.proofs.Common.{◌≡◌, ◌≢◌, ℕ, zero, suc, ◌+◌, ◌<◌, ◌≤◌, ◌⊎◌, Bool, true, false, ltb, List, [], ◌∷◌, ◌++◌, length, take, drop, inl, inr, refl, sym, ap, subst, ◌∙◌, append_assoc, arith}
+use Rattle.std.proofs.Common.{◌≡◌, ℕ, zero, suc, ◌<◌, ◌≤◌, ◌⊎◌, Bool, true, false, ltb, List, [], ◌∷◌, ◌++◌, length, take, inl, inr, refl, sym, ap, subst, ◌∙◌, append_assoc, arith}
 use Rattle.std.specs.Prelude.{Result, Ok, Err, IfOk, IfErr}
 use Rattle.std.specs.Str.{IsUtf8, chars}
 use Rattle.std.specs.Str.Lossy.{utf8_valid_len}
@@ -7,8 +7,6 @@ use Rattle.std.proofs.lemmas.Bool.Decides.{nat_tests}
 use Rattle.std.proofs.lemmas.List.{append-nil, length-append, length_push}
 use Rattle.psm_token.specs.declared.fault.LexFault.{LexFault}
 use Rattle.psm_token.specs.declared.fault.LexFault.TheVariants.{BadUtf8, BadChar, OpenText, OpenName, LongText, LongNumber, LongName, ManyTokens, Memory}
-use Rattle.psm_token.specs.declared.front.Front.{Front}
-use Rattle.psm_token.specs.declared.front.Front.TheVariants.{End, Separator, Comment, Letter, Digit, Quote, Apostrophe, Other}
 use Rattle.psm_token.specs.declared.place.Place.{Place}
 use Rattle.psm_token.specs.declared.token.Placed.{Placed}
 use Rattle.psm_token.specs.declared.token.Token.{Token}
@@ -18,7 +16,7 @@ use Rattle.psm_token.specs.Fronts.{front_of}
 use Rattle.psm_token.specs.Listed.{Tokens}
 use Rattle.psm_token.specs.Places.{start, place_after}
 use Rattle.psm_token.specs.Answers.{OrMemory}
-use Rattle.psm_token.specs.Spells.{At, at_start, behind, Gap, One, Piece, Pieces, Reaches, Spells, HasToken, StopsAt, IsTokenFault, IsFirstFault, most_tokens}
+use Rattle.psm_token.specs.Spells.{At, at_start, behind, Piece, Pieces, Reaches, Spells, HasToken, StopsAt, IsTokenFault, IsFirstFault, most_tokens}
 use Rattle.psm_token.specs.Answers.{GivesTokens, GivesFault}
 use Rattle.psm_token.specs.Tokens.{is_name}
 use Rattle.psm_token.proofs.TokenOnce.{token_once, gap_once, gap_token, faulty_gap, faulty_token, faulty_once}

@@ -1,12 +1,10 @@
 -- One piece more, from where reading stands.
-use Rattle.std.proofs.Common.{◌≡◌, ◌≢◌, ℕ, zero, suc, ◌+◌, ◌<◌, ◌≤◌, ◌⊎◌, Bool, true, false, not, ◌&&◌, ◌||◌, cond, eqb, List, [], ◌∷◌, ◌++◌, length, take, drop, inl, inr, refl, sym, ap, subst, ◌∙◌, arith}
-use Rattle.std.specs.Prelude.{Result, Ok, Err}
+use Rattle.std.proofs.Common.{◌≡◌, ◌≢◌, ℕ, zero, suc, ◌+◌, ◌<◌, ◌≤◌, Bool, true, false, not, ◌&&◌, ◌||◌, cond, eqb, List, [], ◌∷◌, ◌++◌, length, take, drop, inl, inr, refl, sym, ap, subst, ◌∙◌, arith}
+use Rattle.std.specs.Prelude.{Ok}
 use Rattle.std.specs.Char.{is_ascii_digit, is_ascii_alphabetic}
-use Rattle.std.specs.List.{prefix_len}
 use Rattle.std.specs.Str.{IsUtf8, chars}
-use Rattle.std.proofs.lemmas.Bool.{eqb-true}
 use Rattle.std.proofs.lemmas.List.{append-nil, length-append, length_push}
-use Rattle.psm_num.specs.Literal.{literal_digits, literal_text, point_text}
+use Rattle.psm_num.specs.Literal.{point_text}
 use Rattle.psm_token.specs.declared.fault.LexFault.{LexFault}
 use Rattle.psm_token.specs.declared.fault.LexFault.TheVariants.{BadUtf8, BadChar, OpenText, OpenName, LongText, LongNumber, LongName, ManyTokens, Memory}
 use Rattle.psm_token.specs.declared.front.Front.{Front}
@@ -18,16 +16,16 @@ use Rattle.psm_token.specs.declared.sign.Sign.{Sign}
 use Rattle.psm_token.specs.declared.sign.Sign.TheVariants.{LeftParen, RightParen, Comma, Semicolon, Colon, Period, Equal, NotEqual, Less, LessEqual, Greater, GreaterEqual, Plus, Minus, Asterisk, Solidus, Concatenation, QuestionMark}
 use Rattle.psm_token.specs.declared.token.Placed.{Placed}
 use Rattle.psm_token.specs.declared.token.Token.{Token}
-use Rattle.psm_token.specs.Characters.{is_separator, is_name_part, is_in_line, begins}
+use Rattle.psm_token.specs.Characters.{is_separator, is_name_part, begins}
 use Rattle.psm_token.specs.Faults.{IsFaulty}
 use Rattle.psm_token.specs.Forms.{IsToken, IsGap, name_len}
 use Rattle.psm_token.specs.Fronts.{front_of}
-use Rattle.psm_token.specs.Numbers.{digits_at, behind_digits, is_point, fraction_at, literal_at, literal_len}
+use Rattle.psm_token.specs.Numbers.{digits_at, behind_digits, is_point, fraction_at, literal_len}
 use Rattle.psm_token.specs.Places.{start, place_after}
 use Rattle.psm_token.specs.Answers.{OrMemory}
 use Rattle.psm_token.specs.Reading.{PieceRead}
 use Rattle.psm_token.specs.Signs.{sign_text}
-use Rattle.psm_token.specs.Spells.{At, at_start, behind, Gap, One, Piece, Pieces, Reaches, StopsAt, IsTokenFault, most_tokens}
+use Rattle.psm_token.specs.Spells.{At, Piece, Reaches, IsTokenFault}
 use Rattle.psm_token.specs.Tokens.{is_name}
 use Rattle.psm_token.proofs.Looking.{chosen, digit_front}
 use Rattle.psm_token.proofs.Runs.{take_literal}

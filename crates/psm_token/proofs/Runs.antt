@@ -1,16 +1,16 @@
 -- Runs of characters of a class, numbers and names as texts.
-use Rattle.std.proofs.Common.{◌≡◌, ℕ, zero, suc, ◌+◌, ◌<◌, ◌≤◌, Bool, true, false, cond, List, [], ◌∷◌, ◌++◌, ltb, leb, ◌&&◌, length, get_or, take, drop, map, refl, sym, ap, subst, ◌∙◌, append_assoc, one-add, take-add, arith}
+use Rattle.std.proofs.Common.{◌≡◌, ℕ, zero, suc, ◌+◌, ◌<◌, ◌≤◌, Bool, true, false, cond, List, [], ◌∷◌, ◌++◌, ltb, leb, ◌&&◌, length, get_or, take, map, refl, sym, ap, subst, ◌∙◌, append_assoc, one-add, take-add, arith}
 use Rattle.std.specs.Char.{is_ascii_digit, to_ascii_uppercase}
 use Rattle.std.specs.List.{prefix_len, list_all}
 use Rattle.std.specs.Str.{IsUtf8, IsAscii, chars, encode_utf8_all}
-use Rattle.std.specs.Prelude.{Result, Ok, Err}
+use Rattle.std.specs.Prelude.{Ok, Err}
 use Rattle.std.proofs.lemmas.Bool.{eqb-true}
 use Rattle.std.proofs.lemmas.Bool.Decides.{nat_tests}
 use Rattle.std.proofs.lemmas.List.{length-map, map-id, get_or-take, get_or_past, get_or-map}
 use Rattle.std.proofs.lemmas.List.Sums.{prefix_len_passes}
 use Rattle.std.proofs.lemmas.List.Folds.{length-prefix_len}
 use Rattle.std.proofs.lemmas.Str.{encodes-chars, encodes-IsAscii, IsAscii-append}
-use Rattle.psm_num.specs.Literal.{Literal, IsLiteral, Spells, literal_digits, literal_value, literal_number, literal_text, point_text}
+use Rattle.psm_num.specs.Literal.{Literal, Spells, literal_digits, literal_value, literal_number, literal_text, point_text}
 use Rattle.psm_num.specs.Num.{Num}
 use Rattle.psm_num.specs.declared.fault.NumFault.{NumFault}
 use Rattle.psm_num.specs.declared.fault.NumFault.TheVariants.{Range}

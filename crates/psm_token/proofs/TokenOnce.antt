@@ -1,20 +1,19 @@
 -- At a place there is one piece, or one fault, or neither.
-use Rattle.std.proofs.Common.{◌≡◌, ◌≢◌, ℕ, ◌+◌, ◌<◌, ◌≤◌, ◌⊎◌, Bool, true, false, List, [], ◌∷◌, ◌++◌, length, take, drop, Option, Some, None, inl, inr, refl, sym, ap, subst, ◌∙◌, arith}
-use Rattle.psm_num.specs.Literal.{literal_digits, literal_value}
+use Rattle.std.proofs.Common.{◌≡◌, ℕ, ◌<◌, ◌≤◌, Bool, true, false, List, [], length, take, drop, Some, None, sym, ap, subst, ◌∙◌, arith}
 use Rattle.psm_token.specs.declared.fault.LexFault.{LexFault}
-use Rattle.psm_token.specs.declared.fault.LexFault.TheVariants.{BadUtf8, BadChar, OpenText, OpenName, LongText, LongNumber, LongName, ManyTokens, Memory}
+use Rattle.psm_token.specs.declared.fault.LexFault.TheVariants.{BadChar, OpenText, OpenName, LongText, LongNumber, LongName}
 use Rattle.psm_token.specs.declared.front.Front.{Front}
 use Rattle.psm_token.specs.declared.front.Front.TheVariants.{End, Separator, Comment, Letter, Digit, Quote, Apostrophe, Other}
 use Rattle.psm_token.specs.declared.place.Place.{Place}
 use Rattle.psm_token.specs.declared.sign.Sign.{Sign as SignOf}
 use Rattle.psm_token.specs.declared.token.Token.{Token}
-use Rattle.psm_token.specs.declared.token.Token.TheVariants.{Word, Name, Number, Text, Sign}
+use Rattle.psm_token.specs.declared.token.Token.TheVariants.{Word, Name, Text, Sign}
 use Rattle.psm_token.specs.Characters.{is_name_letter, begins}
-use Rattle.psm_token.specs.Faults.{IsOpen, IsLong, NameFault, NumberFault, DelimitedFault, TextFault, SignFault, IsFaulty}
-use Rattle.psm_token.specs.Forms.{IsToken, IsGap, IsWord, IsNameForm, IsNumberForm, IsSignForm, IsKeptName, IsKeptText, folded, name_len, most_in_name}
-use Rattle.psm_token.specs.Numbers.{literal_at, literal_len}
+use Rattle.psm_token.specs.Faults.{IsLong, NameFault, NumberFault, DelimitedFault, TextFault, SignFault, IsFaulty}
+use Rattle.psm_token.specs.Forms.{IsToken, IsGap, IsWord, IsNameForm, IsNumberForm, IsSignForm, IsKeptName, IsKeptText, folded}
+use Rattle.psm_token.specs.Numbers.{literal_len}
 use Rattle.psm_token.specs.Quotes.{Quoted}
-use Rattle.psm_token.specs.Signs.{sign_at, sign_text}
+use Rattle.psm_token.specs.Signs.{sign_text}
 use Rattle.psm_token.proofs.Quoting.{quoted_once}
 use Rattle.psm_token.proofs.WordTexts.{text_of_once}
 

@@ -1,7 +1,7 @@
 -- The answer that is due, or want of memory.
 use Rattle.std.specs.Prelude.{◌≡◌, ◌⊎◌, Result, Ok, Err}
 use Rattle.psm_token.specs.declared.fault.LexFault.{LexFault}
-use Rattle.psm_token.specs.declared.fault.LexFault.TheVariants.{BadUtf8, BadChar, OpenText, OpenName, LongText, LongNumber, LongName, ManyTokens, Memory}
+use Rattle.psm_token.specs.declared.fault.LexFault.TheVariants.{Memory}
 use Rattle.psm_token.specs.Listed.{Tokens}
 
 -- a fact about a fault, unless memory ran out

@@ -1,10 +1,10 @@
 -- The faults of a token, by what stands at the front; of several the earlier place decides, then their order.
-use Rattle.std.specs.Prelude.{◌≡◌, ℕ, ◌<◌, ◌≤◌, true, List, [], ◌∷◌, length, take, drop, None}
+use Rattle.std.specs.Prelude.{◌≡◌, ℕ, ◌<◌, ◌≤◌, true, List, [], length, take, drop, None}
 use Rattle.psm_num.specs.Literal.{literal_digits}
 use Rattle.psm_token.specs.declared.front.Front.{Front}
 use Rattle.psm_token.specs.declared.front.Front.TheVariants.{End, Separator, Comment, Letter, Digit, Quote, Apostrophe, Other}
 use Rattle.psm_token.specs.declared.fault.LexFault.{LexFault}
-use Rattle.psm_token.specs.declared.fault.LexFault.TheVariants.{BadUtf8, BadChar, OpenText, OpenName, LongText, LongNumber, LongName, ManyTokens, Memory}
+use Rattle.psm_token.specs.declared.fault.LexFault.TheVariants.{BadChar, OpenText, OpenName, LongText, LongNumber, LongName}
 use Rattle.psm_token.specs.declared.place.Place.{Place}
 use Rattle.psm_token.specs.Characters.{is_name_letter, begins}
 use Rattle.psm_token.specs.Forms.{name_len, most_in_name, most_in_text, most_digits}

@@ -1,5 +1,5 @@
 -- The forms of tokens and of what separates them (ISO/IEC 9075:1992, 5.1 to 5.4), by what stands at the front.
-use Rattle.std.specs.Prelude.{◌≡◌, ◌≢◌, ℕ, ◌<◌, ◌≤◌, Bool, false, List, [], ◌∷◌, length, take, drop, map, Some}
+use Rattle.std.specs.Prelude.{◌≡◌, ◌≢◌, ℕ, ◌<◌, ◌≤◌, false, List, length, take, drop, map, Some}
 use Rattle.std.specs.Char.{to_ascii_uppercase}
 use Rattle.std.specs.List.{prefix_len}
 use Rattle.psm_num.specs.Literal.{literal_digits, literal_value}

@@ -12,7 +12,7 @@ use Rattle.psm_token.specs.declared.place.Place.{Place}
 use Rattle.psm_token.specs.declared.token.Token.{Token}
 use Rattle.psm_token.specs.Answers.{OrMemory}
 use Rattle.psm_token.specs.Faults.{IsFaulty, IsOpen}
-use Rattle.psm_token.specs.Forms.{IsToken, IsGap, IsWord, most_digits}
+use Rattle.psm_token.specs.Forms.{IsToken, IsGap, most_digits}
 use Rattle.psm_token.specs.Quotes.{Quoted}
 
 -- the number of a literal, or none where it has too many digits

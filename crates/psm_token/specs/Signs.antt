@@ -1,5 +1,5 @@
 -- The signs (ISO/IEC 9075:1992, 5.1 and 5.2).
-use Rattle.std.specs.Prelude.{ℕ, Bool, ◌&&◌, List, [], ◌∷◌, codes, nat_eq, Option, Some, None, if◌then◌else◌}
+use Rattle.std.specs.Prelude.{ℕ, ◌&&◌, List, [], ◌∷◌, codes, nat_eq, Option, Some, None, if◌then◌else◌}
 use Rattle.psm_token.specs.declared.sign.Sign.{Sign}
 use Rattle.psm_token.specs.declared.sign.Sign.TheVariants.{LeftParen, RightParen, Comma, Semicolon, Colon, Period, Equal, NotEqual, Less, LessEqual, Greater, GreaterEqual, Plus, Minus, Asterisk, Solidus, Concatenation, QuestionMark}
 

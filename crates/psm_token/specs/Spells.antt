@@ -3,7 +3,7 @@ use Rattle.std.specs.Prelude.{◌≡◌, ℕ, zero, suc, ◌≤◌, ◌⊎◌, B
 use Rattle.std.specs.Str.{IsUtf8, chars}
 use Rattle.std.specs.Str.Lossy.{utf8_valid_len}
 use Rattle.psm_token.specs.declared.fault.LexFault.{LexFault}
-use Rattle.psm_token.specs.declared.fault.LexFault.TheVariants.{BadUtf8, BadChar, OpenText, OpenName, LongText, LongNumber, LongName, ManyTokens, Memory}
+use Rattle.psm_token.specs.declared.fault.LexFault.TheVariants.{BadUtf8, ManyTokens}
 use Rattle.psm_token.specs.declared.place.Place.{Place}
 use Rattle.psm_token.specs.declared.token.Placed.{Placed}
 use Rattle.psm_token.specs.declared.token.Token.{Token}

@@ -1,7 +1,6 @@
 //! From the bytes of a file to its tokens.
 ghost use Rattle.std.specs.Prelude.{◌≡◌, ◌<◌, length, IfOk, IfErr, take};
 ghost use Rattle.std.specs.Str.{IsUtf8, chars};
-ghost use Rattle.std.specs.Str.Lossy.{utf8_valid_len};
 ghost use Rattle.psm_token.specs.Answers.{OrMemory, GivesTokens, GivesFault};
 ghost use Rattle.psm_token.specs.Listed.{Tokens};
 ghost use Rattle.psm_token.specs.Places.{place_after, start};

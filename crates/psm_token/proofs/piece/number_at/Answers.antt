@@ -1,6 +1,5 @@
-use Rattle.std.proofs.Common.{◌≡◌, ◌∙◌, ap}
+use Rattle.std.proofs.Common.{◌∙◌, ap}
 use Rattle.std.specs.Str.{chars}
-use Rattle.psm_num.specs.Literal.{Spells}
 use Rattle.psm_token.specs.Numbers.{literal_at}
 use Rattle.psm_token.proofs.Runs.{literal_spelled, number_ok, number_err}
 use Rattle.psm_token.proofs.piece.number_at.Goals as goal
