@@ -1,7 +1,7 @@
 -- A run of a procedure's code is the procedure's activation, and a script prints the same over both.
 use Rattle.std.proofs.Common.{◌≡◌, ℕ, zero, suc, ◌+◌, ◌<◌, Bool, true, false, ◌&&◌, cond, List, [], ◌∷◌, ◌++◌, length, Option, Some, None, Result, Ok, Err, refl, sym, ap, ◌∙◌, subst, arith}
 use Rattle.std.specs.Prelude.{option_map}
-use Rattle.psm_value.specs.declared.condition.Condition.{Condition}
+use Rattle.psm_sqlstate.specs.declared.state.SqlState.{SqlState}
 use Rattle.psm_value.specs.declared.datum.Datum.{Datum}
 use Rattle.psm_tree.specs.Names.{names_of}
 use Rattle.psm_tree.specs.Frame.{Frame}
@@ -29,7 +29,7 @@ use Rattle.psm_machine.proofs.Frames.{values_of, Stands, assigned-stands, as_slo
 use Rattle.psm_machine.proofs.Simulation.{body_runs, halted, with_operands}
 
 -- the frame that a body leaves has the same variables
-after_storing-stands : (ps : List Parameter) (frame : Frame) (target : List ℕ) (r : Result Datum Condition) → Stands ps frame → Stands ps (after_storing target frame r).frame
+after_storing-stands : (ps : List Parameter) (frame : Frame) (target : List ℕ) (r : Result Datum SqlState) → Stands ps frame → Stands ps (after_storing target frame r).frame
 after_storing-stands ps frame target (Ok v) s = assigned-stands ps frame target v s
 after_storing-stands ps frame target (Err c) s = s
 
@@ -50,7 +50,7 @@ run_with-turn p code frame (suc turns) same lines resolved s =
     (ap (λ ls. halt ls (with_operands frame [])) lines ∙ body_runs p.signature.parameters frame p.body s resolved)
     ∙ ap Some (ended-halted p.signature.parameters turns (executed p.body frame).outcome (executed p.body frame).frame (executed-stands p.signature.parameters frame p.body s))
 
-run_from-entry : (p : Procedure) (code : Code) (entry : Result Frame Condition) (turns : ℕ) → code.signature ≡ p.signature → code.lines ≡ body_lines (names_of p.signature.parameters) p.body → IsResolved p.signature.parameters p.body → IfFrame entry (Stands p.signature.parameters)
+run_from-entry : (p : Procedure) (code : Code) (entry : Result Frame SqlState) (turns : ℕ) → code.signature ≡ p.signature → code.lines ≡ body_lines (names_of p.signature.parameters) p.body → IsResolved p.signature.parameters p.body → IfFrame entry (Stands p.signature.parameters)
     → run_from code turns (as_slots entry) ≡ Some (from_entry p.body entry turns)
 run_from-entry p code (Ok frame) turns same lines resolved s = run_with-turn p code frame turns same lines resolved s
 run_from-entry p code (Err c) turns same lines resolved s = refl
