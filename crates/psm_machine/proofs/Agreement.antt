@@ -1,11 +1,11 @@
 -- A run of a procedure's code is the procedure's activation, and a script prints the same over both.
-use Rattle.std.proofs.Common.{◌≡◌, ℕ, zero, suc, ◌+◌, ◌<◌, Bool, true, false, ◌&&◌, cond, List, [], ◌∷◌, ◌++◌, length, Option, Some, None, Result, Ok, Err, refl, sym, ap, ◌∙◌, subst, arith}
+use Rattle.std.proofs.Common.{◌≡◌, ℕ, zero, suc, ◌+◌, List, [], ◌∷◌, Option, Some, Result, Ok, Err, refl, ap, ◌∙◌}
 use Rattle.std.specs.Prelude.{option_map}
 use Rattle.psm_sqlstate.specs.declared.state.SqlState.{SqlState}
 use Rattle.psm_value.specs.declared.datum.Datum.{Datum}
 use Rattle.psm_tree.specs.Names.{names_of}
 use Rattle.psm_tree.specs.Frame.{Frame}
-use Rattle.psm_tree.specs.Accepted.{IsTarget, IsResolved, IsWellNamed, IsKnownSum}
+use Rattle.psm_tree.specs.Accepted.{IsResolved}
 use Rattle.psm_tree.specs.Meaning.{Outcome, Normal, executed, after_storing, sum_value, with_value, entry_frame, activated, from_entry, at_end, Activated}
 use Rattle.psm_tree.specs.Meaning as meaning
 use Rattle.psm_tree.specs.Session.{Session, commands_from, session, given, after_call, after_ending, then_more}
@@ -22,7 +22,7 @@ use Rattle.psm_tree.specs.declared.tree.Command.{Command}
 use Rattle.psm_tree.specs.declared.tree.Command.TheVariants.{Call}
 use Rattle.psm_tree.specs.declared.tree.Script.{Script}
 use Rattle.psm_machine.specs.declared.code.Code.{Code}
-use Rattle.psm_machine.specs.Machine.{Halt, AtEnd, WithCondition, halt, ended, entry_slots, ran, run_from, run_with}
+use Rattle.psm_machine.specs.Machine.{Halt, halt, ended, entry_slots, ran, run_from, run_with}
 use Rattle.psm_machine.specs.Lowered.{body_lines}
 use Rattle.psm_machine.specs.Played.{played_from, played, after_run}
 use Rattle.psm_machine.proofs.Frames.{values_of, Stands, assigned-stands, as_slots, entry_slots-frame, IfFrame, entry_frame-stands, results-values}

@@ -1,6 +1,6 @@
 -- A frame by names and the slots that stand for it.
-use Rattle.std.proofs.Common.{◌≡◌, ℕ, zero, suc, ◌+◌, ◌<◌, Bool, true, false, cond, List, [], ◌∷◌, length, Option, Some, None, Result, Ok, Err, refl, sym, ap, ◌∙◌, arith}
-use Rattle.std.specs.Prelude.{map, slice_get, slice_set, IsSome, unwrap_or, option_map}
+use Rattle.std.proofs.Common.{◌≡◌, ℕ, suc, Bool, true, false, cond, List, [], ◌∷◌, Option, Some, None, Result, Ok, Err, refl, sym, ap, ◌∙◌}
+use Rattle.std.specs.Prelude.{slice_get, slice_set, IsSome, unwrap_or, option_map}
 use Rattle.psm_sqlstate.specs.declared.state.SqlState.{SqlState}
 use Rattle.psm_value.specs.declared.datum.Datum.{Datum}
 use Rattle.psm_value.specs.declared.datum.Datum.TheVariants.{Null}

@@ -1,18 +1,16 @@
 -- The code of a procedure does what the procedure means.
-use Rattle.std.proofs.Common.{◌≡◌, ℕ, zero, suc, ◌+◌, ◌<◌, Bool, true, false, ◌&&◌, cond, List, [], ◌∷◌, ◌++◌, length, Option, Some, None, Result, Ok, Err, refl, sym, ap, ◌∙◌, append_assoc, arith}
-use Rattle.std.specs.Prelude.{map, pos, slice_get, slice_set, IsSome, IsTrue, unwrap_or, option_map, nat_lt}
+use Rattle.std.proofs.Common.{◌≡◌, ℕ, List, [], ◌∷◌, ◌++◌, Option, Some, Result, Ok, Err, refl, sym, ap, ◌∙◌}
+use Rattle.std.specs.Prelude.{IsSome}
 use Rattle.std.specs.List.{flat_map, AllByRecursion}
 use Rattle.std.proofs.lemmas.List.Concat.{flat_map-cons}
 use Rattle.psm_sqlstate.specs.declared.state.SqlState.{SqlState}
 use Rattle.psm_value.specs.declared.datum.Datum.{Datum}
-use Rattle.psm_value.specs.declared.datum.Datum.TheVariants.{Null, Num}
 use Rattle.psm_value.specs.declared.sqltype.SqlType.TheVariants.{Integer}
 use Rattle.psm_value.specs.Stored.{stored}
 use Rattle.psm_value.specs.Arithmetic.{sum_of, difference_of}
-use Rattle.psm_tree.specs.Numeral.{numeral_value}
 use Rattle.psm_tree.specs.Names.{place_of, names_of}
-use Rattle.psm_tree.specs.Frame.{Frame, Variable, value_of, assigned}
-use Rattle.psm_tree.specs.Accepted.{IsTarget, IsKnown, IsKnownTerm, IsKnownSum, IsResolved}
+use Rattle.psm_tree.specs.Frame.{Frame}
+use Rattle.psm_tree.specs.Accepted.{IsTarget, IsKnown, IsKnownTerm, IsResolved}
 use Rattle.psm_tree.specs.Meaning.{Outcome, Normal, Executed, executed, after_storing, operand_value, signed_value, terms_value, sum_value, with_value, entry_frame, activated, from_entry, with_turn, at_end, ending_of, out_values, Activated, Ended, Left, TurnsUsed}
 use Rattle.psm_tree.specs.Meaning as meaning
 use Rattle.psm_tree.specs.declared.tree.Parameter.{Parameter}
@@ -21,15 +19,13 @@ use Rattle.psm_tree.specs.declared.tree.Operand.TheVariants as operands
 use Rattle.psm_tree.specs.declared.tree.Sign.{Sign}
 use Rattle.psm_tree.specs.declared.tree.Sign.TheVariants.{Plus, Minus}
 use Rattle.psm_tree.specs.declared.tree.Term.{Term}
-use Rattle.psm_tree.specs.declared.tree.Sum.{Sum}
 use Rattle.psm_tree.specs.declared.tree.Statement.{Statement}
 use Rattle.psm_tree.specs.declared.tree.Statement.TheVariants.{Set}
-use Rattle.psm_tree.specs.declared.tree.Procedure.{Procedure}
 use Rattle.psm_machine.specs.declared.code.Instr.{Instr}
-use Rattle.psm_machine.specs.declared.code.Instr.TheVariants.{Const, Var, Add, Sub, Store, End}
-use Rattle.psm_machine.specs.Machine.{State, Turned, More, Halt, AtEnd, WithCondition, row, go_on, halt, pushed, with_result, on_two, storing, in_slot}
-use Rattle.psm_machine.specs.Lowered.{slot_of, operand_line, sign_line, term_lines, sum_lines, body_lines}
-use Rattle.psm_machine.proofs.Frames.{values_of, Stands, value_at_slot, set_at_slot, assigned-stands}
+use Rattle.psm_machine.specs.declared.code.Instr.TheVariants.{Store, End}
+use Rattle.psm_machine.specs.Machine.{State, Halt, AtEnd, WithCondition, go_on, halt, pushed, with_result, in_slot}
+use Rattle.psm_machine.specs.Lowered.{slot_of, operand_line, sign_line, term_lines, body_lines}
+use Rattle.psm_machine.proofs.Frames.{values_of, Stands, value_at_slot, set_at_slot}
 
 -- goes on with a value, or halts with the condition
 abbrev pub then_halt : Result Datum SqlState → (Datum → Option Halt) → Option Halt

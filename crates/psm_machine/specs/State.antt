@@ -1,5 +1,5 @@
 -- The machine's state as the definition of its instructions sees it.
-use Rattle.std.specs.Prelude.{◌≡◌, ℕ, reverse, Option, Some, None}
+use Rattle.std.specs.Prelude.{reverse, Option, Some, None}
 use Rattle.psm_sqlstate.specs.declared.state.SqlState.{SqlState}
 use Rattle.psm_machine.specs.Machine.{State}
 use Rattle.psm_machine.specs.Machine as machine

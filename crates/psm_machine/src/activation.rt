@@ -71,11 +71,7 @@ fn enter(
 }
 
 // What a parameter starts with, or the condition that storing its argument raises.
-fn start(
-    alloc: Global,
-    mode: Mode,
-    args: &[Datum],
-) -> Result<Result<Datum, SqlState>, AllocError>
+fn start(alloc: Global, mode: Mode, args: &[Datum]) -> Result<Result<Datum, SqlState>, AllocError>
     ensures { IfOk result (λ r. r ≡ first_stored mode args.now) }
 {
     match mode {

@@ -141,7 +141,9 @@ pub(crate) fn stored_integer(
 {
     match store_into(alloc, SqlType::Integer, value) {
         Ok(stored) => Ok(Ok(stored)),
-        Err(ValueFault::Condition(state)) => Ok(Err(state)),
-        Err(ValueFault::Memory) => Err(AllocError),
+        Err(fault) => match fault {
+            ValueFault::Condition(state) => Ok(Err(state)),
+            ValueFault::Memory => Err(AllocError),
+        },
     }
 }
