@@ -1,0 +1,12 @@
+//! Row expressions as operations over a stack of operands: what an operation comes to, code that is well
+//! formed by its type, and the value of an expression (ISO/IEC 9075:1992, clauses 6 and 8).
+#![tactic(auto)]
+
+mod comparing;
+mod numbers;
+mod op;
+mod operand;
+mod stack;
+
+pub use op::{Letter, Line, Op, RawExpr};
+pub use operand::{Next, Operand};
