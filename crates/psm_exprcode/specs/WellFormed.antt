@@ -1,6 +1,6 @@
 -- Code of expressions that is well formed: what the letters of each line's operands say to those of the lines
 -- that follow it, jumps that go ahead, and types and scales within bounds.
-use Rattle.std.specs.Prelude.{ℕ, zero, suc, ◌-◌, Bool, true, false, ◌&&◌, ◌||◌, List, [], ◌∷◌, length, reverse, slice_get, nat_eq, nat_lt, nat_le, Option, Some, None, option_map, Result, Ok, Err, if◌then◌else◌}
+use Rattle.std.specs.Prelude.{ℕ, zero, suc, ◌-◌, Bool, true, false, ◌&&◌, ◌||◌, List, [], ◌∷◌, length, reverse, slice_get, nat_eq, nat_lt, nat_le, Option, Some, None, option_map, option_and_then, Result, Ok, Err, if◌then◌else◌}
 use Rattle.psm_value.specs.declared.datum.Datum.{Datum}
 use Rattle.psm_value.specs.declared.datum.Datum.TheVariants as data_of
 use Rattle.psm_value.specs.declared.sqltype.SqlType.{SqlType}
@@ -43,21 +43,20 @@ without zero k s = Some s
 without (suc n) k [] = None
 without (suc n) k (l ∷ s) = if is_letter k l then without n k s else None
 
-abbrev pub and_then : Option (List Letter) → (List Letter → Option (List Letter)) → Option (List Letter)
-and_then None f = None
-and_then (Some s) f = f s
-
 -- the letters with one more
 abbrev pub puts : Letter → Option (List Letter) → Option (List Letter)
-puts k None = None
-puts k (Some s) = Some (k ∷ s)
+puts k s = option_map (λ below. k ∷ below) s
 
--- the letters that the first one, which has to be a value's, gives
+-- the last letter, where it is a value's
+abbrev pub kind_of : List Letter → Option Letter
+kind_of [] = None
+kind_of (N ∷ s) = Some N
+kind_of (T ∷ s) = Some T
+kind_of (B ∷ s) = None
+
+-- what the last letter gives, where it is a value's
 abbrev pub by_kind : (Letter → Option (List Letter)) → List Letter → Option (List Letter)
-by_kind f [] = None
-by_kind f (N ∷ s) = f N
-by_kind f (T ∷ s) = f T
-by_kind f (B ∷ s) = None
+by_kind f s = option_and_then f (kind_of s)
 
 -- the letter of a type's values
 abbrev pub letter_of : SqlType → Letter
@@ -88,8 +87,8 @@ takes due (op.Scale d) s = puts N (without 1 N s)
 takes due op.Cat s = puts T (without 2 T s)
 takes due op.Len s = puts N (without 1 T s)
 takes due op.Pos s = puts N (without 2 T s)
-takes due op.Sub2 s = puts T (and_then (without 1 N s) (without 1 T))
-takes due op.Sub3 s = puts T (and_then (without 2 N s) (without 1 T))
+takes due op.Sub2 s = puts T (option_and_then (without 1 T) (without 1 N s))
+takes due op.Sub3 s = puts T (option_and_then (without 1 T) (without 2 N s))
 takes due (op.Trim side) s = puts T (without 1 T s)
 takes due op.Up s = puts T (without 1 T s)
 takes due op.Low s = puts T (without 1 T s)
@@ -161,12 +160,14 @@ abbrev pub jumps_where : ℕ → ℕ → List Line → Option (List Letter) → 
 jumps_where at p after None = false
 jumps_where at p after (Some s) = jumps at p after s
 
--- whether the letters fit where the operation goes ahead
+-- whether the operation never goes ahead
+abbrev pub is_jump : Op → Bool
+is_jump (op.Jump p) = true
+is_jump o = false
+
+-- whether the letters fit where the operation goes ahead, if it does; a variable and a column may be of either kind
 abbrev pub goes_ahead : Op → List Letter → List Line → Bool
-goes_ahead (op.Var i) s after = lands_where after (takes N (op.Var i) s) || lands_where after (takes T (op.Var i) s)
-goes_ahead (op.Col i) s after = lands_where after (takes N (op.Col i) s) || lands_where after (takes T (op.Col i) s)
-goes_ahead (op.Jump p) s after = true
-goes_ahead o s after = lands_where after (takes N o s)
+goes_ahead o s after = is_jump o || (lands_where after (takes N o s) || lands_where after (takes T o s))
 
 -- whether the letters fit where it jumps, if it does
 abbrev pub goes_away : ℕ → Op → List Letter → List Line → Bool

@@ -1,6 +1,7 @@
 //! Comparisons of values (ISO/IEC 9075:1992, 8.2), and BETWEEN, IN and NULLIF, which stand for them.
-ghost use Rattle.std.specs.Prelude.{◌≡◌, ◌<◌, ◌-◌, suc, reverse, drop, take, vec_len, length, IsTrue, Ok};
+ghost use Rattle.std.specs.Prelude.{◌≡◌, ◌<◌, ◌+◌, suc, reverse, drop, take, vec_len, length, IsTrue, Ok};
 ghost use Rattle.psm_exprcode.specs.Applied.{compares, on_value, on_three, on_many, value_of_two, with_truth};
+ghost use Rattle.psm_exprcode.specs.Among.{data_in};
 ghost use Rattle.psm_exprcode.specs.Comparison.{truth_of, holds, judged, tested, between, among, unless_equal, is_null};
 ghost use Rattle.psm_exprcode.specs.Fits.{are_values, Applies};
 
@@ -108,4 +109,57 @@ pub(crate) fn is_null_value(value: &Datum) -> bool
     ensures { result ≡ is_null value.now }
 {
     matches!(value, Datum::Null)
+}
+
+pub(crate) fn test_among(operands: &mut Vec<Operand>, count: u32) -> Result<Next, ValueFault>
+    requires { IsTrue (are_values (suc count) (reverse operands.old.items)) }
+    ensures { Applies (suc count) (reverse operands.old.items) (on_many count (λ bs. on_value (λ a below. with_truth below (Ok (among a bs)))) (reverse operands.old.items)) result (reverse operands.new.items) }
+{
+    let place = place_below(operands.as_slice(), count);
+    let truth = judge_among(operands.as_slice(), count, place);
+    operands.truncate(place);
+    put_truth(operands, truth)?;
+    Ok(Next::Ahead)
+}
+
+// How many operands stand below a value with so many others on it.
+#[tactic(auto, using(crate::proofs::Among::enough))]
+fn place_below(operands: &[Operand], count: u32) -> usize
+    requires { IsTrue (are_values (suc count) (reverse operands.now)) }
+    ensures place { result + suc count ≡ length operands.now }
+    ensures below { drop (suc count) (reverse operands.now) ≡ reverse (take result operands.now) }
+{
+    operands.len() - 1 - count as usize
+}
+
+// Whether the value at the place is among the others that stand on it.
+fn judge_among(operands: &[Operand], count: u32, place: usize) -> Truth
+    requires values { IsTrue (are_values (suc count) (reverse operands.now)) }
+    requires place { place + suc count ≡ length operands.now }
+    ensures { on_many count (λ bs. on_value (λ a below. with_truth below (Ok (among a bs)))) (reverse operands.now) ≡ with_truth (reverse (take place operands.now)) (Ok result) }
+{
+    match &operands[place] {
+        Operand::Value(value) => judge_each(value, after(operands, place)),
+        Operand::Truth(_) => unreachable!(),
+    }
+}
+
+fn after(operands: &[Operand], place: usize) -> &[Operand]
+    requires { place < length operands.now }
+    ensures { result.now ≡ drop (place + 1) operands.now }
+{
+    &operands[place + 1..]
+}
+
+// Whether a value is equal to one of the others.
+fn judge_each(value: &Datum, others: &[Operand]) -> Truth
+    ensures { result ≡ among value.now (data_in (reverse others.now)) }
+{
+    let mut truth = Truth::False;
+    for other in others {
+        if let Operand::Value(other) = other {
+            truth = Test::Equal.judge(value, other).or(truth);
+        }
+    }
+    truth
 }

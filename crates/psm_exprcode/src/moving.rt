@@ -2,13 +2,16 @@
 ghost use Rattle.std.specs.Prelude.{◌≡◌, ◌<◌, ◌∷◌, ℕ, List as Seq, Some, IfOk, length, slice_get, reverse, IsTrue};
 ghost use Rattle.psm_value.specs.declared.datum.Datum.{Datum};
 ghost use Rattle.psm_exprcode.specs.declared.operand.Next.TheVariants.{Ahead};
-ghost use Rattle.psm_exprcode.specs.Applied.{Went, with_named, on_value, on_truth, nipped, set_at, unless_true};
+ghost use Rattle.psm_value.specs.Cast.{cast_of};
+ghost use Rattle.psm_value.specs.SqlType.{IsType};
+ghost use Rattle.psm_exprcode.specs.Comparison.{is_null};
+ghost use Rattle.psm_exprcode.specs.Applied.{Went, with_value, with_named, on_value, on_truth, nipped, set_at, unless_true};
 ghost use Rattle.psm_exprcode.specs.Fits.{are_values, are_truths, is_over_value, Applies};
 
 use crate::comparing::is_null_value;
 use crate::operand::{Next, Operand};
-use crate::stack::{pop_truth, pop_value, put_value};
-use psm_value::{Datum, ValueFault};
+use crate::stack::{pop, pop_truth, pop_value, put, put_value};
+use psm_value::{Datum, SqlType, ValueFault, cast};
 use std::alloc::{AllocError, Global};
 
 pub(crate) fn put_copy(alloc: Global, operands: &mut Vec<Operand>, value: &Datum) -> Result<Next, ValueFault>
@@ -68,7 +71,7 @@ pub(crate) fn nip(operands: &mut Vec<Operand>) -> Result<Next, ValueFault>
 {
     let last = pop(operands);
     let _ = pop_value(operands);
-    operands.push(last)?;
+    put(operands, last)?;
     Ok(Next::Ahead)
 }
 
@@ -93,4 +96,21 @@ pub(crate) fn jump_set(operands: &mut Vec<Operand>, place: u32) -> Next
     } else {
         Next::Jump(place)
     }
+}
+
+// Whether the last operand is null.
+fn is_last_null(operands: &[Operand]) -> bool
+    ensures { (a : Datum) (below : Seq Operand) → reverse operands.now ≡ Operand.Value a ∷ below → result ≡ is_null a }
+{
+    matches!(operands, [.., Operand::Value(Datum::Null)])
+}
+
+pub(crate) fn cast_one(alloc: Global, operands: &mut Vec<Operand>, to: SqlType) -> Result<Next, ValueFault>
+    requires bounds { IsType to }
+    requires operand { IsTrue (are_values 1 (reverse operands.old.items)) }
+    ensures { Applies 1 (reverse operands.old.items) (on_value (λ a below. with_value below (cast_of to a)) (reverse operands.old.items)) result (reverse operands.new.items) }
+{
+    let value = pop_value(operands);
+    put_value(operands, cast(alloc, to, &value)?)?;
+    Ok(Next::Ahead)
 }

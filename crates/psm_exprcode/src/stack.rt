@@ -1,10 +1,18 @@
 //! The operand stack. Operands stand in a vector with the last one at its end.
-ghost use Rattle.std.specs.Prelude.{◌≡◌, ◌∷◌, reverse, IsTrue, OnOk, OnErr};
+ghost use Rattle.std.specs.Prelude.{◌≡◌, ◌<◌, ◌∷◌, vec_len, reverse, IsTrue, OnOk, OnErr};
 ghost use Rattle.psm_exprcode.specs.Fits.{are_values, are_truths};
 
 use crate::operand::Operand;
 use psm_value::{Datum, Truth};
 use std::alloc::AllocError;
+
+// The last operand, taken off.
+pub(crate) fn pop(operands: &mut Vec<Operand>) -> Operand
+    requires { 0 < vec_len operands.old }
+    ensures { reverse operands.old.items ≡ result ∷ reverse operands.new.items }
+{
+    operands.pop().unwrap()
+}
 
 // The last operand, which is a value, taken off.
 pub(crate) fn pop_value(operands: &mut Vec<Operand>) -> Datum
@@ -74,4 +82,15 @@ pub(crate) fn put_truth(operands: &mut Vec<Operand>, truth: Truth) -> Result<(),
 {
     operands.push(Operand::Truth(truth))?;
     Ok(())
+}
+
+// One operand more.
+pub(crate) fn put(operands: &mut Vec<Operand>, operand: Operand) -> Result<(), AllocError>
+    ensures ok { OnOk result (reverse operands.new.items ≡ operand ∷ reverse operands.old.items) }
+    ensures err { OnErr result (reverse operands.new.items ≡ reverse operands.old.items) }
+{
+    match operand {
+        Operand::Value(value) => put_value(operands, value),
+        Operand::Truth(truth) => put_truth(operands, truth),
+    }
 }
