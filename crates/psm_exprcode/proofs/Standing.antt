@@ -68,7 +68,7 @@ is_letter-same B N h = absurd (cc)
 is_letter-same B T h = absurd (cc)
 is_letter-same B B h = refl
 
-same_some : {A : Type 0} → (x y : A) → Some x ≡ Some y → x ≡ y
+pub same_some : {A : Type 0} → (x y : A) → Some x ≡ Some y → x ≡ y
 same_some x y h = cc
 
 pub without_off : (sort : Letter → Bool) (n : ℕ) (k : Letter) (s t : List Letter) → sort k ≡ true → without n k s ≡ Some t → Off sort n s t
@@ -79,7 +79,7 @@ without_off sort (suc n) k (l ∷ s) t p h = by (is_letter k l) refl (without_of
   by true e more = (ap sort (sym (is_letter-same k l e)) ∙ p, more (sym (ap (λ b. if b then without n k s else None) e) ∙ h))
   by false e more = let f : None ≡ Some t = sym (ap (λ b. if b then without n k s else None) e) ∙ h in absurd (cc)
 
-puts_some : (k : Letter) (o : Option (List Letter)) (s' : List Letter) → puts k o ≡ Some s' → (t : List Letter) × (o ≡ Some t) × (s' ≡ k ∷ t)
+pub puts_some : (k : Letter) (o : Option (List Letter)) (s' : List Letter) → puts k o ≡ Some s' → (t : List Letter) × (o ≡ Some t) × (s' ≡ k ∷ t)
 puts_some k None s' h = absurd (cc)
 puts_some k (Some t) s' h = (t, refl, sym (same_some (k ∷ t) s' h))
 
@@ -108,7 +108,7 @@ and_then_some f (Some t) s' h = (t, refl, h)
 
 -- ---- from the operands
 
-have_head : (k : Letter) (s : List Letter) (o : Operand) (os : List Operand) → have (k ∷ s) (o ∷ os) ≡ true → (of_letter k o ≡ true) × (have s os ≡ true)
+pub have_head : (k : Letter) (s : List Letter) (o : Operand) (os : List Operand) → have (k ∷ s) (o ∷ os) ≡ true → (of_letter k o ≡ true) × (have s os ≡ true)
 have_head k s o os h = by (of_letter k o) refl where
   by : (b : Bool) → of_letter k o ≡ b → (b ≡ true) × (have s os ≡ true)
   by true e = (refl, sym (ap (λ b. if b then have s os else false) e) ∙ h)
