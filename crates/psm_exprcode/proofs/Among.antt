@@ -26,7 +26,7 @@ enough n items h = let e : n ≤ length (reverse items) = enough_turned n (rever
 pub below_is : (n p : ℕ) (items : List Operand) → p + n ≡ length items → drop n (reverse items) ≡ reverse (take p items)
 below_is n p items e =
     let turned : reverse items ≡ reverse (drop p items) ++ reverse (take p items) =
-          ap reverse (sym (take-append-drop p items)) ∙ reverse-append (take p items) (drop p items) in
+    ap reverse (sym (take-append-drop p items)) ∙ reverse-append (take p items) (drop p items) in
     let many : n ≡ length (reverse (drop p items)) = omega (arith, length-reverse (drop p items), length-drop p items) in
     ap (λ k. drop k (reverse items)) many ∙ ap (λ u. drop (length (reverse (drop p items))) u) turned ∙ drop-append_seam (reverse (drop p items)) (reverse (take p items))
 
@@ -35,11 +35,11 @@ turned_at : (p : ℕ) (items : List Operand) (x : Operand) → p < length items 
 turned_at p items x h e =
     let next : suc p ≡ p + 1 = omega arith in
     let here : drop p items ≡ x ∷ drop (p + 1) items =
-          drop-cons items p x h ∙ ap (λ y. y ∷ drop (suc p) items) (sym e) ∙ ap (λ k. x ∷ drop k items) next in
+    drop-cons items p x h ∙ ap (λ y. y ∷ drop (suc p) items) (sym e) ∙ ap (λ k. x ∷ drop k items) next in
     ap reverse (sym (take-append-drop p items)) ∙ reverse-append (take p items) (drop p items)
-        ∙ ap (λ u. reverse u ++ reverse (take p items)) here
-        ∙ ap (λ u. u ++ reverse (take p items)) (reverse-append (x ∷ []) (drop (p + 1) items))
-        ∙ append_assoc (reverse (drop (p + 1) items)) (x ∷ []) (reverse (take p items))
+    ∙ ap (λ u. reverse u ++ reverse (take p items)) here
+    ∙ ap (λ u. u ++ reverse (take p items)) (reverse-append (x ∷ []) (drop (p + 1) items))
+    ∙ append_assoc (reverse (drop (p + 1) items)) (x ∷ []) (reverse (take p items))
 
 many_at : (n : ℕ) (f : List Datum → List Operand → Applied) (vs rest : List Operand) → length vs ≡ n → are_values n (vs ++ rest) ≡ true
     → on_many n f (vs ++ rest) ≡ f (data_in vs) rest
@@ -78,10 +78,10 @@ no_truth n p items t e g h =
 pub among_at : (n p : ℕ) (items : List Operand) (a : Datum) → p + suc n ≡ length items → Value a ≡ get_or items p (Value a)
     → are_values (suc n) (reverse items) ≡ true
     → on_many n (λ bs. on_value (λ a below. with_truth below (Ok (among a bs)))) (reverse items)
-      ≡ with_truth (reverse (take p items)) (Ok (among a (data_in (reverse (drop (p + 1) items)))))
+    ≡ with_truth (reverse (take p items)) (Ok (among a (data_in (reverse (drop (p + 1) items)))))
 among_at n p items a e g h =
     let turned = turned_at p items (Value a) (omega (arith, e)) g in
     let shown : are_values n (reverse (drop (p + 1) items) ++ (Value a ∷ reverse (take p items))) ≡ true =
-          ap (λ u. are_values n u) (sym turned) ∙ first_values n (reverse items) h in
+    ap (λ u. are_values n u) (sym turned) ∙ first_values n (reverse items) h in
     ap (λ u. on_many n (λ bs. on_value (λ a below. with_truth below (Ok (among a bs)))) u) turned
-        ∙ many_at n (λ bs. on_value (λ a below. with_truth below (Ok (among a bs)))) (reverse (drop (p + 1) items)) (Value a ∷ reverse (take p items)) (above_many n p items e) shown
+    ∙ many_at n (λ bs. on_value (λ a below. with_truth below (Ok (among a bs)))) (reverse (drop (p + 1) items)) (Value a ∷ reverse (take p items)) (above_many n p items e) shown

@@ -56,13 +56,13 @@ liked_is (Ok e) pattern t (Err fault) h =
     ap (λ b. if b then Ok (matches (items_of e pattern) t) else Err EscapePair) h.1 ∙ ap (λ f. Err f) (sym h.0)
 liked_is (Ok e) pattern t (Ok true) h =
     ap (λ b. if b then Ok (matches (items_of e pattern) t) else Err EscapePair) h.0
-        ∙ ap (λ b. Ok b) (matches_from (items_of e pattern) t (h.1.0 refl))
+    ∙ ap (λ b. Ok b) (matches_from (items_of e pattern) t (h.1.0 refl))
 liked_is (Ok e) pattern t (Ok false) h =
     ap (λ b. if b then Ok (matches (items_of e pattern) t) else Err EscapePair) h.0
-        ∙ ap (λ b. Ok b) (by (matches (items_of e pattern) t) refl) where
-  by : (b : Bool) → matches (items_of e pattern) t ≡ b → b ≡ false
-  by true k = let f : false ≡ true = h.1.1 (matches_so (items_of e pattern) t k) in sym f
-  by false k = refl
+    ∙ ap (λ b. Ok b) (by (matches (items_of e pattern) t) refl) where
+      by : (b : Bool) → matches (items_of e pattern) t ≡ b → b ≡ false
+      by true k = let f : false ≡ true = h.1.1 (matches_so (items_of e pattern) t k) in sym f
+      by false k = refl
 
 pub liked_ok : (e : Result (Option ℕ) TextFault) (pattern t : List ℕ) (b : Bool) → Liked e pattern t (Ok b) → as_truth (like_of e pattern t) ≡ Ok (truth_of b)
 liked_ok e pattern t b h = ap as_truth (liked_is e pattern t (Ok b) h)

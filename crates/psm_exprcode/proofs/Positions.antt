@@ -26,10 +26,11 @@ after k place c part t h e = record {
   low = λ l. later l (h.low l);
   found = λ j l q. h.found (suc j) l (omega (arith, q));
   first = λ j q. h.first (suc j) (omega (arith, q));
-  none = λ j z. h.none (suc j) z
+  none = λ j z. h.none (suc j) z;
 } where
   different : 0 < place → (place ≡ k + 0 → ⊥)
   different l q = let f = h.found 0 l q in cc
+
   later : 0 < place → k ≤ place → suc k ≤ place
   later l m = let d : place ≡ k + 0 → ⊥ = different l in omega arith
 
@@ -45,7 +46,7 @@ place_from_is : (k : ℕ) (part t : List ℕ) (place : ℕ) → 0 < k → FirstF
 place_from_is k part [] place p h = here k place 0 part [] (starts_with nat_eq [] part) p h refl (ends k place part h)
 place_from_is k part (c ∷ t) place p h =
     here k place (place_from (suc k) part t) part (c ∷ t) (starts_with nat_eq (c ∷ t) part) p h refl
-        (λ e. place_from_is (suc k) part t place (omega arith) (after k place c part t h e))
+    (λ e. place_from_is (suc k) part t place (omega arith) (after k place c part t h e))
 
 at_one : (j : ℕ) → (1 + j) - 1 ≡ j
 at_one j = omega arith
@@ -55,5 +56,5 @@ position_is part t place h = place_from_is 1 part t place (omega arith) (record 
   low = λ l. omega arith;
   found = λ j l q. ap (λ i. starts_with nat_eq (drop i t) part) (sym (ap (λ i. i - 1) q ∙ at_one j)) ∙ h.found l;
   first = λ j q. ap (λ i. starts_with nat_eq (drop i t) part) (sym (at_one j)) ∙ h.first (1 + j) (omega arith) q;
-  none = λ j z. ap (λ i. starts_with nat_eq (drop i t) part) (sym (at_one j)) ∙ h.none z (1 + j) (omega arith)
+  none = λ j z. ap (λ i. starts_with nat_eq (drop i t) part) (sym (at_one j)) ∙ h.none z (1 + j) (omega arith);
 })

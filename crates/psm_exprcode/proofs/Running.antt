@@ -1,7 +1,8 @@
 -- Code that is well formed never lacks an operand.
-use Rattle.std.proofs.Common.{◌≡◌, ◌⊎◌, inl, inr, ℕ, zero, suc, ◌+◌, ◌-◌, ◌<◌, ◌≤◌, Bool, true, false, ◌&&◌, ◌||◌, List, [], ◌∷◌, length, nat_eq, nat_lt, refl, ap, sym, subst, ◌∙◌, arith, Option, Some, None, ltb-true, eqb-true, eq-eqb}
+use Rattle.std.proofs.Common.{◌≡◌, ◌⊎◌, inl, inr, ℕ, zero, suc, ◌+◌, ◌-◌, ◌<◌, ◌≤◌, Bool, true, false, ◌&&◌, ◌||◌, List, [], ◌∷◌, length, drop, get_or, nat_eq, nat_lt, refl, ap, sym, subst, ◌∙◌, arith, Option, Some, None, ltb-true, eqb-true, eq-eqb}
 use Rattle.std.specs.Prelude.{slice_get, reverse, IsSome, is_some, if◌then◌else◌}
 use Rattle.std.proofs.lemmas.Bool.{ne_eqb}
+use Rattle.std.proofs.Math.Seq.{drop-cons}
 use Rattle.psm_num.proofs.Literals.{and_first, and_second}
 use Rattle.psm_value.specs.declared.datum.Datum.{Datum}
 use Rattle.psm_value.specs.declared.datum.Datum.TheVariants as data_of
@@ -86,10 +87,10 @@ lands_some after (Some t) h = (t, refl, h)
 goes : (o : Op) (s : List Letter) (after : List Line) → (is_jump o ≡ false) → goes_ahead o s after ≡ true → Goes o s after
 goes o s after j h =
     let r : (lands_where after (takes N o s) || lands_where after (takes T o s)) ≡ true =
-          sym (ap (λ b. b || (lands_where after (takes N o s) || lands_where after (takes T o s))) j) ∙ h in
+    sym (ap (λ b. b || (lands_where after (takes N o s) || lands_where after (takes T o s))) j) ∙ h in
     elim (or_cases (lands_where after (takes N o s)) (lands_where after (takes T o s)) r) as (λ _. Goes o s after) [
-      inl p ↦ let q = lands_some after (takes N o s) p in (N, refl, q.0, q.1, q.2)
-    | inr p ↦ let q = lands_some after (takes T o s) p in (T, refl, q.0, q.1, q.2)
+      | inl p ↦ let q = lands_some after (takes N o s) p in (N, refl, q.0, q.1, q.2)
+      | inr p ↦ let q = lands_some after (takes T o s) p in (T, refl, q.0, q.1, q.2)
     ]
 
 -- where the operation goes on, the operands are those of the place
@@ -142,7 +143,7 @@ plain : (at : ℕ) (o : Op) (s : List Letter) (after : List Line) (os : List Ope
 plain at o s after os row vars m j b g n d =
     let r = goes o s after j g in
     leads_to (Step r.2) (Lands at after) (applied o os row vars) (λ next us k. step_lands at after r.2 next us r.4 k)
-        (op_leads r.0 o s r.2 os row vars r.1 r.3 d b n m)
+    (op_leads r.0 o s r.2 os row vars r.1 r.3 d b n m)
 
 op_lands : (at : ℕ) (o : Op) (s : List Letter) (after : List Line) (os : List Operand) (row vars : List Datum) → is_bounded o ≡ true → goes_ahead o s after ≡ true
     → goes_away at o s after ≡ true → is_named o row vars ≡ true → have s os ≡ true → Leads (Lands at after) (applied o os row vars)
@@ -150,7 +151,7 @@ op_lands at (op.Jump p) s after os row vars b g w n d = jump_lands at p after s 
 op_lands at (op.JumpNot p) s after os row vars b g w n d =
     let r = goes (op.JumpNot p) s after refl g in
     on_truth_leads 0 s r.2 os (unless_true p) (Lands at after) (without_off is_truth 1 B s r.2 refl r.3) d (λ a u below e k.
-        jump_not at p after r.2 a below r.4 (jumps_some at p after (without 1 B s) r.2 r.3 w) (ap (λ v. have v below) (sym e) ∙ k))
+    jump_not at p after r.2 a below r.4 (jumps_some at p after (without 1 B s) r.2 r.3 w) (ap (λ v. have v below) (sym e) ∙ k))
 op_lands at (op.JumpSet p) s after os row vars b g w n d =
     let r = goes (op.JumpSet p) s after refl g in
     jump_set at p after s r.2 os (kind_off s r.2 r.3) r.4 w d
@@ -181,28 +182,28 @@ line_leads row vars at pc l after os h e =
     let line : is_line at l after ≡ true = and_first (is_line at l after) (are_lines (suc at) after) h.right in
     let ways = and_second (is_bounded l.op) (goes_ahead l.op (reverse l.stack) after && goes_away at l.op (reverse l.stack) after) line in
     leads_to (Lands at after) (λ next us. Runs row vars (suc at) (place_after at next) after us) (applied l.op os row vars)
-        (λ next us k. record {
-          right = and_second (is_line at l after) (are_lines (suc at) after) h.right;
-          named = and_second (is_named l.op row vars) (are_named after row vars) h.named;
-          low = k.0;
-          stand = k.1
-        })
-        (op_lands at l.op (reverse l.stack) after os row vars
-            (and_first (is_bounded l.op) (goes_ahead l.op (reverse l.stack) after && goes_away at l.op (reverse l.stack) after) line)
-            (and_first (goes_ahead l.op (reverse l.stack) after) (goes_away at l.op (reverse l.stack) after) ways)
-            (and_second (goes_ahead l.op (reverse l.stack) after) (goes_away at l.op (reverse l.stack) after) ways)
-            (and_first (is_named l.op row vars) (are_named after row vars) h.named)
-            (line_here row vars at pc l after os h e))
+    (λ next us k. record {
+      right = and_second (is_line at l after) (are_lines (suc at) after) h.right;
+      named = and_second (is_named l.op row vars) (are_named after row vars) h.named;
+      low = k.0;
+      stand = k.1;
+    })
+    (op_lands at l.op (reverse l.stack) after os row vars
+    (and_first (is_bounded l.op) (goes_ahead l.op (reverse l.stack) after && goes_away at l.op (reverse l.stack) after) line)
+    (and_first (goes_ahead l.op (reverse l.stack) after) (goes_away at l.op (reverse l.stack) after) ways)
+    (and_second (goes_ahead l.op (reverse l.stack) after) (goes_away at l.op (reverse l.stack) after) ways)
+    (and_first (is_named l.op row vars) (are_named after row vars) h.named)
+    (line_here row vars at pc l after os h e))
 
 pub line_fits : (row vars : List Datum) (at pc : ℕ) (l : Line) (after : List Line) (os : List Operand) → Runs row vars at pc (l ∷ after) os → at ≡ pc → Fits l.op os row vars
 line_fits row vars at pc l after os h e =
     let line : is_line at l after ≡ true = and_first (is_line at l after) (are_lines (suc at) after) h.right in
     let ways = and_second (is_bounded l.op) (goes_ahead l.op (reverse l.stack) after && goes_away at l.op (reverse l.stack) after) line in
     op_finds l.op (reverse l.stack) after os row vars
-        (and_first (is_bounded l.op) (goes_ahead l.op (reverse l.stack) after && goes_away at l.op (reverse l.stack) after) line)
-        (and_first (goes_ahead l.op (reverse l.stack) after) (goes_away at l.op (reverse l.stack) after) ways)
-        (and_first (is_named l.op row vars) (are_named after row vars) h.named)
-        (line_here row vars at pc l after os h e)
+    (and_first (is_bounded l.op) (goes_ahead l.op (reverse l.stack) after && goes_away at l.op (reverse l.stack) after) line)
+    (and_first (goes_ahead l.op (reverse l.stack) after) (goes_away at l.op (reverse l.stack) after) ways)
+    (and_first (is_named l.op row vars) (are_named after row vars) h.named)
+    (line_here row vars at pc l after os h e)
 
 pub line_goes : (row vars : List Datum) (at pc : ℕ) (l : Line) (after : List Line) (os us : List Operand) (next : Next) → Runs row vars at pc (l ∷ after) os → at ≡ pc
     → applied l.op os row vars ≡ Went next us → Runs row vars (suc at) (place_after at next) after us
@@ -227,7 +228,7 @@ line_passed row vars at pc l after os h e =
       right = and_second (is_line at l after) (are_lines (suc at) after) h.right;
       named = and_second (is_named l.op row vars) (are_named after row vars) h.named;
       low = more;
-      stand = sym (stands_next l after (pc - suc at) os) ∙ ap (λ n. stands (l ∷ after) n os) next ∙ h.stand
+      stand = sym (stands_next l after (pc - suc at) os) ∙ ap (λ n. stands (l ∷ after) n os) next ∙ h.stand;
     }
 
 last_some : (os : List Operand) → is_last os ≡ true → (o : Operand) × (os ≡ o ∷ [])
@@ -243,7 +244,7 @@ lines_begin row vars lines h n = record {
   right = and_second (lands lines 0 []) (are_lines 0 lines) h;
   named = n;
   low = omega arith;
-  stand = lands_stands lines 0 [] [] (and_first (lands lines 0 []) (are_lines 0 lines) h) refl
+  stand = lands_stands lines 0 [] [] (and_first (lands lines 0 []) (are_lines 0 lines) h) refl;
 }
 
 goes_some : (row vars : List Datum) (at : ℕ) (after : List Line) (a : Applied) → ((next : Next) (os : List Operand) → Runs row vars (suc at) (place_after at next) after os → IsSome (ran row vars (suc at) (place_after at next) after os))
@@ -269,3 +270,49 @@ runs_some row vars at pc (l ∷ after) os h =
 -- the value of code that is well formed lacks nothing
 pub evaluated_some : (row vars : List Datum) (lines : List Line) → is_well_formed lines ≡ true → are_named lines row vars ≡ true → IsSome (evaluated lines row vars)
 evaluated_some row vars lines h n = runs_some row vars 0 0 lines [] (lines_begin row vars lines h n)
+
+-- ---- the loop over the lines
+
+-- what is left to run from a line on comes to what the whole comes to
+pub record Going (row vars : List Datum) (lines : List Line) (at pc : ℕ) (os : List Operand) : Type 0 where
+  pub so_far : ran row vars at pc (drop at lines) os ≡ evaluated lines row vars
+  pub runs : Runs row vars at pc (drop at lines) os
+
+line_first : (lines : List Line) (at : ℕ) (l : Line) → at < length lines → l ≡ get_or lines at l → drop at lines ≡ l ∷ drop (suc at) lines
+line_first lines at l h e = drop-cons lines at l h ∙ ap (λ k. k ∷ drop (suc at) lines) (sym e)
+
+runs_first : (row vars : List Datum) (lines : List Line) (at pc : ℕ) (l : Line) (os : List Operand) → at < length lines → l ≡ get_or lines at l → Going row vars lines at pc os
+    → Runs row vars at pc (l ∷ drop (suc at) lines) os
+runs_first row vars lines at pc l os h e g =
+    let F : List Line → Type 0 = λ ls. Runs row vars at pc ls os in subst F (line_first lines at l h e) g.runs
+
+ran_first : (row vars : List Datum) (lines : List Line) (at pc : ℕ) (l : Line) (os : List Operand) (b : Bool) → at < length lines → l ≡ get_or lines at l → Going row vars lines at pc os → nat_eq at pc ≡ b
+    → (if b then goes_on (applied l.op os row vars) (λ next. ran row vars (suc at) (place_after at next) (drop (suc at) lines)) else ran row vars (suc at) pc (drop (suc at) lines) os) ≡ evaluated lines row vars
+ran_first row vars lines at pc l os b h e g q =
+    sym (ap (λ c. if c then goes_on (applied l.op os row vars) (λ next. ran row vars (suc at) (place_after at next) (drop (suc at) lines)) else ran row vars (suc at) pc (drop (suc at) lines) os) q)
+    ∙ sym (ap (λ ls. ran row vars at pc ls os) (line_first lines at l h e)) ∙ g.so_far
+
+pub fits_at : (row vars : List Datum) (lines : List Line) (at pc : ℕ) (l : Line) (os : List Operand) → at < length lines → l ≡ get_or lines at l → Going row vars lines at pc os → at ≡ pc
+    → Fits l.op os row vars
+fits_at row vars lines at pc l os h e g q = line_fits row vars at pc l (drop (suc at) lines) os (runs_first row vars lines at pc l os h e g) q
+
+next_place : (row vars : List Datum) (lines : List Line) (at pc : ℕ) (os : List Operand) → Going row vars lines (suc at) pc os → Going row vars lines (at + 1) pc os
+next_place row vars lines at pc os g =
+    let n : suc at ≡ at + 1 = omega arith in
+    let F : ℕ → Type 0 = λ i. Going row vars lines i pc os in subst F n g
+
+pub going_on : (row vars : List Datum) (lines : List Line) (at pc there : ℕ) (l : Line) (os us : List Operand) (next : Next) → at < length lines → l ≡ get_or lines at l → Going row vars lines at pc os
+    → at ≡ pc → applied l.op os row vars ≡ Went next us → there ≡ place_after at next → Going row vars lines (at + 1) there us
+going_on row vars lines at pc there l os us next h e g q w p =
+    let F : ℕ → Type 0 = λ i. Going row vars lines (at + 1) i us in
+    subst F (sym p) (next_place row vars lines at (place_after at next) us (record {
+      so_far = sym (ap (λ a. goes_on a (λ next. ran row vars (suc at) (place_after at next) (drop (suc at) lines))) w) ∙ ran_first row vars lines at pc l os true h e g (eq-eqb at pc q);
+      runs = line_goes row vars at pc l (drop (suc at) lines) os us next (runs_first row vars lines at pc l os h e g) q w;
+    }))
+
+pub going_past : (row vars : List Datum) (lines : List Line) (at pc : ℕ) (l : Line) (os : List Operand) → at < length lines → l ≡ get_or lines at l → Going row vars lines at pc os
+    → (at ≡ pc → ⊥) → Going row vars lines (at + 1) pc os
+going_past row vars lines at pc l os h e g q = next_place row vars lines at pc os (record {
+  so_far = ran_first row vars lines at pc l os false h e g (ne_eqb at pc q);
+  runs = line_passed row vars at pc l (drop (suc at) lines) os (runs_first row vars lines at pc l os h e g) q;
+})

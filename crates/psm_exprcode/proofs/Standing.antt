@@ -157,20 +157,20 @@ pub on_two_leads : (s t : List Letter) (os : List Operand) (f : Datum → Datum 
     → ((a b : Datum) (below : List Operand) → have t below ≡ true → Leads P (f a b below)) → Leads P (on_two f os)
 on_two_leads s t os f P p h go =
     on_value_leads 1 s t os (λ b. on_value (λ a. f a b)) P p h (λ b u below q g.
-        on_value_leads 0 u t below (λ a. f a b) P q g (λ a v under e d. go a b under (ap (λ w. have w under) (sym e) ∙ d)))
+    on_value_leads 0 u t below (λ a. f a b) P q g (λ a v under e d. go a b under (ap (λ w. have w under) (sym e) ∙ d)))
 
 pub on_three_leads : (s t : List Letter) (os : List Operand) (f : Datum → Datum → Datum → List Operand → Applied) (P : Next → List Operand → Type 0) → Off is_val 3 s t → have s os ≡ true
     → ((a b c : Datum) (below : List Operand) → have t below ≡ true → Leads P (f a b c below)) → Leads P (on_three f os)
 on_three_leads s t os f P p h go =
     on_value_leads 2 s t os (λ c. on_two (λ a b. f a b c)) P p h (λ c u below q g.
-        on_two_leads u t below (λ a b. f a b c) P q g (λ a b under d. go a b c under d))
+    on_two_leads u t below (λ a b. f a b c) P q g (λ a b under d. go a b c under d))
 
 pub on_many_leads : (n : ℕ) (s t : List Letter) (os : List Operand) (f : List Datum → List Operand → Applied) (P : Next → List Operand → Type 0) → Off is_val (suc n) s t → have s os ≡ true
     → ((bs : List Datum) (u : List Letter) (below : List Operand) → Off is_val 1 u t → have u below ≡ true → Leads P (f bs below)) → Leads P (on_many n f os)
 on_many_leads zero s t os f P p h go = go [] s os p h
 on_many_leads (suc n) s t os f P p h go =
     on_value_leads (suc n) s t os (λ b. on_many n (λ bs. f (b ∷ bs))) P p h (λ b u below q g.
-        on_many_leads n u t below (λ bs. f (b ∷ bs)) P q g (λ bs v under r d. go (b ∷ bs) v under r d))
+    on_many_leads n u t below (λ bs. f (b ∷ bs)) P q g (λ bs v under r d. go (b ∷ bs) v under r d))
 
 -- ---- what is put
 

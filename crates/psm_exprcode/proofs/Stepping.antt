@@ -54,21 +54,21 @@ two_truths : (s s' : List Letter) (os : List Operand) (f : Answer → Answer →
     → Leads (Step s') (on_truth (λ b. on_truth (λ a below. with_truth below (Ok (f a b)))) os)
 two_truths s s' os f h d = turn (B ∷ h.rest) s' (on_truth (λ b. on_truth (λ a below. with_truth below (Ok (f a b)))) os) h.is
     (on_truth_leads 1 s h.rest os (λ b. on_truth (λ a below. with_truth below (Ok (f a b)))) (Step (B ∷ h.rest)) h.off d (λ b u below q g.
-        on_truth_leads 0 u h.rest below (λ a under. with_truth under (Ok (f a b))) (Step (B ∷ h.rest)) q g (λ a v under e k.
-            truth_leads h.rest under (Ok (f a b)) (ap (λ w. have w under) (sym e) ∙ k))))
+    on_truth_leads 0 u h.rest below (λ a under. with_truth under (Ok (f a b))) (Step (B ∷ h.rest)) q g (λ a v under e k.
+    truth_leads h.rest under (Ok (f a b)) (ap (λ w. have w under) (sym e) ∙ k))))
 
 one_truth : (s s' : List Letter) (os : List Operand) (f : Answer → Answer) → Puts is_truth 1 B s s' → have s os ≡ true
     → Leads (Step s') (on_truth (λ a below. with_truth below (Ok (f a))) os)
 one_truth s s' os f h d = turn (B ∷ h.rest) s' (on_truth (λ a below. with_truth below (Ok (f a))) os) h.is
     (on_truth_leads 0 s h.rest os (λ a below. with_truth below (Ok (f a))) (Step (B ∷ h.rest)) h.off d (λ a v under e k.
-        truth_leads h.rest under (Ok (f a)) (ap (λ w. have w under) (sym e) ∙ k)))
+    truth_leads h.rest under (Ok (f a)) (ap (λ w. have w under) (sym e) ∙ k)))
 
 many_values : (n : ℕ) (s s' : List Letter) (os : List Operand) → Puts is_val (suc n) B s s' → have s os ≡ true
     → Leads (Step s') (on_many n (λ bs. on_value (λ a below. with_truth below (Ok (among a bs)))) os)
 many_values n s s' os h d = turn (B ∷ h.rest) s' (on_many n (λ bs. on_value (λ a below. with_truth below (Ok (among a bs)))) os) h.is
     (on_many_leads n s h.rest os (λ bs. on_value (λ a below. with_truth below (Ok (among a bs)))) (Step (B ∷ h.rest)) h.off d (λ bs u below q g.
-        on_value_leads 0 u h.rest below (λ a under. with_truth under (Ok (among a bs))) (Step (B ∷ h.rest)) q g (λ a v under e k.
-            truth_leads h.rest under (Ok (among a bs)) (ap (λ w. have w under) (sym e) ∙ k))))
+    on_value_leads 0 u h.rest below (λ a under. with_truth under (Ok (among a bs))) (Step (B ∷ h.rest)) q g (λ a v under e k.
+    truth_leads h.rest under (Ok (among a bs)) (ap (λ w. have w under) (sym e) ∙ k))))
 
 one_more_off : (n : ℕ) (s u t : List Letter) → Off is_val n s u → Off is_val 1 u t → Off is_val (suc n) s t
 one_more_off zero s u t p q = let F : List Letter → Type 0 = λ w. Off is_val 1 w t in subst F (sym p) q
@@ -120,8 +120,8 @@ nip_leads x s s' (o ∷ os) h d =
     let r = nip_below x s s' h in
     let both = have_head x s o os d in
     turn (x ∷ r.0) s' (nipped (o ∷ os)) r.2
-        (on_value_leads 0 s r.0 os (λ a below. Went Ahead (o ∷ below)) (Step (x ∷ r.0)) r.1 both.1 (λ a u below e g.
-            (refl, ap (λ b. if b then have r.0 below else false) both.0 ∙ (ap (λ w. have w below) (sym e) ∙ g))))
+    (on_value_leads 0 s r.0 os (λ a below. Went Ahead (o ∷ below)) (Step (x ∷ r.0)) r.1 both.1 (λ a u below e g.
+    (refl, ap (λ b. if b then have r.0 below else false) both.0 ∙ (ap (λ w. have w below) (sym e) ∙ g))))
 
 nip_fits : (x : Letter) (s s' : List Letter) (os : List Operand) → puts x (by_kind (λ k. without 1 k s) s) ≡ Some s' → have (x ∷ s) os ≡ true → is_over_value os ≡ true
 nip_fits x s s' [] h d = absurd (cc)

@@ -15,4 +15,4 @@ without_step zero k l s below p e h = absurd (omega arith)
 without_step (suc n) k l s below p e h =
     let less : n ≡ suc n - 1 = omega arith in
     ap (without (suc n) k) e ∙ ap (λ j. without (suc n) k (j ∷ below)) h
-        ∙ ap (λ b. if b then without n k below else None) (is_letter-same k) ∙ ap (λ m. without m k below) less
+    ∙ ap (λ b. if b then without n k below else None) (is_letter-same k) ∙ ap (λ m. without m k below) less

@@ -42,9 +42,9 @@ begins_turned (c ∷ q) h = λ e. h (ends (reverse (c ∷ q)) (reverse-append (c
 end_is : (t r : List ℕ) → TrimmedEnd t r → r ≡ reverse (without_front (reverse t))
 end_is t r h =
     let turned : reverse t ≡ replicate h.blanks blank ++ reverse r =
-          ap reverse h.parts ∙ reverse-append r (replicate h.blanks blank) ∙ ap (λ u. u ++ reverse r) (reverse-replicate h.blanks) in
+    ap reverse h.parts ∙ reverse-append r (replicate h.blanks blank) ∙ ap (λ u. u ++ reverse r) (reverse-replicate h.blanks) in
     let ends : slice_get (reverse (reverse r)) (length (reverse (reverse r)) - 1) ≢ Some blank =
-          λ e. h.ends (ap (λ u. slice_get u (length u - 1)) (sym (reverse-reverse r)) ∙ e) in
+    λ e. h.ends (ap (λ u. slice_get u (length u - 1)) (sym (reverse-reverse r)) ∙ e) in
     sym (ap (λ u. reverse (without_front u)) turned ∙ ap reverse (front_of h.blanks (reverse r) (begins_turned (reverse r) ends)) ∙ reverse-reverse r)
 
 pub trim_is : (side : Side) (t r : List ℕ) → Trimmed side t r → r ≡ trim_of side t

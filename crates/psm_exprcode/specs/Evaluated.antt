@@ -1,6 +1,8 @@
 -- The value of an expression.
-use Rattle.std.specs.Prelude.{ℕ, zero, suc, ◌-◌, Bool, true, false, ◌&&◌, List, [], ◌∷◌, length, nat_eq, nat_lt, Option, Some, None, Result, Ok, Err, if◌then◌else◌}
+use Rattle.std.specs.Prelude.{◌≡◌, ℕ, suc, Bool, true, false, ◌&&◌, List, [], ◌∷◌, length, nat_eq, nat_lt, Option, Some, None, Result, Ok, Err, if◌then◌else◌}
 use Rattle.psm_value.specs.declared.datum.Datum.{Datum}
+use Rattle.psm_value.specs.declared.fault.ValueFault.{ValueFault}
+use Rattle.psm_value.specs.declared.fault.ValueFault.TheVariants.{Condition, Memory}
 use Rattle.psm_exprcode.specs.declared.op.Line.{Line}
 use Rattle.psm_exprcode.specs.declared.op.Op.{Op}
 use Rattle.psm_exprcode.specs.declared.op.Op.TheVariants as op
@@ -50,3 +52,9 @@ is_named o row vars = true
 abbrev pub are_named : List Line → List Datum → List Datum → Bool
 are_named [] row vars = true
 are_named (l ∷ after) row vars = is_named l.op row vars && are_named after row vars
+
+-- the answer is the one that is due, but for want of memory
+abbrev pub Evaluates : Outcome → Result Operand ValueFault → Type 0
+Evaluates due (Ok operand) = due ≡ Some (Ok operand)
+Evaluates due (Err (Condition state)) = due ≡ Some (Err state)
+Evaluates due (Err Memory) = Unit {0}

@@ -9,7 +9,10 @@ use crate::moving::{cast_one, drop_last, duplicate, jump_not, jump_set, nip, put
 use crate::numbers::{add_two, div_two, mul_two, negate, rescale, sub_two};
 use crate::op::Op;
 use crate::operand::{Next, Operand};
-use crate::texts::{concatenate_two, count_one, find_two, like_three, like_two, lower_one, part_three, part_two, trim_one, upper_one};
+use crate::texts::{
+    concatenate_two, count_one, find_two, like_three, like_two, lower_one, part_three, part_two,
+    trim_one, upper_one,
+};
 use psm_value::{Datum, ValueFault};
 use std::alloc::Global;
 

@@ -7,6 +7,7 @@ mod checking;
 mod code;
 mod comparing;
 mod deciding;
+mod evaluating;
 mod letters;
 mod moving;
 mod numbers;
@@ -17,5 +18,6 @@ mod texts;
 
 pub use applying::apply;
 pub use code::ExprCode;
+pub use evaluating::eval;
 pub use op::{Letter, Line, Op, RawExpr};
 pub use operand::{Next, Operand};

@@ -14,7 +14,11 @@ use crate::stack::{pop, pop_truth, pop_value, put, put_value};
 use psm_value::{Datum, SqlType, ValueFault, cast};
 use std::alloc::{AllocError, Global};
 
-pub(crate) fn put_copy(alloc: Global, operands: &mut Vec<Operand>, value: &Datum) -> Result<Next, ValueFault>
+pub(crate) fn put_copy(
+    alloc: Global,
+    operands: &mut Vec<Operand>,
+    value: &Datum,
+) -> Result<Next, ValueFault>
     ensures { Applies 0 (reverse operands.old.items) (Went Ahead (Operand.Value value.now ∷ reverse operands.old.items)) result (reverse operands.new.items) }
 {
     put_value(operands, value.copy(alloc)?)?;
@@ -22,7 +26,12 @@ pub(crate) fn put_copy(alloc: Global, operands: &mut Vec<Operand>, value: &Datum
 }
 
 // The value at a place of a row, or of the variables.
-pub(crate) fn put_named(alloc: Global, operands: &mut Vec<Operand>, values: &[Datum], place: u32) -> Result<Next, ValueFault>
+pub(crate) fn put_named(
+    alloc: Global,
+    operands: &mut Vec<Operand>,
+    values: &[Datum],
+    place: u32,
+) -> Result<Next, ValueFault>
     requires { place < length values.now }
     ensures { Applies 0 (reverse operands.old.items) (with_named (reverse operands.old.items) (slice_get values.now place)) result (reverse operands.new.items) }
 {
@@ -105,7 +114,11 @@ fn is_last_null(operands: &[Operand]) -> bool
     matches!(operands, [.., Operand::Value(Datum::Null)])
 }
 
-pub(crate) fn cast_one(alloc: Global, operands: &mut Vec<Operand>, to: SqlType) -> Result<Next, ValueFault>
+pub(crate) fn cast_one(
+    alloc: Global,
+    operands: &mut Vec<Operand>,
+    to: SqlType,
+) -> Result<Next, ValueFault>
     requires bounds { IsType to }
     requires operand { IsTrue (are_values 1 (reverse operands.old.items)) }
     ensures { Applies 1 (reverse operands.old.items) (on_value (λ a below. with_value below (cast_of to a)) (reverse operands.old.items)) result (reverse operands.new.items) }

@@ -17,7 +17,10 @@ use psm_text::{Side, Text};
 use psm_value::{Datum, Truth, ValueFault};
 use std::alloc::{AllocError, Global};
 
-pub(crate) fn concatenate_two(alloc: Global, operands: &mut Vec<Operand>) -> Result<Next, ValueFault>
+pub(crate) fn concatenate_two(
+    alloc: Global,
+    operands: &mut Vec<Operand>,
+) -> Result<Next, ValueFault>
     requires { IsTrue (are_values 2 (reverse operands.old.items)) }
     ensures { Applies 2 (reverse operands.old.items) (value_of_two concatenated (reverse operands.old.items)) result (reverse operands.new.items) }
 {
@@ -124,7 +127,12 @@ pub(crate) fn part_three(alloc: Global, operands: &mut Vec<Operand>) -> Result<N
     Ok(Next::Ahead)
 }
 
-fn part_between(alloc: Global, text: &Datum, from: &Datum, count: &Datum) -> Result<Datum, ValueFault>
+fn part_between(
+    alloc: Global,
+    text: &Datum,
+    from: &Datum,
+    count: &Datum,
+) -> Result<Datum, ValueFault>
     ensures { Gives (part_of text.now from.now count.now) result }
 {
     match (text, from, count) {
@@ -135,7 +143,11 @@ fn part_between(alloc: Global, text: &Datum, from: &Datum, count: &Datum) -> Res
     }
 }
 
-pub(crate) fn trim_one(alloc: Global, operands: &mut Vec<Operand>, side: Side) -> Result<Next, ValueFault>
+pub(crate) fn trim_one(
+    alloc: Global,
+    operands: &mut Vec<Operand>,
+    side: Side,
+) -> Result<Next, ValueFault>
     requires { IsTrue (are_values 1 (reverse operands.old.items)) }
     ensures { Applies 1 (reverse operands.old.items) (value_of_one (on_text (trim_of side)) (reverse operands.old.items)) result (reverse operands.new.items) }
 {

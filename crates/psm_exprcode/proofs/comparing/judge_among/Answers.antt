@@ -17,4 +17,4 @@ returns c =
     let g : Value c.in-Value.value ≡ get_or c.args.operands.now c.args.place (Value c.in-Value.value) = rw c.in-Value.is at c.index-operands-place.is in
     let judged = c.judge_each.ensures ∙ ap (λ u. among c.in-Value.value (data_in (reverse u))) c.after.ensures in
     among_at c.args.count c.args.place c.args.operands.now c.in-Value.value c.requires.place g c.requires.values
-        ∙ ap (λ t. with_truth (reverse (take c.args.place c.args.operands.now)) (Ok t)) (sym judged)
+    ∙ ap (λ t. with_truth (reverse (take c.args.place c.args.operands.now)) (Ok t)) (sym judged)
