@@ -24,3 +24,6 @@ pub use sqltype::SqlType;
 pub use steps::Steps;
 pub use storing::{fetch_into, store_into};
 pub use truth::Truth;
+
+#[cfg(test)]
+mod tests;
