@@ -6,3 +6,4 @@ pub mod Standing
 pub mod Stepping
 pub mod Stripping
 pub mod Trimming
+pub mod Types

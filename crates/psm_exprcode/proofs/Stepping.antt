@@ -28,6 +28,7 @@ use Rattle.psm_exprcode.specs.Comparison.{truth_of, tested, between, among, unle
 use Rattle.psm_exprcode.specs.Evaluated.{is_named}
 use Rattle.psm_exprcode.specs.Fits.{Fits, are_values, are_truths, is_over_value}
 use Rattle.psm_exprcode.specs.WellFormed.{without, puts, by_kind, letter_of, takes, is_type, is_bounded, is_jump}
+use Rattle.psm_exprcode.proofs.Types.{type_within}
 use Rattle.psm_exprcode.proofs.Standing.{is_val, is_truth, have, have_head, same_some, Leads, Step, Off, Puts, puts_some, without_off, fixed, kinds, kind_some, and_then_some, off_values, off_truths, on_value_leads, on_truth_leads, on_two_leads, on_three_leads, on_many_leads, value_leads, truth_leads, named_leads, letter_of-val}
 
 -- ---- forms of operations
@@ -182,15 +183,6 @@ puts_values n p s s' os h d = off_values n s h.rest os h.off d
 
 puts_truths : (n : ℕ) (p : Letter) (s s' : List Letter) (os : List Operand) → Puts is_truth n p s s' → have s os ≡ true → are_truths n os ≡ true
 puts_truths n p s s' os h d = off_truths n s h.rest os h.off d
-
-type_within : (to : SqlType) → is_type to ≡ true → IsType to
-type_within SmallInt h = tt
-type_within Integer h = tt
-type_within (Numeric p s) h =
-    let r = and_second (nat_le 1 p) (nat_le p 18 && nat_le s p) h in
-    (leb-true 1 p (and_first (nat_le 1 p) (nat_le p 18 && nat_le s p) h), leb-true p 18 (and_first (nat_le p 18) (nat_le s p) r), leb-true s p (and_second (nat_le p 18) (nat_le s p) r))
-type_within (Char n) h = (leb-true 1 n (and_first (nat_le 1 n) (nat_le n 4000) h), leb-true n 4000 (and_second (nat_le 1 n) (nat_le n 4000) h))
-type_within (VarChar n) h = (leb-true 1 n (and_first (nat_le 1 n) (nat_le n 4000) h), leb-true n 4000 (and_second (nat_le 1 n) (nat_le n 4000) h))
 
 dup_fits : (s s' : List Letter) (os : List Operand) → by_kind (λ k. Some (k ∷ s)) s ≡ Some s' → have s os ≡ true → are_values 1 os ≡ true
 dup_fits [] s' os h d = absurd (cc)

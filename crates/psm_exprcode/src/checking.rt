@@ -65,14 +65,11 @@ fn is_of_letter(letter: Letter, value: &Datum) -> bool
     }
 }
 
+#[tactic(auto, using(crate::proofs::Types::within_is))]
 fn is_type(to: SqlType) -> bool
     ensures { result ≡ is_type_within to }
 {
-    match to {
-        SqlType::SmallInt | SqlType::Integer => true,
-        SqlType::Numeric { p, s } => 1 <= p && p <= 18 && s <= p,
-        SqlType::Char { n } | SqlType::VarChar { n } => 1 <= n && n <= 4000,
-    }
+    to.is_within_bounds()
 }
 
 // Whether the letters fit where the operation goes ahead.

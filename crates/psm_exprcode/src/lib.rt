@@ -21,3 +21,6 @@ pub use code::ExprCode;
 pub use evaluating::eval;
 pub use op::{Letter, Line, Op, RawExpr};
 pub use operand::{Next, Operand};
+
+#[cfg(test)]
+mod tests;
