@@ -143,14 +143,24 @@ fn lines(alloc: Global, text: &str) -> Result<List<Line>, Fail> {
 fn shown(alloc: Global, answer: Result<Operand, ValueFault>) -> Result<Vec<u8>, Fail> {
     let mut out = Vec::new(alloc);
     match answer {
-        Ok(Operand::Value(value)) => value.print(&mut out)?,
-        Ok(Operand::Truth(Truth::True)) => out.extend_from_slice(b"TRUE")?,
-        Ok(Operand::Truth(Truth::False)) => out.extend_from_slice(b"FALSE")?,
-        Ok(Operand::Truth(Truth::Unknown)) => out.extend_from_slice(b"UNKNOWN")?,
-        Err(ValueFault::Condition(state)) => out.extend_from_slice(state.text().as_bytes())?,
-        Err(ValueFault::Memory) => return Err(AllocError.into()),
+        Ok(operand) => print(&operand, &mut out)?,
+        Err(fault) => match fault {
+            ValueFault::Condition(state) => out.extend_from_slice(state.text().as_bytes())?,
+            ValueFault::Memory => return Err(AllocError.into()),
+        },
     }
     Ok(out)
+}
+
+fn print(operand: &Operand, out: &mut Vec<u8>) -> Result<(), AllocError> {
+    match operand {
+        Operand::Value(value) => value.print(out),
+        Operand::Truth(truth) => out.extend_from_slice(match truth {
+            Truth::True => b"TRUE".as_slice(),
+            Truth::False => b"FALSE".as_slice(),
+            Truth::Unknown => b"UNKNOWN".as_slice(),
+        }),
+    }
 }
 
 // What the expression comes to over a column that is 7 and a variable that is null.
