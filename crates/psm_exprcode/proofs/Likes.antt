@@ -1,10 +1,10 @@
 -- The test of a pattern, and the answer to LIKE.
 use Rattle.std.proofs.Common.{◌≡◌, ℕ, zero, suc, List, [], ◌∷◌, drop, Bool, true, false, ◌||◌, nat_eq, Option, Result, Ok, Err, refl, ap, sym, subst, ◌∙◌, eq-eqb, eqb-true}
-use Rattle.std.specs.Prelude.{codes, if◌then◌else◌}
+use Rattle.std.specs.Prelude.{if◌then◌else◌}
 use Rattle.std.proofs.Math.Seq.{drop-nil}
 use Rattle.psm_text.specs.declared.fault.TextFault.{TextFault}
 use Rattle.psm_text.specs.declared.fault.TextFault.TheVariants.{TooLong, Substring, EscapeChar, EscapePair, Lost, Memory}
-use Rattle.psm_text.specs.Like.{Liked, Matches, Item, Literal, One, Any, items_of, well_formed}
+use Rattle.psm_text.specs.Like.{Liked, Matches, Item, Literal, One, Any, items_of}
 use Rattle.psm_value.specs.declared.fault.ValueFault.{ValueFault}
 use Rattle.psm_value.specs.declared.truth.Truth.{Truth}
 use Rattle.psm_value.specs.TextFaults.{fault_of}

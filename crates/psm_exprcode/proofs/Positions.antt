@@ -1,9 +1,9 @@
 -- The place of a part is the one that the search from place to place finds.
-use Rattle.std.proofs.Common.{◌≡◌, ◌≢◌, ℕ, zero, suc, ◌+◌, ◌-◌, ◌<◌, ◌≤◌, Bool, true, false, List, [], ◌∷◌, drop, nat_eq, refl, ap, sym, ◌∙◌, arith, add-suc, add-zero}
+use Rattle.std.proofs.Common.{◌≡◌, ℕ, zero, suc, ◌+◌, ◌-◌, ◌<◌, ◌≤◌, Bool, true, false, List, [], ◌∷◌, drop, nat_eq, refl, ap, sym, ◌∙◌, arith}
 use Rattle.std.specs.Prelude.{if◌then◌else◌}
 use Rattle.std.specs.List.{starts_with}
 use Rattle.std.proofs.Math.Seq.{drop-nil}
-use Rattle.psm_text.specs.Parts.{IsPosition, stands_at}
+use Rattle.psm_text.specs.Parts.{IsPosition}
 use Rattle.psm_exprcode.specs.Texts.{place_of, place_from}
 
 -- the place, if it isn't 0, is the first from k on at which the part stands, where the text begins at k

@@ -1,5 +1,5 @@
 -- Code that is well formed never lacks an operand.
-use Rattle.std.proofs.Common.{◌≡◌, ◌⊎◌, inl, inr, ℕ, zero, suc, ◌+◌, ◌-◌, ◌<◌, ◌≤◌, Bool, true, false, ◌&&◌, ◌||◌, List, [], ◌∷◌, length, drop, get_or, nat_eq, nat_lt, refl, ap, sym, subst, ◌∙◌, arith, Option, Some, None, ltb-true, eqb-true, eq-eqb}
+use Rattle.std.proofs.Common.{◌≡◌, ◌⊎◌, inl, inr, ℕ, suc, ◌+◌, ◌-◌, ◌<◌, ◌≤◌, Bool, true, false, ◌&&◌, ◌||◌, List, [], ◌∷◌, length, drop, get_or, nat_eq, nat_lt, refl, ap, sym, subst, ◌∙◌, arith, Option, Some, None, ltb-true, eqb-true, eq-eqb}
 use Rattle.std.specs.Prelude.{slice_get, reverse, IsSome, is_some, if◌then◌else◌}
 use Rattle.std.proofs.lemmas.Bool.{ne_eqb}
 use Rattle.std.proofs.Math.Seq.{drop-cons}
@@ -17,11 +17,11 @@ use Rattle.psm_exprcode.specs.declared.operand.Operand.{Operand}
 use Rattle.psm_exprcode.specs.declared.operand.Operand.TheVariants.{Value, Truth}
 use Rattle.psm_exprcode.specs.declared.operand.Next.{Next}
 use Rattle.psm_exprcode.specs.declared.operand.Next.TheVariants.{Ahead, Jump}
-use Rattle.psm_exprcode.specs.Applied.{Applied, Went, Raised, Lacking, on_value, on_truth, set_at, unless_true, applied}
+use Rattle.psm_exprcode.specs.Applied.{Applied, Went, Raised, Lacking, on_value, set_at, unless_true, applied}
 use Rattle.psm_exprcode.specs.Evaluated.{is_named, are_named, place_after, goes_on, ended, ran, evaluated}
 use Rattle.psm_exprcode.specs.Fits.{Fits}
 use Rattle.psm_exprcode.specs.WellFormed.{is_letter, same_stack, is_one, without, takes, is_bounded, is_jump, landing, lands, lands_where, jumps, jumps_where, goes_ahead, goes_away, is_line, are_lines, is_well_formed}
-use Rattle.psm_exprcode.proofs.Standing.{is_val, is_truth, have, have_head, Leads, Step, Off, is_letter-same, without_off, on_value_leads, on_truth_leads}
+use Rattle.psm_exprcode.proofs.Standing.{is_val, is_truth, have, have_head, Leads, Step, Off, is_letter-same, without_off, on_truth_leads}
 use Rattle.psm_exprcode.proofs.Stepping.{may_jump, kind_off, op_leads, op_fits}
 
 -- ---- places

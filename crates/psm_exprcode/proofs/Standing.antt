@@ -1,8 +1,7 @@
 -- Operands that stand as letters say, and what an operation makes of them.
-use Rattle.std.proofs.Common.{◌≡◌, ℕ, zero, suc, ◌-◌, ◌<◌, ◌≤◌, Bool, true, false, ◌&&◌, List, [], ◌∷◌, length, nat_lt, refl, ap, sym, subst, ◌∙◌, arith, Option, Some, None, Result, Ok, Err, ltb-true, lt-ltb}
-use Rattle.std.specs.Prelude.{slice_get, option_map, option_and_then, IsTrue, if◌then◌else◌}
+use Rattle.std.proofs.Common.{◌≡◌, ℕ, zero, suc, ◌<◌, Bool, true, false, List, [], ◌∷◌, length, nat_lt, refl, ap, sym, ◌∙◌, arith, Option, Some, None, Result, Ok, Err, ltb-true, lt-ltb}
+use Rattle.std.specs.Prelude.{slice_get, option_and_then, if◌then◌else◌}
 use Rattle.psm_value.specs.declared.datum.Datum.{Datum}
-use Rattle.psm_value.specs.declared.datum.Datum.TheVariants as data_of
 use Rattle.psm_value.specs.declared.sqltype.SqlType.{SqlType}
 use Rattle.psm_value.specs.declared.sqltype.SqlType.TheVariants.{SmallInt, Integer, Numeric, Char, VarChar}
 use Rattle.psm_value.specs.declared.truth.Truth.{Truth as Answer}
@@ -11,10 +10,10 @@ use Rattle.psm_exprcode.specs.declared.op.Letter.TheVariants.{N, T, B}
 use Rattle.psm_exprcode.specs.declared.operand.Operand.{Operand}
 use Rattle.psm_exprcode.specs.declared.operand.Operand.TheVariants.{Value, Truth}
 use Rattle.psm_exprcode.specs.declared.operand.Next.{Next}
-use Rattle.psm_exprcode.specs.declared.operand.Next.TheVariants.{Ahead, Jump}
+use Rattle.psm_exprcode.specs.declared.operand.Next.TheVariants.{Ahead}
 use Rattle.psm_exprcode.specs.Applied.{Applied, Went, Raised, Lacking, with_value, with_truth, with_named, on_value, on_two, on_three, on_truth, on_many}
 use Rattle.psm_exprcode.specs.Fits.{are_values, are_truths}
-use Rattle.psm_exprcode.specs.WellFormed.{is_letter, without, puts, kind_of, by_kind, letter_of}
+use Rattle.psm_exprcode.specs.WellFormed.{is_letter, without, puts, by_kind, letter_of}
 
 -- a letter of values
 abbrev pub is_val : Letter → Bool

@@ -1,16 +1,11 @@
 -- Where the letters say that an operation may go on, it finds its operands and leaves what they say.
-use Rattle.std.proofs.Common.{◌≡◌, ℕ, zero, suc, ◌+◌, ◌<◌, ◌≤◌, Bool, true, false, ◌&&◌, List, [], ◌∷◌, length, nat_lt, nat_le, refl, ap, sym, subst, ◌∙◌, arith, Option, Some, None, ltb-true, leb-true}
-use Rattle.std.specs.Prelude.{option_map, option_and_then, slice_get, if◌then◌else◌, Ok}
-use Rattle.psm_num.proofs.Literals.{and_first, and_second}
+use Rattle.std.proofs.Common.{◌≡◌, ℕ, zero, suc, Bool, true, false, List, [], ◌∷◌, length, refl, ap, sym, subst, ◌∙◌, Some, ltb-true, leb-true}
+use Rattle.std.specs.Prelude.{option_and_then, slice_get, if◌then◌else◌, Ok}
 use Rattle.psm_value.specs.declared.datum.Datum.{Datum}
-use Rattle.psm_value.specs.declared.datum.Datum.TheVariants as data_of
-use Rattle.psm_value.specs.declared.sqltype.SqlType.{SqlType}
-use Rattle.psm_value.specs.declared.sqltype.SqlType.TheVariants.{SmallInt, Integer, Numeric, Char, VarChar}
 use Rattle.psm_value.specs.declared.truth.Truth.{Truth as Answer}
-use Rattle.psm_value.specs.SqlType.{IsType}
 use Rattle.psm_value.specs.Arithmetic.{sum_of, difference_of, product_of, quotient_of, negated_of}
 use Rattle.psm_value.specs.Cast.{cast_of}
-use Rattle.psm_value.specs.Truth.{both, either, opposite, is_certain}
+use Rattle.psm_value.specs.Truth.{both, either, opposite}
 use Rattle.psm_text.specs.Parts.{upper_of, lower_of}
 use Rattle.psm_exprcode.specs.declared.comparing.Test.TheVariants as test
 use Rattle.psm_exprcode.specs.Texts.{trim_of}
@@ -21,13 +16,12 @@ use Rattle.psm_exprcode.specs.declared.op.Op.{Op}
 use Rattle.psm_exprcode.specs.declared.op.Op.TheVariants as op
 use Rattle.psm_exprcode.specs.declared.operand.Operand.{Operand}
 use Rattle.psm_exprcode.specs.declared.operand.Operand.TheVariants.{Value, Truth}
-use Rattle.psm_exprcode.specs.declared.operand.Next.{Next}
-use Rattle.psm_exprcode.specs.declared.operand.Next.TheVariants.{Ahead, Jump}
-use Rattle.psm_exprcode.specs.Applied.{Applied, Went, Raised, Lacking, with_value, with_truth, on_value, on_two, on_three, on_truth, on_many, nipped, with_named, set_at, unless_true, applied}
+use Rattle.psm_exprcode.specs.declared.operand.Next.TheVariants.{Ahead}
+use Rattle.psm_exprcode.specs.Applied.{Applied, Went, with_value, with_truth, on_value, on_two, on_three, on_truth, on_many, nipped, with_named, applied}
 use Rattle.psm_exprcode.specs.Comparison.{truth_of, tested, between, among, unless_equal, is_null}
 use Rattle.psm_exprcode.specs.Evaluated.{is_named}
 use Rattle.psm_exprcode.specs.Fits.{Fits, are_values, are_truths, is_over_value}
-use Rattle.psm_exprcode.specs.WellFormed.{without, puts, by_kind, letter_of, takes, is_type, is_bounded, is_jump}
+use Rattle.psm_exprcode.specs.WellFormed.{without, puts, by_kind, letter_of, takes, is_bounded}
 use Rattle.psm_exprcode.proofs.Types.{type_within}
 use Rattle.psm_exprcode.proofs.Standing.{is_val, is_truth, have, have_head, same_some, Leads, Step, Off, Puts, puts_some, without_off, fixed, kinds, kind_some, and_then_some, off_values, off_truths, on_value_leads, on_truth_leads, on_two_leads, on_three_leads, on_many_leads, value_leads, truth_leads, named_leads, letter_of-val}
 

@@ -1,5 +1,5 @@
 -- Types within bounds.
-use Rattle.std.proofs.Common.{◌≡◌, ℕ, ◌≤◌, Bool, true, false, ◌&&◌, nat_le, refl, ap, sym, ◌∙◌, le-leb, leb-true}
+use Rattle.std.proofs.Common.{◌≡◌, Bool, true, false, ◌&&◌, nat_le, refl, ap, sym, ◌∙◌, le-leb, leb-true}
 use Rattle.std.specs.Prelude.{◌↔◌, IsTrue}
 use Rattle.psm_num.proofs.Literals.{and_first, and_second}
 use Rattle.psm_value.specs.declared.sqltype.SqlType.{SqlType}

@@ -1,7 +1,6 @@
 -- What an operation comes to, over operands with the last one first (ISO/IEC 9075:1992, clauses 6 and 8).
-use Rattle.std.specs.Prelude.{ℕ, zero, suc, Bool, List, [], ◌∷◌, take, drop, slice_get, Option, Some, None, Result, Ok, Err, if◌then◌else◌}
+use Rattle.std.specs.Prelude.{ℕ, zero, suc, List, [], ◌∷◌, slice_get, Option, Some, None, Result, Ok, Err, if◌then◌else◌}
 use Rattle.psm_value.specs.declared.datum.Datum.{Datum}
-use Rattle.psm_value.specs.declared.datum.Datum.TheVariants as data_of
 use Rattle.psm_value.specs.declared.truth.Truth.{Truth as Answer}
 use Rattle.psm_value.specs.Arithmetic.{sum_of, difference_of, product_of, quotient_of, negated_of}
 use Rattle.psm_value.specs.Cast.{cast_of}

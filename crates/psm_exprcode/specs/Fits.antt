@@ -1,5 +1,7 @@
 -- What an operation needs, and what the call that carries it out says.
-use Rattle.std.specs.Prelude.{◌≡◌, ℕ, zero, suc, ◌<◌, ◌≤◌, Bool, true, false, List, [], ◌∷◌, length, drop, IsTrue, Result, Ok, Err}
+use Rattle.std.specs.Prelude.{◌≡◌, ℕ, zero, suc, ◌<◌, ◌≤◌, Bool, true, false, List, [], ◌∷◌, length, drop, reverse, IsTrue, Result, Ok, Err}
+use Rattle.std.specs.declared.alloc.Global.{Global}
+use Rattle.std.specs.declared.vec.Vec.{Vec}
 use Rattle.psm_value.specs.declared.datum.Datum.{Datum}
 use Rattle.psm_value.specs.declared.fault.ValueFault.{ValueFault}
 use Rattle.psm_value.specs.declared.fault.ValueFault.TheVariants.{Condition, Memory}
@@ -124,3 +126,7 @@ Refuses due Memory = Unit {0}
 abbrev pub Applies : ℕ → List Operand → Applied → Result Next ValueFault → List Operand → Type 0
 Applies n old due (Ok next) new = due ≡ Went next new
 Applies n old due (Err fault) new = Refuses due fault × (new ≡ drop n old)
+
+-- the same of a call that is given the operands in a vector, with the last one at its end
+abbrev pub Carries : ℕ → (List Operand → Applied) → Vec Operand Global → Result Next ValueFault → Vec Operand Global → Type 0
+Carries n due old result new = Applies n (reverse old.items) (due (reverse old.items)) result (reverse new.items)

@@ -1,5 +1,5 @@
 -- POSITION, TRIM and LIKE as functions (ISO/IEC 9075:1992, 6.6, 6.7 and 8.5).
-use Rattle.std.specs.Prelude.{ℕ, zero, suc, ◌+◌, Bool, true, false, ◌||◌, List, [], ◌∷◌, drop, reverse, nat_eq, Option, Result, Ok, Err, codes, if◌then◌else◌}
+use Rattle.std.specs.Prelude.{ℕ, suc, Bool, true, false, ◌||◌, List, [], ◌∷◌, reverse, nat_eq, Option, Result, Ok, Err, if◌then◌else◌}
 use Rattle.std.specs.List.{starts_with}
 use Rattle.psm_text.specs.declared.fault.TextFault.{TextFault}
 use Rattle.psm_text.specs.declared.fault.TextFault.TheVariants as texts

@@ -1,20 +1,19 @@
 -- Operations on values that have a place in expressions alone (ISO/IEC 9075:1992, 6.6, 6.7, 6.13 and 8.5). Null
 -- comes first: a null operand gives null or unknown, and so does one that isn't of the operation's family.
-use Rattle.std.specs.Prelude.{ℕ, ℤ, pos, List, length, codes, Option, Some, None, option_map, Bool, Result, Ok, Err}
+use Rattle.std.specs.Prelude.{ℕ, ℤ, pos, List, length, codes, Some, None, Bool, Result, Ok, Err}
 use Rattle.psm_num.specs.Num as num
 use Rattle.psm_num.specs.Arithmetic.{at_scale}
 use Rattle.psm_text.specs.declared.fault.TextFault.{TextFault}
 use Rattle.psm_text.specs.declared.fault.TextFault.TheVariants as texts
-use Rattle.psm_text.specs.declared.parts.Side.{Side}
 use Rattle.psm_text.specs.Like.{escape_of}
-use Rattle.psm_text.specs.Parts.{joined, substring_of, upper_of, lower_of}
+use Rattle.psm_text.specs.Parts.{joined, substring_of}
 use Rattle.psm_value.specs.declared.datum.Datum.{Datum}
 use Rattle.psm_value.specs.declared.datum.Datum.TheVariants.{Null, Num, Text}
 use Rattle.psm_value.specs.declared.truth.Truth.{Truth}
 use Rattle.psm_value.specs.declared.truth.Truth.TheVariants.{Unknown}
 use Rattle.psm_value.specs.Arithmetic.{as_datum}
 use Rattle.psm_exprcode.specs.Comparison.{truth_of}
-use Rattle.psm_exprcode.specs.Texts.{place_of, trim_of, like_of}
+use Rattle.psm_exprcode.specs.Texts.{place_of, like_of}
 
 -- the SQLSTATE of the condition that a fault of a text is
 abbrev pub state_of : TextFault → List ℕ

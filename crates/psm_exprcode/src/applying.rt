@@ -1,7 +1,7 @@
 //! What an operation comes to.
 ghost use Rattle.std.specs.Prelude.{reverse};
 ghost use Rattle.psm_exprcode.specs.Applied.{applied};
-ghost use Rattle.psm_exprcode.specs.Fits.{Fits, Applies, taken};
+ghost use Rattle.psm_exprcode.specs.Fits.{Fits, Carries, taken};
 
 use crate::comparing::{Test, compare_two, null_if, test_among, test_between, test_null};
 use crate::deciding::{and_two, not_one, or_two};
@@ -31,7 +31,7 @@ pub fn apply(
     vars: &[Datum],
 ) -> Result<Next, ValueFault>
     requires { Fits op.now (reverse operands.old.items) row.now vars.now }
-    ensures { Applies (taken op.now) (reverse operands.old.items) (applied op.now (reverse operands.old.items) row.now vars.now) result (reverse operands.new.items) }
+    ensures { Carries (taken op.now) (λ os. applied op.now os row.now vars.now) operands.old result operands.new }
 {
     match op {
         Op::Const(_, value) => put_copy(alloc, operands, value),

@@ -3,7 +3,7 @@ ghost use Rattle.std.specs.Prelude.{◌≡◌, ◌<◌, ◌+◌, suc, reverse, d
 ghost use Rattle.psm_exprcode.specs.Applied.{compares, on_value, on_three, on_many, value_of_two, with_truth};
 ghost use Rattle.psm_exprcode.specs.Among.{data_in};
 ghost use Rattle.psm_exprcode.specs.Comparison.{truth_of, holds, judged, tested, between, among, unless_equal, is_null};
-ghost use Rattle.psm_exprcode.specs.Fits.{are_values, Applies};
+ghost use Rattle.psm_exprcode.specs.Fits.{are_values, Carries};
 
 use crate::operand::{Next, Operand};
 use crate::stack::{pop_three, pop_two, pop_value, put_truth, put_value};
@@ -53,7 +53,7 @@ pub(crate) fn decided(test: bool) -> Truth
 
 pub(crate) fn compare_two(operands: &mut Vec<Operand>, test: Test) -> Result<Next, ValueFault>
     requires { IsTrue (are_values 2 (reverse operands.old.items)) }
-    ensures { Applies 2 (reverse operands.old.items) (compares test (reverse operands.old.items)) result (reverse operands.new.items) }
+    ensures { Carries 2 (compares test) operands.old result operands.new }
 {
     let (first, second) = pop_two(operands);
     put_truth(operands, test.judge(&first, &second))?;
@@ -62,7 +62,7 @@ pub(crate) fn compare_two(operands: &mut Vec<Operand>, test: Test) -> Result<Nex
 
 pub(crate) fn test_between(operands: &mut Vec<Operand>) -> Result<Next, ValueFault>
     requires { IsTrue (are_values 3 (reverse operands.old.items)) }
-    ensures { Applies 3 (reverse operands.old.items) (on_three (λ a low high below. with_truth below (Ok (between a low high))) (reverse operands.old.items)) result (reverse operands.new.items) }
+    ensures { Carries 3 (on_three (λ a low high below. with_truth below (Ok (between a low high)))) operands.old result operands.new }
 {
     let (value, low, high) = pop_three(operands);
     let truth = is_between(&value, &low, &high);
@@ -79,7 +79,7 @@ fn is_between(value: &Datum, low: &Datum, high: &Datum) -> Truth
 
 pub(crate) fn null_if(operands: &mut Vec<Operand>) -> Result<Next, ValueFault>
     requires { IsTrue (are_values 2 (reverse operands.old.items)) }
-    ensures { Applies 2 (reverse operands.old.items) (value_of_two (λ a b. Ok (unless_equal a b)) (reverse operands.old.items)) result (reverse operands.new.items) }
+    ensures { Carries 2 (value_of_two (λ a b. Ok (unless_equal a b))) operands.old result operands.new }
 {
     let (value, other) = pop_two(operands);
     put_value(operands, without_equal(value, &other))?;
@@ -98,7 +98,7 @@ fn without_equal(value: Datum, other: &Datum) -> Datum
 
 pub(crate) fn test_null(operands: &mut Vec<Operand>) -> Result<Next, ValueFault>
     requires { IsTrue (are_values 1 (reverse operands.old.items)) }
-    ensures { Applies 1 (reverse operands.old.items) (on_value (λ a below. with_truth below (Ok (truth_of (is_null a)))) (reverse operands.old.items)) result (reverse operands.new.items) }
+    ensures { Carries 1 (on_value (λ a below. with_truth below (Ok (truth_of (is_null a))))) operands.old result operands.new }
 {
     let value = pop_value(operands);
     put_truth(operands, decided(is_null_value(&value)))?;
@@ -113,7 +113,7 @@ pub(crate) fn is_null_value(value: &Datum) -> bool
 
 pub(crate) fn test_among(operands: &mut Vec<Operand>, count: u32) -> Result<Next, ValueFault>
     requires { IsTrue (are_values (suc count) (reverse operands.old.items)) }
-    ensures { Applies (suc count) (reverse operands.old.items) (on_many count (λ bs. on_value (λ a below. with_truth below (Ok (among a bs)))) (reverse operands.old.items)) result (reverse operands.new.items) }
+    ensures { Carries (suc count) (on_many count (λ bs. on_value (λ a below. with_truth below (Ok (among a bs))))) operands.old result operands.new }
 {
     let place = place_below(operands.as_slice(), count);
     let truth = judge_among(operands.as_slice(), count, place);

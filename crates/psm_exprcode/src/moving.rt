@@ -6,7 +6,7 @@ ghost use Rattle.psm_value.specs.Cast.{cast_of};
 ghost use Rattle.psm_value.specs.SqlType.{IsType};
 ghost use Rattle.psm_exprcode.specs.Comparison.{is_null};
 ghost use Rattle.psm_exprcode.specs.Applied.{Went, with_value, with_named, on_value, on_truth, nipped, set_at, unless_true};
-ghost use Rattle.psm_exprcode.specs.Fits.{are_values, are_truths, is_over_value, Applies};
+ghost use Rattle.psm_exprcode.specs.Fits.{are_values, are_truths, is_over_value, Carries};
 
 use crate::comparing::is_null_value;
 use crate::operand::{Next, Operand};
@@ -19,7 +19,7 @@ pub(crate) fn put_copy(
     operands: &mut Vec<Operand>,
     value: &Datum,
 ) -> Result<Next, ValueFault>
-    ensures { Applies 0 (reverse operands.old.items) (Went Ahead (Operand.Value value.now ∷ reverse operands.old.items)) result (reverse operands.new.items) }
+    ensures { Carries 0 (λ os. Went Ahead (Operand.Value value.now ∷ os)) operands.old result operands.new }
 {
     put_value(operands, value.copy(alloc)?)?;
     Ok(Next::Ahead)
@@ -33,7 +33,7 @@ pub(crate) fn put_named(
     place: u32,
 ) -> Result<Next, ValueFault>
     requires { place < length values.now }
-    ensures { Applies 0 (reverse operands.old.items) (with_named (reverse operands.old.items) (slice_get values.now place)) result (reverse operands.new.items) }
+    ensures { Carries 0 (λ os. with_named os (slice_get values.now place)) operands.old result operands.new }
 {
     put_value(operands, copy_at(alloc, values, place)?)?;
     Ok(Next::Ahead)
@@ -48,7 +48,7 @@ fn copy_at(alloc: Global, values: &[Datum], place: u32) -> Result<Datum, AllocEr
 
 pub(crate) fn duplicate(alloc: Global, operands: &mut Vec<Operand>) -> Result<Next, ValueFault>
     requires { IsTrue (are_values 1 (reverse operands.old.items)) }
-    ensures { Applies 0 (reverse operands.old.items) (on_value (λ a below. Went Ahead (Operand.Value a ∷ Operand.Value a ∷ below)) (reverse operands.old.items)) result (reverse operands.new.items) }
+    ensures { Carries 0 (on_value (λ a below. Went Ahead (Operand.Value a ∷ Operand.Value a ∷ below))) operands.old result operands.new }
 {
     let copy = copy_last(alloc, operands.as_slice())?;
     put_value(operands, copy)?;
@@ -76,7 +76,7 @@ pub(crate) fn drop_last(operands: &mut Vec<Operand>) -> Next
 
 pub(crate) fn nip(operands: &mut Vec<Operand>) -> Result<Next, ValueFault>
     requires { IsTrue (is_over_value (reverse operands.old.items)) }
-    ensures { Applies 2 (reverse operands.old.items) (nipped (reverse operands.old.items)) result (reverse operands.new.items) }
+    ensures { Carries 2 nipped operands.old result operands.new }
 {
     let last = pop(operands);
     let _ = pop_value(operands);
@@ -121,7 +121,7 @@ pub(crate) fn cast_one(
 ) -> Result<Next, ValueFault>
     requires bounds { IsType to }
     requires operand { IsTrue (are_values 1 (reverse operands.old.items)) }
-    ensures { Applies 1 (reverse operands.old.items) (on_value (λ a below. with_value below (cast_of to a)) (reverse operands.old.items)) result (reverse operands.new.items) }
+    ensures { Carries 1 (on_value (λ a below. with_value below (cast_of to a))) operands.old result operands.new }
 {
     let value = pop_value(operands);
     put_value(operands, cast(alloc, to, &value)?)?;

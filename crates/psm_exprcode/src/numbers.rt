@@ -2,7 +2,7 @@
 ghost use Rattle.std.specs.Prelude.{◌≡◌, ◌≤◌, reverse, IsTrue, Ok};
 ghost use Rattle.psm_value.specs.Arithmetic.{sum_of, difference_of, product_of, quotient_of, negated_of};
 ghost use Rattle.psm_exprcode.specs.Applied.{value_of_one, value_of_two, on_value, with_value};
-ghost use Rattle.psm_exprcode.specs.Fits.{are_values, Applies};
+ghost use Rattle.psm_exprcode.specs.Fits.{are_values, Carries};
 ghost use Rattle.psm_exprcode.specs.Values.{rescaled};
 
 use crate::operand::{Next, Operand};
@@ -12,7 +12,7 @@ use psm_value::{Datum, SqlState, ValueFault, add, div, mul, neg, sub};
 
 pub(crate) fn negate(operands: &mut Vec<Operand>) -> Result<Next, ValueFault>
     requires { IsTrue (are_values 1 (reverse operands.old.items)) }
-    ensures { Applies 1 (reverse operands.old.items) (value_of_one negated_of (reverse operands.old.items)) result (reverse operands.new.items) }
+    ensures { Carries 1 (value_of_one negated_of) operands.old result operands.new }
 {
     let number = pop_value(operands);
     put_value(operands, neg(&number))?;
@@ -21,7 +21,7 @@ pub(crate) fn negate(operands: &mut Vec<Operand>) -> Result<Next, ValueFault>
 
 pub(crate) fn add_two(operands: &mut Vec<Operand>) -> Result<Next, ValueFault>
     requires { IsTrue (are_values 2 (reverse operands.old.items)) }
-    ensures { Applies 2 (reverse operands.old.items) (value_of_two sum_of (reverse operands.old.items)) result (reverse operands.new.items) }
+    ensures { Carries 2 (value_of_two sum_of) operands.old result operands.new }
 {
     let (first, second) = pop_two(operands);
     put_value(operands, add(&first, &second)?)?;
@@ -30,7 +30,7 @@ pub(crate) fn add_two(operands: &mut Vec<Operand>) -> Result<Next, ValueFault>
 
 pub(crate) fn sub_two(operands: &mut Vec<Operand>) -> Result<Next, ValueFault>
     requires { IsTrue (are_values 2 (reverse operands.old.items)) }
-    ensures { Applies 2 (reverse operands.old.items) (value_of_two difference_of (reverse operands.old.items)) result (reverse operands.new.items) }
+    ensures { Carries 2 (value_of_two difference_of) operands.old result operands.new }
 {
     let (first, second) = pop_two(operands);
     put_value(operands, sub(&first, &second)?)?;
@@ -39,7 +39,7 @@ pub(crate) fn sub_two(operands: &mut Vec<Operand>) -> Result<Next, ValueFault>
 
 pub(crate) fn mul_two(operands: &mut Vec<Operand>) -> Result<Next, ValueFault>
     requires { IsTrue (are_values 2 (reverse operands.old.items)) }
-    ensures { Applies 2 (reverse operands.old.items) (value_of_two product_of (reverse operands.old.items)) result (reverse operands.new.items) }
+    ensures { Carries 2 (value_of_two product_of) operands.old result operands.new }
 {
     let (first, second) = pop_two(operands);
     put_value(operands, mul(&first, &second)?)?;
@@ -48,7 +48,7 @@ pub(crate) fn mul_two(operands: &mut Vec<Operand>) -> Result<Next, ValueFault>
 
 pub(crate) fn div_two(operands: &mut Vec<Operand>) -> Result<Next, ValueFault>
     requires { IsTrue (are_values 2 (reverse operands.old.items)) }
-    ensures { Applies 2 (reverse operands.old.items) (value_of_two quotient_of (reverse operands.old.items)) result (reverse operands.new.items) }
+    ensures { Carries 2 (value_of_two quotient_of) operands.old result operands.new }
 {
     let (first, second) = pop_two(operands);
     put_value(operands, div(&first, &second)?)?;
@@ -58,7 +58,7 @@ pub(crate) fn div_two(operands: &mut Vec<Operand>) -> Result<Next, ValueFault>
 pub(crate) fn rescale(operands: &mut Vec<Operand>, scale: u8) -> Result<Next, ValueFault>
     requires bound { scale ≤ 18 }
     requires operand { IsTrue (are_values 1 (reverse operands.old.items)) }
-    ensures { Applies 1 (reverse operands.old.items) (on_value (λ a below. with_value below (rescaled scale a)) (reverse operands.old.items)) result (reverse operands.new.items) }
+    ensures { Carries 1 (on_value (λ a below. with_value below (rescaled scale a))) operands.old result operands.new }
 {
     let number = pop_value(operands);
     put_value(operands, at_scale(&number, scale)?)?;

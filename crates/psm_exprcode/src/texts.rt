@@ -5,7 +5,7 @@ ghost use Rattle.psm_text.specs.Like.{escape_of};
 ghost use Rattle.psm_text.specs.Parts.{upper_of, lower_of, substring_of};
 ghost use Rattle.psm_value.specs.Answer.{Gives};
 ghost use Rattle.psm_exprcode.specs.Applied.{value_of_one, value_of_two, on_two, on_three, with_value, with_truth};
-ghost use Rattle.psm_exprcode.specs.Fits.{are_values, Applies};
+ghost use Rattle.psm_exprcode.specs.Fits.{are_values, Carries};
 ghost use Rattle.psm_exprcode.specs.Texts.{place_of, trim_of, like_of};
 ghost use Rattle.psm_exprcode.specs.Values.{as_text, as_truth, whole, concatenated, length_of, position_of, cut_of, part_from, part_of, on_text, like, like_escaped};
 
@@ -22,7 +22,7 @@ pub(crate) fn concatenate_two(
     operands: &mut Vec<Operand>,
 ) -> Result<Next, ValueFault>
     requires { IsTrue (are_values 2 (reverse operands.old.items)) }
-    ensures { Applies 2 (reverse operands.old.items) (value_of_two concatenated (reverse operands.old.items)) result (reverse operands.new.items) }
+    ensures { Carries 2 (value_of_two concatenated) operands.old result operands.new }
 {
     let (first, second) = pop_two(operands);
     put_value(operands, concatenate(alloc, &first, &second)?)?;
@@ -42,7 +42,7 @@ fn concatenate(alloc: Global, first: &Datum, second: &Datum) -> Result<Datum, Va
 
 pub(crate) fn count_one(operands: &mut Vec<Operand>) -> Result<Next, ValueFault>
     requires { IsTrue (are_values 1 (reverse operands.old.items)) }
-    ensures { Applies 1 (reverse operands.old.items) (value_of_one length_of (reverse operands.old.items)) result (reverse operands.new.items) }
+    ensures { Carries 1 (value_of_one length_of) operands.old result operands.new }
 {
     let text = pop_value(operands);
     put_value(operands, count(&text))?;
@@ -67,7 +67,7 @@ fn whole_number(number: u32) -> Datum
 
 pub(crate) fn find_two(operands: &mut Vec<Operand>) -> Result<Next, ValueFault>
     requires { IsTrue (are_values 2 (reverse operands.old.items)) }
-    ensures { Applies 2 (reverse operands.old.items) (value_of_two (λ part t. Ok (position_of part t)) (reverse operands.old.items)) result (reverse operands.new.items) }
+    ensures { Carries 2 (value_of_two (λ part t. Ok (position_of part t))) operands.old result operands.new }
 {
     let (part, text) = pop_two(operands);
     put_value(operands, find(&part, &text))?;
@@ -92,7 +92,7 @@ fn place(part: &Text, text: &Text) -> u32
 
 pub(crate) fn part_two(alloc: Global, operands: &mut Vec<Operand>) -> Result<Next, ValueFault>
     requires { IsTrue (are_values 2 (reverse operands.old.items)) }
-    ensures { Applies 2 (reverse operands.old.items) (value_of_two part_from (reverse operands.old.items)) result (reverse operands.new.items) }
+    ensures { Carries 2 (value_of_two part_from) operands.old result operands.new }
 {
     let (text, from) = pop_two(operands);
     put_value(operands, part_from_place(alloc, &text, &from)?)?;
@@ -120,7 +120,7 @@ fn cut(number: Dec) -> i64
 
 pub(crate) fn part_three(alloc: Global, operands: &mut Vec<Operand>) -> Result<Next, ValueFault>
     requires { IsTrue (are_values 3 (reverse operands.old.items)) }
-    ensures { Applies 3 (reverse operands.old.items) (on_three (λ t place count below. with_value below (part_of t place count)) (reverse operands.old.items)) result (reverse operands.new.items) }
+    ensures { Carries 3 (on_three (λ t place count below. with_value below (part_of t place count))) operands.old result operands.new }
 {
     let (text, from, count) = pop_three(operands);
     put_value(operands, part_between(alloc, &text, &from, &count)?)?;
@@ -149,7 +149,7 @@ pub(crate) fn trim_one(
     side: Side,
 ) -> Result<Next, ValueFault>
     requires { IsTrue (are_values 1 (reverse operands.old.items)) }
-    ensures { Applies 1 (reverse operands.old.items) (value_of_one (on_text (trim_of side)) (reverse operands.old.items)) result (reverse operands.new.items) }
+    ensures { Carries 1 (value_of_one (on_text (trim_of side))) operands.old result operands.new }
 {
     let text = pop_value(operands);
     put_value(operands, trim(alloc, &text, side)?)?;
@@ -174,7 +174,7 @@ fn trim_text(alloc: Global, text: &Text, side: Side) -> Result<Text, AllocError>
 
 pub(crate) fn upper_one(alloc: Global, operands: &mut Vec<Operand>) -> Result<Next, ValueFault>
     requires { IsTrue (are_values 1 (reverse operands.old.items)) }
-    ensures { Applies 1 (reverse operands.old.items) (value_of_one (on_text upper_of) (reverse operands.old.items)) result (reverse operands.new.items) }
+    ensures { Carries 1 (value_of_one (on_text upper_of)) operands.old result operands.new }
 {
     let text = pop_value(operands);
     put_value(operands, upper(alloc, &text)?)?;
@@ -192,7 +192,7 @@ fn upper(alloc: Global, text: &Datum) -> Result<Datum, AllocError>
 
 pub(crate) fn lower_one(alloc: Global, operands: &mut Vec<Operand>) -> Result<Next, ValueFault>
     requires { IsTrue (are_values 1 (reverse operands.old.items)) }
-    ensures { Applies 1 (reverse operands.old.items) (value_of_one (on_text lower_of) (reverse operands.old.items)) result (reverse operands.new.items) }
+    ensures { Carries 1 (value_of_one (on_text lower_of)) operands.old result operands.new }
 {
     let text = pop_value(operands);
     put_value(operands, lower(alloc, &text)?)?;
@@ -210,7 +210,7 @@ fn lower(alloc: Global, text: &Datum) -> Result<Datum, AllocError>
 
 pub(crate) fn like_two(operands: &mut Vec<Operand>) -> Result<Next, ValueFault>
     requires { IsTrue (are_values 2 (reverse operands.old.items)) }
-    ensures { Applies 2 (reverse operands.old.items) (on_two (λ t pattern below. with_truth below (like t pattern)) (reverse operands.old.items)) result (reverse operands.new.items) }
+    ensures { Carries 2 (on_two (λ t pattern below. with_truth below (like t pattern))) operands.old result operands.new }
 {
     let (text, pattern) = pop_two(operands);
     put_truth(operands, liken(&text, &pattern)?)?;
@@ -228,7 +228,7 @@ fn liken(text: &Datum, pattern: &Datum) -> Result<Truth, ValueFault>
 
 pub(crate) fn like_three(operands: &mut Vec<Operand>) -> Result<Next, ValueFault>
     requires { IsTrue (are_values 3 (reverse operands.old.items)) }
-    ensures { Applies 3 (reverse operands.old.items) (on_three (λ t pattern escape below. with_truth below (like_escaped t pattern escape)) (reverse operands.old.items)) result (reverse operands.new.items) }
+    ensures { Carries 3 (on_three (λ t pattern escape below. with_truth below (like_escaped t pattern escape))) operands.old result operands.new }
 {
     let (text, pattern, escape) = pop_three(operands);
     put_truth(operands, liken_escaped(&text, &pattern, &escape)?)?;

@@ -1,4 +1,4 @@
-use Rattle.std.proofs.Common.{◌≡◌, ◌∙◌, ◌+◌, sym, ap, drop, take, get_or, Ok}
+use Rattle.std.proofs.Common.{◌≡◌, ◌∙◌, sym, ap, take, get_or, Ok}
 use Rattle.std.specs.Prelude.{reverse}
 use Rattle.psm_exprcode.specs.declared.operand.Operand.TheVariants.{Value, Truth}
 use Rattle.psm_exprcode.specs.Among.{data_in}
