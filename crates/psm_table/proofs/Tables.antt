@@ -1,6 +1,6 @@
 -- What a change of one row leaves of a table.
-use Rattle.std.proofs.Common.{◌≡◌, ◌≢◌, ℕ, zero, suc, ◌+◌, ◌<◌, ◌≤◌, List, [], ◌∷◌, ◌++◌, length, get_or, set, take, drop, Bool, true, false, refl, ap, sym, subst, ◌∙◌, add-one, arith, Option, Some, None, length-append}
-use Rattle.std.specs.Prelude.{All, AllPairs, filter, slice_get, IsSome, insert, remove}
+use Rattle.std.proofs.Common.{◌≡◌, ℕ, zero, suc, ◌<◌, ◌≤◌, List, [], ◌∷◌, ◌++◌, length, get_or, set, take, drop, Bool, true, false, refl, ap, sym, subst, ◌∙◌, add-one, arith, Some}
+use Rattle.std.specs.Prelude.{All, AllPairs, filter, IsSome, insert, remove}
 use Rattle.std.proofs.lemmas.List.Elements.{All-nil, All-cons, All-append, All-filter, All-tail, All-head}
 use Rattle.std.proofs.lemmas.List.Kept.{AllPairs-filter, AllPairs-cons}
 use Rattle.std.proofs.lemmas.List.{length-set}
@@ -15,7 +15,7 @@ use Rattle.psm_table.specs.Definition.{IsDefinition, IsRow}
 use Rattle.psm_table.specs.Key.{values_at, key_order, row_order, AreColumnsOf}
 use Rattle.psm_table.specs.Place.{IsAt, IsGap}
 use Rattle.psm_table.specs.Rows.{IsAscending, rows_below, rows_above, row_with, put, without}
-use Rattle.psm_table.specs.Table.{Contents, IsTable, most_rows, with_row, namesake}
+use Rattle.psm_table.specs.Table.{Contents, IsTable, most_rows, with_row}
 use Rattle.psm_table.proofs.KeyLaws.{key_order-total}
 
 -- each element that passes a filter has what the test says

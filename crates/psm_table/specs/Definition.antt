@@ -1,8 +1,9 @@
 -- Definitions of tables, and the rows that fit them (ISO/IEC 9075:1992, 11.3 and 11.7).
-use Rattle.std.specs.Prelude.{◌≡◌, ◌≢◌, ℕ, ◌<◌, List, length, All, AllPairs}
+use Rattle.std.specs.Prelude.{◌≡◌, ◌≢◌, ◌<◌, List, length, map, All, AllPairs}
 use Rattle.std.specs.List.{zip}
 use Rattle.psm_value.specs.declared.datum.Datum.{Datum}
 use Rattle.psm_value.specs.declared.datum.Datum.TheVariants.{Null}
+use Rattle.psm_value.specs.declared.sqltype.SqlType.{SqlType}
 use Rattle.psm_value.specs.SqlType.{IsOfFamily}
 use Rattle.psm_table.specs.declared.definition.Column.{Column}
 use Rattle.psm_table.specs.declared.definition.TableDef.{TableDef}
@@ -14,14 +15,22 @@ pub record IsDefinition (def : TableDef) : Type 0 where
   pub exist : All (λ c. c < length def.columns) def.key
   pub distinct : AllPairs (λ a b. a ≢ b) def.key
 
--- each value is null or of its column's family
-abbrev pub AreOfFamilies : List Column → List Datum → Type 0
-AreOfFamilies columns row = All (λ p. IsOfFamily p.0.kind p.1) (zip columns row)
+-- the types of the columns
+abbrev pub kinds_of : List Column → List SqlType
+kinds_of columns = map (λ c. c.kind) columns
+
+-- each value is null or of its type's family
+abbrev pub AreOfFamilies : List SqlType → List Datum → Type 0
+AreOfFamilies kinds row = All (λ p. IsOfFamily p.0 p.1) (zip kinds row)
+
+-- a row has one value for each column
+abbrev pub HasColumns : TableDef → List Datum → Type 0
+HasColumns def row = length row ≡ length def.columns
 
 -- a row has one value for each column, of its family, and no null in the key
 pub record IsRow (def : TableDef) (row : List Datum) : Type 0 where
-  pub long : length row ≡ length def.columns
-  pub families : AreOfFamilies def.columns row
+  pub long : HasColumns def row
+  pub families : AreOfFamilies (kinds_of def.columns) row
   pub filled : All (λ d. d ≢ Null) (values_at def.key row)
 
 -- a key has one value for each column of the key

@@ -1,5 +1,5 @@
 -- The values of a row in a list of columns, and the order of keys (ISO/IEC 9075:1992, 8.2).
-use Rattle.std.specs.Prelude.{◌≡◌, ℕ, ◌<◌, List, length, map, All, slice_index_or}
+use Rattle.std.specs.Prelude.{ℕ, ◌<◌, List, length, map, All, slice_index_or}
 use Rattle.std.specs.declared.cmp.Ordering.{Ordering}
 use Rattle.std.specs.Cmp.Lexicographic.{slice_cmp}
 use Rattle.psm_value.specs.declared.datum.Datum.{Datum}

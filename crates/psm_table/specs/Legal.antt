@@ -1,5 +1,5 @@
 -- Tables that keep the rules of their columns, key and UNIQUE lists (ISO/IEC 9075:1992, 4.10 and 11.6); CHECKs are apart.
-use Rattle.std.specs.Prelude.{◌≡◌, ◌≢◌, ℕ, Bool, true, false, List, length, All, AllPairs, Result, Ok}
+use Rattle.std.specs.Prelude.{◌≡◌, ◌≢◌, ℕ, true, false, List, length, All, AllPairs, Ok}
 use Rattle.std.specs.List.{zip}
 use Rattle.psm_value.specs.declared.datum.Datum.{Datum}
 use Rattle.psm_value.specs.declared.datum.Datum.TheVariants.{Null}

@@ -1,6 +1,6 @@
-ghost use Rattle.std.specs.Prelude.{◌≡◌, ◌+◌, [], length, is_some, IfOk, IfErr, if◌then◌else◌};
+ghost use Rattle.std.specs.Prelude.{◌≡◌, ◌+◌, [], length, is_some, IfSome, IfOk, IfErr, if◌then◌else◌};
 ghost use Rattle.std.specs.Option.{option_copied, ForSome};
-ghost use Rattle.psm_table.specs.Definition.{IsDefinition, IsRow, IsKey};
+ghost use Rattle.psm_table.specs.Definition.{IsDefinition, IsRow, IsKey, HasColumns};
 ghost use Rattle.psm_table.specs.Key.{values_at};
 ghost use Rattle.psm_table.specs.Place.{probe_key, FitsProbe, IsAt, IsGap};
 ghost use Rattle.psm_table.specs.Rows.{row_with, row_after, row_before, without};
@@ -119,7 +119,8 @@ impl Table {
     /// The row that has the key.
     pub fn get(&self, key: &Key) -> Option<&Row>
         requires { IsKey self.now.def key.now }
-        ensures { option_copied result ≡ row_with self.now.def.key key.now self.now.rows }
+        ensures row { option_copied result ≡ row_with self.now.def.key key.now self.now.rows }
+        ensures fits { IfSome result (λ row. IsRow self.now.def row.now) }
     {
         match self.place(Probe::Of(key.values())) {
             Ok(at) => Some(&self.rows[at]),
@@ -130,7 +131,8 @@ impl Table {
     /// The first row with a greater key; without a key the first row.
     pub fn next_after(&self, key: Option<&Key>) -> Option<&Row>
         requires { ForSome key (λ k. IsKey self.now.def k.now) }
-        ensures { option_copied result ≡ row_after self.now.def.key (option_copied key.entry) self.now.rows }
+        ensures row { option_copied result ≡ row_after self.now.def.key (option_copied key.entry) self.now.rows }
+        ensures fits { IfSome result (λ row. IsRow self.now.def row.now) }
     {
         match key {
             None => self.rows.first(),
@@ -144,7 +146,8 @@ impl Table {
     /// The last row with a smaller key; without a key the last row.
     pub fn prev_before(&self, key: Option<&Key>) -> Option<&Row>
         requires { ForSome key (λ k. IsKey self.now.def k.now) }
-        ensures { option_copied result ≡ row_before self.now.def.key (option_copied key.entry) self.now.rows }
+        ensures row { option_copied result ≡ row_before self.now.def.key (option_copied key.entry) self.now.rows }
+        ensures fits { IfSome result (λ row. IsRow self.now.def row.now) }
     {
         match key {
             None => self.rows.last(),
@@ -161,7 +164,7 @@ impl Table {
     /// Whether a row with another key agrees with the row in a UNIQUE list in which neither has a null
     /// (ISO/IEC 9075:1992, 8.9).
     pub fn clash(&self, row: &Row) -> bool
-        requires { IsRow self.now.def row.now }
+        requires { HasColumns self.now.def row.now }
         ensures { result ≡ clashes self.now.def row.now self.now.rows }
     {
         has_rival(&self.def, self.rows.as_slice(), row.values())
@@ -179,7 +182,7 @@ impl Table {
 
     /// The key of a row. A key of one number takes no memory.
     pub fn key_of(&self, alloc: Global, row: &Row) -> Result<Key, AllocError>
-        requires { IsRow self.now.def row.now }
+        requires { HasColumns self.now.def row.now }
         ensures value { IfOk result (λ key. key ≡ values_at self.now.def.key row.now) }
         ensures fits { IfOk result (λ key. IsKey self.now.def key) }
     {

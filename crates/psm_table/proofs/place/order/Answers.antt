@@ -1,4 +1,4 @@
-use Rattle.std.proofs.Common.{◌∙◌, arith}
+use Rattle.std.proofs.Common.{arith}
 use Rattle.psm_table.specs.Key.{values_at}
 use Rattle.psm_table.specs.Place.{probe_key}
 use Rattle.psm_table.proofs.RowOrders.{are_at, step_unequal, step_equal, step_end}

@@ -13,10 +13,9 @@ invariant_of-self g c =
 pub returns-in-Ok : goal.returns-in-Ok
 returns-in-Ok g c =
     let s : Contents = record { def = c.self.inside.def; rows = c.self.inside.rows.items } in
-    let found = rw c.values.ensures at c.in-Ok.ensures.found in
-    (
+    let found = rw c.values.ensures at c.in-Ok.ensures.found in (
       row_read s c.args.self.now (values_at c.args.self.now.def.key c.args.row) c.in-Ok.at c.index_mut.result.now c.self.view_is found c.index_mut.ensures.value
-      ∙ ap Some (sym c.replace.ensures.value),
+          ∙ ap Some (sym c.replace.ensures.value),
       rw c.replace.ensures.after (seen_changed s c.args.self.now c.args.row c.in-Ok.at c.self.view_is found),
       c.tick.ensures,
     )
