@@ -17,3 +17,6 @@ pub use psm_text::Name;
 pub use psm_value::{Datum, SqlType, Steps};
 pub use row::Row;
 pub use table::Table;
+
+#[cfg(test)]
+mod tests;

@@ -70,7 +70,8 @@ impl Table {
     /// `Duplicate` exactly where a row has its key; `Memory` comes where the list of rows can't grow.
     pub fn insert<L: Ledger>(&mut self, row: Row, steps: &mut Steps<L>) -> Result<(), RowFault>
         requires { IsRow self.old.def row }
-        ensures { Inserts self.old self.new row steps.old steps.new result }
+        ensures answer { Inserts self.old self.new row steps.old steps.new result }
+        ensures def { self.new.def ≡ self.old.def }
     {
         if self.rows.len() == MOST_ROWS {
             return Err(RowFault::Full);
@@ -89,6 +90,7 @@ impl Table {
     pub fn erase<L: Ledger>(&mut self, key: &Key, steps: &mut Steps<L>) -> Option<Row>
         requires { IsKey self.old.def key.now }
         ensures row { result ≡ row_with self.old.def.key key.now self.old.rows }
+        ensures fits { IfSome result (λ row. IsRow self.old.def row) }
         ensures rows { self.new ≡ record self.old { rows = without self.old.def.key key.now self.old.rows } }
         ensures steps { steps.new ≡ steps.old + (if is_some result then 1 else 0) }
     {
@@ -105,7 +107,9 @@ impl Table {
     /// `Absent` comes exactly where no row has the key, and there is no other refusal.
     pub fn change<L: Ledger>(&mut self, row: Row, steps: &mut Steps<L>) -> Result<Row, RowFault>
         requires { IsRow self.old.def row }
-        ensures { Changes self.old self.new row steps.old steps.new result }
+        ensures answer { Changes self.old self.new row steps.old steps.new result }
+        ensures def { self.new.def ≡ self.old.def }
+        ensures fits { IfOk result (λ was. IsRow self.old.def was) }
     {
         match self.place(Probe::In(row.values())) {
             Ok(at) => {

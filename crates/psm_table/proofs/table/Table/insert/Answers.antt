@@ -4,8 +4,8 @@ use Rattle.psm_table.specs.Table.{Contents, most_rows}
 use Rattle.psm_table.proofs.Tables.{table_inserted, some_at}
 use Rattle.psm_table.proofs.table.Table.insert.Goals as goal
 
-pub returns-in-Ok : goal.returns-in-Ok
-returns-in-Ok g c =
+pub returns-in-Ok-clause-answer : goal.returns-in-Ok-clause-answer
+returns-in-Ok-clause-answer g c =
     let found = rw c.values.ensures at c.in-Ok.ensures.found in
     (search rules, some_at c.args.self.now (values_at c.args.self.now.def.key c.args.row) c.in-Ok.field-0 found, refl, refl)
 
