@@ -114,6 +114,7 @@ impl<L: Ledger> Bench<L> {
 }
 
 const DUPLICATE: i64 = -1;
+
 const ABSENT: i64 = -2;
 
 fn number_of(fault: RowFault) -> i64 {
@@ -149,7 +150,11 @@ impl<'a> Like<'a> {
         let name = Text::make(alloc, name)?;
         let size = number(size)?;
         match code {
-            Some(code) => Ok(Row::of(vec![in alloc; Datum::Text(name), Datum::Num(size), Datum::Num(number((code, 0))?)]?)),
+            Some(code) => Ok(Row::of(vec![in alloc;
+                Datum::Text(name),
+                Datum::Num(size),
+                Datum::Num(number((code, 0))?),
+            ]?)),
             None => Ok(Row::of(vec![in alloc; Datum::Text(name), Datum::Num(size), Datum::Null]?)),
         }
     }
@@ -205,21 +210,47 @@ fn code_of(row: &Row) -> i64 {
 }
 
 /// Makes the calls and compares their answers, and then the codes of the rows in order.
-fn run<L: Ledger, A: Abort>(rt: &A, alloc: Global, blank: Blank, acts: &[(Act<'_>, i64)], codes: &[i64]) -> Result<(), Fail>
+fn run<L: Ledger, A: Abort>(
+    rt: &A,
+    alloc: Global,
+    blank: Blank,
+    acts: &[(Act<'_>, i64)],
+    codes: &[i64],
+) -> Result<(), Fail>
     requires name { blank.name ≡ L.name }
     requires parts { blank.parts ≡ L.parts }
     requires some { 0 < blank.parts }
 {
     let mut bench: Bench<L> = Bench::open(alloc, blank)?;
-    for (act, answer) in acts {
-        assert_eq!(rt; bench.answer(alloc, *act)?, *answer);
+    play(rt, alloc, &mut bench, acts)?;
+    see(rt, alloc, &bench, codes)
+}
+
+fn play<L: Ledger, A: Abort>(
+    rt: &A,
+    alloc: Global,
+    bench: &mut Bench<L>,
+    acts: &[(Act<'_>, i64)],
+) -> Result<(), Fail> {
+    for act in acts {
+        let answer = bench.answer(alloc, act.0)?;
+        assert!(rt; answer == act.1);
     }
+    Ok(())
+}
+
+fn see<L: Ledger, A: Abort>(
+    rt: &A,
+    alloc: Global,
+    bench: &Bench<L>,
+    codes: &[i64],
+) -> Result<(), Fail> {
+    let there = bench.there(alloc)?;
+    let back = bench.back(alloc)?;
     let copy = bench.table.copy(alloc)?;
-    assert_eq!(rt; copy.len() as usize, codes.len());
-    assert_eq!(rt; bench.there(alloc)?.as_slice(), codes);
-    let mut back = bench.back(alloc)?;
-    back.as_mut_slice().reverse();
-    assert_eq!(rt; back.as_slice(), codes);
+    assert!(rt; there.as_slice() == codes);
+    assert!(rt; back.iter().rev().eq(codes.iter()));
+    assert!(rt; copy.len() as usize == codes.len());
     Ok(())
 }
 
@@ -233,7 +264,13 @@ fn rows_stand_in_the_order_of_their_keys(rt: HostRuntime) -> Result<(), Fail> {
         (Act::Put(Like("c ", (0, 0), Some(40))), 0),
         (Act::Put(Like("b ", (225, 2), Some(20))), 0),
     ];
-    run::<Brand, HostRuntime>(&rt, rt.alloc(), Blank::new(1), acts.as_slice(), [10, 20, 30, 40, 50, 60].as_slice())
+    run::<Brand, HostRuntime>(
+        &rt,
+        rt.alloc(),
+        Blank::new(1),
+        acts.as_slice(),
+        [10, 20, 30, 40, 50, 60].as_slice(),
+    )
 }
 
 #[test]
@@ -249,7 +286,13 @@ fn padded_texts_and_numbers_at_other_scales_are_equal_keys(rt: HostRuntime) -> R
         (Act::Take("a   ", (1, 0)), 3),
         (Act::Put(Like("a", (1, 0), Some(4))), 0),
     ];
-    run::<Brand, HostRuntime>(&rt, rt.alloc(), Blank::new(1), acts.as_slice(), [4].as_slice())
+    run::<Brand, HostRuntime>(
+        &rt,
+        rt.alloc(),
+        Blank::new(1),
+        acts.as_slice(),
+        [4].as_slice(),
+    )
 }
 
 #[test]
@@ -262,5 +305,11 @@ fn a_unique_code_clashes_and_null_does_not(rt: HostRuntime) -> Result<(), Fail> 
         (Act::Clash(Like("c", (1, 0), None)), 0),
         (Act::Clash(Like("a ", (10, 1), Some(7))), 0),
     ];
-    run::<Brand, HostRuntime>(&rt, rt.alloc(), Blank::new(1), acts.as_slice(), [7, 0].as_slice())
+    run::<Brand, HostRuntime>(
+        &rt,
+        rt.alloc(),
+        Blank::new(1),
+        acts.as_slice(),
+        [7, 0].as_slice(),
+    )
 }

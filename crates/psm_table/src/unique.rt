@@ -61,7 +61,7 @@ fn agree_at(a: &[Datum], b: &[Datum], column: usize) -> bool
     match a.get(column) {
         None | Some(Datum::Null) => false,
         Some(a) => match b.get(column) {
-            None | Some(Datum::Null) => false,
+            Some(Datum::Null) | None => false,
             Some(b) => a.total_cmp(b).is_eq(),
         },
     }
