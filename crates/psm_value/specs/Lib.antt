@@ -6,4 +6,5 @@ pub mod Order
 pub mod Printed
 pub mod SqlType
 pub mod Stored
+pub mod TextFaults
 pub mod Truth

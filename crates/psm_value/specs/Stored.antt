@@ -4,6 +4,7 @@ use Rattle.psm_num.specs.Num as num
 use Rattle.psm_num.specs.Arithmetic.{at_scale}
 use Rattle.psm_text.specs.declared.fault.TextFault.{TextFault}
 use Rattle.psm_text.specs.Storing as text
+use Rattle.psm_sqlstate.specs.declared.state.SqlState.{SqlState}
 use Rattle.psm_value.specs.declared.datum.Datum.{Datum}
 use Rattle.psm_value.specs.declared.datum.Datum.TheVariants.{Null, Num, Text}
 use Rattle.psm_value.specs.declared.sqltype.SqlType.{SqlType}
@@ -26,17 +27,17 @@ is_in_range (Char n) c = false
 is_in_range (VarChar n) c = false
 
 -- a number is cut toward zero to the type's scale, and has to be in the type's range then
-abbrev pub stored_number : SqlType → num.Num → Result Datum (List ℕ)
+abbrev pub stored_number : SqlType → num.Num → Result Datum SqlState
 stored_number to n = let cut = at_scale n (scale_of to) in
     if is_in_range to cut.coef then Ok (Num cut) else Err (codes "22003")
 
 -- the text that fits, or the condition that a character is lost
-abbrev pub as_text : Result (List ℕ) TextFault → Result Datum (List ℕ)
+abbrev pub as_text : Result (List ℕ) TextFault → Result Datum SqlState
 as_text (Ok t) = Ok (Text t)
 as_text (Err fault) = Err (codes "22001")
 
 -- a text may lose blanks alone, and CHAR is filled with blanks; a type of numbers holds no text
-abbrev pub stored_text : SqlType → List ℕ → Result Datum (List ℕ)
+abbrev pub stored_text : SqlType → List ℕ → Result Datum SqlState
 stored_text (Char n) t = as_text (text.stored n true t)
 stored_text (VarChar n) t = as_text (text.stored n false t)
 stored_text SmallInt t = Err (codes "22001")
@@ -44,7 +45,7 @@ stored_text Integer t = Err (codes "22001")
 stored_text (Numeric p s) t = Err (codes "22001")
 
 -- the value that is stored, or the SQLSTATE of the condition that it can't be
-abbrev pub stored : SqlType → Datum → Result Datum (List ℕ)
+abbrev pub stored : SqlType → Datum → Result Datum SqlState
 stored to Null = Ok Null
 stored to (Num n) = stored_number to n
 stored to (Text t) = stored_text to t

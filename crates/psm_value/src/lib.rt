@@ -3,14 +3,17 @@
 #![tactic(auto)]
 
 mod arithmetic;
+mod casting;
 mod datum;
 mod fault;
 mod order;
 mod sqltype;
 mod steps;
+mod storing;
 mod truth;
 
 pub use arithmetic::{add, div, mul, neg, sub};
+pub use casting::{cast, cast_reads_literals};
 pub use datum::Datum;
 pub use fault::ValueFault;
 pub use order::{compare, data_order_is_total};
@@ -19,4 +22,8 @@ pub use psm_sqlstate::SqlState;
 pub use psm_text::Text;
 pub use sqltype::SqlType;
 pub use steps::Steps;
+pub use storing::{fetch_into, store_into};
 pub use truth::Truth;
+
+#[cfg(test)]
+mod tests;

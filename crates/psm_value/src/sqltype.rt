@@ -1,3 +1,6 @@
+ghost use Rattle.std.specs.Prelude.{◌↔◌, IsTrue};
+ghost use Rattle.psm_value.specs.SqlType.{IsType};
+
 /// A type that a value is stored in (ISO/IEC 9075:1992, 6.1).
 #[derive(Clone, Copy, Debug, PartialEq, Eq)]
 pub enum SqlType {
@@ -11,4 +14,18 @@ pub enum SqlType {
     Char { n: u16 },
     /// At most `n` characters.
     VarChar { n: u16 },
+}
+
+impl SqlType {
+    /// Whether the digits, decimals and lengths are those that a type may have: 1 to 18 digits, of which at
+    /// most all stand behind the point, and 1 to 4000 characters.
+    pub fn is_within_bounds(self) -> bool
+        ensures { IsTrue result ↔ IsType self }
+    {
+        match self {
+            SqlType::SmallInt | SqlType::Integer => true,
+            SqlType::Numeric { p, s } => 1 <= p && p <= 18 && s <= p,
+            SqlType::Char { n } | SqlType::VarChar { n } => 1 <= n && n <= 4000,
+        }
+    }
 }
