@@ -1,17 +1,17 @@
 -- The causes of the answer, from what was prepared and what was put.
-use Rattle.std.proofs.Common.{◌≡◌, ℕ, List, [], ◌∷◌, Option, Some, None, Result, Ok, Err, refl, sym, ap, ◌∙◌, subst, inl, inr}
+use Rattle.std.proofs.Common.{◌≡◌, ℕ, List, [], ◌∷◌, Some, None, Err, refl, sym, ap, ◌∙◌, subst, inl, inr}
 use Rattle.std.specs.Prelude.{◌⊎◌}
-use Rattle.psm_tree.specs.Session.{Session, End, Done, Stopped, session}
+use Rattle.psm_tree.specs.Session.{Session, End, Done, Stopped}
 use Rattle.psm_tree.specs.declared.tree.Script.{Script}
 use Rattle.psm_machine.specs.Played.{played}
 use Rattle.psm_machine.specs.declared.code.Code.{Code}
 use Rattle.psm.specs.Words.{Files, files_of}
 use Rattle.psm.specs.Message.{usage, cannot_read}
-use Rattle.psm.specs.Put.{Sunk, PutAll, PutSome, PutFirst}
+use Rattle.psm.specs.Put.{Sunk}
 use Rattle.psm.specs.Program.{Ends, turns_bound}
-use Rattle.psm.specs.Contract.{Fetches, NoneFailed, IsDue, IsUnread, OwesFiles, Asked, OwesNamed, IsMisused, Owes, Settles, Breaks, RunsOut, RunsOutAfter, Says}
-use Rattle.psm.specs.Prepared.{name_of, status_of, line_of, IsFailed, IsReady, Prepares}
-use Rattle.psm.specs.Report.{IsPut, IsBroken, IsOut, Puts, Reports, Runs}
+use Rattle.psm.specs.Contract.{NoneFailed, Asked, Owes, Settles, Says}
+use Rattle.psm.specs.Prepared.{name_of, line_of, IsReady, Prepares}
+use Rattle.psm.specs.Report.{Puts, Reports, Runs}
 use Rattle.psm.specs.declared.prepare.Which.{Which}
 use Rattle.psm.specs.declared.prepare.Which.TheVariants as which
 use Rattle.psm.specs.declared.prepare.Refusal.{Refusal}

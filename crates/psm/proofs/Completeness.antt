@@ -1,22 +1,20 @@
 -- What is due is answered, where nothing outside fails.
-use Rattle.std.proofs.Common.{◌≡◌, ℕ, ◌<◌, ◌≤◌, List, [], ◌∷◌, length, Option, Some, None, Result, Ok, Err, refl, sym, ap, ◌∙◌, subst, inl, inr, arith}
+use Rattle.std.proofs.Common.{◌≡◌, ℕ, ◌<◌, ◌≤◌, List, length, Some, None, Err, refl, sym, ap, ◌∙◌, subst, inl, inr, arith}
 use Rattle.std.specs.Prelude.{◌⊎◌}
-use Rattle.psm_tree.specs.Accepted.{IsModuleFile, IsScriptFile}
+use Rattle.psm_tree.specs.Accepted.{IsScriptFile}
 use Rattle.psm_tree.specs.Session.{Session, End, Done, Stopped, session}
 use Rattle.psm_tree.specs.declared.tree.Module.{Module}
-use Rattle.psm_tree.specs.declared.tree.Signature.{Signature}
 use Rattle.psm_tree.specs.declared.tree.Script.{Script}
 use Rattle.psm_tree.proofs.Once.{module_once, script_once}
 use Rattle.psm_machine.specs.Played.{played}
 use Rattle.psm_machine.specs.declared.code.Code.{Code}
 use Rattle.psm.specs.Words.{Files, files_of}
 use Rattle.psm.specs.Message.{usage}
-use Rattle.psm.specs.Put.{Sunk, PutAll, PutSome, PutFirst}
-use Rattle.psm.specs.Program.{most_bytes, turns_bound, IsModuleOf, IsNoModule, IsScriptOf, IsNoScript, Ends, IsLongModule, IsRefusedModule, IsLongScript, IsRefusedScript, Due}
-use Rattle.psm.specs.Contract.{Fetches, Tells, NoneFailed, IsDue, Asked, Stayed, Answers, Completes}
-use Rattle.psm.specs.Prepared.{name_of, status_of, line_of, IsFailed, IsReady, Prepares}
-use Rattle.psm.specs.Report.{IsPut, IsBroken, IsOut, Puts, Reports, Runs}
-use Rattle.psm.specs.declared.prepare.Which.{Which}
+use Rattle.psm.specs.Put.{Sunk}
+use Rattle.psm.specs.Program.{most_bytes, turns_bound, IsModuleOf, IsScriptOf, Ends, IsLongModule, IsRefusedModule, IsLongScript, IsRefusedScript, Due}
+use Rattle.psm.specs.Contract.{Fetches, Asked, Stayed, Answers, Completes}
+use Rattle.psm.specs.Prepared.{status_of, IsReady, Prepares}
+use Rattle.psm.specs.Report.{Puts, Reports, Runs}
 use Rattle.psm.specs.declared.prepare.Which.TheVariants as which
 use Rattle.psm.specs.declared.prepare.Refusal.{Refusal}
 use Rattle.psm.specs.declared.prepare.Refusal.TheVariants as refusals

@@ -1,18 +1,14 @@
 -- The refusals of the two files, put together from their steps.
-use Rattle.std.proofs.Common.{◌≡◌, ℕ, ◌<◌, ◌≤◌, List, [], ◌∷◌, length, Option, Some, None, Result, Ok, Err, refl, sym, ap, ◌∙◌, subst, inl, inr, arith}
+use Rattle.std.proofs.Common.{◌≡◌, ℕ, List, [], Option, Ok, Err, refl, sym, ◌∙◌, subst, inl, inr}
 use Rattle.std.specs.Prelude.{unwrap_or}
-use Rattle.std.specs.Global.{Vec}
 use Rattle.psm_io.specs.Count.{Rose}
 use Rattle.psm_tree.specs.Accepted.{IsScriptFile}
-use Rattle.psm_tree.specs.declared.tree.Module.{Module}
 use Rattle.psm_tree.specs.declared.tree.Signature.{Signature}
 use Rattle.psm_tree.specs.declared.tree.Script.{Script}
 use Rattle.psm_machine.specs.declared.code.Code.{Code}
 use Rattle.psm.specs.Words.{Files}
-use Rattle.psm.specs.Program.{most_bytes, IsModuleOf, IsNoModule, IsScriptOf, IsNoScript}
-use Rattle.psm.specs.Contract.{Fetches, Tells, NoneFailed, IsDue}
-use Rattle.psm.specs.Prepared.{IsRead, IsTooLong, IsFailed, Gets, StandsFor, IsCodeOf, Builds, IsNoScriptFor, IsScriptFor, Scripts, name_of, IsReady, Prepares}
-use Rattle.psm.specs.declared.prepare.Which.{Which}
+use Rattle.psm.specs.Contract.{Fetches, Tells, NoneFailed}
+use Rattle.psm.specs.Prepared.{IsRead, IsFailed, Gets, IsCodeOf, Builds, Scripts, IsReady, Prepares}
 use Rattle.psm.specs.declared.prepare.Which.TheVariants as which
 use Rattle.psm.specs.declared.prepare.Refusal.{Refusal}
 use Rattle.psm.specs.declared.prepare.Refusal.TheVariants as refusals

@@ -1,7 +1,7 @@
 -- Puts one after the other.
-use Rattle.std.proofs.Common.{◌≡◌, ℕ, zero, suc, ◌+◌, ◌<◌, ◌≤◌, List, [], ◌∷◌, ◌++◌, length, take, Option, Some, None, refl, sym, ap, ◌∙◌, subst, append_assoc, arith, inl, inr}
-use Rattle.std.specs.Prelude.{option_map, ◌⊎◌}
-use Rattle.std.proofs.lemmas.List.{append-nil, take-append-le, take_at, length-append}
+use Rattle.std.proofs.Common.{◌≡◌, ℕ, zero, suc, ◌+◌, List, [], ◌∷◌, ◌++◌, length, take, Option, Some, None, refl, sym, ap, ◌∙◌, subst, append_assoc, arith}
+use Rattle.std.specs.Prelude.{option_map}
+use Rattle.std.proofs.lemmas.List.{append-nil, take_at}
 use Rattle.psm_io.specs.Count.{Rose}
 use Rattle.psm_io.specs.Sink.{Grew}
 use Rattle.psm.specs.Put.{joined, Sunk, PutAll, PutSome, PutFirst}

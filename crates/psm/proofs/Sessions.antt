@@ -1,8 +1,8 @@
 -- A session, command by command.
-use Rattle.std.proofs.Common.{◌≡◌, ℕ, zero, suc, ◌+◌, ◌<◌, ◌≤◌, List, [], ◌∷◌, ◌++◌, length, get_or, drop, Option, Some, None, refl, sym, ap, ◌∙◌, subst, append_assoc, arith, add-one, drop-cons}
+use Rattle.std.proofs.Common.{◌≡◌, ℕ, suc, ◌+◌, ◌<◌, List, [], ◌∷◌, ◌++◌, length, get_or, drop, Option, refl, sym, ap, ◌∙◌, subst, append_assoc, add-one, drop-cons}
 use Rattle.psm_tree.specs.Meaning.{Ending, Ended, Left, TurnsUsed, Activated}
 use Rattle.psm_tree.specs.Piece.{call_piece}
-use Rattle.psm_tree.specs.Session.{Session, Done, Stopped, given, then_more, after_call, after_ending}
+use Rattle.psm_tree.specs.Session.{Session, Stopped, then_more, after_call, after_ending}
 use Rattle.psm_tree.specs.declared.tree.Signature.{Signature}
 use Rattle.psm_tree.specs.declared.tree.Command.{Command}
 use Rattle.psm_tree.specs.declared.tree.Command.TheVariants.{Call}

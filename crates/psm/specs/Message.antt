@@ -1,5 +1,5 @@
 -- The lines that say why nothing was run.
-use Rattle.std.specs.Prelude.{ℕ, List, [], ◌∷◌, ◌++◌, codes}
+use Rattle.std.specs.Prelude.{ℕ, List, ◌++◌, codes}
 
 abbrev pub usage : List ℕ
 usage = codes "usage: psm run M S\n"

@@ -1,5 +1,5 @@
 -- What is known of the two files, step by step.
-use Rattle.std.specs.Prelude.{◌≡◌, ℕ, ◌<◌, ◌≤◌, List, [], ◌∷◌, length, Option, Result, Ok, Err}
+use Rattle.std.specs.Prelude.{◌≡◌, ℕ, ◌<◌, ◌≤◌, List, [], ◌∷◌, length, Result, Ok, Err}
 use Rattle.std.specs.Global.{Vec}
 use Rattle.psm_io.specs.Count.{Rose}
 use Rattle.psm_tree.specs.Accepted.{IsScriptFile}

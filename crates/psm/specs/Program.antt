@@ -1,7 +1,7 @@
 -- What the program owes for two files, where nothing outside fails: a status and pieces of text.
 use Rattle.std.specs.Prelude.{◌≡◌, ℕ, ◌<◌, ◌≤◌, ◌⊎◌, List, [], ◌∷◌, length}
 use Rattle.psm_tree.specs.Accepted.{IsModuleFile, IsScriptFile}
-use Rattle.psm_tree.specs.Session.{Session, End, Done, Stopped, session}
+use Rattle.psm_tree.specs.Session.{End, Done, Stopped, session}
 use Rattle.psm_tree.specs.declared.tree.Module.{Module}
 use Rattle.psm_tree.specs.declared.tree.Script.{Script}
 use Rattle.psm.specs.Words.{Files}

@@ -1,6 +1,5 @@
 -- What running a script leaves in the sink.
-use Rattle.std.specs.Prelude.{◌≡◌, ℕ, List, [], ◌∷◌, Option, Some}
-use Rattle.psm_value.specs.declared.datum.Datum.{Datum}
+use Rattle.std.specs.Prelude.{◌≡◌, ℕ, [], ◌∷◌, Option, Some}
 use Rattle.psm_tree.specs.Meaning.{Ending, Ended, Left, TurnsUsed, Activated}
 use Rattle.psm_tree.specs.Piece.{call_piece}
 use Rattle.psm_tree.specs.Session.{Session, Done, Stopped, given}

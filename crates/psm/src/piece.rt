@@ -6,7 +6,7 @@ ghost use Rattle.psm_value.specs.declared.datum.Datum.{Datum};
 use itoa::Buffer;
 use psm_machine::RunEnd;
 use psm_tree::{Mode, Name, Parameter, Signature};
-use psm_value::{Condition, Datum};
+use psm_value::{Datum, SqlState};
 use std::alloc::{AllocError, Global};
 
 /// The lines that a CALL prints, as command `number` of its script.
@@ -55,13 +55,13 @@ fn put_last_lines(
     }
 }
 
-fn put_condition(out: &mut Vec<u8>, condition: Condition) -> Result<(), AllocError>
-    ensures { OnOk result (out.new.items ≡ out.old.items ++ condition_line condition) }
+fn put_condition(out: &mut Vec<u8>, state: SqlState) -> Result<(), AllocError>
+    ensures { OnOk result (out.new.items ≡ out.old.items ++ condition_line state) }
 {
     out.extend_from_slice(b"SQLSTATE ")?;
-    out.extend_from_slice(condition.state().as_bytes())?;
+    out.extend_from_slice(state.text().as_bytes())?;
     out.extend_from_slice(b" ")?;
-    out.extend_from_slice(condition.message().as_bytes())?;
+    out.extend_from_slice(state.message().as_bytes())?;
     out.extend_from_slice(b"\n")?;
     Ok(())
 }

@@ -9,7 +9,7 @@ use crate::piece::piece_of_call;
 use psm_io::{Sink, SinkFault};
 use psm_machine::{Code, RunEnd, run};
 use psm_tree::{Argument, Command, Script};
-use psm_value::{Datum, Number};
+use psm_value::Datum;
 use std::alloc::{AllocError, Global};
 
 /// How the run of a script ends.
@@ -103,9 +103,7 @@ fn values_of(alloc: Global, arguments: &[Argument]) -> Result<Vec<Datum>, AllocE
     let mut values = Vec::new(alloc);
     for argument in arguments {
         match argument {
-            Argument::Number(numeral) => {
-                values.push(Datum::Num(Number::from_u32(numeral.value())))?;
-            }
+            Argument::Number(numeral) => values.push(numeral.datum())?,
             Argument::Placeholder => {}
         }
     }

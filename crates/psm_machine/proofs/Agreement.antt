@@ -1,11 +1,11 @@
 -- A run of a procedure's code is the procedure's activation, and a script prints the same over both.
-use Rattle.std.proofs.Common.{◌≡◌, ℕ, zero, suc, ◌+◌, ◌<◌, Bool, true, false, ◌&&◌, cond, List, [], ◌∷◌, ◌++◌, length, Option, Some, None, Result, Ok, Err, refl, sym, ap, ◌∙◌, subst, arith}
+use Rattle.std.proofs.Common.{◌≡◌, ℕ, zero, suc, ◌+◌, List, [], ◌∷◌, Option, Some, Result, Ok, Err, refl, ap, ◌∙◌}
 use Rattle.std.specs.Prelude.{option_map}
-use Rattle.psm_value.specs.declared.condition.Condition.{Condition}
+use Rattle.psm_sqlstate.specs.declared.state.SqlState.{SqlState}
 use Rattle.psm_value.specs.declared.datum.Datum.{Datum}
 use Rattle.psm_tree.specs.Names.{names_of}
 use Rattle.psm_tree.specs.Frame.{Frame}
-use Rattle.psm_tree.specs.Accepted.{IsTarget, IsResolved, IsWellNamed, IsKnownSum}
+use Rattle.psm_tree.specs.Accepted.{IsResolved}
 use Rattle.psm_tree.specs.Meaning.{Outcome, Normal, executed, after_storing, sum_value, with_value, entry_frame, activated, from_entry, at_end, Activated}
 use Rattle.psm_tree.specs.Meaning as meaning
 use Rattle.psm_tree.specs.Session.{Session, commands_from, session, given, after_call, after_ending, then_more}
@@ -22,14 +22,14 @@ use Rattle.psm_tree.specs.declared.tree.Command.{Command}
 use Rattle.psm_tree.specs.declared.tree.Command.TheVariants.{Call}
 use Rattle.psm_tree.specs.declared.tree.Script.{Script}
 use Rattle.psm_machine.specs.declared.code.Code.{Code}
-use Rattle.psm_machine.specs.Machine.{Halt, AtEnd, WithCondition, halt, ended, entry_slots, ran, run_from, run_with}
+use Rattle.psm_machine.specs.Machine.{Halt, halt, ended, entry_slots, ran, run_from, run_with}
 use Rattle.psm_machine.specs.Lowered.{body_lines}
 use Rattle.psm_machine.specs.Played.{played_from, played, after_run}
 use Rattle.psm_machine.proofs.Frames.{values_of, Stands, assigned-stands, as_slots, entry_slots-frame, IfFrame, entry_frame-stands, results-values}
 use Rattle.psm_machine.proofs.Simulation.{body_runs, halted, with_operands}
 
 -- the frame that a body leaves has the same variables
-after_storing-stands : (ps : List Parameter) (frame : Frame) (target : List ℕ) (r : Result Datum Condition) → Stands ps frame → Stands ps (after_storing target frame r).frame
+after_storing-stands : (ps : List Parameter) (frame : Frame) (target : List ℕ) (r : Result Datum SqlState) → Stands ps frame → Stands ps (after_storing target frame r).frame
 after_storing-stands ps frame target (Ok v) s = assigned-stands ps frame target v s
 after_storing-stands ps frame target (Err c) s = s
 
@@ -50,7 +50,7 @@ run_with-turn p code frame (suc turns) same lines resolved s =
     (ap (λ ls. halt ls (with_operands frame [])) lines ∙ body_runs p.signature.parameters frame p.body s resolved)
     ∙ ap Some (ended-halted p.signature.parameters turns (executed p.body frame).outcome (executed p.body frame).frame (executed-stands p.signature.parameters frame p.body s))
 
-run_from-entry : (p : Procedure) (code : Code) (entry : Result Frame Condition) (turns : ℕ) → code.signature ≡ p.signature → code.lines ≡ body_lines (names_of p.signature.parameters) p.body → IsResolved p.signature.parameters p.body → IfFrame entry (Stands p.signature.parameters)
+run_from-entry : (p : Procedure) (code : Code) (entry : Result Frame SqlState) (turns : ℕ) → code.signature ≡ p.signature → code.lines ≡ body_lines (names_of p.signature.parameters) p.body → IsResolved p.signature.parameters p.body → IfFrame entry (Stands p.signature.parameters)
     → run_from code turns (as_slots entry) ≡ Some (from_entry p.body entry turns)
 run_from-entry p code (Ok frame) turns same lines resolved s = run_with-turn p code frame turns same lines resolved s
 run_from-entry p code (Err c) turns same lines resolved s = refl

@@ -1,7 +1,7 @@
 -- A frame by names and the slots that stand for it.
-use Rattle.std.proofs.Common.{◌≡◌, ℕ, zero, suc, ◌+◌, ◌<◌, Bool, true, false, cond, List, [], ◌∷◌, length, Option, Some, None, Result, Ok, Err, refl, sym, ap, ◌∙◌, arith}
-use Rattle.std.specs.Prelude.{map, slice_get, slice_set, IsSome, unwrap_or, option_map}
-use Rattle.psm_value.specs.declared.condition.Condition.{Condition}
+use Rattle.std.proofs.Common.{◌≡◌, ℕ, suc, Bool, true, false, cond, List, [], ◌∷◌, Option, Some, None, Result, Ok, Err, refl, sym, ap, ◌∙◌}
+use Rattle.std.specs.Prelude.{slice_get, slice_set, IsSome, unwrap_or, option_map}
+use Rattle.psm_sqlstate.specs.declared.state.SqlState.{SqlState}
 use Rattle.psm_value.specs.declared.datum.Datum.{Datum}
 use Rattle.psm_value.specs.declared.datum.Datum.TheVariants.{Null}
 use Rattle.psm_value.specs.declared.sqltype.SqlType.TheVariants.{Integer}
@@ -75,19 +75,19 @@ assigned-stands (p ∷ ps) (v ∷ vs) name value s = here (same_name name v.name
 -- ---- the way in and the way out
 
 -- the slots that stand for the frame at entry, or the condition
-abbrev pub as_slots : Result Frame Condition → Result (List Datum) Condition
+abbrev pub as_slots : Result Frame SqlState → Result (List Datum) SqlState
 as_slots (Ok frame) = Ok (values_of frame)
 as_slots (Err c) = Err c
 
-as_slots-before_others : (v : Variable) (others : Result Frame Condition) → slot_before v.value (as_slots others) ≡ as_slots (before_others v others)
+as_slots-before_others : (v : Variable) (others : Result Frame SqlState) → slot_before v.value (as_slots others) ≡ as_slots (before_others v others)
 as_slots-before_others v (Ok others) = refl
 as_slots-before_others v (Err c) = refl
 
-stored_before : (p : Parameter) (r : Result Datum Condition) (slots : Result (List Datum) Condition) (others : Result Frame Condition) → slots ≡ as_slots others → slot_stored r slots ≡ as_slots (with_value r (λ v. before_others (variable_for p v) others))
+stored_before : (p : Parameter) (r : Result Datum SqlState) (slots : Result (List Datum) SqlState) (others : Result Frame SqlState) → slots ≡ as_slots others → slot_stored r slots ≡ as_slots (with_value r (λ v. before_others (variable_for p v) others))
 stored_before p (Ok v) slots others e = ap (slot_before v) e ∙ as_slots-before_others (variable_for p v) others
 stored_before p (Err c) slots others e = refl
 
-pub slots_with-frame_with : (mode : Mode) (p : Parameter) (args : List Datum) (slots : List Datum → Result (List Datum) Condition) (others : List Datum → Result Frame Condition) → ((as' : List Datum) → slots as' ≡ as_slots (others as'))
+pub slots_with-frame_with : (mode : Mode) (p : Parameter) (args : List Datum) (slots : List Datum → Result (List Datum) SqlState) (others : List Datum → Result Frame SqlState) → ((as' : List Datum) → slots as' ≡ as_slots (others as'))
     → slots_with mode args slots ≡ as_slots (frame_with mode p args others)
 slots_with-frame_with Out p args slots others e = ap (slot_before Null) (e args) ∙ as_slots-before_others (variable_for p Null) (others args)
 slots_with-frame_with In p [] slots others e = ap (slot_before Null) (e []) ∙ as_slots-before_others (variable_for p Null) (others [])
@@ -100,19 +100,19 @@ entry_slots-frame [] args = refl
 entry_slots-frame (p ∷ ps) args = slots_with-frame_with p.mode p args (entry_slots ps) (entry_frame ps) (entry_slots-frame ps)
 
 -- what is said of a frame where there is one
-abbrev pub IfFrame : Result Frame Condition → (Frame → Type 0) → Type 0
+abbrev pub IfFrame : Result Frame SqlState → (Frame → Type 0) → Type 0
 IfFrame (Ok frame) P = P frame
 IfFrame (Err c) P = Unit {0}
 
-stands_before : (p : Parameter) (ps : List Parameter) (value : Datum) (others : Result Frame Condition) → IfFrame others (Stands ps) → IfFrame (before_others (variable_for p value) others) (Stands (p ∷ ps))
+stands_before : (p : Parameter) (ps : List Parameter) (value : Datum) (others : Result Frame SqlState) → IfFrame others (Stands ps) → IfFrame (before_others (variable_for p value) others) (Stands (p ∷ ps))
 stands_before p ps value (Ok others) h = (refl, refl, h)
 stands_before p ps value (Err c) h = tt
 
-stands_stored : (p : Parameter) (ps : List Parameter) (r : Result Datum Condition) (others : Result Frame Condition) → IfFrame others (Stands ps) → IfFrame (with_value r (λ v. before_others (variable_for p v) others)) (Stands (p ∷ ps))
+stands_stored : (p : Parameter) (ps : List Parameter) (r : Result Datum SqlState) (others : Result Frame SqlState) → IfFrame others (Stands ps) → IfFrame (with_value r (λ v. before_others (variable_for p v) others)) (Stands (p ∷ ps))
 stands_stored p ps (Ok v) others h = stands_before p ps v others h
 stands_stored p ps (Err c) others h = tt
 
-stands_with : (mode : Mode) (p : Parameter) (ps : List Parameter) (args : List Datum) (others : List Datum → Result Frame Condition) → ((as' : List Datum) → IfFrame (others as') (Stands ps)) → IfFrame (frame_with mode p args others) (Stands (p ∷ ps))
+stands_with : (mode : Mode) (p : Parameter) (ps : List Parameter) (args : List Datum) (others : List Datum → Result Frame SqlState) → ((as' : List Datum) → IfFrame (others as') (Stands ps)) → IfFrame (frame_with mode p args others) (Stands (p ∷ ps))
 stands_with Out p ps args others h = stands_before p ps Null (others args) (h args)
 stands_with In p ps [] others h = stands_before p ps Null (others []) (h [])
 stands_with InOut p ps [] others h = stands_before p ps Null (others []) (h [])

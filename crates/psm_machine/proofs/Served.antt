@@ -1,12 +1,12 @@
 -- The lines of a body are well formed.
-use Rattle.std.proofs.Common.{◌≡◌, ℕ, zero, suc, ◌+◌, ◌-◌, ◌<◌, Bool, true, false, ◌&&◌, cond, List, [], ◌∷◌, ◌++◌, length, Option, Some, None, refl, sym, ap, ◌∙◌, subst, arith}
-use Rattle.std.specs.Prelude.{map, IsSome, IsTrue, unwrap_or, option_map, nat_lt}
+use Rattle.std.proofs.Common.{◌≡◌, ℕ, suc, ◌+◌, ◌<◌, Bool, true, false, cond, List, [], ◌∷◌, ◌++◌, length, Option, Some, refl, sym, ap, ◌∙◌, arith}
+use Rattle.std.specs.Prelude.{IsSome, unwrap_or, option_map, nat_lt}
 use Rattle.std.specs.List.{flat_map, AllByRecursion}
 use Rattle.std.proofs.lemmas.Bool.{lt-ltb}
 use Rattle.std.proofs.lemmas.List.{length-map}
 use Rattle.std.proofs.lemmas.List.Concat.{flat_map-cons}
 use Rattle.psm_tree.specs.Names.{same_name, place_of, names_of}
-use Rattle.psm_tree.specs.Accepted.{IsTarget, IsKnown, IsKnownTerm, IsKnownSum, IsResolved}
+use Rattle.psm_tree.specs.Accepted.{IsKnown, IsKnownTerm, IsResolved}
 use Rattle.psm_tree.specs.declared.tree.Parameter.{Parameter}
 use Rattle.psm_tree.specs.declared.tree.Operand.{Operand}
 use Rattle.psm_tree.specs.declared.tree.Operand.TheVariants as operands
@@ -16,7 +16,7 @@ use Rattle.psm_tree.specs.declared.tree.Term.{Term}
 use Rattle.psm_tree.specs.declared.tree.Statement.{Statement}
 use Rattle.psm_tree.specs.declared.tree.Statement.TheVariants.{Set}
 use Rattle.psm_machine.specs.declared.code.Instr.{Instr}
-use Rattle.psm_machine.specs.declared.code.Instr.TheVariants.{Const, Var, Add, Sub, Store, End}
+use Rattle.psm_machine.specs.declared.code.Instr.TheVariants.{Store, End}
 use Rattle.psm_machine.specs.WellFormed.{is_well_formed}
 use Rattle.psm_machine.specs.Lowered.{slot_of, operand_line, sign_line, term_lines, body_lines, IsKnownBody}
 use Rattle.psm_machine.proofs.Frames.{some_suc, slot_suc}

@@ -1,18 +1,16 @@
 -- The code of a procedure does what the procedure means.
-use Rattle.std.proofs.Common.{◌≡◌, ℕ, zero, suc, ◌+◌, ◌<◌, Bool, true, false, ◌&&◌, cond, List, [], ◌∷◌, ◌++◌, length, Option, Some, None, Result, Ok, Err, refl, sym, ap, ◌∙◌, append_assoc, arith}
-use Rattle.std.specs.Prelude.{map, pos, slice_get, slice_set, IsSome, IsTrue, unwrap_or, option_map, nat_lt}
+use Rattle.std.proofs.Common.{◌≡◌, ℕ, List, [], ◌∷◌, ◌++◌, Option, Some, Result, Ok, Err, refl, sym, ap, ◌∙◌}
+use Rattle.std.specs.Prelude.{IsSome}
 use Rattle.std.specs.List.{flat_map, AllByRecursion}
 use Rattle.std.proofs.lemmas.List.Concat.{flat_map-cons}
-use Rattle.psm_value.specs.declared.condition.Condition.{Condition}
+use Rattle.psm_sqlstate.specs.declared.state.SqlState.{SqlState}
 use Rattle.psm_value.specs.declared.datum.Datum.{Datum}
-use Rattle.psm_value.specs.declared.datum.Datum.TheVariants.{Null, Num}
 use Rattle.psm_value.specs.declared.sqltype.SqlType.TheVariants.{Integer}
 use Rattle.psm_value.specs.Stored.{stored}
-use Rattle.psm_value.specs.Datum.{sum_of, difference_of}
-use Rattle.psm_tree.specs.Numeral.{number_of}
+use Rattle.psm_value.specs.Arithmetic.{sum_of, difference_of}
 use Rattle.psm_tree.specs.Names.{place_of, names_of}
-use Rattle.psm_tree.specs.Frame.{Frame, Variable, value_of, assigned}
-use Rattle.psm_tree.specs.Accepted.{IsTarget, IsKnown, IsKnownTerm, IsKnownSum, IsResolved}
+use Rattle.psm_tree.specs.Frame.{Frame}
+use Rattle.psm_tree.specs.Accepted.{IsTarget, IsKnown, IsKnownTerm, IsResolved}
 use Rattle.psm_tree.specs.Meaning.{Outcome, Normal, Executed, executed, after_storing, operand_value, signed_value, terms_value, sum_value, with_value, entry_frame, activated, from_entry, with_turn, at_end, ending_of, out_values, Activated, Ended, Left, TurnsUsed}
 use Rattle.psm_tree.specs.Meaning as meaning
 use Rattle.psm_tree.specs.declared.tree.Parameter.{Parameter}
@@ -21,18 +19,16 @@ use Rattle.psm_tree.specs.declared.tree.Operand.TheVariants as operands
 use Rattle.psm_tree.specs.declared.tree.Sign.{Sign}
 use Rattle.psm_tree.specs.declared.tree.Sign.TheVariants.{Plus, Minus}
 use Rattle.psm_tree.specs.declared.tree.Term.{Term}
-use Rattle.psm_tree.specs.declared.tree.Sum.{Sum}
 use Rattle.psm_tree.specs.declared.tree.Statement.{Statement}
 use Rattle.psm_tree.specs.declared.tree.Statement.TheVariants.{Set}
-use Rattle.psm_tree.specs.declared.tree.Procedure.{Procedure}
 use Rattle.psm_machine.specs.declared.code.Instr.{Instr}
-use Rattle.psm_machine.specs.declared.code.Instr.TheVariants.{Const, Var, Add, Sub, Store, End}
-use Rattle.psm_machine.specs.Machine.{State, Turned, More, Halt, AtEnd, WithCondition, row, go_on, halt, pushed, with_result, on_two, storing, in_slot}
-use Rattle.psm_machine.specs.Lowered.{slot_of, operand_line, sign_line, term_lines, sum_lines, body_lines}
-use Rattle.psm_machine.proofs.Frames.{values_of, Stands, value_at_slot, set_at_slot, assigned-stands}
+use Rattle.psm_machine.specs.declared.code.Instr.TheVariants.{Store, End}
+use Rattle.psm_machine.specs.Machine.{State, Halt, AtEnd, WithCondition, go_on, halt, pushed, with_result, in_slot}
+use Rattle.psm_machine.specs.Lowered.{slot_of, operand_line, sign_line, term_lines, body_lines}
+use Rattle.psm_machine.proofs.Frames.{values_of, Stands, value_at_slot, set_at_slot}
 
 -- goes on with a value, or halts with the condition
-abbrev pub then_halt : Result Datum Condition → (Datum → Option Halt) → Option Halt
+abbrev pub then_halt : Result Datum SqlState → (Datum → Option Halt) → Option Halt
 then_halt (Ok v) go = go v
 then_halt (Err c) go = Some (WithCondition c)
 
@@ -46,7 +42,7 @@ operand_runs ps frame (operands.Number digits) rest stack s known = refl
 operand_runs ps frame (operands.Name name) rest stack s known =
     ap (λ (o : Option Datum). go_on (pushed (values_of frame) stack o) (halt rest)) (value_at_slot ps frame name s known)
 
-result_goes_on : (slots stack : List Datum) (rest : List Instr) (r : Result Datum Condition)
+result_goes_on : (slots stack : List Datum) (rest : List Instr) (r : Result Datum SqlState)
     → go_on (with_result slots stack r) (halt rest) ≡ then_halt r (λ w. halt rest (record { slots = slots; operands = w ∷ stack }))
 result_goes_on slots stack rest (Ok v) = refl
 result_goes_on slots stack rest (Err c) = refl
@@ -56,11 +52,11 @@ sign_runs : (frame : Frame) (sign : Sign) (a b : Datum) (rest : List Instr) (sta
 sign_runs frame Plus a b rest stack = result_goes_on (values_of frame) stack rest (sum_of a b)
 sign_runs frame Minus a b rest stack = result_goes_on (values_of frame) stack rest (difference_of a b)
 
-then_halt-with_value : (r : Result Datum Condition) (f : Datum → Result Datum Condition) (go : Datum → Option Halt) → then_halt (with_value r f) go ≡ then_halt r (λ v. then_halt (f v) go)
+then_halt-with_value : (r : Result Datum SqlState) (f : Datum → Result Datum SqlState) (go : Datum → Option Halt) → then_halt (with_value r f) go ≡ then_halt r (λ v. then_halt (f v) go)
 then_halt-with_value (Ok v) f go = refl
 then_halt-with_value (Err c) f go = refl
 
-then_halt-same : (r : Result Datum Condition) (f g : Datum → Option Halt) → ((v : Datum) → f v ≡ g v) → then_halt r f ≡ then_halt r g
+then_halt-same : (r : Result Datum SqlState) (f g : Datum → Option Halt) → ((v : Datum) → f v ≡ g v) → then_halt r f ≡ then_halt r g
 then_halt-same (Ok v) f g e = e v
 then_halt-same (Err c) f g e = refl
 
@@ -81,12 +77,12 @@ abbrev pub halted : Outcome → Frame → Halt
 halted Normal frame = AtEnd (values_of frame)
 halted (meaning.Raised c) frame = WithCondition c
 
-store_runs : (ps : List Parameter) (frame : Frame) (target : List ℕ) (r : Result Datum Condition) → Stands ps frame → IsSome (place_of target (names_of ps))
+store_runs : (ps : List Parameter) (frame : Frame) (target : List ℕ) (r : Result Datum SqlState) → Stands ps frame → IsSome (place_of target (names_of ps))
     → go_on (in_slot (slot_of (names_of ps) target) (values_of frame) [] r) (halt (End ∷ [])) ≡ Some (halted (after_storing target frame r).outcome (after_storing target frame r).frame)
 store_runs ps frame target (Ok v) s known = ap (λ (slots : List Datum). Some (AtEnd slots)) (set_at_slot ps frame target v s known)
 store_runs ps frame target (Err c) s known = refl
 
-stored_runs : (ps : List Parameter) (frame : Frame) (target : List ℕ) (r : Result Datum Condition) → Stands ps frame → IsSome (place_of target (names_of ps))
+stored_runs : (ps : List Parameter) (frame : Frame) (target : List ℕ) (r : Result Datum SqlState) → Stands ps frame → IsSome (place_of target (names_of ps))
     → then_halt r (λ v. halt (Store (slot_of (names_of ps) target) ∷ End ∷ []) (with_operands frame (v ∷ [])))
     ≡ Some (halted (after_storing target frame (with_value r (stored Integer))).outcome (after_storing target frame (with_value r (stored Integer))).frame)
 stored_runs ps frame target (Ok v) s known = store_runs ps frame target (stored Integer v) s known

@@ -1,10 +1,9 @@
 -- The lines that stand for a procedure's body.
-use Rattle.std.specs.Prelude.{ℕ, pos, List, [], ◌∷◌, ◌++◌, unwrap_or, IsSome}
+use Rattle.std.specs.Prelude.{ℕ, List, [], ◌∷◌, ◌++◌, unwrap_or, IsSome}
 use Rattle.std.specs.List.{flat_map}
-use Rattle.psm_value.specs.declared.datum.Datum.TheVariants.{Num}
 use Rattle.psm_tree.specs.Names.{place_of}
 use Rattle.psm_tree.specs.Accepted.{IsKnownSum}
-use Rattle.psm_tree.specs.Numeral.{number_of}
+use Rattle.psm_tree.specs.Numeral.{numeral_value}
 use Rattle.psm_tree.specs.declared.tree.Operand.{Operand}
 use Rattle.psm_tree.specs.declared.tree.Operand.TheVariants as operands
 use Rattle.psm_tree.specs.declared.tree.Sign.{Sign}
@@ -21,7 +20,7 @@ abbrev pub slot_of : List (List ℕ) → List ℕ → ℕ
 slot_of names name = unwrap_or (place_of name names) 0
 
 abbrev pub operand_line : List (List ℕ) → Operand → Instr
-operand_line names (operands.Number digits) = Const (Num (pos (number_of digits)))
+operand_line names (operands.Number digits) = Const (numeral_value digits)
 operand_line names (operands.Name name) = Var (slot_of names name)
 
 abbrev pub sign_line : Sign → Instr

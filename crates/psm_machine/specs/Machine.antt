@@ -1,12 +1,12 @@
 -- The machine: what each instruction does, and how a run ends.
-use Rattle.std.specs.Prelude.{ℕ, zero, suc, List, [], ◌∷◌, Option, Some, None, option_map, Result, Ok, Err, slice_get, slice_set}
-use Rattle.psm_value.specs.declared.condition.Condition.{Condition}
+use Rattle.std.specs.Prelude.{ℕ, zero, suc, List, [], ◌∷◌, Option, Some, None, option_map, Result, Ok, Err, slice_get, slice_set, drop}
+use Rattle.psm_sqlstate.specs.declared.state.SqlState.{SqlState}
 use Rattle.psm_value.specs.declared.datum.Datum.{Datum}
 use Rattle.psm_value.specs.declared.datum.Datum.TheVariants.{Null}
 use Rattle.psm_value.specs.declared.sqltype.SqlType.TheVariants.{Integer}
-use Rattle.psm_value.specs.Datum.{sum_of, difference_of}
+use Rattle.psm_value.specs.Arithmetic.{sum_of, difference_of}
 use Rattle.psm_value.specs.Stored.{stored}
-use Rattle.psm_tree.specs.Meaning.{Ending, Ended, Left, TurnsUsed, Activated}
+use Rattle.psm_tree.specs.Meaning.{Ended, Left, TurnsUsed, Activated}
 use Rattle.psm_tree.specs.declared.tree.Mode.{Mode}
 use Rattle.psm_tree.specs.declared.tree.Mode.TheVariants.{In, Out, InOut}
 use Rattle.psm_tree.specs.declared.tree.Parameter.{Parameter}
@@ -26,7 +26,7 @@ pub record State : Type 0 where
 pub data Turned : Type 0 where
   More : State → Turned
   Over : List Datum → Turned
-  Raised : Condition → Turned
+  Raised : SqlState → Turned
   Lacking : Turned
 
 -- the machine with an operand more
@@ -35,18 +35,18 @@ pushed slots operands (Some v) = More (record { slots = slots; operands = v ∷ 
 pushed slots operands None = Lacking
 
 -- an operator's result as the last operand
-abbrev pub with_result : List Datum → List Datum → Result Datum Condition → Turned
+abbrev pub with_result : List Datum → List Datum → Result Datum SqlState → Turned
 with_result slots operands (Ok v) = More (record { slots = slots; operands = v ∷ operands })
 with_result slots operands (Err c) = Raised c
 
 -- an operator on the last two operands
-abbrev pub on_two : (Datum → Datum → Result Datum Condition) → List Datum → List Datum → Turned
+abbrev pub on_two : (Datum → Datum → Result Datum SqlState) → List Datum → List Datum → Turned
 on_two f slots [] = Lacking
 on_two f slots (b ∷ []) = Lacking
 on_two f slots (b ∷ a ∷ operands) = with_result slots operands (f a b)
 
 -- a value that was stored in a slot
-abbrev pub in_slot : ℕ → List Datum → List Datum → Result Datum Condition → Turned
+abbrev pub in_slot : ℕ → List Datum → List Datum → Result Datum SqlState → Turned
 in_slot i slots operands (Ok v) = More (record { slots = slice_set slots i v; operands = operands })
 in_slot i slots operands (Err c) = Raised c
 
@@ -67,7 +67,7 @@ row End m = Over m.slots
 -- how the lines end: at END with the slots, or with a condition
 pub data Halt : Type 0 where
   AtEnd : List Datum → Halt
-  WithCondition : Condition → Halt
+  WithCondition : SqlState → Halt
 
 abbrev pub go_on : Turned → (State → Option Halt) → Option Halt
 go_on (More m) next = next m
@@ -81,24 +81,35 @@ halt (i ∷ is) m = go_on (row i m) (halt is)
 
 -- ---- activations
 
--- The slots at entry, from one argument for each IN and INOUT parameter in order: each is stored in its
--- parameter. An OUT parameter starts null.
-abbrev pub slot_before : Datum → Result (List Datum) Condition → Result (List Datum) Condition
+-- what a parameter starts with, from the arguments that are left: the next one as it is stored, and null for OUT
+abbrev pub first_stored : Mode → List Datum → Result Datum SqlState
+first_stored Out args = Ok Null
+first_stored In [] = Ok Null
+first_stored InOut [] = Ok Null
+first_stored In (a ∷ args) = stored Integer a
+first_stored InOut (a ∷ args) = stored Integer a
+
+-- the arguments that are left for the later parameters
+abbrev pub after_first : Mode → List Datum → List Datum
+after_first Out args = args
+after_first In args = drop 1 args
+after_first InOut args = drop 1 args
+
+-- puts a slot before the others
+abbrev pub slot_before : Datum → Result (List Datum) SqlState → Result (List Datum) SqlState
 slot_before v (Ok slots) = Ok (v ∷ slots)
 slot_before v (Err c) = Err c
 
-abbrev pub slot_stored : Result Datum Condition → Result (List Datum) Condition → Result (List Datum) Condition
+abbrev pub slot_stored : Result Datum SqlState → Result (List Datum) SqlState → Result (List Datum) SqlState
 slot_stored (Ok v) others = slot_before v others
 slot_stored (Err c) others = Err c
 
-abbrev pub slots_with : Mode → List Datum → (List Datum → Result (List Datum) Condition) → Result (List Datum) Condition
-slots_with Out args others = slot_before Null (others args)
-slots_with In [] others = slot_before Null (others [])
-slots_with InOut [] others = slot_before Null (others [])
-slots_with In (a ∷ args) others = slot_stored (stored Integer a) (others args)
-slots_with InOut (a ∷ args) others = slot_stored (stored Integer a) (others args)
+abbrev pub slots_with : Mode → List Datum → (List Datum → Result (List Datum) SqlState) → Result (List Datum) SqlState
+slots_with mode args others = slot_stored (first_stored mode args) (others (after_first mode args))
 
-abbrev pub entry_slots : List Parameter → List Datum → Result (List Datum) Condition
+-- The slots at entry, from one argument for each IN and INOUT parameter in order: each is stored in its
+-- parameter. An OUT parameter starts null.
+abbrev pub entry_slots : List Parameter → List Datum → Result (List Datum) SqlState
 entry_slots [] args = Ok []
 entry_slots (p ∷ ps) args = slots_with p.mode args (entry_slots ps)
 
@@ -122,7 +133,7 @@ abbrev pub run_with : Code → ℕ → List Datum → Option Activated
 run_with code zero slots = Some (record { ending = TurnsUsed; turns = 0 })
 run_with code (suc turns) slots = option_map (ended code.signature.parameters turns) (halt code.lines (record { slots = slots; operands = [] }))
 
-abbrev pub run_from : Code → ℕ → Result (List Datum) Condition → Option Activated
+abbrev pub run_from : Code → ℕ → Result (List Datum) SqlState → Option Activated
 run_from code turns (Ok slots) = run_with code turns slots
 run_from code turns (Err c) = Some (record { ending = Left c; turns = turns })
 

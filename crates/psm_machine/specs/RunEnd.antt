@@ -1,7 +1,7 @@
 -- What the machine's functions answer.
-use Rattle.std.specs.Prelude.{◌≡◌, ℕ, List, length, Option, Some, Result, Ok, Err}
+use Rattle.std.specs.Prelude.{◌≡◌, ℕ, List, length, Some, Result, Ok, Err}
 use Rattle.std.specs.Global.{Vec}
-use Rattle.psm_value.specs.declared.condition.Condition.{Condition}
+use Rattle.psm_sqlstate.specs.declared.state.SqlState.{SqlState}
 use Rattle.psm_value.specs.declared.datum.Datum.{Datum}
 use Rattle.psm_tree.specs.Meaning.{Ending, Activated}
 use Rattle.psm_tree.specs.Meaning as meaning
@@ -20,6 +20,6 @@ abbrev pub Runs : Code → List Datum → ℕ → RunEnd → ℕ → Type 0
 Runs code args before end after = ran code args before ≡ Some (record { ending = ending_of end; turns = after })
 
 -- the slots at entry, one for each parameter, or the condition that is due
-abbrev pub Enters : Result (Vec Datum) Condition → Result (List Datum) Condition → ℕ → Type 0
+abbrev pub Enters : Result (Vec Datum) SqlState → Result (List Datum) SqlState → ℕ → Type 0
 Enters (Ok slots) due parameters = (due ≡ Ok slots.items) × (length slots.items ≡ parameters)
 Enters (Err c) due parameters = due ≡ Err c

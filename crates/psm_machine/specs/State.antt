@@ -1,6 +1,6 @@
 -- The machine's state as the definition of its instructions sees it.
-use Rattle.std.specs.Prelude.{◌≡◌, ℕ, reverse, Option, Some, None}
-use Rattle.psm_value.specs.declared.condition.Condition.{Condition}
+use Rattle.std.specs.Prelude.{reverse, Option, Some, None}
+use Rattle.psm_sqlstate.specs.declared.state.SqlState.{SqlState}
 use Rattle.psm_machine.specs.Machine.{State}
 use Rattle.psm_machine.specs.Machine as machine
 use Rattle.psm_machine.specs.declared.machine.Machine.{Machine}
@@ -23,6 +23,6 @@ OnMore Over P = Unit {0}
 OnMore (Raised c) P = Unit {0}
 
 -- how lines ended: with a condition, or at END with the slots
-abbrev pub halt_of : Option Condition → Machine → machine.Halt
+abbrev pub halt_of : Option SqlState → Machine → machine.Halt
 halt_of None m = machine.AtEnd m.slots.items
 halt_of (Some c) m = machine.WithCondition c

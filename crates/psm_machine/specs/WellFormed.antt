@@ -1,5 +1,5 @@
 -- Lines that never lack an operand, a slot or an end.
-use Rattle.std.specs.Prelude.{ℕ, ◌+◌, ◌-◌, List, [], ◌∷◌, Bool, true, false, ◌&&◌, ◌==◌, nat_lt}
+use Rattle.std.specs.Prelude.{ℕ, ◌+◌, ◌-◌, List, [], ◌∷◌, Bool, true, false, ◌&&◌, nat_lt}
 use Rattle.psm_machine.specs.declared.code.Instr.{Instr}
 use Rattle.psm_machine.specs.declared.code.Instr.TheVariants.{Const, Var, Add, Sub, Store, End}
 

@@ -1,15 +1,14 @@
 ghost use Rattle.std.specs.Prelude.{◌≡◌, Some, IfOk, List as Seq, ◌∷◌, Result, length, vec_len, if◌then◌else◌};
-ghost use Rattle.psm_value.specs.declared.condition.Condition.{Condition};
 ghost use Rattle.psm_value.specs.declared.datum.Datum.{Datum};
-ghost use Rattle.psm_machine.specs.Machine.{halt, entry_slots, slots_with, slot_stored, results, result_before};
+ghost use Rattle.psm_machine.specs.Machine.{halt, entry_slots, first_stored, after_first, results, result_before};
 ghost use Rattle.psm_machine.specs.State.{state_of, halt_of};
 ghost use Rattle.psm_machine.specs.RunEnd.{Enters, Runs};
 
 use crate::code::{Code, Instr};
-use crate::machine::{Machine, Turned};
+use crate::machine::{Machine, Turned, stored_integer};
 use psm_list::List;
 use psm_tree::{Mode, Parameter};
-use psm_value::{Condition, Datum, SqlType, store_into};
+use psm_value::{Datum, SqlState};
 use std::alloc::{AllocError, Global};
 
 /// How a run ends.
@@ -18,7 +17,7 @@ pub enum RunEnd {
     /// At its END, with the values of the OUT and INOUT parameters in order.
     Ended(List<Datum>),
     /// With a condition that leaves the procedure.
-    Raised(Condition),
+    Raised(SqlState),
     /// For want of a turn.
     TurnsUsed,
 }
@@ -56,37 +55,49 @@ fn enter(
     alloc: Global,
     parameters: &[Parameter],
     args: &[Datum],
-) -> Result<Result<Vec<Datum>, Condition>, AllocError>
+) -> Result<Result<Vec<Datum>, SqlState>, AllocError>
     ensures { IfOk result (λ r. Enters r (entry_slots parameters.now args.now) (length parameters.now)) }
 {
     let mut slots = Vec::new(alloc);
     let mut rest = args;
     for parameter in parameters {
-        let (value, after) = argument(parameter.mode, rest);
-        match value {
-            Ok(stored) => slots.push(stored)?,
+        match start(alloc, parameter.mode, rest)? {
+            Ok(value) => slots.push(value)?,
             Err(condition) => return Ok(Err(condition)),
         }
-        rest = after;
+        rest = others(parameter.mode, rest);
     }
     Ok(Ok(slots))
 }
 
-// What a parameter starts with, and the arguments that are left for the others.
-fn argument(mode: Mode, args: &[Datum]) -> (Result<Datum, Condition>, &[Datum])
-    ensures { (others : Seq Datum → Result (Seq Datum) Condition) → slots_with mode args.now others ≡ slot_stored result.0 (others result.1.now) }
+// What a parameter starts with, or the condition that storing its argument raises.
+fn start(alloc: Global, mode: Mode, args: &[Datum]) -> Result<Result<Datum, SqlState>, AllocError>
+    ensures { IfOk result (λ r. r ≡ first_stored mode args.now) }
 {
     match mode {
-        Mode::Out => (Ok(Datum::Null), args),
-        Mode::In | Mode::InOut => match args.split_first() {
-            None => (Ok(Datum::Null), args),
-            Some((first, rest)) => (store_into(SqlType::Integer, *first), rest),
+        Mode::Out => Ok(Ok(Datum::Null)),
+        Mode::In | Mode::InOut => match args.first() {
+            None => Ok(Ok(Datum::Null)),
+            Some(first) => stored_integer(alloc, first),
+        },
+    }
+}
+
+// The arguments that are left for the later parameters.
+fn others(mode: Mode, args: &[Datum]) -> &[Datum]
+    ensures { result.now ≡ after_first mode args.now }
+{
+    match mode {
+        Mode::Out => args,
+        Mode::In | Mode::InOut => match args {
+            [] => args,
+            [_, rest @ ..] => rest,
         },
     }
 }
 
 // Runs the lines from the first on: the condition that ended them, or `None` at END.
-fn execute(code: &Code, machine: &mut Machine) -> Result<Option<Condition>, AllocError>
+fn execute(code: &Code, machine: &mut Machine) -> Result<Option<SqlState>, AllocError>
     requires slots { vec_len machine.old.slots ≡ length code.now.signature.parameters }
     requires operands { vec_len machine.old.operands ≡ 0 }
     ensures { IfOk result (λ c. halt code.now.lines (state_of machine.old) ≡ Some (halt_of c machine.new)) }
@@ -116,7 +127,7 @@ fn results_of(
             break;
         };
         if is_returned(parameter.mode) {
-            values.push(*value)?;
+            values.push(value.copy(alloc)?)?;
         }
         rest = after;
     }

@@ -6,7 +6,7 @@ use psm_tree::Signature;
 use psm_value::Datum;
 
 /// One instruction. A slot is a parameter's place, from 0.
-#[derive(Clone, Copy, Debug, PartialEq, Eq)]
+#[derive(Debug, Drop)]
 pub enum Instr {
     /// Puts a value on the operand stack.
     Const(Datum),

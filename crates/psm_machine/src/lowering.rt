@@ -12,7 +12,6 @@ ghost use Rattle.psm_machine.specs.Played.{played};
 use crate::code::{Code, Instr};
 use psm_list::List;
 use psm_tree::{Module, Name, Names, Operand, Procedure, Sign, Signature, Statement, Sum};
-use psm_value::{Datum, Number};
 use std::alloc::{AllocError, Global};
 
 /// The code of a module's procedure: a run of it is the procedure's activation, and a script prints over
@@ -79,7 +78,7 @@ fn lower_operand(lines: &mut Vec<Instr>, names: &Names, operand: &Operand) -> Re
     ensures { OnOk result (lines.new.items ≡ lines.old.items ++ operand_line names.now operand.now ∷ []) }
 {
     let line = match operand {
-        Operand::Number(numeral) => Instr::Const(Datum::Num(Number::from_u32(numeral.value()))),
+        Operand::Number(numeral) => Instr::Const(numeral.datum()),
         Operand::Name(name) => Instr::Var(slot(names, name)),
     };
     put(lines, line)

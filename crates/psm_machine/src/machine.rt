@@ -1,11 +1,13 @@
 ghost use Rattle.std.specs.Prelude.{◌≡◌, ◌<◌, ◌+◌, ◌-◌, Some, IsTrue, IfOk, [], ◌∷◌, length, vec_len, reverse, slice_get};
-ghost use Rattle.psm_value.specs.Datum.{sum_of, difference_of};
+ghost use Rattle.psm_value.specs.Arithmetic.{sum_of, difference_of};
+ghost use Rattle.psm_value.specs.declared.sqltype.SqlType.TheVariants as data_types;
+ghost use Rattle.psm_value.specs.Stored.{stored};
 ghost use Rattle.psm_machine.specs.WellFormed.{is_served, operands_after};
 ghost use Rattle.psm_machine.specs.Machine.{row, pushed, on_two, storing};
 ghost use Rattle.psm_machine.specs.State.{state_of, turned_of, OnMore};
 
 use crate::code::Instr;
-use psm_value::{Condition, Datum, SqlType, store_into};
+use psm_value::{Datum, SqlState, SqlType, ValueFault, add, store_into, sub};
 use std::alloc::{AllocError, Global};
 
 /// The state of a run: the slots, and the operand stack with the last operand at the end.
@@ -20,7 +22,7 @@ pub struct Machine {
 pub enum Turned {
     More,
     Over,
-    Raised(Condition),
+    Raised(SqlState),
 }
 
 impl Machine {
@@ -42,7 +44,7 @@ impl Machine {
         ensures operands { IfOk result (λ t. OnMore t (vec_len self.new.operands ≡ operands_after (vec_len self.old.operands) instr.now)) }
     {
         match instr {
-            Instr::Const(value) => self.push(value),
+            Instr::Const(value) => self.push(value.copy(self.alloc())?),
             Instr::Var(slot) => self.push_slot(*slot),
             Instr::Add => self.add(),
             Instr::Sub => self.sub(),
@@ -51,12 +53,16 @@ impl Machine {
         }
     }
 
-    fn push(&mut self, value: &Datum) -> Result<Turned, AllocError>
-        ensures row { IfOk result (λ t. pushed self.old.slots.items (reverse self.old.operands.items) (Some value.now) ≡ turned_of t self.new) }
+    fn alloc(&self) -> Global {
+        *self.operands.allocator()
+    }
+
+    fn push(&mut self, value: Datum) -> Result<Turned, AllocError>
+        ensures row { IfOk result (λ t. pushed self.old.slots.items (reverse self.old.operands.items) (Some value) ≡ turned_of t self.new) }
         ensures slots { IfOk result (λ t. OnMore t (vec_len self.new.slots ≡ vec_len self.old.slots)) }
         ensures operands { IfOk result (λ t. OnMore t (vec_len self.new.operands ≡ vec_len self.old.operands + 1)) }
     {
-        self.operands.push(*value)?;
+        self.operands.push(value)?;
         Ok(Turned::More)
     }
 
@@ -66,8 +72,8 @@ impl Machine {
         ensures slots { IfOk result (λ t. OnMore t (vec_len self.new.slots ≡ vec_len self.old.slots)) }
         ensures operands { IfOk result (λ t. OnMore t (vec_len self.new.operands ≡ vec_len self.old.operands + 1)) }
     {
-        let value = value_at(&self.slots, slot);
-        self.push(&value)
+        let value = self.slots[slot as usize].copy(self.alloc())?;
+        self.push(value)
     }
 
     fn add(&mut self) -> Result<Turned, AllocError>
@@ -78,8 +84,8 @@ impl Machine {
     {
         let second = self.pop();
         let first = self.pop();
-        match first.add(second) {
-            Ok(value) => self.push(&value),
+        match add(&first, &second) {
+            Ok(value) => self.push(value),
             Err(condition) => Ok(Turned::Raised(condition)),
         }
     }
@@ -92,8 +98,8 @@ impl Machine {
     {
         let second = self.pop();
         let first = self.pop();
-        match first.sub(second) {
-            Ok(value) => self.push(&value),
+        match sub(&first, &second) {
+            Ok(value) => self.push(value),
             Err(condition) => Ok(Turned::Raised(condition)),
         }
     }
@@ -106,7 +112,7 @@ impl Machine {
         ensures operands { IfOk result (λ t. OnMore t (vec_len self.new.operands ≡ vec_len self.old.operands - 1)) }
     {
         let value = self.pop();
-        match store_into(SqlType::Integer, value) {
+        match stored_integer(self.alloc(), &value)? {
             Ok(stored) => {
                 self.slots[slot as usize] = stored;
                 Ok(Turned::More)
@@ -126,10 +132,18 @@ impl Machine {
     }
 }
 
-// The value of a slot.
-fn value_at(slots: &[Datum], slot: u32) -> Datum
-    requires { slot < length slots.now }
-    ensures { slice_get slots.now slot ≡ Some result }
+// The value as it is stored in an INTEGER, or the condition that it isn't; want of memory stands apart.
+pub(crate) fn stored_integer(
+    alloc: Global,
+    value: &Datum,
+) -> Result<Result<Datum, SqlState>, AllocError>
+    ensures { IfOk result (λ r. r ≡ stored data_types.Integer value.now) }
 {
-    slots[slot as usize]
+    match store_into(alloc, SqlType::Integer, value) {
+        Ok(stored) => Ok(Ok(stored)),
+        Err(fault) => match fault {
+            ValueFault::Condition(state) => Ok(Err(state)),
+            ValueFault::Memory => Err(AllocError),
+        },
+    }
 }

@@ -4,3 +4,4 @@ pub mod Retries
 pub mod Spellings
 pub mod Steps
 pub mod Trims
+pub mod Values

@@ -1,5 +1,5 @@
 -- The LIKE predicate (ISO/IEC 9075:1992, 8.5).
-use Rattle.std.specs.Prelude.{◌≡◌, ◌↔◌, ℕ, Bool, true, false, not, ◌||◌, List, [], ◌∷◌, drop, nat_eq, Option, Some, None, IsTrue, Result, Ok, Err, if◌then◌else◌}
+use Rattle.std.specs.Prelude.{◌≡◌, ◌↔◌, ℕ, Bool, true, false, not, ◌&&◌, ◌||◌, List, [], ◌∷◌, drop, nat_eq, Option, Some, None, IsTrue, Result, Ok, Err, if◌then◌else◌}
 use Rattle.psm_text.specs.declared.fault.TextFault.{TextFault}
 use Rattle.psm_text.specs.declared.fault.TextFault.TheVariants.{EscapeChar, EscapePair}
 use Rattle.psm_text.specs.declared.like.Step.{Step}
@@ -20,6 +20,21 @@ Matches (One ∷ p) [] = ⊥
 Matches (One ∷ p) (c ∷ t) = Matches p t
 Matches (Literal d ∷ p) [] = ⊥
 Matches (Literal d ∷ p) (c ∷ t) = (c ≡ d) × Matches p t
+
+-- whether a test passes at a text without some of its first characters
+abbrev pub some_end : (List ℕ → Bool) → List ℕ → Bool
+some_end test [] = test []
+some_end test (c ∷ t) = test (c ∷ t) || some_end test t
+
+-- `Matches` as a test
+abbrev pub is_like : List Item → List ℕ → Bool
+is_like [] [] = true
+is_like [] (c ∷ t) = false
+is_like (Any ∷ p) t = some_end (is_like p) t
+is_like (One ∷ p) [] = false
+is_like (One ∷ p) (c ∷ t) = is_like p t
+is_like (Literal d ∷ p) [] = false
+is_like (Literal d ∷ p) (c ∷ t) = nat_eq c d && is_like p t
 
 -- an unescaped character of a pattern: a percent sign, an underscore, or itself
 abbrev pub item_of : ℕ → Item
@@ -58,6 +73,11 @@ abbrev pub Liked : Result (Option ℕ) TextFault → List ℕ → List ℕ → R
 Liked (Err fault) pattern text r = r ≡ Err fault
 Liked (Ok e) pattern text (Err fault) = (fault ≡ EscapePair) × (well_formed e pattern ≡ false)
 Liked (Ok e) pattern text (Ok b) = (well_formed e pattern ≡ true) × (IsTrue b ↔ Matches (items_of e pattern) text)
+
+-- the one answer of which `Liked` holds
+abbrev pub like_answer : Result (Option ℕ) TextFault → List ℕ → List ℕ → Result Bool TextFault
+like_answer (Err fault) pattern text = Err fault
+like_answer (Ok e) pattern text = if well_formed e pattern then Ok (is_like (items_of e pattern) text) else Err EscapePair
 
 -- what the matcher does with a character at the first item
 abbrev pub step_at : List Item → ℕ → Step

@@ -1,5 +1,5 @@
 -- Parts of texts and texts of parts (ISO/IEC 9075:1992, 6.6 and 6.7).
-use Rattle.std.specs.Prelude.{◌≡◌, ◌≢◌, ℕ, ◌-◌, ◌<◌, ℤ, pos, ◌+ℤ◌, int_lt, int_le, Bool, true, false, ◌&&◌, List, ◌++◌, length, map, drop, replicate, slice_get, nat_eq, Option, Some, None, IsTrue, IsFalse, Result, Ok, Err, if◌then◌else◌}
+use Rattle.std.specs.Prelude.{◌≡◌, ◌≢◌, ℕ, zero, suc, ◌-◌, ◌<◌, ℤ, pos, ◌+ℤ◌, int_lt, int_le, Bool, true, false, ◌&&◌, List, [], ◌∷◌, ◌++◌, length, map, reverse, drop, replicate, slice_get, nat_eq, Option, Some, None, IsTrue, IsFalse, Result, Ok, Err, if◌then◌else◌}
 use Rattle.std.specs.Char.{to_ascii_uppercase, to_ascii_lowercase}
 use Rattle.std.specs.List.{filter, enumerate_from, starts_with}
 use Rattle.psm_text.specs.declared.fault.TextFault.{TextFault}
@@ -35,10 +35,11 @@ has_negative (Some count) = int_lt count (pos 0)
 abbrev pub substring_of : ℤ → Option ℤ → List ℕ → Result (List ℕ) TextFault
 substring_of from count t = if has_negative count then Err Substring else Ok (asked_part from count t)
 
--- the text with a to z as capital letters, and with A to Z as small ones; nothing else changes
+-- the text with a to z as capital letters; no other character changes
 abbrev pub upper_of : List ℕ → List ℕ
 upper_of t = map to_ascii_uppercase t
 
+-- the text with A to Z as small letters; no other character changes
 abbrev pub lower_of : List ℕ → List ℕ
 lower_of t = map to_ascii_lowercase t
 
@@ -51,6 +52,16 @@ pub record IsPosition (part t : List ℕ) (place : ℕ) : Type 0 where
   pub found : 0 < place → IsTrue (stands_at part t place)
   pub first : (other : ℕ) → 0 < other → other < place → IsFalse (stands_at part t other)
   pub none : place ≡ 0 → (other : ℕ) → 0 < other → IsFalse (stands_at part t other)
+
+-- a place in the text that has one more character in front; 0 stays none
+abbrev pub one_on : ℕ → ℕ
+one_on zero = 0
+one_on (suc place) = suc (suc place)
+
+-- the one place of which `IsPosition` holds
+abbrev pub position_of : List ℕ → List ℕ → ℕ
+position_of part [] = if starts_with nat_eq [] part then 1 else 0
+position_of part (c ∷ t) = if starts_with nat_eq (c ∷ t) part then 1 else one_on (position_of part t)
 
 -- r is t without the blanks at its front
 pub record TrimmedFront (t r : List ℕ) : Type 0 where
@@ -69,3 +80,18 @@ abbrev pub Trimmed : Side → List ℕ → List ℕ → Type 0
 Trimmed Leading t r = TrimmedFront t r
 Trimmed Trailing t r = TrimmedEnd t r
 Trimmed Both t r = (middle : List ℕ) × TrimmedFront t middle × TrimmedEnd middle r
+
+-- the text from its first character on that isn't a blank
+abbrev pub after_blanks : List ℕ → List ℕ
+after_blanks [] = []
+after_blanks (c ∷ t) = if nat_eq c blank then after_blanks t else c ∷ t
+
+-- the text up to its last character that isn't a blank
+abbrev pub before_blanks : List ℕ → List ℕ
+before_blanks t = reverse (after_blanks (reverse t))
+
+-- the one text of which `Trimmed` holds
+abbrev pub trimmed_of : Side → List ℕ → List ℕ
+trimmed_of Leading t = after_blanks t
+trimmed_of Trailing t = before_blanks t
+trimmed_of Both t = before_blanks (after_blanks t)

@@ -1,6 +1,6 @@
 ghost use Rattle.std.specs.Prelude.{◌≡◌, ◌↔◌, ◌<◌, ◌≤◌, length, drop, [], if◌then◌else◌, nat_eq, IsTrue};
 ghost use Rattle.std.specs.Option.{option_copied};
-ghost use Rattle.psm_text.specs.Like.{Liked, Matches, items_of, well_formed, escapes, escapable, escape_of, begins_any, step_at};
+ghost use Rattle.psm_text.specs.Like.{Liked, like_answer, Matches, items_of, well_formed, escapes, escapable, escape_of, begins_any, step_at};
 ghost use Rattle.psm_text.specs.declared.like.Step.TheVariants.{Take, Stop};
 
 use crate::fault::TextFault;
@@ -24,7 +24,8 @@ impl Text {
     /// `EscapePair` comes exactly where an escape character is last in the pattern, or stands before
     /// another character than `%`, `_` or itself. The time is at most the text times the pattern.
     pub fn like(&self, pattern: &Text, escape: Option<&Text>) -> Result<bool, TextFault>
-        ensures { Liked (escape_of (option_copied escape.entry)) pattern.now self.now result }
+        ensures answer { Liked (escape_of (option_copied escape.entry)) pattern.now self.now result }
+        ensures value { result ≡ like_answer (escape_of (option_copied escape.entry)) pattern.now self.now }
     {
         let escape = escape_character(escape)?;
         let pattern = pattern.chars();

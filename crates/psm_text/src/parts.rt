@@ -1,7 +1,7 @@
 ghost use Rattle.std.specs.Prelude.{◌≡◌, ◌↔◌, ◌≤◌, ◌<◌, ◌-◌, ℕ, pos, int_lt, int_le, nat_lt, nat_le, length, take, drop, slice_get, IsTrue, IfOk};
 ghost use Rattle.psm_text.specs.Text.{Gives};
 ghost use Rattle.psm_text.specs.Order.{blank};
-ghost use Rattle.psm_text.specs.Parts.{joined, substring_of, has_negative, is_before_end, asked_part, upper_of, lower_of, IsPosition, Trimmed, TrimmedFront, TrimmedEnd};
+ghost use Rattle.psm_text.specs.Parts.{joined, substring_of, has_negative, is_before_end, asked_part, upper_of, lower_of, IsPosition, position_of, Trimmed, trimmed_of, TrimmedFront, TrimmedEnd};
 
 use crate::fault::TextFault;
 use crate::order::rest;
@@ -47,32 +47,21 @@ impl Text {
 
     /// The first place, from 1, at which the part stands, or 0 where it stands nowhere (ISO/IEC 9075:1992,
     /// 6.6). The empty text stands at 1.
+    #[tactic(auto, using(crate::proofs::Values::position_is))]
     pub fn position(&self, part: &Text) -> u32
-        ensures { IsPosition part.now self.now result }
+        ensures first { IsPosition part.now self.now result }
+        ensures value { result ≡ position_of part.now self.now }
     {
-        let wanted = part.chars();
-        let mut left = self.chars();
-        let mut before = 0;
-        while wanted.len() <= left.len() {
-            if left.starts_with(wanted) {
-                return before + 1;
-            }
-            left = rest(left);
-            before += 1;
-        }
-        0
+        first_place(self.chars(), part.chars())
     }
 
     /// The text without the blanks at that side (ISO/IEC 9075:1992, 6.7).
+    #[tactic(auto, using(crate::proofs::Values::trimmed_is))]
     pub fn trim(&self, alloc: Global, side: Side) -> Result<Text, AllocError>
-        ensures { IfOk result (λ t. Trimmed side self.now t) }
+        ensures trimmed { IfOk result (λ t. Trimmed side self.now t) }
+        ensures value { IfOk result (λ t. t ≡ trimmed_of side self.now) }
     {
-        let characters = self.chars();
-        match side {
-            Side::Leading => Text::of(alloc, without_front(characters)),
-            Side::Trailing => Text::of(alloc, without_end(characters)),
-            Side::Both => Text::of(alloc, without_end(without_front(characters))),
-        }
+        Text::of(alloc, trimmed(self.chars(), side))
     }
 
     /// The text with a to z as capital letters; no other character changes (ISO/IEC 9075:1992, 6.7).
@@ -157,6 +146,33 @@ fn between(characters: &[char], start: usize, end: usize) -> &[char]
         &characters[start..end]
     } else {
         &characters[start..start]
+    }
+}
+
+fn first_place(characters: &[char], wanted: &[char]) -> u32
+    requires { length characters.now ≤ 4000 }
+    ensures { IsPosition wanted.now characters.now result }
+{
+    let mut left = characters;
+    let mut before = 0;
+    while wanted.len() <= left.len() {
+        if left.starts_with(wanted) {
+            return before + 1;
+        }
+        left = rest(left);
+        before += 1;
+    }
+    0
+}
+
+fn trimmed(characters: &[char], side: Side) -> &[char]
+    ensures value { Trimmed side characters.now result.now }
+    ensures shorter { length result.now ≤ length characters.now }
+{
+    match side {
+        Side::Leading => without_front(characters),
+        Side::Trailing => without_end(characters),
+        Side::Both => without_end(without_front(characters)),
     }
 }
 

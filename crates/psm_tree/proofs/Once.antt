@@ -1,10 +1,10 @@
 -- A file stands for at most one tree.
-use Rattle.std.proofs.Common.{◌≡◌, ℕ, List, [], ◌∷◌, ◌++◌, Option, Some, refl, sym, ap, ◌∙◌}
+use Rattle.std.proofs.Common.{◌≡◌, ℕ, List, [], ◌∷◌, ◌++◌, Some, sym, ap, ◌∙◌}
 use Rattle.std.specs.List.{flat_map}
 use Rattle.std.proofs.lemmas.List.{append-nil}
 use Rattle.std.proofs.lemmas.List.Concat.{flat_map-cons}
 use Rattle.psm_tree.specs.Readers.{Reader}
-use Rattle.psm_tree.specs.Spelling.{IsModule, IsScript, command_text, module_text, script_text}
+use Rattle.psm_tree.specs.Spelling.{IsModule, IsScript, command_text, module_text}
 use Rattle.psm_tree.specs.Accepted.{IsModuleFile, IsScriptFile}
 use Rattle.psm_tree.specs.declared.tree.Module.{Module}
 use Rattle.psm_tree.specs.declared.tree.Signature.{Signature}

@@ -1,12 +1,12 @@
 -- What the statements of a procedure mean (ISO/IEC 9075-4:1996), over trees and names.
-use Rattle.std.specs.Prelude.{ℕ, zero, suc, pos, List, [], ◌∷◌, Result, Ok, Err}
-use Rattle.psm_value.specs.declared.condition.Condition.{Condition}
+use Rattle.std.specs.Prelude.{ℕ, zero, suc, List, [], ◌∷◌, Result, Ok, Err}
+use Rattle.psm_sqlstate.specs.declared.state.SqlState.{SqlState}
 use Rattle.psm_value.specs.declared.datum.Datum.{Datum}
-use Rattle.psm_value.specs.declared.datum.Datum.TheVariants.{Null, Num}
+use Rattle.psm_value.specs.declared.datum.Datum.TheVariants.{Null}
 use Rattle.psm_value.specs.declared.sqltype.SqlType.TheVariants.{Integer}
-use Rattle.psm_value.specs.Datum.{sum_of, difference_of}
+use Rattle.psm_value.specs.Arithmetic.{sum_of, difference_of}
 use Rattle.psm_value.specs.Stored.{stored}
-use Rattle.psm_tree.specs.Numeral.{number_of}
+use Rattle.psm_tree.specs.Numeral.{numeral_value}
 use Rattle.psm_tree.specs.Frame.{Frame, Variable, value_of, assigned}
 use Rattle.psm_tree.specs.declared.tree.Mode.{Mode}
 use Rattle.psm_tree.specs.declared.tree.Mode.TheVariants.{In, Out, InOut}
@@ -24,24 +24,24 @@ use Rattle.psm_tree.specs.declared.tree.Procedure.{Procedure}
 -- ---- expressions
 
 -- goes on with a value, or passes the condition on
-abbrev pub with_value : {A B : Type 0} → Result A Condition → (A → Result B Condition) → Result B Condition
+abbrev pub with_value : {A B : Type 0} → Result A SqlState → (A → Result B SqlState) → Result B SqlState
 with_value (Ok v) go = go v
 with_value (Err c) go = Err c
 
 abbrev pub operand_value : Operand → Frame → Datum
-operand_value (operands.Number digits) frame = Num (pos (number_of digits))
+operand_value (operands.Number digits) frame = numeral_value digits
 operand_value (operands.Name name) frame = value_of name frame
 
-abbrev pub signed_value : Sign → Datum → Datum → Result Datum Condition
+abbrev pub signed_value : Sign → Datum → Datum → Result Datum SqlState
 signed_value Plus a b = sum_of a b
 signed_value Minus a b = difference_of a b
 
 -- the terms, from the left
-abbrev pub terms_value : List Term → Frame → Datum → Result Datum Condition
+abbrev pub terms_value : List Term → Frame → Datum → Result Datum SqlState
 terms_value [] frame v = Ok v
 terms_value (t ∷ ts) frame v = with_value (signed_value t.sign v (operand_value t.operand frame)) (terms_value ts frame)
 
-abbrev pub sum_value : Sum → Frame → Result Datum Condition
+abbrev pub sum_value : Sum → Frame → Result Datum SqlState
 sum_value s frame = terms_value s.rest frame (operand_value s.first frame)
 
 -- ---- statements
@@ -49,7 +49,7 @@ sum_value s frame = terms_value s.rest frame (operand_value s.first frame)
 -- how a statement ends
 pub data Outcome : Type 0 where
   Normal : Outcome
-  Raised : Condition → Outcome
+  Raised : SqlState → Outcome
 
 -- an outcome, and the variables that it leaves
 pub record Executed : Type 0 where
@@ -57,7 +57,7 @@ pub record Executed : Type 0 where
   pub frame : Frame
 
 -- assigns what was stored, or raises the condition
-abbrev pub after_storing : List ℕ → Frame → Result Datum Condition → Executed
+abbrev pub after_storing : List ℕ → Frame → Result Datum SqlState → Executed
 after_storing target frame (Ok v) = record { outcome = Normal; frame = assigned target v frame }
 after_storing target frame (Err c) = record { outcome = Raised c; frame = frame }
 
@@ -70,7 +70,7 @@ executed (Set target source) frame = after_storing target frame (with_value (sum
 -- leaves it, or for want of a turn
 pub data Ending : Type 0 where
   Ended : List Datum → Ending
-  Left : Condition → Ending
+  Left : SqlState → Ending
   TurnsUsed : Ending
 
 -- an ending, and the turns that are left
@@ -83,19 +83,19 @@ abbrev pub variable_for : Parameter → Datum → Variable
 variable_for p value = record { mode = p.mode; name = p.name; value = value }
 
 -- puts a variable before the others
-abbrev pub before_others : Variable → Result Frame Condition → Result Frame Condition
+abbrev pub before_others : Variable → Result Frame SqlState → Result Frame SqlState
 before_others v others = with_value others (λ vs. Ok (v ∷ vs))
 
 -- The variables at entry, from one argument for each IN and INOUT parameter in order: each is stored in its
 -- parameter. An OUT parameter starts null.
-abbrev pub frame_with : Mode → Parameter → List Datum → (List Datum → Result Frame Condition) → Result Frame Condition
+abbrev pub frame_with : Mode → Parameter → List Datum → (List Datum → Result Frame SqlState) → Result Frame SqlState
 frame_with Out p args others = before_others (variable_for p Null) (others args)
 frame_with In p [] others = before_others (variable_for p Null) (others [])
 frame_with InOut p [] others = before_others (variable_for p Null) (others [])
 frame_with In p (a ∷ args) others = with_value (stored Integer a) (λ v. before_others (variable_for p v) (others args))
 frame_with InOut p (a ∷ args) others = with_value (stored Integer a) (λ v. before_others (variable_for p v) (others args))
 
-abbrev pub entry_frame : List Parameter → List Datum → Result Frame Condition
+abbrev pub entry_frame : List Parameter → List Datum → Result Frame SqlState
 entry_frame [] args = Ok []
 entry_frame (p ∷ ps) args = frame_with p.mode p args (entry_frame ps)
 
@@ -122,7 +122,7 @@ abbrev pub with_turn : ℕ → (ℕ → Activated) → Activated
 with_turn zero go = record { ending = TurnsUsed; turns = 0 }
 with_turn (suc turns) go = go turns
 
-abbrev pub from_entry : Statement → Result Frame Condition → ℕ → Activated
+abbrev pub from_entry : Statement → Result Frame SqlState → ℕ → Activated
 from_entry body (Ok frame) turns = with_turn turns (at_end (executed body frame))
 from_entry body (Err c) turns = record { ending = Left c; turns = turns }
 

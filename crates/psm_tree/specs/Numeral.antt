@@ -1,6 +1,8 @@
 -- Numbers as they are written (ISO/IEC 9075:1992, 5.3).
-use Rattle.std.specs.Prelude.{ℕ, ◌+◌, ◌-◌, ◌*◌, ◌<◌, ◌≤◌, List, [], ◌∷◌, length}
+use Rattle.std.specs.Prelude.{ℕ, pos, ◌+◌, ◌-◌, ◌*◌, ◌<◌, ◌≤◌, List, [], ◌∷◌, length}
 use Rattle.std.specs.List.{AllByRecursion}
+use Rattle.psm_value.specs.declared.datum.Datum.{Datum}
+use Rattle.psm_value.specs.declared.datum.Datum.TheVariants.{Num}
 
 -- 0 to 9
 pub record IsDigit (c : ℕ) : Type 0 where
@@ -21,3 +23,7 @@ number_after n (d ∷ ds) = number_after (n * 10 + (d - 48)) ds
 -- the number that the digits spell
 abbrev pub number_of : List ℕ → ℕ
 number_of digits = number_after 0 digits
+
+-- that number as a value, at scale 0
+abbrev pub numeral_value : List ℕ → Datum
+numeral_value digits = Num (record { coef = pos (number_of digits); scale = 0 })

@@ -1,9 +1,9 @@
 -- The lines that a command prints.
 use Rattle.std.specs.Prelude.{ℕ, List, [], ◌∷◌, ◌++◌, codes, decimal}
-use Rattle.psm_value.specs.declared.condition.Condition.{Condition}
+use Rattle.psm_sqlstate.specs.declared.state.SqlState.{SqlState}
 use Rattle.psm_value.specs.declared.datum.Datum.{Datum}
-use Rattle.psm_value.specs.Condition.{state_of, message_of}
-use Rattle.psm_value.specs.Datum.{printed}
+use Rattle.psm_sqlstate.specs.Message.{message_of}
+use Rattle.psm_value.specs.Printed.{printed}
 use Rattle.psm_tree.specs.Meaning.{Ending, Ended, Left, TurnsUsed}
 use Rattle.psm_tree.specs.declared.tree.Mode.{Mode}
 use Rattle.psm_tree.specs.declared.tree.Mode.TheVariants.{In, Out, InOut}
@@ -31,8 +31,8 @@ value_lines [] values = []
 value_lines (p ∷ ps) values = next_value p.mode p.name values (value_lines ps)
 
 -- `SQLSTATE sssss message`
-abbrev pub condition_line : Condition → List ℕ
-condition_line c = codes "SQLSTATE " ++ state_of c ++ codes " " ++ message_of c ++ 10 ∷ []
+abbrev pub condition_line : SqlState → List ℕ
+condition_line state = codes "SQLSTATE " ++ state ++ codes " " ++ message_of state ++ 10 ∷ []
 
 abbrev pub last_lines : List Parameter → Ending → List ℕ
 last_lines parameters (Ended values) = value_lines parameters values ++ codes "OK\n"

@@ -1,8 +1,7 @@
 -- What a module and a script mean together: the pieces of text that the commands print, in order.
-use Rattle.std.specs.Prelude.{ℕ, pos, ◌+◌, List, [], ◌∷◌}
+use Rattle.std.specs.Prelude.{ℕ, ◌+◌, List, [], ◌∷◌}
 use Rattle.psm_value.specs.declared.datum.Datum.{Datum}
-use Rattle.psm_value.specs.declared.datum.Datum.TheVariants.{Num}
-use Rattle.psm_tree.specs.Numeral.{number_of}
+use Rattle.psm_tree.specs.Numeral.{numeral_value}
 use Rattle.psm_tree.specs.Meaning.{Ending, Ended, Left, TurnsUsed, Activated, activated}
 use Rattle.psm_tree.specs.Piece.{call_piece}
 use Rattle.psm_tree.specs.declared.tree.Signature.{Signature}
@@ -27,7 +26,7 @@ pub record Session : Type 0 where
 -- the values of the arguments for IN and INOUT parameters
 abbrev pub given : List Argument → List Datum
 given [] = []
-given (arguments.Number digits ∷ others) = Num (pos (number_of digits)) ∷ given others
+given (arguments.Number digits ∷ others) = numeral_value digits ∷ given others
 given (arguments.Placeholder ∷ others) = given others
 
 -- a piece before those of the later commands

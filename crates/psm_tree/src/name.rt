@@ -1,6 +1,7 @@
 ghost use Rattle.std.specs.Prelude.{◌≡◌, ◌<◌, ◌^◌, string_bytes};
-ghost use Rattle.psm_tree.specs.Numeral.{IsNumeral, number_of};
+ghost use Rattle.psm_tree.specs.Numeral.{IsNumeral, number_of, numeral_value};
 
+use psm_value::{Datum, Dec};
 use std::marker::Model;
 
 /// A name, seen as its characters.
@@ -66,5 +67,12 @@ impl Numeral {
             value = value * 10 + (*digit - b'0') as u32;
         }
         value
+    }
+
+    /// That number as a value.
+    pub fn datum(&self) -> Datum
+        ensures { result ≡ numeral_value self.now }
+    {
+        Datum::Num(Dec::new(self.value() as i64, 0).unwrap())
     }
 }

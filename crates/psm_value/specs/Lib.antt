@@ -1,4 +1,10 @@
-pub mod Condition
-pub mod Datum
-pub mod Number
+pub mod Answer
+pub mod Arithmetic
+pub mod Cast
+pub mod Fetched
+pub mod Order
+pub mod Printed
+pub mod SqlType
 pub mod Stored
+pub mod TextFaults
+pub mod Truth

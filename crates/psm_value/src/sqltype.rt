@@ -1,29 +1,31 @@
-ghost use Rattle.std.specs.Prelude.{◌≡◌};
-ghost use Rattle.psm_value.specs.Stored.{stored, is_integer as is_integer_value};
+ghost use Rattle.std.specs.Prelude.{◌↔◌, IsTrue};
+ghost use Rattle.psm_value.specs.SqlType.{IsType};
 
-use crate::condition::Condition;
-use crate::datum::Datum;
-
-/// A type that a value is stored in.
+/// A type that a value is stored in (ISO/IEC 9075:1992, 6.1).
 #[derive(Clone, Copy, Debug, PartialEq, Eq)]
 pub enum SqlType {
+    /// -32768 to 32767.
+    SmallInt,
     /// -2147483648 to 2147483647.
     Integer,
+    /// At most `p` digits, of which `s` stand behind the point.
+    Numeric { p: u8, s: u8 },
+    /// Exactly `n` characters.
+    Char { n: u16 },
+    /// At most `n` characters.
+    VarChar { n: u16 },
 }
 
-/// The value as it is stored in the type (ISO/IEC 9075:1992, 9.2). Null stays null; a number outside the
-/// type's range is out of range.
-pub fn store_into(to: SqlType, value: Datum) -> Result<Datum, Condition>
-    ensures { result ≡ stored to value }
-{
-    match (to, value) {
-        (SqlType::Integer, Datum::Num(n)) if !is_integer(n.value()) => Err(Condition::OutOfRange),
-        _ => Ok(value),
+impl SqlType {
+    /// Whether the digits, decimals and lengths are those that a type may have: 1 to 18 digits, of which at
+    /// most all stand behind the point, and 1 to 4000 characters.
+    pub fn is_within_bounds(self) -> bool
+        ensures { IsTrue result ↔ IsType self }
+    {
+        match self {
+            SqlType::SmallInt | SqlType::Integer => true,
+            SqlType::Numeric { p, s } => 1 <= p && p <= 18 && s <= p,
+            SqlType::Char { n } | SqlType::VarChar { n } => 1 <= n && n <= 4000,
+        }
     }
-}
-
-fn is_integer(value: i64) -> bool
-    ensures { result ≡ is_integer_value value }
-{
-    -2_147_483_648 <= value && value <= 2_147_483_647
 }

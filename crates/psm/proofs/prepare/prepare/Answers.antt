@@ -1,4 +1,4 @@
-use Rattle.std.proofs.Common.{ℕ, List, Result, Err, subst}
+use Rattle.std.proofs.Common.{ℕ, List, Err, subst}
 use Rattle.psm.specs.Prepared.{Builds, IsCodeOf, Scripts}
 use Rattle.std.proofs.lemmas.Result.{err_from_is_err_and}
 use Rattle.psm.proofs.Preparing.{module_unread, module_refused, script_refused}

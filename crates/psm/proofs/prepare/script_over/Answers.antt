@@ -1,4 +1,4 @@
-use Rattle.std.proofs.Common.{refl, subst, Result, Err}
+use Rattle.std.proofs.Common.{refl, subst, Err}
 use Rattle.psm_tree.specs.Reading.{Gives}
 use Rattle.psm_tree.specs.declared.fault.ReadFault.{ReadFault}
 use Rattle.psm_tree.specs.declared.tree.Script.{Script}

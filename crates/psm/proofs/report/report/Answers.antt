@@ -1,7 +1,5 @@
-use Rattle.std.proofs.Common.{◌≡◌, ◌++◌, List, ℕ, ap, ◌∙◌, sym}
+use Rattle.std.proofs.Common.{◌++◌, List, ℕ, ap, ◌∙◌}
 use Rattle.std.specs.Prelude.{codes}
-use Rattle.psm.specs.Message.{cannot_read, too_long}
-use Rattle.psm.specs.Prepared.{name_of}
 use Rattle.psm.proofs.Answering.{puts_same}
 use Rattle.psm.proofs.report.report.Goals as goal
 

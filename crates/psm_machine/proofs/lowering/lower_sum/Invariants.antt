@@ -1,7 +1,7 @@
-use Rattle.std.proofs.Common.{◌≡◌, ◌∷◌, ◌++◌, take, drop}
+use Rattle.std.proofs.Common.{◌≡◌, ◌++◌, drop}
 use Rattle.std.specs.List.{flat_map, AllByRecursion}
 use Rattle.psm_tree.specs.Accepted.{IsKnownTerm}
-use Rattle.psm_machine.specs.Lowered.{sum_lines, operand_line, term_lines}
+use Rattle.psm_machine.specs.Lowered.{sum_lines, term_lines}
 use Rattle.psm_machine.proofs.lowering.lower_sum.Given as goal
 
 abbrev pub invariant-loop-term : goal.invariant-loop-term

@@ -1,0 +1,60 @@
+-- The value of an expression.
+use Rattle.std.specs.Prelude.{◌≡◌, ℕ, suc, Bool, true, ◌&&◌, List, [], ◌∷◌, length, nat_eq, nat_lt, Option, Some, None, Result, Ok, Err, if◌then◌else◌}
+use Rattle.psm_value.specs.declared.datum.Datum.{Datum}
+use Rattle.psm_value.specs.declared.fault.ValueFault.{ValueFault}
+use Rattle.psm_value.specs.declared.fault.ValueFault.TheVariants.{Condition, Memory}
+use Rattle.psm_exprcode.specs.declared.op.Line.{Line}
+use Rattle.psm_exprcode.specs.declared.op.Op.{Op}
+use Rattle.psm_exprcode.specs.declared.op.Op.TheVariants as op
+use Rattle.psm_exprcode.specs.declared.operand.Operand.{Operand}
+use Rattle.psm_exprcode.specs.declared.operand.Next.{Next}
+use Rattle.psm_exprcode.specs.declared.operand.Next.TheVariants.{Ahead, Jump}
+use Rattle.psm_exprcode.specs.Applied.{Applied, Went, Raised, Lacking, applied}
+
+-- what an expression comes to: an operand, the SQLSTATE of its first condition, or nothing where something is lacking
+abbrev pub Outcome : Type 0
+Outcome = Option (Result Operand (List ℕ))
+
+-- the place after a line's
+abbrev pub place_after : ℕ → Next → ℕ
+place_after at Ahead = suc at
+place_after at (Jump p) = p
+
+abbrev pub goes_on : Applied → (Next → List Operand → Outcome) → Outcome
+goes_on (Went next os) go = go next os
+goes_on (Raised state) go = Some (Err state)
+goes_on Lacking go = None
+
+-- the one operand at the end
+abbrev pub ended : List Operand → Outcome
+ended [] = None
+ended (o ∷ []) = Some (Ok o)
+ended (o ∷ p ∷ os) = None
+
+-- the lines from a place on, where the one at pc is the next: those before it are passed over
+abbrev pub ran : List Datum → List Datum → ℕ → ℕ → List Line → List Operand → Outcome
+ran row vars at pc [] os = ended os
+ran row vars at pc (l ∷ after) os =
+    if nat_eq at pc then goes_on (applied l.op os row vars) (λ next. ran row vars (suc at) (place_after at next) after)
+    else ran row vars (suc at) pc after os
+
+-- the value of the expression over the columns and the variables
+abbrev pub evaluated : List Line → List Datum → List Datum → Outcome
+evaluated lines row vars = ran row vars 0 0 lines []
+
+-- whether the column or the variable that the operation names is there
+abbrev pub is_named : Op → List Datum → List Datum → Bool
+is_named (op.Var i) row vars = nat_lt i (length vars)
+is_named (op.Col i) row vars = nat_lt i (length row)
+is_named o row vars = true
+
+-- whether each column and variable that the code names is there
+abbrev pub are_named : List Line → List Datum → List Datum → Bool
+are_named [] row vars = true
+are_named (l ∷ after) row vars = is_named l.op row vars && are_named after row vars
+
+-- the answer is the one that is due, but for want of memory
+abbrev pub Evaluates : Outcome → Result Operand ValueFault → Type 0
+Evaluates due (Ok operand) = due ≡ Some (Ok operand)
+Evaluates due (Err (Condition state)) = due ≡ Some (Err state)
+Evaluates due (Err Memory) = Unit {0}

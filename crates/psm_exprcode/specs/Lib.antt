@@ -1,0 +1,9 @@
+pub mod Among
+pub mod Applied
+pub mod Comparison
+pub mod Evaluated
+pub mod Fits
+pub mod Letters
+pub mod Texts
+pub mod Values
+pub mod WellFormed

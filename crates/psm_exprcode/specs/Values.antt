@@ -1,0 +1,119 @@
+-- Operations on values that have a place in expressions alone (ISO/IEC 9075:1992, 6.6, 6.7, 6.13 and 8.5). Null
+-- comes first: a null operand gives null or unknown, and so does one that isn't of the operation's family.
+use Rattle.std.specs.Prelude.{ℕ, ℤ, pos, List, length, codes, Some, None, Bool, Result, Ok, Err}
+use Rattle.psm_num.specs.Num as num
+use Rattle.psm_num.specs.Arithmetic.{at_scale}
+use Rattle.psm_text.specs.declared.fault.TextFault.{TextFault}
+use Rattle.psm_text.specs.declared.fault.TextFault.TheVariants as texts
+use Rattle.psm_text.specs.Like.{escape_of}
+use Rattle.psm_text.specs.Parts.{joined, substring_of}
+use Rattle.psm_value.specs.declared.datum.Datum.{Datum}
+use Rattle.psm_value.specs.declared.datum.Datum.TheVariants.{Null, Num, Text}
+use Rattle.psm_value.specs.declared.truth.Truth.{Truth}
+use Rattle.psm_value.specs.declared.truth.Truth.TheVariants.{Unknown}
+use Rattle.psm_value.specs.Arithmetic.{as_datum}
+use Rattle.psm_exprcode.specs.Comparison.{truth_of}
+use Rattle.psm_exprcode.specs.Texts.{place_of, like_of}
+
+-- the SQLSTATE of the condition that a fault of a text is
+abbrev pub state_of : TextFault → List ℕ
+state_of texts.TooLong = codes "22001"
+state_of texts.Substring = codes "22011"
+state_of texts.EscapeChar = codes "22019"
+state_of texts.EscapePair = codes "22025"
+state_of texts.Lost = codes "22001"
+state_of texts.Memory = codes "22001"
+
+-- a text as a value
+abbrev pub as_text : Result (List ℕ) TextFault → Result Datum (List ℕ)
+as_text (Ok t) = Ok (Text t)
+as_text (Err fault) = Err (state_of fault)
+
+-- a number of characters as a value
+abbrev pub whole : ℕ → Datum
+whole n = Num (record { coef = pos n; scale = 0 })
+
+-- the number at another scale
+abbrev pub rescaled : ℕ → Datum → Result Datum (List ℕ)
+rescaled s Null = Ok Null
+rescaled s (Num n) = as_datum (num.checked (at_scale n s))
+rescaled s (Text t) = Ok Null
+
+-- the second text behind the first
+abbrev pub concatenated : Datum → Datum → Result Datum (List ℕ)
+concatenated (Text a) (Text b) = as_text (joined a b)
+concatenated (Text a) Null = Ok Null
+concatenated (Text a) (Num b) = Ok Null
+concatenated Null b = Ok Null
+concatenated (Num a) b = Ok Null
+
+-- the number of characters
+abbrev pub length_of : Datum → Datum
+length_of Null = Null
+length_of (Num n) = Null
+length_of (Text t) = whole (length t)
+
+-- the place of the part in the text
+abbrev pub position_of : Datum → Datum → Datum
+position_of (Text part) (Text t) = whole (place_of part t)
+position_of (Text part) Null = Null
+position_of (Text part) (Num n) = Null
+position_of Null t = Null
+position_of (Num n) t = Null
+
+-- the whole part of a number, cut toward zero
+abbrev pub cut_of : num.Num → ℤ
+cut_of n = (at_scale n 0).coef
+
+-- SUBSTRING (text FROM place)
+abbrev pub part_from : Datum → Datum → Result Datum (List ℕ)
+part_from (Text t) (Num place) = as_text (substring_of (cut_of place) None t)
+part_from (Text t) Null = Ok Null
+part_from (Text t) (Text u) = Ok Null
+part_from Null place = Ok Null
+part_from (Num n) place = Ok Null
+
+-- SUBSTRING (text FROM place FOR count): both numbers are cut before the count is tested
+abbrev pub part_of_text : List ℕ → Datum → Datum → Result Datum (List ℕ)
+part_of_text t (Num place) (Num count) = as_text (substring_of (cut_of place) (Some (cut_of count)) t)
+part_of_text t (Num place) Null = Ok Null
+part_of_text t (Num place) (Text u) = Ok Null
+part_of_text t Null count = Ok Null
+part_of_text t (Text u) count = Ok Null
+
+abbrev pub part_of : Datum → Datum → Datum → Result Datum (List ℕ)
+part_of (Text t) place count = part_of_text t place count
+part_of Null place count = Ok Null
+part_of (Num n) place count = Ok Null
+
+-- a text with a change of its characters
+abbrev pub on_text : (List ℕ → List ℕ) → Datum → Datum
+on_text change Null = Null
+on_text change (Num n) = Null
+on_text change (Text t) = Text (change t)
+
+-- the answer to LIKE as a truth value
+abbrev pub as_truth : Result Bool TextFault → Result Truth (List ℕ)
+as_truth (Ok b) = Ok (truth_of b)
+as_truth (Err fault) = Err (state_of fault)
+
+-- text LIKE pattern
+abbrev pub like : Datum → Datum → Result Truth (List ℕ)
+like (Text t) (Text pattern) = as_truth (like_of (Ok None) pattern t)
+like (Text t) Null = Ok Unknown
+like (Text t) (Num n) = Ok Unknown
+like Null pattern = Ok Unknown
+like (Num n) pattern = Ok Unknown
+
+-- text LIKE pattern ESCAPE escape
+abbrev pub like_escaped_text : List ℕ → Datum → Datum → Result Truth (List ℕ)
+like_escaped_text t (Text pattern) (Text escape) = as_truth (like_of (escape_of (Some escape)) pattern t)
+like_escaped_text t (Text pattern) Null = Ok Unknown
+like_escaped_text t (Text pattern) (Num n) = Ok Unknown
+like_escaped_text t Null escape = Ok Unknown
+like_escaped_text t (Num n) escape = Ok Unknown
+
+abbrev pub like_escaped : Datum → Datum → Datum → Result Truth (List ℕ)
+like_escaped (Text t) pattern escape = like_escaped_text t pattern escape
+like_escaped Null pattern escape = Ok Unknown
+like_escaped (Num n) pattern escape = Ok Unknown

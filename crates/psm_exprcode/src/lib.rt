@@ -1,0 +1,26 @@
+//! Row expressions as operations over a stack of operands: what an operation comes to, code that is well
+//! formed by its type, and the value of an expression (ISO/IEC 9075:1992, clauses 6 and 8).
+#![tactic(auto)]
+
+mod applying;
+mod checking;
+mod code;
+mod comparing;
+mod deciding;
+mod evaluating;
+mod letters;
+mod moving;
+mod numbers;
+mod op;
+mod operand;
+mod stack;
+mod texts;
+
+pub use applying::apply;
+pub use code::ExprCode;
+pub use evaluating::eval;
+pub use op::{Letter, Line, Op, RawExpr};
+pub use operand::{Next, Operand};
+
+#[cfg(test)]
+mod tests;

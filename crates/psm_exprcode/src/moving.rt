@@ -1,0 +1,129 @@
+//! Operations that put values on the stack, move operands there, or jump.
+ghost use Rattle.std.specs.Prelude.{◌≡◌, ◌<◌, ◌∷◌, ℕ, List as Seq, Some, IfOk, length, slice_get, reverse, IsTrue};
+ghost use Rattle.psm_value.specs.declared.datum.Datum.{Datum};
+ghost use Rattle.psm_exprcode.specs.declared.operand.Next.TheVariants.{Ahead};
+ghost use Rattle.psm_value.specs.Cast.{cast_of};
+ghost use Rattle.psm_value.specs.SqlType.{IsType};
+ghost use Rattle.psm_exprcode.specs.Comparison.{is_null};
+ghost use Rattle.psm_exprcode.specs.Applied.{Went, with_value, with_named, on_value, on_truth, nipped, set_at, unless_true};
+ghost use Rattle.psm_exprcode.specs.Fits.{are_values, are_truths, is_over_value, Carries};
+
+use crate::comparing::is_null_value;
+use crate::operand::{Next, Operand};
+use crate::stack::{pop, pop_truth, pop_value, put, put_value};
+use psm_value::{Datum, SqlType, ValueFault, cast};
+use std::alloc::{AllocError, Global};
+
+pub(crate) fn put_copy(
+    alloc: Global,
+    operands: &mut Vec<Operand>,
+    value: &Datum,
+) -> Result<Next, ValueFault>
+    ensures { Carries 0 (λ os. Went Ahead (Operand.Value value.now ∷ os)) operands.old result operands.new }
+{
+    put_value(operands, value.copy(alloc)?)?;
+    Ok(Next::Ahead)
+}
+
+// The value at a place of a row, or of the variables.
+pub(crate) fn put_named(
+    alloc: Global,
+    operands: &mut Vec<Operand>,
+    values: &[Datum],
+    place: u32,
+) -> Result<Next, ValueFault>
+    requires { place < length values.now }
+    ensures { Carries 0 (λ os. with_named os (slice_get values.now place)) operands.old result operands.new }
+{
+    put_value(operands, copy_at(alloc, values, place)?)?;
+    Ok(Next::Ahead)
+}
+
+fn copy_at(alloc: Global, values: &[Datum], place: u32) -> Result<Datum, AllocError>
+    requires { place < length values.now }
+    ensures { IfOk result (λ d. slice_get values.now place ≡ Some d) }
+{
+    values[place as usize].copy(alloc)
+}
+
+pub(crate) fn duplicate(alloc: Global, operands: &mut Vec<Operand>) -> Result<Next, ValueFault>
+    requires { IsTrue (are_values 1 (reverse operands.old.items)) }
+    ensures { Carries 0 (on_value (λ a below. Went Ahead (Operand.Value a ∷ Operand.Value a ∷ below))) operands.old result operands.new }
+{
+    let copy = copy_last(alloc, operands.as_slice())?;
+    put_value(operands, copy)?;
+    Ok(Next::Ahead)
+}
+
+// A copy of the last operand, which is a value.
+fn copy_last(alloc: Global, operands: &[Operand]) -> Result<Datum, AllocError>
+    requires { IsTrue (are_values 1 (reverse operands.now)) }
+    ensures { IfOk result (λ d. (below : Seq Operand) × (reverse operands.now ≡ Operand.Value d ∷ below)) }
+{
+    match operands {
+        [.., Operand::Value(value)] => value.copy(alloc),
+        _ => unreachable!(),
+    }
+}
+
+pub(crate) fn drop_last(operands: &mut Vec<Operand>) -> Next
+    requires { IsTrue (are_values 1 (reverse operands.old.items)) }
+    ensures { on_value (λ a below. Went Ahead below) (reverse operands.old.items) ≡ Went result (reverse operands.new.items) }
+{
+    let _ = pop_value(operands);
+    Next::Ahead
+}
+
+pub(crate) fn nip(operands: &mut Vec<Operand>) -> Result<Next, ValueFault>
+    requires { IsTrue (is_over_value (reverse operands.old.items)) }
+    ensures { Carries 2 nipped operands.old result operands.new }
+{
+    let last = pop(operands);
+    let _ = pop_value(operands);
+    put(operands, last)?;
+    Ok(Next::Ahead)
+}
+
+pub(crate) fn jump_not(operands: &mut Vec<Operand>, place: u32) -> Next
+    requires { IsTrue (are_truths 1 (reverse operands.old.items)) }
+    ensures { on_truth (unless_true place) (reverse operands.old.items) ≡ Went result (reverse operands.new.items) }
+{
+    if pop_truth(operands).is_true() {
+        Next::Ahead
+    } else {
+        Next::Jump(place)
+    }
+}
+
+pub(crate) fn jump_set(operands: &mut Vec<Operand>, place: u32) -> Next
+    requires { IsTrue (are_values 1 (reverse operands.old.items)) }
+    ensures { on_value (set_at place) (reverse operands.old.items) ≡ Went result (reverse operands.new.items) }
+{
+    if is_last_null(operands.as_slice()) {
+        let _ = pop_value(operands);
+        Next::Ahead
+    } else {
+        Next::Jump(place)
+    }
+}
+
+// Whether the last operand is null.
+fn is_last_null(operands: &[Operand]) -> bool
+    ensures { (a : Datum) (below : Seq Operand) → reverse operands.now ≡ Operand.Value a ∷ below → result ≡ is_null a }
+{
+    matches!(operands, [.., Operand::Value(Datum::Null)])
+}
+
+pub(crate) fn cast_one(
+    alloc: Global,
+    operands: &mut Vec<Operand>,
+    to: SqlType,
+) -> Result<Next, ValueFault>
+    requires bounds { IsType to }
+    requires operand { IsTrue (are_values 1 (reverse operands.old.items)) }
+    ensures { Carries 1 (on_value (λ a below. with_value below (cast_of to a))) operands.old result operands.new }
+{
+    let value = pop_value(operands);
+    put_value(operands, cast(alloc, to, &value)?)?;
+    Ok(Next::Ahead)
+}

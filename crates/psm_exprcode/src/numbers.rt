@@ -1,0 +1,82 @@
+//! Operations on numbers (ISO/IEC 9075:1992, 6.12).
+ghost use Rattle.std.specs.Prelude.{◌≡◌, ◌≤◌, reverse, IsTrue, Ok};
+ghost use Rattle.psm_value.specs.Arithmetic.{sum_of, difference_of, product_of, quotient_of, negated_of};
+ghost use Rattle.psm_exprcode.specs.Applied.{value_of_one, value_of_two, on_value, with_value};
+ghost use Rattle.psm_exprcode.specs.Fits.{are_values, Carries};
+ghost use Rattle.psm_exprcode.specs.Values.{rescaled};
+
+use crate::operand::{Next, Operand};
+use crate::stack::{pop_two, pop_value, put_value};
+use psm_num::NumFault;
+use psm_value::{Datum, SqlState, ValueFault, add, div, mul, neg, sub};
+
+pub(crate) fn negate(operands: &mut Vec<Operand>) -> Result<Next, ValueFault>
+    requires { IsTrue (are_values 1 (reverse operands.old.items)) }
+    ensures { Carries 1 (value_of_one negated_of) operands.old result operands.new }
+{
+    let number = pop_value(operands);
+    put_value(operands, neg(&number))?;
+    Ok(Next::Ahead)
+}
+
+pub(crate) fn add_two(operands: &mut Vec<Operand>) -> Result<Next, ValueFault>
+    requires { IsTrue (are_values 2 (reverse operands.old.items)) }
+    ensures { Carries 2 (value_of_two sum_of) operands.old result operands.new }
+{
+    let (first, second) = pop_two(operands);
+    put_value(operands, add(&first, &second)?)?;
+    Ok(Next::Ahead)
+}
+
+pub(crate) fn sub_two(operands: &mut Vec<Operand>) -> Result<Next, ValueFault>
+    requires { IsTrue (are_values 2 (reverse operands.old.items)) }
+    ensures { Carries 2 (value_of_two difference_of) operands.old result operands.new }
+{
+    let (first, second) = pop_two(operands);
+    put_value(operands, sub(&first, &second)?)?;
+    Ok(Next::Ahead)
+}
+
+pub(crate) fn mul_two(operands: &mut Vec<Operand>) -> Result<Next, ValueFault>
+    requires { IsTrue (are_values 2 (reverse operands.old.items)) }
+    ensures { Carries 2 (value_of_two product_of) operands.old result operands.new }
+{
+    let (first, second) = pop_two(operands);
+    put_value(operands, mul(&first, &second)?)?;
+    Ok(Next::Ahead)
+}
+
+pub(crate) fn div_two(operands: &mut Vec<Operand>) -> Result<Next, ValueFault>
+    requires { IsTrue (are_values 2 (reverse operands.old.items)) }
+    ensures { Carries 2 (value_of_two quotient_of) operands.old result operands.new }
+{
+    let (first, second) = pop_two(operands);
+    put_value(operands, div(&first, &second)?)?;
+    Ok(Next::Ahead)
+}
+
+pub(crate) fn rescale(operands: &mut Vec<Operand>, scale: u8) -> Result<Next, ValueFault>
+    requires bound { scale ≤ 18 }
+    requires operand { IsTrue (are_values 1 (reverse operands.old.items)) }
+    ensures { Carries 1 (on_value (λ a below. with_value below (rescaled scale a))) operands.old result operands.new }
+{
+    let number = pop_value(operands);
+    put_value(operands, at_scale(&number, scale)?)?;
+    Ok(Next::Ahead)
+}
+
+// The number with so many digits behind the point; digits that don't fit there are cut off.
+fn at_scale(value: &Datum, scale: u8) -> Result<Datum, SqlState>
+    requires { scale ≤ 18 }
+    ensures { result ≡ rescaled scale value.now }
+{
+    match value {
+        Datum::Num(number) => match number.rescale(scale) {
+            Ok(number) => Ok(Datum::Num(number)),
+            Err(NumFault::Range) => Err(SqlState::OUT_OF_RANGE),
+            Err(NumFault::Zero) => Err(SqlState::DIVISION_BY_ZERO),
+            Err(NumFault::NotNumber) => Err(SqlState::INVALID_CAST),
+        },
+        _ => Ok(Datum::Null),
+    }
+}

@@ -1,0 +1,96 @@
+//! The operand stack. Operands stand in a vector with the last one at its end.
+ghost use Rattle.std.specs.Prelude.{◌≡◌, ◌<◌, ◌∷◌, vec_len, reverse, IsTrue, OnOk, OnErr};
+ghost use Rattle.psm_exprcode.specs.Fits.{are_values, are_truths};
+
+use crate::operand::Operand;
+use psm_value::{Datum, Truth};
+use std::alloc::AllocError;
+
+// The last operand, taken off.
+pub(crate) fn pop(operands: &mut Vec<Operand>) -> Operand
+    requires { 0 < vec_len operands.old }
+    ensures { reverse operands.old.items ≡ result ∷ reverse operands.new.items }
+{
+    operands.pop().unwrap()
+}
+
+// The last operand, which is a value, taken off.
+pub(crate) fn pop_value(operands: &mut Vec<Operand>) -> Datum
+    requires { IsTrue (are_values 1 (reverse operands.old.items)) }
+    ensures { reverse operands.old.items ≡ Operand.Value result ∷ reverse operands.new.items }
+{
+    match operands.pop() {
+        Some(Operand::Value(value)) => value,
+        _ => unreachable!(),
+    }
+}
+
+// The last two operands, which are values, taken off; the lower one first.
+pub(crate) fn pop_two(operands: &mut Vec<Operand>) -> (Datum, Datum)
+    requires { IsTrue (are_values 2 (reverse operands.old.items)) }
+    ensures { reverse operands.old.items ≡ Operand.Value result.1 ∷ Operand.Value result.0 ∷ reverse operands.new.items }
+{
+    let second = pop_value(operands);
+    let first = pop_value(operands);
+    (first, second)
+}
+
+// The last three operands, which are values, taken off; the lowest first.
+pub(crate) fn pop_three(operands: &mut Vec<Operand>) -> (Datum, Datum, Datum)
+    requires { IsTrue (are_values 3 (reverse operands.old.items)) }
+    ensures { reverse operands.old.items ≡ Operand.Value result.2 ∷ Operand.Value result.1 ∷ Operand.Value result.0 ∷ reverse operands.new.items }
+{
+    let third = pop_value(operands);
+    let (first, second) = pop_two(operands);
+    (first, second, third)
+}
+
+// The last operand, which is a truth value, taken off.
+pub(crate) fn pop_truth(operands: &mut Vec<Operand>) -> Truth
+    requires { IsTrue (are_truths 1 (reverse operands.old.items)) }
+    ensures { reverse operands.old.items ≡ Operand.Truth result ∷ reverse operands.new.items }
+{
+    match operands.pop() {
+        Some(Operand::Truth(truth)) => truth,
+        _ => unreachable!(),
+    }
+}
+
+// The last two operands, which are truth values, taken off; the lower one first.
+pub(crate) fn pop_truths(operands: &mut Vec<Operand>) -> (Truth, Truth)
+    requires { IsTrue (are_truths 2 (reverse operands.old.items)) }
+    ensures { reverse operands.old.items ≡ Operand.Truth result.1 ∷ Operand.Truth result.0 ∷ reverse operands.new.items }
+{
+    let second = pop_truth(operands);
+    let first = pop_truth(operands);
+    (first, second)
+}
+
+// One value more.
+pub(crate) fn put_value(operands: &mut Vec<Operand>, value: Datum) -> Result<(), AllocError>
+    ensures ok { OnOk result (reverse operands.new.items ≡ Operand.Value value ∷ reverse operands.old.items) }
+    ensures err { OnErr result (reverse operands.new.items ≡ reverse operands.old.items) }
+{
+    operands.push(Operand::Value(value))?;
+    Ok(())
+}
+
+// One truth value more.
+pub(crate) fn put_truth(operands: &mut Vec<Operand>, truth: Truth) -> Result<(), AllocError>
+    ensures ok { OnOk result (reverse operands.new.items ≡ Operand.Truth truth ∷ reverse operands.old.items) }
+    ensures err { OnErr result (reverse operands.new.items ≡ reverse operands.old.items) }
+{
+    operands.push(Operand::Truth(truth))?;
+    Ok(())
+}
+
+// One operand more.
+pub(crate) fn put(operands: &mut Vec<Operand>, operand: Operand) -> Result<(), AllocError>
+    ensures ok { OnOk result (reverse operands.new.items ≡ operand ∷ reverse operands.old.items) }
+    ensures err { OnErr result (reverse operands.new.items ≡ reverse operands.old.items) }
+{
+    match operand {
+        Operand::Value(value) => put_value(operands, value),
+        Operand::Truth(truth) => put_truth(operands, truth),
+    }
+}

@@ -1,0 +1,44 @@
+-- Keys compared value by value.
+use Rattle.std.proofs.Common.{◌≡◌, ℕ, zero, suc, ◌+◌, ◌<◌, ◌≤◌, List, [], ◌∷◌, length, get_or, drop, refl, ap, ◌∙◌, add-one, arith}
+use Rattle.std.specs.Prelude.{min}
+use Rattle.std.specs.declared.cmp.Ordering.TheVariants.{Equal}
+use Rattle.std.specs.Ordering.{ordering_then, nat_cmp}
+use Rattle.std.proofs.lemmas.Bool.Decides.{nat_tests}
+use Rattle.psm_value.specs.declared.datum.Datum.{Datum}
+use Rattle.psm_value.specs.Order.{data_order}
+use Rattle.psm_table.specs.Key.{key_order}
+
+key_order-drop_suc : (a b : List Datum) (i : ℕ) (d : Datum) → i < length a → i < length b
+    → key_order (drop i a) (drop i b) ≡ ordering_then (data_order (get_or a i d) (get_or b i d)) (key_order (drop (suc i) a) (drop (suc i) b))
+key_order-drop_suc [] b i d l m = absurd (omega arith)
+key_order-drop_suc (x ∷ a) [] i d l m = absurd (omega arith)
+key_order-drop_suc (x ∷ a) (y ∷ b) zero d l m = refl
+key_order-drop_suc (x ∷ a) (y ∷ b) (suc i) d l m = key_order-drop_suc a b i d (omega arith) (omega arith)
+
+-- the values at place i decide, and else what follows them does
+pub key_order-drop : (a b : List Datum) (i : ℕ) (d : Datum) → i < length a → i < length b
+    → key_order (drop i a) (drop i b) ≡ ordering_then (data_order (get_or a i d) (get_or b i d)) (key_order (drop (i + 1) a) (drop (i + 1) b))
+key_order-drop a b i d l m = rw add-one (key_order-drop_suc a b i d l m)
+
+-- where one key ends, the lengths decide
+pub key_order-end : (a b : List Datum) (i : ℕ) → i ≡ min (length a) (length b) → key_order (drop i a) (drop i b) ≡ nat_cmp (length a) (length b)
+key_order-end [] [] zero e = refl
+key_order-end [] (y ∷ b) zero e = grind (arith, nat_tests)
+key_order-end (x ∷ a) [] zero e = grind (arith, nat_tests)
+key_order-end (x ∷ a) (y ∷ b) zero e = absurd (omega (arith, e))
+key_order-end [] b (suc i) e = absurd (omega (arith, e))
+key_order-end (x ∷ a) [] (suc i) e = absurd (omega (arith, e))
+key_order-end (x ∷ a) (y ∷ b) (suc i) e =
+    let h : i ≡ min (length a) (length b) = omega (arith, e) in
+    let t = key_order-end a b i h in
+    grind (arith, nat_tests, t)
+
+past : (a : List Datum) (i : ℕ) → length a ≤ i → drop i a ≡ []
+past [] zero l = refl
+past [] (suc i) l = refl
+past (x ∷ a) zero l = absurd (omega arith)
+past (x ∷ a) (suc i) l = past a i (omega arith)
+
+-- keys that have no further value
+pub key_order-past : (a b : List Datum) (i : ℕ) → length a ≤ i → length b ≤ i → key_order (drop i a) (drop i b) ≡ Equal
+key_order-past a b i l m = ap (λ x. key_order x (drop i b)) (past a i l) ∙ ap (λ y. key_order [] y) (past b i m)

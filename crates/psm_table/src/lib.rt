@@ -1,0 +1,22 @@
+//! Tables in memory: lists of rows in ascending order of their primary keys (ISO/IEC 9075:1992, 4.10).
+#![tactic(auto)]
+
+mod definition;
+mod fault;
+mod key;
+mod place;
+mod row;
+mod table;
+mod unique;
+
+pub use definition::{Column, TableDef};
+pub use fault::RowFault;
+pub use key::Key;
+pub use psm_list::List;
+pub use psm_text::Name;
+pub use psm_value::{Datum, SqlType, Steps};
+pub use row::Row;
+pub use table::Table;
+
+#[cfg(test)]
+mod tests;

@@ -1,0 +1,5 @@
+pub mod DataOrder
+pub mod Literals
+pub mod Quoting
+pub mod Ranges
+pub mod Trims

@@ -1,0 +1,141 @@
+ghost use Rattle.std.specs.Prelude.{◌≡◌, ℕ, IsTrue, IfOk, List as Seq, Ok, Err, codes, encode_utf8_all, reverse};
+ghost use Rattle.std.specs.String.{string_bytes};
+ghost use Rattle.std.specs.Char.{is_ascii};
+ghost use Rattle.std.specs.List.{list_all};
+ghost use Rattle.psm_num.specs.Literal.{Literal, Spells, literal_number};
+ghost use Rattle.psm_num.specs.Printed.{printed};
+ghost use Rattle.psm_num.specs.Split.{number_of};
+ghost use Rattle.psm_text.specs.Text.{Gives as GivesText};
+ghost use Rattle.psm_value.specs.declared.datum.Datum.TheVariants as data_of;
+ghost use Rattle.psm_value.specs.declared.sqltype.SqlType.{SqlType};
+ghost use Rattle.psm_value.specs.Answer.{Gives};
+ghost use Rattle.psm_value.specs.Arithmetic.{as_datum};
+ghost use Rattle.psm_value.specs.Cast.{cast_of, then_stored, trimmed, without_front};
+ghost use Rattle.psm_value.specs.SqlType.{IsType, is_number_type as number_type};
+
+use crate::arithmetic::of_number;
+use crate::datum::Datum;
+use crate::fault::ValueFault;
+use crate::sqltype::SqlType;
+use crate::storing::{store_into, store_number, store_text};
+use psm_num::{Dec, NumFault};
+use psm_sqlstate::SqlState;
+use psm_text::{Text, TextFault};
+use std::alloc::{AllocError, Global};
+
+/// The value as another type (ISO/IEC 9075:1992, 6.10), stored there by [`store_into`]. A number becomes its
+/// printed text. A text becomes the number that it spells between its blanks: a literal with an optional
+/// sign, and else 22018; a literal of more than 18 digits is 22003.
+pub fn cast(alloc: Global, to: SqlType, value: &Datum) -> Result<Datum, ValueFault>
+    requires { IsType to }
+    ensures { Gives (cast_of to value.now) result }
+{
+    match value {
+        Datum::Null => Ok(Datum::Null),
+        Datum::Num(number) => cast_number(alloc, to, *number),
+        Datum::Text(text) => cast_text(alloc, to, text),
+    }
+}
+
+fn cast_number(alloc: Global, to: SqlType, number: Dec) -> Result<Datum, ValueFault>
+    requires { IsType to }
+    ensures { Gives (cast_of to (data_of.Num number)) result }
+{
+    if is_number_type(to) {
+        return Ok(store_number(to, number)?);
+    }
+    store_text(alloc, to, &printed_text(alloc, number)?)
+}
+
+fn cast_text(alloc: Global, to: SqlType, text: &Text) -> Result<Datum, ValueFault>
+    requires { IsType to }
+    ensures { Gives (cast_of to (data_of.Text text.now)) result }
+{
+    if !is_number_type(to) {
+        return store_text(alloc, to, text);
+    }
+    let number = read_number(alloc, without_trailing(without_leading(text.chars())))?;
+    store_into(alloc, to, &number)
+}
+
+fn is_number_type(to: SqlType) -> bool
+    ensures { result ≡ number_type to }
+{
+    match to {
+        SqlType::SmallInt | SqlType::Integer | SqlType::Numeric { .. } => true,
+        SqlType::Char { .. } | SqlType::VarChar { .. } => false,
+    }
+}
+
+fn printed_text(alloc: Global, number: Dec) -> Result<Text, TextFault>
+    ensures { GivesText (Ok (printed number)) result }
+{
+    // The bounds of a number bound the length of its text.
+    let (_coef, _scale) = (number.coef(), number.scale());
+    let digits = number.print(alloc)?;
+    Text::make(alloc, digits.as_str())
+}
+
+// The number that the characters spell. (A literal is of ASCII, so that its characters are its bytes.)
+#[tactic(auto, using(crate::proofs::Literals::beyond_ascii, crate::proofs::Literals::encoded_ascii))]
+fn read_number(alloc: Global, characters: &[char]) -> Result<Datum, ValueFault>
+    ensures { Gives (as_datum (number_of characters.now)) result }
+{
+    if !are_ascii(characters) {
+        return Err(ValueFault::Condition(SqlState::INVALID_CAST));
+    }
+    let digits = spelled(alloc, characters)?;
+    Ok(of_number(read(digits.as_str()))?)
+}
+
+fn are_ascii(characters: &[char]) -> bool
+    ensures { result ≡ list_all is_ascii characters.now }
+{
+    characters.iter().all(|c| c.is_ascii())
+}
+
+fn read(digits: &str) -> Result<Dec, NumFault>
+    ensures { result ≡ number_of digits.now }
+{
+    Dec::read(digits)
+}
+
+#[tactic(auto, using(crate::proofs::Quoting::one_more_written))]
+fn spelled(alloc: Global, characters: &[char]) -> Result<String, AllocError>
+    ensures { IfOk result (λ s. string_bytes s ≡ encode_utf8_all characters.now) }
+{
+    let mut text = String::new(alloc);
+    for c in characters {
+        text.push(*c)?;
+    }
+    Ok(text)
+}
+
+fn without_leading(characters: &[char]) -> &[char]
+    ensures { result.now ≡ without_front characters.now }
+{
+    let mut rest = characters;
+    while let Some((' ', after)) = rest.split_first() {
+        rest = after;
+    }
+    rest
+}
+
+#[tactic(auto, using(crate::proofs::Trims::one_blank_off, crate::proofs::Trims::no_blank_left))]
+fn without_trailing(characters: &[char]) -> &[char]
+    ensures { result.now ≡ reverse (without_front (reverse characters.now)) }
+{
+    let mut rest = characters;
+    while let Some((' ', before)) = rest.split_last() {
+        rest = before;
+    }
+    rest
+}
+
+/// What a text is as a number, said of the literals that it spells between its blanks.
+pub fn cast_reads_literals()
+    ensures literal { (to : SqlType) (t : Seq ℕ) (l : Literal) → IsTrue (number_type to) → Spells (trimmed t) l
+        → cast_of to (data_of.Text t) ≡ then_stored to (as_datum (literal_number l)) }
+    ensures no_literal { (to : SqlType) (t : Seq ℕ) → IsTrue (number_type to) → ((l : Literal) → Spells (trimmed t) l → ⊥)
+        → cast_of to (data_of.Text t) ≡ Err (codes "22018") }
+{}
