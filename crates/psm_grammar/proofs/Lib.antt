@@ -1,0 +1,5 @@
+pub mod Alike
+pub mod KindLists
+pub mod Firsts
+pub mod Some
+pub mod Loops

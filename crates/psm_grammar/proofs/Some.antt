@@ -1,0 +1,105 @@
+-- Each part has words: some word, and one for each kind of first token.
+use Rattle.std.proofs.Common.{◌≡◌, ◌⊎◌, inl, inr, ℕ, zero, suc, ◌+◌, ◌≤◌, ◌<◌, Bool, true, false, not, ◌&&◌, cond, List, [], ◌∷◌, ◌++◌, map, length, refl, sym, ap, subst, ◌∙◌, append_assoc, arith}
+use Rattle.std.proofs.lemmas.List.{append-nil, length-append}
+use Rattle.psm_grammar.specs.Language.{Words, toks, Lang, has, Test, Token, Nothing, Seq, Many, Image}
+use Rattle.psm_grammar.specs.Grammar.{Grammar, token, level, nothing, seq, or, ahead, many, image, lang}
+use Rattle.psm_grammar.specs.Readers.{empty, first}
+use Rattle.psm_grammar.specs.Follow.{apart, within, leads, openers, seconds, is_long, two_decide, fits, lives}
+use Rattle.psm_grammar.proofs.KindLists.{and_true, not_true, true_false, decide, if_true, if_false, one_of, has_either}
+use Rattle.psm_grammar.proofs.Firsts.{blank, none}
+
+-- a word of a part, with its value
+abbrev pub Word : {T X : Type 0} → Lang T X → Type 0
+Word {T} {X} L = (w : Words T) × (x : X) × L w x
+
+-- a word of a part that begins with a token
+abbrev pub Begun : {T X : Type 0} → T → Lang T X → Type 0
+Begun {T} {X} t L = (l : ℕ) × (w : Words T) × (x : X) × L ((t, l) ∷ w) x
+
+nothing_on : (m : ℕ) → has m [] ≡ true → ⊥
+nothing_on m h = cc
+
+module _ {T N : Type 0} {kind : T → ℕ} {V : N → Type 0} (inner : (n : N) → Lang T (V n)) (d : ℕ) (after : N → List ℕ) (words : (n : N) → Word (inner n)) where
+  pub some : {X : Type 0} (g : Grammar kind V X) (follow : List ℕ) → fits after follow g ≡ true → Word (lang inner d g)
+  some (token test) follow h = ((test.example, d) ∷ [], test.value test.example, record { at = test.example; whole = refl; known = h; made = refl })
+  some (level n test f) follow h =
+      let known = (and_true (has (kind test.example) test.kinds) (within follow (after n)) h).0 in
+      let w = words n in
+      ((test.example, suc d) ∷ w.0, f (test.value test.example) w.1, record {
+        front = (test.example, suc d) ∷ []; back = w.0; one = test.value test.example; two = w.1; whole = refl;
+        left = record { at = test.example; whole = refl; known = known; made = refl }; right = w.2; made = refl })
+  some (nothing y) follow h = ([], y, record { whole = refl; made = refl })
+  some (seq f p q) follow h =
+      let parts = and_true (fits after (leads q follow) p) (fits after follow q) h in
+      let a = some p (leads q follow) parts.0 in
+      let b = some q follow parts.1 in
+      (a.0 ++ b.0, f a.1 b.1, record { front = a.0; back = b.0; one = a.1; two = b.1; whole = refl; left = a.2; right = b.2; made = refl })
+  some (or p q) follow h =
+      let parts = and_true (fits after follow p) (fits after follow q) (and_true (not (empty p) && apart (first p) (leads q follow)) (fits after follow p && fits after follow q) h).1 in
+      let a = some p follow parts.0 in
+      (a.0, a.1, inl a.2)
+  some (ahead ones twos p q) follow h =
+      let parts = and_true (fits after follow p) (fits after follow q) (and_true (two_decide ones twos follow p q) (fits after follow p && fits after follow q) h).1 in
+      let a = some p follow parts.0 in
+      (a.0, a.1, inl a.2)
+  some (many p) follow h = ([], [], refl)
+  some (image f p) follow h = let a = some p follow h in (a.0, f a.1, record { one = a.1; left = a.2; made = refl })
+
+  pub begun : {X : Type 0} (g : Grammar kind V X) (follow : List ℕ) (t : T) → fits after follow g ≡ true → has (kind t) (first g) ≡ true → Begun t (lang inner d g)
+  begun (token test) follow t h k = (d, [], test.value t, record { at = t; whole = refl; known = k; made = refl })
+  begun (level n test f) follow t h k =
+      let w = words n in
+      (suc d, w.0, f (test.value t) w.1, record {
+        front = (t, suc d) ∷ []; back = w.0; one = test.value t; two = w.1; whole = refl;
+        left = record { at = t; whole = refl; known = k; made = refl }; right = w.2; made = refl })
+  begun (nothing y) follow t h k = absurd cc
+  begun (seq f p q) follow t h k =
+      let parts = and_true (fits after (leads q follow) p) (fits after follow q) h in
+      elim (has_either (kind t) (first p) (cond (empty p) (first q) []) k) [
+      inl a ↦ let b = begun p (leads q follow) t parts.0 a in
+              let c = some q follow parts.1 in
+              (b.0, b.1 ++ c.0, f b.2 c.1, record { front = (t, b.0) ∷ b.1; back = c.0; one = b.2; two = c.1; whole = refl; left = b.3; right = c.2; made = refl })
+    | inr a ↦ elim (decide (empty p)) [
+          inl e ↦ let b = begun q follow t parts.1 (sym (ap (has (kind t)) (if_true (empty p) (first q) [] e)) ∙ a) in
+                  let c = none inner d p e in
+                  (b.0, b.1, f c.0 b.2, record { front = []; back = (t, b.0) ∷ b.1; one = c.0; two = b.2; whole = refl; left = c.1; right = b.3; made = refl })
+        | inr e ↦ absurd (nothing_on (kind t) (sym (ap (has (kind t)) (if_false (empty p) (first q) [] e)) ∙ a)) ] ]
+  begun (or p q) follow t h k =
+      let parts = and_true (fits after follow p) (fits after follow q) (and_true (not (empty p) && apart (first p) (leads q follow)) (fits after follow p && fits after follow q) h).1 in
+      elim (has_either (kind t) (first p) (first q) k) [
+      inl a ↦ let b = begun p follow t parts.0 a in (b.0, b.1, b.2, inl b.3)
+    | inr a ↦ let b = begun q follow t parts.1 a in (b.0, b.1, b.2, inr b.3) ]
+  begun (ahead ones twos p q) follow t h k =
+      let parts = and_true (fits after follow p) (fits after follow q) (and_true (two_decide ones twos follow p q) (fits after follow p && fits after follow q) h).1 in
+      elim (has_either (kind t) (first p) (first q) k) [
+      inl a ↦ let b = begun p follow t parts.0 a in (b.0, b.1, b.2, inl b.3)
+    | inr a ↦ let b = begun q follow t parts.1 a in (b.0, b.1, b.2, inr b.3) ]
+  begun (many p) follow t h k =
+      let parts = and_true (not (empty p) && apart (first p) follow) (fits after (first p ++ follow) p) h in
+      let b = begun p (first p ++ follow) t parts.1 k in
+      (b.0, b.1, b.2 ∷ [], ((t, b.0) ∷ b.1, [], sym (append-nil ((t, b.0) ∷ b.1)), b.3, refl))
+  begun (image f p) follow t h k = let b = begun p follow t h k in (b.0, b.1, f b.2, record { one = b.2; left = b.3; made = refl })
+
+module _ {T N : Type 0} {kind : T → ℕ} {V : N → Type 0} (inner : (n : N) → Lang T (V n)) (d : ℕ) where
+  pub not_blank : {X : Type 0} (g : Grammar kind V X) (w : Words T) (x : X) → empty g ≡ false → lang inner d g w x → 1 ≤ length w
+  not_blank g [] x e l = absurd (true_false (empty g) (blank inner d g x l) e)
+  not_blank g (t ∷ w) x e l = omega arith
+
+  pub long : {X : Type 0} (g : Grammar kind V X) (w : Words T) (x : X) → is_long g ≡ true → lang inner d g w x → 2 ≤ length w
+  long (token test) w x h l = absurd cc
+  long (level n test f) w x h l = absurd cc
+  long (nothing y) w x h l = absurd cc
+  long (seq f p q) w x h l =
+      let all : length w ≡ length l.front + length l.back = ap length l.whole ∙ length-append l.front l.back in
+      elim (one_of (is_long p) (cond (is_long q) true (not (empty p) && not (empty q))) h) [
+      inl a ↦ omega (arith, all, long p l.front l.one a l.left)
+    | inr b ↦ elim (one_of (is_long q) (not (empty p) && not (empty q)) b) [
+          inl a ↦ omega (arith, all, long q l.back l.two a l.right)
+        | inr a ↦ let parts = and_true (not (empty p)) (not (empty q)) a in
+                  omega (arith, all, not_blank p l.front l.one (not_true (empty p) parts.0) l.left, not_blank q l.back l.two (not_true (empty q) parts.1) l.right) ] ]
+  long (or p q) w x h (inl l) = long p w x (and_true (is_long p) (is_long q) h).0 l
+  long (or p q) w x h (inr l) = long q w x (and_true (is_long p) (is_long q) h).1 l
+  long (ahead ones twos p q) w x h (inl l) = long p w x (and_true (is_long p) (is_long q) h).0 l
+  long (ahead ones twos p q) w x h (inr l) = long q w x (and_true (is_long p) (is_long q) h).1 l
+  long (many p) w x h l = absurd cc
+  long (image f p) w x h l = long p w l.one h l.left

@@ -1,0 +1,5 @@
+pub mod Language
+pub mod Grammar
+pub mod Readers
+pub mod Exact
+pub mod Follow

@@ -1,0 +1,195 @@
+//! A small grammar, and its parser.
+#![tactic(auto)]
+
+ghost use Rattle.std.specs.Prelude.{◌≡◌, ◌<◌, ◌≤◌, length, max, IfOk};
+ghost use Rattle.psm_grammar_trial.specs.Mini.{Gives, reads, enters, call_rest, part, sum, more_parts, top, productions, in_parens, arguments, trimmed, Parens, Arguments, Trimmed, closing as close_test, opening as open_test, from as from_test};
+ghost use Rattle.psm_grammar.specs.Grammar.{token};
+
+use std::alloc::{AllocError, AllocFailed, Global};
+
+/// A token.
+#[derive(Clone, Copy)]
+pub enum Tok {
+    Num(u32),
+    Name(u32),
+    Plus,
+    Comma,
+    Open,
+    Close,
+    Trim,
+    From,
+    Leading,
+}
+
+/// Why there is no value, with the number of tokens that are left.
+#[derive(Clone, Copy)]
+pub enum Fault {
+    Syntax(usize),
+    Deep(usize),
+    Memory,
+}
+
+impl From<AllocError> for Fault {
+    fn from(_error: AllocError) -> Fault {
+        Fault::Memory
+    }
+}
+
+impl<T: Drop> From<AllocFailed<T>> for Fault {
+    fn from(_error: AllocFailed<T>) -> Fault {
+        Fault::Memory
+    }
+}
+
+/// A closing parenthesis.
+fn closing(tokens: &[Tok]) -> Result<&[Tok], Fault>
+    ensures takes { IfOk result (λ x. length x.now < length tokens.now) }
+    ensures exact { Gives (λ x. (tt, x.now)) result (reads 0 (token close_test) tokens.now) }
+{
+    match tokens {
+        [Tok::Close, rest @ ..] => Ok(rest),
+        _ => Err(Fault::Syntax(tokens.len())),
+    }
+}
+
+/// part = num | name ["(" [sum {"," sum}] ")"] | "(" sum ")" | TRIM "(" [LEADING FROM] sum ")"
+#[cycle(parser)]
+fn part_of(alloc: Global, tokens: &[Tok], levels: u32) -> Result<(u32, &[Tok]), Fault>
+    ensures exact { Gives (λ x. (x.0, x.1.now)) result (reads levels part tokens.now) }
+    ensures takes { IfOk result (λ x. length x.1.now < length tokens.now) }
+{
+    match tokens {
+        [Tok::Num(n), rest @ ..] => Ok((*n, rest)),
+        [Tok::Name(n), rest @ ..] => {
+            let (m, rest) = call(alloc, rest, levels)?;
+            Ok((std::cmp::max(*n, m), rest))
+        }
+        [Tok::Leading, rest @ ..] => {
+            let (m, rest) = call(alloc, rest, levels)?;
+            Ok((std::cmp::max(0, m), rest))
+        }
+        [Tok::Open, rest @ ..] => enter_parens(alloc, tokens, rest, levels),
+        [Tok::Trim, rest @ ..] => enter_trimmed(alloc, tokens, rest, levels),
+        _ => Err(Fault::Syntax(tokens.len())),
+    }
+}
+
+/// What may stand behind a name.
+#[cycle(parser)]
+fn call(alloc: Global, tokens: &[Tok], levels: u32) -> Result<(u32, &[Tok]), Fault>
+    ensures exact { Gives (λ x. (x.0, x.1.now)) result (reads levels call_rest tokens.now) }
+    ensures takes { IfOk result (λ x. length x.1.now ≤ length tokens.now) }
+{
+    match tokens {
+        [Tok::Open, rest @ ..] => enter_arguments(alloc, tokens, rest, levels),
+        _ => Ok((0, tokens)),
+    }
+}
+
+#[cycle(parser)]
+#[tactic(auto, using(psm_grammar::proofs::Loops::deeper_some))]
+fn enter_parens<'a>(alloc: Global, tokens: &[Tok], rest: &'a [Tok], levels: u32) -> Result<(u32, &'a [Tok]), Fault>
+    ensures exact { Gives (λ x. (x.0, x.1.now)) result (enters levels Parens tokens.now rest.now) }
+    ensures takes { IfOk result (λ x. length x.1.now < length rest.now) }
+{
+    if levels == 0 {
+        return Err(Fault::Deep(tokens.len()));
+    }
+    parens(alloc, rest, levels - 1)
+}
+
+#[cycle(parser)]
+#[tactic(auto, using(psm_grammar::proofs::Loops::deeper_some))]
+fn enter_arguments<'a>(alloc: Global, tokens: &[Tok], rest: &'a [Tok], levels: u32) -> Result<(u32, &'a [Tok]), Fault>
+    ensures exact { Gives (λ x. (x.0, x.1.now)) result (enters levels Arguments tokens.now rest.now) }
+    ensures takes { IfOk result (λ x. length x.1.now < length rest.now) }
+{
+    if levels == 0 {
+        return Err(Fault::Deep(tokens.len()));
+    }
+    arguments_of(alloc, rest, levels - 1)
+}
+
+#[cycle(parser)]
+#[tactic(auto, using(psm_grammar::proofs::Loops::deeper_some))]
+fn enter_trimmed<'a>(alloc: Global, tokens: &[Tok], rest: &'a [Tok], levels: u32) -> Result<(u32, &'a [Tok]), Fault>
+    ensures exact { Gives (λ x. (x.0, x.1.now)) result (enters levels Trimmed tokens.now rest.now) }
+    ensures takes { IfOk result (λ x. length x.1.now < length rest.now) }
+{
+    if levels == 0 {
+        return Err(Fault::Deep(tokens.len()));
+    }
+    trimmed_of(alloc, rest, levels - 1)
+}
+
+/// In parentheses.
+#[cycle(parser)]
+fn parens(alloc: Global, tokens: &[Tok], levels: u32) -> Result<(u32, &[Tok]), Fault>
+    ensures exact { Gives (λ x. (x.0, x.1.now)) result (reads levels in_parens tokens.now) }
+    ensures takes { IfOk result (λ x. length x.1.now < length tokens.now) }
+{
+    let (n, rest) = sum_of(alloc, tokens, levels)?;
+    let rest = closing(rest)?;
+    Ok((n, rest))
+}
+
+/// The arguments of a call.
+#[cycle(parser)]
+fn arguments_of(alloc: Global, tokens: &[Tok], levels: u32) -> Result<(u32, &[Tok]), Fault>
+    ensures exact { Gives (λ x. (x.0, x.1.now)) result (reads levels arguments tokens.now) }
+    ensures takes { IfOk result (λ x. length x.1.now < length tokens.now) }
+{
+    match tokens {
+        [Tok::Close, rest @ ..] => Ok((0, rest)),
+        _ => parens(alloc, tokens, levels),
+    }
+}
+
+/// Behind TRIM.
+#[cycle(parser)]
+fn trimmed_of(alloc: Global, tokens: &[Tok], levels: u32) -> Result<(u32, &[Tok]), Fault>
+    ensures exact { Gives (λ x. (x.0, x.1.now)) result (reads levels trimmed tokens.now) }
+    ensures takes { IfOk result (λ x. length x.1.now < length tokens.now) }
+{
+    match tokens {
+        [Tok::Open, Tok::Leading, Tok::From, rest @ ..] => parens(alloc, rest, levels),
+        [Tok::Open, rest @ ..] => parens(alloc, rest, levels),
+        _ => Err(Fault::Syntax(tokens.len())),
+    }
+}
+
+/// sum = part {"+" part}
+#[cycle(parser)]
+fn sum_of(alloc: Global, tokens: &[Tok], levels: u32) -> Result<(u32, &[Tok]), Fault>
+    ensures exact { Gives (λ x. (x.0, x.1.now)) result (reads levels sum tokens.now) }
+    ensures takes { IfOk result (λ x. length x.1.now < length tokens.now) }
+{
+    let (first, rest) = part_of(alloc, tokens, levels)?;
+    let (others, rest) = more(alloc, rest, levels)?;
+    Ok((greatest(first, &others), rest))
+}
+
+fn greatest(first: u32, others: &[u32]) -> u32
+    ensures { result ≡ max first (top others.now) }
+{
+    match others {
+        [] => first,
+        [n, others @ ..] => std::cmp::max(first, greatest(*n, others)),
+    }
+}
+
+/// {"+" part}
+#[cycle(parser)]
+fn more(alloc: Global, tokens: &[Tok], levels: u32) -> Result<(Vec<u32>, &[Tok]), Fault>
+    ensures exact { Gives (λ x. (x.0.items, x.1.now)) result (reads levels more_parts tokens.now) }
+    ensures takes { IfOk result (λ x. length x.1.now ≤ length tokens.now) }
+{
+    let mut parts = Vec::new(alloc);
+    let mut rest = tokens;
+    while let [Tok::Plus, after @ ..] = rest {
+        let (n, next) = part_of(alloc, after, levels)?;
+        parts.push(n)?;
+        rest = next;
+    }
+    Ok((parts, rest))
+}
