@@ -51,7 +51,7 @@ module _ {T : Type 0} where
   alike_levels Q (f ∷ front) rest [] k a = a
   alike_levels Q (f ∷ front) rest (x ∷ w) k a = λ e. ((a e).0, alike_levels Q front rest w k (a e).1)
 
-  some_same : (a b : T) → Some a ≡ Some b → a ≡ b
+  pub some_same : (a b : T) → Some a ≡ Some b → a ≡ b
   some_same a b e = cc
 
   -- a word that goes on as the rest does

@@ -109,7 +109,7 @@ module _ {T N : Type 0} {kind : T → ℕ} {V : N → Type 0} (inner : (n : N) �
   -- ---- the second token
 
   -- what stands behind many items
-  many_behind : {X : Type 0} (p : Grammar kind V X) (follow : List ℕ) (v : Words T) (xs : List X) (k : List T) → Many (lang inner d p) v xs → Next kind follow k → Next kind (first p ++ follow) (toks v ++ k)
+  pub many_behind : {X : Type 0} (p : Grammar kind V X) (follow : List ℕ) (v : Words T) (xs : List X) (k : List T) → Many (lang inner d p) v xs → Next kind follow k → Next kind (first p ++ follow) (toks v ++ k)
   many_behind p follow [] xs k l n = next_more kind follow (first p ++ follow) k (λ m h. has_right m (first p) follow h) n
   many_behind p follow (t ∷ v) xs k l n = has_left (kind t.0) (first p) follow (many_first (lang inner d p) (λ s. has (kind s.0) (first p) ≡ true) (begins p) t v xs l)
 

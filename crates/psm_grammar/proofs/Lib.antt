@@ -2,4 +2,8 @@ pub mod Alike
 pub mod KindLists
 pub mod Firsts
 pub mod Some
+pub mod Runs
+pub mod Parts
+pub mod Exactness
+pub mod Heights
 pub mod Loops

@@ -1,0 +1,216 @@
+-- The reader of each part of a grammar is exact, where the readers of the nonterminals are.
+use Rattle.std.proofs.Common.{◌≡◌, ◌⊎◌, inl, inr, ℕ, zero, suc, ◌+◌, ◌≤◌, ◌<◌, Bool, true, false, not, ◌&&◌, cond, List, [], ◌∷◌, ◌++◌, map, length, Option, Some, None, Ok, Err, refl, sym, ap, subst, ◌∙◌, append_assoc, arith}
+use Rattle.std.proofs.lemmas.List.{append-nil, length-append}
+use Rattle.psm_grammar.specs.Language.{Words, toks, Lang, has, Test, Token, Nothing, Seq, Many, Image}
+use Rattle.psm_grammar.specs.Grammar.{Grammar, token, level, nothing, seq, or, ahead, many, image, lang}
+use Rattle.psm_grammar.specs.Readers.{Stop, Wrong, TooDeep, Out, Reader, and_then, starts, starts_two, one, repeat, Deeper, enter, opened, empty, first, read}
+use Rattle.psm_grammar.specs.Exact.{head, Low, Next}
+use Rattle.psm_grammar.specs.Follow.{apart, within, leads, openers, seconds, is_long, two_decide, fits}
+use Rattle.psm_grammar.proofs.Alike.{Alike, guarded, some_same}
+use Rattle.psm_grammar.proofs.KindLists.{and_true, both_true, not_true, true_false, decide, has_left, has_right, if_true, if_false, apart_none, within_has, next_more}
+use Rattle.psm_grammar.proofs.Firsts.{blank, none, begins, led, plain, second, many_behind}
+use Rattle.psm_grammar.proofs.Some.{Word, Begun, some, begun, not_blank, long}
+use Rattle.psm_grammar.proofs.Runs.{Run, Done, Opens, Whatever, Never, Reads, spelled, run_in, reads_in, reads_before, reads_image, reads_seq}
+use Rattle.psm_grammar.proofs.Parts.{reads_token, reads_opened, reads_deep, reads_nothing, reads_many}
+
+-- the readers of the nonterminals are exact one level deeper, or no level is left
+abbrev pub DeeperReads : {T N : Type 0} {V : N → Type 0} → (T → ℕ) → ((n : N) → Lang T (V n)) → (N → List ℕ) → ℕ → ℕ → Deeper T V → Type 0
+DeeperReads kind inner after limit d None = d ≡ limit
+DeeperReads {T} kind inner after limit d (Some readers) = (suc d ≤ limit) × ((n : _) (ts : List T) → Reads (inner n) (Next kind (after n)) limit ts (readers n ts))
+
+-- ---- a choice by two tokens
+
+module _ {T X : Type 0} (F : List T → Type 0) (limit : ℕ) (L K : Lang T X) (t : T) (ts : List T) (d : ℕ)
+    (low : d ≤ limit) (end : F [])
+    (known : (l : ℕ) (w : Words T) (x : X) → L ((t, l) ∷ w) x → l ≡ d)
+    (begun_so : Begun t L)
+    (other : (l : ℕ) (w : Words T) (x : X) (k : List T) → K ((t, l) ∷ w) x → F k → (l ≡ d) × (head (toks w ++ k) ≡ head ts → ⊥))
+    (some : (w : Words T) (x : X) → K w x → 1 ≤ length w) where
+  tail_same : (a b : T) (u v : List T) → a ∷ u ≡ b ∷ v → u ≡ v
+  tail_same a b u v e = cc
+
+  two_run : {rest : List T} {B E : Words T → X → Type 0} (J : Lang T X) → Run L F limit (t ∷ ts) rest B E
+      → ((x : T × ℕ) (m : Words T) (y : X) → x.1 ≤ limit → E (x ∷ m) y → ⊥)
+      → ((w : Words T) (x : X) → L w x → J w x) → ((w : Words T) (x : X) → J w x → L w x ⊎ K w x) → Run J F limit (t ∷ ts) rest B E
+  two_run {rest} {B} {E} J r away into back = record {
+    front = r.front; more = r.more; value = r.value; parts = r.parts; begins = into (r.front ++ r.more) r.value r.begins; so = r.so; low = r.low;
+    alike = λ w x k j n. elim (back w x j) [ inl l ↦ r.alike w x k l n | inr l ↦ apart r.front r.parts r.begins r.alike w x k l n ];
+  }
+    where
+      apart : (front : Words T) → t ∷ ts ≡ toks front ++ rest → L (front ++ r.more) r.value
+          → ((w : Words T) (x : X) (k : List T) → L w x → F k → Alike (λ m. E m x) front rest w k)
+          → (w : Words T) (x : X) (k : List T) → K w x → F k → Alike (λ m. E m x) front rest w k
+      apart [] p b a w x k l n = absurd (
+          let word = begun_so in
+          let e : Some t ≡ head rest = ap head p in
+          let there = a ((t, word.0) ∷ word.1) word.2 [] word.3 end e in
+          away (t, word.0) word.1 word.2 (subst (λ h. h ≤ limit) (sym (known word.0 word.1 word.2 word.3)) low) there)
+      apart (f ∷ front) p b a [] x k l n = absurd (let one = some [] x l in omega (arith, one))
+      apart (f ∷ front) p b a (y ∷ w) x k l n = λ e.
+          let same : f.0 ≡ t = sym (some_same t f.0 (ap head p)) in
+          let here : L ((t, f.1) ∷ (front ++ r.more)) r.value = subst (λ s. L ((s, f.1) ∷ (front ++ r.more)) r.value) same b in
+          let there : K ((t, y.1) ∷ w) x = subst (λ s. K ((s, y.1) ∷ w) x) (e ∙ same) l in
+          let o = other y.1 w x k there n in
+          (o.0 ∙ sym (known f.1 (front ++ r.more) r.value here),
+            guarded (λ m. E m x) front rest w k (λ g. absurd (o.1 (g ∙ sym (ap head (tail_same t f.0 ts (toks front ++ rest) p))))))
+
+  pub reads_two : (J : Lang T X) (o : Out T X) → Reads L F limit (t ∷ ts) o
+      → ((w : Words T) (x : X) → L w x → J w x) → ((w : Words T) (x : X) → J w x → L w x ⊎ K w x) → Reads J F limit (t ∷ ts) o
+  reads_two J (Ok r) h into back = two_run J h (λ x m y a e. cc (e.0)) into back
+  reads_two J (Err (Wrong rest)) h into back = two_run J h (λ x m y a e. e) into back
+  reads_two J (Err (TooDeep [])) h into back = two_run J h (λ x m y a e. e) into back
+  reads_two J (Err (TooDeep (s ∷ rest))) h into back = two_run J h (λ x m y a e. let l : x.1 ≡ suc limit = ap (λ (z : T × ℕ). z.1) e in omega (arith, a, l)) into back
+
+-- ---- all parts
+
+-- no token stands at the front of two lists of which one begins otherwise
+starts_same : {T : Type 0} (kind : T → ℕ) (ks : List ℕ) (a b : List T) → head a ≡ head b → starts kind ks a ≡ starts kind ks b
+starts_same kind ks [] [] e = refl
+starts_same kind ks [] (t ∷ b) e = absurd (cc e)
+starts_same kind ks (t ∷ a) [] e = absurd (cc e)
+starts_same kind ks (t ∷ a) (s ∷ b) e = ap (λ u. has (kind u) ks) (some_same t s e)
+
+starts_within : {T : Type 0} (kind : T → ℕ) (ms ns : List ℕ) (k : List T) → ((n : ℕ) → has n ms ≡ true → has n ns ≡ false) → Next kind ms k → starts kind ns k ≡ false
+starts_within kind ms ns [] h n = refl
+starts_within kind ms ns (t ∷ k) h n = h (kind t) n
+
+reads_level : {T N A Z : Type 0} {V : N → Type 0} (kind : T → ℕ) (inner : (n : N) → Lang T (V n)) (d : ℕ) (after : N → List ℕ) (words : (n : N) → Word (inner n)) (limit : ℕ)
+    (n : N) (test : Test T A) (f : A → V n → Z) (follow : List ℕ) (known : has (kind test.example) test.kinds ≡ true) (fit : within follow (after n) ≡ true)
+    (deeper : Deeper T V) → DeeperReads kind inner after limit d deeper → (ts : List T)
+    → Reads (Seq f (Token kind test (suc d)) (inner n)) (Next kind follow) limit ts (opened kind test n f deeper ts)
+reads_level {V} kind inner d after words limit n test f follow known fit None top ts = reads_deep V kind test n f (inner n) (words n) d (Next kind follow) limit known ts top
+reads_level kind inner d after words limit n test f follow known fit (Some readers) h ts =
+    reads_opened kind test n f (inner n) (words n) d (Next kind follow) limit known readers ts h.0
+    (λ rest. reads_before (inner n) (Next kind (after n)) limit (Next kind follow) rest (readers n rest) (h.1 n rest) (λ k. next_more kind follow (after n) k (λ m. within_has m follow (after n) fit)))
+
+module _ {T N : Type 0} {kind : T → ℕ} {V : N → Type 0} (inner : (n : N) → Lang T (V n)) (d : ℕ) (after : N → List ℕ) (words : (n : N) → Word (inner n))
+    (limit : ℕ) (low : d ≤ limit) (deeper : Deeper T V) (deep : DeeperReads kind inner after limit d deeper) where
+
+  -- the words of a part that has no word of no token start with its kinds
+  starts_first : {X : Type 0} (g : Grammar kind V X) → empty g ≡ false → (w : Words T) (x : X) (k : List T) → lang inner d g w x → starts kind (first g) (toks w ++ k) ≡ true
+  starts_first g e [] x k l = absurd (true_false (empty g) (blank inner d g x l) e)
+  starts_first g e (t ∷ w) x k l = begins inner d g t w x l
+
+  -- one of two parts, by the first token
+  reads_pick : {X : Type 0} (p q : Grammar kind V X) (follow : List ℕ) (ts : List T) (o o' : Out T X) → empty p ≡ false → apart (first p) (leads q follow) ≡ true
+      → Reads (lang inner d p) (Next kind follow) limit ts o → Reads (lang inner d q) (Next kind follow) limit ts o'
+      → (b : Bool) → starts kind (first p) ts ≡ b → Reads (lang inner d (or p q)) (Next kind follow) limit ts (cond b o o')
+  reads_pick p q follow ts o o' e a h k true s = reads_in (lang inner d p) (Next kind follow) limit (lang inner d (or p q)) ts o h (λ w x l. inl l)
+      (λ w x k l n f. elim l [ inl m ↦ m
+        | inr m ↦ absurd (true_false (starts kind (first p) ts) s
+            (sym (starts_same kind (first p) (toks w ++ k) ts f) ∙ refuses w x k m n)) ])
+    where
+      refuses : (w : Words T) (x : _) (k : List T) → lang inner d q w x → Next kind follow k → starts kind (first p) (toks w ++ k) ≡ false
+      refuses w x k m n = starts_within kind (leads q follow) (first p) (toks w ++ k) (λ c h. elim (decide (has c (first p))) [
+          inl t ↦ absurd (true_false (has c (leads q follow)) h (apart_none c (first p) (leads q follow) a t)) | inr f ↦ f ]) (led inner d q follow w x k m n)
+  reads_pick p q follow ts o o' e a h k false s = reads_in (lang inner d q) (Next kind follow) limit (lang inner d (or p q)) ts o' k (λ w x l. inr l)
+      (λ w x k l n f. elim l [ inr m ↦ m
+        | inl m ↦ absurd (true_false (starts kind (first p) ts) (sym (starts_same kind (first p) (toks w ++ k) ts f) ∙ starts_first p e w x k m) s) ])
+
+  -- one of two parts, by the first two tokens
+  module _ {X : Type 0} (ones twos follow : List ℕ) (p q : Grammar kind V X) (rule : two_decide ones twos follow p q ≡ true)
+      (fit : fits after follow p ≡ true) (fit' : fits after follow q ≡ true) where
+    record Rule : Type 0 where
+      long_p : is_long p ≡ true
+      some_q : empty q ≡ false
+      from_p : within (first p) ones ≡ true
+      to_p : within ones (first p) ≡ true
+      to_q : within ones (first q) ≡ true
+      plain_p : apart ones (openers p) ≡ true
+      plain_q : apart ones (openers q) ≡ true
+      next_p : within (seconds ones follow p) twos ≡ true
+      next_q : apart twos (seconds ones follow q) ≡ true
+
+    the_rule : Rule
+    the_rule =
+        let a = and_true (is_long p) _ rule in
+        let b = and_true (not (empty q)) _ a.1 in
+        let c = and_true (within (first p) ones) _ b.1 in
+        let e = and_true (within ones (first p)) _ c.1 in
+        let f = and_true (within ones (first q)) _ e.1 in
+        let g = and_true (apart ones (openers p)) _ f.1 in
+        let h = and_true (apart ones (openers q)) _ g.1 in
+        let i = and_true (within (seconds ones follow p) twos) _ h.1 in
+        record { long_p = a.0; some_q = not_true (empty q) b.0; from_p = c.0; to_p = e.0; to_q = f.0; plain_p = g.0; plain_q = h.0; next_p = i.0; next_q = i.1 }
+
+    abbrev F : List T → Type 0
+    F k = Next kind follow k
+
+    p_starts : (w : Words T) (x : X) (k : List T) → lang inner d p w x → starts kind ones (toks w ++ k) ≡ true
+    p_starts [] x k l = let two = long inner d p [] x the_rule.long_p l in absurd (omega (arith, two))
+    p_starts (t ∷ w) x k l = within_has (kind t.0) (first p) ones the_rule.from_p (begins inner d p t w x l)
+
+    p_second : (t : T) → has (kind t) ones ≡ true → (l : ℕ) (w : Words T) (x : X) (k : List T) → lang inner d p ((t, l) ∷ w) x → F k → starts kind twos (toks w ++ k) ≡ true
+    p_second t h l w x k m n = by w (long inner d p ((t, l) ∷ w) x the_rule.long_p m)
+        (second inner d ones p follow (t, l) w x k m n h (apart_none (kind t) ones (openers p) the_rule.plain_p h))
+      where
+        by : (w : Words T) → 2 ≤ length ((t, l) ∷ w) → Next kind (seconds ones follow p) (toks w ++ k) → starts kind twos (toks w ++ k) ≡ true
+        by [] a n = absurd (omega (arith, a))
+        by (s ∷ w) a n = within_has (kind s.0) (seconds ones follow p) twos the_rule.next_p n
+
+    q_second : (t : T) → has (kind t) ones ≡ true → (l : ℕ) (w : Words T) (x : X) (k : List T) → lang inner d q ((t, l) ∷ w) x → F k → starts kind twos (toks w ++ k) ≡ false
+    q_second t h l w x k m n = starts_within kind (seconds ones follow q) twos (toks w ++ k)
+        (λ c e. elim (decide (has c twos)) [ inl y ↦ absurd (true_false (has c (seconds ones follow q)) e (apart_none c twos (seconds ones follow q) the_rule.next_q y)) | inr y ↦ y ])
+        (second inner d ones q follow (t, l) w x k m n h (apart_none (kind t) ones (openers q) the_rule.plain_q h))
+
+    p_level : (t : T) → has (kind t) ones ≡ true → (l : ℕ) (w : Words T) (x : X) → lang inner d p ((t, l) ∷ w) x → l ≡ d
+    p_level t h l w x m = plain inner d p (t, l) w x m (apart_none (kind t) ones (openers p) the_rule.plain_p h)
+
+    q_level : (t : T) → has (kind t) ones ≡ true → (l : ℕ) (w : Words T) (x : X) → lang inner d q ((t, l) ∷ w) x → l ≡ d
+    q_level t h l w x m = plain inner d q (t, l) w x m (apart_none (kind t) ones (openers q) the_rule.plain_q h)
+
+    abbrev J : Lang T X
+    J w x = lang inner d p w x ⊎ lang inner d q w x
+
+    swap : (w : Words T) (x : X) → J w x → lang inner d q w x ⊎ lang inner d p w x
+    swap w x (inl l) = inr l
+    swap w x (inr l) = inl l
+
+    only_q : (ts : List T) (o : Out T X) → starts kind ones ts ≡ false → Reads (lang inner d q) F limit ts o → Reads J F limit ts o
+    only_q ts o s h = reads_in (lang inner d q) F limit J ts o h (λ w x l. inr l)
+        (λ w x k l n f. elim l [ inr m ↦ m
+          | inl m ↦ absurd (true_false (starts kind ones ts) (sym (starts_same kind ones (toks w ++ k) ts f) ∙ p_starts w x k m) s) ])
+
+    reads_ahead : (ts : List T) (o o' : Out T X) → Reads (lang inner d p) F limit ts o → Reads (lang inner d q) F limit ts o'
+        → (a b : Bool) → starts kind ones ts ≡ a → starts_two kind ones twos ts ≡ b → Reads J F limit ts (cond b o o')
+    reads_ahead ts o o' h k false false s e = only_q ts o' s k
+    reads_ahead [] o o' h k true b s e = absurd (cc s)
+    reads_ahead [] o o' h k a true s e = absurd (cc e)
+    reads_ahead (t ∷ ts) o o' h k false true s e = absurd (true_false (has (kind t) ones) (and_true (has (kind t) ones) (starts kind twos ts) e).0 s)
+    reads_ahead (t ∷ ts) o o' h k true true s e =
+        let next : starts kind twos ts ≡ true = (and_true (has (kind t) ones) (starts kind twos ts) e).1 in
+        reads_two F limit (lang inner d p) (lang inner d q) t ts d low tt (p_level t s) (begun inner d after words p follow t fit (within_has (kind t) ones (first p) the_rule.to_p s))
+        (λ l w x c m n. (q_level t s l w x m, λ g. true_false (starts kind twos ts) next (sym (starts_same kind twos (toks w ++ c) ts g) ∙ q_second t s l w x c m n)))
+        (λ w x m. not_blank inner d q w x the_rule.some_q m) J o h (λ w x m. inl m) (λ w x m. m)
+    reads_ahead (t ∷ ts) o o' h k true false s e =
+        let next : starts kind twos ts ≡ false = ap (λ y. y && starts kind twos ts) (sym s) ∙ e in
+        reads_two F limit (lang inner d q) (lang inner d p) t ts d low tt (q_level t s) (begun inner d after words q follow t fit' (within_has (kind t) ones (first q) the_rule.to_q s))
+        (λ l w x c m n. (p_level t s l w x m, λ g. true_false (starts kind twos ts) (sym (starts_same kind twos (toks w ++ c) ts g) ∙ p_second t s l w x c m n) next))
+        (λ w x m. let two = long inner d p w x the_rule.long_p m in omega (arith, two)) J o' k (λ w x m. inr m) swap
+
+  pub exact : {X : Type 0} (g : Grammar kind V X) (follow : List ℕ) → fits after follow g ≡ true → (ts : List T) → Reads (lang inner d g) (Next kind follow) limit ts (read deeper g ts)
+  exact (token test) follow h ts = reads_token kind test d (Next kind follow) limit h ts low
+  exact (level n test f) follow h ts =
+      let parts = and_true (has (kind test.example) test.kinds) (within follow (after n)) h in
+      reads_level kind inner d after words limit n test f follow parts.0 parts.1 deeper deep ts
+  exact (nothing x) follow h ts = reads_nothing x (Next kind follow) limit ts
+  exact (seq f p q) follow h ts =
+      let parts = and_true (fits after (leads q follow) p) (fits after follow q) h in
+      reads_seq (lang inner d p) (Next kind (leads q follow)) limit f (led inner d q follow) ts (read deeper p ts) (read deeper q)
+      (exact p (leads q follow) parts.0 ts) (some inner d after words q follow parts.1) (λ u x rest s l. exact q follow parts.1 rest)
+  exact (or p q) follow h ts =
+      let all = and_true (not (empty p) && apart (first p) (leads q follow)) (fits after follow p && fits after follow q) h in
+      let rule = and_true (not (empty p)) (apart (first p) (leads q follow)) all.0 in
+      let parts = and_true (fits after follow p) (fits after follow q) all.1 in
+      reads_pick p q follow ts (read deeper p ts) (read deeper q ts) (not_true (empty p) rule.0) rule.1 (exact p follow parts.0 ts) (exact q follow parts.1 ts) (starts kind (first p) ts) refl
+  exact (ahead ones twos p q) follow h ts =
+      let all = and_true (two_decide ones twos follow p q) (fits after follow p && fits after follow q) h in
+      let parts = and_true (fits after follow p) (fits after follow q) all.1 in
+      reads_ahead ones twos follow p q all.0 parts.0 parts.1 ts (read deeper p ts) (read deeper q ts) (exact p follow parts.0 ts) (exact q follow parts.1 ts)
+      (starts kind ones ts) (starts_two kind ones twos ts) refl refl
+  exact (many p) follow h ts =
+      let all = and_true (not (empty p) && apart (first p) follow) (fits after (first p ++ follow) p) h in
+      let rule = and_true (not (empty p)) (apart (first p) follow) all.0 in
+      reads_many kind (first p) follow (lang inner d p) limit (read deeper p) (λ w x l. not_blank inner d p w x (not_true (empty p) rule.0) l) (begins inner d p)
+      (λ n. apart_none n (first p) follow rule.1) (many_behind inner d p follow) (exact p (first p ++ follow) all.1) (length ts) ts (omega arith)
+  exact (image f p) follow h ts = reads_image (lang inner d p) (Next kind follow) limit f ts (read deeper p ts) (exact p follow h ts)
