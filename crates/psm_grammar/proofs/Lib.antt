@@ -6,4 +6,6 @@ pub mod Runs
 pub mod Parts
 pub mod Exactness
 pub mod Heights
+pub mod Whole
+pub mod Unique
 pub mod Loops
