@@ -8,4 +8,5 @@ pub mod Exactness
 pub mod Heights
 pub mod Whole
 pub mod Unique
+pub mod Answer
 pub mod Loops

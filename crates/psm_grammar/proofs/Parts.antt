@@ -6,26 +6,26 @@ use Rattle.psm_grammar.specs.Readers.{Stop, Wrong, TooDeep, Out, Reader, and_the
 use Rattle.psm_grammar.specs.Exact.{head, Low, Next}
 use Rattle.psm_grammar.proofs.Alike.{Alike, guarded, some_same}
 use Rattle.psm_grammar.proofs.KindLists.{true_false, decide}
-use Rattle.psm_grammar.proofs.Some.{Word}
-use Rattle.psm_grammar.proofs.Runs.{Run, Done, Opens, Whatever, Never, Reads, spelled, run_in, reads_in, reads_seq}
+use Rattle.psm_grammar.proofs.Some.{Word, Begun}
+use Rattle.psm_grammar.proofs.Runs.{Run, Done, Opens, Whatever, Never, Reads, reads_begun, reads_seq}
 
 module _ {T A : Type 0} (kind : T → ℕ) (test : Test T A) (d : ℕ) (F : List T → Type 0) (limit : ℕ) (known : has (kind test.example) test.kinds ≡ true) where
   token_first : (w : Words T) (x : A) (k : List T) (l : Token kind test d w x) → head (toks w ++ k) ≡ Some l.at
   token_first w x k l = ap (λ u. head (toks u ++ k)) l.whole
 
   -- a token of the kinds
-  pub token_read : (t : T) (ts : List T) → d ≤ limit → has (kind t) test.kinds ≡ true → Run (Token kind test d) F limit (t ∷ ts) ts (Done (test.value t)) (Done (test.value t))
+  pub token_read : (t : T) (ts : List T) → d ≤ limit → has (kind t) test.kinds ≡ true → Run (Token kind test d) F limit (t ∷ ts) ts (Done (test.value t)) (Done (test.value t)) (Done (test.value t))
   token_read t ts low h = record {
     front = (t, d) ∷ []; more = []; value = test.value t; parts = refl; begins = record { at = t; whole = refl; known = h; made = refl }; so = (refl, refl); low = (low, tt);
-    alike = λ w x k l n. subst (λ (u : Words T). Alike (λ m. Done (test.value t) m x) ((t, d) ∷ []) ts u k) (sym l.whole)
-        (λ e. (refl, λ f. (refl, l.made ∙ ap test.value e)));
+    alike = λ w x k l n. subst (λ (u : Words T). Alike (λ m. Done (test.value t) m x) (λ m. Done (test.value t) m x) ((t, d) ∷ []) ts u k) (sym l.whole)
+        (λ e. (refl, (λ f. (refl, l.made ∙ ap test.value e), λ f. (refl, l.made ∙ ap test.value e))));
   }
 
   -- no token of the kinds
-  pub token_wrong : (ts : List T) → starts kind test.kinds ts ≡ false → Run (Token kind test d) F limit ts ts Whatever Never
+  pub token_wrong : (ts : List T) → starts kind test.kinds ts ≡ false → Run (Token kind test d) F limit ts ts Whatever Never Never
   token_wrong ts h = record {
     front = []; more = (test.example, d) ∷ []; value = test.value test.example; parts = refl; begins = record { at = test.example; whole = refl; known = known; made = refl }; so = tt; low = tt;
-    alike = λ w x k l n. λ e. refused ts h w x k l (sym (token_first w x k l) ∙ e);
+    alike = λ w x k l n. (λ e. refused ts h w x k l (sym (token_first w x k l) ∙ e), λ e. let f = sym (token_first w x k l) ∙ e in cc f);
   }
     where
       refused : (ts : List T) → starts kind test.kinds ts ≡ false → (w : Words T) (x : A) (k : List T) (l : Token kind test d w x) → Some l.at ≡ head ts → ⊥
@@ -50,13 +50,15 @@ module _ {T A Y Z : Type 0} (kind : T → ℕ) (test : Test T A) (f : A → Y �
   opens_first : (w : Words T) (x : Z) (l : L w x) → w ≡ (l.left.at, suc d) ∷ l.back
   opens_first w x l = l.whole ∙ ap (λ u. u ++ l.back) l.left.whole
 
-  level_wrong : (ts : List T) → starts kind test.kinds ts ≡ false → Run L F limit ts ts Whatever Never
+  level_wrong : (ts : List T) → starts kind test.kinds ts ≡ false → Run L F limit ts ts Whatever Never Never
   level_wrong ts h = record {
     front = []; more = (test.example, suc d) ∷ word.0; value = f (test.value test.example) word.1; parts = refl;
     begins = record { front = (test.example, suc d) ∷ []; back = word.0; one = test.value test.example; two = word.1; whole = refl;
         left = record { at = test.example; whole = refl; known = known; made = refl }; right = word.2; made = refl };
     so = tt; low = tt;
-    alike = λ w x k l n. λ e. refused ts h w x k l (sym (ap (λ u. head (toks u ++ k)) (opens_first w x l)) ∙ e);
+    alike = λ w x k l n.
+        let first : head (toks w ++ k) ≡ Some l.left.at = ap (λ u. head (toks u ++ k)) (opens_first w x l) in
+        (λ e. refused ts h w x k l (sym first ∙ e), λ e. let f = sym first ∙ e in cc f);
   }
     where
       refused : (ts : List T) → starts kind test.kinds ts ≡ false → (w : Words T) (x : Z) (k : List T) (l : L w x) → Some l.left.at ≡ head ts → ⊥
@@ -64,14 +66,14 @@ module _ {T A Y Z : Type 0} (kind : T → ℕ) (test : Test T A) (f : A → Y �
       refused (t ∷ ts) h w x k l e = true_false (has (kind l.left.at) test.kinds) l.left.known (ap (λ s. has (kind s) test.kinds) (some_same l.left.at t e) ∙ h)
 
   level_deep : (t : T) (ts : List T) → d ≡ limit → has (kind t) test.kinds ≡ true
-      → Run L F limit (t ∷ ts) (t ∷ ts) (λ m x. Opens limit (t ∷ ts) m) (λ m x. Opens limit (t ∷ ts) m)
+      → Run L F limit (t ∷ ts) (t ∷ ts) (λ m x. Opens limit (t ∷ ts) m) (λ m x. Opens limit (t ∷ ts) m) Whatever
   level_deep t ts top h = record {
     front = []; more = (t, suc d) ∷ word.0; value = f (test.value t) word.1; parts = refl;
     begins = record { front = (t, suc d) ∷ []; back = word.0; one = test.value t; two = word.1; whole = refl;
         left = record { at = t; whole = refl; known = h; made = refl }; right = word.2; made = refl };
     so = ap (λ n. (t, suc n)) top; low = tt;
-    alike = λ w x k l n. subst (λ (u : Words T). head (toks u ++ k) ≡ Some t → Opens limit (t ∷ ts) u) (sym (opens_first w x l))
-        (λ e. let same : l.left.at ≡ t = some_same l.left.at t e in λ i. (same i, suc (top i)));
+    alike = λ w x k l n. (subst (λ (u : Words T). head (toks u ++ k) ≡ Some t → Opens limit (t ∷ ts) u) (sym (opens_first w x l))
+        (λ e. let same : l.left.at ≡ t = some_same l.left.at t e in λ i. (same i, suc (top i))), λ e. tt);
   }
 
   pub reads_over : (t : T) (ts : List T) → d ≡ limit → (b : Bool) → has (kind t) test.kinds ≡ b → Reads L F limit (t ∷ ts) (cond b (Err (TooDeep (t ∷ ts))) (Err (Wrong (t ∷ ts))))
@@ -101,7 +103,7 @@ reads_deep V kind test n f inner word d F limit known (t ∷ ts) top = reads_ove
 pub reads_nothing : {T X : Type 0} (x : X) (F : List T → Type 0) (limit : ℕ) (ts : List T) → Reads (Nothing x) F limit ts (Ok (x, ts))
 reads_nothing x F limit ts = record {
   front = []; more = []; value = x; parts = refl; begins = record { whole = refl; made = refl }; so = (refl, refl); low = tt;
-  alike = λ w z k l n. λ e. (l.whole, l.made);
+  alike = λ w z k l n. (λ e. (l.whole, l.made), λ e. (l.whole, l.made));
 }
 
 -- ---- again and again
@@ -109,27 +111,26 @@ reads_nothing x F limit ts = record {
 module _ {T X : Type 0} (kind : T → ℕ) (first follow : List ℕ) (L : Lang T X) (limit : ℕ) (p : Reader T X)
     (some : (w : Words T) (x : X) → L w x → 1 ≤ length w)
     (begins : (t : T × ℕ) (w : Words T) (x : X) → L (t ∷ w) x → has (kind t.0) first ≡ true)
+    (begun : (t : T) → has (kind t) first ≡ true → Begun t L)
     (stops : (n : ℕ) → has n first ≡ true → has n follow ≡ false)
     (behind : (w : Words T) (xs : List X) (k : List T) → Many L w xs → Next kind follow k → Next kind (first ++ follow) (toks w ++ k))
     (exact : (ts : List T) → Reads L (Next kind (first ++ follow)) limit ts (p ts)) where
-  abbrev Next_one : Words T → X → Type 0
-  Next_one w x = L w x
-
   many_end : (ts : List T) → starts kind first ts ≡ false → Reads (Many L) (Next kind follow) limit ts (Ok ([], ts))
   many_end ts h = record {
     front = []; more = []; value = []; parts = refl; begins = refl; so = (refl, refl); low = tt;
-    alike = λ w xs k l n. λ e. by w xs k l e;
+    alike = λ w xs k l n. (λ e. by w xs k l (inl e), λ e. by w xs k l (inr e));
   }
     where
       refused : (ts : List T) → starts kind first ts ≡ false → (t : T × ℕ) → has (kind t.0) first ≡ true → Some t.0 ≡ head ts → ⊥
       refused [] h t b e = cc e
       refused (s ∷ ts) h t b e = true_false (has (kind t.0) first) b (ap (λ u. has (kind u) first) (some_same t.0 s e) ∙ h)
-      item : (u v : Words T) (x : X) (k : List T) → L u x → head (toks (u ++ v) ++ k) ≡ head ts → ⊥
+      item : (u v : Words T) (x : X) (k : List T) → L u x → (head (toks (u ++ v) ++ k) ≡ head ts) ⊎ (head (toks (u ++ v) ++ k) ≡ None) → ⊥
       item [] v x k l e = let one = some [] x l in omega (arith, one)
-      item (t ∷ u) v x k l e = refused ts h t (begins t u x l) e
-      by : (w : Words T) (xs : List X) (k : List T) → Many L w xs → head (toks w ++ k) ≡ head ts → Done [] w xs
+      item (t ∷ u) v x k l (inl e) = refused ts h t (begins t u x l) e
+      item (t ∷ u) v x k l (inr e) = cc e
+      by : (w : Words T) (xs : List X) (k : List T) → Many L w xs → (head (toks w ++ k) ≡ head ts) ⊎ (head (toks w ++ k) ≡ None) → Done [] w xs
       by w [] k l e = (l, refl)
-      by w (x ∷ xs) k l e = absurd (item l.0 l.1 x k l.3 (sym (ap (λ (u : Words T). head (toks u ++ k)) l.2) ∙ e))
+      by w (x ∷ xs) k l e = absurd (item l.0 l.1 x k l.3 (subst (λ (u : Words T). (head (toks u ++ k) ≡ head ts) ⊎ (head (toks u ++ k) ≡ None)) l.2 e))
 
   abbrev cons : X → List X → List X
   cons x xs = x ∷ xs
@@ -137,30 +138,39 @@ module _ {T X : Type 0} (kind : T → ℕ) (first follow : List ℕ) (L : Lang T
   into : (w : Words T) (xs : List X) → Seq cons L (Many L) w xs → Many L w xs
   into w xs l = subst (Many L w) (sym l.made) (l.front, l.back, l.whole, l.left, l.right)
 
-  others : (ts : List T) → starts kind first ts ≡ true → (w : Words T) (xs : List X) (k : List T) → Many L w xs → Next kind follow k → head (toks w ++ k) ≡ head ts → Seq cons L (Many L) w xs
-  others ts h w (x ∷ xs) k l n e = record { front = l.0; back = l.1; one = x; two = xs; whole = l.2; left = l.3; right = l.4; made = refl }
-  others ts h w [] k l n e = absurd (by ts h k n (ap (λ (u : Words T). head (toks u ++ k)) (sym l) ∙ e))
+  others : (t : T) → has (kind t) first ≡ true → (w : Words T) (xs : List X) (k : List T) → Many L w xs → Next kind follow k → head (toks w ++ k) ≡ Some t → Seq cons L (Many L) w xs
+  others t h w (x ∷ xs) k l n e = record { front = l.0; back = l.1; one = x; two = xs; whole = l.2; left = l.3; right = l.4; made = refl }
+  others t h w [] k l n e = absurd (by k n (ap (λ (u : Words T). head (toks u ++ k)) (sym l) ∙ e))
     where
-      by : (ts : List T) → starts kind first ts ≡ true → (k : List T) → Next kind follow k → head k ≡ head ts → ⊥
-      by [] h k n e = cc h
-      by (t ∷ ts) h [] n e = cc e
-      by (t ∷ ts) h (s ∷ k) n e = true_false (has (kind s) follow) n (stops (kind s) (ap (λ u. has (kind u) first) (some_same s t e) ∙ h))
+      by : (k : List T) → Next kind follow k → head k ≡ Some t → ⊥
+      by [] n e = cc e
+      by (s ∷ k) n e = true_false (has (kind s) follow) n (stops (kind s) (ap (λ u. has (kind u) first) (some_same s t e) ∙ h))
+
+  seq_begun : (t : T) → Begun t L → Begun t (λ w xs. Seq cons L (Many L) w xs)
+  seq_begun t b = (b.0, b.1, b.2 ∷ [], record { front = (t, b.0) ∷ b.1; back = []; one = b.2; two = []; whole = sym (append-nil ((t, b.0) ∷ b.1)); left = b.3; right = refl; made = refl })
 
   shorter : (n : ℕ) (ts : List T) (u : Words T) (rest : List T) → length ts ≤ suc n → ts ≡ toks u ++ rest → 1 ≤ length u → length rest ≤ n
   shorter n ts [] rest a e b = absurd (omega (arith, b))
   shorter n ts (x ∷ u) rest a e b = omega (arith, a, ap length e, length-append (toks u) rest)
 
+  many_more : (n : ℕ) (t : T) (ts : List T) → length (t ∷ ts) ≤ suc n → has (kind t) first ≡ true
+      → ((rest : List T) → length rest ≤ n → Reads (Many L) (Next kind follow) limit rest (repeat kind first p n rest))
+      → Reads (Many L) (Next kind follow) limit (t ∷ ts) (and_then (p (t ∷ ts)) (λ x rest. and_then (repeat kind first p n rest) (λ xs end. Ok (x ∷ xs, end))))
+  many_more n t ts h e again = reads_begun (λ w xs. Seq cons L (Many L) w xs) (Next kind follow) limit (Many L) t ts
+      (and_then (p (t ∷ ts)) (λ x rest. and_then (repeat kind first p n rest) (λ xs end. Ok (x ∷ xs, end))))
+      (seq_begun t (begun t e)) tt
+      (reads_seq L (Next kind (first ++ follow)) limit cons behind (t ∷ ts) (p (t ∷ ts)) (repeat kind first p n) (exact (t ∷ ts)) ([], [], refl)
+          (λ u x rest s l. again rest (shorter n (t ∷ ts) u rest h s (some u x l))))
+      into (others t e)
+
   pub reads_many : (n : ℕ) (ts : List T) → length ts ≤ n → Reads (Many L) (Next kind follow) limit ts (repeat kind first p n ts)
   reads_many zero [] h = many_end [] refl
   reads_many zero (t ∷ ts) h = absurd (omega (arith, h))
-  reads_many (suc n) ts h = by (starts kind first ts) refl (λ rest short. reads_many n rest short)
+  reads_many (suc n) [] h = many_end [] refl
+  reads_many (suc n) (t ∷ ts) h = by (has (kind t) first) refl (λ rest short. reads_many n rest short)
     where
-      by : (b : Bool) → starts kind first ts ≡ b → ((rest : List T) → length rest ≤ n → Reads (Many L) (Next kind follow) limit rest (repeat kind first p n rest))
-          → Reads (Many L) (Next kind follow) limit ts
-              (cond b (and_then (p ts) (λ x rest. and_then (repeat kind first p n rest) (λ xs end. Ok (x ∷ xs, end)))) (Ok ([], ts)))
-      by false e again = many_end ts e
-      by true e again = reads_in (λ w xs. Seq cons L (Many L) w xs) (Next kind follow) limit (Many L) ts
-          (and_then (p ts) (λ x rest. and_then (repeat kind first p n rest) (λ xs end. Ok (x ∷ xs, end))))
-          (reads_seq L (Next kind (first ++ follow)) limit cons behind ts (p ts) (repeat kind first p n) (exact ts) ([], [], refl)
-              (λ u x rest s l. again rest (shorter n ts u rest h s (some u x l))))
-          into (others ts e)
+      by : (b : Bool) → has (kind t) first ≡ b → ((rest : List T) → length rest ≤ n → Reads (Many L) (Next kind follow) limit rest (repeat kind first p n rest))
+          → Reads (Many L) (Next kind follow) limit (t ∷ ts)
+              (cond b (and_then (p (t ∷ ts)) (λ x rest. and_then (repeat kind first p n rest) (λ xs end. Ok (x ∷ xs, end)))) (Ok ([], t ∷ ts)))
+      by false e again = many_end (t ∷ ts) e
+      by true e again = many_more n t ts h e again

@@ -4,8 +4,8 @@ use Rattle.std.proofs.lemmas.List.{append-nil, length-append}
 use Rattle.psm_grammar.specs.Language.{Words, toks, Lang, has, Test, Token, Nothing, Seq, Many, Image}
 use Rattle.psm_grammar.specs.Grammar.{Grammar, token, level, nothing, seq, or, ahead, many, image, lang}
 use Rattle.psm_grammar.specs.Readers.{empty, first}
-use Rattle.psm_grammar.specs.Follow.{apart, within, leads, openers, seconds, is_long, two_decide, fits, lives}
-use Rattle.psm_grammar.proofs.KindLists.{and_true, not_true, true_false, decide, if_true, if_false, one_of, has_either}
+use Rattle.psm_grammar.specs.Follow.{apart, within, leads, openers, seconds, is_long, is_one, opens_two, two_decide, fits, lives}
+use Rattle.psm_grammar.proofs.KindLists.{and_true, not_true, true_false, decide, if_true, if_false, one_of, has_either, within_has}
 use Rattle.psm_grammar.proofs.Firsts.{blank, none}
 
 -- a word of a part, with its value
@@ -15,6 +15,10 @@ Word {T} {X} L = (w : Words T) × (x : X) × L w x
 -- a word of a part that begins with a token
 abbrev pub Begun : {T X : Type 0} → T → Lang T X → Type 0
 Begun {T} {X} t L = (l : ℕ) × (w : Words T) × (x : X) × L ((t, l) ∷ w) x
+
+-- a word of a part that begins with two tokens
+abbrev pub BegunTwo : {T X : Type 0} → T → T → Lang T X → Type 0
+BegunTwo {T} {X} t u L = (l m : ℕ) × (w : Words T) × (x : X) × L ((t, l) ∷ (u, m) ∷ w) x
 
 nothing_on : (m : ℕ) → has m [] ≡ true → ⊥
 nothing_on m h = cc
@@ -79,6 +83,56 @@ module _ {T N : Type 0} {kind : T → ℕ} {V : N → Type 0} (inner : (n : N) �
       let b = begun p (first p ++ follow) t parts.1 k in
       (b.0, b.1, b.2 ∷ [], ((t, b.0) ∷ b.1, [], sym (append-nil ((t, b.0) ∷ b.1)), b.3, refl))
   begun (image f p) follow t h k = let b = begun p follow t h k in (b.0, b.1, f b.2, record { one = b.2; left = b.3; made = refl })
+
+  -- a word of one token
+  one_token : {X : Type 0} (ones : List ℕ) (g : Grammar kind V X) (t : T) → has (kind t) ones ≡ true → is_one ones g ≡ true → (l : ℕ) × (x : X) × lang inner d g ((t, l) ∷ []) x
+  one_token ones (token test) t h k = (d, test.value t, record { at = t; whole = refl; known = within_has (kind t) ones test.kinds k h; made = refl })
+  one_token ones (level n test f) t h k = absurd cc
+  one_token ones (nothing y) t h k = absurd cc
+  one_token ones (seq f p q) t h k =
+      let parts = and_true (is_one ones p) (empty q) k in
+      let a = one_token ones p t h parts.0 in
+      let b = none inner d q parts.1 in
+      (a.0, f a.1 b.0, record { front = (t, a.0) ∷ []; back = []; one = a.1; two = b.0; whole = refl; left = a.2; right = b.1; made = refl })
+  one_token ones (or p q) t h k = elim (one_of (is_one ones p) (is_one ones q) k) [
+      inl e ↦ let a = one_token ones p t h e in (a.0, a.1, inl a.2)
+    | inr e ↦ let a = one_token ones q t h e in (a.0, a.1, inr a.2) ]
+  one_token ones (ahead others twos p q) t h k = elim (one_of (is_one ones p) (is_one ones q) k) [
+      inl e ↦ let a = one_token ones p t h e in (a.0, a.1, inl a.2)
+    | inr e ↦ let a = one_token ones q t h e in (a.0, a.1, inr a.2) ]
+  one_token ones (many p) t h k = let a = one_token ones p t h k in (a.0, a.1 ∷ [], ((t, a.0) ∷ [], [], refl, a.2, refl))
+  one_token ones (image f p) t h k = let a = one_token ones p t h k in (a.0, f a.1, record { one = a.1; left = a.2; made = refl })
+
+  pub begun_two : {X : Type 0} (ones twos : List ℕ) (g : Grammar kind V X) (follow : List ℕ) (t u : T) → fits after follow g ≡ true → has (kind t) ones ≡ true → has (kind u) twos ≡ true
+      → opens_two ones twos g ≡ true → BegunTwo t u (lang inner d g)
+  begun_two ones twos (token test) follow t u fit h k o = absurd cc
+  begun_two ones twos (level n test f) follow t u fit h k o = absurd cc
+  begun_two ones twos (nothing y) follow t u fit h k o = absurd cc
+  begun_two ones twos (seq f p q) follow t u fit h k o =
+      let fits_both = and_true (fits after (leads q follow) p) (fits after follow q) fit in
+      elim (one_of (opens_two ones twos p) (is_one ones p && within twos (first q)) o) [
+      inl e ↦ let a = begun_two ones twos p (leads q follow) t u fits_both.0 h k e in
+              let b = some q follow fits_both.1 in
+              (a.0, a.1, a.2 ++ b.0, f a.3 b.1, record { front = (t, a.0) ∷ (u, a.1) ∷ a.2; back = b.0; one = a.3; two = b.1; whole = refl; left = a.4; right = b.2; made = refl })
+    | inr e ↦ let parts = and_true (is_one ones p) (within twos (first q)) e in
+              let a = one_token ones p t h parts.0 in
+              let b = begun q follow u fits_both.1 (within_has (kind u) twos (first q) parts.1 k) in
+              (a.0, b.0, b.1, f a.1 b.2, record { front = (t, a.0) ∷ []; back = (u, b.0) ∷ b.1; one = a.1; two = b.2; whole = refl; left = a.2; right = b.3; made = refl }) ]
+  begun_two ones twos (or p q) follow t u fit h k o =
+      let parts = and_true (fits after follow p) (fits after follow q) (and_true (not (empty p) && apart (first p) (leads q follow)) (fits after follow p && fits after follow q) fit).1 in
+      elim (one_of (opens_two ones twos p) (opens_two ones twos q) o) [
+      inl e ↦ let a = begun_two ones twos p follow t u parts.0 h k e in (a.0, a.1, a.2, a.3, inl a.4)
+    | inr e ↦ let a = begun_two ones twos q follow t u parts.1 h k e in (a.0, a.1, a.2, a.3, inr a.4) ]
+  begun_two ones twos (ahead others more p q) follow t u fit h k o =
+      let parts = and_true (fits after follow p) (fits after follow q) (and_true (two_decide others more follow p q) (fits after follow p && fits after follow q) fit).1 in
+      elim (one_of (opens_two ones twos p) (opens_two ones twos q) o) [
+      inl e ↦ let a = begun_two ones twos p follow t u parts.0 h k e in (a.0, a.1, a.2, a.3, inl a.4)
+    | inr e ↦ let a = begun_two ones twos q follow t u parts.1 h k e in (a.0, a.1, a.2, a.3, inr a.4) ]
+  begun_two ones twos (many p) follow t u fit h k o =
+      let parts = and_true (not (empty p) && apart (first p) follow) (fits after (first p ++ follow) p) fit in
+      let a = begun_two ones twos p (first p ++ follow) t u parts.1 h k o in
+      (a.0, a.1, a.2, a.3 ∷ [], ((t, a.0) ∷ (u, a.1) ∷ a.2, [], sym (append-nil ((t, a.0) ∷ (u, a.1) ∷ a.2)), a.4, refl))
+  begun_two ones twos (image f p) follow t u fit h k o = let a = begun_two ones twos p follow t u fit h k o in (a.0, a.1, a.2, f a.3, record { one = a.3; left = a.4; made = refl })
 
 module _ {T N : Type 0} {kind : T → ℕ} {V : N → Type 0} (inner : (n : N) → Lang T (V n)) (d : ℕ) where
   pub not_blank : {X : Type 0} (g : Grammar kind V X) (w : Words T) (x : X) → empty g ≡ false → lang inner d g w x → 1 ≤ length w

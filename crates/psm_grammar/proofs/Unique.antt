@@ -6,7 +6,7 @@ use Rattle.psm_grammar.specs.Grammar.{Grammar, token, level, nothing, seq, or, a
 use Rattle.psm_grammar.specs.Readers.{Stop, Wrong, TooDeep, Out, read, deeper}
 use Rattle.psm_grammar.specs.Exact.{head, Low, AtEnd}
 use Rattle.psm_grammar.specs.Follow.{fits, IsReadable}
-use Rattle.psm_grammar.proofs.Alike.{alike_on}
+use Rattle.psm_grammar.proofs.Alike.{Alike, alike_on, alike_end}
 use Rattle.psm_grammar.proofs.Runs.{Run, Done, Opens, Whatever, Never, Reads, low_append}
 use Rattle.psm_grammar.proofs.Whole.{reads_at_end}
 
@@ -58,28 +58,53 @@ module _ {T N : Type 0} {kind : T → ℕ} {V : N → Type 0} (prods : Productio
 
 -- ---- one word
 
+tail : {A : Type 0} → List A → List A
+tail [] = []
+tail (x ∷ xs) = xs
+
+tail_same : {A : Type 0} (x y : A) (xs ys : List A) → x ∷ xs ≡ y ∷ ys → xs ≡ ys
+tail_same x y xs ys e = cc
+
+no_deeper : {T : Type 0} (limit : ℕ) (rest : List T) (front m w : Words T) → w ≡ front ++ m → Opens limit rest m → Low limit w → ⊥
+no_deeper limit [] front m w e o l = o
+no_deeper limit (t ∷ rest) front [] w e o l = o
+no_deeper {T} limit (t ∷ rest) front (x ∷ m) w e o l =
+    let back : Low limit (x ∷ m) = low_back limit front (x ∷ m) (subst (Low limit) e l) in
+    let high : x.1 ≡ suc limit = ap (λ (z : T × ℕ). z.1) o in
+    omega (arith, back.0, high)
+
 module _ {T X : Type 0} (L : Lang T X) (limit : ℕ) (ts : List T) where
-  abbrev Left : (List T) → (Words T → X → Type 0) → Words T → X → Type 0
-  Left rest E w x = (front m : Words T) × (w ≡ front ++ m) × E m x
+  on : {rest : List T} {B E R : Words T → X → Type 0} (r : Run L AtEnd limit ts rest B E R) (w : Words T) (x : X) → L w x → toks w ≡ ts → (m : Words T) × (w ≡ r.front ++ m) × ((rest ≡ []) × R [] x ⊎ E m x)
+  on {rest} {B} {E} {R} r w x l e = by rest r.parts (r.alike w x [] l refl)
+    where
+      by : (rest : List T) → ts ≡ toks r.front ++ rest → Alike (λ m. E m x) (λ m. R m x) r.front rest w [] → (m : Words T) × (w ≡ r.front ++ m) × ((rest ≡ []) × R [] x ⊎ E m x)
+      by [] p a = let b = alike_end (λ m. E m x) (λ m. R m x) r.front [] w (e ∙ p ∙ append-nil (toks r.front)) a in ([], b.0 ∙ sym (append-nil r.front), inl (refl, b.1))
+      by (t ∷ rest) p a = let b = alike_on (λ m. E m x) (λ m. R m x) r.front (t ∷ rest) w [] (t ∷ rest) (append-nil (toks w) ∙ e ∙ p) refl a in (b.0, b.1, inr b.2)
 
-  on : {rest : List T} {B E : Words T → X → Type 0} (r : Run L AtEnd limit ts rest B E) (w : Words T) (x : X) → L w x → toks w ≡ ts → (m : Words T) × (w ≡ r.front ++ m) × E m x
-  on {rest} {B} {E} r w x l e = alike_on (λ m. E m x) r.front rest w [] rest (append-nil (toks w) ∙ e ∙ r.parts) refl (r.alike w x [] l refl)
-
-  no_deeper : (rest : List T) (front m : Words T) (w : Words T) → w ≡ front ++ m → Opens limit rest m → Low limit w → ⊥
-  no_deeper [] front m w e o l = o
-  no_deeper (t ∷ rest) front [] w e o l = o
-  no_deeper (t ∷ rest) front (x ∷ m) w e o l =
-      let back : Low limit (x ∷ m) = low_back limit front (x ∷ m) (subst (Low limit) e l) in
-      let high : x.1 ≡ suc limit = ap (λ (z : T × ℕ). z.1) o in
-      omega (arith, back.0, high)
+  done : (x : X) (rest : List T) (r : Run L AtEnd limit ts rest (Done x) (Done x) (Done x)) (w : Words T) (y : X) → L w y → toks w ≡ ts → (w ≡ r.front) × (y ≡ x)
+  done x rest r w y l e =
+      let a = on r w y l e in
+      elim a.2 [
+      inl b ↦ (whole w a.0 r.front a.1 e (r.parts ∙ ap (λ k. toks r.front ++ k) b.0 ∙ append-nil (toks r.front)), b.1.1)
+    | inr b ↦ (a.1 ∙ ap (λ m. r.front ++ m) b.0 ∙ append-nil r.front, b.1) ]
+    where
+      same_end : (front m : Words T) → toks (front ++ m) ≡ toks front → m ≡ []
+      same_end [] [] e = refl
+      same_end [] (x ∷ m) e = absurd (cc e)
+      same_end (f ∷ front) m e = same_end front m (tail_same f.0 f.0 (toks (front ++ m)) (toks front) e)
+      whole : (w m front : Words T) → w ≡ front ++ m → toks w ≡ ts → ts ≡ toks front → w ≡ front
+      whole w m front a e p = a ∙ ap (λ v. front ++ v) (same_end front m (ap toks (sym a) ∙ e ∙ p)) ∙ append-nil front
 
   pub one_word : (o : Out T X) → Reads L AtEnd limit ts o → (w v : Words T) (x y : X) → L w x → L v y → toks w ≡ ts → toks v ≡ ts → Low limit w → (w ≡ v) × (x ≡ y)
   one_word (Ok r) h w v x y l k e f low =
+      let a = done r.0 r.1 h w x l e in
+      let b = done r.0 r.1 h v y k f in
+      (a.0 ∙ sym b.0, a.1 ∙ sym b.1)
+  one_word (Err (Wrong rest)) h w v x y l k e f low = absurd (elim (on h w x l e).2 [ inl b ↦ b.1 | inr b ↦ b ])
+  one_word (Err (TooDeep [])) h w v x y l k e f low = absurd h.so
+  one_word (Err (TooDeep (t ∷ rest))) h w v x y l k e f low = absurd (
       let a = on h w x l e in
-      let b = on h v y k f in
-      (a.1 ∙ ap (λ m. h.front ++ m) (a.2.0 ∙ sym b.2.0) ∙ sym b.1, a.2.1 ∙ sym b.2.1)
-  one_word (Err (Wrong rest)) h w v x y l k e f low = absurd (on h w x l e).2
-  one_word (Err (TooDeep rest)) h w v x y l k e f low = absurd (let a = on h w x l e in no_deeper rest h.front a.0 w a.1 a.2 low)
+      elim a.2 [ inl b ↦ (let n = b.0 in cc n) | inr b ↦ no_deeper limit (t ∷ rest) h.front a.0 w a.1 b low ])
 
 module _ {T N : Type 0} {kind : T → ℕ} {V : N → Type 0} (prods : Productions kind V) (after : N → List ℕ) (height : ℕ) (readable : IsReadable prods after height) where
   -- two derivations of the same tokens read each of them at the same level, and have the same value

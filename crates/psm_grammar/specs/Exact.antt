@@ -34,22 +34,24 @@ Levels [] w k = Unit {0}
 Levels (f ∷ front) [] k = head k ≡ Some f.0 → ⊥
 Levels (f ∷ front) (x ∷ w) k = x.0 ≡ f.0 → (x.1 ≡ f.1) × Levels front w k
 
--- ts begins with a word of L that has this value, and no other word of L goes on as ts does
+-- ts begins with a word of L that has this value alone, and no other word of L goes on as ts does
 pub record Good {T X : Type 0} (L : Lang T X) (F : List T → Type 0) (limit : ℕ) (ts : List T) (value : X) (rest : List T) : Type 0 where
   pub front : Words T
   pub parts : ts ≡ toks front ++ rest
   pub spelled : L front value
+  pub alone : (x : X) → L front x → x ≡ value
   pub low : Low limit front
   pub only : (w : Words T) (x : X) (k : List T) → L w x → F k → Tracks front w k rest → (w ≡ front) × (x ≡ value)
   pub levels : (w : Words T) (x : X) (k : List T) → L w x → F k → Levels front w k
 
--- ts is begun as a word of L up to rest, and no word of L goes on as ts does there
+-- ts is begun as a word of L up to rest, where it is not yet one, and no word of L goes on as ts does there
 pub record Bad {T X : Type 0} (L : Lang T X) (F : List T → Type 0) (limit : ℕ) (ts : List T) (rest : List T) : Type 0 where
   pub front : Words T
   pub more : Words T
   pub value : X
   pub parts : ts ≡ toks front ++ rest
   pub begins : L (front ++ more) value
+  pub unfinished : (x : X) → L front x → ⊥
   pub low : Low limit front
   pub none : (w : Words T) (x : X) (k : List T) → L w x → F k → Tracks front w k rest → ⊥
   pub levels : (w : Words T) (x : X) (k : List T) → L w x → F k → Levels front w k

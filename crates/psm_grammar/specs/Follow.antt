@@ -51,9 +51,32 @@ is_long (ahead ones twos p q) = is_long p && is_long q
 is_long (many p) = false
 is_long (image f p) = is_long p
 
--- the first two tokens decide between two parts: the words of p alone have them of these kinds
+-- each token of these kinds is a word
+abbrev pub is_one : {T N : Type 0} {kind : T → ℕ} {V : N → Type 0} {X : Type 0} → List ℕ → Grammar kind V X → Bool
+is_one ones (token test) = within ones test.kinds
+is_one ones (level n test f) = false
+is_one ones (nothing x) = false
+is_one ones (seq f p q) = is_one ones p && empty q
+is_one ones (or p q) = if is_one ones p then true else is_one ones q
+is_one ones (ahead others twos p q) = if is_one ones p then true else is_one ones q
+is_one ones (many p) = is_one ones p
+is_one ones (image f p) = is_one ones p
+
+-- words begin with each two tokens of these kinds
+abbrev pub opens_two : {T N : Type 0} {kind : T → ℕ} {V : N → Type 0} {X : Type 0} → List ℕ → List ℕ → Grammar kind V X → Bool
+opens_two ones twos (token test) = false
+opens_two ones twos (level n test f) = false
+opens_two ones twos (nothing x) = false
+opens_two ones twos (seq f p q) = if opens_two ones twos p then true else (is_one ones p && within twos (first q))
+opens_two ones twos (or p q) = if opens_two ones twos p then true else opens_two ones twos q
+opens_two ones twos (ahead others more p q) = if opens_two ones twos p then true else opens_two ones twos q
+opens_two ones twos (many p) = opens_two ones twos p
+opens_two ones twos (image f p) = opens_two ones twos p
+
+-- The first two tokens decide between two parts: the words of p have them of these kinds, and of all these
+-- kinds, and no word of q has; and none of them opens a level.
 abbrev pub two_decide : {T N : Type 0} {kind : T → ℕ} {V : N → Type 0} {X : Type 0} → List ℕ → List ℕ → List ℕ → Grammar kind V X → Grammar kind V X → Bool
-two_decide ones twos follow p q = is_long p && (not (empty q) && (within (first p) ones && (within ones (first p) && (within ones (first q)
+two_decide ones twos follow p q = is_long p && (not (empty q) && (within (first p) ones && (opens_two ones twos p && (within ones (first q)
     && (apart ones (openers p) && (apart ones (openers q) && (within (seconds ones follow p) twos && apart twos (seconds ones follow q))))))))
 
 -- a part is read by its first tokens, where a token of these kinds may follow it, and of `after n` a nonterminal n
