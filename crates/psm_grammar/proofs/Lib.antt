@@ -9,4 +9,5 @@ pub mod Heights
 pub mod Whole
 pub mod Unique
 pub mod Answer
+pub mod Moved
 pub mod Loops

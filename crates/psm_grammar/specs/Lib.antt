@@ -3,3 +3,5 @@ pub mod Grammar
 pub mod Readers
 pub mod Exact
 pub mod Follow
+pub mod Places
+pub mod Loop
