@@ -1,1 +1,2 @@
 pub mod Mini
+pub mod MiniReaders

@@ -4,7 +4,7 @@
 use Rattle.std.specs.Prelude.{◌≡◌, ℕ, zero, suc, ◌+◌, max, List, [], ◌∷◌, length, Option, Some, None, Result, Ok, Err}
 use Rattle.psm_grammar.specs.Language.{Test}
 use Rattle.psm_grammar.specs.Grammar.{Grammar, token, level, nothing, seq, or, ahead, many, image, Productions}
-use Rattle.psm_grammar.specs.Readers.{Stop, Wrong, TooDeep, Out, Reader, read, deeper, enter}
+use Rattle.psm_grammar.specs.Readers.{Stop, Wrong, TooDeep, Out}
 use Rattle.psm_grammar_trial.specs.declared.Tok.{Tok}
 use Rattle.psm_grammar_trial.specs.declared.Tok.TheVariants as tok
 use Rattle.psm_grammar_trial.specs.declared.Fault.{Fault}
@@ -78,8 +78,11 @@ part = or (token num)
     (or (level Parens opening last)
     (level Trimmed trim last)))
 
+abbrev pub next_part : Gram ℕ
+next_part = seq last (token plus) part
+
 abbrev pub more_parts : Gram (List ℕ)
-more_parts = many (seq last (token plus) part)
+more_parts = many next_part
 
 abbrev pub sum : Gram ℕ
 sum = seq (λ x xs. max x (top xs)) part more_parts
@@ -93,29 +96,25 @@ arguments = or (image (λ t. 0) (token closing)) in_parens
 abbrev pub led : Gram ℕ
 led = seq last (token leading) (seq last (token from) in_parens)
 
+-- [LEADING FROM] sum ")"
+abbrev pub trim_rest : Gram ℕ
+trim_rest = ahead (8 ∷ []) (7 ∷ []) led in_parens
+
 abbrev pub trimmed : Gram ℕ
-trimmed = seq last (token opening) (ahead (8 ∷ []) (7 ∷ []) led in_parens)
+trimmed = seq last (token opening) trim_rest
 
 abbrev pub productions : Productions kind V
 productions Parens = in_parens
 productions Arguments = arguments
 productions Trimmed = trimmed
 
--- a nonterminal where n levels are left
-abbrev pub enters : ℕ → (n : Inner) → List Tok → List Tok → Out Tok (V n)
-enters levels n opening ts = enter (deeper productions levels) n opening ts
+-- a fault tells where the reader stops
+abbrev pub Fails : {Y : Type 0} → Fault → Out Tok Y → Type 0
+Fails (fault.Syntax n) o = (rest : List Tok) × (o ≡ Err (Wrong rest)) × (n ≡ length rest)
+Fails (fault.Deep n) o = (rest : List Tok) × (o ≡ Err (TooDeep rest)) × (n ≡ length rest)
+Fails fault.Memory o = Unit {0}
 
-abbrev pub reads : {X : Type 0} → ℕ → Gram X → Reader Tok X
-reads levels g = read (deeper productions levels) g
-
-abbrev pub Fails : Fault → Stop Tok → Type 0
-Fails (fault.Syntax n) (Wrong rest) = n ≡ length rest
-Fails (fault.Deep n) (TooDeep rest) = n ≡ length rest
-Fails fault.Memory _ = Unit {0}
-Fails _ _ = ⊥
-
+-- a function gives what the reader gives, unless memory runs out
 abbrev pub Gives : {X Y : Type 0} → (X → Y × List Tok) → Result X Fault → Out Tok Y → Type 0
 Gives view (Ok x) o = o ≡ Ok (view x)
-Gives view (Err e) (Err s) = Fails e s
-Gives view (Err fault.Memory) _ = Unit {0}
-Gives view (Err _) (Ok y) = ⊥
+Gives view (Err e) o = Fails e o

@@ -1,9 +1,10 @@
 //! A small grammar, and its parser.
 #![tactic(auto)]
 
-ghost use Rattle.std.specs.Prelude.{◌≡◌, ◌<◌, ◌≤◌, length, max, IfOk};
-ghost use Rattle.psm_grammar_trial.specs.Mini.{Gives, reads, enters, call_rest, part, sum, more_parts, top, productions, in_parens, arguments, trimmed, Parens, Arguments, Trimmed, closing as close_test, opening as open_test, from as from_test};
-ghost use Rattle.psm_grammar.specs.Grammar.{token};
+ghost use Rattle.std.specs.Prelude.{◌≡◌, [], ◌∷◌, ◌<◌, ◌≤◌, length, max, IfOk};
+ghost use Rattle.psm_grammar_trial.specs.Mini.{kind, Gives, top, Parens, Arguments, Trimmed, closing as close_test};
+ghost use Rattle.psm_grammar_trial.specs.MiniReaders.{enters, call_read, part_read, next_part_read, more_read, sum_read, in_parens_read, arguments_read, trim_rest_read, trimmed_read};
+ghost use Rattle.psm_grammar.specs.Readers.{starts, one};
 
 use std::alloc::{AllocError, AllocFailed, Global};
 
@@ -30,12 +31,22 @@ pub enum Fault {
 }
 
 impl From<AllocError> for Fault {
+    ghost use Rattle.std.specs.Prelude.{◌≡◌};
+    ghost use Rattle.psm_grammar_trial.specs.declared.Fault.TheVariants.{Memory};
+
+    ghost from_gives = { λ _ e. e ≡ Memory };
+
     fn from(_error: AllocError) -> Fault {
         Fault::Memory
     }
 }
 
 impl<T: Drop> From<AllocFailed<T>> for Fault {
+    ghost use Rattle.std.specs.Prelude.{◌≡◌};
+    ghost use Rattle.psm_grammar_trial.specs.declared.Fault.TheVariants.{Memory};
+
+    ghost from_gives = { λ _ e. e ≡ Memory };
+
     fn from(_error: AllocFailed<T>) -> Fault {
         Fault::Memory
     }
@@ -44,7 +55,7 @@ impl<T: Drop> From<AllocFailed<T>> for Fault {
 /// A closing parenthesis.
 fn closing(tokens: &[Tok]) -> Result<&[Tok], Fault>
     ensures takes { IfOk result (λ x. length x.now < length tokens.now) }
-    ensures exact { Gives (λ x. (tt, x.now)) result (reads 0 (token close_test) tokens.now) }
+    ensures exact { Gives (λ x. (tt, x.now)) result (one kind close_test tokens.now) }
 {
     match tokens {
         [Tok::Close, rest @ ..] => Ok(rest),
@@ -54,8 +65,9 @@ fn closing(tokens: &[Tok]) -> Result<&[Tok], Fault>
 
 /// part = num | name ["(" [sum {"," sum}] ")"] | "(" sum ")" | TRIM "(" [LEADING FROM] sum ")"
 #[cycle(parser)]
+#[tactic(auto, unfolding(crate::specs::MiniReaders::part_read))]
 fn part_of(alloc: Global, tokens: &[Tok], levels: u32) -> Result<(u32, &[Tok]), Fault>
-    ensures exact { Gives (λ x. (x.0, x.1.now)) result (reads levels part tokens.now) }
+    ensures exact { Gives (λ x. (x.0, x.1.now)) result (part_read levels tokens.now) }
     ensures takes { IfOk result (λ x. length x.1.now < length tokens.now) }
 {
     match tokens {
@@ -76,8 +88,9 @@ fn part_of(alloc: Global, tokens: &[Tok], levels: u32) -> Result<(u32, &[Tok]), 
 
 /// What may stand behind a name.
 #[cycle(parser)]
+#[tactic(auto, unfolding(crate::specs::MiniReaders::call_read))]
 fn call(alloc: Global, tokens: &[Tok], levels: u32) -> Result<(u32, &[Tok]), Fault>
-    ensures exact { Gives (λ x. (x.0, x.1.now)) result (reads levels call_rest tokens.now) }
+    ensures exact { Gives (λ x. (x.0, x.1.now)) result (call_read levels tokens.now) }
     ensures takes { IfOk result (λ x. length x.1.now ≤ length tokens.now) }
 {
     match tokens {
@@ -87,7 +100,7 @@ fn call(alloc: Global, tokens: &[Tok], levels: u32) -> Result<(u32, &[Tok]), Fau
 }
 
 #[cycle(parser)]
-#[tactic(auto, using(psm_grammar::proofs::Loops::deeper_some))]
+#[tactic(auto, using(crate::proofs::MiniSame::inner_some))]
 fn enter_parens<'a>(alloc: Global, tokens: &[Tok], rest: &'a [Tok], levels: u32) -> Result<(u32, &'a [Tok]), Fault>
     ensures exact { Gives (λ x. (x.0, x.1.now)) result (enters levels Parens tokens.now rest.now) }
     ensures takes { IfOk result (λ x. length x.1.now < length rest.now) }
@@ -99,7 +112,7 @@ fn enter_parens<'a>(alloc: Global, tokens: &[Tok], rest: &'a [Tok], levels: u32)
 }
 
 #[cycle(parser)]
-#[tactic(auto, using(psm_grammar::proofs::Loops::deeper_some))]
+#[tactic(auto, using(crate::proofs::MiniSame::inner_some))]
 fn enter_arguments<'a>(alloc: Global, tokens: &[Tok], rest: &'a [Tok], levels: u32) -> Result<(u32, &'a [Tok]), Fault>
     ensures exact { Gives (λ x. (x.0, x.1.now)) result (enters levels Arguments tokens.now rest.now) }
     ensures takes { IfOk result (λ x. length x.1.now < length rest.now) }
@@ -111,7 +124,7 @@ fn enter_arguments<'a>(alloc: Global, tokens: &[Tok], rest: &'a [Tok], levels: u
 }
 
 #[cycle(parser)]
-#[tactic(auto, using(psm_grammar::proofs::Loops::deeper_some))]
+#[tactic(auto, using(crate::proofs::MiniSame::inner_some))]
 fn enter_trimmed<'a>(alloc: Global, tokens: &[Tok], rest: &'a [Tok], levels: u32) -> Result<(u32, &'a [Tok]), Fault>
     ensures exact { Gives (λ x. (x.0, x.1.now)) result (enters levels Trimmed tokens.now rest.now) }
     ensures takes { IfOk result (λ x. length x.1.now < length rest.now) }
@@ -124,8 +137,9 @@ fn enter_trimmed<'a>(alloc: Global, tokens: &[Tok], rest: &'a [Tok], levels: u32
 
 /// In parentheses.
 #[cycle(parser)]
+#[tactic(auto, unfolding(crate::specs::MiniReaders::in_parens_read))]
 fn parens(alloc: Global, tokens: &[Tok], levels: u32) -> Result<(u32, &[Tok]), Fault>
-    ensures exact { Gives (λ x. (x.0, x.1.now)) result (reads levels in_parens tokens.now) }
+    ensures exact { Gives (λ x. (x.0, x.1.now)) result (in_parens_read levels tokens.now) }
     ensures takes { IfOk result (λ x. length x.1.now < length tokens.now) }
 {
     let (n, rest) = sum_of(alloc, tokens, levels)?;
@@ -135,8 +149,9 @@ fn parens(alloc: Global, tokens: &[Tok], levels: u32) -> Result<(u32, &[Tok]), F
 
 /// The arguments of a call.
 #[cycle(parser)]
+#[tactic(auto, unfolding(crate::specs::MiniReaders::arguments_read))]
 fn arguments_of(alloc: Global, tokens: &[Tok], levels: u32) -> Result<(u32, &[Tok]), Fault>
-    ensures exact { Gives (λ x. (x.0, x.1.now)) result (reads levels arguments tokens.now) }
+    ensures exact { Gives (λ x. (x.0, x.1.now)) result (arguments_read levels tokens.now) }
     ensures takes { IfOk result (λ x. length x.1.now < length tokens.now) }
 {
     match tokens {
@@ -147,21 +162,41 @@ fn arguments_of(alloc: Global, tokens: &[Tok], levels: u32) -> Result<(u32, &[To
 
 /// Behind TRIM.
 #[cycle(parser)]
+#[tactic(auto, unfolding(crate::specs::MiniReaders::trimmed_read))]
 fn trimmed_of(alloc: Global, tokens: &[Tok], levels: u32) -> Result<(u32, &[Tok]), Fault>
-    ensures exact { Gives (λ x. (x.0, x.1.now)) result (reads levels trimmed tokens.now) }
+    ensures exact { Gives (λ x. (x.0, x.1.now)) result (trimmed_read levels tokens.now) }
     ensures takes { IfOk result (λ x. length x.1.now < length tokens.now) }
 {
     match tokens {
-        [Tok::Open, Tok::Leading, Tok::From, rest @ ..] => parens(alloc, rest, levels),
-        [Tok::Open, rest @ ..] => parens(alloc, rest, levels),
+        [Tok::Open, rest @ ..] => {
+            let (n, rest) = trim_rest_of(alloc, rest, levels)?;
+            Ok((n, rest))
+        }
         _ => Err(Fault::Syntax(tokens.len())),
+    }
+}
+
+/// [LEADING FROM] sum ")"
+#[cycle(parser)]
+#[tactic(auto, unfolding(crate::specs::MiniReaders::trim_rest_read))]
+fn trim_rest_of(alloc: Global, tokens: &[Tok], levels: u32) -> Result<(u32, &[Tok]), Fault>
+    ensures exact { Gives (λ x. (x.0, x.1.now)) result (trim_rest_read levels tokens.now) }
+    ensures takes { IfOk result (λ x. length x.1.now < length tokens.now) }
+{
+    match tokens {
+        [Tok::Leading, Tok::From, rest @ ..] => {
+            let (n, rest) = parens(alloc, rest, levels)?;
+            Ok((n, rest))
+        }
+        _ => parens(alloc, tokens, levels),
     }
 }
 
 /// sum = part {"+" part}
 #[cycle(parser)]
+#[tactic(auto, unfolding(crate::specs::MiniReaders::sum_read))]
 fn sum_of(alloc: Global, tokens: &[Tok], levels: u32) -> Result<(u32, &[Tok]), Fault>
-    ensures exact { Gives (λ x. (x.0, x.1.now)) result (reads levels sum tokens.now) }
+    ensures exact { Gives (λ x. (x.0, x.1.now)) result (sum_read levels tokens.now) }
     ensures takes { IfOk result (λ x. length x.1.now < length tokens.now) }
 {
     let (first, rest) = part_of(alloc, tokens, levels)?;
@@ -180,16 +215,37 @@ fn greatest(first: u32, others: &[u32]) -> u32
 
 /// {"+" part}
 #[cycle(parser)]
+#[tactic(auto, unfolding(crate::specs::MiniReaders::more_read))]
 fn more(alloc: Global, tokens: &[Tok], levels: u32) -> Result<(Vec<u32>, &[Tok]), Fault>
-    ensures exact { Gives (λ x. (x.0.items, x.1.now)) result (reads levels more_parts tokens.now) }
+    ensures exact { Gives (λ x. (x.0.items, x.1.now)) result (more_read levels tokens.now) }
     ensures takes { IfOk result (λ x. length x.1.now ≤ length tokens.now) }
 {
     let mut parts = Vec::new(alloc);
     let mut rest = tokens;
-    while let [Tok::Plus, after @ ..] = rest {
-        let (n, next) = part_of(alloc, after, levels)?;
+    while is_plus(rest) {
+        let (n, next) = next_part_of(alloc, rest, levels)?;
         parts.push(n)?;
         rest = next;
     }
     Ok((parts, rest))
+}
+
+/// Whether a plus stands at the front.
+fn is_plus(tokens: &[Tok]) -> bool
+    ensures { result ≡ starts kind (2 ∷ []) tokens.now }
+{
+    matches!(tokens, [Tok::Plus, ..])
+}
+
+/// "+" part
+#[cycle(parser)]
+#[tactic(auto, unfolding(crate::specs::MiniReaders::next_part_read))]
+fn next_part_of(alloc: Global, tokens: &[Tok], levels: u32) -> Result<(u32, &[Tok]), Fault>
+    ensures exact { Gives (λ x. (x.0, x.1.now)) result (next_part_read levels tokens.now) }
+    ensures takes { IfOk result (λ x. length x.1.now < length tokens.now) }
+{
+    match tokens {
+        [Tok::Plus, rest @ ..] => part_of(alloc, rest, levels),
+        _ => Err(Fault::Syntax(tokens.len())),
+    }
 }
