@@ -1,1 +1,2 @@
 pub mod MiniSame
+pub mod MiniExact

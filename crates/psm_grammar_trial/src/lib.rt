@@ -1,10 +1,15 @@
 //! A small grammar, and its parser.
 #![tactic(auto)]
 
-ghost use Rattle.std.specs.Prelude.{◌≡◌, [], ◌∷◌, ◌<◌, ◌≤◌, length, max, IfOk};
-ghost use Rattle.psm_grammar_trial.specs.Mini.{kind, Gives, top, Parens, Arguments, Trimmed, closing as close_test};
+ghost use Rattle.std.specs.Prelude.{ℕ, ◌≡◌, [], ◌∷◌, ◌<◌, ◌≤◌, length, max, IfOk};
+ghost use Rattle.psm_grammar_trial.specs.Mini.{sum, productions, kind, Gives, top, Parens, Arguments, Trimmed, closing as close_test};
 ghost use Rattle.psm_grammar_trial.specs.MiniReaders.{enters, call_read, part_read, next_part_read, more_read, sum_read, in_parens_read, arguments_read, trim_rest_read, trimmed_read};
 ghost use Rattle.psm_grammar.specs.Readers.{starts, one};
+
+ghost use Rattle.psm_grammar.specs.Language.{Words, toks};
+ghost use Rattle.psm_grammar.specs.Grammar.{Spells};
+ghost use Rattle.psm_grammar_trial.specs.Answers.{Answers};
+ghost use Rattle.psm_grammar_trial.specs.declared.Tok.{Tok as TheTok};
 
 use std::alloc::{AllocError, AllocFailed, Global};
 
@@ -21,6 +26,21 @@ pub enum Tok {
     From,
     Leading,
 }
+
+/// The value of the sum that the tokens begin, read with `depth` levels open, and the number of its tokens.
+#[tactic(auto, using(crate::proofs::MiniExact::answer_ok, crate::proofs::MiniExact::answer_err))]
+pub fn parse_sum(alloc: Global, tokens: &[Tok], depth: u32) -> Result<(u32, usize), Fault>
+    requires { depth ≤ 4 }
+    ensures { Answers tokens.now depth 4 result }
+{
+    let (sum, rest) = sum_of(alloc, tokens, 4 - depth)?;
+    Ok((sum, tokens.len() - rest.len()))
+}
+
+/// Tokens spell one sum.
+pub fn one_sum()
+    ensures once { (depth x y : ℕ) (w v : Words TheTok) → Spells productions depth sum w x → Spells productions depth sum v y → toks w ≡ toks v → (w ≡ v) × (x ≡ y) }
+{}
 
 /// Why there is no value, with the number of tokens that are left.
 #[derive(Clone, Copy)]
