@@ -2,8 +2,8 @@
 use Rattle.std.proofs.Common.{◌≡◌, ◌⊎◌, inl, inr, ℕ, zero, suc, ◌+◌, ◌≤◌, ◌<◌, Bool, true, false, not, ◌&&◌, cond, List, [], ◌∷◌, ◌++◌, map, length, Option, Some, None, Ok, Err, refl, sym, ap, subst, ◌∙◌, append_assoc, arith}
 use Rattle.std.proofs.lemmas.List.{append-nil, length-append}
 use Rattle.psm_grammar.specs.Language.{Words, toks, Lang, has, Test, Token, Nothing, Seq, Many, Image}
-use Rattle.psm_grammar.specs.Grammar.{Grammar, token, level, nothing, seq, or, ahead, many, image, lang}
-use Rattle.psm_grammar.specs.Readers.{Stop, Wrong, TooDeep, Out, Reader, and_then, starts, starts_two, one, repeat, Deeper, enter, opened, empty, first, read}
+use Rattle.psm_grammar.specs.Grammar.{Grammar, token, level, next, nothing, seq, or, ahead, many, image, lang}
+use Rattle.psm_grammar.specs.Readers.{Stop, Wrong, TooDeep, Out, Reader, and_then, starts, starts_two, one, repeat, Deeper, enter, opened, followed, empty, first, read}
 use Rattle.psm_grammar.specs.Exact.{head, Low, Next}
 use Rattle.psm_grammar.specs.Follow.{apart, within, leads, openers, seconds, is_long, is_one, opens_two, two_decide, fits}
 use Rattle.psm_grammar.proofs.Alike.{Alike, guarded, some_same}
@@ -11,7 +11,7 @@ use Rattle.psm_grammar.proofs.KindLists.{and_true, both_true, not_true, true_fal
 use Rattle.psm_grammar.proofs.Firsts.{blank, none, begins, led, plain, second, many_behind}
 use Rattle.psm_grammar.proofs.Some.{Word, Begun, BegunTwo, some, begun, begun_two, not_blank, long}
 use Rattle.psm_grammar.proofs.Runs.{Run, Done, Opens, Whatever, Never, Reads, reads_in, reads_begun, reads_before, reads_image, reads_seq}
-use Rattle.psm_grammar.proofs.Parts.{reads_token, reads_opened, reads_deep, reads_nothing, reads_many}
+use Rattle.psm_grammar.proofs.Parts.{reads_token, reads_opened, reads_deep, reads_followed, reads_nothing, reads_many}
 
 -- the readers of the nonterminals are exact one level deeper, or no level is left
 abbrev pub DeeperReads : {T N : Type 0} {V : N → Type 0} → (T → ℕ) → ((n : N) → Lang T (V n)) → (N → List ℕ) → ℕ → ℕ → Deeper T V → Type 0
@@ -111,28 +111,40 @@ reads_level kind inner d after words limit n test f follow known fit (Some reade
     reads_opened kind test n f (inner n) (words n) d (Next kind follow) limit known readers ts h.0
     (λ rest. reads_before (inner n) (Next kind (after n)) limit (Next kind follow) rest (readers n rest) (h.1 n rest) (λ k. next_more kind follow (after n) k (λ m. within_has m follow (after n) fit)))
 
-module _ {T N : Type 0} {kind : T → ℕ} {V : N → Type 0} (inner : (n : N) → Lang T (V n)) (d : ℕ) (after : N → List ℕ) (words : (n : N) → Word (inner n))
-    (limit : ℕ) (low : d ≤ limit) (deeper : Deeper T V) (deep : DeeperReads kind inner after limit d deeper) where
+reads_next : {T A Y Z : Type 0} (kind : T → ℕ) (same : Lang T Y) (word : Word same) (d limit : ℕ) (low : d ≤ limit) (ends : List ℕ) (q : Reader T Y) (most : ℕ)
+    → ((ts : List T) → length ts < most → Reads same (Next kind ends) limit ts (q ts))
+    → (test : Test T A) (f : A → Y → Z) (follow : List ℕ) → has (kind test.example) test.kinds ≡ true → within follow ends ≡ true → (ts : List T) → length ts ≤ most
+    → Reads (Seq f (Token kind test d) same) (Next kind follow) limit ts (followed kind test f q ts)
+reads_next kind same word d limit low ends q most exact test f follow known fit ts short = reads_followed kind test f same word d (Next kind follow) limit known q ts low
+    (λ rest less. reads_before same (Next kind ends) limit (Next kind follow) rest (q rest) (exact rest (omega (arith, less, short)))
+        (λ k. next_more kind follow ends k (λ m. within_has m follow ends fit)))
+
+rest_short : {T : Type 0} (most : ℕ) (ts : List T) (u : Words T) (rest : List T) → length ts ≤ most → ts ≡ toks u ++ rest → length rest ≤ most
+rest_short most ts u rest h e = omega (arith, h, ap length e, length-append (toks u) rest)
+
+module _ {T N : Type 0} {kind : T → ℕ} {V : N → Type 0} (inner same : (n : N) → Lang T (V n)) (d : ℕ) (after : N → List ℕ) (words : (n : N) → Word (inner n)) (others : (n : N) → Word (same n))
+    (limit : ℕ) (low : d ≤ limit) (deeper : Deeper T V) (deep : DeeperReads kind inner after limit d deeper)
+    (readers : (n : N) → Reader T (V n)) (most : ℕ) (sames : (n : N) (ts : List T) → length ts < most → Reads (same n) (Next kind (after n)) limit ts (readers n ts)) where
 
   -- the words of a part that has no word of no token start with its kinds
-  starts_first : {X : Type 0} (g : Grammar kind V X) → empty g ≡ false → (w : Words T) (x : X) (k : List T) → lang inner d g w x → starts kind (first g) (toks w ++ k) ≡ true
-  starts_first g e [] x k l = absurd (true_false (empty g) (blank inner d g x l) e)
-  starts_first g e (t ∷ w) x k l = begins inner d g t w x l
+  starts_first : {X : Type 0} (g : Grammar kind V X) → empty g ≡ false → (w : Words T) (x : X) (k : List T) → lang inner same d g w x → starts kind (first g) (toks w ++ k) ≡ true
+  starts_first g e [] x k l = absurd (true_false (empty g) (blank inner same d g x l) e)
+  starts_first g e (t ∷ w) x k l = begins inner same d g t w x l
 
   -- one of two parts, by the first token
   reads_pick : {X : Type 0} (p q : Grammar kind V X) (follow : List ℕ) (ts : List T) (o o' : Out T X) → fits after follow p ≡ true → empty p ≡ false → apart (first p) (leads q follow) ≡ true
-      → Reads (lang inner d p) (Next kind follow) limit ts o → Reads (lang inner d q) (Next kind follow) limit ts o'
-      → (b : Bool) → starts kind (first p) ts ≡ b → Reads (lang inner d (or p q)) (Next kind follow) limit ts (cond b o o')
+      → Reads (lang inner same d p) (Next kind follow) limit ts o → Reads (lang inner same d q) (Next kind follow) limit ts o'
+      → (b : Bool) → starts kind (first p) ts ≡ b → Reads (lang inner same d (or p q)) (Next kind follow) limit ts (cond b o o')
   reads_pick p q follow [] o o' fit e a h k true s = absurd (cc s)
-  reads_pick p q follow (t ∷ ts) o o' fit e a h k true s = reads_begun (lang inner d p) (Next kind follow) limit (lang inner d (or p q)) t ts o
-      (begun inner d after words p follow t fit s) tt h (λ w x l. inl l)
+  reads_pick p q follow (t ∷ ts) o o' fit e a h k true s = reads_begun (lang inner same d p) (Next kind follow) limit (lang inner same d (or p q)) t ts o
+      (begun inner same d after words others p follow t fit s) tt h (λ w x l. inl l)
       (λ w x k l n f. elim l [ inl m ↦ m
         | inr m ↦ absurd (true_false (has (kind t) (first p)) s (sym (starts_same kind (first p) (toks w ++ k) (t ∷ ts) f) ∙ refuses w x k m n)) ])
     where
-      refuses : (w : Words T) (x : _) (k : List T) → lang inner d q w x → Next kind follow k → starts kind (first p) (toks w ++ k) ≡ false
+      refuses : (w : Words T) (x : _) (k : List T) → lang inner same d q w x → Next kind follow k → starts kind (first p) (toks w ++ k) ≡ false
       refuses w x k m n = starts_within kind (leads q follow) (first p) (toks w ++ k) (λ c h. elim (decide (has c (first p))) [
-          inl t ↦ absurd (true_false (has c (leads q follow)) h (apart_none c (first p) (leads q follow) a t)) | inr f ↦ f ]) (led inner d q follow w x k m n)
-  reads_pick p q follow ts o o' fit e a h k false s = reads_in (lang inner d q) (Next kind follow) limit (lang inner d (or p q)) ts o' k (λ w x l. inr l)
+          inl t ↦ absurd (true_false (has c (leads q follow)) h (apart_none c (first p) (leads q follow) a t)) | inr f ↦ f ]) (led inner same d q follow w x k m n)
+  reads_pick p q follow ts o o' fit e a h k false s = reads_in (lang inner same d q) (Next kind follow) limit (lang inner same d (or p q)) ts o' k (λ w x l. inr l)
       (λ w x k l n f. elim l [ inr m ↦ m
         | inl m ↦ absurd (starts_not kind (first p) (toks w ++ k) ts (starts_first p e w x k m) s f) ])
 
@@ -165,42 +177,42 @@ module _ {T N : Type 0} {kind : T → ℕ} {V : N → Type 0} (inner : (n : N) �
     abbrev F : List T → Type 0
     F k = Next kind follow k
 
-    p_starts : (w : Words T) (x : X) (k : List T) → lang inner d p w x → starts kind ones (toks w ++ k) ≡ true
-    p_starts [] x k l = let two = long inner d p [] x the_rule.long_p l in absurd (omega (arith, two))
-    p_starts (t ∷ w) x k l = within_has (kind t.0) (first p) ones the_rule.from_p (begins inner d p t w x l)
+    p_starts : (w : Words T) (x : X) (k : List T) → lang inner same d p w x → starts kind ones (toks w ++ k) ≡ true
+    p_starts [] x k l = let two = long inner same d p [] x the_rule.long_p l in absurd (omega (arith, two))
+    p_starts (t ∷ w) x k l = within_has (kind t.0) (first p) ones the_rule.from_p (begins inner same d p t w x l)
 
-    p_second : (t : T) → has (kind t) ones ≡ true → (l : ℕ) (w : Words T) (x : X) (k : List T) → lang inner d p ((t, l) ∷ w) x → F k → starts kind twos (toks w ++ k) ≡ true
-    p_second t h l w x k m n = by w (long inner d p ((t, l) ∷ w) x the_rule.long_p m)
-        (second inner d ones p follow (t, l) w x k m n h (apart_none (kind t) ones (openers p) the_rule.plain_p h))
+    p_second : (t : T) → has (kind t) ones ≡ true → (l : ℕ) (w : Words T) (x : X) (k : List T) → lang inner same d p ((t, l) ∷ w) x → F k → starts kind twos (toks w ++ k) ≡ true
+    p_second t h l w x k m n = by w (long inner same d p ((t, l) ∷ w) x the_rule.long_p m)
+        (second inner same d ones p follow (t, l) w x k m n h (apart_none (kind t) ones (openers p) the_rule.plain_p h))
       where
         by : (w : Words T) → 2 ≤ length ((t, l) ∷ w) → Next kind (seconds ones follow p) (toks w ++ k) → starts kind twos (toks w ++ k) ≡ true
         by [] a n = absurd (omega (arith, a))
         by (s ∷ w) a n = within_has (kind s.0) (seconds ones follow p) twos the_rule.next_p n
 
-    q_second : (t : T) → has (kind t) ones ≡ true → (l : ℕ) (w : Words T) (x : X) (k : List T) → lang inner d q ((t, l) ∷ w) x → F k → starts kind twos (toks w ++ k) ≡ false
+    q_second : (t : T) → has (kind t) ones ≡ true → (l : ℕ) (w : Words T) (x : X) (k : List T) → lang inner same d q ((t, l) ∷ w) x → F k → starts kind twos (toks w ++ k) ≡ false
     q_second t h l w x k m n = starts_within kind (seconds ones follow q) twos (toks w ++ k)
         (λ c e. elim (decide (has c twos)) [ inl y ↦ absurd (true_false (has c (seconds ones follow q)) e (apart_none c twos (seconds ones follow q) the_rule.next_q y)) | inr y ↦ y ])
-        (second inner d ones q follow (t, l) w x k m n h (apart_none (kind t) ones (openers q) the_rule.plain_q h))
+        (second inner same d ones q follow (t, l) w x k m n h (apart_none (kind t) ones (openers q) the_rule.plain_q h))
 
-    p_level : (t : T) → has (kind t) ones ≡ true → (l : ℕ) (w : Words T) (x : X) → lang inner d p ((t, l) ∷ w) x → l ≡ d
-    p_level t h l w x m = plain inner d p (t, l) w x m (apart_none (kind t) ones (openers p) the_rule.plain_p h)
+    p_level : (t : T) → has (kind t) ones ≡ true → (l : ℕ) (w : Words T) (x : X) → lang inner same d p ((t, l) ∷ w) x → l ≡ d
+    p_level t h l w x m = plain inner same d p (t, l) w x m (apart_none (kind t) ones (openers p) the_rule.plain_p h)
 
-    q_level : (t : T) → has (kind t) ones ≡ true → (l : ℕ) (w : Words T) (x : X) → lang inner d q ((t, l) ∷ w) x → l ≡ d
-    q_level t h l w x m = plain inner d q (t, l) w x m (apart_none (kind t) ones (openers q) the_rule.plain_q h)
+    q_level : (t : T) → has (kind t) ones ≡ true → (l : ℕ) (w : Words T) (x : X) → lang inner same d q ((t, l) ∷ w) x → l ≡ d
+    q_level t h l w x m = plain inner same d q (t, l) w x m (apart_none (kind t) ones (openers q) the_rule.plain_q h)
 
     abbrev J : Lang T X
-    J w x = lang inner d p w x ⊎ lang inner d q w x
+    J w x = lang inner same d p w x ⊎ lang inner same d q w x
 
-    swap : (w : Words T) (x : X) → J w x → lang inner d q w x ⊎ lang inner d p w x
+    swap : (w : Words T) (x : X) → J w x → lang inner same d q w x ⊎ lang inner same d p w x
     swap w x (inl l) = inr l
     swap w x (inr l) = inl l
 
-    only_q : (ts : List T) (o : Out T X) → starts kind ones ts ≡ false → Reads (lang inner d q) F limit ts o → Reads J F limit ts o
-    only_q ts o s h = reads_in (lang inner d q) F limit J ts o h (λ w x l. inr l)
+    only_q : (ts : List T) (o : Out T X) → starts kind ones ts ≡ false → Reads (lang inner same d q) F limit ts o → Reads J F limit ts o
+    only_q ts o s h = reads_in (lang inner same d q) F limit J ts o h (λ w x l. inr l)
         (λ w x k l n f. elim l [ inr m ↦ m
           | inl m ↦ absurd (starts_not kind ones (toks w ++ k) ts (p_starts w x k m) s f) ])
 
-    reads_ahead : (ts : List T) (o o' : Out T X) → Reads (lang inner d p) F limit ts o → Reads (lang inner d q) F limit ts o'
+    reads_ahead : (ts : List T) (o o' : Out T X) → Reads (lang inner same d p) F limit ts o → Reads (lang inner same d q) F limit ts o'
         → (a b : Bool) → starts kind ones ts ≡ a → starts_two kind ones twos ts ≡ b → Reads J F limit ts (cond b o o')
     reads_ahead ts o o' h k false false s e = only_q ts o' s k
     reads_ahead [] o o' h k true b s e = absurd (cc s)
@@ -209,40 +221,44 @@ module _ {T N : Type 0} {kind : T → ℕ} {V : N → Type 0} (inner : (n : N) �
     reads_ahead (t ∷ []) o o' h k true true s e = absurd (let n = (and_true (has (kind t) ones) false e).1 in cc n)
     reads_ahead (t ∷ u ∷ us) o o' h k true true s e =
         let next : has (kind u) twos ≡ true = (and_true (has (kind t) ones) (has (kind u) twos) e).1 in
-        let two = begun_two inner d after words ones twos p follow t u fit s next the_rule.to_p in
-        reads_two F limit (lang inner d p) (lang inner d q) t (u ∷ us) d low tt (p_level t s) (two.0, (u, two.1) ∷ two.2, two.3, two.4)
+        let two = begun_two inner same d after words others ones twos p follow t u fit s next the_rule.to_p in
+        reads_two F limit (lang inner same d p) (lang inner same d q) t (u ∷ us) d low tt (p_level t s) (two.0, (u, two.1) ∷ two.2, two.3, two.4)
         (λ l w x c m n. (q_level t s l w x m, λ g. true_false (has (kind u) twos) next (sym (starts_same kind twos (toks w ++ c) (u ∷ us) g) ∙ q_second t s l w x c m n)))
-        (λ w x m. not_blank inner d q w x the_rule.some_q m) J o (inr (u, us, refl, two)) h (λ w x m. inl m) (λ w x m. m)
+        (λ w x m. not_blank inner same d q w x the_rule.some_q m) J o (inr (u, us, refl, two)) h (λ w x m. inl m) (λ w x m. m)
     reads_ahead (t ∷ ts) o o' h k true false s e =
         let next : starts kind twos ts ≡ false = ap (λ y. y && starts kind twos ts) (sym s) ∙ e in
-        reads_two F limit (lang inner d q) (lang inner d p) t ts d low tt (q_level t s) (begun inner d after words q follow t fit' (within_has (kind t) ones (first q) the_rule.to_q s))
+        reads_two F limit (lang inner same d q) (lang inner same d p) t ts d low tt (q_level t s) (begun inner same d after words others q follow t fit' (within_has (kind t) ones (first q) the_rule.to_q s))
         (λ l w x c m n. (p_level t s l w x m, λ g. starts_not kind twos (toks w ++ c) ts (p_second t s l w x c m n) next (inl g)))
-        (λ w x m. let two = long inner d p w x the_rule.long_p m in omega (arith, two)) J o'
+        (λ w x m. let two = long inner same d p w x the_rule.long_p m in omega (arith, two)) J o'
         (inl (λ l w x c m n g. starts_not kind twos (toks w ++ c) ts (p_second t s l w x c m n) next (inr g))) k (λ w x m. inr m) swap
 
-  pub exact : {X : Type 0} (g : Grammar kind V X) (follow : List ℕ) → fits after follow g ≡ true → (ts : List T) → Reads (lang inner d g) (Next kind follow) limit ts (read deeper g ts)
-  exact (token test) follow h ts = reads_token kind test d (Next kind follow) limit h ts low
-  exact (level n test f) follow h ts =
+  pub exact : {X : Type 0} (g : Grammar kind V X) (follow : List ℕ) → fits after follow g ≡ true → (ts : List T) → length ts ≤ most → Reads (lang inner same d g) (Next kind follow) limit ts (read deeper readers g ts)
+  exact (token test) follow h ts short = reads_token kind test d (Next kind follow) limit h ts low
+  exact (level n test f) follow h ts short =
       let parts = and_true (has (kind test.example) test.kinds) (within follow (after n)) h in
       reads_level kind inner d after words limit n test f follow parts.0 parts.1 deeper deep ts
-  exact (nothing x) follow h ts = reads_nothing x (Next kind follow) limit ts
-  exact (seq f p q) follow h ts =
+  exact (next n test f) follow h ts short =
+      let parts = and_true (has (kind test.example) test.kinds) (within follow (after n)) h in
+      reads_next kind (same n) (others n) d limit low (after n) (readers n) most (sames n) test f follow parts.0 parts.1 ts short
+  exact (nothing x) follow h ts short = reads_nothing x (Next kind follow) limit ts
+  exact (seq f p q) follow h ts short =
       let parts = and_true (fits after (leads q follow) p) (fits after follow q) h in
-      reads_seq (lang inner d p) (Next kind (leads q follow)) limit f (led inner d q follow) ts (read deeper p ts) (read deeper q)
-      (exact p (leads q follow) parts.0 ts) (some inner d after words q follow parts.1) (λ u x rest s l. exact q follow parts.1 rest)
-  exact (or p q) follow h ts =
+      reads_seq (lang inner same d p) (Next kind (leads q follow)) limit f (led inner same d q follow) ts (read deeper readers p ts) (read deeper readers q)
+      (exact p (leads q follow) parts.0 ts short) (some inner same d after words others q follow parts.1) (λ u x rest s l. exact q follow parts.1 rest (rest_short most ts u rest short s))
+  exact (or p q) follow h ts short =
       let all = and_true (not (empty p) && apart (first p) (leads q follow)) (fits after follow p && fits after follow q) h in
       let rule = and_true (not (empty p)) (apart (first p) (leads q follow)) all.0 in
       let parts = and_true (fits after follow p) (fits after follow q) all.1 in
-      reads_pick p q follow ts (read deeper p ts) (read deeper q ts) parts.0 (not_true (empty p) rule.0) rule.1 (exact p follow parts.0 ts) (exact q follow parts.1 ts) (starts kind (first p) ts) refl
-  exact (ahead ones twos p q) follow h ts =
+      reads_pick p q follow ts (read deeper readers p ts) (read deeper readers q ts) parts.0 (not_true (empty p) rule.0) rule.1 (exact p follow parts.0 ts short) (exact q follow parts.1 ts short) (starts kind (first p) ts) refl
+  exact (ahead ones twos p q) follow h ts short =
       let all = and_true (two_decide ones twos follow p q) (fits after follow p && fits after follow q) h in
       let parts = and_true (fits after follow p) (fits after follow q) all.1 in
-      reads_ahead ones twos follow p q all.0 parts.0 parts.1 ts (read deeper p ts) (read deeper q ts) (exact p follow parts.0 ts) (exact q follow parts.1 ts)
+      reads_ahead ones twos follow p q all.0 parts.0 parts.1 ts (read deeper readers p ts) (read deeper readers q ts) (exact p follow parts.0 ts short) (exact q follow parts.1 ts short)
       (starts kind ones ts) (starts_two kind ones twos ts) refl refl
-  exact (many p) follow h ts =
+  exact (many p) follow h ts short =
       let all = and_true (not (empty p) && apart (first p) follow) (fits after (first p ++ follow) p) h in
       let rule = and_true (not (empty p)) (apart (first p) follow) all.0 in
-      reads_many kind (first p) follow (lang inner d p) limit (read deeper p) (λ w x l. not_blank inner d p w x (not_true (empty p) rule.0) l) (begins inner d p) (λ t. begun inner d after words p (first p ++ follow) t all.1)
-      (λ n. apart_none n (first p) follow rule.1) (many_behind inner d p follow) (exact p (first p ++ follow) all.1) (length ts) ts (omega arith)
-  exact (image f p) follow h ts = reads_image (lang inner d p) (Next kind follow) limit f ts (read deeper p ts) (exact p follow h ts)
+      reads_many kind (first p) follow (lang inner same d p) limit (read deeper readers p) (λ w x l. not_blank inner same d p w x (not_true (empty p) rule.0) l) (begins inner same d p)
+      (λ t. begun inner same d after words others p (first p ++ follow) t all.1)
+      (λ n. apart_none n (first p) follow rule.1) (many_behind inner same d p follow) most (exact p (first p ++ follow) all.1) (length ts) ts (omega arith) short
+  exact (image f p) follow h ts short = reads_image (lang inner same d p) (Next kind follow) limit f ts (read deeper readers p ts) (exact p follow h ts short)

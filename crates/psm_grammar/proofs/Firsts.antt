@@ -2,7 +2,7 @@
 use Rattle.std.proofs.Common.{◌≡◌, ◌⊎◌, inl, inr, ℕ, zero, suc, ◌+◌, ◌≤◌, ◌<◌, Bool, true, false, not, ◌&&◌, cond, List, [], ◌∷◌, ◌++◌, map, length, refl, sym, ap, subst, ◌∙◌, append_assoc, arith}
 use Rattle.std.proofs.lemmas.List.{append-nil, length-append}
 use Rattle.psm_grammar.specs.Language.{Words, toks, Lang, has, Test, Token, Nothing, Seq, Many, Image}
-use Rattle.psm_grammar.specs.Grammar.{Grammar, token, level, nothing, seq, or, ahead, many, image, lang}
+use Rattle.psm_grammar.specs.Grammar.{Grammar, token, level, next, nothing, seq, or, ahead, many, image, lang}
 use Rattle.psm_grammar.specs.Readers.{empty, first}
 use Rattle.psm_grammar.specs.Exact.{Next}
 use Rattle.psm_grammar.specs.Follow.{apart, within, leads, openers, seconds, is_long, fits, lives}
@@ -27,16 +27,17 @@ many_first L P h t w (x ∷ xs) l = elim (split_cons t w l.0 l.1 l.2) [
     inl s ↦ many_first L P h t w xs (subst (λ v. Many L v xs) s.1 l.4)
   | inr s ↦ h t s.0 x (subst (λ u. L u x) s.1 l.3) ]
 
-module _ {T N : Type 0} {kind : T → ℕ} {V : N → Type 0} (inner : (n : N) → Lang T (V n)) (d : ℕ) where
+module _ {T N : Type 0} {kind : T → ℕ} {V : N → Type 0} (inner same : (n : N) → Lang T (V n)) (d : ℕ) where
   -- ---- words of no token
 
-  pub blank : {X : Type 0} (g : Grammar kind V X) (x : X) → lang inner d g [] x → empty g ≡ true
+  pub blank : {X : Type 0} (g : Grammar kind V X) (x : X) → lang inner same d g [] x → empty g ≡ true
   blank (token test) x l = absurd (let e = l.whole in cc e)
   blank (level n test f) x l = absurd (let e = l.whole ∙ ap (λ u. u ++ l.back) l.left.whole in cc e)
+  blank (next n test f) x l = absurd (let e = l.whole ∙ ap (λ u. u ++ l.back) l.left.whole in cc e)
   blank (nothing y) x l = refl
   blank (seq f p q) x l =
       let parts = nil_parts l.front l.back l.whole in
-      both_true (empty p) (empty q) (blank p l.one (subst (λ u. lang inner d p u l.one) parts.0 l.left)) (blank q l.two (subst (λ v. lang inner d q v l.two) parts.1 l.right))
+      both_true (empty p) (empty q) (blank p l.one (subst (λ u. lang inner same d p u l.one) parts.0 l.left)) (blank q l.two (subst (λ v. lang inner same d q v l.two) parts.1 l.right))
   blank (or p q) x (inl l) = first_holds (empty p) (empty q) (blank p x l)
   blank (or p q) x (inr l) = second_holds (empty p) (empty q) (blank q x l)
   blank (ahead ones twos p q) x (inl l) = first_holds (empty p) (empty q) (blank p x l)
@@ -44,9 +45,10 @@ module _ {T N : Type 0} {kind : T → ℕ} {V : N → Type 0} (inner : (n : N) �
   blank (many p) x l = refl
   blank (image f p) x l = blank p l.one l.left
 
-  pub none : {X : Type 0} (g : Grammar kind V X) → empty g ≡ true → (x : X) × lang inner d g [] x
+  pub none : {X : Type 0} (g : Grammar kind V X) → empty g ≡ true → (x : X) × lang inner same d g [] x
   none (token test) e = absurd cc
   none (level n test f) e = absurd cc
+  none (next n test f) e = absurd cc
   none (nothing y) e = (y, record { whole = refl; made = refl })
   none (seq f p q) e =
       let h = and_true (empty p) (empty q) e in
@@ -60,71 +62,79 @@ module _ {T N : Type 0} {kind : T → ℕ} {V : N → Type 0} (inner : (n : N) �
 
   -- ---- the first token
 
-  pub begins : {X : Type 0} (g : Grammar kind V X) (t : T × ℕ) (w : Words T) (x : X) → lang inner d g (t ∷ w) x → has (kind t.0) (first g) ≡ true
+  pub begins : {X : Type 0} (g : Grammar kind V X) (t : T × ℕ) (w : Words T) (x : X) → lang inner same d g (t ∷ w) x → has (kind t.0) (first g) ≡ true
   begins (token test) t w x l = let same : l.at ≡ t.0 = (let e = l.whole in cc e) in subst (λ s. has (kind s) test.kinds ≡ true) same l.known
   begins (level n test f) t w x l =
       let e : t ∷ w ≡ (l.left.at, suc d) ∷ l.back = l.whole ∙ ap (λ u. u ++ l.back) l.left.whole in
       let same : l.left.at ≡ t.0 = cc e in
       subst (λ s. has (kind s) test.kinds ≡ true) same l.left.known
+  begins (next n test f) t w x l =
+      let e : t ∷ w ≡ (l.left.at, d) ∷ l.back = l.whole ∙ ap (λ u. u ++ l.back) l.left.whole in
+      let same : l.left.at ≡ t.0 = cc e in
+      subst (λ s. has (kind s) test.kinds ≡ true) same l.left.known
   begins (nothing y) t w x l = absurd (let e = l.whole in cc e)
   begins (seq f p q) t w x l = elim (split_cons t w l.front l.back l.whole) [
-      inl s ↦ let more : has (kind t.0) (first q) ≡ true = begins q t w l.two (subst (λ v. lang inner d q v l.two) s.1 l.right) in
-              let e : empty p ≡ true = blank p l.one (subst (λ u. lang inner d p u l.one) s.0 l.left) in
+      inl s ↦ let more : has (kind t.0) (first q) ≡ true = begins q t w l.two (subst (λ v. lang inner same d q v l.two) s.1 l.right) in
+              let e : empty p ≡ true = blank p l.one (subst (λ u. lang inner same d p u l.one) s.0 l.left) in
               has_right (kind t.0) (first p) (cond (empty p) (first q) []) (ap (has (kind t.0)) (if_true (empty p) (first q) [] e) ∙ more)
-    | inr s ↦ has_left (kind t.0) (first p) (cond (empty p) (first q) []) (begins p t s.0 l.one (subst (λ u. lang inner d p u l.one) s.1 l.left)) ]
+    | inr s ↦ has_left (kind t.0) (first p) (cond (empty p) (first q) []) (begins p t s.0 l.one (subst (λ u. lang inner same d p u l.one) s.1 l.left)) ]
   begins (or p q) t w x (inl l) = has_left (kind t.0) (first p) (first q) (begins p t w x l)
   begins (or p q) t w x (inr l) = has_right (kind t.0) (first p) (first q) (begins q t w x l)
   begins (ahead ones twos p q) t w x (inl l) = has_left (kind t.0) (first p) (first q) (begins p t w x l)
   begins (ahead ones twos p q) t w x (inr l) = has_right (kind t.0) (first p) (first q) (begins q t w x l)
-  begins (many p) t w x l = many_first (lang inner d p) (λ s. has (kind s.0) (first p) ≡ true) (begins p) t w x l
+  begins (many p) t w x l = many_first (lang inner same d p) (λ s. has (kind s.0) (first p) ≡ true) (begins p) t w x l
   begins (image f p) t w x l = begins p t w l.one l.left
 
   -- what stands where a part is read
-  pub led : {X : Type 0} (g : Grammar kind V X) (follow : List ℕ) (w : Words T) (x : X) (k : List T) → lang inner d g w x → Next kind follow k → Next kind (leads g follow) (toks w ++ k)
+  pub led : {X : Type 0} (g : Grammar kind V X) (follow : List ℕ) (w : Words T) (x : X) (k : List T) → lang inner same d g w x → Next kind follow k → Next kind (leads g follow) (toks w ++ k)
   led g follow [] x k l n = next_more kind follow (leads g follow) k (λ m h. has_right m (first g) (cond (empty g) follow []) (ap (has m) (if_true (empty g) follow [] (blank g x l)) ∙ h)) n
   led g follow (t ∷ w) x k l n = has_left (kind t.0) (first g) (cond (empty g) follow []) (begins g t w x l)
 
   -- ---- the level of the first token
 
-  pub plain : {X : Type 0} (g : Grammar kind V X) (t : T × ℕ) (w : Words T) (x : X) → lang inner d g (t ∷ w) x → has (kind t.0) (openers g) ≡ false → t.1 ≡ d
+  pub plain : {X : Type 0} (g : Grammar kind V X) (t : T × ℕ) (w : Words T) (x : X) → lang inner same d g (t ∷ w) x → has (kind t.0) (openers g) ≡ false → t.1 ≡ d
   plain (token test) t w x l o = let e = l.whole in cc e
   plain (level n test f) t w x l o =
       let e : t ∷ w ≡ (l.left.at, suc d) ∷ l.back = l.whole ∙ ap (λ u. u ++ l.back) l.left.whole in
+      let same : l.left.at ≡ t.0 = cc e in
+      absurd (true_false (has (kind t.0) test.kinds) (subst (λ s. has (kind s) test.kinds ≡ true) same l.left.known) o)
+  plain (next n test f) t w x l o =
+      let e : t ∷ w ≡ (l.left.at, d) ∷ l.back = l.whole ∙ ap (λ u. u ++ l.back) l.left.whole in
       let same : l.left.at ≡ t.0 = cc e in
       absurd (true_false (has (kind t.0) test.kinds) (subst (λ s. has (kind s) test.kinds ≡ true) same l.left.known) o)
   plain (nothing y) t w x l o = absurd (let e = l.whole in cc e)
   plain (seq f p q) t w x l o =
       let parts = has_none (kind t.0) (openers p) (cond (empty p) (openers q) []) o in
       elim (split_cons t w l.front l.back l.whole) [
-      inl s ↦ let e : empty p ≡ true = blank p l.one (subst (λ u. lang inner d p u l.one) s.0 l.left) in
-              plain q t w l.two (subst (λ v. lang inner d q v l.two) s.1 l.right) (sym (ap (has (kind t.0)) (if_true (empty p) (openers q) [] e)) ∙ parts.1)
-    | inr s ↦ plain p t s.0 l.one (subst (λ u. lang inner d p u l.one) s.1 l.left) parts.0 ]
+      inl s ↦ let e : empty p ≡ true = blank p l.one (subst (λ u. lang inner same d p u l.one) s.0 l.left) in
+              plain q t w l.two (subst (λ v. lang inner same d q v l.two) s.1 l.right) (sym (ap (has (kind t.0)) (if_true (empty p) (openers q) [] e)) ∙ parts.1)
+    | inr s ↦ plain p t s.0 l.one (subst (λ u. lang inner same d p u l.one) s.1 l.left) parts.0 ]
   plain (or p q) t w x (inl l) o = plain p t w x l (has_none (kind t.0) (openers p) (openers q) o).0
   plain (or p q) t w x (inr l) o = plain q t w x l (has_none (kind t.0) (openers p) (openers q) o).1
   plain (ahead ones twos p q) t w x (inl l) o = plain p t w x l (has_none (kind t.0) (openers p) (openers q) o).0
   plain (ahead ones twos p q) t w x (inr l) o = plain q t w x l (has_none (kind t.0) (openers p) (openers q) o).1
-  plain (many p) t w x l o = many_first (lang inner d p) (λ s. has (kind s.0) (openers p) ≡ false → s.1 ≡ d) (plain p) t w x l o
+  plain (many p) t w x l o = many_first (lang inner same d p) (λ s. has (kind s.0) (openers p) ≡ false → s.1 ≡ d) (plain p) t w x l o
   plain (image f p) t w x l o = plain p t w l.one l.left o
 
   -- ---- the second token
 
   -- what stands behind many items
-  pub many_behind : {X : Type 0} (p : Grammar kind V X) (follow : List ℕ) (v : Words T) (xs : List X) (k : List T) → Many (lang inner d p) v xs → Next kind follow k → Next kind (first p ++ follow) (toks v ++ k)
+  pub many_behind : {X : Type 0} (p : Grammar kind V X) (follow : List ℕ) (v : Words T) (xs : List X) (k : List T) → Many (lang inner same d p) v xs → Next kind follow k → Next kind (first p ++ follow) (toks v ++ k)
   many_behind p follow [] xs k l n = next_more kind follow (first p ++ follow) k (λ m h. has_right m (first p) follow h) n
-  many_behind p follow (t ∷ v) xs k l n = has_left (kind t.0) (first p) follow (many_first (lang inner d p) (λ s. has (kind s.0) (first p) ≡ true) (begins p) t v xs l)
+  many_behind p follow (t ∷ v) xs k l n = has_left (kind t.0) (first p) follow (many_first (lang inner same d p) (λ s. has (kind s.0) (first p) ≡ true) (begins p) t v xs l)
 
   abbrev Second : {X : Type 0} → List ℕ → Grammar kind V X → Type 0
-  Second {X} ones g = (follow : List ℕ) (t : T × ℕ) (w : Words T) (x : X) (k : List T) → lang inner d g (t ∷ w) x → Next kind follow k
+  Second {X} ones g = (follow : List ℕ) (t : T × ℕ) (w : Words T) (x : X) (k : List T) → lang inner same d g (t ∷ w) x → Next kind follow k
       → has (kind t.0) ones ≡ true → has (kind t.0) (openers g) ≡ false → Next kind (seconds ones follow g) (toks w ++ k)
 
   many_second : {X : Type 0} (ones : List ℕ) (p : Grammar kind V X) → Second ones p
-      → (follow : List ℕ) (t : T × ℕ) (w : Words T) (xs : List X) (k : List T) → Many (lang inner d p) (t ∷ w) xs → Next kind follow k
+      → (follow : List ℕ) (t : T × ℕ) (w : Words T) (xs : List X) (k : List T) → Many (lang inner same d p) (t ∷ w) xs → Next kind follow k
       → has (kind t.0) ones ≡ true → has (kind t.0) (openers p) ≡ false → Next kind (seconds ones (first p ++ follow) p) (toks w ++ k)
   many_second ones p h follow t w [] k l n o c = absurd (cc l)
   many_second ones p h follow t w (x ∷ xs) k l n o c = elim (split_cons t w l.0 l.1 l.2) [
-      inl s ↦ many_second ones p h follow t w xs k (subst (λ v. Many (lang inner d p) v xs) s.1 l.4) n o c
+      inl s ↦ many_second ones p h follow t w xs k (subst (λ v. Many (lang inner same d p) v xs) s.1 l.4) n o c
     | inr s ↦ let behind = many_behind p follow l.1 xs k l.4 n in
-              let here = h (first p ++ follow) t s.0 x (toks l.1 ++ k) (subst (λ u. lang inner d p u x) s.1 l.3) behind o c in
+              let here = h (first p ++ follow) t s.0 x (toks l.1 ++ k) (subst (λ u. lang inner same d p u x) s.1 l.3) behind o c in
               subst (λ ts. Next kind (seconds ones (first p ++ follow) p) ts) (sym (ap (λ (u : Words T). toks u ++ k) s.2 ∙ toks_behind s.0 l.1 k)) here ]
 
   pub second : {X : Type 0} (ones : List ℕ) (g : Grammar kind V X) → Second ones g
@@ -138,17 +148,21 @@ module _ {T N : Type 0} {kind : T → ℕ} {V : N → Type 0} (inner : (n : N) �
       let e : t ∷ w ≡ (l.left.at, suc d) ∷ l.back = l.whole ∙ ap (λ u. u ++ l.back) l.left.whole in
       let same : l.left.at ≡ t.0 = cc e in
       absurd (true_false (has (kind t.0) test.kinds) (subst (λ s. has (kind s) test.kinds ≡ true) same l.left.known) c)
+  second ones (next m test f) follow t w x k l n o c =
+      let e : t ∷ w ≡ (l.left.at, d) ∷ l.back = l.whole ∙ ap (λ u. u ++ l.back) l.left.whole in
+      let same : l.left.at ≡ t.0 = cc e in
+      absurd (true_false (has (kind t.0) test.kinds) (subst (λ s. has (kind s) test.kinds ≡ true) same l.left.known) c)
   second ones (nothing y) follow t w x k l n o c = absurd (let e = l.whole in cc e)
   second ones (seq f p q) follow t w x k l n o c =
       let parts = has_none (kind t.0) (openers p) (cond (empty p) (openers q) []) c in
       let left = seconds ones (leads q follow) p in
       let right = cond (empty p) (seconds ones follow q) [] in
       elim (split_cons t w l.front l.back l.whole) [
-      inl s ↦ let e : empty p ≡ true = blank p l.one (subst (λ u. lang inner d p u l.one) s.0 l.left) in
-              let here = second ones q follow t w l.two k (subst (λ v. lang inner d q v l.two) s.1 l.right) n o (sym (ap (has (kind t.0)) (if_true (empty p) (openers q) [] e)) ∙ parts.1) in
+      inl s ↦ let e : empty p ≡ true = blank p l.one (subst (λ u. lang inner same d p u l.one) s.0 l.left) in
+              let here = second ones q follow t w l.two k (subst (λ v. lang inner same d q v l.two) s.1 l.right) n o (sym (ap (has (kind t.0)) (if_true (empty p) (openers q) [] e)) ∙ parts.1) in
               next_more kind (seconds ones follow q) (left ++ right) (toks w ++ k) (λ m h. has_right m left right (ap (has m) (if_true (empty p) (seconds ones follow q) [] e) ∙ h)) here
     | inr s ↦ let behind = led q follow l.back l.two k l.right n in
-              let here = second ones p (leads q follow) t s.0 l.one (toks l.back ++ k) (subst (λ u. lang inner d p u l.one) s.1 l.left) behind o parts.0 in
+              let here = second ones p (leads q follow) t s.0 l.one (toks l.back ++ k) (subst (λ u. lang inner same d p u l.one) s.1 l.left) behind o parts.0 in
               next_more kind left (left ++ right) (toks w ++ k) (λ m h. has_left m left right h)
               (subst (λ ts. Next kind left ts) (sym (ap (λ (u : Words T). toks u ++ k) s.2 ∙ toks_behind s.0 l.back k)) here) ]
   second ones (or p q) follow t w x k (inl l) n o c = next_more kind (seconds ones follow p) (seconds ones follow p ++ seconds ones follow q) (toks w ++ k)

@@ -6,8 +6,8 @@ pub mod Runs
 pub mod Parts
 pub mod Exactness
 pub mod Heights
-pub mod Whole
 pub mod Unique
 pub mod Answer
+pub mod Whole
 pub mod Moved
 pub mod Loops

@@ -2,13 +2,13 @@
 use Rattle.std.proofs.Common.{◌≡◌, ℕ, zero, suc, ◌+◌, ◌-◌, ◌<◌, ◌≤◌, ◌≢◌, Bool, true, false, cond, List, [], ◌∷◌, ◌++◌, length, Option, Some, None, Ok, Err, refl, sym, ap, ◌∙◌, append_assoc, arith}
 use Rattle.std.proofs.lemmas.List.{append-nil, length-append}
 use Rattle.psm_grammar.specs.Grammar.{Grammar, Productions}
-use Rattle.psm_grammar.specs.Readers.{Stop, Out, Reader, and_then, starts, repeat, Deeper, read, deeper}
+use Rattle.psm_grammar.specs.Readers.{Stop, Out, Reader, and_then, starts, repeat, Deeper, deeper, reads}
 use Rattle.psm_grammar.specs.Loop.{behind, Looping}
 
 -- where a level is left, the readers of the nonterminals read with one less
-pub deeper_some : {T N : Type 0} {kind : T → ℕ} {V : N → Type 0} (prods : Productions kind V) (n : ℕ) → n ≢ 0 → deeper prods n ≡ Some (λ k. read (deeper prods (n - 1)) (prods k))
+pub deeper_some : {T N : Type 0} {kind : T → ℕ} {V : N → Type 0} (prods : Productions kind V) (n : ℕ) → n ≢ 0 → deeper prods n ≡ Some (λ k. reads prods (n - 1) (prods k))
 deeper_some prods zero h = absurd (h refl)
-deeper_some prods (suc n) h = let e : n ≡ suc n - 1 = omega arith in ap (λ m. Some (λ k. read (deeper prods m) (prods k))) e
+deeper_some prods (suc n) h = let e : n ≡ suc n - 1 = omega arith in ap (λ m. Some (λ k. reads prods m (prods k))) e
 
 behind_one : {T X : Type 0} (items : List X) (x : X) (o : Out T (List X)) → behind items (and_then o (λ xs end. Ok (x ∷ xs, end))) ≡ behind (items ++ x ∷ []) o
 behind_one items x (Ok r) = ap (λ xs. Ok (xs, r.1)) (sym (append_assoc items (x ∷ []) r.0))

@@ -2,7 +2,7 @@
 use Rattle.std.proofs.Common.{◌≡◌, ◌⊎◌, inl, inr, ℕ, zero, suc, ◌+◌, ◌≤◌, ◌<◌, Bool, true, false, not, ◌&&◌, cond, List, [], ◌∷◌, ◌++◌, map, length, Option, Some, None, Ok, Err, refl, sym, ap, subst, ◌∙◌, append_assoc, arith}
 use Rattle.std.proofs.lemmas.List.{append-nil, length-append}
 use Rattle.psm_grammar.specs.Language.{Words, toks, Lang, has, Test, Token, Nothing, Seq, Many, Image}
-use Rattle.psm_grammar.specs.Readers.{Stop, Wrong, TooDeep, Out, Reader, and_then, starts, starts_two, one, repeat, Deeper, enter, opened}
+use Rattle.psm_grammar.specs.Readers.{Stop, Wrong, TooDeep, Out, Reader, and_then, starts, starts_two, one, repeat, Deeper, enter, opened, followed}
 use Rattle.psm_grammar.specs.Exact.{head, Low, Next}
 use Rattle.psm_grammar.proofs.Alike.{Alike, guarded, some_same}
 use Rattle.psm_grammar.proofs.KindLists.{true_false, decide}
@@ -40,20 +40,20 @@ module _ {T A : Type 0} (kind : T → ℕ) (test : Test T A) (d : ℕ) (F : List
       by true h = token_read t ts low h
       by false h = token_wrong (t ∷ ts) h
 
--- ---- a token that opens a level
+-- ---- a token, and then a nonterminal
 
 module _ {T A Y Z : Type 0} (kind : T → ℕ) (test : Test T A) (f : A → Y → Z) (inner : Lang T Y) (word : Word inner)
-    (d : ℕ) (F : List T → Type 0) (limit : ℕ) (known : has (kind test.example) test.kinds ≡ true) where
+    (e : ℕ) (F : List T → Type 0) (limit : ℕ) (known : has (kind test.example) test.kinds ≡ true) where
   abbrev L : Lang T Z
-  L w x = Seq f (Token kind test (suc d)) inner w x
+  L w x = Seq f (Token kind test (e)) inner w x
 
-  opens_first : (w : Words T) (x : Z) (l : L w x) → w ≡ (l.left.at, suc d) ∷ l.back
+  opens_first : (w : Words T) (x : Z) (l : L w x) → w ≡ (l.left.at, e) ∷ l.back
   opens_first w x l = l.whole ∙ ap (λ u. u ++ l.back) l.left.whole
 
   level_wrong : (ts : List T) → starts kind test.kinds ts ≡ false → Run L F limit ts ts Whatever Never Never
   level_wrong ts h = record {
-    front = []; more = (test.example, suc d) ∷ word.0; value = f (test.value test.example) word.1; parts = refl;
-    begins = record { front = (test.example, suc d) ∷ []; back = word.0; one = test.value test.example; two = word.1; whole = refl;
+    front = []; more = (test.example, e) ∷ word.0; value = f (test.value test.example) word.1; parts = refl;
+    begins = record { front = (test.example, e) ∷ []; back = word.0; one = test.value test.example; two = word.1; whole = refl;
         left = record { at = test.example; whole = refl; known = known; made = refl }; right = word.2; made = refl };
     so = tt; low = tt;
     alike = λ w x k l n.
@@ -65,38 +65,47 @@ module _ {T A Y Z : Type 0} (kind : T → ℕ) (test : Test T A) (f : A → Y �
       refused [] h w x k l e = cc e
       refused (t ∷ ts) h w x k l e = true_false (has (kind l.left.at) test.kinds) l.left.known (ap (λ s. has (kind s) test.kinds) (some_same l.left.at t e) ∙ h)
 
-  level_deep : (t : T) (ts : List T) → d ≡ limit → has (kind t) test.kinds ≡ true
+  level_deep : (t : T) (ts : List T) → e ≡ suc limit → has (kind t) test.kinds ≡ true
       → Run L F limit (t ∷ ts) (t ∷ ts) (λ m x. Opens limit (t ∷ ts) m) (λ m x. Opens limit (t ∷ ts) m) Whatever
   level_deep t ts top h = record {
-    front = []; more = (t, suc d) ∷ word.0; value = f (test.value t) word.1; parts = refl;
-    begins = record { front = (t, suc d) ∷ []; back = word.0; one = test.value t; two = word.1; whole = refl;
+    front = []; more = (t, e) ∷ word.0; value = f (test.value t) word.1; parts = refl;
+    begins = record { front = (t, e) ∷ []; back = word.0; one = test.value t; two = word.1; whole = refl;
         left = record { at = t; whole = refl; known = h; made = refl }; right = word.2; made = refl };
-    so = ap (λ n. (t, suc n)) top; low = tt;
+    so = ap (λ n. (t, n)) top; low = tt;
     alike = λ w x k l n. (subst (λ (u : Words T). head (toks u ++ k) ≡ Some t → Opens limit (t ∷ ts) u) (sym (opens_first w x l))
-        (λ e. let same : l.left.at ≡ t = some_same l.left.at t e in λ i. (same i, suc (top i))), λ e. tt);
+        (λ e. let same : l.left.at ≡ t = some_same l.left.at t e in λ i. (same i, top i)), λ e. tt);
   }
 
-  pub reads_over : (t : T) (ts : List T) → d ≡ limit → (b : Bool) → has (kind t) test.kinds ≡ b → Reads L F limit (t ∷ ts) (cond b (Err (TooDeep (t ∷ ts))) (Err (Wrong (t ∷ ts))))
+  pub reads_over : (t : T) (ts : List T) → e ≡ suc limit → (b : Bool) → has (kind t) test.kinds ≡ b → Reads L F limit (t ∷ ts) (cond b (Err (TooDeep (t ∷ ts))) (Err (Wrong (t ∷ ts))))
   reads_over t ts top true h = level_deep t ts top h
   reads_over t ts top false h = level_wrong (t ∷ ts) h
 
-  pub reads_deeper : (q : Reader T Y) (t : T) (ts : List T) → suc d ≤ limit → ((rest : List T) → Reads inner F limit rest (q rest)) → (b : Bool) → has (kind t) test.kinds ≡ b
+  pub reads_deeper : (q : Reader T Y) (t : T) (ts : List T) → e ≤ limit → Reads inner F limit ts (q ts) → (b : Bool) → has (kind t) test.kinds ≡ b
       → Reads L F limit (t ∷ ts) (cond b (and_then (q ts) (λ y end. Ok (f (test.value t) y, end))) (Err (Wrong (t ∷ ts))))
-  reads_deeper q t ts low h true e = reads_seq (Token kind test (suc d)) (λ k. Unit {0}) limit f (λ w y k l g. tt) (t ∷ ts) (Ok (test.value t, ts)) q
-      (token_read kind test (suc d) (λ k. Unit {0}) limit known t ts low e) word (λ u x rest s l. h rest)
-  reads_deeper q t ts low h false e = level_wrong (t ∷ ts) e
+  reads_deeper q t ts low h true b = reads_seq (Token kind test e) (λ k. Unit {0}) limit f (λ w y k l g. tt) (t ∷ ts) (Ok (test.value t, ts)) q
+      (token_read kind test e (λ k. Unit {0}) limit known t ts low b) word (λ u x rest s l. subst (λ r. Reads inner F limit r (q r)) (same_rest u rest x s l) h)
+    where
+      same_rest : (u : Words T) (rest : List T) (x : A) → t ∷ ts ≡ toks u ++ rest → Token kind test e u x → ts ≡ rest
+      same_rest u rest x s l = let a = s ∙ ap (λ (v : Words T). toks v ++ rest) l.whole in cc a
+  reads_deeper q t ts low h false b = level_wrong (t ∷ ts) b
 
 pub reads_opened : {T N A Z : Type 0} {V : N → Type 0} (kind : T → ℕ) (test : Test T A) (n : N) (f : A → V n → Z) (inner : Lang T (V n)) (word : Word inner)
     (d : ℕ) (F : List T → Type 0) (limit : ℕ) (known : has (kind test.example) test.kinds ≡ true) (readers : (m : N) → Reader T (V m)) (ts : List T)
     → suc d ≤ limit → ((rest : List T) → Reads inner F limit rest (readers n rest)) → Reads (Seq f (Token kind test (suc d)) inner) F limit ts (opened kind test n f (Some readers) ts)
-reads_opened kind test n f inner word d F limit known readers [] low h = level_wrong kind test f inner word d F limit known [] refl
-reads_opened kind test n f inner word d F limit known readers (t ∷ ts) low h = reads_deeper kind test f inner word d F limit known (readers n) t ts low h (has (kind t) test.kinds) refl
+reads_opened kind test n f inner word d F limit known readers [] low h = level_wrong kind test f inner word (suc d) F limit known [] refl
+reads_opened kind test n f inner word d F limit known readers (t ∷ ts) low h = reads_deeper kind test f inner word (suc d) F limit known (readers n) t ts low (h ts) (has (kind t) test.kinds) refl
 
 pub reads_deep : {T N A Z : Type 0} (V : N → Type 0) (kind : T → ℕ) (test : Test T A) (n : N) (f : A → V n → Z) (inner : Lang T (V n)) (word : Word inner)
     (d : ℕ) (F : List T → Type 0) (limit : ℕ) (known : has (kind test.example) test.kinds ≡ true) (ts : List T)
     → d ≡ limit → Reads (Seq f (Token kind test (suc d)) inner) F limit ts (opened {V = V} kind test n f None ts)
-reads_deep V kind test n f inner word d F limit known [] top = level_wrong kind test f inner word d F limit known [] refl
-reads_deep V kind test n f inner word d F limit known (t ∷ ts) top = reads_over kind test f inner word d F limit known t ts top (has (kind t) test.kinds) refl
+reads_deep V kind test n f inner word d F limit known [] top = level_wrong kind test f inner word (suc d) F limit known [] refl
+reads_deep V kind test n f inner word d F limit known (t ∷ ts) top = reads_over kind test f inner word (suc d) F limit known t ts (ap suc top) (has (kind t) test.kinds) refl
+
+pub reads_followed : {T A Y Z : Type 0} (kind : T → ℕ) (test : Test T A) (f : A → Y → Z) (same : Lang T Y) (word : Word same)
+    (d : ℕ) (F : List T → Type 0) (limit : ℕ) (known : has (kind test.example) test.kinds ≡ true) (q : Reader T Y) (ts : List T)
+    → d ≤ limit → ((rest : List T) → length rest < length ts → Reads same F limit rest (q rest)) → Reads (Seq f (Token kind test d) same) F limit ts (followed kind test f q ts)
+reads_followed kind test f same word d F limit known q [] low h = level_wrong kind test f same word d F limit known [] refl
+reads_followed kind test f same word d F limit known q (t ∷ ts) low h = reads_deeper kind test f same word d F limit known q t ts low (h ts (omega arith)) (has (kind t) test.kinds) refl
 
 -- ---- no token
 
@@ -114,7 +123,7 @@ module _ {T X : Type 0} (kind : T → ℕ) (first follow : List ℕ) (L : Lang T
     (begun : (t : T) → has (kind t) first ≡ true → Begun t L)
     (stops : (n : ℕ) → has n first ≡ true → has n follow ≡ false)
     (behind : (w : Words T) (xs : List X) (k : List T) → Many L w xs → Next kind follow k → Next kind (first ++ follow) (toks w ++ k))
-    (exact : (ts : List T) → Reads L (Next kind (first ++ follow)) limit ts (p ts)) where
+    (most : ℕ) (exact : (ts : List T) → length ts ≤ most → Reads L (Next kind (first ++ follow)) limit ts (p ts)) where
   many_end : (ts : List T) → starts kind first ts ≡ false → Reads (Many L) (Next kind follow) limit ts (Ok ([], ts))
   many_end ts h = record {
     front = []; more = []; value = []; parts = refl; begins = refl; so = (refl, refl); low = tt;
@@ -149,28 +158,28 @@ module _ {T X : Type 0} (kind : T → ℕ) (first follow : List ℕ) (L : Lang T
   seq_begun : (t : T) → Begun t L → Begun t (λ w xs. Seq cons L (Many L) w xs)
   seq_begun t b = (b.0, b.1, b.2 ∷ [], record { front = (t, b.0) ∷ b.1; back = []; one = b.2; two = []; whole = sym (append-nil ((t, b.0) ∷ b.1)); left = b.3; right = refl; made = refl })
 
-  shorter : (n : ℕ) (ts : List T) (u : Words T) (rest : List T) → length ts ≤ suc n → ts ≡ toks u ++ rest → 1 ≤ length u → length rest ≤ n
-  shorter n ts [] rest a e b = absurd (omega (arith, b))
-  shorter n ts (x ∷ u) rest a e b = omega (arith, a, ap length e, length-append (toks u) rest)
+  shorter : (ts : List T) (u : Words T) (rest : List T) → ts ≡ toks u ++ rest → 1 ≤ length u → length rest < length ts
+  shorter ts [] rest e b = absurd (omega (arith, b))
+  shorter ts (x ∷ u) rest e b = omega (arith, ap length e, length-append (toks u) rest)
 
-  many_more : (n : ℕ) (t : T) (ts : List T) → length (t ∷ ts) ≤ suc n → has (kind t) first ≡ true
-      → ((rest : List T) → length rest ≤ n → Reads (Many L) (Next kind follow) limit rest (repeat kind first p n rest))
+  many_more : (n : ℕ) (t : T) (ts : List T) → length (t ∷ ts) ≤ most → has (kind t) first ≡ true
+      → ((rest : List T) → length rest < length (t ∷ ts) → Reads (Many L) (Next kind follow) limit rest (repeat kind first p n rest))
       → Reads (Many L) (Next kind follow) limit (t ∷ ts) (and_then (p (t ∷ ts)) (λ x rest. and_then (repeat kind first p n rest) (λ xs end. Ok (x ∷ xs, end))))
-  many_more n t ts h e again = reads_begun (λ w xs. Seq cons L (Many L) w xs) (Next kind follow) limit (Many L) t ts
+  many_more n t ts short e again = reads_begun (λ w xs. Seq cons L (Many L) w xs) (Next kind follow) limit (Many L) t ts
       (and_then (p (t ∷ ts)) (λ x rest. and_then (repeat kind first p n rest) (λ xs end. Ok (x ∷ xs, end))))
       (seq_begun t (begun t e)) tt
-      (reads_seq L (Next kind (first ++ follow)) limit cons behind (t ∷ ts) (p (t ∷ ts)) (repeat kind first p n) (exact (t ∷ ts)) ([], [], refl)
-          (λ u x rest s l. again rest (shorter n (t ∷ ts) u rest h s (some u x l))))
+      (reads_seq L (Next kind (first ++ follow)) limit cons behind (t ∷ ts) (p (t ∷ ts)) (repeat kind first p n) (exact (t ∷ ts) short) ([], [], refl)
+          (λ u x rest s l. again rest (shorter (t ∷ ts) u rest s (some u x l))))
       into (others t e)
 
-  pub reads_many : (n : ℕ) (ts : List T) → length ts ≤ n → Reads (Many L) (Next kind follow) limit ts (repeat kind first p n ts)
-  reads_many zero [] h = many_end [] refl
-  reads_many zero (t ∷ ts) h = absurd (omega (arith, h))
-  reads_many (suc n) [] h = many_end [] refl
-  reads_many (suc n) (t ∷ ts) h = by (has (kind t) first) refl (λ rest short. reads_many n rest short)
+  pub reads_many : (n : ℕ) (ts : List T) → length ts ≤ n → length ts ≤ most → Reads (Many L) (Next kind follow) limit ts (repeat kind first p n ts)
+  reads_many zero [] h short = many_end [] refl
+  reads_many zero (t ∷ ts) h short = absurd (omega (arith, h))
+  reads_many (suc n) [] h short = many_end [] refl
+  reads_many (suc n) (t ∷ ts) h short = by (has (kind t) first) refl (λ rest less. reads_many n rest (omega (arith, less, h)) (omega (arith, less, short)))
     where
-      by : (b : Bool) → has (kind t) first ≡ b → ((rest : List T) → length rest ≤ n → Reads (Many L) (Next kind follow) limit rest (repeat kind first p n rest))
+      by : (b : Bool) → has (kind t) first ≡ b → ((rest : List T) → length rest < length (t ∷ ts) → Reads (Many L) (Next kind follow) limit rest (repeat kind first p n rest))
           → Reads (Many L) (Next kind follow) limit (t ∷ ts)
               (cond b (and_then (p (t ∷ ts)) (λ x rest. and_then (repeat kind first p n rest) (λ xs end. Ok (x ∷ xs, end)))) (Ok ([], t ∷ ts)))
       by false e again = many_end (t ∷ ts) e
-      by true e again = many_more n t ts h e again
+      by true e again = many_more n t ts short e again

@@ -2,7 +2,7 @@
 use Rattle.std.proofs.Common.{◌≡◌, ◌⊎◌, inl, inr, ℕ, zero, suc, ◌+◌, ◌≤◌, ◌<◌, Bool, true, false, not, ◌&&◌, cond, List, [], ◌∷◌, ◌++◌, map, length, refl, sym, ap, subst, ◌∙◌, append_assoc, arith}
 use Rattle.std.proofs.lemmas.List.{append-nil, length-append}
 use Rattle.psm_grammar.specs.Language.{Words, toks, Lang, has, Test, Token, Nothing, Seq, Many, Image}
-use Rattle.psm_grammar.specs.Grammar.{Grammar, token, level, nothing, seq, or, ahead, many, image, lang}
+use Rattle.psm_grammar.specs.Grammar.{Grammar, token, level, next, nothing, seq, or, ahead, many, image, lang}
 use Rattle.psm_grammar.specs.Readers.{empty, first}
 use Rattle.psm_grammar.specs.Follow.{apart, within, leads, openers, seconds, is_long, is_one, opens_two, two_decide, fits, lives}
 use Rattle.psm_grammar.proofs.KindLists.{and_true, not_true, true_false, decide, if_true, if_false, one_of, has_either, within_has}
@@ -23,14 +23,20 @@ BegunTwo {T} {X} t u L = (l m : ℕ) × (w : Words T) × (x : X) × L ((t, l) �
 nothing_on : (m : ℕ) → has m [] ≡ true → ⊥
 nothing_on m h = cc
 
-module _ {T N : Type 0} {kind : T → ℕ} {V : N → Type 0} (inner : (n : N) → Lang T (V n)) (d : ℕ) (after : N → List ℕ) (words : (n : N) → Word (inner n)) where
-  pub some : {X : Type 0} (g : Grammar kind V X) (follow : List ℕ) → fits after follow g ≡ true → Word (lang inner d g)
+module _ {T N : Type 0} {kind : T → ℕ} {V : N → Type 0} (inner same : (n : N) → Lang T (V n)) (d : ℕ) (after : N → List ℕ) (words : (n : N) → Word (inner n)) (others : (n : N) → Word (same n)) where
+  pub some : {X : Type 0} (g : Grammar kind V X) (follow : List ℕ) → fits after follow g ≡ true → Word (lang inner same d g)
   some (token test) follow h = ((test.example, d) ∷ [], test.value test.example, record { at = test.example; whole = refl; known = h; made = refl })
   some (level n test f) follow h =
       let known = (and_true (has (kind test.example) test.kinds) (within follow (after n)) h).0 in
       let w = words n in
       ((test.example, suc d) ∷ w.0, f (test.value test.example) w.1, record {
         front = (test.example, suc d) ∷ []; back = w.0; one = test.value test.example; two = w.1; whole = refl;
+        left = record { at = test.example; whole = refl; known = known; made = refl }; right = w.2; made = refl })
+  some (next n test f) follow h =
+      let known = (and_true (has (kind test.example) test.kinds) (within follow (after n)) h).0 in
+      let w = others n in
+      ((test.example, d) ∷ w.0, f (test.value test.example) w.1, record {
+        front = (test.example, d) ∷ []; back = w.0; one = test.value test.example; two = w.1; whole = refl;
         left = record { at = test.example; whole = refl; known = known; made = refl }; right = w.2; made = refl })
   some (nothing y) follow h = ([], y, record { whole = refl; made = refl })
   some (seq f p q) follow h =
@@ -49,12 +55,17 @@ module _ {T N : Type 0} {kind : T → ℕ} {V : N → Type 0} (inner : (n : N) �
   some (many p) follow h = ([], [], refl)
   some (image f p) follow h = let a = some p follow h in (a.0, f a.1, record { one = a.1; left = a.2; made = refl })
 
-  pub begun : {X : Type 0} (g : Grammar kind V X) (follow : List ℕ) (t : T) → fits after follow g ≡ true → has (kind t) (first g) ≡ true → Begun t (lang inner d g)
+  pub begun : {X : Type 0} (g : Grammar kind V X) (follow : List ℕ) (t : T) → fits after follow g ≡ true → has (kind t) (first g) ≡ true → Begun t (lang inner same d g)
   begun (token test) follow t h k = (d, [], test.value t, record { at = t; whole = refl; known = k; made = refl })
   begun (level n test f) follow t h k =
       let w = words n in
       (suc d, w.0, f (test.value t) w.1, record {
         front = (t, suc d) ∷ []; back = w.0; one = test.value t; two = w.1; whole = refl;
+        left = record { at = t; whole = refl; known = k; made = refl }; right = w.2; made = refl })
+  begun (next n test f) follow t h k =
+      let w = others n in
+      (d, w.0, f (test.value t) w.1, record {
+        front = (t, d) ∷ []; back = w.0; one = test.value t; two = w.1; whole = refl;
         left = record { at = t; whole = refl; known = k; made = refl }; right = w.2; made = refl })
   begun (nothing y) follow t h k = absurd cc
   begun (seq f p q) follow t h k =
@@ -65,7 +76,7 @@ module _ {T N : Type 0} {kind : T → ℕ} {V : N → Type 0} (inner : (n : N) �
               (b.0, b.1 ++ c.0, f b.2 c.1, record { front = (t, b.0) ∷ b.1; back = c.0; one = b.2; two = c.1; whole = refl; left = b.3; right = c.2; made = refl })
     | inr a ↦ elim (decide (empty p)) [
           inl e ↦ let b = begun q follow t parts.1 (sym (ap (has (kind t)) (if_true (empty p) (first q) [] e)) ∙ a) in
-                  let c = none inner d p e in
+                  let c = none inner same d p e in
                   (b.0, b.1, f c.0 b.2, record { front = []; back = (t, b.0) ∷ b.1; one = c.0; two = b.2; whole = refl; left = c.1; right = b.3; made = refl })
         | inr e ↦ absurd (nothing_on (kind t) (sym (ap (has (kind t)) (if_false (empty p) (first q) [] e)) ∙ a)) ] ]
   begun (or p q) follow t h k =
@@ -85,28 +96,30 @@ module _ {T N : Type 0} {kind : T → ℕ} {V : N → Type 0} (inner : (n : N) �
   begun (image f p) follow t h k = let b = begun p follow t h k in (b.0, b.1, f b.2, record { one = b.2; left = b.3; made = refl })
 
   -- a word of one token
-  one_token : {X : Type 0} (ones : List ℕ) (g : Grammar kind V X) (t : T) → has (kind t) ones ≡ true → is_one ones g ≡ true → (l : ℕ) × (x : X) × lang inner d g ((t, l) ∷ []) x
+  one_token : {X : Type 0} (ones : List ℕ) (g : Grammar kind V X) (t : T) → has (kind t) ones ≡ true → is_one ones g ≡ true → (l : ℕ) × (x : X) × lang inner same d g ((t, l) ∷ []) x
   one_token ones (token test) t h k = (d, test.value t, record { at = t; whole = refl; known = within_has (kind t) ones test.kinds k h; made = refl })
   one_token ones (level n test f) t h k = absurd cc
+  one_token ones (next n test f) t h k = absurd cc
   one_token ones (nothing y) t h k = absurd cc
   one_token ones (seq f p q) t h k =
       let parts = and_true (is_one ones p) (empty q) k in
       let a = one_token ones p t h parts.0 in
-      let b = none inner d q parts.1 in
+      let b = none inner same d q parts.1 in
       (a.0, f a.1 b.0, record { front = (t, a.0) ∷ []; back = []; one = a.1; two = b.0; whole = refl; left = a.2; right = b.1; made = refl })
   one_token ones (or p q) t h k = elim (one_of (is_one ones p) (is_one ones q) k) [
       inl e ↦ let a = one_token ones p t h e in (a.0, a.1, inl a.2)
     | inr e ↦ let a = one_token ones q t h e in (a.0, a.1, inr a.2) ]
-  one_token ones (ahead others twos p q) t h k = elim (one_of (is_one ones p) (is_one ones q) k) [
+  one_token ones (ahead more twos p q) t h k = elim (one_of (is_one ones p) (is_one ones q) k) [
       inl e ↦ let a = one_token ones p t h e in (a.0, a.1, inl a.2)
     | inr e ↦ let a = one_token ones q t h e in (a.0, a.1, inr a.2) ]
   one_token ones (many p) t h k = let a = one_token ones p t h k in (a.0, a.1 ∷ [], ((t, a.0) ∷ [], [], refl, a.2, refl))
   one_token ones (image f p) t h k = let a = one_token ones p t h k in (a.0, f a.1, record { one = a.1; left = a.2; made = refl })
 
   pub begun_two : {X : Type 0} (ones twos : List ℕ) (g : Grammar kind V X) (follow : List ℕ) (t u : T) → fits after follow g ≡ true → has (kind t) ones ≡ true → has (kind u) twos ≡ true
-      → opens_two ones twos g ≡ true → BegunTwo t u (lang inner d g)
+      → opens_two ones twos g ≡ true → BegunTwo t u (lang inner same d g)
   begun_two ones twos (token test) follow t u fit h k o = absurd cc
   begun_two ones twos (level n test f) follow t u fit h k o = absurd cc
+  begun_two ones twos (next n test f) follow t u fit h k o = absurd cc
   begun_two ones twos (nothing y) follow t u fit h k o = absurd cc
   begun_two ones twos (seq f p q) follow t u fit h k o =
       let fits_both = and_true (fits after (leads q follow) p) (fits after follow q) fit in
@@ -123,8 +136,8 @@ module _ {T N : Type 0} {kind : T → ℕ} {V : N → Type 0} (inner : (n : N) �
       elim (one_of (opens_two ones twos p) (opens_two ones twos q) o) [
       inl e ↦ let a = begun_two ones twos p follow t u parts.0 h k e in (a.0, a.1, a.2, a.3, inl a.4)
     | inr e ↦ let a = begun_two ones twos q follow t u parts.1 h k e in (a.0, a.1, a.2, a.3, inr a.4) ]
-  begun_two ones twos (ahead others more p q) follow t u fit h k o =
-      let parts = and_true (fits after follow p) (fits after follow q) (and_true (two_decide others more follow p q) (fits after follow p && fits after follow q) fit).1 in
+  begun_two ones twos (ahead sets more p q) follow t u fit h k o =
+      let parts = and_true (fits after follow p) (fits after follow q) (and_true (two_decide sets more follow p q) (fits after follow p && fits after follow q) fit).1 in
       elim (one_of (opens_two ones twos p) (opens_two ones twos q) o) [
       inl e ↦ let a = begun_two ones twos p follow t u parts.0 h k e in (a.0, a.1, a.2, a.3, inl a.4)
     | inr e ↦ let a = begun_two ones twos q follow t u parts.1 h k e in (a.0, a.1, a.2, a.3, inr a.4) ]
@@ -134,14 +147,15 @@ module _ {T N : Type 0} {kind : T → ℕ} {V : N → Type 0} (inner : (n : N) �
       (a.0, a.1, a.2, a.3 ∷ [], ((t, a.0) ∷ (u, a.1) ∷ a.2, [], sym (append-nil ((t, a.0) ∷ (u, a.1) ∷ a.2)), a.4, refl))
   begun_two ones twos (image f p) follow t u fit h k o = let a = begun_two ones twos p follow t u fit h k o in (a.0, a.1, a.2, f a.3, record { one = a.3; left = a.4; made = refl })
 
-module _ {T N : Type 0} {kind : T → ℕ} {V : N → Type 0} (inner : (n : N) → Lang T (V n)) (d : ℕ) where
-  pub not_blank : {X : Type 0} (g : Grammar kind V X) (w : Words T) (x : X) → empty g ≡ false → lang inner d g w x → 1 ≤ length w
-  not_blank g [] x e l = absurd (true_false (empty g) (blank inner d g x l) e)
+module _ {T N : Type 0} {kind : T → ℕ} {V : N → Type 0} (inner same : (n : N) → Lang T (V n)) (d : ℕ) where
+  pub not_blank : {X : Type 0} (g : Grammar kind V X) (w : Words T) (x : X) → empty g ≡ false → lang inner same d g w x → 1 ≤ length w
+  not_blank g [] x e l = absurd (true_false (empty g) (blank inner same d g x l) e)
   not_blank g (t ∷ w) x e l = omega arith
 
-  pub long : {X : Type 0} (g : Grammar kind V X) (w : Words T) (x : X) → is_long g ≡ true → lang inner d g w x → 2 ≤ length w
+  pub long : {X : Type 0} (g : Grammar kind V X) (w : Words T) (x : X) → is_long g ≡ true → lang inner same d g w x → 2 ≤ length w
   long (token test) w x h l = absurd cc
   long (level n test f) w x h l = absurd cc
+  long (next n test f) w x h l = absurd cc
   long (nothing y) w x h l = absurd cc
   long (seq f p q) w x h l =
       let all : length w ≡ length l.front + length l.back = ap length l.whole ∙ length-append l.front l.back in

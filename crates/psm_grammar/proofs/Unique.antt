@@ -2,8 +2,8 @@
 use Rattle.std.proofs.Common.{◌≡◌, ◌⊎◌, inl, inr, ℕ, zero, suc, ◌+◌, ◌≤◌, true, List, [], ◌∷◌, ◌++◌, map, length, Ok, Err, refl, sym, ap, subst, ◌∙◌, arith}
 use Rattle.std.proofs.lemmas.List.{append-nil, length-append, length-map}
 use Rattle.psm_grammar.specs.Language.{Words, toks, Lang, Test, Token, Nothing, Seq, Many, Image}
-use Rattle.psm_grammar.specs.Grammar.{Grammar, token, level, nothing, seq, or, ahead, many, image, lang, Productions, nested, words, Spells}
-use Rattle.psm_grammar.specs.Readers.{Stop, Wrong, TooDeep, Out, read, deeper}
+use Rattle.psm_grammar.specs.Grammar.{Grammar, token, level, next, nothing, seq, or, ahead, many, image, lang, Productions, nested, words, Spells}
+use Rattle.psm_grammar.specs.Readers.{Stop, Wrong, TooDeep, Out, reads}
 use Rattle.psm_grammar.specs.Exact.{head, Low, AtEnd}
 use Rattle.psm_grammar.specs.Follow.{fits, IsReadable}
 use Rattle.psm_grammar.proofs.Alike.{Alike, alike_on, alike_end}
@@ -33,28 +33,32 @@ few_many : {T X : Type 0} (d : ℕ) (L : Lang T X) → ((w : Words T) (x : X) �
 few_many d L h w [] l = subst (Few d) (sym l) tt
 few_many d L h w (x ∷ xs) l = subst (Few d) (sym l.2) (few_append d l.0 l.1 (h l.0 x l.3) (few_many d L h l.1 xs l.4))
 
-module _ {T N : Type 0} {kind : T → ℕ} {V : N → Type 0} (inner : (n : N) → Lang T (V n)) (d : ℕ) (deep : (n : N) (w : Words T) (x : V n) → inner n w x → Few (suc d) w) where
-  few_lang : {X : Type 0} (g : Grammar kind V X) (w : Words T) (x : X) → lang inner d g w x → Few d w
+module _ {T N : Type 0} {kind : T → ℕ} {V : N → Type 0} (inner same : (n : N) → Lang T (V n)) (d : ℕ)
+    (deep : (n : N) (w : Words T) (x : V n) → inner n w x → Few (suc d) w) (here : (n : N) (w : Words T) (x : V n) → same n w x → Few d w) where
+  few_lang : {X : Type 0} (g : Grammar kind V X) (w : Words T) (x : X) → lang inner same d g w x → Few d w
   few_lang (token test) w x l = subst (Few d) (sym l.whole) (omega arith, tt)
   few_lang (level n test f) w x l =
       let e : w ≡ (l.left.at, suc d) ∷ l.back = l.whole ∙ ap (λ u. u ++ l.back) l.left.whole in
       subst (Few d) (sym e) (omega arith, low_more (suc d + length l.back) (d + suc (length l.back)) l.back (omega arith) (deep n l.back l.two l.right))
+  few_lang (next n test f) w x l =
+      let e : w ≡ (l.left.at, d) ∷ l.back = l.whole ∙ ap (λ u. u ++ l.back) l.left.whole in
+      subst (Few d) (sym e) (omega arith, low_more (d + length l.back) (d + suc (length l.back)) l.back (omega arith) (here n l.back l.two l.right))
   few_lang (nothing y) w x l = subst (Few d) (sym l.whole) tt
   few_lang (seq f p q) w x l = subst (Few d) (sym l.whole) (few_append d l.front l.back (few_lang p l.front l.one l.left) (few_lang q l.back l.two l.right))
   few_lang (or p q) w x (inl l) = few_lang p w x l
   few_lang (or p q) w x (inr l) = few_lang q w x l
   few_lang (ahead ones twos p q) w x (inl l) = few_lang p w x l
   few_lang (ahead ones twos p q) w x (inr l) = few_lang q w x l
-  few_lang (many p) w x l = few_many d (lang inner d p) (few_lang p) w x l
+  few_lang (many p) w x l = few_many d (lang inner same d p) (few_lang p) w x l
   few_lang (image f p) w x l = few_lang p w l.one l.left
 
 module _ {T N : Type 0} {kind : T → ℕ} {V : N → Type 0} (prods : Productions kind V) where
   few_nested : (h d : ℕ) (n : N) (w : Words T) (x : V n) → nested prods h d n w x → Few d w
   few_nested zero d n w x l = absurd l
-  few_nested (suc h) d n w x l = few_lang (nested prods h (suc d)) d (few_nested h (suc d)) (prods n) w x l
+  few_nested (suc h) d n w x l = few_lang (nested prods h (suc d)) (nested prods h d) d (few_nested h (suc d)) (few_nested h d) (prods n) w x l
 
   pub few_spells : (d : ℕ) {X : Type 0} (g : Grammar kind V X) (w : Words T) (x : X) → Spells prods d g w x → Few d w
-  few_spells d g w x l = few_lang (words prods (suc d)) d (λ n v y m. few_nested m.height (suc d) n v y m.word) g w x l
+  few_spells d g w x l = few_lang (words prods (suc d)) (words prods d) d (λ n v y m. few_nested m.height (suc d) n v y m.word) (λ n v y m. few_nested m.height d n v y m.word) g w x l
 
 -- ---- one word
 
@@ -112,5 +116,5 @@ module _ {T N : Type 0} {kind : T → ℕ} {V : N → Type 0} (prods : Productio
       → Spells prods d g w x → Spells prods d g v y → toks w ≡ toks v → (w ≡ v) × (x ≡ y)
   one_tree d g follow fit w v x y l k e =
       let n = length w in
-      one_word (Spells prods d g) (d + n) (toks w) (read (deeper prods n) g (toks w)) (reads_at_end prods after height readable n d (d + n) refl g follow fit (toks w))
+      one_word (Spells prods d g) (d + n) (toks w) (reads prods n g (toks w)) (reads_at_end prods after height readable n d (d + n) refl g follow fit (toks w))
       w v x y l k refl (sym e) (few_spells prods d g w x l)

@@ -1,14 +1,15 @@
 -- The reader with n more levels is exact for the grammar without limit.
-use Rattle.std.proofs.Common.{◌≡◌, ℕ, zero, suc, ◌+◌, ◌≤◌, true, List, [], ◌∷◌, ◌++◌, Some, Ok, Err, refl, sym, ap, subst, ◌∙◌, arith}
+use Rattle.std.proofs.Common.{◌≡◌, ℕ, zero, suc, ◌+◌, ◌≤◌, ◌<◌, length, true, List, [], ◌∷◌, ◌++◌, Some, Ok, Err, refl, sym, ap, subst, ◌∙◌, arith}
 use Rattle.std.proofs.lemmas.List.{append-nil}
 use Rattle.psm_grammar.specs.Language.{Words, toks, Lang}
 use Rattle.psm_grammar.specs.Grammar.{Grammar, lang, Productions, words, Spells}
-use Rattle.psm_grammar.specs.Readers.{Stop, Wrong, TooDeep, Out, read, deeper}
+use Rattle.psm_grammar.specs.Readers.{Stop, Wrong, TooDeep, Out, read, again, deeper, reads}
 use Rattle.psm_grammar.specs.Exact.{head, AtEnd, Next, Tracks, Good, Bad, Deep, Holds}
 use Rattle.psm_grammar.specs.Follow.{fits, IsReadable}
 use Rattle.psm_grammar.proofs.Alike.{alike_levels, alike_on, alike_end}
 use Rattle.psm_grammar.proofs.Some.{Word}
 use Rattle.psm_grammar.proofs.Runs.{Run, Done, Opens, Whatever, Never, Reads, spelled, reads_in, reads_before}
+use Rattle.psm_grammar.proofs.Answer.{one_answer, reads_of}
 use Rattle.psm_grammar.proofs.Exactness.{DeeperReads, exact}
 use Rattle.psm_grammar.proofs.Heights.{unrolled, rolled, words_some}
 
@@ -62,34 +63,55 @@ holds L F limit ts (Err (TooDeep rest)) end h = deep end rest h
 -- ---- all levels
 
 module _ {T N : Type 0} {kind : T → ℕ} {V : N → Type 0} (prods : Productions kind V) (after : N → List ℕ) (height : ℕ) (readable : IsReadable prods after height) where
-  reads_spells : (n d limit : ℕ) → d + n ≡ limit → DeeperReads kind (words prods (suc d)) after limit d (deeper prods n) → {X : Type 0} (g : Grammar kind V X) (follow : List ℕ)
-      → fits after follow g ≡ true → (ts : List T) → Reads (Spells prods d g) (Next kind follow) limit ts (read (deeper prods n) g ts)
-  reads_spells n d limit e h g follow fit ts =
-      exact (words prods (suc d)) d after (words_some prods after readable.by_first height readable.alive (suc d)) limit (omega (arith, e)) (deeper prods n) h g follow fit ts
+  word_of : (d : ℕ) (n : N) → Word (words prods d n)
+  word_of = words_some prods after readable.by_first height readable.alive
 
-  reads_rolled : (n d limit : ℕ) → d + n ≡ limit → DeeperReads kind (words prods (suc d)) after limit d (deeper prods n) → (k : N) (ts : List T)
-      → Reads (words prods d k) (Next kind (after k)) limit ts (read (deeper prods n) (prods k) ts)
-  reads_rolled n d limit e h k ts = reads_in (Spells prods d (prods k)) (Next kind (after k)) limit (words prods d k) ts (read (deeper prods n) (prods k) ts)
-      (reads_spells n d limit e h (prods k) (after k) (readable.by_first k) ts) (rolled prods d k) (λ w x m l f s. unrolled prods d k w x l)
+  -- the nonterminals at one level, on few tokens
+  reads_again : (n d limit : ℕ) → d + n ≡ limit → DeeperReads kind (words prods (suc d)) after limit d (deeper prods n) → (m : ℕ) (k : N) (ts : List T) → length ts < m
+      → Reads (words prods d k) (Next kind (after k)) limit ts (again prods (deeper prods n) m k ts)
+  reads_again n d limit e h zero k ts short = absurd (omega (arith, short))
+  reads_again n d limit e h (suc m) k ts short = reads_in (Spells prods d (prods k)) (Next kind (after k)) limit (words prods d k) ts (again prods (deeper prods n) (suc m) k ts)
+      (exact (words prods (suc d)) (words prods d) d after (word_of (suc d)) (word_of d) limit (omega (arith, e)) (deeper prods n) h (again prods (deeper prods n) m) m (reads_again n d limit e h m)
+          (prods k) (after k) (readable.by_first k) ts (omega (arith, short)))
+      (rolled prods d k) (λ w x q l f s. unrolled prods d k w x l)
 
   reads_deeper : (n d limit : ℕ) → d + n ≡ limit → DeeperReads kind (words prods (suc d)) after limit d (deeper prods n)
   reads_deeper zero d limit e = omega (arith, e)
   reads_deeper (suc n) d limit e =
       let e' : suc d + n ≡ limit = omega (arith, e) in
-      (omega (arith, e), λ k ts. reads_rolled n (suc d) limit e' (reads_deeper n (suc d) limit e') k ts)
+      (omega (arith, e), λ k ts. reads_again n (suc d) limit e' (reads_deeper n (suc d) limit e') (suc (length ts)) k ts (omega arith))
+
+  reads_spells : (n d limit : ℕ) → d + n ≡ limit → {X : Type 0} (g : Grammar kind V X) (follow : List ℕ)
+      → fits after follow g ≡ true → (ts : List T) → Reads (Spells prods d g) (Next kind follow) limit ts (reads prods n g ts)
+  reads_spells n d limit e g follow fit ts =
+      exact (words prods (suc d)) (words prods d) d after (word_of (suc d)) (word_of d) limit (omega (arith, e)) (deeper prods n) (reads_deeper n d limit e)
+      (again prods (deeper prods n) (length ts)) (length ts) (reads_again n d limit e (reads_deeper n d limit e) (length ts)) g follow fit ts (omega arith)
 
   -- before other tokens
   pub reads_before_next : (n d limit : ℕ) → d + n ≡ limit → {X : Type 0} (g : Grammar kind V X) (follow : List ℕ) → fits after follow g ≡ true → (ts : List T)
-      → Holds (Spells prods d g) (Next kind follow) limit ts (read (deeper prods n) g ts)
-  reads_before_next n d limit e g follow fit ts = holds (Spells prods d g) (Next kind follow) limit ts (read (deeper prods n) g ts) tt
-      (reads_spells n d limit e (reads_deeper n d limit e) g follow fit ts)
+      → Holds (Spells prods d g) (Next kind follow) limit ts (reads prods n g ts)
+  reads_before_next n d limit e g follow fit ts = holds (Spells prods d g) (Next kind follow) limit ts (reads prods n g ts) tt (reads_spells n d limit e g follow fit ts)
 
   pub reads_at_end : (n d limit : ℕ) → d + n ≡ limit → {X : Type 0} (g : Grammar kind V X) (follow : List ℕ) → fits after follow g ≡ true → (ts : List T)
-      → Reads (Spells prods d g) AtEnd limit ts (read (deeper prods n) g ts)
-  reads_at_end n d limit e g follow fit ts = reads_before (Spells prods d g) (Next kind follow) limit AtEnd ts (read (deeper prods n) g ts)
-      (reads_spells n d limit e (reads_deeper n d limit e) g follow fit ts) (λ k same. subst (Next kind follow) (sym same) tt)
+      → Reads (Spells prods d g) AtEnd limit ts (reads prods n g ts)
+  reads_at_end n d limit e g follow fit ts = reads_before (Spells prods d g) (Next kind follow) limit AtEnd ts (reads prods n g ts)
+      (reads_spells n d limit e g follow fit ts) (λ k same. subst (Next kind follow) (sym same) tt)
 
   -- the longest run of a part
   pub reads_run : (n d limit : ℕ) → d + n ≡ limit → {X : Type 0} (g : Grammar kind V X) (follow : List ℕ) → fits after follow g ≡ true → (ts : List T)
-      → Holds (Spells prods d g) AtEnd limit ts (read (deeper prods n) g ts)
-  reads_run n d limit e g follow fit ts = holds (Spells prods d g) AtEnd limit ts (read (deeper prods n) g ts) refl (reads_at_end n d limit e g follow fit ts)
+      → Holds (Spells prods d g) AtEnd limit ts (reads prods n g ts)
+  reads_run n d limit e g follow fit ts = holds (Spells prods d g) AtEnd limit ts (reads prods n g ts) refl (reads_at_end n d limit e g follow fit ts)
+
+  again_at_end : (n d limit : ℕ) → d + n ≡ limit → (m : ℕ) (k : N) (ts : List T) → length ts < m → Reads (words prods d k) AtEnd limit ts (again prods (deeper prods n) m k ts)
+  again_at_end n d limit e m k ts short = reads_before (words prods d k) (Next kind (after k)) limit AtEnd ts (again prods (deeper prods n) m k ts)
+      (reads_again n d limit e (reads_deeper n d limit e) m k ts short) (λ j same. subst (Next kind (after k)) (sym same) tt)
+
+  -- a nonterminal is read alike however many productions may stand behind one another, if they are more than the tokens
+  pub again_enough : (n m : ℕ) (k : N) (ts : List T) → length ts < m → again prods (deeper prods n) m k ts ≡ again prods (deeper prods n) (suc (length ts)) k ts
+  again_enough n m k ts short = one_answer (words prods 0 k) n ts (again prods (deeper prods n) m k ts) (again prods (deeper prods n) (suc (length ts)) k ts)
+      (again_at_end n 0 n (omega arith) m k ts short) (again_at_end n 0 n (omega arith) (suc (length ts)) k ts (omega arith))
+
+  -- an exact answer is the reader's
+  pub only_answer : (n d limit : ℕ) → d + n ≡ limit → {X : Type 0} (g : Grammar kind V X) (follow : List ℕ) → fits after follow g ≡ true → (ts : List T) (o : Out T X)
+      → Holds (Spells prods d g) AtEnd limit ts o → o ≡ reads prods n g ts
+  only_answer n d limit e g follow fit ts o h = one_answer (Spells prods d g) limit ts o (reads prods n g ts) (reads_of (Spells prods d g) limit ts o h) (reads_at_end n d limit e g follow fit ts)

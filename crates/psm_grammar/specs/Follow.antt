@@ -1,7 +1,7 @@
 -- When the first token, or the first two, decide how a part of a grammar is read.
 use Rattle.std.specs.Prelude.{◌≡◌, ℕ, zero, suc, Bool, true, false, not, ◌&&◌, List, [], ◌∷◌, ◌++◌, if◌then◌else◌}
 use Rattle.psm_grammar.specs.Language.{has, Test}
-use Rattle.psm_grammar.specs.Grammar.{Grammar, token, level, nothing, seq, or, ahead, many, image, Productions}
+use Rattle.psm_grammar.specs.Grammar.{Grammar, token, level, next, nothing, seq, or, ahead, many, image, Productions}
 use Rattle.psm_grammar.specs.Readers.{empty, first}
 
 -- none of these numbers is one of those
@@ -18,10 +18,11 @@ within (m ∷ ms) ns = if has m ns then within ms ns else false
 abbrev pub leads : {T N : Type 0} {kind : T → ℕ} {V : N → Type 0} {X : Type 0} → Grammar kind V X → List ℕ → List ℕ
 leads g follow = first g ++ (if empty g then follow else [])
 
--- the kinds of first tokens that open a level
+-- the kinds of first tokens that a nonterminal stands behind
 abbrev pub openers : {T N : Type 0} {kind : T → ℕ} {V : N → Type 0} {X : Type 0} → Grammar kind V X → List ℕ
 openers (token test) = []
 openers (level n test f) = test.kinds
+openers (next n test f) = test.kinds
 openers (nothing x) = []
 openers (seq f p q) = openers p ++ (if empty p then openers q else [])
 openers (or p q) = openers p ++ openers q
@@ -29,10 +30,11 @@ openers (ahead ones twos p q) = openers p ++ openers q
 openers (many p) = openers p
 openers (image f p) = openers p
 
--- the kinds of tokens that can stand second, behind a first one of these kinds that opens no level
+-- the kinds of tokens that can stand second, behind a first one of these kinds that no nonterminal stands behind
 abbrev pub seconds : {T N : Type 0} {kind : T → ℕ} {V : N → Type 0} {X : Type 0} → List ℕ → List ℕ → Grammar kind V X → List ℕ
 seconds ones follow (token test) = if apart ones test.kinds then [] else follow
 seconds ones follow (level n test f) = []
+seconds ones follow (next n test f) = []
 seconds ones follow (nothing x) = []
 seconds ones follow (seq f p q) = seconds ones (leads q follow) p ++ (if empty p then seconds ones follow q else [])
 seconds ones follow (or p q) = seconds ones follow p ++ seconds ones follow q
@@ -44,6 +46,7 @@ seconds ones follow (image f p) = seconds ones follow p
 abbrev pub is_long : {T N : Type 0} {kind : T → ℕ} {V : N → Type 0} {X : Type 0} → Grammar kind V X → Bool
 is_long (token test) = false
 is_long (level n test f) = false
+is_long (next n test f) = false
 is_long (nothing x) = false
 is_long (seq f p q) = if is_long p then true else if is_long q then true else (not (empty p) && not (empty q))
 is_long (or p q) = is_long p && is_long q
@@ -55,6 +58,7 @@ is_long (image f p) = is_long p
 abbrev pub is_one : {T N : Type 0} {kind : T → ℕ} {V : N → Type 0} {X : Type 0} → List ℕ → Grammar kind V X → Bool
 is_one ones (token test) = within ones test.kinds
 is_one ones (level n test f) = false
+is_one ones (next n test f) = false
 is_one ones (nothing x) = false
 is_one ones (seq f p q) = is_one ones p && empty q
 is_one ones (or p q) = if is_one ones p then true else is_one ones q
@@ -66,6 +70,7 @@ is_one ones (image f p) = is_one ones p
 abbrev pub opens_two : {T N : Type 0} {kind : T → ℕ} {V : N → Type 0} {X : Type 0} → List ℕ → List ℕ → Grammar kind V X → Bool
 opens_two ones twos (token test) = false
 opens_two ones twos (level n test f) = false
+opens_two ones twos (next n test f) = false
 opens_two ones twos (nothing x) = false
 opens_two ones twos (seq f p q) = if opens_two ones twos p then true else (is_one ones p && within twos (first q))
 opens_two ones twos (or p q) = if opens_two ones twos p then true else opens_two ones twos q
@@ -74,7 +79,7 @@ opens_two ones twos (many p) = opens_two ones twos p
 opens_two ones twos (image f p) = opens_two ones twos p
 
 -- The first two tokens decide between two parts: the words of p have them of these kinds, and of all these
--- kinds, and no word of q has; and none of them opens a level.
+-- kinds, and no word of q has; and no nonterminal stands behind the first of them.
 abbrev pub two_decide : {T N : Type 0} {kind : T → ℕ} {V : N → Type 0} {X : Type 0} → List ℕ → List ℕ → List ℕ → Grammar kind V X → Grammar kind V X → Bool
 two_decide ones twos follow p q = is_long p && (not (empty q) && (within (first p) ones && (opens_two ones twos p && (within ones (first q)
     && (apart ones (openers p) && (apart ones (openers q) && (within (seconds ones follow p) twos && apart twos (seconds ones follow q))))))))
@@ -83,6 +88,7 @@ two_decide ones twos follow p q = is_long p && (not (empty q) && (within (first 
 abbrev pub fits : {T N : Type 0} {kind : T → ℕ} {V : N → Type 0} {X : Type 0} → (N → List ℕ) → List ℕ → Grammar kind V X → Bool
 fits {kind} after follow (token test) = has (kind test.example) test.kinds
 fits {kind} after follow (level n test f) = has (kind test.example) test.kinds && within follow (after n)
+fits {kind} after follow (next n test f) = has (kind test.example) test.kinds && within follow (after n)
 fits after follow (nothing x) = true
 fits after follow (seq f p q) = fits after (leads q follow) p && fits after follow q
 fits after follow (or p q) = (not (empty p) && apart (first p) (leads q follow)) && (fits after follow p && fits after follow q)
@@ -94,6 +100,7 @@ fits after follow (image f p) = fits after follow p
 abbrev pub lives : {T N : Type 0} {kind : T → ℕ} {V : N → Type 0} {X : Type 0} → (N → Bool) → Grammar kind V X → Bool
 lives inner (token test) = true
 lives inner (level n test f) = inner n
+lives inner (next n test f) = inner n
 lives inner (nothing x) = true
 lives inner (seq f p q) = lives inner p && lives inner q
 lives inner (or p q) = if lives inner p then true else lives inner q

@@ -1,7 +1,7 @@
 -- Maps on tokens that a grammar does not notice, as one that forgets where each token stands.
 use Rattle.std.specs.Prelude.{◌≡◌, ℕ, true, List, [], ◌∷◌, map}
 use Rattle.psm_grammar.specs.Language.{Words, has, Test}
-use Rattle.psm_grammar.specs.Grammar.{Grammar, token, level, nothing, seq, or, ahead, many, image, Productions}
+use Rattle.psm_grammar.specs.Grammar.{Grammar, token, level, next, nothing, seq, or, ahead, many, image, Productions}
 
 -- a word of mapped tokens
 abbrev pub moved : {T : Type 0} → (T → T) → Words T → Words T
@@ -15,6 +15,7 @@ CarriesToken {T} kind e h test = (t : T) → has (kind t) test.kinds ≡ true �
 abbrev pub Carries : {T N : Type 0} {kind : T → ℕ} {V : N → Type 0} {X : Type 0} → (T → T) → ((n : N) → V n → V n) → (X → X) → Grammar kind V X → Type 0
 Carries {kind} e v h (token test) = CarriesToken kind e h test
 Carries {kind} {V} e v h (level {A} {Z} n test f) = (a : A → A) × CarriesToken kind e a test × ((x : A) (y : V n) → f (a x) (v n y) ≡ h (f x y))
+Carries {kind} {V} e v h (next {A} {Z} n test f) = (a : A → A) × CarriesToken kind e a test × ((x : A) (y : V n) → f (a x) (v n y) ≡ h (f x y))
 Carries e v h (nothing x) = x ≡ h x
 Carries e v h (seq {X} {Y} {Z} f p q) = (a : X → X) × (b : Y → Y) × Carries e v a p × Carries e v b q × ((x : X) (y : Y) → f (a x) (b y) ≡ h (f x y))
 Carries e v h (or p q) = Carries e v h p × Carries e v h q

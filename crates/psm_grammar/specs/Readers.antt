@@ -1,7 +1,7 @@
 -- Readers of tokens, and the reader of each part of a grammar.
 use Rattle.std.specs.Prelude.{ℕ, zero, suc, Bool, true, false, ◌&&◌, List, [], ◌∷◌, ◌++◌, length, Option, Some, None, Result, Ok, Err, if◌then◌else◌}
 use Rattle.psm_grammar.specs.Language.{has, Test}
-use Rattle.psm_grammar.specs.Grammar.{Grammar, token, level, nothing, seq, or, ahead, many, image, Productions}
+use Rattle.psm_grammar.specs.Grammar.{Grammar, token, level, next, nothing, seq, or, ahead, many, image, Productions}
 
 -- why a reader stops, and the tokens from there on
 pub data Stop (T : Type 0) : Type 0 where
@@ -74,10 +74,18 @@ opened kind test n f deeper (t ∷ ts) = if has (kind t) test.kinds
     then and_then (enter deeper n (t ∷ ts) ts) (λ y end. Ok (f (test.value t) y, end))
     else Err (Wrong (t ∷ ts))
 
+-- a token, and then a nonterminal at the same level
+abbrev pub followed : {T A Y Z : Type 0} → (T → ℕ) → Test T A → (A → Y → Z) → Reader T Y → Reader T Z
+followed kind test f same [] = Err (Wrong [])
+followed kind test f same (t ∷ ts) = if has (kind t) test.kinds
+    then and_then (same ts) (λ y end. Ok (f (test.value t) y, end))
+    else Err (Wrong (t ∷ ts))
+
 -- a part has a word of no token
 abbrev pub empty : {T N : Type 0} {kind : T → ℕ} {V : N → Type 0} {X : Type 0} → Grammar kind V X → Bool
 empty (token test) = false
 empty (level n test f) = false
+empty (next n test f) = false
 empty (nothing x) = true
 empty (seq f p q) = empty p && empty q
 empty (or p q) = if empty p then true else empty q
@@ -89,6 +97,7 @@ empty (image f p) = empty p
 abbrev pub first : {T N : Type 0} {kind : T → ℕ} {V : N → Type 0} {X : Type 0} → Grammar kind V X → List ℕ
 first (token test) = test.kinds
 first (level n test f) = test.kinds
+first (next n test f) = test.kinds
 first (nothing x) = []
 first (seq f p q) = first p ++ (if empty p then first q else [])
 first (or p q) = first p ++ first q
@@ -96,18 +105,28 @@ first (ahead ones twos p q) = first p ++ first q
 first (many p) = first p
 first (image f p) = first p
 
--- the reader of a part, with what is one level deeper
-abbrev pub read : {T N : Type 0} {kind : T → ℕ} {V : N → Type 0} {X : Type 0} → Deeper T V → Grammar kind V X → Reader T X
-read {kind} deeper (token test) ts = one kind test ts
-read {kind} deeper (level n test f) ts = opened kind test n f deeper ts
-read deeper (nothing x) ts = Ok (x, ts)
-read deeper (seq f p q) ts = both f (read deeper p) (read deeper q) ts
-read {kind} deeper (or p q) ts = pick kind (first p) (read deeper p) (read deeper q) ts
-read {kind} deeper (ahead ones twos p q) ts = pick_two kind ones twos (read deeper p) (read deeper q) ts
-read {kind} deeper (many p) ts = repeat kind (first p) (read deeper p) (length ts) ts
-read deeper (image f p) ts = made f (read deeper p) ts
+-- the reader of a part, with those of the nonterminals one level deeper, and of those at the same level
+abbrev pub read : {T N : Type 0} {kind : T → ℕ} {V : N → Type 0} {X : Type 0} → Deeper T V → ((n : N) → Reader T (V n)) → Grammar kind V X → Reader T X
+read {kind} deeper same (token test) ts = one kind test ts
+read {kind} deeper same (level n test f) ts = opened kind test n f deeper ts
+read {kind} deeper same (next n test f) ts = followed kind test f (same n) ts
+read deeper same (nothing x) ts = Ok (x, ts)
+read deeper same (seq f p q) ts = both f (read deeper same p) (read deeper same q) ts
+read {kind} deeper same (or p q) ts = pick kind (first p) (read deeper same p) (read deeper same q) ts
+read {kind} deeper same (ahead ones twos p q) ts = pick_two kind ones twos (read deeper same p) (read deeper same q) ts
+read {kind} deeper same (many p) ts = repeat kind (first p) (read deeper same p) (length ts) ts
+read deeper same (image f p) ts = made f (read deeper same p) ts
+
+-- the readers of the nonterminals at one level, which use less than m productions one behind another
+abbrev pub again : {T N : Type 0} {kind : T → ℕ} {V : N → Type 0} → Productions kind V → Deeper T V → ℕ → (n : N) → Reader T (V n)
+again prods deeper zero n ts = Err (Wrong ts)
+again prods deeper (suc m) n ts = read deeper (again prods deeper m) (prods n) ts
 
 -- the readers of the nonterminals, where n more levels may be opened
 abbrev pub deeper : {T N : Type 0} {kind : T → ℕ} {V : N → Type 0} → Productions kind V → ℕ → Deeper T V
 deeper prods zero = None
-deeper prods (suc n) = Some (λ k. read (deeper prods n) (prods k))
+deeper prods (suc n) = Some (λ k ts. again prods (deeper prods n) (suc (length ts)) k ts)
+
+-- the reader of a part, where n more levels may be opened
+abbrev pub reads : {T N : Type 0} {kind : T → ℕ} {V : N → Type 0} {X : Type 0} → Productions kind V → ℕ → Grammar kind V X → Reader T X
+reads prods n g ts = read (deeper prods n) (again prods (deeper prods n) (length ts)) g ts
