@@ -11,3 +11,4 @@ pub mod Answer
 pub mod Whole
 pub mod Moved
 pub mod Loops
+pub mod Answered

@@ -5,3 +5,6 @@ pub mod Exact
 pub mod Follow
 pub mod Places
 pub mod Loop
+pub mod Forms
+pub mod Plain
+pub mod Gives
