@@ -1,2 +1,3 @@
 pub mod MiniSame
 pub mod MiniExact
+pub mod BigFits

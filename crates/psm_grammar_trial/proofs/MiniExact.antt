@@ -2,16 +2,13 @@
 use Rattle.std.proofs.Common.{◌≡◌, ℕ, zero, suc, ◌+◌, ◌-◌, ◌≤◌, true, List, [], ◌∷◌, Ok, Err, refl, sym, ap, subst, ◌∙◌, length, arith}
 use Rattle.psm_grammar.specs.Language.{toks, Words}
 use Rattle.psm_grammar.specs.Grammar.{Spells}
-use Rattle.psm_grammar.specs.Readers.{Stop, Wrong, TooDeep, Out, read, deeper}
+use Rattle.psm_grammar.specs.Readers.{Stop, Wrong, TooDeep, Out, reads}
 use Rattle.psm_grammar.specs.Exact.{AtEnd, Holds, Good, Bad, Deep}
 use Rattle.psm_grammar.specs.Follow.{fits, IsReadable}
 use Rattle.psm_grammar.proofs.Whole.{reads_run}
 use Rattle.psm_grammar.proofs.Unique.{one_tree}
 use Rattle.psm_grammar_trial.specs.declared.Tok.{Tok}
-use Rattle.psm_grammar_trial.specs.declared.Fault.{Fault}
-use Rattle.psm_grammar_trial.specs.declared.Fault.TheVariants as fault
-use Rattle.psm_grammar_trial.specs.Answers.{Answers}
-use Rattle.psm_grammar_trial.specs.Mini.{Fails, sum, Inner, Parens, Arguments, Trimmed, V, productions}
+use Rattle.psm_grammar_trial.specs.Mini.{sum, Inner, Parens, Arguments, Trimmed, V, productions}
 use Rattle.psm_grammar_trial.specs.MiniReaders.{sum_read}
 use Rattle.psm_grammar_trial.proofs.MiniSame.{sum_same}
 
@@ -36,14 +33,3 @@ sum_exact levels depth limit e ts = subst (Holds (Spells productions depth sum) 
 
 pub sum_once : (depth : ℕ) (w v : Words Tok) (x y : ℕ) → Spells productions depth sum w x → Spells productions depth sum v y → toks w ≡ toks v → (w ≡ v) × (x ≡ y)
 sum_once depth = one_tree productions after 1 readable depth sum [] refl
-
--- the answer of the public call, from that of the reader
-pub answer_ok : (ts : List Tok) (depth x n : ℕ) (rest : List Tok) → depth ≤ 4 → sum_read (4 - depth) ts ≡ Ok (x, rest) → n + length rest ≡ length ts → Answers ts depth 4 (Ok (x, n))
-answer_ok ts depth x n rest low e count =
-    let exact = sum_exact (4 - depth) depth 4 (omega (arith, low)) ts in
-    (rest, subst (Holds (Spells productions depth sum) AtEnd 4 ts) e exact, count)
-
-pub answer_err : (ts : List Tok) (depth : ℕ) (f : Fault) → depth ≤ 4 → Fails f (sum_read (4 - depth) ts) → Answers ts depth 4 (Err f)
-answer_err ts depth (fault.Syntax n) low h = (h.0, subst (Holds (Spells productions depth sum) AtEnd 4 ts) h.1 (sum_exact (4 - depth) depth 4 (omega (arith, low)) ts), h.2)
-answer_err ts depth (fault.Deep n) low h = (h.0, subst (Holds (Spells productions depth sum) AtEnd 4 ts) h.1 (sum_exact (4 - depth) depth 4 (omega (arith, low)) ts), h.2)
-answer_err ts depth fault.Memory low h = tt

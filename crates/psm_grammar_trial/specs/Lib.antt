@@ -1,3 +1,3 @@
 pub mod Mini
 pub mod MiniReaders
-pub mod Answers
+pub mod Big

@@ -4,11 +4,8 @@
 use Rattle.std.specs.Prelude.{◌≡◌, ℕ, zero, suc, ◌+◌, max, List, [], ◌∷◌, length, Option, Some, None, Result, Ok, Err}
 use Rattle.psm_grammar.specs.Language.{Test}
 use Rattle.psm_grammar.specs.Grammar.{Grammar, token, level, nothing, seq, or, ahead, many, image, Productions}
-use Rattle.psm_grammar.specs.Readers.{Stop, Wrong, TooDeep, Out}
 use Rattle.psm_grammar_trial.specs.declared.Tok.{Tok}
 use Rattle.psm_grammar_trial.specs.declared.Tok.TheVariants as tok
-use Rattle.psm_grammar_trial.specs.declared.Fault.{Fault}
-use Rattle.psm_grammar_trial.specs.declared.Fault.TheVariants as fault
 
 abbrev pub kind : Tok → ℕ
 kind (tok.Num n) = 0
@@ -107,14 +104,3 @@ abbrev pub productions : Productions kind V
 productions Parens = in_parens
 productions Arguments = arguments
 productions Trimmed = trimmed
-
--- a fault tells where the reader stops
-abbrev pub Fails : {Y : Type 0} → Fault → Out Tok Y → Type 0
-Fails (fault.Syntax n) o = (rest : List Tok) × (o ≡ Err (Wrong rest)) × (n ≡ length rest)
-Fails (fault.Deep n) o = (rest : List Tok) × (o ≡ Err (TooDeep rest)) × (n ≡ length rest)
-Fails fault.Memory o = Unit {0}
-
--- a function gives what the reader gives, unless memory runs out
-abbrev pub Gives : {X Y : Type 0} → (X → Y × List Tok) → Result X Fault → Out Tok Y → Type 0
-Gives view (Ok x) o = o ≡ Ok (view x)
-Gives view (Err e) o = Fails e o

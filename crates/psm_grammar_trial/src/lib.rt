@@ -2,16 +2,17 @@
 #![tactic(auto)]
 
 ghost use Rattle.std.specs.Prelude.{ℕ, ◌≡◌, [], ◌∷◌, ◌<◌, ◌≤◌, length, max, IfOk};
-ghost use Rattle.psm_grammar_trial.specs.Mini.{sum, productions, kind, Gives, top, Parens, Arguments, Trimmed, closing as close_test};
+ghost use Rattle.psm_grammar_trial.specs.Mini.{sum, productions, kind, top, Parens, Arguments, Trimmed, closing as close_test};
 ghost use Rattle.psm_grammar_trial.specs.MiniReaders.{enters, call_read, part_read, next_part_read, more_read, sum_read, in_parens_read, arguments_read, trim_rest_read, trimmed_read};
 ghost use Rattle.psm_grammar.specs.Readers.{starts, one};
 
 ghost use Rattle.psm_grammar.specs.Language.{Words, toks};
 ghost use Rattle.psm_grammar.specs.Grammar.{Spells};
-ghost use Rattle.psm_grammar_trial.specs.Answers.{Answers};
+ghost use Rattle.psm_grammar.specs.Gives.{Gives, Answers};
 ghost use Rattle.psm_grammar_trial.specs.declared.Tok.{Tok as TheTok};
 
-use std::alloc::{AllocError, AllocFailed, Global};
+use psm_grammar::Halt;
+use std::alloc::Global;
 
 /// A token.
 #[derive(Clone, Copy)]
@@ -28,10 +29,9 @@ pub enum Tok {
 }
 
 /// The value of the sum that the tokens begin, read with `depth` levels open, and the number of its tokens.
-#[tactic(auto, using(crate::proofs::MiniExact::answer_ok, crate::proofs::MiniExact::answer_err))]
-pub fn parse_sum(alloc: Global, tokens: &[Tok], depth: u32) -> Result<(u32, usize), Fault>
+pub fn parse_sum(alloc: Global, tokens: &[Tok], depth: u32) -> Result<(u32, usize), Halt>
     requires { depth ≤ 4 }
-    ensures { Answers tokens.now depth 4 result }
+    ensures { Answers (Spells productions depth sum) 4 tokens.now (λ n. n) result }
 {
     let (sum, rest) = sum_of(alloc, tokens, 4 - depth)?;
     Ok((sum, tokens.len() - rest.len()))
@@ -42,51 +42,21 @@ pub fn one_sum()
     ensures once { (depth x y : ℕ) (w v : Words TheTok) → Spells productions depth sum w x → Spells productions depth sum v y → toks w ≡ toks v → (w ≡ v) × (x ≡ y) }
 {}
 
-/// Why there is no value, with the number of tokens that are left.
-#[derive(Clone, Copy)]
-pub enum Fault {
-    Syntax(usize),
-    Deep(usize),
-    Memory,
-}
-
-impl From<AllocError> for Fault {
-    ghost use Rattle.std.specs.Prelude.{◌≡◌};
-    ghost use Rattle.psm_grammar_trial.specs.declared.Fault.TheVariants.{Memory};
-
-    ghost from_gives = { λ _ e. e ≡ Memory };
-
-    fn from(_error: AllocError) -> Fault {
-        Fault::Memory
-    }
-}
-
-impl<T: Drop> From<AllocFailed<T>> for Fault {
-    ghost use Rattle.std.specs.Prelude.{◌≡◌};
-    ghost use Rattle.psm_grammar_trial.specs.declared.Fault.TheVariants.{Memory};
-
-    ghost from_gives = { λ _ e. e ≡ Memory };
-
-    fn from(_error: AllocFailed<T>) -> Fault {
-        Fault::Memory
-    }
-}
-
 /// A closing parenthesis.
-fn closing(tokens: &[Tok]) -> Result<&[Tok], Fault>
+fn closing(tokens: &[Tok]) -> Result<&[Tok], Halt>
     ensures takes { IfOk result (λ x. length x.now < length tokens.now) }
     ensures exact { Gives (λ x. (tt, x.now)) result (one kind close_test tokens.now) }
 {
     match tokens {
         [Tok::Close, rest @ ..] => Ok(rest),
-        _ => Err(Fault::Syntax(tokens.len())),
+        _ => Err(Halt::Syntax(tokens.len())),
     }
 }
 
 /// part = num | name ["(" [sum {"," sum}] ")"] | "(" sum ")" | TRIM "(" [LEADING FROM] sum ")"
 #[cycle(parser)]
 #[tactic(auto, unfolding(crate::specs::MiniReaders::part_read))]
-fn part_of(alloc: Global, tokens: &[Tok], levels: u32) -> Result<(u32, &[Tok]), Fault>
+fn part_of(alloc: Global, tokens: &[Tok], levels: u32) -> Result<(u32, &[Tok]), Halt>
     ensures exact { Gives (λ x. (x.0, x.1.now)) result (part_read levels tokens.now) }
     ensures takes { IfOk result (λ x. length x.1.now < length tokens.now) }
 {
@@ -102,14 +72,14 @@ fn part_of(alloc: Global, tokens: &[Tok], levels: u32) -> Result<(u32, &[Tok]), 
         }
         [Tok::Open, rest @ ..] => enter_parens(alloc, tokens, rest, levels),
         [Tok::Trim, rest @ ..] => enter_trimmed(alloc, tokens, rest, levels),
-        _ => Err(Fault::Syntax(tokens.len())),
+        _ => Err(Halt::Syntax(tokens.len())),
     }
 }
 
 /// What may stand behind a name.
 #[cycle(parser)]
 #[tactic(auto, unfolding(crate::specs::MiniReaders::call_read))]
-fn call(alloc: Global, tokens: &[Tok], levels: u32) -> Result<(u32, &[Tok]), Fault>
+fn call(alloc: Global, tokens: &[Tok], levels: u32) -> Result<(u32, &[Tok]), Halt>
     ensures exact { Gives (λ x. (x.0, x.1.now)) result (call_read levels tokens.now) }
     ensures takes { IfOk result (λ x. length x.1.now ≤ length tokens.now) }
 {
@@ -121,36 +91,36 @@ fn call(alloc: Global, tokens: &[Tok], levels: u32) -> Result<(u32, &[Tok]), Fau
 
 #[cycle(parser)]
 #[tactic(auto, using(crate::proofs::MiniSame::inner_some))]
-fn enter_parens<'a>(alloc: Global, tokens: &[Tok], rest: &'a [Tok], levels: u32) -> Result<(u32, &'a [Tok]), Fault>
+fn enter_parens<'a>(alloc: Global, tokens: &[Tok], rest: &'a [Tok], levels: u32) -> Result<(u32, &'a [Tok]), Halt>
     ensures exact { Gives (λ x. (x.0, x.1.now)) result (enters levels Parens tokens.now rest.now) }
     ensures takes { IfOk result (λ x. length x.1.now < length rest.now) }
 {
     if levels == 0 {
-        return Err(Fault::Deep(tokens.len()));
+        return Err(Halt::Deep(tokens.len()));
     }
     parens(alloc, rest, levels - 1)
 }
 
 #[cycle(parser)]
 #[tactic(auto, using(crate::proofs::MiniSame::inner_some))]
-fn enter_arguments<'a>(alloc: Global, tokens: &[Tok], rest: &'a [Tok], levels: u32) -> Result<(u32, &'a [Tok]), Fault>
+fn enter_arguments<'a>(alloc: Global, tokens: &[Tok], rest: &'a [Tok], levels: u32) -> Result<(u32, &'a [Tok]), Halt>
     ensures exact { Gives (λ x. (x.0, x.1.now)) result (enters levels Arguments tokens.now rest.now) }
     ensures takes { IfOk result (λ x. length x.1.now < length rest.now) }
 {
     if levels == 0 {
-        return Err(Fault::Deep(tokens.len()));
+        return Err(Halt::Deep(tokens.len()));
     }
     arguments_of(alloc, rest, levels - 1)
 }
 
 #[cycle(parser)]
 #[tactic(auto, using(crate::proofs::MiniSame::inner_some))]
-fn enter_trimmed<'a>(alloc: Global, tokens: &[Tok], rest: &'a [Tok], levels: u32) -> Result<(u32, &'a [Tok]), Fault>
+fn enter_trimmed<'a>(alloc: Global, tokens: &[Tok], rest: &'a [Tok], levels: u32) -> Result<(u32, &'a [Tok]), Halt>
     ensures exact { Gives (λ x. (x.0, x.1.now)) result (enters levels Trimmed tokens.now rest.now) }
     ensures takes { IfOk result (λ x. length x.1.now < length rest.now) }
 {
     if levels == 0 {
-        return Err(Fault::Deep(tokens.len()));
+        return Err(Halt::Deep(tokens.len()));
     }
     trimmed_of(alloc, rest, levels - 1)
 }
@@ -158,7 +128,7 @@ fn enter_trimmed<'a>(alloc: Global, tokens: &[Tok], rest: &'a [Tok], levels: u32
 /// In parentheses.
 #[cycle(parser)]
 #[tactic(auto, unfolding(crate::specs::MiniReaders::in_parens_read))]
-fn parens(alloc: Global, tokens: &[Tok], levels: u32) -> Result<(u32, &[Tok]), Fault>
+fn parens(alloc: Global, tokens: &[Tok], levels: u32) -> Result<(u32, &[Tok]), Halt>
     ensures exact { Gives (λ x. (x.0, x.1.now)) result (in_parens_read levels tokens.now) }
     ensures takes { IfOk result (λ x. length x.1.now < length tokens.now) }
 {
@@ -170,7 +140,7 @@ fn parens(alloc: Global, tokens: &[Tok], levels: u32) -> Result<(u32, &[Tok]), F
 /// The arguments of a call.
 #[cycle(parser)]
 #[tactic(auto, unfolding(crate::specs::MiniReaders::arguments_read))]
-fn arguments_of(alloc: Global, tokens: &[Tok], levels: u32) -> Result<(u32, &[Tok]), Fault>
+fn arguments_of(alloc: Global, tokens: &[Tok], levels: u32) -> Result<(u32, &[Tok]), Halt>
     ensures exact { Gives (λ x. (x.0, x.1.now)) result (arguments_read levels tokens.now) }
     ensures takes { IfOk result (λ x. length x.1.now < length tokens.now) }
 {
@@ -183,7 +153,7 @@ fn arguments_of(alloc: Global, tokens: &[Tok], levels: u32) -> Result<(u32, &[To
 /// Behind TRIM.
 #[cycle(parser)]
 #[tactic(auto, unfolding(crate::specs::MiniReaders::trimmed_read))]
-fn trimmed_of(alloc: Global, tokens: &[Tok], levels: u32) -> Result<(u32, &[Tok]), Fault>
+fn trimmed_of(alloc: Global, tokens: &[Tok], levels: u32) -> Result<(u32, &[Tok]), Halt>
     ensures exact { Gives (λ x. (x.0, x.1.now)) result (trimmed_read levels tokens.now) }
     ensures takes { IfOk result (λ x. length x.1.now < length tokens.now) }
 {
@@ -192,14 +162,14 @@ fn trimmed_of(alloc: Global, tokens: &[Tok], levels: u32) -> Result<(u32, &[Tok]
             let (n, rest) = trim_rest_of(alloc, rest, levels)?;
             Ok((n, rest))
         }
-        _ => Err(Fault::Syntax(tokens.len())),
+        _ => Err(Halt::Syntax(tokens.len())),
     }
 }
 
 /// [LEADING FROM] sum ")"
 #[cycle(parser)]
 #[tactic(auto, unfolding(crate::specs::MiniReaders::trim_rest_read))]
-fn trim_rest_of(alloc: Global, tokens: &[Tok], levels: u32) -> Result<(u32, &[Tok]), Fault>
+fn trim_rest_of(alloc: Global, tokens: &[Tok], levels: u32) -> Result<(u32, &[Tok]), Halt>
     ensures exact { Gives (λ x. (x.0, x.1.now)) result (trim_rest_read levels tokens.now) }
     ensures takes { IfOk result (λ x. length x.1.now < length tokens.now) }
 {
@@ -215,7 +185,7 @@ fn trim_rest_of(alloc: Global, tokens: &[Tok], levels: u32) -> Result<(u32, &[To
 /// sum = part {"+" part}
 #[cycle(parser)]
 #[tactic(auto, unfolding(crate::specs::MiniReaders::sum_read))]
-fn sum_of(alloc: Global, tokens: &[Tok], levels: u32) -> Result<(u32, &[Tok]), Fault>
+fn sum_of(alloc: Global, tokens: &[Tok], levels: u32) -> Result<(u32, &[Tok]), Halt>
     ensures exact { Gives (λ x. (x.0, x.1.now)) result (sum_read levels tokens.now) }
     ensures takes { IfOk result (λ x. length x.1.now < length tokens.now) }
 {
@@ -236,7 +206,7 @@ fn greatest(first: u32, others: &[u32]) -> u32
 /// {"+" part}
 #[cycle(parser)]
 #[tactic(auto, unfolding(crate::specs::MiniReaders::more_read))]
-fn more(alloc: Global, tokens: &[Tok], levels: u32) -> Result<(Vec<u32>, &[Tok]), Fault>
+fn more(alloc: Global, tokens: &[Tok], levels: u32) -> Result<(Vec<u32>, &[Tok]), Halt>
     ensures exact { Gives (λ x. (x.0.items, x.1.now)) result (more_read levels tokens.now) }
     ensures takes { IfOk result (λ x. length x.1.now ≤ length tokens.now) }
 {
@@ -260,12 +230,12 @@ fn is_plus(tokens: &[Tok]) -> bool
 /// "+" part
 #[cycle(parser)]
 #[tactic(auto, unfolding(crate::specs::MiniReaders::next_part_read))]
-fn next_part_of(alloc: Global, tokens: &[Tok], levels: u32) -> Result<(u32, &[Tok]), Fault>
+fn next_part_of(alloc: Global, tokens: &[Tok], levels: u32) -> Result<(u32, &[Tok]), Halt>
     ensures exact { Gives (λ x. (x.0, x.1.now)) result (next_part_read levels tokens.now) }
     ensures takes { IfOk result (λ x. length x.1.now < length tokens.now) }
 {
     match tokens {
         [Tok::Plus, rest @ ..] => part_of(alloc, rest, levels),
-        _ => Err(Fault::Syntax(tokens.len())),
+        _ => Err(Halt::Syntax(tokens.len())),
     }
 }
