@@ -5,18 +5,18 @@ use Rattle.psm_grammar.specs.Language.{Words, toks, Lang, has, Test, Token, Noth
 use Rattle.psm_grammar.specs.Grammar.{Grammar, token, level, next, nothing, seq, or, ahead, many, image, lang}
 use Rattle.psm_grammar.specs.Readers.{Stop, Wrong, TooDeep, Out, Reader, and_then, starts, starts_two, one, repeat, Deeper, enter, opened, followed, empty, first, read}
 use Rattle.psm_grammar.specs.Exact.{head, Low, Next}
-use Rattle.psm_grammar.specs.Follow.{apart, within, leads, openers, seconds, is_long, is_one, opens_two, two_decide, fits}
+use Rattle.psm_grammar.specs.Follow.{apart, within, may_follow, leads, openers, seconds, is_long, is_one, opens_two, two_decide, fits}
 use Rattle.psm_grammar.proofs.Alike.{Alike, guarded, some_same}
 use Rattle.psm_grammar.proofs.KindLists.{and_true, both_true, not_true, true_false, decide, has_left, has_right, if_true, if_false, apart_none, within_has, next_more}
 use Rattle.psm_grammar.proofs.Firsts.{blank, none, begins, led, plain, second, many_behind}
 use Rattle.psm_grammar.proofs.Some.{Word, Begun, BegunTwo, some, begun, begun_two, not_blank, long}
-use Rattle.psm_grammar.proofs.Runs.{Run, Done, Opens, Whatever, Never, Reads, reads_in, reads_begun, reads_before, reads_image, reads_seq}
+use Rattle.psm_grammar.proofs.Runs.{Run, Done, Opens, Whatever, Never, Reads, reads_in, reads_begun, reads_image, reads_seq}
 use Rattle.psm_grammar.proofs.Parts.{reads_token, reads_opened, reads_deep, reads_followed, reads_nothing, reads_many}
 
 -- the readers of the nonterminals are exact one level deeper, or no level is left
-abbrev pub DeeperReads : {T N : Type 0} {V : N → Type 0} → (T → ℕ) → ((n : N) → Lang T (V n)) → (N → List ℕ) → ℕ → ℕ → Deeper T V → Type 0
+abbrev pub DeeperReads : {T N : Type 0} {V : N → Type 0} → (T → ℕ) → ((n : N) → Lang T (V n)) → (N → Option (List ℕ)) → ℕ → ℕ → Deeper T V → Type 0
 DeeperReads kind inner after limit d None = d ≡ limit
-DeeperReads {T} kind inner after limit d (Some readers) = (suc d ≤ limit) × ((n : _) (ts : List T) → Reads (inner n) (Next kind (after n)) limit ts (readers n ts))
+DeeperReads {T} kind inner after limit d (Some readers) = (suc d ≤ limit) × ((n : _) (follow : List ℕ) → may_follow follow (after n) ≡ true → (ts : List T) → Reads (inner n) (Next kind follow) limit ts (readers n ts))
 
 -- ---- a choice by two tokens
 
@@ -102,29 +102,20 @@ starts_within : {T : Type 0} (kind : T → ℕ) (ms ns : List ℕ) (k : List T) 
 starts_within kind ms ns [] h n = refl
 starts_within kind ms ns (t ∷ k) h n = h (kind t) n
 
-reads_level : {T N A Z : Type 0} {V : N → Type 0} (kind : T → ℕ) (inner : (n : N) → Lang T (V n)) (d : ℕ) (after : N → List ℕ) (words : (n : N) → Word (inner n)) (limit : ℕ)
-    (n : N) (test : Test T A) (f : A → V n → Z) (follow : List ℕ) (known : has (kind test.example) test.kinds ≡ true) (fit : within follow (after n) ≡ true)
+reads_level : {T N A Z : Type 0} {V : N → Type 0} (kind : T → ℕ) (inner : (n : N) → Lang T (V n)) (d : ℕ) (after : N → Option (List ℕ)) (words : (n : N) → Word (inner n)) (limit : ℕ)
+    (n : N) (test : Test T A) (f : A → V n → Z) (follow : List ℕ) (known : has (kind test.example) test.kinds ≡ true) (fit : may_follow follow (after n) ≡ true)
     (deeper : Deeper T V) → DeeperReads kind inner after limit d deeper → (ts : List T)
     → Reads (Seq f (Token kind test (suc d)) (inner n)) (Next kind follow) limit ts (opened kind test n f deeper ts)
 reads_level {V} kind inner d after words limit n test f follow known fit None top ts = reads_deep V kind test n f (inner n) (words n) d (Next kind follow) limit known ts top
 reads_level kind inner d after words limit n test f follow known fit (Some readers) h ts =
-    reads_opened kind test n f (inner n) (words n) d (Next kind follow) limit known readers ts h.0
-    (λ rest. reads_before (inner n) (Next kind (after n)) limit (Next kind follow) rest (readers n rest) (h.1 n rest) (λ k. next_more kind follow (after n) k (λ m. within_has m follow (after n) fit)))
-
-reads_next : {T A Y Z : Type 0} (kind : T → ℕ) (same : Lang T Y) (word : Word same) (d limit : ℕ) (low : d ≤ limit) (ends : List ℕ) (q : Reader T Y) (most : ℕ)
-    → ((ts : List T) → length ts < most → Reads same (Next kind ends) limit ts (q ts))
-    → (test : Test T A) (f : A → Y → Z) (follow : List ℕ) → has (kind test.example) test.kinds ≡ true → within follow ends ≡ true → (ts : List T) → length ts ≤ most
-    → Reads (Seq f (Token kind test d) same) (Next kind follow) limit ts (followed kind test f q ts)
-reads_next kind same word d limit low ends q most exact test f follow known fit ts short = reads_followed kind test f same word d (Next kind follow) limit known q ts low
-    (λ rest less. reads_before same (Next kind ends) limit (Next kind follow) rest (q rest) (exact rest (omega (arith, less, short)))
-        (λ k. next_more kind follow ends k (λ m. within_has m follow ends fit)))
+    reads_opened kind test n f (inner n) (words n) d (Next kind follow) limit known readers ts h.0 (h.1 n follow fit)
 
 rest_short : {T : Type 0} (most : ℕ) (ts : List T) (u : Words T) (rest : List T) → length ts ≤ most → ts ≡ toks u ++ rest → length rest ≤ most
 rest_short most ts u rest h e = omega (arith, h, ap length e, length-append (toks u) rest)
 
-module _ {T N : Type 0} {kind : T → ℕ} {V : N → Type 0} (inner same : (n : N) → Lang T (V n)) (d : ℕ) (after : N → List ℕ) (words : (n : N) → Word (inner n)) (others : (n : N) → Word (same n))
+module _ {T N : Type 0} {kind : T → ℕ} {V : N → Type 0} (inner same : (n : N) → Lang T (V n)) (d : ℕ) (after : N → Option (List ℕ)) (words : (n : N) → Word (inner n)) (others : (n : N) → Word (same n))
     (limit : ℕ) (low : d ≤ limit) (deeper : Deeper T V) (deep : DeeperReads kind inner after limit d deeper)
-    (readers : (n : N) → Reader T (V n)) (most : ℕ) (sames : (n : N) (ts : List T) → length ts < most → Reads (same n) (Next kind (after n)) limit ts (readers n ts)) where
+    (readers : (n : N) → Reader T (V n)) (most : ℕ) (sames : (n : N) (follow : List ℕ) → may_follow follow (after n) ≡ true → (ts : List T) → length ts < most → Reads (same n) (Next kind follow) limit ts (readers n ts)) where
 
   -- the words of a part that has no word of no token start with its kinds
   starts_first : {X : Type 0} (g : Grammar kind V X) → empty g ≡ false → (w : Words T) (x : X) (k : List T) → lang inner same d g w x → starts kind (first g) (toks w ++ k) ≡ true
@@ -235,11 +226,11 @@ module _ {T N : Type 0} {kind : T → ℕ} {V : N → Type 0} (inner same : (n :
   pub exact : {X : Type 0} (g : Grammar kind V X) (follow : List ℕ) → fits after follow g ≡ true → (ts : List T) → length ts ≤ most → Reads (lang inner same d g) (Next kind follow) limit ts (read deeper readers g ts)
   exact (token test) follow h ts short = reads_token kind test d (Next kind follow) limit h ts low
   exact (level n test f) follow h ts short =
-      let parts = and_true (has (kind test.example) test.kinds) (within follow (after n)) h in
+      let parts = and_true (has (kind test.example) test.kinds) (may_follow follow (after n)) h in
       reads_level kind inner d after words limit n test f follow parts.0 parts.1 deeper deep ts
   exact (next n test f) follow h ts short =
-      let parts = and_true (has (kind test.example) test.kinds) (within follow (after n)) h in
-      reads_next kind (same n) (others n) d limit low (after n) (readers n) most (sames n) test f follow parts.0 parts.1 ts short
+      let parts = and_true (has (kind test.example) test.kinds) (may_follow follow (after n)) h in
+      reads_followed kind test f (same n) (others n) d (Next kind follow) limit parts.0 (readers n) ts low (λ rest less. sames n follow parts.1 rest (omega (arith, less, short)))
   exact (nothing x) follow h ts short = reads_nothing x (Next kind follow) limit ts
   exact (seq f p q) follow h ts short =
       let parts = and_true (fits after (leads q follow) p) (fits after follow q) h in

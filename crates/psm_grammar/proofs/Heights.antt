@@ -1,8 +1,8 @@
 -- The language of a grammar, with no limit on nesting, is what one more production makes of itself.
-use Rattle.std.proofs.Common.{◌≡◌, ◌⊎◌, inl, inr, ℕ, zero, suc, ◌+◌, ◌≤◌, ◌<◌, Bool, true, false, not, ◌&&◌, cond, List, [], ◌∷◌, ◌++◌, map, length, refl, sym, ap, subst, ◌∙◌, append_assoc, arith}
+use Rattle.std.proofs.Common.{◌≡◌, ◌⊎◌, inl, inr, ℕ, zero, suc, ◌+◌, ◌≤◌, ◌<◌, Bool, true, false, not, ◌&&◌, cond, List, [], ◌∷◌, ◌++◌, map, length, refl, sym, ap, subst, ◌∙◌, append_assoc, arith, Option, Some, None}
 use Rattle.psm_grammar.specs.Language.{Words, toks, Lang, has, Test, Token, Nothing, Seq, Many, Image, Any}
 use Rattle.psm_grammar.specs.Grammar.{Grammar, token, level, next, nothing, seq, or, ahead, many, image, lang, Productions, nested, words, Spells}
-use Rattle.psm_grammar.specs.Follow.{fits, lives, lives_in, IsReadable}
+use Rattle.psm_grammar.specs.Follow.{Fits, may_follow, fits, lives, lives_in, IsReadable}
 use Rattle.psm_grammar.proofs.KindLists.{and_true, one_of}
 use Rattle.psm_grammar.proofs.Some.{Word, some}
 
@@ -85,7 +85,7 @@ module _ {T N : Type 0} {kind : T → ℕ} {V : N → Type 0} (prods : Productio
 
 -- ---- each nonterminal has a word
 
-module _ {T N : Type 0} {kind : T → ℕ} {V : N → Type 0} (inner same : (n : N) → Lang T (V n)) (d : ℕ) (after : N → List ℕ) (live : N → Bool)
+module _ {T N : Type 0} {kind : T → ℕ} {V : N → Type 0} (inner same : (n : N) → Lang T (V n)) (d : ℕ) (after : N → Option (List ℕ)) (live : N → Bool)
     (words : (n : N) → live n ≡ true → Word (inner n)) (others : (n : N) → live n ≡ true → Word (same n)) where
   pub lives_so : {X : Type 0} (g : Grammar kind V X) (follow : List ℕ) → fits after follow g ≡ true → lives live g ≡ true → Word (lang inner same d g)
   lives_so (token test) follow h k = ((test.example, d) ∷ [], test.value test.example, record { at = test.example; whole = refl; known = h; made = refl })
@@ -115,10 +115,21 @@ module _ {T N : Type 0} {kind : T → ℕ} {V : N → Type 0} (inner same : (n :
   lives_so (many p) follow h k = ([], [], refl)
   lives_so (image f p) follow h k = let a = lives_so p follow h k in (a.0, f a.1, record { one = a.1; left = a.2; made = refl })
 
-module _ {T N : Type 0} {kind : T → ℕ} {V : N → Type 0} (prods : Productions kind V) (after : N → List ℕ) (fit : (n : N) → fits after (after n) (prods n) ≡ true) where
+-- what may follow a production
+pub ends : Option (List ℕ) → List ℕ
+ends None = []
+ends (Some kinds) = kinds
+
+pub fits_at : {T N : Type 0} {kind : T → ℕ} {V : N → Type 0} {X : Type 0} (after : N → Option (List ℕ)) (o : Option (List ℕ)) (g : Grammar kind V X) → Fits after o g → fits after (ends o) g ≡ true
+unfolding ends
+fits_at after None g h = h []
+fits_at after (Some kinds) g h = h
+
+module _ {T N : Type 0} {kind : T → ℕ} {V : N → Type 0} (prods : Productions kind V) (after : N → Option (List ℕ)) (fit : (n : N) → Fits after (after n) (prods n)) where
   nested_some : (h d : ℕ) (n : N) → lives_in prods h n ≡ true → Word (nested prods h d n)
   nested_some zero d n k = absurd cc
-  nested_some (suc h) d n k = lives_so (nested prods h (suc d)) (nested prods h d) d after (lives_in prods h) (nested_some h (suc d)) (nested_some h d) (prods n) (after n) (fit n) k
+  nested_some (suc h) d n k = lives_so (nested prods h (suc d)) (nested prods h d) d after (lives_in prods h) (nested_some h (suc d)) (nested_some h d) (prods n)
+      (ends (after n)) (fits_at after (after n) (prods n) (fit n)) k
 
   pub words_some : (height : ℕ) → ((n : N) → lives_in prods height n ≡ true) → (d : ℕ) (n : N) → Word (words prods d n)
   words_some height alive d n = let a = nested_some height d n (alive n) in (a.0, a.1, record { height = height; word = a.2 })

@@ -1,5 +1,5 @@
 -- Mapped tokens spell mapped values, so that places apart tokens spell one value.
-use Rattle.std.proofs.Common.{◌≡◌, ◌⊎◌, inl, inr, ℕ, zero, suc, true, List, [], ◌∷◌, ◌++◌, map, refl, sym, ap, subst, ◌∙◌}
+use Rattle.std.proofs.Common.{◌≡◌, ◌⊎◌, inl, inr, ℕ, zero, suc, true, List, [], ◌∷◌, ◌++◌, map, refl, sym, ap, subst, ◌∙◌, Option, Some, None}
 use Rattle.std.proofs.lemmas.List.{map-append}
 use Rattle.psm_grammar.specs.Language.{Words, toks, Lang, has, Test, Token, Nothing, Seq, Many, Image}
 use Rattle.psm_grammar.specs.Grammar.{Grammar, token, level, next, nothing, seq, or, ahead, many, image, lang, Productions, nested, words, Spells}
@@ -56,7 +56,7 @@ module _ {T N : Type 0} {kind : T → ℕ} {V : N → Type 0} (prods : Productio
       (λ n u y m. record { height = m.height; word = nested_moved m.height d n u y m.word }) g h c w x l
 
   -- tokens that are the same when mapped spell values that are the same when mapped
-  pub one_apart : (after : N → List ℕ) (height : ℕ) → IsReadable prods after height → (d : ℕ) {X : Type 0} (g : Grammar kind V X) (follow : List ℕ) → fits after follow g ≡ true
+  pub one_apart : (after : N → Option (List ℕ)) (height : ℕ) → IsReadable prods after height → (d : ℕ) {X : Type 0} (g : Grammar kind V X) (follow : List ℕ) → fits after follow g ≡ true
       → (h : X → X) → Carries e v h g → (w u : Words T) (x y : X) → Spells prods d g w x → Spells prods d g u y → map e (toks w) ≡ map e (toks u) → h x ≡ h y
   one_apart after height readable d g follow fit h c w u x y l k same =
       (one_tree prods after height readable d g follow fit (moved e w) (moved e u) (h x) (h y) (spells_moved d g h c w x l) (spells_moved d g h c u y k)

@@ -1,10 +1,10 @@
 -- Each part has words: some word, and one for each kind of first token.
-use Rattle.std.proofs.Common.{◌≡◌, ◌⊎◌, inl, inr, ℕ, zero, suc, ◌+◌, ◌≤◌, ◌<◌, Bool, true, false, not, ◌&&◌, cond, List, [], ◌∷◌, ◌++◌, map, length, refl, sym, ap, subst, ◌∙◌, append_assoc, arith}
+use Rattle.std.proofs.Common.{◌≡◌, ◌⊎◌, inl, inr, ℕ, zero, suc, ◌+◌, ◌≤◌, ◌<◌, Bool, true, false, not, ◌&&◌, cond, List, [], ◌∷◌, ◌++◌, map, length, refl, sym, ap, subst, ◌∙◌, append_assoc, arith, Option, Some, None}
 use Rattle.std.proofs.lemmas.List.{append-nil, length-append}
 use Rattle.psm_grammar.specs.Language.{Words, toks, Lang, has, Test, Token, Nothing, Seq, Many, Image}
 use Rattle.psm_grammar.specs.Grammar.{Grammar, token, level, next, nothing, seq, or, ahead, many, image, lang}
 use Rattle.psm_grammar.specs.Readers.{empty, first}
-use Rattle.psm_grammar.specs.Follow.{apart, within, leads, openers, seconds, is_long, is_one, opens_two, two_decide, fits, lives}
+use Rattle.psm_grammar.specs.Follow.{apart, within, may_follow, leads, openers, seconds, is_long, is_one, opens_two, two_decide, fits, lives}
 use Rattle.psm_grammar.proofs.KindLists.{and_true, not_true, true_false, decide, if_true, if_false, one_of, has_either, within_has}
 use Rattle.psm_grammar.proofs.Firsts.{blank, none}
 
@@ -23,17 +23,17 @@ BegunTwo {T} {X} t u L = (l m : ℕ) × (w : Words T) × (x : X) × L ((t, l) �
 nothing_on : (m : ℕ) → has m [] ≡ true → ⊥
 nothing_on m h = cc
 
-module _ {T N : Type 0} {kind : T → ℕ} {V : N → Type 0} (inner same : (n : N) → Lang T (V n)) (d : ℕ) (after : N → List ℕ) (words : (n : N) → Word (inner n)) (others : (n : N) → Word (same n)) where
+module _ {T N : Type 0} {kind : T → ℕ} {V : N → Type 0} (inner same : (n : N) → Lang T (V n)) (d : ℕ) (after : N → Option (List ℕ)) (words : (n : N) → Word (inner n)) (others : (n : N) → Word (same n)) where
   pub some : {X : Type 0} (g : Grammar kind V X) (follow : List ℕ) → fits after follow g ≡ true → Word (lang inner same d g)
   some (token test) follow h = ((test.example, d) ∷ [], test.value test.example, record { at = test.example; whole = refl; known = h; made = refl })
   some (level n test f) follow h =
-      let known = (and_true (has (kind test.example) test.kinds) (within follow (after n)) h).0 in
+      let known = (and_true (has (kind test.example) test.kinds) (may_follow follow (after n)) h).0 in
       let w = words n in
       ((test.example, suc d) ∷ w.0, f (test.value test.example) w.1, record {
         front = (test.example, suc d) ∷ []; back = w.0; one = test.value test.example; two = w.1; whole = refl;
         left = record { at = test.example; whole = refl; known = known; made = refl }; right = w.2; made = refl })
   some (next n test f) follow h =
-      let known = (and_true (has (kind test.example) test.kinds) (within follow (after n)) h).0 in
+      let known = (and_true (has (kind test.example) test.kinds) (may_follow follow (after n)) h).0 in
       let w = others n in
       ((test.example, d) ∷ w.0, f (test.value test.example) w.1, record {
         front = (test.example, d) ∷ []; back = w.0; one = test.value test.example; two = w.1; whole = refl;

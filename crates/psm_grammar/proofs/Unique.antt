@@ -1,5 +1,5 @@
 -- Tokens spell one word with one value.
-use Rattle.std.proofs.Common.{◌≡◌, ◌⊎◌, inl, inr, ℕ, zero, suc, ◌+◌, ◌≤◌, true, List, [], ◌∷◌, ◌++◌, map, length, Ok, Err, refl, sym, ap, subst, ◌∙◌, arith}
+use Rattle.std.proofs.Common.{◌≡◌, ◌⊎◌, inl, inr, ℕ, zero, suc, ◌+◌, ◌≤◌, true, List, [], ◌∷◌, ◌++◌, map, length, Ok, Err, refl, sym, ap, subst, ◌∙◌, arith, Option, Some, None}
 use Rattle.std.proofs.lemmas.List.{append-nil, length-append, length-map}
 use Rattle.psm_grammar.specs.Language.{Words, toks, Lang, Test, Token, Nothing, Seq, Many, Image}
 use Rattle.psm_grammar.specs.Grammar.{Grammar, token, level, next, nothing, seq, or, ahead, many, image, lang, Productions, nested, words, Spells}
@@ -110,7 +110,7 @@ module _ {T X : Type 0} (L : Lang T X) (limit : ℕ) (ts : List T) where
       let a = on h w x l e in
       elim a.2 [ inl b ↦ (let n = b.0 in cc n) | inr b ↦ no_deeper limit (t ∷ rest) h.front a.0 w a.1 b low ])
 
-module _ {T N : Type 0} {kind : T → ℕ} {V : N → Type 0} (prods : Productions kind V) (after : N → List ℕ) (height : ℕ) (readable : IsReadable prods after height) where
+module _ {T N : Type 0} {kind : T → ℕ} {V : N → Type 0} (prods : Productions kind V) (after : N → Option (List ℕ)) (height : ℕ) (readable : IsReadable prods after height) where
   -- two derivations of the same tokens read each of them at the same level, and have the same value
   pub one_tree : (d : ℕ) {X : Type 0} (g : Grammar kind V X) (follow : List ℕ) → fits after follow g ≡ true → (w v : Words T) (x y : X)
       → Spells prods d g w x → Spells prods d g v y → toks w ≡ toks v → (w ≡ v) × (x ≡ y)

@@ -1,12 +1,13 @@
 -- The reader with n more levels is exact for the grammar without limit.
-use Rattle.std.proofs.Common.{◌≡◌, ℕ, zero, suc, ◌+◌, ◌≤◌, ◌<◌, length, true, List, [], ◌∷◌, ◌++◌, Some, Ok, Err, refl, sym, ap, subst, ◌∙◌, arith}
+use Rattle.std.proofs.Common.{◌≡◌, ℕ, zero, suc, ◌+◌, ◌≤◌, ◌<◌, length, true, List, [], ◌∷◌, ◌++◌, Option, Some, None, Ok, Err, refl, sym, ap, subst, ◌∙◌, arith}
 use Rattle.std.proofs.lemmas.List.{append-nil}
 use Rattle.psm_grammar.specs.Language.{Words, toks, Lang}
 use Rattle.psm_grammar.specs.Grammar.{Grammar, lang, Productions, words, Spells}
-use Rattle.psm_grammar.specs.Readers.{Stop, Wrong, TooDeep, Out, read, again, deeper, reads}
+use Rattle.psm_grammar.specs.Readers.{Stop, Wrong, TooDeep, Out, Reader, Deeper, read, again, deeper, reads}
 use Rattle.psm_grammar.specs.Exact.{head, AtEnd, Next, Tracks, Good, Bad, Deep, Holds}
-use Rattle.psm_grammar.specs.Follow.{fits, IsReadable}
+use Rattle.psm_grammar.specs.Follow.{Fits, may_follow, fits, IsReadable}
 use Rattle.psm_grammar.proofs.Alike.{alike_levels, alike_on, alike_end}
+use Rattle.psm_grammar.proofs.KindLists.{within_has, next_more}
 use Rattle.psm_grammar.proofs.Some.{Word}
 use Rattle.psm_grammar.proofs.Runs.{Run, Done, Opens, Whatever, Never, Reads, spelled, reads_in, reads_before}
 use Rattle.psm_grammar.proofs.Answer.{one_answer, reads_of}
@@ -62,24 +63,35 @@ holds L F limit ts (Err (TooDeep rest)) end h = deep end rest h
 
 -- ---- all levels
 
-module _ {T N : Type 0} {kind : T → ℕ} {V : N → Type 0} (prods : Productions kind V) (after : N → List ℕ) (height : ℕ) (readable : IsReadable prods after height) where
+module _ {T N : Type 0} {kind : T → ℕ} {V : N → Type 0} (prods : Productions kind V) (after : N → Option (List ℕ)) (height : ℕ) (readable : IsReadable prods after height) where
   word_of : (d : ℕ) (n : N) → Word (words prods d n)
   word_of = words_some prods after readable.by_first height readable.alive
 
+  -- a production, whatever may follow that it says
+  reads_production : (d limit : ℕ) → d ≤ limit → (deep : Deeper T V) → DeeperReads kind (words prods (suc d)) after limit d deep → (readers : (n : N) → Reader T (V n)) (m : ℕ)
+      → ((n : N) (follow : List ℕ) → may_follow follow (after n) ≡ true → (ts : List T) → length ts < m → Reads (words prods d n) (Next kind follow) limit ts (readers n ts))
+      → {X : Type 0} (g : Grammar kind V X) (o : Option (List ℕ)) → Fits after o g → (follow : List ℕ) → may_follow follow o ≡ true → (ts : List T) → length ts ≤ m
+      → Reads (Spells prods d g) (Next kind follow) limit ts (read deep readers g ts)
+  reads_production d limit low deep h readers m sames g None fit follow may ts short =
+      exact (words prods (suc d)) (words prods d) d after (word_of (suc d)) (word_of d) limit low deep h readers m sames g follow (fit follow) ts short
+  reads_production d limit low deep h readers m sames g (Some kinds) fit follow may ts short =
+      reads_before (Spells prods d g) (Next kind kinds) limit (Next kind follow) ts (read deep readers g ts)
+      (exact (words prods (suc d)) (words prods d) d after (word_of (suc d)) (word_of d) limit low deep h readers m sames g kinds fit ts short)
+      (λ k. next_more kind follow kinds k (λ c. within_has c follow kinds may))
+
   -- the nonterminals at one level, on few tokens
-  reads_again : (n d limit : ℕ) → d + n ≡ limit → DeeperReads kind (words prods (suc d)) after limit d (deeper prods n) → (m : ℕ) (k : N) (ts : List T) → length ts < m
-      → Reads (words prods d k) (Next kind (after k)) limit ts (again prods (deeper prods n) m k ts)
-  reads_again n d limit e h zero k ts short = absurd (omega (arith, short))
-  reads_again n d limit e h (suc m) k ts short = reads_in (Spells prods d (prods k)) (Next kind (after k)) limit (words prods d k) ts (again prods (deeper prods n) (suc m) k ts)
-      (exact (words prods (suc d)) (words prods d) d after (word_of (suc d)) (word_of d) limit (omega (arith, e)) (deeper prods n) h (again prods (deeper prods n) m) m (reads_again n d limit e h m)
-          (prods k) (after k) (readable.by_first k) ts (omega (arith, short)))
+  reads_again : (n d limit : ℕ) → d + n ≡ limit → DeeperReads kind (words prods (suc d)) after limit d (deeper prods n) → (m : ℕ) (k : N) (follow : List ℕ) → may_follow follow (after k) ≡ true
+      → (ts : List T) → length ts < m → Reads (words prods d k) (Next kind follow) limit ts (again prods (deeper prods n) m k ts)
+  reads_again n d limit e h zero k follow may ts short = absurd (omega (arith, short))
+  reads_again n d limit e h (suc m) k follow may ts short = reads_in (Spells prods d (prods k)) (Next kind follow) limit (words prods d k) ts (again prods (deeper prods n) (suc m) k ts)
+      (reads_production d limit (omega (arith, e)) (deeper prods n) h (again prods (deeper prods n) m) m (reads_again n d limit e h m) (prods k) (after k) (readable.by_first k) follow may ts (omega (arith, short)))
       (rolled prods d k) (λ w x q l f s. unrolled prods d k w x l)
 
   reads_deeper : (n d limit : ℕ) → d + n ≡ limit → DeeperReads kind (words prods (suc d)) after limit d (deeper prods n)
   reads_deeper zero d limit e = omega (arith, e)
   reads_deeper (suc n) d limit e =
       let e' : suc d + n ≡ limit = omega (arith, e) in
-      (omega (arith, e), λ k ts. reads_again n (suc d) limit e' (reads_deeper n (suc d) limit e') (suc (length ts)) k ts (omega arith))
+      (omega (arith, e), λ k follow may ts. reads_again n (suc d) limit e' (reads_deeper n (suc d) limit e') (suc (length ts)) k follow may ts (omega arith))
 
   reads_spells : (n d limit : ℕ) → d + n ≡ limit → {X : Type 0} (g : Grammar kind V X) (follow : List ℕ)
       → fits after follow g ≡ true → (ts : List T) → Reads (Spells prods d g) (Next kind follow) limit ts (reads prods n g ts)
@@ -102,9 +114,13 @@ module _ {T N : Type 0} {kind : T → ℕ} {V : N → Type 0} (prods : Productio
       → Holds (Spells prods d g) AtEnd limit ts (reads prods n g ts)
   reads_run n d limit e g follow fit ts = holds (Spells prods d g) AtEnd limit ts (reads prods n g ts) refl (reads_at_end n d limit e g follow fit ts)
 
+  may_nothing : (o : Option (List ℕ)) → may_follow [] o ≡ true
+  may_nothing None = refl
+  may_nothing (Some kinds) = refl
+
   again_at_end : (n d limit : ℕ) → d + n ≡ limit → (m : ℕ) (k : N) (ts : List T) → length ts < m → Reads (words prods d k) AtEnd limit ts (again prods (deeper prods n) m k ts)
-  again_at_end n d limit e m k ts short = reads_before (words prods d k) (Next kind (after k)) limit AtEnd ts (again prods (deeper prods n) m k ts)
-      (reads_again n d limit e (reads_deeper n d limit e) m k ts short) (λ j same. subst (Next kind (after k)) (sym same) tt)
+  again_at_end n d limit e m k ts short = reads_before (words prods d k) (Next kind []) limit AtEnd ts (again prods (deeper prods n) m k ts)
+      (reads_again n d limit e (reads_deeper n d limit e) m k [] (may_nothing (after k)) ts short) (λ j same. subst (Next kind []) (sym same) tt)
 
   -- a nonterminal is read alike however many productions may stand behind one another, if they are more than the tokens
   pub again_enough : (n m : ℕ) (k : N) (ts : List T) → length ts < m → again prods (deeper prods n) m k ts ≡ again prods (deeper prods n) (suc (length ts)) k ts

@@ -1,5 +1,5 @@
 -- When the first token, or the first two, decide how a part of a grammar is read.
-use Rattle.std.specs.Prelude.{◌≡◌, ℕ, zero, suc, Bool, true, false, not, ◌&&◌, List, [], ◌∷◌, ◌++◌, if◌then◌else◌}
+use Rattle.std.specs.Prelude.{◌≡◌, ℕ, zero, suc, Bool, true, false, not, ◌&&◌, List, [], ◌∷◌, ◌++◌, Option, Some, None, if◌then◌else◌}
 use Rattle.psm_grammar.specs.Language.{has, Test}
 use Rattle.psm_grammar.specs.Grammar.{Grammar, token, level, next, nothing, seq, or, ahead, many, image, Productions}
 use Rattle.psm_grammar.specs.Readers.{empty, first}
@@ -84,11 +84,16 @@ abbrev pub two_decide : {T N : Type 0} {kind : T → ℕ} {V : N → Type 0} {X 
 two_decide ones twos follow p q = is_long p && (not (empty q) && (within (first p) ones && (opens_two ones twos p && (within ones (first q)
     && (apart ones (openers p) && (apart ones (openers q) && (within (seconds ones follow p) twos && apart twos (seconds ones follow q))))))))
 
+-- tokens of these kinds may follow, where each may, or those of the list
+abbrev pub may_follow : List ℕ → Option (List ℕ) → Bool
+may_follow follow None = true
+may_follow follow (Some kinds) = within follow kinds
+
 -- a part is read by its first tokens, where a token of these kinds may follow it, and of `after n` a nonterminal n
-abbrev pub fits : {T N : Type 0} {kind : T → ℕ} {V : N → Type 0} {X : Type 0} → (N → List ℕ) → List ℕ → Grammar kind V X → Bool
+abbrev pub fits : {T N : Type 0} {kind : T → ℕ} {V : N → Type 0} {X : Type 0} → (N → Option (List ℕ)) → List ℕ → Grammar kind V X → Bool
 fits {kind} after follow (token test) = has (kind test.example) test.kinds
-fits {kind} after follow (level n test f) = has (kind test.example) test.kinds && within follow (after n)
-fits {kind} after follow (next n test f) = has (kind test.example) test.kinds && within follow (after n)
+fits {kind} after follow (level n test f) = has (kind test.example) test.kinds && may_follow follow (after n)
+fits {kind} after follow (next n test f) = has (kind test.example) test.kinds && may_follow follow (after n)
 fits after follow (nothing x) = true
 fits after follow (seq f p q) = fits after (leads q follow) p && fits after follow q
 fits after follow (or p q) = (not (empty p) && apart (first p) (leads q follow)) && (fits after follow p && fits after follow q)
@@ -113,7 +118,12 @@ abbrev pub lives_in : {T N : Type 0} {kind : T → ℕ} {V : N → Type 0} → P
 lives_in prods zero n = false
 lives_in prods (suc h) n = lives (lives_in prods h) (prods n)
 
+-- a production is read by its first tokens, whatever follows, or where tokens of these kinds may follow
+abbrev pub Fits : {T N : Type 0} {kind : T → ℕ} {V : N → Type 0} {X : Type 0} → (N → Option (List ℕ)) → Option (List ℕ) → Grammar kind V X → Type 0
+Fits after None g = (follow : List ℕ) → fits after follow g ≡ true
+Fits after (Some kinds) g = fits after kinds g ≡ true
+
 -- each production is read by its first tokens, and has a word
-pub record IsReadable {T N : Type 0} {kind : T → ℕ} {V : N → Type 0} (prods : Productions kind V) (after : N → List ℕ) (height : ℕ) : Type 0 where
-  pub by_first : (n : N) → fits after (after n) (prods n) ≡ true
+pub record IsReadable {T N : Type 0} {kind : T → ℕ} {V : N → Type 0} (prods : Productions kind V) (after : N → Option (List ℕ)) (height : ℕ) : Type 0 where
+  pub by_first : (n : N) → Fits after (after n) (prods n)
   pub alive : (n : N) → lives_in prods height n ≡ true
