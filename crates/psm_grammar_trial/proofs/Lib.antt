@@ -1,3 +1,2 @@
 pub mod MiniSame
 pub mod MiniExact
-pub mod BigFits

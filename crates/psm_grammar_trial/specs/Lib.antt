@@ -1,3 +1,2 @@
 pub mod Mini
 pub mod MiniReaders
-pub mod Big
