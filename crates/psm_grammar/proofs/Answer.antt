@@ -19,8 +19,9 @@ fronts (x ∷ a) b [] d e = inr (x, a, refl, sym e)
 fronts {T} (x ∷ a) b (y ∷ c) d e =
     let same : x ≡ y = some_same x y (ap head e) in
     elim (fronts a b c d (ap tail e)) [
-    inl r ↦ inl (r.0, ap (λ z. z ∷ c) (sym same) ∙ ap (λ z. x ∷ z) r.1, r.2)
-  | inr r ↦ inr (r.0, r.1, ap (λ z. z ∷ a) same ∙ ap (λ z. y ∷ z) r.2, r.3) ]
+      | inl r ↦ inl (r.0, ap (λ z. z ∷ c) (sym same) ∙ ap (λ z. x ∷ z) r.1, r.2)
+      | inr r ↦ inr (r.0, r.1, ap (λ z. z ∷ a) same ∙ ap (λ z. y ∷ z) r.2, r.3)
+    ]
 
 -- ---- from the facts that contracts cite
 
@@ -34,10 +35,12 @@ alike_of Q R [] rest [] l q r = (λ e. let a = q (record { more = []; split = re
 alike_of Q R [] rest (x ∷ w) l q r = (λ e. let a = q (record { more = toks (x ∷ w) ++ []; split = refl; same = e }) in subst Q (sym a.1) a.2, λ e. absurd (cc e))
 alike_of Q R (f ∷ front) rest [] l q r = l
 alike_of {T} Q R (f ∷ front) rest (x ∷ w) l q r = λ e.
-    let both = l e in
-    (both.0, alike_of Q R front rest w both.1
-        (λ t. let a = q (cons_tracks f x front w [] rest e t) in (a.0, ap tail a.1, a.2))
-        (λ s. r (λ i. e i ∷ s i)))
+    let both = l e in (
+      both.0,
+      alike_of Q R front rest w both.1
+          (λ t. let a = q (cons_tracks f x front w [] rest e t) in (a.0, ap tail a.1, a.2))
+          (λ s. r (λ i. e i ∷ s i)),
+    )
 
 same_word : {T : Type 0} (front w : Words T) → Levels front w [] → toks w ≡ toks front → w ≡ front
 unfolding tail
@@ -53,31 +56,49 @@ same_word {T} (f ∷ front) (x ∷ w) l e =
 module _ {T X : Type 0} (L : Lang T X) (limit : ℕ) (ts : List T) where
   from_good : (x : X) (rest : List T) → Good L AtEnd limit ts x rest → Run L AtEnd limit ts rest (Done x) (Done x) (Done x)
   from_good x rest g = record {
-    front = g.front; more = []; value = x; parts = g.parts; begins = subst (λ w. L w x) (sym (append-nil g.front)) g.spelled; so = (refl, refl); low = g.low;
+    front = g.front;
+    more = [];
+    value = x;
+    parts = g.parts;
+    begins = subst (λ w. L w x) (sym (append-nil g.front)) g.spelled;
+    so = (refl, refl);
+    low = g.low;
     alike = λ w y k l n. subst (λ k. Alike (λ m. Done x m y) (λ m. Done x m y) g.front rest w k) (sym n)
         (alike_of (λ m. Done x m y) (λ m. Done x m y) g.front rest w (g.levels w y [] l refl)
-            (λ t. let a = g.only w y [] l refl t in ([], a.0 ∙ sym (append-nil g.front), (refl, a.1)))
-            (λ s. (refl, g.alone y (subst (λ v. L v y) (same_word g.front w (g.levels w y [] l refl) s) l))));
+        (λ t. let a = g.only w y [] l refl t in ([], a.0 ∙ sym (append-nil g.front), (refl, a.1)))
+        (λ s. (refl, g.alone y (subst (λ v. L v y) (same_word g.front w (g.levels w y [] l refl) s) l))));
   }
 
   from_bad : (rest : List T) → Bad L AtEnd limit ts rest → Run L AtEnd limit ts rest Whatever Never Never
   from_bad rest b = record {
-    front = b.front; more = b.more; value = b.value; parts = b.parts; begins = b.begins; so = tt; low = b.low;
+    front = b.front;
+    more = b.more;
+    value = b.value;
+    parts = b.parts;
+    begins = b.begins;
+    so = tt;
+    low = b.low;
     alike = λ w y k l n. subst (λ k. Alike (λ m. Never m y) (λ m. Never m y) b.front rest w k) (sym n)
         (alike_of (λ m. Never m y) (λ m. Never m y) b.front rest w (b.levels w y [] l refl)
-            (λ t. absurd (b.none w y [] l refl t))
-            (λ s. b.unfinished y (subst (λ v. L v y) (same_word b.front w (b.levels w y [] l refl) s) l)));
+        (λ t. absurd (b.none w y [] l refl t))
+        (λ s. b.unfinished y (subst (λ v. L v y) (same_word b.front w (b.levels w y [] l refl) s) l)));
   }
 
   from_deep : (t : T) (rest : List T) → Deep L AtEnd limit ts (t ∷ rest) → Run L AtEnd limit ts (t ∷ rest) (λ m x. Opens limit (t ∷ rest) m) (λ m x. Opens limit (t ∷ rest) m) Whatever
   from_deep t rest d =
       let same : (d.opening, suc limit) ≡ (t, suc limit) = ap (λ s. (s, suc limit)) (sym (some_same t d.opening (ap head d.reached))) in
       record {
-        front = d.front; more = (d.opening, suc limit) ∷ d.more; value = d.value; parts = d.parts; begins = d.begins; so = same; low = d.low;
+        front = d.front;
+        more = (d.opening, suc limit) ∷ d.more;
+        value = d.value;
+        parts = d.parts;
+        begins = d.begins;
+        so = same;
+        low = d.low;
         alike = λ w y k l n. subst (λ k. Alike (λ m. Opens limit (t ∷ rest) m) (λ m. Whatever m y) d.front (t ∷ rest) w k) (sym n)
             (alike_of (λ m. Opens limit (t ∷ rest) m) (λ m. Whatever m y) d.front (t ∷ rest) w (d.levels w y [] l refl)
-                (λ tr. let a = d.opens w y [] l refl tr in ((d.opening, suc limit) ∷ a.0, a.1, same))
-                (λ s. tt));
+            (λ tr. let a = d.opens w y [] l refl tr in ((d.opening, suc limit) ∷ a.0, a.1, same))
+            (λ s. tt));
       }
 
   pub reads_of : (o : Out T X) → Holds L AtEnd limit ts o → Reads L AtEnd limit ts o
@@ -107,9 +128,9 @@ module _ {T X : Type 0} (L : Lang T X) (limit : ℕ) (ts : List T) where
       → ((y : X) (x : T × ℕ) (m : Words T) → x.1 ≤ limit → E (x ∷ m) y → ⊥) → (t : T) (m : List T) → toks s.front ≡ toks r.front ++ t ∷ m → rest ≡ t ∷ (m ++ rest') → ⊥
   strict {rest} {rest'} {B} {E} {R} r s away t m e f =
       let whole : toks (s.front ++ s.more) ++ [] ≡ toks r.front ++ (t ∷ (m ++ (toks s.more ++ []))) =
-          toks_behind s.front s.more [] ∙ ap (λ k. k ++ (toks s.more ++ [])) e ∙ append_assoc (toks r.front) (t ∷ m) (toks s.more ++ []) in
+      toks_behind s.front s.more [] ∙ ap (λ k. k ++ (toks s.more ++ [])) e ∙ append_assoc (toks r.front) (t ∷ m) (toks s.more ++ []) in
       let goes = alike_on (λ m. E m s.value) (λ m. R m s.value) r.front rest (s.front ++ s.more) [] (t ∷ (m ++ (toks s.more ++ []))) whole (sym (ap head f))
-          (r.alike (s.front ++ s.more) s.value [] s.begins refl) in
+      (r.alike (s.front ++ s.more) s.value [] s.begins refl) in
       further limit (λ v. E v s.value) (away s.value) s.front r.front s.more goes.0 t m goes.1 s.low e goes.2
 
   abbrev Away : (Words T → X → Type 0) → Type 0
@@ -141,9 +162,9 @@ module _ {T X : Type 0} (L : Lang T X) (limit : ℕ) (ts : List T) where
       → toks s.front ≡ toks r.front → rest ≡ rest' → head (toks s.more) ≡ head rest' → E s.more s.value
   goes_on {rest} {rest'} {B} {E} {R} r s e f h =
       let whole : toks (s.front ++ s.more) ++ [] ≡ toks r.front ++ toks s.more =
-          toks_behind s.front s.more [] ∙ ap (λ k. k ++ (toks s.more ++ [])) e ∙ ap (λ k. toks r.front ++ k) (append-nil (toks s.more)) in
+      toks_behind s.front s.more [] ∙ ap (λ k. k ++ (toks s.more ++ [])) e ∙ ap (λ k. toks r.front ++ k) (append-nil (toks s.more)) in
       let on = alike_on (λ m. E m s.value) (λ m. R m s.value) r.front rest (s.front ++ s.more) [] (toks s.more) whole (h ∙ sym (ap head f))
-          (r.alike (s.front ++ s.more) s.value [] s.begins refl) in
+      (r.alike (s.front ++ s.more) s.value [] s.begins refl) in
       subst (λ v. E v s.value) (sym (same_back s.front r.front s.more on.0 e on.1)) on.2
 
   done_away : (x : X) → Away (Done x)

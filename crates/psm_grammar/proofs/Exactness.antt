@@ -37,7 +37,13 @@ module _ {T X : Type 0} (F : List T → Type 0) (limit : ℕ) (L K : Lang T X) (
       → ((x : T × ℕ) (m : Words T) (y : X) → x.1 ≤ limit → E (x ∷ m) y → ⊥) → ((f : T × ℕ) → r.front ≡ f ∷ [] → Ends R)
       → ((w : Words T) (x : X) → L w x → J w x) → ((w : Words T) (x : X) → J w x → L w x ⊎ K w x) → Run J F limit (t ∷ ts) rest B E R
   two_run {rest} {B} {E} {R} J r away ends into back = record {
-    front = r.front; more = r.more; value = r.value; parts = r.parts; begins = into (r.front ++ r.more) r.value r.begins; so = r.so; low = r.low;
+    front = r.front;
+    more = r.more;
+    value = r.value;
+    parts = r.parts;
+    begins = into (r.front ++ r.more) r.value r.begins;
+    so = r.so;
+    low = r.low;
     alike = λ w x k j n. elim (back w x j) [ inl l ↦ r.alike w x k l n | inr l ↦ apart r.front ends r.parts r.begins r.alike w x k l n ];
   }
     where
@@ -54,10 +60,11 @@ module _ {T X : Type 0} (F : List T → Type 0) (limit : ℕ) (L K : Lang T X) (
           let same : f.0 ≡ t = sym (some_same t f.0 (ap head p)) in
           let here : L ((t, f.1) ∷ (front ++ r.more)) r.value = subst (λ s. L ((s, f.1) ∷ (front ++ r.more)) r.value) same b in
           let there : K ((t, y.1) ∷ w) x = subst (λ s. K ((s, y.1) ∷ w) x) (e ∙ same) l in
-          let o = other y.1 w x k there n in
-          (o.0 ∙ sym (known f.1 (front ++ r.more) r.value here),
+          let o = other y.1 w x k there n in (
+            o.0 ∙ sym (known f.1 (front ++ r.more) r.value here),
             guarded (λ m. E m x) (λ m. R m x) front rest w k (λ g. absurd (o.1 (g ∙ sym (ap head (tail_same t f.0 ts (toks front ++ rest) p)))))
-            (λ z g. ends f (ap (λ m. f ∷ m) z) y.1 w x k there n g))
+                (λ z g. ends f (ap (λ m. f ∷ m) z) y.1 w x k there n g),
+          )
 
   -- where a word begins with the first two tokens, more than one is read
   moved_two : {rest : List T} {B E R : Words T → X → Type 0} (u : T) (us : List T) → ts ≡ u ∷ us → BegunTwo t u L → ((x : T × ℕ) (m : Words T) (y : X) → E (x ∷ m) y → ⊥)
@@ -116,7 +123,6 @@ rest_short most ts u rest h e = omega (arith, h, ap length e, length-append (tok
 module _ {T N : Type 0} {kind : T → ℕ} {V : N → Type 0} (inner same : (n : N) → Lang T (V n)) (d : ℕ) (after : N → Option (List ℕ)) (words : (n : N) → Word (inner n)) (others : (n : N) → Word (same n))
     (limit : ℕ) (low : d ≤ limit) (deeper : Deeper T V) (deep : DeeperReads kind inner after limit d deeper)
     (readers : (n : N) → Reader T (V n)) (most : ℕ) (sames : (n : N) (follow : List ℕ) → may_follow follow (after n) ≡ true → (ts : List T) → length ts < most → Reads (same n) (Next kind follow) limit ts (readers n ts)) where
-
   -- the words of a part that has no word of no token start with its kinds
   starts_first : {X : Type 0} (g : Grammar kind V X) → empty g ≡ false → (w : Words T) (x : X) (k : List T) → lang inner same d g w x → starts kind (first g) (toks w ++ k) ≡ true
   starts_first g e [] x k l = absurd (true_false (empty g) (blank inner same d g x l) e)
@@ -129,15 +135,21 @@ module _ {T N : Type 0} {kind : T → ℕ} {V : N → Type 0} (inner same : (n :
   reads_pick p q follow [] o o' fit e a h k true s = absurd (cc s)
   reads_pick p q follow (t ∷ ts) o o' fit e a h k true s = reads_begun (lang inner same d p) (Next kind follow) limit (lang inner same d (or p q)) t ts o
       (begun inner same d after words others p follow t fit s) tt h (λ w x l. inl l)
-      (λ w x k l n f. elim l [ inl m ↦ m
-        | inr m ↦ absurd (true_false (has (kind t) (first p)) s (sym (starts_same kind (first p) (toks w ++ k) (t ∷ ts) f) ∙ refuses w x k m n)) ])
+      (λ w x k l n f. elim l [
+        | inl m ↦ m
+        | inr m ↦ absurd (true_false (has (kind t) (first p)) s (sym (starts_same kind (first p) (toks w ++ k) (t ∷ ts) f) ∙ refuses w x k m n))
+      ])
     where
       refuses : (w : Words T) (x : _) (k : List T) → lang inner same d q w x → Next kind follow k → starts kind (first p) (toks w ++ k) ≡ false
       refuses w x k m n = starts_within kind (leads q follow) (first p) (toks w ++ k) (λ c h. elim (decide (has c (first p))) [
-          inl t ↦ absurd (true_false (has c (leads q follow)) h (apart_none c (first p) (leads q follow) a t)) | inr f ↦ f ]) (led inner same d q follow w x k m n)
+        | inl t ↦ absurd (true_false (has c (leads q follow)) h (apart_none c (first p) (leads q follow) a t))
+        | inr f ↦ f
+      ]) (led inner same d q follow w x k m n)
   reads_pick p q follow ts o o' fit e a h k false s = reads_in (lang inner same d q) (Next kind follow) limit (lang inner same d (or p q)) ts o' k (λ w x l. inr l)
-      (λ w x k l n f. elim l [ inr m ↦ m
-        | inl m ↦ absurd (starts_not kind (first p) (toks w ++ k) ts (starts_first p e w x k m) s f) ])
+      (λ w x k l n f. elim l [
+        | inr m ↦ m
+        | inl m ↦ absurd (starts_not kind (first p) (toks w ++ k) ts (starts_first p e w x k m) s f)
+      ])
 
   -- one of two parts, by the first two tokens
   module _ {X : Type 0} (ones twos follow : List ℕ) (p q : Grammar kind V X) (rule : two_decide ones twos follow p q ≡ true)
@@ -200,8 +212,10 @@ module _ {T N : Type 0} {kind : T → ℕ} {V : N → Type 0} (inner same : (n :
 
     only_q : (ts : List T) (o : Out T X) → starts kind ones ts ≡ false → Reads (lang inner same d q) F limit ts o → Reads J F limit ts o
     only_q ts o s h = reads_in (lang inner same d q) F limit J ts o h (λ w x l. inr l)
-        (λ w x k l n f. elim l [ inr m ↦ m
-          | inl m ↦ absurd (starts_not kind ones (toks w ++ k) ts (p_starts w x k m) s f) ])
+        (λ w x k l n f. elim l [
+          | inr m ↦ m
+          | inl m ↦ absurd (starts_not kind ones (toks w ++ k) ts (p_starts w x k m) s f)
+        ])
 
     reads_ahead : (ts : List T) (o o' : Out T X) → Reads (lang inner same d p) F limit ts o → Reads (lang inner same d q) F limit ts o'
         → (a b : Bool) → starts kind ones ts ≡ a → starts_two kind ones twos ts ≡ b → Reads J F limit ts (cond b o o')

@@ -24,8 +24,9 @@ pub many_first : {T X : Type 0} (L : Lang T X) (P : T × ℕ → Type 0) → ((t
     → (t : T × ℕ) (w : Words T) (xs : List X) → Many L (t ∷ w) xs → P t
 many_first L P h t w [] l = absurd (cc l)
 many_first L P h t w (x ∷ xs) l = elim (split_cons t w l.0 l.1 l.2) [
-    inl s ↦ many_first L P h t w xs (subst (λ v. Many L v xs) s.1 l.4)
-  | inr s ↦ h t s.0 x (subst (λ u. L u x) s.1 l.3) ]
+  | inl s ↦ many_first L P h t w xs (subst (λ v. Many L v xs) s.1 l.4)
+  | inr s ↦ h t s.0 x (subst (λ u. L u x) s.1 l.3)
+]
 
 module _ {T N : Type 0} {kind : T → ℕ} {V : N → Type 0} (inner same : (n : N) → Lang T (V n)) (d : ℕ) where
   -- ---- words of no token
@@ -74,10 +75,11 @@ module _ {T N : Type 0} {kind : T → ℕ} {V : N → Type 0} (inner same : (n :
       subst (λ s. has (kind s) test.kinds ≡ true) same l.left.known
   begins (nothing y) t w x l = absurd (let e = l.whole in cc e)
   begins (seq f p q) t w x l = elim (split_cons t w l.front l.back l.whole) [
-      inl s ↦ let more : has (kind t.0) (first q) ≡ true = begins q t w l.two (subst (λ v. lang inner same d q v l.two) s.1 l.right) in
-              let e : empty p ≡ true = blank p l.one (subst (λ u. lang inner same d p u l.one) s.0 l.left) in
-              has_right (kind t.0) (first p) (cond (empty p) (first q) []) (ap (has (kind t.0)) (if_true (empty p) (first q) [] e) ∙ more)
-    | inr s ↦ has_left (kind t.0) (first p) (cond (empty p) (first q) []) (begins p t s.0 l.one (subst (λ u. lang inner same d p u l.one) s.1 l.left)) ]
+    | inl s ↦ let more : has (kind t.0) (first q) ≡ true = begins q t w l.two (subst (λ v. lang inner same d q v l.two) s.1 l.right) in
+        let e : empty p ≡ true = blank p l.one (subst (λ u. lang inner same d p u l.one) s.0 l.left) in
+        has_right (kind t.0) (first p) (cond (empty p) (first q) []) (ap (has (kind t.0)) (if_true (empty p) (first q) [] e) ∙ more)
+    | inr s ↦ has_left (kind t.0) (first p) (cond (empty p) (first q) []) (begins p t s.0 l.one (subst (λ u. lang inner same d p u l.one) s.1 l.left))
+  ]
   begins (or p q) t w x (inl l) = has_left (kind t.0) (first p) (first q) (begins p t w x l)
   begins (or p q) t w x (inr l) = has_right (kind t.0) (first p) (first q) (begins q t w x l)
   begins (ahead ones twos p q) t w x (inl l) = has_left (kind t.0) (first p) (first q) (begins p t w x l)
@@ -106,9 +108,10 @@ module _ {T N : Type 0} {kind : T → ℕ} {V : N → Type 0} (inner same : (n :
   plain (seq f p q) t w x l o =
       let parts = has_none (kind t.0) (openers p) (cond (empty p) (openers q) []) o in
       elim (split_cons t w l.front l.back l.whole) [
-      inl s ↦ let e : empty p ≡ true = blank p l.one (subst (λ u. lang inner same d p u l.one) s.0 l.left) in
-              plain q t w l.two (subst (λ v. lang inner same d q v l.two) s.1 l.right) (sym (ap (has (kind t.0)) (if_true (empty p) (openers q) [] e)) ∙ parts.1)
-    | inr s ↦ plain p t s.0 l.one (subst (λ u. lang inner same d p u l.one) s.1 l.left) parts.0 ]
+        | inl s ↦ let e : empty p ≡ true = blank p l.one (subst (λ u. lang inner same d p u l.one) s.0 l.left) in
+            plain q t w l.two (subst (λ v. lang inner same d q v l.two) s.1 l.right) (sym (ap (has (kind t.0)) (if_true (empty p) (openers q) [] e)) ∙ parts.1)
+        | inr s ↦ plain p t s.0 l.one (subst (λ u. lang inner same d p u l.one) s.1 l.left) parts.0
+      ]
   plain (or p q) t w x (inl l) o = plain p t w x l (has_none (kind t.0) (openers p) (openers q) o).0
   plain (or p q) t w x (inr l) o = plain q t w x l (has_none (kind t.0) (openers p) (openers q) o).1
   plain (ahead ones twos p q) t w x (inl l) o = plain p t w x l (has_none (kind t.0) (openers p) (openers q) o).0
@@ -132,10 +135,11 @@ module _ {T N : Type 0} {kind : T → ℕ} {V : N → Type 0} (inner same : (n :
       → has (kind t.0) ones ≡ true → has (kind t.0) (openers p) ≡ false → Next kind (seconds ones (first p ++ follow) p) (toks w ++ k)
   many_second ones p h follow t w [] k l n o c = absurd (cc l)
   many_second ones p h follow t w (x ∷ xs) k l n o c = elim (split_cons t w l.0 l.1 l.2) [
-      inl s ↦ many_second ones p h follow t w xs k (subst (λ v. Many (lang inner same d p) v xs) s.1 l.4) n o c
+    | inl s ↦ many_second ones p h follow t w xs k (subst (λ v. Many (lang inner same d p) v xs) s.1 l.4) n o c
     | inr s ↦ let behind = many_behind p follow l.1 xs k l.4 n in
-              let here = h (first p ++ follow) t s.0 x (toks l.1 ++ k) (subst (λ u. lang inner same d p u x) s.1 l.3) behind o c in
-              subst (λ ts. Next kind (seconds ones (first p ++ follow) p) ts) (sym (ap (λ (u : Words T). toks u ++ k) s.2 ∙ toks_behind s.0 l.1 k)) here ]
+        let here = h (first p ++ follow) t s.0 x (toks l.1 ++ k) (subst (λ u. lang inner same d p u x) s.1 l.3) behind o c in
+        subst (λ ts. Next kind (seconds ones (first p ++ follow) p) ts) (sym (ap (λ (u : Words T). toks u ++ k) s.2 ∙ toks_behind s.0 l.1 k)) here
+  ]
 
   pub second : {X : Type 0} (ones : List ℕ) (g : Grammar kind V X) → Second ones g
   second ones (token test) follow t w x k l n o c =
@@ -158,13 +162,14 @@ module _ {T N : Type 0} {kind : T → ℕ} {V : N → Type 0} (inner same : (n :
       let left = seconds ones (leads q follow) p in
       let right = cond (empty p) (seconds ones follow q) [] in
       elim (split_cons t w l.front l.back l.whole) [
-      inl s ↦ let e : empty p ≡ true = blank p l.one (subst (λ u. lang inner same d p u l.one) s.0 l.left) in
-              let here = second ones q follow t w l.two k (subst (λ v. lang inner same d q v l.two) s.1 l.right) n o (sym (ap (has (kind t.0)) (if_true (empty p) (openers q) [] e)) ∙ parts.1) in
-              next_more kind (seconds ones follow q) (left ++ right) (toks w ++ k) (λ m h. has_right m left right (ap (has m) (if_true (empty p) (seconds ones follow q) [] e) ∙ h)) here
-    | inr s ↦ let behind = led q follow l.back l.two k l.right n in
-              let here = second ones p (leads q follow) t s.0 l.one (toks l.back ++ k) (subst (λ u. lang inner same d p u l.one) s.1 l.left) behind o parts.0 in
-              next_more kind left (left ++ right) (toks w ++ k) (λ m h. has_left m left right h)
-              (subst (λ ts. Next kind left ts) (sym (ap (λ (u : Words T). toks u ++ k) s.2 ∙ toks_behind s.0 l.back k)) here) ]
+        | inl s ↦ let e : empty p ≡ true = blank p l.one (subst (λ u. lang inner same d p u l.one) s.0 l.left) in
+            let here = second ones q follow t w l.two k (subst (λ v. lang inner same d q v l.two) s.1 l.right) n o (sym (ap (has (kind t.0)) (if_true (empty p) (openers q) [] e)) ∙ parts.1) in
+            next_more kind (seconds ones follow q) (left ++ right) (toks w ++ k) (λ m h. has_right m left right (ap (has m) (if_true (empty p) (seconds ones follow q) [] e) ∙ h)) here
+        | inr s ↦ let behind = led q follow l.back l.two k l.right n in
+            let here = second ones p (leads q follow) t s.0 l.one (toks l.back ++ k) (subst (λ u. lang inner same d p u l.one) s.1 l.left) behind o parts.0 in
+            next_more kind left (left ++ right) (toks w ++ k) (λ m h. has_left m left right h)
+            (subst (λ ts. Next kind left ts) (sym (ap (λ (u : Words T). toks u ++ k) s.2 ∙ toks_behind s.0 l.back k)) here)
+      ]
   second ones (or p q) follow t w x k (inl l) n o c = next_more kind (seconds ones follow p) (seconds ones follow p ++ seconds ones follow q) (toks w ++ k)
       (λ m h. has_left m (seconds ones follow p) (seconds ones follow q) h) (second ones p follow t w x k l n o (has_none (kind t.0) (openers p) (openers q) c).0)
   second ones (or p q) follow t w x k (inr l) n o c = next_more kind (seconds ones follow q) (seconds ones follow p ++ seconds ones follow q) (toks w ++ k)

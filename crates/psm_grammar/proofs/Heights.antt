@@ -90,15 +90,35 @@ module _ {T N : Type 0} {kind : T → ℕ} {V : N → Type 0} (inner same : (n :
   pub lives_so : {X : Type 0} (g : Grammar kind V X) (follow : List ℕ) → fits after follow g ≡ true → lives live g ≡ true → Word (lang inner same d g)
   lives_so (token test) follow h k = ((test.example, d) ∷ [], test.value test.example, record { at = test.example; whole = refl; known = h; made = refl })
   lives_so (level n test f) follow h k =
-      let w = words n k in
-      ((test.example, suc d) ∷ w.0, f (test.value test.example) w.1, record {
-        front = (test.example, suc d) ∷ []; back = w.0; one = test.value test.example; two = w.1; whole = refl;
-        left = record { at = test.example; whole = refl; known = (and_true _ _ h).0; made = refl }; right = w.2; made = refl })
+      let w = words n k in (
+        (test.example, suc d) ∷ w.0,
+        f (test.value test.example) w.1,
+        record {
+          front = (test.example, suc d) ∷ [];
+          back = w.0;
+          one = test.value test.example;
+          two = w.1;
+          whole = refl;
+          left = record { at = test.example; whole = refl; known = (and_true _ _ h).0; made = refl };
+          right = w.2;
+          made = refl;
+        },
+      )
   lives_so (next n test f) follow h k =
-      let w = others n k in
-      ((test.example, d) ∷ w.0, f (test.value test.example) w.1, record {
-        front = (test.example, d) ∷ []; back = w.0; one = test.value test.example; two = w.1; whole = refl;
-        left = record { at = test.example; whole = refl; known = (and_true _ _ h).0; made = refl }; right = w.2; made = refl })
+      let w = others n k in (
+        (test.example, d) ∷ w.0,
+        f (test.value test.example) w.1,
+        record {
+          front = (test.example, d) ∷ [];
+          back = w.0;
+          one = test.value test.example;
+          two = w.1;
+          whole = refl;
+          left = record { at = test.example; whole = refl; known = (and_true _ _ h).0; made = refl };
+          right = w.2;
+          made = refl;
+        },
+      )
   lives_so (nothing y) follow h k = ([], y, record { whole = refl; made = refl })
   lives_so (seq f p q) follow h k =
       let parts = and_true _ _ h in

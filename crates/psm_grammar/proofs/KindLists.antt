@@ -55,26 +55,31 @@ has_right n (m ∷ ms) ns h = second_holds (eqb n m) (has n (ms ++ ns)) (has_rig
 pub has_either : (n : ℕ) (ms ns : List ℕ) → has n (ms ++ ns) ≡ true → (has n ms ≡ true) ⊎ (has n ns ≡ true)
 has_either n [] ns h = inr h
 has_either n (m ∷ ms) ns h = elim (one_of (eqb n m) (has n (ms ++ ns)) h) [
-    inl e ↦ inl (first_holds (eqb n m) (has n ms) e)
-  | inr k ↦ elim (has_either n ms ns k) [ inl a ↦ inl (second_holds (eqb n m) (has n ms) a) | inr b ↦ inr b ] ]
+  | inl e ↦ inl (first_holds (eqb n m) (has n ms) e)
+  | inr k ↦ elim (has_either n ms ns k) [ inl a ↦ inl (second_holds (eqb n m) (has n ms) a) | inr b ↦ inr b ]
+]
 
 pub has_none : (n : ℕ) (ms ns : List ℕ) → has n (ms ++ ns) ≡ false → (has n ms ≡ false) × (has n ns ≡ false)
 has_none n ms ns h = (
-    elim (decide (has n ms)) [ inl t ↦ absurd (true_false (has n (ms ++ ns)) (has_left n ms ns t) h) | inr f ↦ f ],
-    elim (decide (has n ns)) [ inl t ↦ absurd (true_false (has n (ms ++ ns)) (has_right n ms ns t) h) | inr f ↦ f ])
+  elim (decide (has n ms)) [ inl t ↦ absurd (true_false (has n (ms ++ ns)) (has_left n ms ns t) h) | inr f ↦ f ],
+  elim (decide (has n ns)) [ inl t ↦ absurd (true_false (has n (ms ++ ns)) (has_right n ms ns t) h) | inr f ↦ f ],
+)
 
 pub has_neither : (n : ℕ) (ms ns : List ℕ) → has n ms ≡ false → has n ns ≡ false → has n (ms ++ ns) ≡ false
 has_neither n ms ns h k = elim (decide (has n (ms ++ ns))) [
-    inl t ↦ absurd (elim (has_either n ms ns t) [ inl a ↦ true_false (has n ms) a h | inr b ↦ true_false (has n ns) b k ])
-  | inr f ↦ f ]
+  | inl t ↦ absurd (elim (has_either n ms ns t) [ inl a ↦ true_false (has n ms) a h | inr b ↦ true_false (has n ns) b k ])
+  | inr f ↦ f
+]
 
 pub apart_none : (n : ℕ) (ms ns : List ℕ) → apart ms ns ≡ true → has n ms ≡ true → has n ns ≡ false
 apart_none n [] ns a h = absurd cc
 apart_none n (m ∷ ms) ns a h = elim (decide (has m ns)) [
-    inl t ↦ absurd (true_false (apart (m ∷ ms) ns) a (if_true (has m ns) false (apart ms ns) t))
+  | inl t ↦ absurd (true_false (apart (m ∷ ms) ns) a (if_true (has m ns) false (apart ms ns) t))
   | inr f ↦ elim (one_of (eqb n m) (has n ms) h) [
-        inl e ↦ ap (λ k. has k ns) (eqb-true n m e) ∙ f
-      | inr k ↦ apart_none n ms ns (sym (if_false (has m ns) false (apart ms ns) f) ∙ a) k ] ]
+    | inl e ↦ ap (λ k. has k ns) (eqb-true n m e) ∙ f
+    | inr k ↦ apart_none n ms ns (sym (if_false (has m ns) false (apart ms ns) f) ∙ a) k
+  ]
+]
 
 pub apart_false : (n : ℕ) (ms ns : List ℕ) → has n ms ≡ true → has n ns ≡ true → apart ms ns ≡ false
 apart_false n ms ns h k = elim (decide (apart ms ns)) [ inl t ↦ absurd (true_false (has n ns) k (apart_none n ms ns t h)) | inr f ↦ f ]
@@ -82,10 +87,12 @@ apart_false n ms ns h k = elim (decide (apart ms ns)) [ inl t ↦ absurd (true_f
 pub within_has : (n : ℕ) (ms ns : List ℕ) → within ms ns ≡ true → has n ms ≡ true → has n ns ≡ true
 within_has n [] ns a h = absurd cc
 within_has n (m ∷ ms) ns a h = elim (decide (has m ns)) [
-    inl t ↦ elim (one_of (eqb n m) (has n ms) h) [
-        inl e ↦ ap (λ k. has k ns) (eqb-true n m e) ∙ t
-      | inr k ↦ within_has n ms ns (sym (if_true (has m ns) (within ms ns) false t) ∙ a) k ]
-  | inr f ↦ absurd (true_false (within (m ∷ ms) ns) a (if_false (has m ns) (within ms ns) false f)) ]
+  | inl t ↦ elim (one_of (eqb n m) (has n ms) h) [
+    | inl e ↦ ap (λ k. has k ns) (eqb-true n m e) ∙ t
+    | inr k ↦ within_has n ms ns (sym (if_true (has m ns) (within ms ns) false t) ∙ a) k
+  ]
+  | inr f ↦ absurd (true_false (within (m ∷ ms) ns) a (if_false (has m ns) (within ms ns) false f))
+]
 
 module _ {T : Type 0} (kind : T → ℕ) where
   pub next_more : (ms ns : List ℕ) (k : List T) → ((n : ℕ) → has n ms ≡ true → has n ns ≡ true) → Next kind ms k → Next kind ns k

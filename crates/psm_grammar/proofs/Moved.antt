@@ -17,7 +17,11 @@ module _ {T : Type 0} (e : T → T) where
 
   token_moved : {A : Type 0} (kind : T → ℕ) → ((t : T) → kind (e t) ≡ kind t) → (h : A → A) (test : Test T A) → CarriesToken kind e h test → (d : ℕ) (w : Words T) (x : A) → Token kind test d w x → Token kind test d (moved e w) (h x)
   token_moved kind same h test c d w x l = record {
-    at = e l.at; whole = ap (moved e) l.whole; known = ap (λ k. has k test.kinds) (same l.at) ∙ l.known; made = ap h l.made ∙ sym (c l.at l.known) }
+    at = e l.at;
+    whole = ap (moved e) l.whole;
+    known = ap (λ k. has k test.kinds) (same l.at) ∙ l.known;
+    made = ap h l.made ∙ sym (c l.at l.known);
+  }
 
   many_moved : {X : Type 0} (L : Lang T X) (a : X → X) → ((w : Words T) (x : X) → L w x → L (moved e w) (a x)) → (w : Words T) (xs : List X) → Many L w xs → Many L (moved e w) (map a xs)
   many_moved L a h w [] l = ap (moved e) l
@@ -29,15 +33,36 @@ module _ {T N : Type 0} {kind : T → ℕ} {V : N → Type 0} (e : T → T) (v :
   lang_moved : {X : Type 0} (g : Grammar kind V X) (h : X → X) → Carries e v h g → (w : Words T) (x : X) → lang inner others d g w x → lang inner others d g (moved e w) (h x)
   lang_moved (token test) h c w x l = token_moved e kind same h test c d w x l
   lang_moved (level n test f) h c w x l = record {
-    front = moved e l.front; back = moved e l.back; one = c.0 l.one; two = v n l.two; whole = ap (moved e) l.whole ∙ moved-append e l.front l.back;
-    left = token_moved e kind same c.0 test c.1 (suc d) l.front l.one l.left; right = deep n l.back l.two l.right; made = ap h l.made ∙ sym (c.2 l.one l.two) }
+    front = moved e l.front;
+    back = moved e l.back;
+    one = c.0 l.one;
+    two = v n l.two;
+    whole = ap (moved e) l.whole ∙ moved-append e l.front l.back;
+    left = token_moved e kind same c.0 test c.1 (suc d) l.front l.one l.left;
+    right = deep n l.back l.two l.right;
+    made = ap h l.made ∙ sym (c.2 l.one l.two);
+  }
   lang_moved (next n test f) h c w x l = record {
-    front = moved e l.front; back = moved e l.back; one = c.0 l.one; two = v n l.two; whole = ap (moved e) l.whole ∙ moved-append e l.front l.back;
-    left = token_moved e kind same c.0 test c.1 d l.front l.one l.left; right = here n l.back l.two l.right; made = ap h l.made ∙ sym (c.2 l.one l.two) }
+    front = moved e l.front;
+    back = moved e l.back;
+    one = c.0 l.one;
+    two = v n l.two;
+    whole = ap (moved e) l.whole ∙ moved-append e l.front l.back;
+    left = token_moved e kind same c.0 test c.1 d l.front l.one l.left;
+    right = here n l.back l.two l.right;
+    made = ap h l.made ∙ sym (c.2 l.one l.two);
+  }
   lang_moved (nothing y) h c w x l = record { whole = ap (moved e) l.whole; made = ap h l.made ∙ sym c }
   lang_moved (seq f p q) h c w x l = record {
-    front = moved e l.front; back = moved e l.back; one = c.0 l.one; two = c.1 l.two; whole = ap (moved e) l.whole ∙ moved-append e l.front l.back;
-    left = lang_moved p c.0 c.2 l.front l.one l.left; right = lang_moved q c.1 c.3 l.back l.two l.right; made = ap h l.made ∙ sym (c.4 l.one l.two) }
+    front = moved e l.front;
+    back = moved e l.back;
+    one = c.0 l.one;
+    two = c.1 l.two;
+    whole = ap (moved e) l.whole ∙ moved-append e l.front l.back;
+    left = lang_moved p c.0 c.2 l.front l.one l.left;
+    right = lang_moved q c.1 c.3 l.back l.two l.right;
+    made = ap h l.made ∙ sym (c.4 l.one l.two);
+  }
   lang_moved (or p q) h c w x (inl l) = inl (lang_moved p h c.0 w x l)
   lang_moved (or p q) h c w x (inr l) = inr (lang_moved q h c.1 w x l)
   lang_moved (ahead ones twos p q) h c w x (inl l) = inl (lang_moved p h c.0 w x l)
@@ -60,4 +85,4 @@ module _ {T N : Type 0} {kind : T → ℕ} {V : N → Type 0} (prods : Productio
       → (h : X → X) → Carries e v h g → (w u : Words T) (x y : X) → Spells prods d g w x → Spells prods d g u y → map e (toks w) ≡ map e (toks u) → h x ≡ h y
   one_apart after height readable d g follow fit h c w u x y l k same =
       (one_tree prods after height readable d g follow fit (moved e w) (moved e u) (h x) (h y) (spells_moved d g h c w x l) (spells_moved d g h c u y k)
-          (toks-moved e w ∙ same ∙ sym (toks-moved e u))).1
+      (toks-moved e w ∙ same ∙ sym (toks-moved e u))).1

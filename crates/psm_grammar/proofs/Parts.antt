@@ -16,7 +16,13 @@ module _ {T A : Type 0} (kind : T → ℕ) (test : Test T A) (d : ℕ) (F : List
   -- a token of the kinds
   pub token_read : (t : T) (ts : List T) → d ≤ limit → has (kind t) test.kinds ≡ true → Run (Token kind test d) F limit (t ∷ ts) ts (Done (test.value t)) (Done (test.value t)) (Done (test.value t))
   token_read t ts low h = record {
-    front = (t, d) ∷ []; more = []; value = test.value t; parts = refl; begins = record { at = t; whole = refl; known = h; made = refl }; so = (refl, refl); low = (low, tt);
+    front = (t, d) ∷ [];
+    more = [];
+    value = test.value t;
+    parts = refl;
+    begins = record { at = t; whole = refl; known = h; made = refl };
+    so = (refl, refl);
+    low = (low, tt);
     alike = λ w x k l n. subst (λ (u : Words T). Alike (λ m. Done (test.value t) m x) (λ m. Done (test.value t) m x) ((t, d) ∷ []) ts u k) (sym l.whole)
         (λ e. (refl, (λ f. (refl, l.made ∙ ap test.value e), λ f. (refl, l.made ∙ ap test.value e))));
   }
@@ -24,7 +30,13 @@ module _ {T A : Type 0} (kind : T → ℕ) (test : Test T A) (d : ℕ) (F : List
   -- no token of the kinds
   pub token_wrong : (ts : List T) → starts kind test.kinds ts ≡ false → Run (Token kind test d) F limit ts ts Whatever Never Never
   token_wrong ts h = record {
-    front = []; more = (test.example, d) ∷ []; value = test.value test.example; parts = refl; begins = record { at = test.example; whole = refl; known = known; made = refl }; so = tt; low = tt;
+    front = [];
+    more = (test.example, d) ∷ [];
+    value = test.value test.example;
+    parts = refl;
+    begins = record { at = test.example; whole = refl; known = known; made = refl };
+    so = tt;
+    low = tt;
     alike = λ w x k l n. (λ e. refused ts h w x k l (sym (token_first w x k l) ∙ e), λ e. let f = sym (token_first w x k l) ∙ e in cc f);
   }
     where
@@ -52,10 +64,22 @@ module _ {T A Y Z : Type 0} (kind : T → ℕ) (test : Test T A) (f : A → Y �
 
   level_wrong : (ts : List T) → starts kind test.kinds ts ≡ false → Run L F limit ts ts Whatever Never Never
   level_wrong ts h = record {
-    front = []; more = (test.example, e) ∷ word.0; value = f (test.value test.example) word.1; parts = refl;
-    begins = record { front = (test.example, e) ∷ []; back = word.0; one = test.value test.example; two = word.1; whole = refl;
-        left = record { at = test.example; whole = refl; known = known; made = refl }; right = word.2; made = refl };
-    so = tt; low = tt;
+    front = [];
+    more = (test.example, e) ∷ word.0;
+    value = f (test.value test.example) word.1;
+    parts = refl;
+    begins = record {
+      front = (test.example, e) ∷ [];
+      back = word.0;
+      one = test.value test.example;
+      two = word.1;
+      whole = refl;
+      left = record { at = test.example; whole = refl; known = known; made = refl };
+      right = word.2;
+      made = refl;
+    };
+    so = tt;
+    low = tt;
     alike = λ w x k l n.
         let first : head (toks w ++ k) ≡ Some l.left.at = ap (λ u. head (toks u ++ k)) (opens_first w x l) in
         (λ e. refused ts h w x k l (sym first ∙ e), λ e. let f = sym first ∙ e in cc f);
@@ -68,12 +92,27 @@ module _ {T A Y Z : Type 0} (kind : T → ℕ) (test : Test T A) (f : A → Y �
   level_deep : (t : T) (ts : List T) → e ≡ suc limit → has (kind t) test.kinds ≡ true
       → Run L F limit (t ∷ ts) (t ∷ ts) (λ m x. Opens limit (t ∷ ts) m) (λ m x. Opens limit (t ∷ ts) m) Whatever
   level_deep t ts top h = record {
-    front = []; more = (t, e) ∷ word.0; value = f (test.value t) word.1; parts = refl;
-    begins = record { front = (t, e) ∷ []; back = word.0; one = test.value t; two = word.1; whole = refl;
-        left = record { at = t; whole = refl; known = h; made = refl }; right = word.2; made = refl };
-    so = ap (λ n. (t, n)) top; low = tt;
-    alike = λ w x k l n. (subst (λ (u : Words T). head (toks u ++ k) ≡ Some t → Opens limit (t ∷ ts) u) (sym (opens_first w x l))
-        (λ e. let same : l.left.at ≡ t = some_same l.left.at t e in λ i. (same i, top i)), λ e. tt);
+    front = [];
+    more = (t, e) ∷ word.0;
+    value = f (test.value t) word.1;
+    parts = refl;
+    begins = record {
+      front = (t, e) ∷ [];
+      back = word.0;
+      one = test.value t;
+      two = word.1;
+      whole = refl;
+      left = record { at = t; whole = refl; known = h; made = refl };
+      right = word.2;
+      made = refl;
+    };
+    so = ap (λ n. (t, n)) top;
+    low = tt;
+    alike = λ w x k l n. (
+      subst (λ (u : Words T). head (toks u ++ k) ≡ Some t → Opens limit (t ∷ ts) u) (sym (opens_first w x l))
+          (λ e. let same : l.left.at ≡ t = some_same l.left.at t e in λ i. (same i, top i)),
+      λ e. tt,
+    );
   }
 
   pub reads_over : (t : T) (ts : List T) → e ≡ suc limit → (b : Bool) → has (kind t) test.kinds ≡ b → Reads L F limit (t ∷ ts) (cond b (Err (TooDeep (t ∷ ts))) (Err (Wrong (t ∷ ts))))
@@ -111,7 +150,13 @@ reads_followed kind test f same word d F limit known q (t ∷ ts) low h = reads_
 
 pub reads_nothing : {T X : Type 0} (x : X) (F : List T → Type 0) (limit : ℕ) (ts : List T) → Reads (Nothing x) F limit ts (Ok (x, ts))
 reads_nothing x F limit ts = record {
-  front = []; more = []; value = x; parts = refl; begins = record { whole = refl; made = refl }; so = (refl, refl); low = tt;
+  front = [];
+  more = [];
+  value = x;
+  parts = refl;
+  begins = record { whole = refl; made = refl };
+  so = (refl, refl);
+  low = tt;
   alike = λ w z k l n. (λ e. (l.whole, l.made), λ e. (l.whole, l.made));
 }
 
@@ -126,17 +171,25 @@ module _ {T X : Type 0} (kind : T → ℕ) (first follow : List ℕ) (L : Lang T
     (most : ℕ) (exact : (ts : List T) → length ts ≤ most → Reads L (Next kind (first ++ follow)) limit ts (p ts)) where
   many_end : (ts : List T) → starts kind first ts ≡ false → Reads (Many L) (Next kind follow) limit ts (Ok ([], ts))
   many_end ts h = record {
-    front = []; more = []; value = []; parts = refl; begins = refl; so = (refl, refl); low = tt;
+    front = [];
+    more = [];
+    value = [];
+    parts = refl;
+    begins = refl;
+    so = (refl, refl);
+    low = tt;
     alike = λ w xs k l n. (λ e. by w xs k l (inl e), λ e. by w xs k l (inr e));
   }
     where
       refused : (ts : List T) → starts kind first ts ≡ false → (t : T × ℕ) → has (kind t.0) first ≡ true → Some t.0 ≡ head ts → ⊥
       refused [] h t b e = cc e
       refused (s ∷ ts) h t b e = true_false (has (kind t.0) first) b (ap (λ u. has (kind u) first) (some_same t.0 s e) ∙ h)
+
       item : (u v : Words T) (x : X) (k : List T) → L u x → (head (toks (u ++ v) ++ k) ≡ head ts) ⊎ (head (toks (u ++ v) ++ k) ≡ None) → ⊥
       item [] v x k l e = let one = some [] x l in omega (arith, one)
       item (t ∷ u) v x k l (inl e) = refused ts h t (begins t u x l) e
       item (t ∷ u) v x k l (inr e) = cc e
+
       by : (w : Words T) (xs : List X) (k : List T) → Many L w xs → (head (toks w ++ k) ≡ head ts) ⊎ (head (toks w ++ k) ≡ None) → Done [] w xs
       by w [] k l e = (l, refl)
       by w (x ∷ xs) k l e = absurd (item l.0 l.1 x k l.3 (subst (λ (u : Words T). (head (toks u ++ k) ≡ head ts) ⊎ (head (toks u ++ k) ≡ None)) l.2 e))
@@ -169,7 +222,7 @@ module _ {T X : Type 0} (kind : T → ℕ) (first follow : List ℕ) (L : Lang T
       (and_then (p (t ∷ ts)) (λ x rest. and_then (repeat kind first p n rest) (λ xs end. Ok (x ∷ xs, end))))
       (seq_begun t (begun t e)) tt
       (reads_seq L (Next kind (first ++ follow)) limit cons behind (t ∷ ts) (p (t ∷ ts)) (repeat kind first p n) (exact (t ∷ ts) short) ([], [], refl)
-          (λ u x rest s l. again rest (shorter (t ∷ ts) u rest s (some u x l))))
+      (λ u x rest s l. again rest (shorter (t ∷ ts) u rest s (some u x l))))
       into (others t e)
 
   pub reads_many : (n : ℕ) (ts : List T) → length ts ≤ n → length ts ≤ most → Reads (Many L) (Next kind follow) limit ts (repeat kind first p n ts)
@@ -180,6 +233,6 @@ module _ {T X : Type 0} (kind : T → ℕ) (first follow : List ℕ) (L : Lang T
     where
       by : (b : Bool) → has (kind t) first ≡ b → ((rest : List T) → length rest < length (t ∷ ts) → Reads (Many L) (Next kind follow) limit rest (repeat kind first p n rest))
           → Reads (Many L) (Next kind follow) limit (t ∷ ts)
-              (cond b (and_then (p (t ∷ ts)) (λ x rest. and_then (repeat kind first p n rest) (λ xs end. Ok (x ∷ xs, end)))) (Ok ([], t ∷ ts)))
+          (cond b (and_then (p (t ∷ ts)) (λ x rest. and_then (repeat kind first p n rest) (λ xs end. Ok (x ∷ xs, end)))) (Ok ([], t ∷ ts)))
       by false e again = many_end (t ∷ ts) e
       by true e again = many_more n t ts short e again

@@ -62,7 +62,13 @@ module _ {T X : Type 0} {L : Lang T X} {F : List T → Type 0} {limit : ℕ} {ts
       → ((w : Words T) (x : X) (k : List T) → K w x → F k → head (toks w ++ k) ≡ head ts → L w x)
       → ((w : Words T) (x : X) (k : List T) → r.front ≡ [] → K w x → F k → head (toks w ++ k) ≡ None → R w x) → Run K F limit ts rest B E R
   run_in {E} {R} r into others ends = record {
-    front = r.front; more = r.more; value = r.value; parts = r.parts; begins = into (r.front ++ r.more) r.value r.begins; so = r.so; low = r.low;
+    front = r.front;
+    more = r.more;
+    value = r.value;
+    parts = r.parts;
+    begins = into (r.front ++ r.more) r.value r.begins;
+    so = r.so;
+    low = r.low;
     alike = λ w x k l n. guarded (λ m. E m x) (λ m. R m x) r.front rest w k (λ e. r.alike w x k (others w x k l n (e ∙ sym (ap head r.parts))) n) (λ none e. ends w x k none l n e);
   }
 
@@ -77,14 +83,26 @@ module _ {T X : Type 0} {L : Lang T X} {F : List T → Type 0} {limit : ℕ} {ts
   -- less may follow
   pub run_before : {B E R : Words T → X → Type 0} {G : List T → Type 0} → Run L F limit ts rest B E R → ((k : List T) → G k → F k) → Run L G limit ts rest B E R
   run_before r less = record {
-    front = r.front; more = r.more; value = r.value; parts = r.parts; begins = r.begins; so = r.so; low = r.low;
+    front = r.front;
+    more = r.more;
+    value = r.value;
+    parts = r.parts;
+    begins = r.begins;
+    so = r.so;
+    low = r.low;
     alike = λ w x k l n. r.alike w x k l (less k n);
   }
 
   pub run_image : {Y : Type 0} {B E R : Words T → X → Type 0} {C D S : Words T → Y → Type 0} (f : X → Y) → Run L F limit ts rest B E R
       → ((m : Words T) (x : X) → B m x → C m (f x)) → ((m : Words T) (x : X) → E m x → D m (f x)) → ((m : Words T) (x : X) → R m x → S m (f x)) → Run (Image f L) F limit ts rest C D S
   run_image {E} {R} {D} {S} f r c d s = record {
-    front = r.front; more = r.more; value = f r.value; parts = r.parts; begins = record { one = r.value; left = r.begins; made = refl }; so = c r.more r.value r.so; low = r.low;
+    front = r.front;
+    more = r.more;
+    value = f r.value;
+    parts = r.parts;
+    begins = record { one = r.value; left = r.begins; made = refl };
+    so = c r.more r.value r.so;
+    low = r.low;
     alike = λ w z k l n. alike_map (λ m. E m l.one) (λ m. R m l.one) (λ m. D m z) (λ m. S m z) r.front rest w k
         (λ m e. subst (D m) (sym l.made) (d m l.one e)) (λ m e. subst (S m) (sym l.made) (s m l.one e)) (r.alike w l.one k l.left n);
   }
@@ -95,13 +113,17 @@ module _ {T X : Type 0} {L : Lang T X} {F : List T → Type 0} {limit : ℕ} {ts
       → ((m v : Words T) (x : X) (y : Y) → B m x → C (m ++ v) (f x y)) → ((m v : Words T) (x : X) (y : Y) → E m x → D (m ++ v) (f x y))
       → ((m v : Words T) (x : X) (y : Y) → R m x → S (m ++ v) (f x y)) → Run (Seq f L K) G limit ts rest C D S
   run_left {E} {R} {D} {S} f r follow word c d s = record {
-    front = r.front; more = r.more ++ word.0; value = f r.value word.1; parts = r.parts;
+    front = r.front;
+    more = r.more ++ word.0;
+    value = f r.value word.1;
+    parts = r.parts;
     begins = record { front = r.front ++ r.more; back = word.0; one = r.value; two = word.1; whole = sym (append_assoc r.front r.more word.0); left = r.begins; right = word.2; made = refl };
-    so = c r.more word.0 r.value word.1 r.so; low = r.low;
+    so = c r.more word.0 r.value word.1 r.so;
+    low = r.low;
     alike = λ w z k l n.
         let both = alike_left (λ m. E m l.one) (λ m. R m l.one) (λ m. D m z) (λ m. S m z) r.front rest l.front l.back k
-            (λ m e. subst (D (m ++ l.back)) (sym l.made) (d m l.back l.one l.two e)) (λ m e. subst (S (m ++ l.back)) (sym l.made) (s m l.back l.one l.two e))
-            (r.alike l.front l.one (toks l.back ++ k) l.left (follow l.back l.two k l.right n)) in
+        (λ m e. subst (D (m ++ l.back)) (sym l.made) (d m l.back l.one l.two e)) (λ m e. subst (S (m ++ l.back)) (sym l.made) (s m l.back l.one l.two e))
+        (r.alike l.front l.one (toks l.back ++ k) l.left (follow l.back l.two k l.right n)) in
         subst (λ (u : Words T). Alike (λ m. D m z) (λ m. S m z) r.front rest u k) (sym l.whole) both;
   }
 
@@ -111,17 +133,20 @@ module _ {T X : Type 0} {L : Lang T X} {F : List T → Type 0} {limit : ℕ} {ts
       → ((m : Words T) (y : Y) → B m y → C m (f x y)) → ((m : Words T) (y : Y) → E m y → D m (f x y)) → ((m : Words T) (y : Y) → R m y → S m (f x y))
       → Run (Seq f L K) G limit ts end C D S
   run_both {x} {end} {E} {R} {D} {S} f r s follow c d g = record {
-    front = r.front ++ s.front; more = s.more; value = f x s.value;
+    front = r.front ++ s.front;
+    more = s.more;
+    value = f x s.value;
     parts = r.parts ∙ ap (λ k. toks r.front ++ k) s.parts ∙ sym (toks_behind r.front s.front end);
     begins = record { front = r.front; back = s.front ++ s.more; one = x; two = s.value; whole = append_assoc r.front s.front s.more; left = spelled r; right = s.begins; made = refl };
-    so = c s.more s.value s.so; low = low_append limit r.front s.front r.low s.low;
+    so = c s.more s.value s.so;
+    low = low_append limit r.front s.front r.low s.low;
     alike = λ w z k l n.
         let first = subst (λ k'. Alike (λ m. (m ≡ []) × (l.one ≡ x)) (λ m. (m ≡ []) × (l.one ≡ x)) r.front k' l.front (toks l.back ++ k)) s.parts
-            (r.alike l.front l.one (toks l.back ++ k) l.left (follow l.back l.two k l.right n)) in
+        (r.alike l.front l.one (toks l.back ++ k) l.left (follow l.back l.two k l.right n)) in
         let value : l.one ≡ x → z ≡ f x l.two = (λ same. l.made ∙ ap (λ o. f o l.two) same) in
         let second : l.one ≡ x → Alike (λ m. D m z) (λ m. S m z) s.front end l.back k =
-            (λ same. alike_map (λ m. E m l.two) (λ m. R m l.two) (λ m. D m z) (λ m. S m z) s.front end l.back k
-                (λ m e. subst (D m) (sym (value same)) (d m l.two e)) (λ m e. subst (S m) (sym (value same)) (g m l.two e)) (s.alike l.back l.two k l.right n)) in
+        (λ same. alike_map (λ m. E m l.two) (λ m. R m l.two) (λ m. D m z) (λ m. S m z) s.front end l.back k
+        (λ m e. subst (D m) (sym (value same)) (d m l.two e)) (λ m e. subst (S m) (sym (value same)) (g m l.two e)) (s.alike l.back l.two k l.right n)) in
         subst (λ (u : Words T). Alike (λ m. D m z) (λ m. S m z) (r.front ++ s.front) end u k) (sym l.whole)
         (alike_both (λ m. D m z) (λ m. S m z) (l.one ≡ x) r.front s.front end l.front l.back k first second);
   }

@@ -28,16 +28,36 @@ module _ {T N : Type 0} {kind : T → ℕ} {V : N → Type 0} (inner same : (n :
   some (token test) follow h = ((test.example, d) ∷ [], test.value test.example, record { at = test.example; whole = refl; known = h; made = refl })
   some (level n test f) follow h =
       let known = (and_true (has (kind test.example) test.kinds) (may_follow follow (after n)) h).0 in
-      let w = words n in
-      ((test.example, suc d) ∷ w.0, f (test.value test.example) w.1, record {
-        front = (test.example, suc d) ∷ []; back = w.0; one = test.value test.example; two = w.1; whole = refl;
-        left = record { at = test.example; whole = refl; known = known; made = refl }; right = w.2; made = refl })
+      let w = words n in (
+        (test.example, suc d) ∷ w.0,
+        f (test.value test.example) w.1,
+        record {
+          front = (test.example, suc d) ∷ [];
+          back = w.0;
+          one = test.value test.example;
+          two = w.1;
+          whole = refl;
+          left = record { at = test.example; whole = refl; known = known; made = refl };
+          right = w.2;
+          made = refl;
+        },
+      )
   some (next n test f) follow h =
       let known = (and_true (has (kind test.example) test.kinds) (may_follow follow (after n)) h).0 in
-      let w = others n in
-      ((test.example, d) ∷ w.0, f (test.value test.example) w.1, record {
-        front = (test.example, d) ∷ []; back = w.0; one = test.value test.example; two = w.1; whole = refl;
-        left = record { at = test.example; whole = refl; known = known; made = refl }; right = w.2; made = refl })
+      let w = others n in (
+        (test.example, d) ∷ w.0,
+        f (test.value test.example) w.1,
+        record {
+          front = (test.example, d) ∷ [];
+          back = w.0;
+          one = test.value test.example;
+          two = w.1;
+          whole = refl;
+          left = record { at = test.example; whole = refl; known = known; made = refl };
+          right = w.2;
+          made = refl;
+        },
+      )
   some (nothing y) follow h = ([], y, record { whole = refl; made = refl })
   some (seq f p q) follow h =
       let parts = and_true (fits after (leads q follow) p) (fits after follow q) h in
@@ -58,37 +78,63 @@ module _ {T N : Type 0} {kind : T → ℕ} {V : N → Type 0} (inner same : (n :
   pub begun : {X : Type 0} (g : Grammar kind V X) (follow : List ℕ) (t : T) → fits after follow g ≡ true → has (kind t) (first g) ≡ true → Begun t (lang inner same d g)
   begun (token test) follow t h k = (d, [], test.value t, record { at = t; whole = refl; known = k; made = refl })
   begun (level n test f) follow t h k =
-      let w = words n in
-      (suc d, w.0, f (test.value t) w.1, record {
-        front = (t, suc d) ∷ []; back = w.0; one = test.value t; two = w.1; whole = refl;
-        left = record { at = t; whole = refl; known = k; made = refl }; right = w.2; made = refl })
+      let w = words n in (
+        suc d,
+        w.0,
+        f (test.value t) w.1,
+        record {
+          front = (t, suc d) ∷ [];
+          back = w.0;
+          one = test.value t;
+          two = w.1;
+          whole = refl;
+          left = record { at = t; whole = refl; known = k; made = refl };
+          right = w.2;
+          made = refl;
+        },
+      )
   begun (next n test f) follow t h k =
-      let w = others n in
-      (d, w.0, f (test.value t) w.1, record {
-        front = (t, d) ∷ []; back = w.0; one = test.value t; two = w.1; whole = refl;
-        left = record { at = t; whole = refl; known = k; made = refl }; right = w.2; made = refl })
+      let w = others n in (
+        d,
+        w.0,
+        f (test.value t) w.1,
+        record {
+          front = (t, d) ∷ [];
+          back = w.0;
+          one = test.value t;
+          two = w.1;
+          whole = refl;
+          left = record { at = t; whole = refl; known = k; made = refl };
+          right = w.2;
+          made = refl;
+        },
+      )
   begun (nothing y) follow t h k = absurd cc
   begun (seq f p q) follow t h k =
       let parts = and_true (fits after (leads q follow) p) (fits after follow q) h in
       elim (has_either (kind t) (first p) (cond (empty p) (first q) []) k) [
-      inl a ↦ let b = begun p (leads q follow) t parts.0 a in
-              let c = some q follow parts.1 in
-              (b.0, b.1 ++ c.0, f b.2 c.1, record { front = (t, b.0) ∷ b.1; back = c.0; one = b.2; two = c.1; whole = refl; left = b.3; right = c.2; made = refl })
-    | inr a ↦ elim (decide (empty p)) [
-          inl e ↦ let b = begun q follow t parts.1 (sym (ap (has (kind t)) (if_true (empty p) (first q) [] e)) ∙ a) in
-                  let c = none inner same d p e in
-                  (b.0, b.1, f c.0 b.2, record { front = []; back = (t, b.0) ∷ b.1; one = c.0; two = b.2; whole = refl; left = c.1; right = b.3; made = refl })
-        | inr e ↦ absurd (nothing_on (kind t) (sym (ap (has (kind t)) (if_false (empty p) (first q) [] e)) ∙ a)) ] ]
+        | inl a ↦ let b = begun p (leads q follow) t parts.0 a in
+            let c = some q follow parts.1 in
+            (b.0, b.1 ++ c.0, f b.2 c.1, record { front = (t, b.0) ∷ b.1; back = c.0; one = b.2; two = c.1; whole = refl; left = b.3; right = c.2; made = refl })
+        | inr a ↦ elim (decide (empty p)) [
+          | inl e ↦ let b = begun q follow t parts.1 (sym (ap (has (kind t)) (if_true (empty p) (first q) [] e)) ∙ a) in
+              let c = none inner same d p e in
+              (b.0, b.1, f c.0 b.2, record { front = []; back = (t, b.0) ∷ b.1; one = c.0; two = b.2; whole = refl; left = c.1; right = b.3; made = refl })
+          | inr e ↦ absurd (nothing_on (kind t) (sym (ap (has (kind t)) (if_false (empty p) (first q) [] e)) ∙ a))
+        ]
+      ]
   begun (or p q) follow t h k =
       let parts = and_true (fits after follow p) (fits after follow q) (and_true (not (empty p) && apart (first p) (leads q follow)) (fits after follow p && fits after follow q) h).1 in
       elim (has_either (kind t) (first p) (first q) k) [
-      inl a ↦ let b = begun p follow t parts.0 a in (b.0, b.1, b.2, inl b.3)
-    | inr a ↦ let b = begun q follow t parts.1 a in (b.0, b.1, b.2, inr b.3) ]
+        | inl a ↦ let b = begun p follow t parts.0 a in (b.0, b.1, b.2, inl b.3)
+        | inr a ↦ let b = begun q follow t parts.1 a in (b.0, b.1, b.2, inr b.3)
+      ]
   begun (ahead ones twos p q) follow t h k =
       let parts = and_true (fits after follow p) (fits after follow q) (and_true (two_decide ones twos follow p q) (fits after follow p && fits after follow q) h).1 in
       elim (has_either (kind t) (first p) (first q) k) [
-      inl a ↦ let b = begun p follow t parts.0 a in (b.0, b.1, b.2, inl b.3)
-    | inr a ↦ let b = begun q follow t parts.1 a in (b.0, b.1, b.2, inr b.3) ]
+        | inl a ↦ let b = begun p follow t parts.0 a in (b.0, b.1, b.2, inl b.3)
+        | inr a ↦ let b = begun q follow t parts.1 a in (b.0, b.1, b.2, inr b.3)
+      ]
   begun (many p) follow t h k =
       let parts = and_true (not (empty p) && apart (first p) follow) (fits after (first p ++ follow) p) h in
       let b = begun p (first p ++ follow) t parts.1 k in
@@ -107,11 +153,13 @@ module _ {T N : Type 0} {kind : T → ℕ} {V : N → Type 0} (inner same : (n :
       let b = none inner same d q parts.1 in
       (a.0, f a.1 b.0, record { front = (t, a.0) ∷ []; back = []; one = a.1; two = b.0; whole = refl; left = a.2; right = b.1; made = refl })
   one_token ones (or p q) t h k = elim (one_of (is_one ones p) (is_one ones q) k) [
-      inl e ↦ let a = one_token ones p t h e in (a.0, a.1, inl a.2)
-    | inr e ↦ let a = one_token ones q t h e in (a.0, a.1, inr a.2) ]
+    | inl e ↦ let a = one_token ones p t h e in (a.0, a.1, inl a.2)
+    | inr e ↦ let a = one_token ones q t h e in (a.0, a.1, inr a.2)
+  ]
   one_token ones (ahead more twos p q) t h k = elim (one_of (is_one ones p) (is_one ones q) k) [
-      inl e ↦ let a = one_token ones p t h e in (a.0, a.1, inl a.2)
-    | inr e ↦ let a = one_token ones q t h e in (a.0, a.1, inr a.2) ]
+    | inl e ↦ let a = one_token ones p t h e in (a.0, a.1, inl a.2)
+    | inr e ↦ let a = one_token ones q t h e in (a.0, a.1, inr a.2)
+  ]
   one_token ones (many p) t h k = let a = one_token ones p t h k in (a.0, a.1 ∷ [], ((t, a.0) ∷ [], [], refl, a.2, refl))
   one_token ones (image f p) t h k = let a = one_token ones p t h k in (a.0, f a.1, record { one = a.1; left = a.2; made = refl })
 
@@ -124,23 +172,26 @@ module _ {T N : Type 0} {kind : T → ℕ} {V : N → Type 0} (inner same : (n :
   begun_two ones twos (seq f p q) follow t u fit h k o =
       let fits_both = and_true (fits after (leads q follow) p) (fits after follow q) fit in
       elim (one_of (opens_two ones twos p) (is_one ones p && within twos (first q)) o) [
-      inl e ↦ let a = begun_two ones twos p (leads q follow) t u fits_both.0 h k e in
-              let b = some q follow fits_both.1 in
-              (a.0, a.1, a.2 ++ b.0, f a.3 b.1, record { front = (t, a.0) ∷ (u, a.1) ∷ a.2; back = b.0; one = a.3; two = b.1; whole = refl; left = a.4; right = b.2; made = refl })
-    | inr e ↦ let parts = and_true (is_one ones p) (within twos (first q)) e in
-              let a = one_token ones p t h parts.0 in
-              let b = begun q follow u fits_both.1 (within_has (kind u) twos (first q) parts.1 k) in
-              (a.0, b.0, b.1, f a.1 b.2, record { front = (t, a.0) ∷ []; back = (u, b.0) ∷ b.1; one = a.1; two = b.2; whole = refl; left = a.2; right = b.3; made = refl }) ]
+        | inl e ↦ let a = begun_two ones twos p (leads q follow) t u fits_both.0 h k e in
+            let b = some q follow fits_both.1 in
+            (a.0, a.1, a.2 ++ b.0, f a.3 b.1, record { front = (t, a.0) ∷ (u, a.1) ∷ a.2; back = b.0; one = a.3; two = b.1; whole = refl; left = a.4; right = b.2; made = refl })
+        | inr e ↦ let parts = and_true (is_one ones p) (within twos (first q)) e in
+            let a = one_token ones p t h parts.0 in
+            let b = begun q follow u fits_both.1 (within_has (kind u) twos (first q) parts.1 k) in
+            (a.0, b.0, b.1, f a.1 b.2, record { front = (t, a.0) ∷ []; back = (u, b.0) ∷ b.1; one = a.1; two = b.2; whole = refl; left = a.2; right = b.3; made = refl })
+      ]
   begun_two ones twos (or p q) follow t u fit h k o =
       let parts = and_true (fits after follow p) (fits after follow q) (and_true (not (empty p) && apart (first p) (leads q follow)) (fits after follow p && fits after follow q) fit).1 in
       elim (one_of (opens_two ones twos p) (opens_two ones twos q) o) [
-      inl e ↦ let a = begun_two ones twos p follow t u parts.0 h k e in (a.0, a.1, a.2, a.3, inl a.4)
-    | inr e ↦ let a = begun_two ones twos q follow t u parts.1 h k e in (a.0, a.1, a.2, a.3, inr a.4) ]
+        | inl e ↦ let a = begun_two ones twos p follow t u parts.0 h k e in (a.0, a.1, a.2, a.3, inl a.4)
+        | inr e ↦ let a = begun_two ones twos q follow t u parts.1 h k e in (a.0, a.1, a.2, a.3, inr a.4)
+      ]
   begun_two ones twos (ahead sets more p q) follow t u fit h k o =
       let parts = and_true (fits after follow p) (fits after follow q) (and_true (two_decide sets more follow p q) (fits after follow p && fits after follow q) fit).1 in
       elim (one_of (opens_two ones twos p) (opens_two ones twos q) o) [
-      inl e ↦ let a = begun_two ones twos p follow t u parts.0 h k e in (a.0, a.1, a.2, a.3, inl a.4)
-    | inr e ↦ let a = begun_two ones twos q follow t u parts.1 h k e in (a.0, a.1, a.2, a.3, inr a.4) ]
+        | inl e ↦ let a = begun_two ones twos p follow t u parts.0 h k e in (a.0, a.1, a.2, a.3, inl a.4)
+        | inr e ↦ let a = begun_two ones twos q follow t u parts.1 h k e in (a.0, a.1, a.2, a.3, inr a.4)
+      ]
   begun_two ones twos (many p) follow t u fit h k o =
       let parts = and_true (not (empty p) && apart (first p) follow) (fits after (first p ++ follow) p) fit in
       let a = begun_two ones twos p (first p ++ follow) t u parts.1 h k o in
@@ -160,11 +211,13 @@ module _ {T N : Type 0} {kind : T → ℕ} {V : N → Type 0} (inner same : (n :
   long (seq f p q) w x h l =
       let all : length w ≡ length l.front + length l.back = ap length l.whole ∙ length-append l.front l.back in
       elim (one_of (is_long p) (cond (is_long q) true (not (empty p) && not (empty q))) h) [
-      inl a ↦ omega (arith, all, long p l.front l.one a l.left)
-    | inr b ↦ elim (one_of (is_long q) (not (empty p) && not (empty q)) b) [
-          inl a ↦ omega (arith, all, long q l.back l.two a l.right)
-        | inr a ↦ let parts = and_true (not (empty p)) (not (empty q)) a in
-                  omega (arith, all, not_blank p l.front l.one (not_true (empty p) parts.0) l.left, not_blank q l.back l.two (not_true (empty q) parts.1) l.right) ] ]
+        | inl a ↦ omega (arith, all, long p l.front l.one a l.left)
+        | inr b ↦ elim (one_of (is_long q) (not (empty p) && not (empty q)) b) [
+          | inl a ↦ omega (arith, all, long q l.back l.two a l.right)
+          | inr a ↦ let parts = and_true (not (empty p)) (not (empty q)) a in
+              omega (arith, all, not_blank p l.front l.one (not_true (empty p) parts.0) l.left, not_blank q l.back l.two (not_true (empty q) parts.1) l.right)
+        ]
+      ]
   long (or p q) w x h (inl l) = long p w x (and_true (is_long p) (is_long q) h).0 l
   long (or p q) w x h (inr l) = long q w x (and_true (is_long p) (is_long q) h).1 l
   long (ahead ones twos p q) w x h (inl l) = long p w x (and_true (is_long p) (is_long q) h).0 l

@@ -89,13 +89,15 @@ module _ {T X : Type 0} (L : Lang T X) (limit : ℕ) (ts : List T) where
   done x rest r w y l e =
       let a = on r w y l e in
       elim a.2 [
-      inl b ↦ (whole w a.0 r.front a.1 e (r.parts ∙ ap (λ k. toks r.front ++ k) b.0 ∙ append-nil (toks r.front)), b.1.1)
-    | inr b ↦ (a.1 ∙ ap (λ m. r.front ++ m) b.0 ∙ append-nil r.front, b.1) ]
+        | inl b ↦ (whole w a.0 r.front a.1 e (r.parts ∙ ap (λ k. toks r.front ++ k) b.0 ∙ append-nil (toks r.front)), b.1.1)
+        | inr b ↦ (a.1 ∙ ap (λ m. r.front ++ m) b.0 ∙ append-nil r.front, b.1)
+      ]
     where
       same_end : (front m : Words T) → toks (front ++ m) ≡ toks front → m ≡ []
       same_end [] [] e = refl
       same_end [] (x ∷ m) e = absurd (cc e)
       same_end (f ∷ front) m e = same_end front m (tail_same f.0 f.0 (toks (front ++ m)) (toks front) e)
+
       whole : (w m front : Words T) → w ≡ front ++ m → toks w ≡ ts → ts ≡ toks front → w ≡ front
       whole w m front a e p = a ∙ ap (λ v. front ++ v) (same_end front m (ap toks (sym a) ∙ e ∙ p)) ∙ append-nil front
 

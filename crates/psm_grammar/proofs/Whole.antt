@@ -23,7 +23,10 @@ opens_so limit t rest (x ∷ m) h = (m, ap (λ y. y ∷ m) h)
 module _ {T X : Type 0} {L : Lang T X} {F : List T → Type 0} {limit : ℕ} {ts : List T} (end : F []) where
   good : (x : X) (rest : List T) → Run L F limit ts rest (Done x) (Done x) (Done x) → Good L F limit ts x rest
   good x rest r = record {
-    front = r.front; parts = r.parts; spelled = spelled r; low = r.low;
+    front = r.front;
+    parts = r.parts;
+    spelled = spelled r;
+    low = r.low;
     alone = λ y l. (alike_end (λ m. Done x m y) (λ m. Done x m y) r.front rest r.front refl (r.alike r.front y [] l end)).1.1;
     only = λ w y k l n t.
         let on = alike_on (λ m. Done x m y) (λ m. Done x m y) r.front rest w k t.more t.split t.same (r.alike w y k l n) in
@@ -33,7 +36,12 @@ module _ {T X : Type 0} {L : Lang T X} {F : List T → Type 0} {limit : ℕ} {ts
 
   bad : (rest : List T) → Run L F limit ts rest Whatever Never Never → Bad L F limit ts rest
   bad rest r = record {
-    front = r.front; more = r.more; value = r.value; parts = r.parts; begins = r.begins; low = r.low;
+    front = r.front;
+    more = r.more;
+    value = r.value;
+    parts = r.parts;
+    begins = r.begins;
+    low = r.low;
     unfinished = λ y l. (alike_end (λ m. Never m y) (λ m. Never m y) r.front rest r.front refl (r.alike r.front y [] l end)).1;
     none = λ w y k l n t. (alike_on (λ m. Never m y) (λ m. Never m y) r.front rest w k t.more t.split t.same (r.alike w y k l n)).2;
     levels = λ w y k l n. alike_levels (λ m. Never m y) (λ m. Never m y) r.front rest w k (r.alike w y k l n);
@@ -43,8 +51,15 @@ module _ {T X : Type 0} {L : Lang T X} {F : List T → Type 0} {limit : ℕ} {ts
   deep_at t rest r =
       let more = opens_so limit t rest r.more r.so in
       record {
-        front = r.front; opening = t; after = rest; more = more.0; value = r.value; parts = r.parts; reached = refl;
-        begins = subst (λ (m : Words T). L (r.front ++ m) r.value) more.1 r.begins; low = r.low;
+        front = r.front;
+        opening = t;
+        after = rest;
+        more = more.0;
+        value = r.value;
+        parts = r.parts;
+        reached = refl;
+        begins = subst (λ (m : Words T). L (r.front ++ m) r.value) more.1 r.begins;
+        low = r.low;
         opens = λ w y k l n tr.
             let on = alike_on (λ m. Opens limit (t ∷ rest) m) (λ m. Whatever m y) r.front (t ∷ rest) w k tr.more tr.split tr.same (r.alike w y k l n) in
             let v = opens_so limit t rest on.0 on.2 in

@@ -6,8 +6,11 @@
 -- What one or two tokens do not decide is written with the shared tokens first:
 --   name | name "." name: seq f name (optional (behind_token dot name)).
 --   {CREATE TABLE t ";"} CREATE MODULE m: CREATE {TABLE t ";" CREATE} MODULE m.
---   {DECLARE a ";"} {DECLARE b ";"} end, where a and b differ behind DECLARE: nonterminals at the same level,
---     A = [DECLARE A'], A' = a ";" A | b ";" B, B = [DECLARE B'], B' = b ";" B, each A' and B' by next.
+--   {DECLARE a ";"} {DECLARE b ";"} e, where a and b differ behind DECLARE, and e does not begin with it:
+--     nonterminals at the same level, A = [DECLARE A'], A' = a ";" A | b ";" B, B = [DECLARE B'], B' = b ";" B,
+--     where A' and B' stand behind DECLARE by next.
+-- Two tokens decide between parts of which none is empty, so what may be left out takes in what follows it:
+--   CHAR [VARYING "(" n ")"] e, where e can begin with the name VARYING: ahead over VARYING "(" n ")" e and e.
 use Rattle.std.specs.Prelude.{ℕ, List, [], ◌∷◌, Option, Some, None}
 use Rattle.psm_grammar.specs.Language.{Test}
 use Rattle.psm_grammar.specs.Grammar.{Grammar, token, level, next, nothing, seq, or, ahead, many, image}

@@ -27,6 +27,6 @@ impl<T: Drop> From<AllocFailed<T>> for Halt {
     ghost from_gives = { λ _ e. e ≡ Memory };
 
     fn from(_error: AllocFailed<T>) -> Halt {
-        Halt::Memory
+        Self::Memory
     }
 }

@@ -10,4 +10,3 @@ mod laws;
 
 pub use halt::Halt;
 pub use laws::grammar_laws;
-

@@ -1,2 +1,0 @@
-pub mod MiniSame
-pub mod MiniExact

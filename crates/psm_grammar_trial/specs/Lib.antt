@@ -1,2 +1,0 @@
-pub mod Mini
-pub mod MiniReaders
