@@ -1,9 +1,9 @@
 -- A word beside what was read: while it has the same tokens it has them at the same levels, and where it
 -- goes on as the rest does, a fact is known of what is left of it.
-use Rattle.std.proofs.Common.{◌≡◌, ℕ, zero, suc, ◌+◌, ◌≤◌, Bool, true, false, List, [], ◌∷◌, ◌++◌, map, Option, Some, None, Ok, Err, refl, sym, ap, subst, ◌∙◌, append_assoc, arith}
-use Rattle.std.proofs.lemmas.List.{append-nil, map-append}
-use Rattle.psm_grammar.specs.Language.{Words, toks, Lang}
-use Rattle.psm_grammar.specs.Exact.{head, Low, Tracks, Levels}
+use Rattle.std.proofs.Common.{◌≡◌, List, [], ◌∷◌, ◌++◌, Some, None, refl, sym, ap, subst, ◌∙◌, append_assoc}
+use Rattle.std.proofs.lemmas.List.{map-append}
+use Rattle.psm_grammar.specs.Language.{Words, toks}
+use Rattle.psm_grammar.specs.Exact.{head, Levels}
 
 pub toks_behind : {T : Type 0} (u v : Words T) (k : List T) → toks (u ++ v) ++ k ≡ toks u ++ (toks v ++ k)
 toks_behind u v k = ap (λ ts. ts ++ k) (map-append (λ x. x.0) u v) ∙ append_assoc (toks u) (toks v) k

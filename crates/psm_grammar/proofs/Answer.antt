@@ -1,8 +1,8 @@
 -- There is one exact answer.
-use Rattle.std.proofs.Common.{◌≡◌, ◌⊎◌, inl, inr, ℕ, zero, suc, ◌+◌, ◌≤◌, List, [], ◌∷◌, ◌++◌, length, Option, Some, None, Ok, Err, refl, sym, ap, subst, ◌∙◌, append_assoc, arith}
-use Rattle.std.proofs.lemmas.List.{append-nil, length-append}
+use Rattle.std.proofs.Common.{◌≡◌, ◌⊎◌, inl, inr, ℕ, suc, ◌≤◌, List, [], ◌∷◌, ◌++◌, Some, Ok, Err, refl, sym, ap, subst, ◌∙◌, append_assoc, arith}
+use Rattle.std.proofs.lemmas.List.{append-nil}
 use Rattle.psm_grammar.specs.Language.{Words, toks, Lang}
-use Rattle.psm_grammar.specs.Readers.{Stop, Wrong, TooDeep, Out}
+use Rattle.psm_grammar.specs.Readers.{Wrong, TooDeep, Out}
 use Rattle.psm_grammar.specs.Exact.{head, Low, AtEnd, Tracks, Levels, Good, Bad, Deep, Holds}
 use Rattle.psm_grammar.proofs.Alike.{Alike, toks_behind, some_same, alike_on, alike_end}
 use Rattle.psm_grammar.proofs.Runs.{Run, Done, Opens, Whatever, Never, Reads, spelled}

@@ -1,16 +1,16 @@
 -- The reader of each part of a grammar is exact, where the readers of the nonterminals are.
-use Rattle.std.proofs.Common.{◌≡◌, ◌⊎◌, inl, inr, ℕ, zero, suc, ◌+◌, ◌≤◌, ◌<◌, Bool, true, false, not, ◌&&◌, cond, List, [], ◌∷◌, ◌++◌, map, length, Option, Some, None, Ok, Err, refl, sym, ap, subst, ◌∙◌, append_assoc, arith}
-use Rattle.std.proofs.lemmas.List.{append-nil, length-append}
-use Rattle.psm_grammar.specs.Language.{Words, toks, Lang, has, Test, Token, Nothing, Seq, Many, Image}
+use Rattle.std.proofs.Common.{◌≡◌, ◌⊎◌, inl, inr, ℕ, suc, ◌≤◌, ◌<◌, Bool, true, false, not, ◌&&◌, cond, List, [], ◌∷◌, ◌++◌, length, Option, Some, None, Ok, Err, refl, sym, ap, subst, ◌∙◌, arith}
+use Rattle.std.proofs.lemmas.List.{length-append}
+use Rattle.psm_grammar.specs.Language.{Words, toks, Lang, has, Test, Token, Seq}
 use Rattle.psm_grammar.specs.Grammar.{Grammar, token, level, next, nothing, seq, or, ahead, many, image, lang}
-use Rattle.psm_grammar.specs.Readers.{Stop, Wrong, TooDeep, Out, Reader, and_then, starts, starts_two, one, repeat, Deeper, enter, opened, followed, empty, first, read}
-use Rattle.psm_grammar.specs.Exact.{head, Low, Next}
-use Rattle.psm_grammar.specs.Follow.{apart, within, may_follow, leads, openers, seconds, is_long, is_one, opens_two, two_decide, fits}
+use Rattle.psm_grammar.specs.Readers.{Wrong, TooDeep, Out, Reader, starts, starts_two, one, Deeper, opened, empty, first, read}
+use Rattle.psm_grammar.specs.Exact.{head, Next}
+use Rattle.psm_grammar.specs.Follow.{apart, within, may_follow, leads, openers, seconds, is_long, opens_two, two_decide, fits}
 use Rattle.psm_grammar.proofs.Alike.{Alike, guarded, some_same}
-use Rattle.psm_grammar.proofs.KindLists.{and_true, both_true, not_true, true_false, decide, has_left, has_right, if_true, if_false, apart_none, within_has, next_more}
-use Rattle.psm_grammar.proofs.Firsts.{blank, none, begins, led, plain, second, many_behind}
+use Rattle.psm_grammar.proofs.KindLists.{and_true, not_true, true_false, decide, apart_none, within_has}
+use Rattle.psm_grammar.proofs.Firsts.{blank, begins, led, plain, second, many_behind}
 use Rattle.psm_grammar.proofs.Some.{Word, Begun, BegunTwo, some, begun, begun_two, not_blank, long}
-use Rattle.psm_grammar.proofs.Runs.{Run, Done, Opens, Whatever, Never, Reads, reads_in, reads_begun, reads_image, reads_seq}
+use Rattle.psm_grammar.proofs.Runs.{Run, Reads, reads_in, reads_begun, reads_image, reads_seq}
 use Rattle.psm_grammar.proofs.Parts.{reads_token, reads_opened, reads_deep, reads_followed, reads_nothing, reads_many}
 
 -- the readers of the nonterminals are exact one level deeper, or no level is left

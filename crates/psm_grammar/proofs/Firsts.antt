@@ -1,12 +1,11 @@
 -- How the words of a part begin.
-use Rattle.std.proofs.Common.{◌≡◌, ◌⊎◌, inl, inr, ℕ, zero, suc, ◌+◌, ◌≤◌, ◌<◌, Bool, true, false, not, ◌&&◌, cond, List, [], ◌∷◌, ◌++◌, map, length, refl, sym, ap, subst, ◌∙◌, append_assoc, arith}
-use Rattle.std.proofs.lemmas.List.{append-nil, length-append}
-use Rattle.psm_grammar.specs.Language.{Words, toks, Lang, has, Test, Token, Nothing, Seq, Many, Image}
+use Rattle.std.proofs.Common.{◌≡◌, ◌⊎◌, inl, inr, ℕ, suc, true, false, cond, List, [], ◌∷◌, ◌++◌, refl, sym, ap, subst, ◌∙◌}
+use Rattle.psm_grammar.specs.Language.{Words, toks, Lang, has, Many}
 use Rattle.psm_grammar.specs.Grammar.{Grammar, token, level, next, nothing, seq, or, ahead, many, image, lang}
 use Rattle.psm_grammar.specs.Readers.{empty, first}
 use Rattle.psm_grammar.specs.Exact.{Next}
-use Rattle.psm_grammar.specs.Follow.{apart, within, leads, openers, seconds, is_long, fits, lives}
-use Rattle.psm_grammar.proofs.KindLists.{and_true, both_true, not_true, true_false, decide, if_true, if_false, one_of, first_holds, second_holds, has_left, has_right, has_either, has_none, has_neither, apart_none, apart_false, within_has, next_more}
+use Rattle.psm_grammar.specs.Follow.{apart, leads, openers, seconds}
+use Rattle.psm_grammar.proofs.KindLists.{and_true, both_true, true_false, if_true, if_false, one_of, first_holds, second_holds, has_left, has_right, has_none, apart_false, next_more}
 use Rattle.psm_grammar.proofs.Alike.{toks_behind}
 
 -- ---- lists

@@ -1,10 +1,10 @@
 -- The language of a grammar, with no limit on nesting, is what one more production makes of itself.
-use Rattle.std.proofs.Common.{◌≡◌, ◌⊎◌, inl, inr, ℕ, zero, suc, ◌+◌, ◌≤◌, ◌<◌, Bool, true, false, not, ◌&&◌, cond, List, [], ◌∷◌, ◌++◌, map, length, refl, sym, ap, subst, ◌∙◌, append_assoc, arith, Option, Some, None}
-use Rattle.psm_grammar.specs.Language.{Words, toks, Lang, has, Test, Token, Nothing, Seq, Many, Image, Any}
+use Rattle.std.proofs.Common.{◌≡◌, inl, inr, ℕ, zero, suc, ◌+◌, ◌≤◌, Bool, true, List, [], ◌∷◌, ◌++◌, refl, arith, Option, Some, None}
+use Rattle.psm_grammar.specs.Language.{Words, Lang, Many, Any}
 use Rattle.psm_grammar.specs.Grammar.{Grammar, token, level, next, nothing, seq, or, ahead, many, image, lang, Productions, nested, words, Spells}
-use Rattle.psm_grammar.specs.Follow.{Fits, may_follow, fits, lives, lives_in, IsReadable}
+use Rattle.psm_grammar.specs.Follow.{Fits, fits, lives, lives_in}
 use Rattle.psm_grammar.proofs.KindLists.{and_true, one_of}
-use Rattle.psm_grammar.proofs.Some.{Word, some}
+use Rattle.psm_grammar.proofs.Some.{Word}
 
 -- ---- more of the nonterminals gives more of a part
 

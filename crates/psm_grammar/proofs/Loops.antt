@@ -1,8 +1,8 @@
 -- Steps that the proofs of parsers in Rust cite.
-use Rattle.std.proofs.Common.{◌≡◌, ℕ, zero, suc, ◌+◌, ◌-◌, ◌<◌, ◌≤◌, ◌≢◌, Bool, true, false, cond, List, [], ◌∷◌, ◌++◌, length, Option, Some, None, Ok, Err, refl, sym, ap, ◌∙◌, append_assoc, arith}
+use Rattle.std.proofs.Common.{◌≡◌, ℕ, zero, suc, ◌-◌, ◌<◌, ◌≢◌, true, false, List, [], ◌∷◌, ◌++◌, length, Some, Ok, Err, refl, sym, ap, ◌∙◌, append_assoc, arith}
 use Rattle.std.proofs.lemmas.List.{append-nil, length-append}
-use Rattle.psm_grammar.specs.Grammar.{Grammar, Productions}
-use Rattle.psm_grammar.specs.Readers.{Stop, Out, Reader, and_then, starts, repeat, Deeper, deeper, reads}
+use Rattle.psm_grammar.specs.Grammar.{Productions}
+use Rattle.psm_grammar.specs.Readers.{Stop, Out, Reader, and_then, starts, repeat, deeper, reads}
 use Rattle.psm_grammar.specs.Loop.{behind, Looping}
 
 -- where a level is left, the readers of the nonterminals read with one less

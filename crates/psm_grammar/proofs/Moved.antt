@@ -1,7 +1,7 @@
 -- Mapped tokens spell mapped values, so that places apart tokens spell one value.
-use Rattle.std.proofs.Common.{◌≡◌, ◌⊎◌, inl, inr, ℕ, zero, suc, true, List, [], ◌∷◌, ◌++◌, map, refl, sym, ap, subst, ◌∙◌, Option, Some, None}
+use Rattle.std.proofs.Common.{◌≡◌, inl, inr, ℕ, zero, suc, true, List, [], ◌∷◌, ◌++◌, map, refl, sym, ap, subst, ◌∙◌, Option}
 use Rattle.std.proofs.lemmas.List.{map-append}
-use Rattle.psm_grammar.specs.Language.{Words, toks, Lang, has, Test, Token, Nothing, Seq, Many, Image}
+use Rattle.psm_grammar.specs.Language.{Words, toks, Lang, has, Test, Token, Many}
 use Rattle.psm_grammar.specs.Grammar.{Grammar, token, level, next, nothing, seq, or, ahead, many, image, lang, Productions, nested, words, Spells}
 use Rattle.psm_grammar.specs.Follow.{fits, IsReadable}
 use Rattle.psm_grammar.specs.Places.{moved, CarriesToken, Carries, Unnoticed}

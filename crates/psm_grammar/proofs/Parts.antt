@@ -1,11 +1,11 @@
 -- The reader of each kind of part is exact, where the readers of its parts are.
-use Rattle.std.proofs.Common.{◌≡◌, ◌⊎◌, inl, inr, ℕ, zero, suc, ◌+◌, ◌≤◌, ◌<◌, Bool, true, false, not, ◌&&◌, cond, List, [], ◌∷◌, ◌++◌, map, length, Option, Some, None, Ok, Err, refl, sym, ap, subst, ◌∙◌, append_assoc, arith}
+use Rattle.std.proofs.Common.{◌≡◌, ◌⊎◌, inl, inr, ℕ, zero, suc, ◌≤◌, ◌<◌, Bool, true, false, cond, List, [], ◌∷◌, ◌++◌, length, Some, None, Ok, Err, refl, sym, ap, subst, ◌∙◌, arith}
 use Rattle.std.proofs.lemmas.List.{append-nil, length-append}
-use Rattle.psm_grammar.specs.Language.{Words, toks, Lang, has, Test, Token, Nothing, Seq, Many, Image}
-use Rattle.psm_grammar.specs.Readers.{Stop, Wrong, TooDeep, Out, Reader, and_then, starts, starts_two, one, repeat, Deeper, enter, opened, followed}
-use Rattle.psm_grammar.specs.Exact.{head, Low, Next}
-use Rattle.psm_grammar.proofs.Alike.{Alike, guarded, some_same}
-use Rattle.psm_grammar.proofs.KindLists.{true_false, decide}
+use Rattle.psm_grammar.specs.Language.{Words, toks, Lang, has, Test, Token, Nothing, Seq, Many}
+use Rattle.psm_grammar.specs.Readers.{Wrong, TooDeep, Reader, and_then, starts, one, repeat, opened, followed}
+use Rattle.psm_grammar.specs.Exact.{head, Next}
+use Rattle.psm_grammar.proofs.Alike.{Alike, some_same}
+use Rattle.psm_grammar.proofs.KindLists.{true_false}
 use Rattle.psm_grammar.proofs.Some.{Word, Begun}
 use Rattle.psm_grammar.proofs.Runs.{Run, Done, Opens, Whatever, Never, Reads, reads_begun, reads_seq}
 

@@ -1,8 +1,8 @@
 -- The run of a language over tokens, and the runs of languages that are made of others.
-use Rattle.std.proofs.Common.{◌≡◌, ◌⊎◌, inl, inr, ℕ, zero, suc, ◌+◌, ◌≤◌, ◌<◌, Bool, true, false, List, [], ◌∷◌, ◌++◌, map, length, Option, Some, None, Ok, Err, refl, sym, ap, subst, ◌∙◌, append_assoc, arith}
-use Rattle.std.proofs.lemmas.List.{append-nil, length-append}
+use Rattle.std.proofs.Common.{◌≡◌, ◌⊎◌, inl, inr, ℕ, suc, List, [], ◌∷◌, ◌++◌, Some, None, Ok, Err, refl, sym, ap, subst, ◌∙◌, append_assoc}
+use Rattle.std.proofs.lemmas.List.{append-nil}
 use Rattle.psm_grammar.specs.Language.{Words, toks, Lang, Seq, Image}
-use Rattle.psm_grammar.specs.Readers.{Stop, Wrong, TooDeep, Out, Reader, and_then}
+use Rattle.psm_grammar.specs.Readers.{Wrong, TooDeep, Out, Reader, and_then}
 use Rattle.psm_grammar.specs.Exact.{head, Low}
 use Rattle.psm_grammar.proofs.Alike.{Alike, toks_behind, guarded, alike_map, alike_left, alike_both}
 use Rattle.psm_grammar.proofs.Some.{Word, Begun}

@@ -1,10 +1,10 @@
 -- Each part has words: some word, and one for each kind of first token.
-use Rattle.std.proofs.Common.{◌≡◌, ◌⊎◌, inl, inr, ℕ, zero, suc, ◌+◌, ◌≤◌, ◌<◌, Bool, true, false, not, ◌&&◌, cond, List, [], ◌∷◌, ◌++◌, map, length, refl, sym, ap, subst, ◌∙◌, append_assoc, arith, Option, Some, None}
+use Rattle.std.proofs.Common.{◌≡◌, inl, inr, ℕ, suc, ◌+◌, ◌≤◌, true, false, not, ◌&&◌, cond, List, [], ◌∷◌, ◌++◌, length, refl, sym, ap, ◌∙◌, arith, Option}
 use Rattle.std.proofs.lemmas.List.{append-nil, length-append}
-use Rattle.psm_grammar.specs.Language.{Words, toks, Lang, has, Test, Token, Nothing, Seq, Many, Image}
+use Rattle.psm_grammar.specs.Language.{Words, Lang, has}
 use Rattle.psm_grammar.specs.Grammar.{Grammar, token, level, next, nothing, seq, or, ahead, many, image, lang}
 use Rattle.psm_grammar.specs.Readers.{empty, first}
-use Rattle.psm_grammar.specs.Follow.{apart, within, may_follow, leads, openers, seconds, is_long, is_one, opens_two, two_decide, fits, lives}
+use Rattle.psm_grammar.specs.Follow.{apart, within, may_follow, leads, is_long, is_one, opens_two, two_decide, fits}
 use Rattle.psm_grammar.proofs.KindLists.{and_true, not_true, true_false, decide, if_true, if_false, one_of, has_either, within_has}
 use Rattle.psm_grammar.proofs.Firsts.{blank, none}
 

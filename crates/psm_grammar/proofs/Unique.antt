@@ -1,13 +1,13 @@
 -- Tokens spell one word with one value.
-use Rattle.std.proofs.Common.{◌≡◌, ◌⊎◌, inl, inr, ℕ, zero, suc, ◌+◌, ◌≤◌, true, List, [], ◌∷◌, ◌++◌, map, length, Ok, Err, refl, sym, ap, subst, ◌∙◌, arith, Option, Some, None}
-use Rattle.std.proofs.lemmas.List.{append-nil, length-append, length-map}
-use Rattle.psm_grammar.specs.Language.{Words, toks, Lang, Test, Token, Nothing, Seq, Many, Image}
+use Rattle.std.proofs.Common.{◌≡◌, ◌⊎◌, inl, inr, ℕ, zero, suc, ◌+◌, ◌≤◌, true, List, [], ◌∷◌, ◌++◌, length, Ok, Err, refl, sym, ap, subst, ◌∙◌, arith, Option}
+use Rattle.std.proofs.lemmas.List.{append-nil, length-append}
+use Rattle.psm_grammar.specs.Language.{Words, toks, Lang, Many}
 use Rattle.psm_grammar.specs.Grammar.{Grammar, token, level, next, nothing, seq, or, ahead, many, image, lang, Productions, nested, words, Spells}
-use Rattle.psm_grammar.specs.Readers.{Stop, Wrong, TooDeep, Out, reads}
-use Rattle.psm_grammar.specs.Exact.{head, Low, AtEnd}
+use Rattle.psm_grammar.specs.Readers.{Wrong, TooDeep, Out, reads}
+use Rattle.psm_grammar.specs.Exact.{Low, AtEnd}
 use Rattle.psm_grammar.specs.Follow.{fits, IsReadable}
 use Rattle.psm_grammar.proofs.Alike.{Alike, alike_on, alike_end}
-use Rattle.psm_grammar.proofs.Runs.{Run, Done, Opens, Whatever, Never, Reads, low_append}
+use Rattle.psm_grammar.proofs.Runs.{Run, Done, Opens, Reads, low_append}
 use Rattle.psm_grammar.proofs.Whole.{reads_at_end}
 
 pub low_more : {T : Type 0} (a b : ℕ) (w : Words T) → a ≤ b → Low a w → Low b w

@@ -1,10 +1,10 @@
 -- The reader with n more levels is exact for the grammar without limit.
 use Rattle.std.proofs.Common.{◌≡◌, ℕ, zero, suc, ◌+◌, ◌≤◌, ◌<◌, length, true, List, [], ◌∷◌, ◌++◌, Option, Some, None, Ok, Err, refl, sym, ap, subst, ◌∙◌, arith}
 use Rattle.std.proofs.lemmas.List.{append-nil}
-use Rattle.psm_grammar.specs.Language.{Words, toks, Lang}
-use Rattle.psm_grammar.specs.Grammar.{Grammar, lang, Productions, words, Spells}
-use Rattle.psm_grammar.specs.Readers.{Stop, Wrong, TooDeep, Out, Reader, Deeper, read, again, deeper, reads}
-use Rattle.psm_grammar.specs.Exact.{head, AtEnd, Next, Tracks, Good, Bad, Deep, Holds}
+use Rattle.psm_grammar.specs.Language.{Words, Lang}
+use Rattle.psm_grammar.specs.Grammar.{Grammar, Productions, words, Spells}
+use Rattle.psm_grammar.specs.Readers.{Wrong, TooDeep, Out, Reader, Deeper, read, again, deeper, reads}
+use Rattle.psm_grammar.specs.Exact.{AtEnd, Next, Good, Bad, Deep, Holds}
 use Rattle.psm_grammar.specs.Follow.{Fits, may_follow, fits, IsReadable}
 use Rattle.psm_grammar.proofs.Alike.{alike_levels, alike_on, alike_end}
 use Rattle.psm_grammar.proofs.KindLists.{within_has, next_more}

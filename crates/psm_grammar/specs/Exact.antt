@@ -1,7 +1,7 @@
 -- What an exact reader answers: where the run of a language ends, and what it spells.
 use Rattle.std.specs.Prelude.{◌≡◌, ℕ, suc, ◌≤◌, true, List, [], ◌∷◌, ◌++◌, Option, Some, None, Ok, Err}
 use Rattle.psm_grammar.specs.Language.{Words, toks, Lang, has}
-use Rattle.psm_grammar.specs.Readers.{Stop, Wrong, TooDeep, Out}
+use Rattle.psm_grammar.specs.Readers.{Wrong, TooDeep, Out}
 
 -- the first item, if there is one
 abbrev pub head : {T : Type 0} → List T → Option T

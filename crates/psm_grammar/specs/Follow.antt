@@ -1,6 +1,6 @@
 -- When the first token, or the first two, decide how a part of a grammar is read.
 use Rattle.std.specs.Prelude.{◌≡◌, ℕ, zero, suc, Bool, true, false, not, ◌&&◌, List, [], ◌∷◌, ◌++◌, Option, Some, None, if◌then◌else◌}
-use Rattle.psm_grammar.specs.Language.{has, Test}
+use Rattle.psm_grammar.specs.Language.{has}
 use Rattle.psm_grammar.specs.Grammar.{Grammar, token, level, next, nothing, seq, or, ahead, many, image, Productions}
 use Rattle.psm_grammar.specs.Readers.{empty, first}
 

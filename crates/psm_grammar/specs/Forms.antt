@@ -11,9 +11,9 @@
 --     where A' and B' stand behind DECLARE by next.
 -- Two tokens decide between parts of which none is empty, so what may be left out takes in what follows it:
 --   CHAR [VARYING "(" n ")"] e, where e can begin with the name VARYING: ahead over VARYING "(" n ")" e and e.
-use Rattle.std.specs.Prelude.{ℕ, List, [], ◌∷◌, Option, Some, None}
+use Rattle.std.specs.Prelude.{ℕ, List, ◌∷◌, Option, Some, None}
 use Rattle.psm_grammar.specs.Language.{Test}
-use Rattle.psm_grammar.specs.Grammar.{Grammar, token, level, next, nothing, seq, or, ahead, many, image}
+use Rattle.psm_grammar.specs.Grammar.{Grammar, token, nothing, seq, or, many, image}
 
 abbrev pub earlier : {A B : Type 0} → A → B → A
 earlier a b = a

@@ -1,7 +1,7 @@
 -- What functions of a parser answer.
 use Rattle.std.specs.Prelude.{◌≡◌, ℕ, ◌+◌, List, length, Result, Ok, Err}
 use Rattle.psm_grammar.specs.Language.{Lang}
-use Rattle.psm_grammar.specs.Readers.{Stop, Wrong, TooDeep, Out}
+use Rattle.psm_grammar.specs.Readers.{Wrong, TooDeep, Out}
 use Rattle.psm_grammar.specs.Exact.{AtEnd, Good, Bad, Deep}
 use Rattle.psm_grammar.specs.declared.halt.Halt.{Halt}
 use Rattle.psm_grammar.specs.declared.halt.Halt.TheVariants as halt

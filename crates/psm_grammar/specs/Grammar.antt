@@ -1,6 +1,6 @@
 -- Grammars as data, and the language of each.
-use Rattle.std.specs.Prelude.{ℕ, zero, suc, List, Option, Some, None, ◌⊎◌}
-use Rattle.psm_grammar.specs.Language.{Words, Lang, Test, Token, Nothing, Seq, Many, Image, Any}
+use Rattle.std.specs.Prelude.{ℕ, zero, suc, List, ◌⊎◌}
+use Rattle.psm_grammar.specs.Language.{Lang, Test, Token, Nothing, Seq, Many, Image, Any}
 
 -- A part of a grammar over tokens whose kinds are numbered. Its words have values in the last type.
 -- V n are the values of the words of nonterminal n, which stands behind a token that opens its level

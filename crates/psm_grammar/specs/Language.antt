@@ -1,5 +1,5 @@
 -- Languages whose words have values, and the ways to make them of one another.
-use Rattle.std.specs.Prelude.{◌≡◌, ℕ, zero, suc, Bool, true, false, nat_eq, List, [], ◌∷◌, ◌++◌, map, if◌then◌else◌, ◌⊎◌}
+use Rattle.std.specs.Prelude.{◌≡◌, ℕ, Bool, true, false, nat_eq, List, [], ◌∷◌, ◌++◌, map, if◌then◌else◌}
 
 -- tokens, each with the number of levels of nesting that are open where it is read
 abbrev pub Words : Type 0 → Type 0

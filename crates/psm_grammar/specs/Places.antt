@@ -1,5 +1,5 @@
 -- Maps on tokens that a grammar does not notice, as one that forgets where each token stands.
-use Rattle.std.specs.Prelude.{◌≡◌, ℕ, true, List, [], ◌∷◌, map}
+use Rattle.std.specs.Prelude.{◌≡◌, ℕ, true, List, map}
 use Rattle.psm_grammar.specs.Language.{Words, has, Test}
 use Rattle.psm_grammar.specs.Grammar.{Grammar, token, level, next, nothing, seq, or, ahead, many, image, Productions}
 
