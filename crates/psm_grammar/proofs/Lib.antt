@@ -1,0 +1,14 @@
+pub mod Alike
+pub mod KindLists
+pub mod Firsts
+pub mod Some
+pub mod Runs
+pub mod Parts
+pub mod Exactness
+pub mod Heights
+pub mod Unique
+pub mod Answer
+pub mod Whole
+pub mod Moved
+pub mod Loops
+pub mod Answered

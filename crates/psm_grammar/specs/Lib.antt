@@ -1,0 +1,10 @@
+pub mod Language
+pub mod Grammar
+pub mod Readers
+pub mod Exact
+pub mod Follow
+pub mod Places
+pub mod Loop
+pub mod Forms
+pub mod Plain
+pub mod Gives
