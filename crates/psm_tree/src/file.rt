@@ -1,0 +1,120 @@
+//! Module files: tables, and the module with its routines.
+use crate::expr::Expr;
+use crate::name::{Identifier, Names};
+use crate::statement::Statement;
+use crate::types::{Constant, DataType};
+use psm_list::List;
+use psm_token::Place;
+
+/// A module file.
+#[derive(Drop)]
+pub struct FileTree {
+    pub tables: List<TableTree>,
+    pub module: Module,
+}
+
+/// `CREATE TABLE` (ISO/IEC 9075:1992, 11.3).
+#[derive(Drop)]
+pub struct TableTree {
+    pub place: Place,
+    pub name: Identifier,
+    pub first: Element,
+    pub rest: List<Element>,
+}
+
+/// An element of a table: a column or a rule.
+#[derive(Drop)]
+pub enum Element {
+    Column {
+        name: Identifier,
+        kind: DataType,
+        default: Option<Constant>,
+        rules: List<ColumnRule>,
+    },
+    Rule(TableRule),
+}
+
+/// A rule of a column (ISO/IEC 9075:1992, 11.4).
+#[derive(Drop)]
+pub struct ColumnRule {
+    pub place: Place,
+    pub form: ColumnRuleForm,
+}
+
+/// What a rule of a column says.
+#[derive(Drop)]
+pub enum ColumnRuleForm {
+    NotNull,
+    PrimaryKey,
+    Unique,
+    Check(Expr),
+}
+
+/// A rule of a table (ISO/IEC 9075:1992, 11.6).
+#[derive(Drop)]
+pub struct TableRule {
+    pub place: Place,
+    pub form: TableRuleForm,
+}
+
+/// What a rule of a table says.
+#[derive(Drop)]
+pub enum TableRuleForm {
+    PrimaryKey(Names),
+    Unique(Names),
+    Check(Expr),
+}
+
+/// An SQL server module (ISO/IEC 9075-4:1996, module definitions).
+#[derive(Drop)]
+pub struct Module {
+    pub place: Place,
+    pub name: Identifier,
+    pub routines: List<Routine>,
+}
+
+/// How a parameter passes its value.
+#[derive(Clone, Copy, Debug, PartialEq, Eq)]
+pub enum Mode {
+    In,
+    Out,
+    InOut,
+}
+
+/// A parameter. One without a mode is IN.
+#[derive(Debug, Drop)]
+pub struct Parameter {
+    pub place: Place,
+    pub mode: Mode,
+    pub name: Identifier,
+    pub kind: DataType,
+}
+
+/// What a note says of a routine, which has no effect.
+#[derive(Clone, Copy, Debug, PartialEq, Eq)]
+pub enum NoteForm {
+    Language,
+    Deterministic,
+    NotDeterministic,
+    ContainsSql,
+    ReadsSqlData,
+    ModifiesSqlData,
+}
+
+/// A note on a routine.
+#[derive(Clone, Copy, Debug)]
+pub struct Note {
+    pub place: Place,
+    pub form: NoteForm,
+}
+
+/// A procedure, or a function with the type of its result.
+#[derive(Drop)]
+pub struct Routine {
+    pub place: Place,
+    pub name: Identifier,
+    pub parameters: List<Parameter>,
+    pub returns: Option<DataType>,
+    pub notes: List<Note>,
+    pub body: Statement,
+}

@@ -1,0 +1,28 @@
+//! The trees of module files and scripts, and the grammar that says what tokens spell them.
+#![tactic(auto)]
+
+mod expr;
+mod file;
+mod name;
+mod script;
+mod statement;
+mod types;
+
+pub use expr::{
+    CaseExpr, Comparison, Conjunction, Expr, Factor, From, Item, Negation, NextFactor, NextTerm,
+    Pick, Picks, Predicate, Primary, Select, SetFunction, Source, Sum, SumOperator, Term,
+    TermOperator, Test, TextFunction, TrimSide, When,
+};
+pub use file::{
+    ColumnRule, ColumnRuleForm, Element, FileTree, Mode, Module, Note, NoteForm, Parameter,
+    Routine, TableRule, TableRuleForm, TableTree,
+};
+pub use name::{Identifier, Names, Target, Targets};
+pub use script::{Argument, Command, ConstantRow, ScriptTree};
+pub use statement::{
+    Assignment, Block, Branch, Branches, Compound, Condition, ConditionInformation, ConditionItem,
+    ConditionNumber, CursorDeclaration, Declaration, Diagnostics, ForCursor, Handler, HandlerKind,
+    HandlerValue, InsertSource, Label, Order, OrderColumn, OrderedQuery, Signalled, Simple,
+    Statement, StatementInformation, StatementItem, Statements, Updatability, Values, Where,
+};
+pub use types::{Constant, ConstantForm, DataType, Precision, Sign, Signed, State, TypeForm};

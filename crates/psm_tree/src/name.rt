@@ -1,0 +1,32 @@
+//! Names where the grammar has them.
+use psm_list::List;
+use psm_text::Name;
+use psm_token::Place;
+
+/// A name and the place of its token (ISO/IEC 9075:1992, 5.4).
+#[derive(Debug, Drop)]
+pub struct Identifier {
+    pub place: Place,
+    pub name: Name,
+}
+
+/// `name`, or `name.name`: a variable, a parameter or a column.
+#[derive(Debug, Drop)]
+pub struct Target {
+    pub first: Identifier,
+    pub second: Option<Identifier>,
+}
+
+/// One name or more, with a comma between two of them.
+#[derive(Debug, Drop)]
+pub struct Names {
+    pub first: Identifier,
+    pub rest: List<Identifier>,
+}
+
+/// One target or more, with a comma between two of them.
+#[derive(Debug, Drop)]
+pub struct Targets {
+    pub first: Target,
+    pub rest: List<Target>,
+}
