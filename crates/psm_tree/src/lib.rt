@@ -2,6 +2,7 @@
 #![tactic(auto)]
 
 mod expr;
+mod fault;
 mod file;
 mod name;
 mod script;
@@ -13,6 +14,7 @@ pub use expr::{
     Pick, Picks, Predicate, Primary, Select, SetFunction, Source, Sum, SumOperator, Term,
     TermOperator, Test, TextFunction, TrimSide, When,
 };
+pub use fault::ParseFault;
 pub use file::{
     ColumnRule, ColumnRuleForm, Element, FileTree, Mode, Module, Note, NoteForm, Parameter,
     Routine, TableRule, TableRuleForm, TableTree,
