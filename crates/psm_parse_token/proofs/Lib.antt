@@ -1,1 +1,3 @@
 pub mod NameKinds
+pub mod Repeating
+pub mod TokenSame

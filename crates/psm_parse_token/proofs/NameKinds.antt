@@ -9,11 +9,9 @@ use Rattle.psm_token.specs.declared.word.Word.{Word}
 use Rattle.psm_token.specs.declared.word.Word.TheVariants as w
 use Rattle.psm_token.specs.declared.sign.Sign.{Sign}
 use Rattle.psm_token.specs.declared.sign.Sign.TheVariants as s
-use Rattle.psm_token.specs.declared.token.Token.{Token}
-use Rattle.psm_token.specs.declared.token.Token.TheVariants as t
 use Rattle.psm_token.specs.Words.{text_of, is_reserved}
 use Rattle.psm_grammar.specs.Language.{has}
-use Rattle.psm_tree.specs.Kinds.{code, sign_code, token_kind}
+use Rattle.psm_tree.specs.Kinds.{code, sign_code}
 use Rattle.psm_tree.specs.Tests.{name_kinds}
 
 -- a word is of the kinds of names where it is not reserved

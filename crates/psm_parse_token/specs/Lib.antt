@@ -1,0 +1,3 @@
+pub mod Among
+pub mod Fault
+pub mod TokenReaders

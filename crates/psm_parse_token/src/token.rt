@@ -6,6 +6,7 @@ ghost use Rattle.psm_grammar.specs.Readers.{starts, one};
 ghost use Rattle.psm_token.specs.Words.{text_of};
 ghost use Rattle.psm_tree.specs.Kinds.{code, sign_code, codes_of, name_kind, number_kind, text_kind, token_kind, kind};
 ghost use Rattle.psm_tree.specs.Tests.{name_kinds, spelled, word as word_test, sign as sign_test, name as name_test, number as number_test, text as text_test};
+ghost use Rattle.psm_parse_token.specs.Among.{among};
 
 use psm_grammar::Halt;
 use psm_num::Dec;
@@ -173,6 +174,26 @@ pub fn expect_word(tokens: &[Placed], word: Word) -> Result<(Place, &[Placed]), 
         [] => Err(Halt::Syntax(0)),
         [first, rest @ ..] => {
             if kind_number(&first.token) == word_number(word) {
+                Ok((first.place, rest))
+            } else {
+                Err(Halt::Syntax(tokens.len()))
+            }
+        }
+    }
+}
+
+/// Takes one of the words, and gives its place; `Syntax` where another token or none stands there.
+pub fn expect_one_of<'a>(
+    tokens: &'a [Placed],
+    words: &[Word],
+) -> Result<(Place, &'a [Placed]), Halt>
+    ensures exact { Gives (λ x. (x.0, x.1.now)) result (one kind (among words.now) tokens.now) }
+    ensures takes { IfOk result (λ x. length x.1.now < length tokens.now) }
+{
+    match tokens {
+        [] => Err(Halt::Syntax(0)),
+        [first, rest @ ..] => {
+            if is_word_of(kind_number(&first.token), words) {
                 Ok((first.place, rest))
             } else {
                 Err(Halt::Syntax(tokens.len()))
