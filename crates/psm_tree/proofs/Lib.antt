@@ -1,0 +1,3 @@
+pub mod ExprFits
+pub mod StatementFits
+pub mod FileFits
