@@ -1,0 +1,8 @@
+use Rattle.psm_table.specs.Table.{with_row}
+use Rattle.psm_store.proofs.Changes.{set-after}
+use Rattle.psm_store.proofs.copy_store.insert_at.Goals as goal
+
+pub returns-clause-tables : goal.returns-clause-tables
+returns-clause-tables c =
+    set-after (λ x. with_row x c.args.row) c.insert_row.result c.args.tables.now c.args.t c.index-tables-t.result c.insert_row.new.table
+    c.requires.exists c.index-tables-t.is c.insert_row.ensures.table
