@@ -48,3 +48,11 @@ AnswersFound found (Err Absent) = found ≡ None
 AnswersFound found (Err Memory) = Unit {0}
 AnswersFound found (Err Full) = ⊥
 AnswersFound found (Err Duplicate) = ⊥
+
+-- what the exchange of the row that has a key for another answers
+abbrev pub AnswersReplace : List Datum → List Datum → Result (Unit {0}) RowFault → Contents → Type 0
+AnswersReplace key row (Err Absent) t = keyed t key ≡ None
+AnswersReplace key row (Err Memory) t = Unit {0}
+AnswersReplace key row (Ok u) t = IsSome (keyed t key) × AnswersInsert row (Ok u) (without_row key t)
+AnswersReplace key row (Err Duplicate) t = IsSome (keyed t key) × AnswersInsert row (Err Duplicate) (without_row key t)
+AnswersReplace key row (Err Full) t = IsSome (keyed t key) × AnswersInsert row (Err Full) (without_row key t)

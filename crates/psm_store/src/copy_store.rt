@@ -2,6 +2,7 @@ ghost use Rattle.std.specs.Prelude.{◌≡◌, ℕ, ◌+◌, ◌^◌, ◌<◌, L
 ghost use Rattle.psm_table.specs.Definition.{IsDefinition, IsRow, IsKey};
 ghost use Rattle.psm_table.specs.Table.{with_row, namesake};
 ghost use Rattle.psm_store.specs.Kept.{IsOpen, empty_table, stands_for};
+ghost use Rattle.psm_store.specs.Marks.{defs_of};
 ghost use Rattle.psm_store.specs.RowCalls.{AnswersFound, AnswersInsert, after, keyed, row_after, without_row};
 
 use crate::copies::{Copies, copied};
@@ -140,6 +141,7 @@ fn insert_at(tables: &mut [Table], t: u32, row: Row) -> Result<(), RowFault>
     requires fits { IfSome (slice_get tables.old t) (λ c. IsRow c.def row) }
     ensures answer { IfSome (slice_get tables.old t) (AnswersInsert row result) }
     ensures tables { tables.new ≡ after result (λ c. with_row c row) tables.old t }
+    ensures defs { defs_of tables.new ≡ defs_of tables.old }
 {
     insert_row::<Brand>(&mut tables[t as usize], row, Blank::new(1))
 }
@@ -149,6 +151,7 @@ fn erase_at(tables: &mut [Table], t: u32, key: &Key) -> Result<(), RowFault>
     requires fits { IfSome (slice_get tables.old t) (λ c. IsKey c.def key.now) }
     ensures answer { IfSome (slice_get tables.old t) (λ c. AnswersFound (keyed c key.now) result) }
     ensures tables { tables.new ≡ after result (without_row key.now) tables.old t }
+    ensures defs { defs_of tables.new ≡ defs_of tables.old }
 {
     erase_row::<Brand>(&mut tables[t as usize], key, Blank::new(1))
 }
@@ -158,6 +161,7 @@ fn change_at(tables: &mut [Table], t: u32, row: Row) -> Result<(), RowFault>
     requires fits { IfSome (slice_get tables.old t) (λ c. IsRow c.def row) }
     ensures answer { IfSome (slice_get tables.old t) (λ c. AnswersFound (namesake c row) result) }
     ensures tables { tables.new ≡ after result (λ c. with_row c row) tables.old t }
+    ensures defs { defs_of tables.new ≡ defs_of tables.old }
 {
     change_row::<Brand>(&mut tables[t as usize], row, Blank::new(1))
 }

@@ -69,6 +69,7 @@ pub trait Store {
         requires fits { IfSome (slice_get (tables self.old) t) (λ c. IsRow c.def row) }
         ensures answer { IfSome (slice_get (tables self.old) t) (AnswersInsert row result) }
         ensures tables { tables self.new ≡ after result (λ c. with_row c row) (tables self.old) t }
+        ensures defs { defs_of (tables self.new) ≡ defs_of (tables self.old) }
         ensures marks { marks self.new ≡ marks self.old }
         ensures keeps { Keeps AnyMark (holds self.old) (at self.old) (holds self.new) (at self.new) };
 
@@ -78,6 +79,7 @@ pub trait Store {
         requires fits { IfSome (slice_get (tables self.old) t) (λ c. IsKey c.def key.now) }
         ensures answer { IfSome (slice_get (tables self.old) t) (λ c. AnswersFound (keyed c key.now) result) }
         ensures tables { tables self.new ≡ after result (without_row key.now) (tables self.old) t }
+        ensures defs { defs_of (tables self.new) ≡ defs_of (tables self.old) }
         ensures marks { marks self.new ≡ marks self.old }
         ensures keeps { Keeps AnyMark (holds self.old) (at self.old) (holds self.new) (at self.new) };
 
@@ -87,6 +89,7 @@ pub trait Store {
         requires fits { IfSome (slice_get (tables self.old) t) (λ c. IsRow c.def row) }
         ensures answer { IfSome (slice_get (tables self.old) t) (λ c. AnswersFound (namesake c row) result) }
         ensures tables { tables self.new ≡ after result (λ c. with_row c row) (tables self.old) t }
+        ensures defs { defs_of (tables self.new) ≡ defs_of (tables self.old) }
         ensures marks { marks self.new ≡ marks self.old }
         ensures keeps { Keeps AnyMark (holds self.old) (at self.old) (holds self.new) (at self.new) };
 
