@@ -2,7 +2,7 @@
 ghost use Rattle.std.specs.Prelude.{◌≡◌, ◌<◌, IfSome, IfOk, OnOk, length, slice_get};
 ghost use Rattle.psm_table.specs.Definition.{IsRow, IsKey};
 ghost use Rattle.psm_table.specs.Table.{with_row};
-ghost use Rattle.psm_store.specs.Marks.{AnyMark, Keeps, most_marks};
+ghost use Rattle.psm_store.specs.Marks.{AnyMark, Keeps, defs_of, most_marks};
 ghost use Rattle.psm_store.specs.RowCalls.{AnswersReplace, after, without_row};
 
 use crate::store::Store;
@@ -26,6 +26,7 @@ pub fn replace<S: Store, L: Ledger>(
     requires row { IfSome (slice_get (S.tables store.old) t) (λ c. IsRow c.def row) }
     ensures answer { IfSome (slice_get (S.tables store.old) t) (AnswersReplace key.now row result) }
     ensures tables { S.tables store.new ≡ after result (λ c. with_row (without_row key.now c) row) (S.tables store.old) t }
+    ensures defs { defs_of (S.tables store.new) ≡ defs_of (S.tables store.old) }
     ensures marks { S.marks store.new ≡ S.marks store.old }
     ensures keeps { Keeps AnyMark (S.holds store.old) (S.at store.old) (S.holds store.new) (S.at store.new) }
 {
@@ -57,6 +58,7 @@ fn erase_and_insert<S: Store>(
     ensures answer { IfSome (slice_get (S.tables store.old) t) (AnswersReplace key.now row result) }
     ensures tables { OnOk result (S.tables store.new ≡
         after result (λ c. with_row (without_row key.now c) row) (S.tables store.old) t) }
+    ensures defs { defs_of (S.tables store.new) ≡ defs_of (S.tables store.old) }
     ensures marks { S.marks store.new ≡ S.marks store.old }
     ensures keeps { Keeps AnyMark (S.holds store.old) (S.at store.old) (S.holds store.new) (S.at store.new) }
 {
