@@ -21,7 +21,7 @@ pub struct CopyStore {
     tables: Vec<Table>,
     copies: Copies,
     /// How many marks stand for the tables of now and have no copy yet: the deepest ones.
-    open: u128,
+    uncopied: u128,
 }
 
 impl Model for CopyStore {
@@ -29,9 +29,9 @@ impl Model for CopyStore {
 
     ghost Value = { Kept };
 
-    ghost view = { λ s. kept_of s.tables.items s.copies s.open };
+    ghost view = { λ s. kept_of s.tables.items s.copies s.uncopied };
 
-    ghost invariant = { λ s. IsKept (kept_of s.tables.items s.copies s.open) };
+    ghost invariant = { λ s. IsKept (kept_of s.tables.items s.copies s.uncopied) };
 }
 
 impl CopyStore {
@@ -48,7 +48,7 @@ impl CopyStore {
         Ok(CopyStore {
             tables,
             copies: Copies::new(alloc),
-            open: 0,
+            uncopied: 0,
         })
     }
 }
@@ -69,19 +69,19 @@ impl Store for CopyStore {
     }
 
     fn mark(&mut self, _alloc: Global) -> Result<Mark, AllocError> {
-        let depth = self.copies.len() + self.open;
-        self.open += 1;
+        let depth = self.copies.len() + self.uncopied;
+        self.uncopied += 1;
         Ok(Mark { depth, place: 0 })
     }
 
     fn rollback<L: Ledger>(&mut self, mark: Mark, _steps: &mut Steps<L>) {
         self.copies.restore(mark.depth, &mut self.tables);
-        self.open = mark.depth + 1 - self.copies.len();
+        self.uncopied = mark.depth + 1 - self.copies.len();
     }
 
     fn release(&mut self, mark: Mark) {
         self.copies.truncate(mark.depth);
-        self.open = mark.depth - self.copies.len();
+        self.uncopied = mark.depth - self.copies.len();
     }
 
     fn insert(&mut self, alloc: Global, t: u32, row: Row) -> Result<(), RowFault> {
@@ -89,7 +89,7 @@ impl Store for CopyStore {
             alloc,
             self.tables.as_slice(),
             &mut self.copies,
-            &mut self.open,
+            &mut self.uncopied,
         )?;
         insert_at(self.tables.as_mut_slice(), t, row)
     }
@@ -99,7 +99,7 @@ impl Store for CopyStore {
             alloc,
             self.tables.as_slice(),
             &mut self.copies,
-            &mut self.open,
+            &mut self.uncopied,
         )?;
         erase_at(self.tables.as_mut_slice(), t, key)
     }
@@ -109,7 +109,7 @@ impl Store for CopyStore {
             alloc,
             self.tables.as_slice(),
             &mut self.copies,
-            &mut self.open,
+            &mut self.uncopied,
         )?;
         change_at(self.tables.as_mut_slice(), t, row)
     }
@@ -120,18 +120,18 @@ fn keep(
     alloc: Global,
     tables: &[Table],
     copies: &mut Copies,
-    open: &mut u128,
+    uncopied: &mut u128,
 ) -> Result<(), AllocError>
-    requires { length copies.old + open.old < 2 ^ 128 }
-    ensures none_open { OnOk result (open.new ≡ 0) }
-    ensures copies { OnOk result (copies.new ≡ copies.old ++ replicate open.old tables.now) }
-    ensures err_open { OnErr result (open.new ≡ open.old) }
+    requires { length copies.old + uncopied.old < 2 ^ 128 }
+    ensures all_copied { OnOk result (uncopied.new ≡ 0) }
+    ensures copies { OnOk result (copies.new ≡ copies.old ++ replicate uncopied.old tables.now) }
+    ensures err_uncopied { OnErr result (uncopied.new ≡ uncopied.old) }
     ensures err_copies { OnErr result (copies.new ≡ copies.old) }
 {
-    let marks = *open;
+    let marks = *uncopied;
     if marks > 0 {
         copies.push(copied(alloc, tables)?, marks)?;
-        *open = 0;
+        *uncopied = 0;
     }
     Ok(())
 }
