@@ -1,8 +1,8 @@
 -- The causes of the answer, from what was prepared and what was put.
 use Rattle.std.proofs.Common.{◌≡◌, ℕ, List, [], ◌∷◌, Some, None, Err, refl, sym, ap, ◌∙◌, subst, inl, inr}
 use Rattle.std.specs.Prelude.{◌⊎◌}
-use Rattle.psm_tree.specs.Session.{Session, End, Done, Stopped}
-use Rattle.psm_tree.specs.declared.tree.Script.{Script}
+use Rattle.psm_built.specs.Session.{Session, End, Done, Stopped}
+use Rattle.psm_built.specs.declared.tree.Script.{Script}
 use Rattle.psm_machine.specs.Played.{played}
 use Rattle.psm_machine.specs.declared.code.Code.{Code}
 use Rattle.psm.specs.Words.{Files, files_of}

@@ -1,11 +1,11 @@
 -- What is due is answered, where nothing outside fails.
 use Rattle.std.proofs.Common.{◌≡◌, ℕ, ◌<◌, ◌≤◌, List, length, Some, None, Err, refl, sym, ap, ◌∙◌, subst, inl, inr, arith}
 use Rattle.std.specs.Prelude.{◌⊎◌}
-use Rattle.psm_tree.specs.Accepted.{IsScriptFile}
-use Rattle.psm_tree.specs.Session.{Session, End, Done, Stopped, session}
-use Rattle.psm_tree.specs.declared.tree.Module.{Module}
-use Rattle.psm_tree.specs.declared.tree.Script.{Script}
-use Rattle.psm_tree.proofs.Once.{module_once, script_once}
+use Rattle.psm_built.specs.Accepted.{IsScriptFile}
+use Rattle.psm_built.specs.Session.{Session, End, Done, Stopped, session}
+use Rattle.psm_built.specs.declared.tree.Module.{Module}
+use Rattle.psm_built.specs.declared.tree.Script.{Script}
+use Rattle.psm_built.proofs.Once.{module_once, script_once}
 use Rattle.psm_machine.specs.Played.{played}
 use Rattle.psm_machine.specs.declared.code.Code.{Code}
 use Rattle.psm.specs.Words.{Files, files_of}

@@ -2,9 +2,9 @@
 use Rattle.std.proofs.Common.{◌≡◌, ℕ, List, [], Option, Ok, Err, refl, sym, ◌∙◌, subst, inl, inr}
 use Rattle.std.specs.Prelude.{unwrap_or}
 use Rattle.psm_io.specs.Count.{Rose}
-use Rattle.psm_tree.specs.Accepted.{IsScriptFile}
-use Rattle.psm_tree.specs.declared.tree.Signature.{Signature}
-use Rattle.psm_tree.specs.declared.tree.Script.{Script}
+use Rattle.psm_built.specs.Accepted.{IsScriptFile}
+use Rattle.psm_built.specs.declared.tree.Signature.{Signature}
+use Rattle.psm_built.specs.declared.tree.Script.{Script}
 use Rattle.psm_machine.specs.declared.code.Code.{Code}
 use Rattle.psm.specs.Words.{Files}
 use Rattle.psm.specs.Contract.{Fetches, Tells, NoneFailed}

@@ -1,11 +1,11 @@
 -- A session, command by command.
 use Rattle.std.proofs.Common.{◌≡◌, ℕ, suc, ◌+◌, ◌<◌, List, [], ◌∷◌, ◌++◌, length, get_or, drop, Option, refl, sym, ap, ◌∙◌, subst, append_assoc, add-one, drop-cons}
-use Rattle.psm_tree.specs.Meaning.{Ending, Ended, Left, TurnsUsed, Activated}
-use Rattle.psm_tree.specs.Piece.{call_piece}
-use Rattle.psm_tree.specs.Session.{Session, Stopped, then_more, after_call, after_ending}
-use Rattle.psm_tree.specs.declared.tree.Signature.{Signature}
-use Rattle.psm_tree.specs.declared.tree.Command.{Command}
-use Rattle.psm_tree.specs.declared.tree.Command.TheVariants.{Call}
+use Rattle.psm_built.specs.Meaning.{Ending, Ended, Left, TurnsUsed, Activated}
+use Rattle.psm_built.specs.Piece.{call_piece}
+use Rattle.psm_built.specs.Session.{Session, Stopped, then_more, after_call, after_ending}
+use Rattle.psm_built.specs.declared.tree.Signature.{Signature}
+use Rattle.psm_built.specs.declared.tree.Command.{Command}
+use Rattle.psm_built.specs.declared.tree.Command.TheVariants.{Call}
 use Rattle.psm_machine.specs.Played.{played_from, after_run}
 use Rattle.psm_machine.specs.declared.code.Code.{Code}
 use Rattle.psm.specs.Put.{Sunk, PutAll, PutSome, PutFirst}

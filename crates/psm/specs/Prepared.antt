@@ -2,11 +2,11 @@
 use Rattle.std.specs.Prelude.{◌≡◌, ℕ, ◌<◌, ◌≤◌, List, [], ◌∷◌, length, Result, Ok, Err}
 use Rattle.std.specs.Global.{Vec}
 use Rattle.psm_io.specs.Count.{Rose}
-use Rattle.psm_tree.specs.Accepted.{IsScriptFile}
-use Rattle.psm_tree.specs.Session.{session}
-use Rattle.psm_tree.specs.declared.tree.Module.{Module}
-use Rattle.psm_tree.specs.declared.tree.Signature.{Signature}
-use Rattle.psm_tree.specs.declared.tree.Script.{Script}
+use Rattle.psm_built.specs.Accepted.{IsScriptFile}
+use Rattle.psm_built.specs.Session.{session}
+use Rattle.psm_built.specs.declared.tree.Module.{Module}
+use Rattle.psm_built.specs.declared.tree.Signature.{Signature}
+use Rattle.psm_built.specs.declared.tree.Script.{Script}
 use Rattle.psm_machine.specs.declared.code.Code.{Code}
 use Rattle.psm_machine.specs.Played.{played}
 use Rattle.psm.specs.Words.{Files}

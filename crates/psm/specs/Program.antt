@@ -1,9 +1,9 @@
 -- What the program owes for two files, where nothing outside fails: a status and pieces of text.
 use Rattle.std.specs.Prelude.{◌≡◌, ℕ, ◌<◌, ◌≤◌, ◌⊎◌, List, [], ◌∷◌, length}
-use Rattle.psm_tree.specs.Accepted.{IsModuleFile, IsScriptFile}
-use Rattle.psm_tree.specs.Session.{End, Done, Stopped, session}
-use Rattle.psm_tree.specs.declared.tree.Module.{Module}
-use Rattle.psm_tree.specs.declared.tree.Script.{Script}
+use Rattle.psm_built.specs.Accepted.{IsModuleFile, IsScriptFile}
+use Rattle.psm_built.specs.Session.{End, Done, Stopped, session}
+use Rattle.psm_built.specs.declared.tree.Module.{Module}
+use Rattle.psm_built.specs.declared.tree.Script.{Script}
 use Rattle.psm.specs.Words.{Files}
 use Rattle.psm.specs.Message.{too_long, module_not_built, script_not_built}
 use Rattle.psm.specs.declared.status.Status.{Status}

@@ -1,6 +1,6 @@
 -- What is put for a status.
 use Rattle.std.specs.Prelude.{◌≡◌, ℕ, ◌⊎◌, List, [], ◌∷◌}
-use Rattle.psm_tree.specs.Session.{Session, Done, Stopped}
+use Rattle.psm_built.specs.Session.{Session, Done, Stopped}
 use Rattle.psm.specs.Words.{Files}
 use Rattle.psm.specs.Put.{Sunk, PutAll, PutSome, PutFirst}
 use Rattle.psm.specs.Prepared.{status_of, line_of}

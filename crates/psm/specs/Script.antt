@@ -1,10 +1,10 @@
 -- What running a script leaves in the sink.
 use Rattle.std.specs.Prelude.{◌≡◌, ℕ, [], ◌∷◌, Option, Some}
-use Rattle.psm_tree.specs.Meaning.{Ending, Ended, Left, TurnsUsed, Activated}
-use Rattle.psm_tree.specs.Piece.{call_piece}
-use Rattle.psm_tree.specs.Session.{Session, Done, Stopped, given}
-use Rattle.psm_tree.specs.declared.tree.Command.{Command}
-use Rattle.psm_tree.specs.declared.tree.Command.TheVariants.{Call}
+use Rattle.psm_built.specs.Meaning.{Ending, Ended, Left, TurnsUsed, Activated}
+use Rattle.psm_built.specs.Piece.{call_piece}
+use Rattle.psm_built.specs.Session.{Session, Done, Stopped, given}
+use Rattle.psm_built.specs.declared.tree.Command.{Command}
+use Rattle.psm_built.specs.declared.tree.Command.TheVariants.{Call}
 use Rattle.psm_machine.specs.Machine.{ran}
 use Rattle.psm_machine.specs.declared.code.Code.{Code}
 use Rattle.psm_machine.specs.RunEnd.{ending_of}

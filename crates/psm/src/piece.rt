@@ -1,11 +1,11 @@
 ghost use Rattle.std.specs.Prelude.{◌≡◌, ◌++◌, ℕ, IfOk, OnOk, List as Seq};
 ghost use Rattle.psm_machine.specs.RunEnd.{ending_of};
-ghost use Rattle.psm_tree.specs.Piece.{call_piece, first_line, value_line, value_lines, next_value, condition_line, last_lines};
+ghost use Rattle.psm_built.specs.Piece.{call_piece, first_line, value_line, value_lines, next_value, condition_line, last_lines};
 ghost use Rattle.psm_value.specs.declared.datum.Datum.{Datum};
 
 use itoa::Buffer;
 use psm_machine::RunEnd;
-use psm_tree::{Mode, Name, Parameter, Signature};
+use psm_built::{Mode, Name, Parameter, Signature};
 use psm_value::{Datum, SqlState};
 use std::alloc::{AllocError, Global};
 

@@ -7,7 +7,7 @@ ghost use Rattle.psm.specs.declared.prepare.Which.TheVariants as which;
 use crate::words::Files;
 use psm_io::{Shelf, ShelfFault};
 use psm_machine::{Code, lower};
-use psm_tree::{ReadFault, Script, Signature, read_module, read_script};
+use psm_built::{ReadFault, Script, Signature, read_module, read_script};
 use std::alloc::Global;
 
 /// The most bytes of a file.

@@ -13,7 +13,7 @@ use crate::status::Status;
 use crate::words::Files;
 use psm_io::{Sink, SinkFault};
 use psm_machine::Code;
-use psm_tree::Script;
+use psm_built::Script;
 use std::alloc::{AllocError, Global};
 
 /// The turns of a session.

@@ -1,14 +1,14 @@
 ghost use Rattle.std.specs.Prelude.{◌≡◌, IfOk};
 ghost use Rattle.psm_machine.specs.Played.{played};
 ghost use Rattle.psm_machine.specs.RunEnd.{ending_of};
-ghost use Rattle.psm_tree.specs.Session.{given};
-ghost use Rattle.psm_tree.specs.Piece.{call_piece};
+ghost use Rattle.psm_built.specs.Session.{given};
+ghost use Rattle.psm_built.specs.Piece.{call_piece};
 ghost use Rattle.psm.specs.Script.{Plays, Steps, Runs};
 
 use crate::piece::piece_of_call;
 use psm_io::{Sink, SinkFault};
 use psm_machine::{Code, RunEnd, run};
-use psm_tree::{Argument, Command, Script};
+use psm_built::{Argument, Command, Script};
 use psm_value::Datum;
 use std::alloc::{AllocError, Global};
 

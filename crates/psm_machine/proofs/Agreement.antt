@@ -3,24 +3,24 @@ use Rattle.std.proofs.Common.{◌≡◌, ℕ, zero, suc, ◌+◌, List, [], ◌�
 use Rattle.std.specs.Prelude.{option_map}
 use Rattle.psm_sqlstate.specs.declared.state.SqlState.{SqlState}
 use Rattle.psm_value.specs.declared.datum.Datum.{Datum}
-use Rattle.psm_tree.specs.Names.{names_of}
-use Rattle.psm_tree.specs.Frame.{Frame}
-use Rattle.psm_tree.specs.Accepted.{IsResolved}
-use Rattle.psm_tree.specs.Meaning.{Outcome, Normal, executed, after_storing, sum_value, with_value, entry_frame, activated, from_entry, at_end, Activated}
-use Rattle.psm_tree.specs.Meaning as meaning
-use Rattle.psm_tree.specs.Session.{Session, commands_from, session, given, after_call, after_ending, then_more}
-use Rattle.psm_tree.specs.Piece.{call_piece}
+use Rattle.psm_built.specs.Names.{names_of}
+use Rattle.psm_built.specs.Frame.{Frame}
+use Rattle.psm_built.specs.Accepted.{IsResolved}
+use Rattle.psm_built.specs.Meaning.{Outcome, Normal, executed, after_storing, sum_value, with_value, entry_frame, activated, from_entry, at_end, Activated}
+use Rattle.psm_built.specs.Meaning as meaning
+use Rattle.psm_built.specs.Session.{Session, commands_from, session, given, after_call, after_ending, then_more}
+use Rattle.psm_built.specs.Piece.{call_piece}
 use Rattle.psm_value.specs.declared.sqltype.SqlType.TheVariants.{Integer}
 use Rattle.psm_value.specs.Stored.{stored}
-use Rattle.psm_tree.specs.declared.tree.Parameter.{Parameter}
-use Rattle.psm_tree.specs.declared.tree.Statement.{Statement}
-use Rattle.psm_tree.specs.declared.tree.Statement.TheVariants.{Set}
-use Rattle.psm_tree.specs.declared.tree.Signature.{Signature}
-use Rattle.psm_tree.specs.declared.tree.Procedure.{Procedure}
-use Rattle.psm_tree.specs.declared.tree.Module.{Module}
-use Rattle.psm_tree.specs.declared.tree.Command.{Command}
-use Rattle.psm_tree.specs.declared.tree.Command.TheVariants.{Call}
-use Rattle.psm_tree.specs.declared.tree.Script.{Script}
+use Rattle.psm_built.specs.declared.tree.Parameter.{Parameter}
+use Rattle.psm_built.specs.declared.tree.Statement.{Statement}
+use Rattle.psm_built.specs.declared.tree.Statement.TheVariants.{Set}
+use Rattle.psm_built.specs.declared.tree.Signature.{Signature}
+use Rattle.psm_built.specs.declared.tree.Procedure.{Procedure}
+use Rattle.psm_built.specs.declared.tree.Module.{Module}
+use Rattle.psm_built.specs.declared.tree.Command.{Command}
+use Rattle.psm_built.specs.declared.tree.Command.TheVariants.{Call}
+use Rattle.psm_built.specs.declared.tree.Script.{Script}
 use Rattle.psm_machine.specs.declared.code.Code.{Code}
 use Rattle.psm_machine.specs.Machine.{Halt, halt, ended, entry_slots, ran, run_from, run_with}
 use Rattle.psm_machine.specs.Lowered.{body_lines}

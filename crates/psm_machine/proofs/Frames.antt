@@ -6,12 +6,12 @@ use Rattle.psm_value.specs.declared.datum.Datum.{Datum}
 use Rattle.psm_value.specs.declared.datum.Datum.TheVariants.{Null}
 use Rattle.psm_value.specs.declared.sqltype.SqlType.TheVariants.{Integer}
 use Rattle.psm_value.specs.Stored.{stored}
-use Rattle.psm_tree.specs.Names.{same_name, place_of, names_of}
-use Rattle.psm_tree.specs.Frame.{Frame, Variable, value_of, assigned}
-use Rattle.psm_tree.specs.Meaning.{frame_with, before_others, with_value, variable_for, entry_frame, returned, out_values}
-use Rattle.psm_tree.specs.declared.tree.Mode.{Mode}
-use Rattle.psm_tree.specs.declared.tree.Mode.TheVariants.{In, Out, InOut}
-use Rattle.psm_tree.specs.declared.tree.Parameter.{Parameter}
+use Rattle.psm_built.specs.Names.{same_name, place_of, names_of}
+use Rattle.psm_built.specs.Frame.{Frame, Variable, value_of, assigned}
+use Rattle.psm_built.specs.Meaning.{frame_with, before_others, with_value, variable_for, entry_frame, returned, out_values}
+use Rattle.psm_built.specs.declared.tree.Mode.{Mode}
+use Rattle.psm_built.specs.declared.tree.Mode.TheVariants.{In, Out, InOut}
+use Rattle.psm_built.specs.declared.tree.Parameter.{Parameter}
 use Rattle.psm_machine.specs.Lowered.{slot_of}
 use Rattle.psm_machine.specs.Machine.{entry_slots, slots_with, slot_stored, slot_before, results, result_before}
 

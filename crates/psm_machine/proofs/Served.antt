@@ -5,16 +5,16 @@ use Rattle.std.specs.List.{flat_map, AllByRecursion}
 use Rattle.std.proofs.lemmas.Bool.{lt-ltb}
 use Rattle.std.proofs.lemmas.List.{length-map}
 use Rattle.std.proofs.lemmas.List.Concat.{flat_map-cons}
-use Rattle.psm_tree.specs.Names.{same_name, place_of, names_of}
-use Rattle.psm_tree.specs.Accepted.{IsKnown, IsKnownTerm, IsResolved}
-use Rattle.psm_tree.specs.declared.tree.Parameter.{Parameter}
-use Rattle.psm_tree.specs.declared.tree.Operand.{Operand}
-use Rattle.psm_tree.specs.declared.tree.Operand.TheVariants as operands
-use Rattle.psm_tree.specs.declared.tree.Sign.{Sign}
-use Rattle.psm_tree.specs.declared.tree.Sign.TheVariants.{Plus, Minus}
-use Rattle.psm_tree.specs.declared.tree.Term.{Term}
-use Rattle.psm_tree.specs.declared.tree.Statement.{Statement}
-use Rattle.psm_tree.specs.declared.tree.Statement.TheVariants.{Set}
+use Rattle.psm_built.specs.Names.{same_name, place_of, names_of}
+use Rattle.psm_built.specs.Accepted.{IsKnown, IsKnownTerm, IsResolved}
+use Rattle.psm_built.specs.declared.tree.Parameter.{Parameter}
+use Rattle.psm_built.specs.declared.tree.Operand.{Operand}
+use Rattle.psm_built.specs.declared.tree.Operand.TheVariants as operands
+use Rattle.psm_built.specs.declared.tree.Sign.{Sign}
+use Rattle.psm_built.specs.declared.tree.Sign.TheVariants.{Plus, Minus}
+use Rattle.psm_built.specs.declared.tree.Term.{Term}
+use Rattle.psm_built.specs.declared.tree.Statement.{Statement}
+use Rattle.psm_built.specs.declared.tree.Statement.TheVariants.{Set}
 use Rattle.psm_machine.specs.declared.code.Instr.{Instr}
 use Rattle.psm_machine.specs.declared.code.Instr.TheVariants.{Store, End}
 use Rattle.psm_machine.specs.WellFormed.{is_well_formed}

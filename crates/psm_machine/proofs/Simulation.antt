@@ -8,19 +8,19 @@ use Rattle.psm_value.specs.declared.datum.Datum.{Datum}
 use Rattle.psm_value.specs.declared.sqltype.SqlType.TheVariants.{Integer}
 use Rattle.psm_value.specs.Stored.{stored}
 use Rattle.psm_value.specs.Arithmetic.{sum_of, difference_of}
-use Rattle.psm_tree.specs.Names.{place_of, names_of}
-use Rattle.psm_tree.specs.Frame.{Frame}
-use Rattle.psm_tree.specs.Accepted.{IsTarget, IsKnown, IsKnownTerm, IsResolved}
-use Rattle.psm_tree.specs.Meaning.{Outcome, Normal, Executed, executed, after_storing, operand_value, signed_value, terms_value, sum_value, with_value, entry_frame, activated, from_entry, with_turn, at_end, ending_of, out_values, Activated, Ended, Left, TurnsUsed}
-use Rattle.psm_tree.specs.Meaning as meaning
-use Rattle.psm_tree.specs.declared.tree.Parameter.{Parameter}
-use Rattle.psm_tree.specs.declared.tree.Operand.{Operand}
-use Rattle.psm_tree.specs.declared.tree.Operand.TheVariants as operands
-use Rattle.psm_tree.specs.declared.tree.Sign.{Sign}
-use Rattle.psm_tree.specs.declared.tree.Sign.TheVariants.{Plus, Minus}
-use Rattle.psm_tree.specs.declared.tree.Term.{Term}
-use Rattle.psm_tree.specs.declared.tree.Statement.{Statement}
-use Rattle.psm_tree.specs.declared.tree.Statement.TheVariants.{Set}
+use Rattle.psm_built.specs.Names.{place_of, names_of}
+use Rattle.psm_built.specs.Frame.{Frame}
+use Rattle.psm_built.specs.Accepted.{IsTarget, IsKnown, IsKnownTerm, IsResolved}
+use Rattle.psm_built.specs.Meaning.{Outcome, Normal, Executed, executed, after_storing, operand_value, signed_value, terms_value, sum_value, with_value, entry_frame, activated, from_entry, with_turn, at_end, ending_of, out_values, Activated, Ended, Left, TurnsUsed}
+use Rattle.psm_built.specs.Meaning as meaning
+use Rattle.psm_built.specs.declared.tree.Parameter.{Parameter}
+use Rattle.psm_built.specs.declared.tree.Operand.{Operand}
+use Rattle.psm_built.specs.declared.tree.Operand.TheVariants as operands
+use Rattle.psm_built.specs.declared.tree.Sign.{Sign}
+use Rattle.psm_built.specs.declared.tree.Sign.TheVariants.{Plus, Minus}
+use Rattle.psm_built.specs.declared.tree.Term.{Term}
+use Rattle.psm_built.specs.declared.tree.Statement.{Statement}
+use Rattle.psm_built.specs.declared.tree.Statement.TheVariants.{Set}
 use Rattle.psm_machine.specs.declared.code.Instr.{Instr}
 use Rattle.psm_machine.specs.declared.code.Instr.TheVariants.{Store, End}
 use Rattle.psm_machine.specs.Machine.{State, Halt, AtEnd, WithCondition, go_on, halt, pushed, with_result, in_slot}

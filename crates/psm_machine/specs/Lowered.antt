@@ -1,17 +1,17 @@
 -- The lines that stand for a procedure's body.
 use Rattle.std.specs.Prelude.{ℕ, List, [], ◌∷◌, ◌++◌, unwrap_or, IsSome}
 use Rattle.std.specs.List.{flat_map}
-use Rattle.psm_tree.specs.Names.{place_of}
-use Rattle.psm_tree.specs.Accepted.{IsKnownSum}
-use Rattle.psm_tree.specs.Numeral.{numeral_value}
-use Rattle.psm_tree.specs.declared.tree.Operand.{Operand}
-use Rattle.psm_tree.specs.declared.tree.Operand.TheVariants as operands
-use Rattle.psm_tree.specs.declared.tree.Sign.{Sign}
-use Rattle.psm_tree.specs.declared.tree.Sign.TheVariants.{Plus, Minus}
-use Rattle.psm_tree.specs.declared.tree.Term.{Term}
-use Rattle.psm_tree.specs.declared.tree.Sum.{Sum}
-use Rattle.psm_tree.specs.declared.tree.Statement.{Statement}
-use Rattle.psm_tree.specs.declared.tree.Statement.TheVariants.{Set}
+use Rattle.psm_built.specs.Names.{place_of}
+use Rattle.psm_built.specs.Accepted.{IsKnownSum}
+use Rattle.psm_built.specs.Numeral.{numeral_value}
+use Rattle.psm_built.specs.declared.tree.Operand.{Operand}
+use Rattle.psm_built.specs.declared.tree.Operand.TheVariants as operands
+use Rattle.psm_built.specs.declared.tree.Sign.{Sign}
+use Rattle.psm_built.specs.declared.tree.Sign.TheVariants.{Plus, Minus}
+use Rattle.psm_built.specs.declared.tree.Term.{Term}
+use Rattle.psm_built.specs.declared.tree.Sum.{Sum}
+use Rattle.psm_built.specs.declared.tree.Statement.{Statement}
+use Rattle.psm_built.specs.declared.tree.Statement.TheVariants.{Set}
 use Rattle.psm_machine.specs.declared.code.Instr.{Instr}
 use Rattle.psm_machine.specs.declared.code.Instr.TheVariants.{Const, Var, Add, Sub, Store, End}
 

@@ -6,10 +6,10 @@ use Rattle.psm_value.specs.declared.datum.Datum.TheVariants.{Null}
 use Rattle.psm_value.specs.declared.sqltype.SqlType.TheVariants.{Integer}
 use Rattle.psm_value.specs.Arithmetic.{sum_of, difference_of}
 use Rattle.psm_value.specs.Stored.{stored}
-use Rattle.psm_tree.specs.Meaning.{Ended, Left, TurnsUsed, Activated}
-use Rattle.psm_tree.specs.declared.tree.Mode.{Mode}
-use Rattle.psm_tree.specs.declared.tree.Mode.TheVariants.{In, Out, InOut}
-use Rattle.psm_tree.specs.declared.tree.Parameter.{Parameter}
+use Rattle.psm_built.specs.Meaning.{Ended, Left, TurnsUsed, Activated}
+use Rattle.psm_built.specs.declared.tree.Mode.{Mode}
+use Rattle.psm_built.specs.declared.tree.Mode.TheVariants.{In, Out, InOut}
+use Rattle.psm_built.specs.declared.tree.Parameter.{Parameter}
 use Rattle.psm_machine.specs.declared.code.Instr.{Instr}
 use Rattle.psm_machine.specs.declared.code.Instr.TheVariants.{Const, Var, Add, Sub, Store, End}
 use Rattle.psm_machine.specs.declared.code.Code.{Code}

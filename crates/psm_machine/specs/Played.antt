@@ -1,11 +1,11 @@
 -- What a script prints over code: a session in which each CALL is a run of the machine.
 use Rattle.std.specs.Prelude.{ℕ, ◌+◌, List, [], ◌∷◌, Option, Some, None}
-use Rattle.psm_tree.specs.Meaning.{Activated}
-use Rattle.psm_tree.specs.Session.{Session, Done, Stopped, given, after_call}
-use Rattle.psm_tree.specs.declared.tree.Signature.{Signature}
-use Rattle.psm_tree.specs.declared.tree.Command.{Command}
-use Rattle.psm_tree.specs.declared.tree.Command.TheVariants.{Call}
-use Rattle.psm_tree.specs.declared.tree.Script.{Script}
+use Rattle.psm_built.specs.Meaning.{Activated}
+use Rattle.psm_built.specs.Session.{Session, Done, Stopped, given, after_call}
+use Rattle.psm_built.specs.declared.tree.Signature.{Signature}
+use Rattle.psm_built.specs.declared.tree.Command.{Command}
+use Rattle.psm_built.specs.declared.tree.Command.TheVariants.{Call}
+use Rattle.psm_built.specs.declared.tree.Script.{Script}
 use Rattle.psm_machine.specs.Machine.{ran}
 use Rattle.psm_machine.specs.declared.code.Code.{Code}
 

@@ -3,8 +3,8 @@ use Rattle.std.specs.Prelude.{◌≡◌, ℕ, List, length, Some, Result, Ok, Er
 use Rattle.std.specs.Global.{Vec}
 use Rattle.psm_sqlstate.specs.declared.state.SqlState.{SqlState}
 use Rattle.psm_value.specs.declared.datum.Datum.{Datum}
-use Rattle.psm_tree.specs.Meaning.{Ending, Activated}
-use Rattle.psm_tree.specs.Meaning as meaning
+use Rattle.psm_built.specs.Meaning.{Ending, Activated}
+use Rattle.psm_built.specs.Meaning as meaning
 use Rattle.psm_machine.specs.Machine.{ran}
 use Rattle.psm_machine.specs.declared.code.Code.{Code}
 use Rattle.psm_machine.specs.declared.activation.RunEnd.{RunEnd}

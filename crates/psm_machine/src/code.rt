@@ -2,7 +2,7 @@ ghost use Rattle.std.specs.Prelude.{IsTrue, length};
 ghost use Rattle.psm_machine.specs.WellFormed.{is_well_formed};
 
 use psm_list::List;
-use psm_tree::Signature;
+use psm_built::Signature;
 use psm_value::Datum;
 
 /// One instruction. A slot is a parameter's place, from 0.

@@ -1,17 +1,17 @@
 ghost use Rattle.std.specs.Prelude.{◌≡◌, ◌++◌, ℕ, Some, IsSome, IfOk, OnOk, [], ◌∷◌, List as Seq};
 ghost use Rattle.psm_value.specs.declared.datum.Datum.{Datum};
-ghost use Rattle.psm_tree.specs.declared.tree.Script.{Script};
-ghost use Rattle.psm_tree.specs.Names.{names_of, place_of};
-ghost use Rattle.psm_tree.specs.Accepted.{AreDistinct, IsWellNamed, IsResolved, IsKnown, IsKnownSum};
-ghost use Rattle.psm_tree.specs.Meaning.{activated};
-ghost use Rattle.psm_tree.specs.Session.{session};
+ghost use Rattle.psm_built.specs.declared.tree.Script.{Script};
+ghost use Rattle.psm_built.specs.Names.{names_of, place_of};
+ghost use Rattle.psm_built.specs.Accepted.{AreDistinct, IsWellNamed, IsResolved, IsKnown, IsKnownSum};
+ghost use Rattle.psm_built.specs.Meaning.{activated};
+ghost use Rattle.psm_built.specs.Session.{session};
 ghost use Rattle.psm_machine.specs.Machine.{ran};
 ghost use Rattle.psm_machine.specs.Lowered.{slot_of, operand_line, sign_line, sum_lines, body_lines, IsKnownBody};
 ghost use Rattle.psm_machine.specs.Played.{played};
 
 use crate::code::{Code, Instr};
 use psm_list::List;
-use psm_tree::{Module, Name, Names, Operand, Procedure, Sign, Signature, Statement, Sum};
+use psm_built::{Module, Name, Names, Operand, Procedure, Sign, Signature, Statement, Sum};
 use std::alloc::{AllocError, Global};
 
 /// The code of a module's procedure: a run of it is the procedure's activation, and a script prints over

@@ -1,5 +1,5 @@
 use Rattle.std.proofs.Common.{◌≡◌, ◌++◌, drop}
-use Rattle.psm_tree.specs.Piece.{value_lines}
+use Rattle.psm_built.specs.Piece.{value_lines}
 use Rattle.psm.proofs.piece.put_value_lines.Given as goal
 
 abbrev pub invariant-loop-parameter : goal.invariant-loop-parameter

@@ -1,7 +1,7 @@
 use Rattle.std.proofs.Common.{refl, subst, Err}
-use Rattle.psm_tree.specs.Reading.{Gives}
-use Rattle.psm_tree.specs.declared.fault.ReadFault.{ReadFault}
-use Rattle.psm_tree.specs.declared.tree.Script.{Script}
+use Rattle.psm_built.specs.Reading.{Gives}
+use Rattle.psm_built.specs.declared.fault.ReadFault.{ReadFault}
+use Rattle.psm_built.specs.declared.tree.Script.{Script}
 use Rattle.psm.proofs.prepare.script_over.Goals as goal
 
 pub returns-in-Err-Refused : goal.returns-in-Err-Refused

@@ -1,5 +1,5 @@
 use Rattle.std.proofs.Common.{◌≡◌, ◌++◌, drop}
-use Rattle.psm_tree.specs.Session.{given}
+use Rattle.psm_built.specs.Session.{given}
 use Rattle.psm.proofs.script.values_of.Given as goal
 
 abbrev pub invariant-loop-argument : goal.invariant-loop-argument

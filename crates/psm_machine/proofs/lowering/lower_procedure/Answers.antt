@@ -1,5 +1,5 @@
 use Rattle.std.proofs.Common.{◌≡◌, ap, ◌∙◌}
-use Rattle.psm_tree.specs.Names.{names_of}
+use Rattle.psm_built.specs.Names.{names_of}
 use Rattle.psm_machine.proofs.Served.{resolved-known}
 use Rattle.psm_machine.proofs.lowering.lower_procedure.Goals as goal
 

@@ -1,6 +1,6 @@
 use Rattle.std.proofs.Common.{◌≡◌, ◌++◌, drop}
 use Rattle.std.specs.List.{flat_map, AllByRecursion}
-use Rattle.psm_tree.specs.Accepted.{IsKnownTerm}
+use Rattle.psm_built.specs.Accepted.{IsKnownTerm}
 use Rattle.psm_machine.specs.Lowered.{sum_lines, term_lines}
 use Rattle.psm_machine.proofs.lowering.lower_sum.Given as goal
 
