@@ -22,6 +22,9 @@ pub struct Mark {
 ///
 /// `tables` are the tables of now, and `marks` is how many marks are open. `holds` says which marks are
 /// held, and `at` are the tables that a rollback to a held mark gives.
+///
+/// A refused row call changes nothing. `Memory` may come at any time, and the other refusals come exactly
+/// where they are due.
 pub trait Store {
     ghost tables: { Self → List Contents };
 
