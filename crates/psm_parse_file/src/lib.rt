@@ -1,7 +1,0 @@
-//! Module files and scripts from their tokens.
-#![tactic(auto)]
-
-mod call;
-mod insert;
-mod notes;
-mod parameters;

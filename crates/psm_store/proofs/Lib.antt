@@ -1,0 +1,4 @@
+pub mod Changes
+pub mod Marked
+pub mod Runs
+pub mod TestRows

@@ -1,0 +1,4 @@
+pub mod Groups
+pub mod Kept
+pub mod Marks
+pub mod RowCalls
