@@ -5,9 +5,9 @@ ghost use Rattle.psm.specs.Prepared.{Prepares, Builds, Scripts, Gets};
 ghost use Rattle.psm.specs.declared.prepare.Which.TheVariants as which;
 
 use crate::words::Files;
+use psm_built::{ReadFault, Script, Signature, read_module, read_script};
 use psm_io::{Shelf, ShelfFault};
 use psm_machine::{Code, lower};
-use psm_built::{ReadFault, Script, Signature, read_module, read_script};
 use std::alloc::Global;
 
 /// The most bytes of a file.

@@ -86,8 +86,8 @@ module _ {T N : Type 0} {kind : T → ℕ} {V : N → Type 0} where
       let g = and_true (apart ones (openers q)) _ f.1 in
       let k = and_true (within (seconds ones follow p) twos) _ g.1 in
       both_true _ _ a.0 (both_true _ _ b.0 (both_true _ _ c.0 (both_true _ _ d.0 (both_true _ _ e.0 (both_true _ _ f.0 (both_true _ _ g.0 (both_true _ _
-          (within_sub (seconds ones follow p) twos (seconds ones fewer p) (seconds_sub ones p follow fewer s) k.0)
-          (apart_sub twos (seconds ones follow q) (seconds ones fewer q) (seconds_sub ones q follow fewer s) k.1))))))))
+      (within_sub (seconds ones follow p) twos (seconds ones fewer p) (seconds_sub ones p follow fewer s) k.0)
+      (apart_sub twos (seconds ones follow q) (seconds ones fewer q) (seconds_sub ones q follow fewer s) k.1))))))))
 
   module _ (after : N → Option (List ℕ)) where
     -- what is read by its first tokens before some tokens is so before fewer
@@ -104,7 +104,7 @@ module _ {T N : Type 0} {kind : T → ℕ} {V : N → Type 0} where
         let b = and_true (not (empty p)) (apart (first p) (leads q follow)) a.0 in
         let c = and_true (fits after follow p) (fits after follow q) a.1 in
         both_true _ _ (both_true _ _ b.0 (apart_sub (first p) (leads q follow) (leads q fewer) (leads_sub q follow fewer s) b.1))
-            (both_true _ _ (fits_sub p follow fewer s c.0) (fits_sub q follow fewer s c.1))
+        (both_true _ _ (fits_sub p follow fewer s c.0) (fits_sub q follow fewer s c.1))
     fits_sub (ahead ones twos p q) follow fewer s h =
         let a = and_true (two_decide ones twos follow p q) (fits after follow p && fits after follow q) h in
         let c = and_true (fits after follow p) (fits after follow q) a.1 in
@@ -113,7 +113,7 @@ module _ {T N : Type 0} {kind : T → ℕ} {V : N → Type 0} where
         let a = and_true (not (empty p) && apart (first p) follow) (fits after (first p ++ follow) p) h in
         let b = and_true (not (empty p)) (apart (first p) follow) a.0 in
         both_true _ _ (both_true _ _ b.0 (apart_sub (first p) follow fewer s b.1))
-            (fits_sub p (first p ++ follow) (first p ++ fewer) (sub_append (first p) fewer (first p) follow (sub_same (first p)) s) a.1)
+        (fits_sub p (first p ++ follow) (first p ++ fewer) (sub_append (first p) fewer (first p) follow (sub_same (first p)) s) a.1)
     fits_sub (image f p) follow fewer s h = fits_sub p follow fewer s h
 
 -- A part is read by its first tokens before tokens of these kinds. As a record it is compared by its part,
