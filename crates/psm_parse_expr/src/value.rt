@@ -1,0 +1,133 @@
+//! Values: sums, terms and factors (ISO/IEC 9075:1992, 6.11 to 6.13).
+ghost use Rattle.std.specs.Prelude.{ℕ, ◌≡◌, ◌<◌, ◌≤◌, length, IfOk};
+ghost use Rattle.psm_grammar.specs.Gives.{Gives};
+ghost use Rattle.psm_parse_expr.specs.ExprReaders.{sum_read, next_terms_read, next_term_read, term_read, next_factors_read, next_factor_read, factor_read, sum_behind_read};
+
+use crate::beside::beside;
+use crate::primary::primary;
+use crate::operator::{at_plus_minus, at_sum_operator, at_term_operator, plus_minus, sum_operator, term_operator};
+use psm_grammar::Halt;
+use psm_list::{Boxed, List};
+use psm_parse_token::expect_word;
+use psm_token::{Placed, Word};
+use psm_tree::{Factor, NextFactor, NextTerm, Sum, Term};
+use std::alloc::Global;
+
+/// A sum on the heap.
+#[cycle(expression)]
+pub(crate) fn boxed_sum(alloc: Global, tokens: &[Placed], levels: u32) -> Result<(Boxed<Sum>, &[Placed]), Halt>
+    ensures exact { Gives (λ x. (x.0, x.1.now)) result (sum_read levels tokens.now) }
+    ensures takes { IfOk result (λ x. length x.1.now < length tokens.now) }
+{
+    let (value, rest) = sum(alloc, tokens, levels)?;
+    Ok((Boxed::new(alloc, value)?, rest))
+}
+
+/// Terms with `+`, `-` or `||` between them, or a lone one.
+#[cycle(expression)]
+#[tactic(auto, unfolding(crate::specs::ExprReaders::sum_read))]
+pub(crate) fn sum(alloc: Global, tokens: &[Placed], levels: u32) -> Result<(Sum, &[Placed]), Halt>
+    ensures exact { Gives (λ x. (x.0, x.1.now)) result (sum_read levels tokens.now) }
+    ensures takes { IfOk result (λ x. length x.1.now < length tokens.now) }
+{
+    let (first, rest) = term(alloc, tokens, levels)?;
+    let ((first, others), rest) = beside(first, next_terms(alloc, rest, levels))?;
+    Ok((Sum { first, rest: others }, rest))
+}
+
+/// The terms behind operators.
+#[cycle(expression)]
+#[tactic(auto, unfolding(crate::specs::ExprReaders::next_terms_read))]
+pub(crate) fn next_terms(alloc: Global, tokens: &[Placed], levels: u32) -> Result<(List<NextTerm>, &[Placed]), Halt>
+    ensures exact { Gives (λ x. (x.0, x.1.now)) result (next_terms_read levels tokens.now) }
+    ensures takes { IfOk result (λ x. length x.1.now ≤ length tokens.now) }
+{
+    let mut items = Vec::new(alloc);
+    let mut rest = tokens;
+    while at_sum_operator(rest) {
+        let (item, next) = next_term(alloc, rest, levels)?;
+        items.push(item)?;
+        rest = next;
+    }
+    Ok((List::of(items), rest))
+}
+
+/// An operator and the term behind it.
+#[cycle(expression)]
+#[tactic(auto, unfolding(crate::specs::ExprReaders::next_term_read))]
+pub(crate) fn next_term(alloc: Global, tokens: &[Placed], levels: u32) -> Result<(NextTerm, &[Placed]), Halt>
+    ensures exact { Gives (λ x. (x.0, x.1.now)) result (next_term_read levels tokens.now) }
+    ensures takes { IfOk result (λ x. length x.1.now < length tokens.now) }
+{
+    let (operator, rest) = sum_operator(tokens)?;
+    let (term, rest) = term(alloc, rest, levels)?;
+    Ok((NextTerm { operator, term }, rest))
+}
+
+/// Factors with `*` or `/` between them, or a lone one.
+#[cycle(expression)]
+#[tactic(auto, unfolding(crate::specs::ExprReaders::term_read))]
+pub(crate) fn term(alloc: Global, tokens: &[Placed], levels: u32) -> Result<(Term, &[Placed]), Halt>
+    ensures exact { Gives (λ x. (x.0, x.1.now)) result (term_read levels tokens.now) }
+    ensures takes { IfOk result (λ x. length x.1.now < length tokens.now) }
+{
+    let (first, rest) = factor(alloc, tokens, levels)?;
+    let ((first, others), rest) = beside(first, next_factors(alloc, rest, levels))?;
+    Ok((Term { first, rest: others }, rest))
+}
+
+/// The factors behind operators.
+#[cycle(expression)]
+#[tactic(auto, unfolding(crate::specs::ExprReaders::next_factors_read))]
+pub(crate) fn next_factors(alloc: Global, tokens: &[Placed], levels: u32) -> Result<(List<NextFactor>, &[Placed]), Halt>
+    ensures exact { Gives (λ x. (x.0, x.1.now)) result (next_factors_read levels tokens.now) }
+    ensures takes { IfOk result (λ x. length x.1.now ≤ length tokens.now) }
+{
+    let mut items = Vec::new(alloc);
+    let mut rest = tokens;
+    while at_term_operator(rest) {
+        let (item, next) = next_factor(alloc, rest, levels)?;
+        items.push(item)?;
+        rest = next;
+    }
+    Ok((List::of(items), rest))
+}
+
+/// An operator and the factor behind it.
+#[cycle(expression)]
+#[tactic(auto, unfolding(crate::specs::ExprReaders::next_factor_read))]
+pub(crate) fn next_factor(alloc: Global, tokens: &[Placed], levels: u32) -> Result<(NextFactor, &[Placed]), Halt>
+    ensures exact { Gives (λ x. (x.0, x.1.now)) result (next_factor_read levels tokens.now) }
+    ensures takes { IfOk result (λ x. length x.1.now < length tokens.now) }
+{
+    let (operator, rest) = term_operator(tokens)?;
+    let (factor, rest) = factor(alloc, rest, levels)?;
+    Ok((NextFactor { operator, factor }, rest))
+}
+
+/// A primary, with a sign before it where there is one.
+#[cycle(expression)]
+#[tactic(auto, unfolding(crate::specs::ExprReaders::factor_read))]
+pub(crate) fn factor(alloc: Global, tokens: &[Placed], levels: u32) -> Result<(Factor, &[Placed]), Halt>
+    ensures exact { Gives (λ x. (x.0, x.1.now)) result (factor_read levels tokens.now) }
+    ensures takes { IfOk result (λ x. length x.1.now < length tokens.now) }
+{
+    if at_plus_minus(tokens) {
+        let (sign, rest) = plus_minus(tokens)?;
+        let (primary, rest) = primary(alloc, rest, levels)?;
+        return Ok((Factor { sign: Some(sign), primary }, rest));
+    }
+    let (primary, rest) = primary(alloc, tokens, levels)?;
+    Ok((Factor { sign: None, primary }, rest))
+}
+
+/// A word, and a sum behind it.
+#[cycle(expression)]
+#[tactic(auto, unfolding(crate::specs::ExprReaders::sum_behind_read))]
+pub(crate) fn sum_behind(alloc: Global, tokens: &[Placed], levels: u32, word: Word) -> Result<(Boxed<Sum>, &[Placed]), Halt>
+    ensures exact { Gives (λ x. (x.0, x.1.now)) result (sum_behind_read word levels tokens.now) }
+    ensures takes { IfOk result (λ x. length x.1.now < length tokens.now) }
+{
+    let (_, rest) = expect_word(tokens, word)?;
+    boxed_sum(alloc, rest, levels)
+}
