@@ -1,1 +1,2 @@
+pub mod ExprExact
 pub mod ExprSame

@@ -29,7 +29,11 @@ pub fn source(alloc: Global, tokens: &[Placed], levels: u32) -> Result<(Source, 
 
 /// A source on the heap.
 #[cycle(expression)]
-pub(crate) fn boxed_source(alloc: Global, tokens: &[Placed], levels: u32) -> Result<(Boxed<Source>, &[Placed]), Halt>
+pub(crate) fn boxed_source(
+    alloc: Global,
+    tokens: &[Placed],
+    levels: u32,
+) -> Result<(Boxed<Source>, &[Placed]), Halt>
     ensures exact { Gives (λ x. (x.0, x.1.now)) result (source_read levels tokens.now) }
     ensures takes { IfOk result (λ x. length x.1.now < length tokens.now) }
 {
@@ -40,7 +44,12 @@ pub(crate) fn boxed_source(alloc: Global, tokens: &[Placed], levels: u32) -> Res
 /// A word, and a source behind it.
 #[cycle(expression)]
 #[tactic(auto, unfolding(crate::specs::ExprReaders::source_behind_read))]
-pub(crate) fn source_behind(alloc: Global, tokens: &[Placed], levels: u32, word: Word) -> Result<(Source, &[Placed]), Halt>
+pub(crate) fn source_behind(
+    alloc: Global,
+    tokens: &[Placed],
+    levels: u32,
+    word: Word,
+) -> Result<(Source, &[Placed]), Halt>
     ensures exact { Gives (λ x. (x.0, x.1.now)) result (source_behind_read word levels tokens.now) }
     ensures takes { IfOk result (λ x. length x.1.now < length tokens.now) }
 {
@@ -51,7 +60,11 @@ pub(crate) fn source_behind(alloc: Global, tokens: &[Placed], levels: u32, word:
 /// A comma and the source behind it.
 #[cycle(expression)]
 #[tactic(auto, unfolding(crate::specs::ExprReaders::next_source_read))]
-pub(crate) fn next_source(alloc: Global, tokens: &[Placed], levels: u32) -> Result<(Source, &[Placed]), Halt>
+pub(crate) fn next_source(
+    alloc: Global,
+    tokens: &[Placed],
+    levels: u32,
+) -> Result<(Source, &[Placed]), Halt>
     ensures exact { Gives (λ x. (x.0, x.1.now)) result (next_source_read levels tokens.now) }
     ensures takes { IfOk result (λ x. length x.1.now < length tokens.now) }
 {
@@ -62,7 +75,11 @@ pub(crate) fn next_source(alloc: Global, tokens: &[Placed], levels: u32) -> Resu
 /// The sources behind commas.
 #[cycle(expression)]
 #[tactic(auto, unfolding(crate::specs::ExprReaders::next_sources_read))]
-pub(crate) fn next_sources(alloc: Global, tokens: &[Placed], levels: u32) -> Result<(List<Source>, &[Placed]), Halt>
+pub(crate) fn next_sources(
+    alloc: Global,
+    tokens: &[Placed],
+    levels: u32,
+) -> Result<(List<Source>, &[Placed]), Halt>
     ensures exact { Gives (λ x. (x.0, x.1.now)) result (next_sources_read levels tokens.now) }
     ensures takes { IfOk result (λ x. length x.1.now ≤ length tokens.now) }
 {
@@ -78,7 +95,11 @@ pub(crate) fn next_sources(alloc: Global, tokens: &[Placed], levels: u32) -> Res
 
 /// One source or more, with a comma between two of them.
 #[tactic(auto, unfolding(crate::specs::ExprReaders::sources_read))]
-pub fn sources(alloc: Global, tokens: &[Placed], levels: u32) -> Result<((Source, List<Source>), &[Placed]), Halt>
+pub fn sources(
+    alloc: Global,
+    tokens: &[Placed],
+    levels: u32,
+) -> Result<((Source, List<Source>), &[Placed]), Halt>
     ensures exact { Gives (λ x. (x.0, x.1.now)) result (sources_read levels tokens.now) }
     ensures takes { IfOk result (λ x. length x.1.now < length tokens.now) }
 {
@@ -89,7 +110,11 @@ pub fn sources(alloc: Global, tokens: &[Placed], levels: u32) -> Result<((Source
 /// The arguments of a call behind their opening parenthesis, at their own level, and the closing one.
 #[cycle(expression)]
 #[tactic(auto, unfolding(crate::specs::ExprReaders::arguments_read))]
-pub fn arguments(alloc: Global, tokens: &[Placed], levels: u32) -> Result<(List<Source>, &[Placed]), Halt>
+pub fn arguments(
+    alloc: Global,
+    tokens: &[Placed],
+    levels: u32,
+) -> Result<(List<Source>, &[Placed]), Halt>
     ensures exact { Gives (λ x. (x.0, x.1.now)) result (arguments_read levels tokens.now) }
     ensures takes { IfOk result (λ x. length x.1.now < length tokens.now) }
 {

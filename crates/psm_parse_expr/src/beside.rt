@@ -15,7 +15,10 @@ use psm_parse_token::expect_sign;
 use psm_token::{Placed, Sign};
 
 /// A value, and what was read behind it.
-pub(crate) fn beside<X: Drop, Y: Drop>(x: X, read: Result<(Y, &[Placed]), Halt>) -> Result<((X, Y), &[Placed]), Halt>
+pub(crate) fn beside<X: Drop, Y: Drop>(
+    x: X,
+    read: Result<(Y, &[Placed]), Halt>,
+) -> Result<((X, Y), &[Placed]), Halt>
     ensures { Beside x read.entry result }
 {
     let (y, rest) = read?;

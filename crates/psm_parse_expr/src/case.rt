@@ -4,9 +4,9 @@ ghost use Rattle.psm_grammar.specs.Gives.{Gives};
 ghost use Rattle.psm_tree.specs.ExprValues.{whens_of};
 ghost use Rattle.psm_parse_expr.specs.ExprReaders.{case_read, case_rest_read, whens_read, next_whens_read, when_read, otherwise_read};
 
+use crate::argument::source_behind;
 use crate::beside::beside;
 use crate::condition::expr;
-use crate::argument::source_behind;
 use crate::operator::level_below;
 use psm_grammar::Halt;
 use psm_list::{Boxed, List};
@@ -18,7 +18,11 @@ use std::alloc::Global;
 /// A CASE expression (ISO/IEC 9075:1992, 6.9).
 #[cycle(expression)]
 #[tactic(auto, unfolding(crate::specs::ExprReaders::case_read))]
-pub(crate) fn case(alloc: Global, tokens: &[Placed], levels: u32) -> Result<(Primary, &[Placed]), Halt>
+pub(crate) fn case(
+    alloc: Global,
+    tokens: &[Placed],
+    levels: u32,
+) -> Result<(Primary, &[Placed]), Halt>
     ensures exact { Gives (λ x. (x.0, x.1.now)) result (case_read levels tokens.now) }
     ensures takes { IfOk result (λ x. length x.1.now < length tokens.now) }
 {
@@ -32,39 +36,70 @@ pub(crate) fn case(alloc: Global, tokens: &[Placed], levels: u32) -> Result<(Pri
 /// The operand of a CASE expression where there is one, and its branches.
 #[cycle(expression)]
 #[tactic(auto, unfolding(crate::specs::ExprReaders::case_rest_read))]
-pub(crate) fn case_rest(alloc: Global, tokens: &[Placed], levels: u32) -> Result<(CaseExpr, &[Placed]), Halt>
+pub(crate) fn case_rest(
+    alloc: Global,
+    tokens: &[Placed],
+    levels: u32,
+) -> Result<(CaseExpr, &[Placed]), Halt>
     ensures exact { Gives (λ x. (x.0, x.1.now)) result (case_rest_read levels tokens.now) }
     ensures takes { IfOk result (λ x. length x.1.now < length tokens.now) }
 {
     if at_word(tokens, Word::When) {
         let ((first, rest, otherwise), tokens) = whens(alloc, tokens, levels)?;
         let operand = None;
-        return Ok((CaseExpr { operand, first, rest, otherwise }, tokens));
+        return Ok((
+            CaseExpr {
+                operand,
+                first,
+                rest,
+                otherwise,
+            },
+            tokens,
+        ));
     }
     let (operand, rest) = expr(alloc, tokens, levels)?;
     let ((operand, whens), tokens) = beside(operand, whens(alloc, rest, levels))?;
     let (first, rest, otherwise) = whens;
     let operand = Some(operand);
-    Ok((CaseExpr { operand, first, rest, otherwise }, tokens))
+    Ok((
+        CaseExpr {
+            operand,
+            first,
+            rest,
+            otherwise,
+        },
+        tokens,
+    ))
 }
 
 /// The branches of a CASE expression, and its END.
 #[cycle(expression)]
 #[tactic(auto, unfolding(crate::specs::ExprReaders::whens_read))]
-pub(crate) fn whens(alloc: Global, tokens: &[Placed], levels: u32) -> Result<((When, List<When>, Option<Source>), &[Placed]), Halt>
+pub(crate) fn whens(
+    alloc: Global,
+    tokens: &[Placed],
+    levels: u32,
+) -> Result<((When, List<When>, Option<Source>), &[Placed]), Halt>
     ensures exact { Gives (λ x. (whens_of x.0.0 (x.0.1, x.0.2), x.1.now)) result (whens_read levels tokens.now) }
     ensures takes { IfOk result (λ x. length x.1.now < length tokens.now) }
 {
     let (first, rest) = when(alloc, tokens, levels)?;
     let ((first, others), rest) = beside(first, next_whens(alloc, rest, levels))?;
-    let (((first, others), otherwise), rest) = beside((first, others), otherwise(alloc, rest, levels))?;
+    let (((first, others), otherwise), rest) = beside(
+        (first, others),
+        otherwise(alloc, rest, levels),
+    )?;
     Ok(((first, others, otherwise), rest))
 }
 
 /// More branches.
 #[cycle(expression)]
 #[tactic(auto, unfolding(crate::specs::ExprReaders::next_whens_read))]
-pub(crate) fn next_whens(alloc: Global, tokens: &[Placed], levels: u32) -> Result<(List<When>, &[Placed]), Halt>
+pub(crate) fn next_whens(
+    alloc: Global,
+    tokens: &[Placed],
+    levels: u32,
+) -> Result<(List<When>, &[Placed]), Halt>
     ensures exact { Gives (λ x. (x.0, x.1.now)) result (next_whens_read levels tokens.now) }
     ensures takes { IfOk result (λ x. length x.1.now ≤ length tokens.now) }
 {
@@ -94,7 +129,11 @@ pub(crate) fn when(alloc: Global, tokens: &[Placed], levels: u32) -> Result<(Whe
 /// `[ELSE source] END`.
 #[cycle(expression)]
 #[tactic(auto, unfolding(crate::specs::ExprReaders::otherwise_read))]
-pub(crate) fn otherwise(alloc: Global, tokens: &[Placed], levels: u32) -> Result<(Option<Source>, &[Placed]), Halt>
+pub(crate) fn otherwise(
+    alloc: Global,
+    tokens: &[Placed],
+    levels: u32,
+) -> Result<(Option<Source>, &[Placed]), Halt>
     ensures exact { Gives (λ x. (x.0, x.1.now)) result (otherwise_read levels tokens.now) }
     ensures takes { IfOk result (λ x. length x.1.now < length tokens.now) }
 {

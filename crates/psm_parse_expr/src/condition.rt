@@ -4,8 +4,8 @@ ghost use Rattle.psm_grammar.specs.Gives.{Gives};
 ghost use Rattle.psm_parse_expr.specs.ExprReaders.{is_null_read, expr_read, next_conjunctions_read, next_conjunction_read, conjunction_read, next_negations_read, next_negation_read, negation_read, predicate_read, test_read, compare_read, negated_test_read, between_read, in_list_read, next_sums_read, next_sum_read, like_read, escape_read};
 
 use crate::beside::{beside, closed};
-use crate::value::{boxed_sum, sum, sum_behind};
 use crate::operator::{at_comparison, comparison};
+use crate::value::{boxed_sum, sum, sum_behind};
 use psm_grammar::Halt;
 use psm_list::{Boxed, List};
 use psm_parse_token::{at_sign, at_word, expect_sign, expect_word};
@@ -22,12 +22,22 @@ pub fn expr(alloc: Global, tokens: &[Placed], levels: u32) -> Result<(Expr, &[Pl
 {
     let (first, rest) = conjunction(alloc, tokens, levels)?;
     let ((first, others), rest) = beside(first, next_conjunctions(alloc, rest, levels))?;
-    Ok((Expr { first, rest: others }, rest))
+    Ok((
+        Expr {
+            first,
+            rest: others,
+        },
+        rest,
+    ))
 }
 
 /// An expression on the heap.
 #[cycle(expression)]
-pub(crate) fn boxed_expr(alloc: Global, tokens: &[Placed], levels: u32) -> Result<(Boxed<Expr>, &[Placed]), Halt>
+pub(crate) fn boxed_expr(
+    alloc: Global,
+    tokens: &[Placed],
+    levels: u32,
+) -> Result<(Boxed<Expr>, &[Placed]), Halt>
     ensures exact { Gives (λ x. (x.0, x.1.now)) result (expr_read levels tokens.now) }
     ensures takes { IfOk result (λ x. length x.1.now < length tokens.now) }
 {
@@ -38,7 +48,11 @@ pub(crate) fn boxed_expr(alloc: Global, tokens: &[Placed], levels: u32) -> Resul
 /// The conditions behind OR.
 #[cycle(expression)]
 #[tactic(auto, unfolding(crate::specs::ExprReaders::next_conjunctions_read))]
-pub(crate) fn next_conjunctions(alloc: Global, tokens: &[Placed], levels: u32) -> Result<(List<Conjunction>, &[Placed]), Halt>
+pub(crate) fn next_conjunctions(
+    alloc: Global,
+    tokens: &[Placed],
+    levels: u32,
+) -> Result<(List<Conjunction>, &[Placed]), Halt>
     ensures exact { Gives (λ x. (x.0, x.1.now)) result (next_conjunctions_read levels tokens.now) }
     ensures takes { IfOk result (λ x. length x.1.now ≤ length tokens.now) }
 {
@@ -55,7 +69,11 @@ pub(crate) fn next_conjunctions(alloc: Global, tokens: &[Placed], levels: u32) -
 /// OR and the condition behind it.
 #[cycle(expression)]
 #[tactic(auto, unfolding(crate::specs::ExprReaders::next_conjunction_read))]
-pub(crate) fn next_conjunction(alloc: Global, tokens: &[Placed], levels: u32) -> Result<(Conjunction, &[Placed]), Halt>
+pub(crate) fn next_conjunction(
+    alloc: Global,
+    tokens: &[Placed],
+    levels: u32,
+) -> Result<(Conjunction, &[Placed]), Halt>
     ensures exact { Gives (λ x. (x.0, x.1.now)) result (next_conjunction_read levels tokens.now) }
     ensures takes { IfOk result (λ x. length x.1.now < length tokens.now) }
 {
@@ -66,19 +84,33 @@ pub(crate) fn next_conjunction(alloc: Global, tokens: &[Placed], levels: u32) ->
 /// Conditions with AND between them, or a lone one.
 #[cycle(expression)]
 #[tactic(auto, unfolding(crate::specs::ExprReaders::conjunction_read))]
-pub(crate) fn conjunction(alloc: Global, tokens: &[Placed], levels: u32) -> Result<(Conjunction, &[Placed]), Halt>
+pub(crate) fn conjunction(
+    alloc: Global,
+    tokens: &[Placed],
+    levels: u32,
+) -> Result<(Conjunction, &[Placed]), Halt>
     ensures exact { Gives (λ x. (x.0, x.1.now)) result (conjunction_read levels tokens.now) }
     ensures takes { IfOk result (λ x. length x.1.now < length tokens.now) }
 {
     let (first, rest) = negation(alloc, tokens, levels)?;
     let ((first, others), rest) = beside(first, next_negations(alloc, rest, levels))?;
-    Ok((Conjunction { first, rest: others }, rest))
+    Ok((
+        Conjunction {
+            first,
+            rest: others,
+        },
+        rest,
+    ))
 }
 
 /// The conditions behind AND.
 #[cycle(expression)]
 #[tactic(auto, unfolding(crate::specs::ExprReaders::next_negations_read))]
-pub(crate) fn next_negations(alloc: Global, tokens: &[Placed], levels: u32) -> Result<(List<Negation>, &[Placed]), Halt>
+pub(crate) fn next_negations(
+    alloc: Global,
+    tokens: &[Placed],
+    levels: u32,
+) -> Result<(List<Negation>, &[Placed]), Halt>
     ensures exact { Gives (λ x. (x.0, x.1.now)) result (next_negations_read levels tokens.now) }
     ensures takes { IfOk result (λ x. length x.1.now ≤ length tokens.now) }
 {
@@ -95,7 +127,11 @@ pub(crate) fn next_negations(alloc: Global, tokens: &[Placed], levels: u32) -> R
 /// AND and the condition behind it.
 #[cycle(expression)]
 #[tactic(auto, unfolding(crate::specs::ExprReaders::next_negation_read))]
-pub(crate) fn next_negation(alloc: Global, tokens: &[Placed], levels: u32) -> Result<(Negation, &[Placed]), Halt>
+pub(crate) fn next_negation(
+    alloc: Global,
+    tokens: &[Placed],
+    levels: u32,
+) -> Result<(Negation, &[Placed]), Halt>
     ensures exact { Gives (λ x. (x.0, x.1.now)) result (next_negation_read levels tokens.now) }
     ensures takes { IfOk result (λ x. length x.1.now < length tokens.now) }
 {
@@ -106,23 +142,43 @@ pub(crate) fn next_negation(alloc: Global, tokens: &[Placed], levels: u32) -> Re
 /// A predicate, with a NOT before it where there is one.
 #[cycle(expression)]
 #[tactic(auto, unfolding(crate::specs::ExprReaders::negation_read))]
-pub(crate) fn negation(alloc: Global, tokens: &[Placed], levels: u32) -> Result<(Negation, &[Placed]), Halt>
+pub(crate) fn negation(
+    alloc: Global,
+    tokens: &[Placed],
+    levels: u32,
+) -> Result<(Negation, &[Placed]), Halt>
     ensures exact { Gives (λ x. (x.0, x.1.now)) result (negation_read levels tokens.now) }
     ensures takes { IfOk result (λ x. length x.1.now < length tokens.now) }
 {
     if at_word(tokens, Word::Not) {
         let (place, rest) = expect_word(tokens, Word::Not)?;
         let (predicate, rest) = predicate(alloc, rest, levels)?;
-        return Ok((Negation { not: Some(place), predicate }, rest));
+        return Ok((
+            Negation {
+                not: Some(place),
+                predicate,
+            },
+            rest,
+        ));
     }
     let (predicate, rest) = predicate(alloc, tokens, levels)?;
-    Ok((Negation { not: None, predicate }, rest))
+    Ok((
+        Negation {
+            not: None,
+            predicate,
+        },
+        rest,
+    ))
 }
 
 /// A value and what is asked of it (ISO/IEC 9075:1992, 8.1 to 8.6).
 #[cycle(expression)]
 #[tactic(auto, unfolding(crate::specs::ExprReaders::predicate_read))]
-pub(crate) fn predicate(alloc: Global, tokens: &[Placed], levels: u32) -> Result<(Predicate, &[Placed]), Halt>
+pub(crate) fn predicate(
+    alloc: Global,
+    tokens: &[Placed],
+    levels: u32,
+) -> Result<(Predicate, &[Placed]), Halt>
     ensures exact { Gives (λ x. (x.0, x.1.now)) result (predicate_read levels tokens.now) }
     ensures takes { IfOk result (λ x. length x.1.now < length tokens.now) }
 {
@@ -158,7 +214,11 @@ pub(crate) fn test(alloc: Global, tokens: &[Placed], levels: u32) -> Result<(Tes
 /// A comparison (ISO/IEC 9075:1992, 8.2).
 #[cycle(expression)]
 #[tactic(auto, unfolding(crate::specs::ExprReaders::compare_read))]
-pub(crate) fn compare(alloc: Global, tokens: &[Placed], levels: u32) -> Result<(Test, &[Placed]), Halt>
+pub(crate) fn compare(
+    alloc: Global,
+    tokens: &[Placed],
+    levels: u32,
+) -> Result<(Test, &[Placed]), Halt>
     ensures exact { Gives (λ x. (x.0, x.1.now)) result (compare_read levels tokens.now) }
     ensures takes { IfOk result (λ x. length x.1.now < length tokens.now) }
 {
@@ -170,7 +230,11 @@ pub(crate) fn compare(alloc: Global, tokens: &[Placed], levels: u32) -> Result<(
 /// NOT before BETWEEN, IN or LIKE.
 #[cycle(expression)]
 #[tactic(auto, unfolding(crate::specs::ExprReaders::negated_test_read))]
-pub(crate) fn negated_test(alloc: Global, tokens: &[Placed], levels: u32) -> Result<(Test, &[Placed]), Halt>
+pub(crate) fn negated_test(
+    alloc: Global,
+    tokens: &[Placed],
+    levels: u32,
+) -> Result<(Test, &[Placed]), Halt>
     ensures exact { Gives (λ x. (x.0, x.1.now)) result (negated_test_read levels tokens.now) }
     ensures takes { IfOk result (λ x. length x.1.now < length tokens.now) }
 {
@@ -187,7 +251,12 @@ pub(crate) fn negated_test(alloc: Global, tokens: &[Placed], levels: u32) -> Res
 /// `BETWEEN low AND high` (ISO/IEC 9075:1992, 8.3).
 #[cycle(expression)]
 #[tactic(auto, unfolding(crate::specs::ExprReaders::between_read))]
-pub(crate) fn between(alloc: Global, tokens: &[Placed], levels: u32, negated: bool) -> Result<(Test, &[Placed]), Halt>
+pub(crate) fn between(
+    alloc: Global,
+    tokens: &[Placed],
+    levels: u32,
+    negated: bool,
+) -> Result<(Test, &[Placed]), Halt>
     ensures exact { Gives (λ x. (x.0, x.1.now)) result (between_read negated levels tokens.now) }
     ensures takes { IfOk result (λ x. length x.1.now < length tokens.now) }
 {
@@ -200,7 +269,12 @@ pub(crate) fn between(alloc: Global, tokens: &[Placed], levels: u32, negated: bo
 /// `IN (sum, ..)` (ISO/IEC 9075:1992, 8.4).
 #[cycle(expression)]
 #[tactic(auto, unfolding(crate::specs::ExprReaders::in_list_read))]
-pub(crate) fn in_list(alloc: Global, tokens: &[Placed], levels: u32, negated: bool) -> Result<(Test, &[Placed]), Halt>
+pub(crate) fn in_list(
+    alloc: Global,
+    tokens: &[Placed],
+    levels: u32,
+    negated: bool,
+) -> Result<(Test, &[Placed]), Halt>
     ensures exact { Gives (λ x. (x.0, x.1.now)) result (in_list_read negated levels tokens.now) }
     ensures takes { IfOk result (λ x. length x.1.now < length tokens.now) }
 {
@@ -209,13 +283,24 @@ pub(crate) fn in_list(alloc: Global, tokens: &[Placed], levels: u32, negated: bo
     let (first, rest) = boxed_sum(alloc, rest, levels)?;
     let ((first, others), rest) = beside(first, next_sums(alloc, rest, levels))?;
     let ((first, others), rest) = closed((first, others), rest)?;
-    Ok((Test::In { negated, first, rest: others }, rest))
+    Ok((
+        Test::In {
+            negated,
+            first,
+            rest: others,
+        },
+        rest,
+    ))
 }
 
 /// The values behind commas.
 #[cycle(expression)]
 #[tactic(auto, unfolding(crate::specs::ExprReaders::next_sums_read))]
-pub(crate) fn next_sums(alloc: Global, tokens: &[Placed], levels: u32) -> Result<(List<Sum>, &[Placed]), Halt>
+pub(crate) fn next_sums(
+    alloc: Global,
+    tokens: &[Placed],
+    levels: u32,
+) -> Result<(List<Sum>, &[Placed]), Halt>
     ensures exact { Gives (λ x. (x.0, x.1.now)) result (next_sums_read levels tokens.now) }
     ensures takes { IfOk result (λ x. length x.1.now ≤ length tokens.now) }
 {
@@ -232,7 +317,11 @@ pub(crate) fn next_sums(alloc: Global, tokens: &[Placed], levels: u32) -> Result
 /// A comma and the value behind it.
 #[cycle(expression)]
 #[tactic(auto, unfolding(crate::specs::ExprReaders::next_sum_read))]
-pub(crate) fn next_sum(alloc: Global, tokens: &[Placed], levels: u32) -> Result<(Sum, &[Placed]), Halt>
+pub(crate) fn next_sum(
+    alloc: Global,
+    tokens: &[Placed],
+    levels: u32,
+) -> Result<(Sum, &[Placed]), Halt>
     ensures exact { Gives (λ x. (x.0, x.1.now)) result (next_sum_read levels tokens.now) }
     ensures takes { IfOk result (λ x. length x.1.now < length tokens.now) }
 {
@@ -243,20 +332,36 @@ pub(crate) fn next_sum(alloc: Global, tokens: &[Placed], levels: u32) -> Result<
 /// `LIKE pattern [ESCAPE escape]` (ISO/IEC 9075:1992, 8.5).
 #[cycle(expression)]
 #[tactic(auto, unfolding(crate::specs::ExprReaders::like_read))]
-pub(crate) fn like(alloc: Global, tokens: &[Placed], levels: u32, negated: bool) -> Result<(Test, &[Placed]), Halt>
+pub(crate) fn like(
+    alloc: Global,
+    tokens: &[Placed],
+    levels: u32,
+    negated: bool,
+) -> Result<(Test, &[Placed]), Halt>
     ensures exact { Gives (λ x. (x.0, x.1.now)) result (like_read negated levels tokens.now) }
     ensures takes { IfOk result (λ x. length x.1.now < length tokens.now) }
 {
     let (_, rest) = expect_word(tokens, Word::Like)?;
     let (pattern, rest) = boxed_sum(alloc, rest, levels)?;
     let ((pattern, escape), rest) = beside(pattern, escape(alloc, rest, levels))?;
-    Ok((Test::Like { negated, pattern, escape }, rest))
+    Ok((
+        Test::Like {
+            negated,
+            pattern,
+            escape,
+        },
+        rest,
+    ))
 }
 
 /// `[ESCAPE escape]`.
 #[cycle(expression)]
 #[tactic(auto, unfolding(crate::specs::ExprReaders::escape_read))]
-pub(crate) fn escape(alloc: Global, tokens: &[Placed], levels: u32) -> Result<(Option<Boxed<Sum>>, &[Placed]), Halt>
+pub(crate) fn escape(
+    alloc: Global,
+    tokens: &[Placed],
+    levels: u32,
+) -> Result<(Option<Boxed<Sum>>, &[Placed]), Halt>
     ensures exact { Gives (λ x. (x.0, x.1.now)) result (escape_read levels tokens.now) }
     ensures takes { IfOk result (λ x. length x.1.now ≤ length tokens.now) }
 {

@@ -3,13 +3,13 @@ ghost use Rattle.std.specs.Prelude.{ℕ, ◌≡◌, ◌<◌, ◌≤◌, length, 
 ghost use Rattle.psm_grammar.specs.Gives.{Gives};
 ghost use Rattle.psm_parse_expr.specs.ExprReaders.{cast_type_read, worded_primary_read, exists_read, cast_read, coalesce_read, nullif_read, next_expr_read, position_read, substring_read, substring_range_read, for_length_read, trim_read, trimmed_read, function_read};
 
-use crate::beside::{beside, closed};
-use crate::value::{boxed_sum, sum_behind};
-use crate::condition::boxed_expr;
 use crate::argument::{boxed_source, next_sources};
+use crate::beside::{beside, closed};
 use crate::case::case;
-use crate::query::boxed_select;
+use crate::condition::boxed_expr;
 use crate::operator::{at_trim_side_from, level_below, text_function, trim_side};
+use crate::query::boxed_select;
+use crate::value::{boxed_sum, sum_behind};
 use psm_grammar::Halt;
 use psm_list::Boxed;
 use psm_parse_token::{at_word, data_type, expect_sign, expect_word};
@@ -20,7 +20,11 @@ use std::alloc::Global;
 /// What begins with a word of its own.
 #[cycle(expression)]
 #[tactic(auto, unfolding(crate::specs::ExprReaders::worded_primary_read))]
-pub(crate) fn worded_primary(alloc: Global, tokens: &[Placed], levels: u32) -> Result<(Primary, &[Placed]), Halt>
+pub(crate) fn worded_primary(
+    alloc: Global,
+    tokens: &[Placed],
+    levels: u32,
+) -> Result<(Primary, &[Placed]), Halt>
     ensures exact { Gives (λ x. (x.0, x.1.now)) result (worded_primary_read levels tokens.now) }
     ensures takes { IfOk result (λ x. length x.1.now < length tokens.now) }
 {
@@ -48,7 +52,11 @@ pub(crate) fn worded_primary(alloc: Global, tokens: &[Placed], levels: u32) -> R
 /// `EXISTS (query)` (ISO/IEC 9075:1992, 8.8).
 #[cycle(expression)]
 #[tactic(auto, unfolding(crate::specs::ExprReaders::exists_read, crate::specs::ExprReaders::exists_rest_read))]
-pub(crate) fn exists(alloc: Global, tokens: &[Placed], levels: u32) -> Result<(Primary, &[Placed]), Halt>
+pub(crate) fn exists(
+    alloc: Global,
+    tokens: &[Placed],
+    levels: u32,
+) -> Result<(Primary, &[Placed]), Halt>
     ensures exact { Gives (λ x. (x.0, x.1.now)) result (exists_read levels tokens.now) }
     ensures takes { IfOk result (λ x. length x.1.now < length tokens.now) }
 {
@@ -63,7 +71,11 @@ pub(crate) fn exists(alloc: Global, tokens: &[Placed], levels: u32) -> Result<(P
 /// `CAST (source AS type)` (ISO/IEC 9075:1992, 6.10).
 #[cycle(expression)]
 #[tactic(auto, unfolding(crate::specs::ExprReaders::cast_read, crate::specs::ExprReaders::cast_rest_read))]
-pub(crate) fn cast(alloc: Global, tokens: &[Placed], levels: u32) -> Result<(Primary, &[Placed]), Halt>
+pub(crate) fn cast(
+    alloc: Global,
+    tokens: &[Placed],
+    levels: u32,
+) -> Result<(Primary, &[Placed]), Halt>
     ensures exact { Gives (λ x. (x.0, x.1.now)) result (cast_read levels tokens.now) }
     ensures takes { IfOk result (λ x. length x.1.now < length tokens.now) }
 {
@@ -83,7 +95,11 @@ pub(crate) fn cast(alloc: Global, tokens: &[Placed], levels: u32) -> Result<(Pri
 /// `COALESCE (source, ..)` (ISO/IEC 9075:1992, 6.9).
 #[cycle(expression)]
 #[tactic(auto, unfolding(crate::specs::ExprReaders::coalesce_read, crate::specs::ExprReaders::coalesce_rest_read))]
-pub(crate) fn coalesce(alloc: Global, tokens: &[Placed], levels: u32) -> Result<(Primary, &[Placed]), Halt>
+pub(crate) fn coalesce(
+    alloc: Global,
+    tokens: &[Placed],
+    levels: u32,
+) -> Result<(Primary, &[Placed]), Halt>
     ensures exact { Gives (λ x. (x.0, x.1.now)) result (coalesce_read levels tokens.now) }
     ensures takes { IfOk result (λ x. length x.1.now < length tokens.now) }
 {
@@ -93,13 +109,24 @@ pub(crate) fn coalesce(alloc: Global, tokens: &[Placed], levels: u32) -> Result<
     let (first, rest) = boxed_source(alloc, rest, left)?;
     let ((first, others), rest) = beside(first, next_sources(alloc, rest, left))?;
     let ((first, others), rest) = closed((first, others), rest)?;
-    Ok((Primary::Coalesce { place, first, rest: others }, rest))
+    Ok((
+        Primary::Coalesce {
+            place,
+            first,
+            rest: others,
+        },
+        rest,
+    ))
 }
 
 /// `NULLIF (left, right)` (ISO/IEC 9075:1992, 6.9).
 #[cycle(expression)]
 #[tactic(auto, unfolding(crate::specs::ExprReaders::nullif_read, crate::specs::ExprReaders::nullif_rest_read))]
-pub(crate) fn nullif(alloc: Global, tokens: &[Placed], levels: u32) -> Result<(Primary, &[Placed]), Halt>
+pub(crate) fn nullif(
+    alloc: Global,
+    tokens: &[Placed],
+    levels: u32,
+) -> Result<(Primary, &[Placed]), Halt>
     ensures exact { Gives (λ x. (x.0, x.1.now)) result (nullif_read levels tokens.now) }
     ensures takes { IfOk result (λ x. length x.1.now < length tokens.now) }
 {
@@ -115,7 +142,11 @@ pub(crate) fn nullif(alloc: Global, tokens: &[Placed], levels: u32) -> Result<(P
 /// A comma and the expression behind it.
 #[cycle(expression)]
 #[tactic(auto, unfolding(crate::specs::ExprReaders::next_expr_read))]
-pub(crate) fn next_expr(alloc: Global, tokens: &[Placed], levels: u32) -> Result<(Boxed<Expr>, &[Placed]), Halt>
+pub(crate) fn next_expr(
+    alloc: Global,
+    tokens: &[Placed],
+    levels: u32,
+) -> Result<(Boxed<Expr>, &[Placed]), Halt>
     ensures exact { Gives (λ x. (x.0, x.1.now)) result (next_expr_read levels tokens.now) }
     ensures takes { IfOk result (λ x. length x.1.now < length tokens.now) }
 {
@@ -126,7 +157,11 @@ pub(crate) fn next_expr(alloc: Global, tokens: &[Placed], levels: u32) -> Result
 /// `POSITION (part IN whole)` (ISO/IEC 9075:1992, 6.6).
 #[cycle(expression)]
 #[tactic(auto, unfolding(crate::specs::ExprReaders::position_read, crate::specs::ExprReaders::position_rest_read))]
-pub(crate) fn position(alloc: Global, tokens: &[Placed], levels: u32) -> Result<(Primary, &[Placed]), Halt>
+pub(crate) fn position(
+    alloc: Global,
+    tokens: &[Placed],
+    levels: u32,
+) -> Result<(Primary, &[Placed]), Halt>
     ensures exact { Gives (λ x. (x.0, x.1.now)) result (position_read levels tokens.now) }
     ensures takes { IfOk result (λ x. length x.1.now < length tokens.now) }
 {
@@ -142,7 +177,11 @@ pub(crate) fn position(alloc: Global, tokens: &[Placed], levels: u32) -> Result<
 /// `SUBSTRING (text FROM from [FOR length])` (ISO/IEC 9075:1992, 6.7).
 #[cycle(expression)]
 #[tactic(auto, unfolding(crate::specs::ExprReaders::substring_read, crate::specs::ExprReaders::substring_rest_read))]
-pub(crate) fn substring(alloc: Global, tokens: &[Placed], levels: u32) -> Result<(Primary, &[Placed]), Halt>
+pub(crate) fn substring(
+    alloc: Global,
+    tokens: &[Placed],
+    levels: u32,
+) -> Result<(Primary, &[Placed]), Halt>
     ensures exact { Gives (λ x. (x.0, x.1.now)) result (substring_read levels tokens.now) }
     ensures takes { IfOk result (λ x. length x.1.now < length tokens.now) }
 {
@@ -152,13 +191,25 @@ pub(crate) fn substring(alloc: Global, tokens: &[Placed], levels: u32) -> Result
     let (text, rest) = boxed_expr(alloc, rest, left)?;
     let ((text, range), rest) = beside(text, substring_range(alloc, rest, left))?;
     let ((text, (from, length)), rest) = closed((text, range), rest)?;
-    Ok((Primary::Substring { place, text, from, length }, rest))
+    Ok((
+        Primary::Substring {
+            place,
+            text,
+            from,
+            length,
+        },
+        rest,
+    ))
 }
 
 /// `FROM from [FOR length]`.
 #[cycle(expression)]
 #[tactic(auto, unfolding(crate::specs::ExprReaders::substring_range_read))]
-pub(crate) fn substring_range(alloc: Global, tokens: &[Placed], levels: u32) -> Result<((Boxed<Expr>, Option<Boxed<Expr>>), &[Placed]), Halt>
+pub(crate) fn substring_range(
+    alloc: Global,
+    tokens: &[Placed],
+    levels: u32,
+) -> Result<((Boxed<Expr>, Option<Boxed<Expr>>), &[Placed]), Halt>
     ensures exact { Gives (λ x. (x.0, x.1.now)) result (substring_range_read levels tokens.now) }
     ensures takes { IfOk result (λ x. length x.1.now < length tokens.now) }
 {
@@ -170,7 +221,11 @@ pub(crate) fn substring_range(alloc: Global, tokens: &[Placed], levels: u32) -> 
 /// `[FOR length]`.
 #[cycle(expression)]
 #[tactic(auto, unfolding(crate::specs::ExprReaders::for_length_read))]
-pub(crate) fn for_length(alloc: Global, tokens: &[Placed], levels: u32) -> Result<(Option<Boxed<Expr>>, &[Placed]), Halt>
+pub(crate) fn for_length(
+    alloc: Global,
+    tokens: &[Placed],
+    levels: u32,
+) -> Result<(Option<Boxed<Expr>>, &[Placed]), Halt>
     ensures exact { Gives (λ x. (x.0, x.1.now)) result (for_length_read levels tokens.now) }
     ensures takes { IfOk result (λ x. length x.1.now ≤ length tokens.now) }
 {
@@ -185,7 +240,11 @@ pub(crate) fn for_length(alloc: Global, tokens: &[Placed], levels: u32) -> Resul
 /// `TRIM ([side FROM] text)` (ISO/IEC 9075:1992, 6.7).
 #[cycle(expression)]
 #[tactic(auto, unfolding(crate::specs::ExprReaders::trim_read, crate::specs::ExprReaders::trim_rest_read))]
-pub(crate) fn trim(alloc: Global, tokens: &[Placed], levels: u32) -> Result<(Primary, &[Placed]), Halt>
+pub(crate) fn trim(
+    alloc: Global,
+    tokens: &[Placed],
+    levels: u32,
+) -> Result<(Primary, &[Placed]), Halt>
     ensures exact { Gives (λ x. (x.0, x.1.now)) result (trim_read levels tokens.now) }
     ensures takes { IfOk result (λ x. length x.1.now < length tokens.now) }
 {
@@ -199,7 +258,11 @@ pub(crate) fn trim(alloc: Global, tokens: &[Placed], levels: u32) -> Result<(Pri
 /// `[side FROM] text )`.
 #[cycle(expression)]
 #[tactic(auto, unfolding(crate::specs::ExprReaders::trimmed_read))]
-pub(crate) fn trimmed(alloc: Global, tokens: &[Placed], levels: u32) -> Result<((TrimSide, Boxed<Expr>), &[Placed]), Halt>
+pub(crate) fn trimmed(
+    alloc: Global,
+    tokens: &[Placed],
+    levels: u32,
+) -> Result<((TrimSide, Boxed<Expr>), &[Placed]), Halt>
     ensures exact { Gives (λ x. (x.0, x.1.now)) result (trimmed_read levels tokens.now) }
     ensures takes { IfOk result (λ x. length x.1.now < length tokens.now) }
 {
@@ -218,7 +281,11 @@ pub(crate) fn trimmed(alloc: Global, tokens: &[Placed], levels: u32) -> Result<(
 /// A function of one text, with its argument in parentheses.
 #[cycle(expression)]
 #[tactic(auto, unfolding(crate::specs::ExprReaders::function_read, crate::specs::ExprReaders::function_rest_read))]
-pub(crate) fn function(alloc: Global, tokens: &[Placed], levels: u32) -> Result<(Primary, &[Placed]), Halt>
+pub(crate) fn function(
+    alloc: Global,
+    tokens: &[Placed],
+    levels: u32,
+) -> Result<(Primary, &[Placed]), Halt>
     ensures exact { Gives (λ x. (x.0, x.1.now)) result (function_read levels tokens.now) }
     ensures takes { IfOk result (λ x. length x.1.now < length tokens.now) }
 {
@@ -227,7 +294,14 @@ pub(crate) fn function(alloc: Global, tokens: &[Placed], levels: u32) -> Result<
     let (_, rest) = expect_sign(rest, Sign::LeftParen)?;
     let (argument, rest) = boxed_expr(alloc, rest, left)?;
     let (argument, rest) = closed(argument, rest)?;
-    Ok((Primary::Function { place, function, argument }, rest))
+    Ok((
+        Primary::Function {
+            place,
+            function,
+            argument,
+        },
+        rest,
+    ))
 }
 
 /// `AS type`.

@@ -10,7 +10,12 @@ mod operator;
 mod primary;
 mod query;
 mod value;
+mod whole;
 
 pub use argument::{arguments, source, sources};
 pub use condition::expr;
 pub use query::{from_table, picks, select};
+pub use whole::{parse_expr, parse_picks};
+
+#[cfg(test)]
+mod tests;

@@ -10,7 +10,9 @@ ghost use Rattle.psm_parse_expr.specs.ExprReaders.{Descends, plus_minus_read, te
 use psm_grammar::Halt;
 use psm_parse_token::{at_sign, at_word, expect_sign, expect_word};
 use psm_token::{Place, Placed, Sign, Word};
-use psm_tree::{Comparison, SetFunction, Signed, SumOperator, TermOperator, TextFunction, TrimSide};
+use psm_tree::{
+    Comparison, SetFunction, Signed, SumOperator, TermOperator, TextFunction, TrimSide,
+};
 
 /// The number of levels that are left below the first of the tokens, which opens one.
 #[tactic(auto, using(crate::proofs::ExprSame::inner_some, crate::proofs::ExprSame::inner_none))]
@@ -27,8 +29,7 @@ pub(crate) fn level_below(tokens: &[Placed], levels: u32) -> Result<u32, Halt>
 pub(crate) fn at_plus_minus(tokens: &[Placed]) -> bool
     ensures { result ≡ starts kind plus_minus_test.kinds tokens.now }
 {
-    at_sign(tokens, Sign::Plus)
-        || at_sign(tokens, Sign::Minus)
+    at_sign(tokens, Sign::Plus) || at_sign(tokens, Sign::Minus)
 }
 
 /// `+` or `-`, with its place.
@@ -39,18 +40,29 @@ pub(crate) fn plus_minus(tokens: &[Placed]) -> Result<(Signed, &[Placed]), Halt>
 {
     if at_sign(tokens, Sign::Plus) {
         let (place, rest) = expect_sign(tokens, Sign::Plus)?;
-        return Ok((Signed { place, sign: psm_tree::Sign::Plus }, rest));
+        return Ok((
+            Signed {
+                place,
+                sign: psm_tree::Sign::Plus,
+            },
+            rest,
+        ));
     }
     let (place, rest) = expect_sign(tokens, Sign::Minus)?;
-    Ok((Signed { place, sign: psm_tree::Sign::Minus }, rest))
+    Ok((
+        Signed {
+            place,
+            sign: psm_tree::Sign::Minus,
+        },
+        rest,
+    ))
 }
 
 /// Whether `*` or `/` stands at the front.
 pub(crate) fn at_term_operator(tokens: &[Placed]) -> bool
     ensures { result ≡ starts kind term_operator_test.kinds tokens.now }
 {
-    at_sign(tokens, Sign::Asterisk)
-        || at_sign(tokens, Sign::Solidus)
+    at_sign(tokens, Sign::Asterisk) || at_sign(tokens, Sign::Solidus)
 }
 
 /// `*` or `/`.
@@ -204,9 +216,7 @@ pub(crate) fn at_trim_side_from(tokens: &[Placed]) -> bool
 fn at_trim_side(tokens: &[Placed]) -> bool
     ensures { result ≡ starts kind (code Leading ∷ code Trailing ∷ code Both ∷ []) tokens.now }
 {
-    at_word(tokens, Word::Leading)
-        || at_word(tokens, Word::Trailing)
-        || at_word(tokens, Word::Both)
+    at_word(tokens, Word::Leading) || at_word(tokens, Word::Trailing) || at_word(tokens, Word::Both)
 }
 
 /// LEADING, TRAILING or BOTH.

@@ -7,15 +7,18 @@ ghost use Rattle.psm_tree.specs.Tests.{number as number_test, text as text_test}
 ghost use Rattle.psm_tree.specs.ExprValues.{number_primary as number_value, text_primary as text_value};
 ghost use Rattle.psm_parse_expr.specs.ExprReaders.{primary_read, named_primary_read, call_read, enclosed_primary_read};
 
+use crate::argument::arguments;
 use crate::beside::{beside, closed};
 use crate::condition::boxed_expr;
-use crate::argument::arguments;
 use crate::function::worded_primary;
-use crate::query::boxed_select;
 use crate::operator::level_below;
+use crate::query::boxed_select;
 use psm_grammar::Halt;
 use psm_list::List;
-use psm_parse_token::{at_name, at_number, at_sign, at_text, at_word, expect_name, expect_number, expect_sign, expect_text, second_name};
+use psm_parse_token::{
+    at_name, at_number, at_sign, at_text, at_word, expect_name, expect_number, expect_sign,
+    expect_text, second_name,
+};
 use psm_token::{Placed, Sign, Word};
 use psm_tree::{Primary, Source, Target};
 use std::alloc::Global;
@@ -23,7 +26,11 @@ use std::alloc::Global;
 /// What stands in an expression without an operator around it.
 #[cycle(expression)]
 #[tactic(auto, unfolding(crate::specs::ExprReaders::primary_read))]
-pub(crate) fn primary(alloc: Global, tokens: &[Placed], levels: u32) -> Result<(Primary, &[Placed]), Halt>
+pub(crate) fn primary(
+    alloc: Global,
+    tokens: &[Placed],
+    levels: u32,
+) -> Result<(Primary, &[Placed]), Halt>
     ensures exact { Gives (λ x. (x.0, x.1.now)) result (primary_read levels tokens.now) }
     ensures takes { IfOk result (λ x. length x.1.now < length tokens.now) }
 {
@@ -43,7 +50,11 @@ pub(crate) fn primary(alloc: Global, tokens: &[Placed], levels: u32) -> Result<(
 /// A name, a name of a name, or a call.
 #[cycle(expression)]
 #[tactic(auto, unfolding(crate::specs::ExprReaders::named_primary_read))]
-pub(crate) fn named_primary(alloc: Global, tokens: &[Placed], levels: u32) -> Result<(Primary, &[Placed]), Halt>
+pub(crate) fn named_primary(
+    alloc: Global,
+    tokens: &[Placed],
+    levels: u32,
+) -> Result<(Primary, &[Placed]), Halt>
     ensures exact { Gives (λ x. (x.0, x.1.now)) result (named_primary_read levels tokens.now) }
     ensures takes { IfOk result (λ x. length x.1.now < length tokens.now) }
 {
@@ -55,16 +66,32 @@ pub(crate) fn named_primary(alloc: Global, tokens: &[Placed], levels: u32) -> Re
     }
     if at_sign(rest, Sign::LeftParen) {
         let ((function, arguments), rest) = beside(name, call(alloc, rest, levels))?;
-        return Ok((Primary::Call { function, arguments }, rest));
+        return Ok((
+            Primary::Call {
+                function,
+                arguments,
+            },
+            rest,
+        ));
     }
     let second = None;
-    Ok((Primary::Name(Target { first: name, second }), rest))
+    Ok((
+        Primary::Name(Target {
+            first: name,
+            second,
+        }),
+        rest,
+    ))
 }
 
 /// The arguments of a call, in parentheses.
 #[cycle(expression)]
 #[tactic(auto, unfolding(crate::specs::ExprReaders::call_read))]
-pub(crate) fn call(alloc: Global, tokens: &[Placed], levels: u32) -> Result<(List<Source>, &[Placed]), Halt>
+pub(crate) fn call(
+    alloc: Global,
+    tokens: &[Placed],
+    levels: u32,
+) -> Result<(List<Source>, &[Placed]), Halt>
     ensures exact { Gives (λ x. (x.0, x.1.now)) result (call_read levels tokens.now) }
     ensures takes { IfOk result (λ x. length x.1.now < length tokens.now) }
 {
@@ -76,7 +103,11 @@ pub(crate) fn call(alloc: Global, tokens: &[Placed], levels: u32) -> Result<(Lis
 /// A query or an expression in parentheses.
 #[cycle(expression)]
 #[tactic(auto, unfolding(crate::specs::ExprReaders::enclosed_primary_read, crate::specs::ExprReaders::enclosed_read))]
-pub(crate) fn enclosed(alloc: Global, tokens: &[Placed], levels: u32) -> Result<(Primary, &[Placed]), Halt>
+pub(crate) fn enclosed(
+    alloc: Global,
+    tokens: &[Placed],
+    levels: u32,
+) -> Result<(Primary, &[Placed]), Halt>
     ensures exact { Gives (λ x. (x.0, x.1.now)) result (enclosed_primary_read levels tokens.now) }
     ensures takes { IfOk result (λ x. length x.1.now < length tokens.now) }
 {

@@ -28,7 +28,11 @@ pub fn select(alloc: Global, tokens: &[Placed], levels: u32) -> Result<(Select, 
 
 /// A query on the heap.
 #[cycle(expression)]
-pub(crate) fn boxed_select(alloc: Global, tokens: &[Placed], levels: u32) -> Result<(Boxed<Select>, &[Placed]), Halt>
+pub(crate) fn boxed_select(
+    alloc: Global,
+    tokens: &[Placed],
+    levels: u32,
+) -> Result<(Boxed<Select>, &[Placed]), Halt>
     ensures exact { Gives (λ x. (x.0, x.1.now)) result (select_read levels tokens.now) }
     ensures takes { IfOk result (λ x. length x.1.now < length tokens.now) }
 {
@@ -39,7 +43,11 @@ pub(crate) fn boxed_select(alloc: Global, tokens: &[Placed], levels: u32) -> Res
 /// `FROM table`.
 #[cycle(expression)]
 #[tactic(auto, unfolding(crate::specs::ExprReaders::from_clause_read))]
-pub(crate) fn from_clause(alloc: Global, tokens: &[Placed], levels: u32) -> Result<(From, &[Placed]), Halt>
+pub(crate) fn from_clause(
+    alloc: Global,
+    tokens: &[Placed],
+    levels: u32,
+) -> Result<(From, &[Placed]), Halt>
     ensures exact { Gives (λ x. (x.0, x.1.now)) result (from_clause_read levels tokens.now) }
     ensures takes { IfOk result (λ x. length x.1.now < length tokens.now) }
 {
@@ -56,13 +64,24 @@ pub fn from_table(alloc: Global, tokens: &[Placed], levels: u32) -> Result<(From
 {
     let (table, rest) = expect_name(alloc, tokens)?;
     let ((table, (alias, condition)), rest) = beside(table, table_rest(alloc, rest, levels))?;
-    Ok((From { table, alias, condition }, rest))
+    Ok((
+        From {
+            table,
+            alias,
+            condition,
+        },
+        rest,
+    ))
 }
 
 /// `[[AS] alias] [WHERE condition]`.
 #[cycle(expression)]
 #[tactic(auto, unfolding(crate::specs::ExprReaders::table_rest_read))]
-pub(crate) fn table_rest(alloc: Global, tokens: &[Placed], levels: u32) -> Result<((Option<Identifier>, Option<Expr>), &[Placed]), Halt>
+pub(crate) fn table_rest(
+    alloc: Global,
+    tokens: &[Placed],
+    levels: u32,
+) -> Result<((Option<Identifier>, Option<Expr>), &[Placed]), Halt>
     ensures exact { Gives (λ x. (x.0, x.1.now)) result (table_rest_read levels tokens.now) }
     ensures takes { IfOk result (λ x. length x.1.now ≤ length tokens.now) }
 {
@@ -73,7 +92,11 @@ pub(crate) fn table_rest(alloc: Global, tokens: &[Placed], levels: u32) -> Resul
 /// `[WHERE condition]`.
 #[cycle(expression)]
 #[tactic(auto, unfolding(crate::specs::ExprReaders::where_condition_read))]
-pub(crate) fn where_condition(alloc: Global, tokens: &[Placed], levels: u32) -> Result<(Option<Expr>, &[Placed]), Halt>
+pub(crate) fn where_condition(
+    alloc: Global,
+    tokens: &[Placed],
+    levels: u32,
+) -> Result<(Option<Expr>, &[Placed]), Halt>
     ensures exact { Gives (λ x. (x.0, x.1.now)) result (where_condition_read levels tokens.now) }
     ensures takes { IfOk result (λ x. length x.1.now ≤ length tokens.now) }
 {
@@ -98,13 +121,23 @@ pub fn picks(alloc: Global, tokens: &[Placed], levels: u32) -> Result<(Picks, &[
     }
     let (first, rest) = pick(alloc, tokens, levels)?;
     let ((first, others), rest) = beside(first, next_picks(alloc, rest, levels))?;
-    Ok((Picks::Items { first, rest: others }, rest))
+    Ok((
+        Picks::Items {
+            first,
+            rest: others,
+        },
+        rest,
+    ))
 }
 
 /// The items behind commas.
 #[cycle(expression)]
 #[tactic(auto, unfolding(crate::specs::ExprReaders::next_picks_read))]
-pub(crate) fn next_picks(alloc: Global, tokens: &[Placed], levels: u32) -> Result<(List<Pick>, &[Placed]), Halt>
+pub(crate) fn next_picks(
+    alloc: Global,
+    tokens: &[Placed],
+    levels: u32,
+) -> Result<(List<Pick>, &[Placed]), Halt>
     ensures exact { Gives (λ x. (x.0, x.1.now)) result (next_picks_read levels tokens.now) }
     ensures takes { IfOk result (λ x. length x.1.now ≤ length tokens.now) }
 {
@@ -121,7 +154,11 @@ pub(crate) fn next_picks(alloc: Global, tokens: &[Placed], levels: u32) -> Resul
 /// A comma and the item behind it.
 #[cycle(expression)]
 #[tactic(auto, unfolding(crate::specs::ExprReaders::next_pick_read))]
-pub(crate) fn next_pick(alloc: Global, tokens: &[Placed], levels: u32) -> Result<(Pick, &[Placed]), Halt>
+pub(crate) fn next_pick(
+    alloc: Global,
+    tokens: &[Placed],
+    levels: u32,
+) -> Result<(Pick, &[Placed]), Halt>
     ensures exact { Gives (λ x. (x.0, x.1.now)) result (next_pick_read levels tokens.now) }
     ensures takes { IfOk result (λ x. length x.1.now < length tokens.now) }
 {
@@ -161,7 +198,11 @@ pub(crate) fn item(alloc: Global, tokens: &[Placed], levels: u32) -> Result<(Ite
 /// `COUNT (*)` or `COUNT (expr)` (ISO/IEC 9075:1992, 6.5).
 #[cycle(expression)]
 #[tactic(auto, unfolding(crate::specs::ExprReaders::count_read))]
-pub(crate) fn count(alloc: Global, tokens: &[Placed], levels: u32) -> Result<(Item, &[Placed]), Halt>
+pub(crate) fn count(
+    alloc: Global,
+    tokens: &[Placed],
+    levels: u32,
+) -> Result<(Item, &[Placed]), Halt>
     ensures exact { Gives (λ x. (x.0, x.1.now)) result (count_read levels tokens.now) }
     ensures takes { IfOk result (λ x. length x.1.now < length tokens.now) }
 {
@@ -175,13 +216,24 @@ pub(crate) fn count(alloc: Global, tokens: &[Placed], levels: u32) -> Result<(It
     let (argument, rest) = expr(alloc, rest, levels)?;
     let (argument, rest) = closed(argument, rest)?;
     let function = SetFunction::Count;
-    Ok((Item::Aggregate { place, function, argument }, rest))
+    Ok((
+        Item::Aggregate {
+            place,
+            function,
+            argument,
+        },
+        rest,
+    ))
 }
 
 /// A set function and its argument in parentheses (ISO/IEC 9075:1992, 6.5).
 #[cycle(expression)]
 #[tactic(auto, unfolding(crate::specs::ExprReaders::aggregate_read))]
-pub(crate) fn aggregate(alloc: Global, tokens: &[Placed], levels: u32) -> Result<(Item, &[Placed]), Halt>
+pub(crate) fn aggregate(
+    alloc: Global,
+    tokens: &[Placed],
+    levels: u32,
+) -> Result<(Item, &[Placed]), Halt>
     ensures exact { Gives (λ x. (x.0, x.1.now)) result (aggregate_read levels tokens.now) }
     ensures takes { IfOk result (λ x. length x.1.now < length tokens.now) }
 {
@@ -189,7 +241,14 @@ pub(crate) fn aggregate(alloc: Global, tokens: &[Placed], levels: u32) -> Result
     let (_, rest) = expect_sign(rest, Sign::LeftParen)?;
     let (argument, rest) = expr(alloc, rest, levels)?;
     let (argument, rest) = closed(argument, rest)?;
-    Ok((Item::Aggregate { place, function, argument }, rest))
+    Ok((
+        Item::Aggregate {
+            place,
+            function,
+            argument,
+        },
+        rest,
+    ))
 }
 
 /// `[[AS] alias]`.

@@ -4,8 +4,10 @@ ghost use Rattle.psm_grammar.specs.Gives.{Gives};
 ghost use Rattle.psm_parse_expr.specs.ExprReaders.{sum_read, next_terms_read, next_term_read, term_read, next_factors_read, next_factor_read, factor_read, sum_behind_read};
 
 use crate::beside::beside;
+use crate::operator::{
+    at_plus_minus, at_sum_operator, at_term_operator, plus_minus, sum_operator, term_operator,
+};
 use crate::primary::primary;
-use crate::operator::{at_plus_minus, at_sum_operator, at_term_operator, plus_minus, sum_operator, term_operator};
 use psm_grammar::Halt;
 use psm_list::{Boxed, List};
 use psm_parse_token::expect_word;
@@ -15,7 +17,11 @@ use std::alloc::Global;
 
 /// A sum on the heap.
 #[cycle(expression)]
-pub(crate) fn boxed_sum(alloc: Global, tokens: &[Placed], levels: u32) -> Result<(Boxed<Sum>, &[Placed]), Halt>
+pub(crate) fn boxed_sum(
+    alloc: Global,
+    tokens: &[Placed],
+    levels: u32,
+) -> Result<(Boxed<Sum>, &[Placed]), Halt>
     ensures exact { Gives (λ x. (x.0, x.1.now)) result (sum_read levels tokens.now) }
     ensures takes { IfOk result (λ x. length x.1.now < length tokens.now) }
 {
@@ -32,13 +38,23 @@ pub(crate) fn sum(alloc: Global, tokens: &[Placed], levels: u32) -> Result<(Sum,
 {
     let (first, rest) = term(alloc, tokens, levels)?;
     let ((first, others), rest) = beside(first, next_terms(alloc, rest, levels))?;
-    Ok((Sum { first, rest: others }, rest))
+    Ok((
+        Sum {
+            first,
+            rest: others,
+        },
+        rest,
+    ))
 }
 
 /// The terms behind operators.
 #[cycle(expression)]
 #[tactic(auto, unfolding(crate::specs::ExprReaders::next_terms_read))]
-pub(crate) fn next_terms(alloc: Global, tokens: &[Placed], levels: u32) -> Result<(List<NextTerm>, &[Placed]), Halt>
+pub(crate) fn next_terms(
+    alloc: Global,
+    tokens: &[Placed],
+    levels: u32,
+) -> Result<(List<NextTerm>, &[Placed]), Halt>
     ensures exact { Gives (λ x. (x.0, x.1.now)) result (next_terms_read levels tokens.now) }
     ensures takes { IfOk result (λ x. length x.1.now ≤ length tokens.now) }
 {
@@ -55,7 +71,11 @@ pub(crate) fn next_terms(alloc: Global, tokens: &[Placed], levels: u32) -> Resul
 /// An operator and the term behind it.
 #[cycle(expression)]
 #[tactic(auto, unfolding(crate::specs::ExprReaders::next_term_read))]
-pub(crate) fn next_term(alloc: Global, tokens: &[Placed], levels: u32) -> Result<(NextTerm, &[Placed]), Halt>
+pub(crate) fn next_term(
+    alloc: Global,
+    tokens: &[Placed],
+    levels: u32,
+) -> Result<(NextTerm, &[Placed]), Halt>
     ensures exact { Gives (λ x. (x.0, x.1.now)) result (next_term_read levels tokens.now) }
     ensures takes { IfOk result (λ x. length x.1.now < length tokens.now) }
 {
@@ -73,13 +93,23 @@ pub(crate) fn term(alloc: Global, tokens: &[Placed], levels: u32) -> Result<(Ter
 {
     let (first, rest) = factor(alloc, tokens, levels)?;
     let ((first, others), rest) = beside(first, next_factors(alloc, rest, levels))?;
-    Ok((Term { first, rest: others }, rest))
+    Ok((
+        Term {
+            first,
+            rest: others,
+        },
+        rest,
+    ))
 }
 
 /// The factors behind operators.
 #[cycle(expression)]
 #[tactic(auto, unfolding(crate::specs::ExprReaders::next_factors_read))]
-pub(crate) fn next_factors(alloc: Global, tokens: &[Placed], levels: u32) -> Result<(List<NextFactor>, &[Placed]), Halt>
+pub(crate) fn next_factors(
+    alloc: Global,
+    tokens: &[Placed],
+    levels: u32,
+) -> Result<(List<NextFactor>, &[Placed]), Halt>
     ensures exact { Gives (λ x. (x.0, x.1.now)) result (next_factors_read levels tokens.now) }
     ensures takes { IfOk result (λ x. length x.1.now ≤ length tokens.now) }
 {
@@ -96,7 +126,11 @@ pub(crate) fn next_factors(alloc: Global, tokens: &[Placed], levels: u32) -> Res
 /// An operator and the factor behind it.
 #[cycle(expression)]
 #[tactic(auto, unfolding(crate::specs::ExprReaders::next_factor_read))]
-pub(crate) fn next_factor(alloc: Global, tokens: &[Placed], levels: u32) -> Result<(NextFactor, &[Placed]), Halt>
+pub(crate) fn next_factor(
+    alloc: Global,
+    tokens: &[Placed],
+    levels: u32,
+) -> Result<(NextFactor, &[Placed]), Halt>
     ensures exact { Gives (λ x. (x.0, x.1.now)) result (next_factor_read levels tokens.now) }
     ensures takes { IfOk result (λ x. length x.1.now < length tokens.now) }
 {
@@ -108,23 +142,44 @@ pub(crate) fn next_factor(alloc: Global, tokens: &[Placed], levels: u32) -> Resu
 /// A primary, with a sign before it where there is one.
 #[cycle(expression)]
 #[tactic(auto, unfolding(crate::specs::ExprReaders::factor_read))]
-pub(crate) fn factor(alloc: Global, tokens: &[Placed], levels: u32) -> Result<(Factor, &[Placed]), Halt>
+pub(crate) fn factor(
+    alloc: Global,
+    tokens: &[Placed],
+    levels: u32,
+) -> Result<(Factor, &[Placed]), Halt>
     ensures exact { Gives (λ x. (x.0, x.1.now)) result (factor_read levels tokens.now) }
     ensures takes { IfOk result (λ x. length x.1.now < length tokens.now) }
 {
     if at_plus_minus(tokens) {
         let (sign, rest) = plus_minus(tokens)?;
         let (primary, rest) = primary(alloc, rest, levels)?;
-        return Ok((Factor { sign: Some(sign), primary }, rest));
+        return Ok((
+            Factor {
+                sign: Some(sign),
+                primary,
+            },
+            rest,
+        ));
     }
     let (primary, rest) = primary(alloc, tokens, levels)?;
-    Ok((Factor { sign: None, primary }, rest))
+    Ok((
+        Factor {
+            sign: None,
+            primary,
+        },
+        rest,
+    ))
 }
 
 /// A word, and a sum behind it.
 #[cycle(expression)]
 #[tactic(auto, unfolding(crate::specs::ExprReaders::sum_behind_read))]
-pub(crate) fn sum_behind(alloc: Global, tokens: &[Placed], levels: u32, word: Word) -> Result<(Boxed<Sum>, &[Placed]), Halt>
+pub(crate) fn sum_behind(
+    alloc: Global,
+    tokens: &[Placed],
+    levels: u32,
+    word: Word,
+) -> Result<(Boxed<Sum>, &[Placed]), Halt>
     ensures exact { Gives (λ x. (x.0, x.1.now)) result (sum_behind_read word levels tokens.now) }
     ensures takes { IfOk result (λ x. length x.1.now < length tokens.now) }
 {
