@@ -1,0 +1,3 @@
+pub mod Items
+pub mod Same
+pub mod PartSame

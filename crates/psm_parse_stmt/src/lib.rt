@@ -1,0 +1,11 @@
+//! Statements, blocks, declarations and handlers (ISO/IEC 9075-4:1996).
+//!
+//! Each function answers what the reader of its production answers (`Gives`, psm_grammar), and takes a
+//! token where it answers a value. A `Halt` holds the number of tokens that are left at the fault.
+#![tactic(auto)]
+
+mod cursor;
+mod declaration;
+mod diagnostics;
+mod label;
+mod parts;
