@@ -4,6 +4,7 @@
 mod expr;
 mod fault;
 mod file;
+mod laws;
 mod name;
 mod script;
 mod statement;
@@ -19,6 +20,7 @@ pub use file::{
     ColumnRule, ColumnRuleForm, Element, FileTree, Mode, Module, Note, NoteForm, Parameter,
     Routine, TableRule, TableRuleForm, TableTree,
 };
+pub use laws::one_tree;
 pub use name::{Identifier, Names, Target, Targets};
 pub use script::{Argument, Command, ConstantRow, ScriptTree};
 pub use statement::{
