@@ -1,3 +1,4 @@
+pub mod Answering
 pub mod NameKinds
 pub mod Repeating
 pub mod TokenSame

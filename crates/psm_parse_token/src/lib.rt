@@ -17,6 +17,6 @@ pub use name_list::{
 };
 pub use token::{
     at_name, at_number, at_one_of, at_one_sign_of, at_sign, at_text, at_word, expect_name,
-    expect_number, expect_sign, expect_text, expect_word,
+    expect_number, expect_one_of, expect_sign, expect_text, expect_word,
 };
 pub use types::{char_length, char_rest, data_type, plain_type, type_length, varying};
