@@ -7,5 +7,6 @@
 mod cursor;
 mod declaration;
 mod diagnostics;
+mod item;
 mod label;
 mod parts;
