@@ -9,3 +9,4 @@ pub mod Declares
 pub mod BodySteps
 pub mod Blocks
 pub mod Declaring
+pub mod StatementExact

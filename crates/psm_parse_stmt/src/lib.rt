@@ -4,9 +4,20 @@
 //! token where it answers a value. A `Halt` holds the number of tokens that are left at the fault.
 #![tactic(auto)]
 
+mod condition;
 mod cursor;
+mod data;
 mod declaration;
 mod diagnostics;
 mod item;
 mod label;
+mod named;
+mod parse;
 mod parts;
+mod simple;
+mod statement;
+mod stubs;
+
+pub use condition::ordered_select;
+pub use parse::parse_stmt;
+pub use statement::statement;
