@@ -1,1 +1,4 @@
 pub mod PartSame
+pub mod StubSame
+pub mod FileSame
+pub mod Creating

@@ -1,1 +1,4 @@
 pub mod PartReaders
+pub mod Stubs
+pub mod FileReaders
+pub mod Creating
