@@ -1,3 +1,4 @@
 pub mod NamePlaces
 pub mod Distinct
 pub mod Checks
+pub mod Once

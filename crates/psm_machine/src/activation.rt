@@ -6,8 +6,8 @@ ghost use Rattle.psm_machine.specs.RunEnd.{Enters, Runs};
 
 use crate::code::{Code, Instr};
 use crate::machine::{Machine, Turned, stored_integer};
-use psm_list::List;
 use psm_built::{Mode, Parameter};
+use psm_list::List;
 use psm_value::{Datum, SqlState};
 use std::alloc::{AllocError, Global};
 

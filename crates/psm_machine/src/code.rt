@@ -1,8 +1,8 @@
 ghost use Rattle.std.specs.Prelude.{IsTrue, length};
 ghost use Rattle.psm_machine.specs.WellFormed.{is_well_formed};
 
-use psm_list::List;
 use psm_built::Signature;
+use psm_list::List;
 use psm_value::Datum;
 
 /// One instruction. A slot is a parameter's place, from 0.

@@ -10,8 +10,8 @@ ghost use Rattle.psm_machine.specs.Lowered.{slot_of, operand_line, sign_line, su
 ghost use Rattle.psm_machine.specs.Played.{played};
 
 use crate::code::{Code, Instr};
-use psm_list::List;
 use psm_built::{Module, Name, Names, Operand, Procedure, Sign, Signature, Statement, Sum};
+use psm_list::List;
 use std::alloc::{AllocError, Global};
 
 /// The code of a module's procedure: a run of it is the procedure's activation, and a script prints over
