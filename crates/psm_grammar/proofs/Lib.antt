@@ -1,5 +1,6 @@
 pub mod Alike
 pub mod KindLists
+pub mod Fitting
 pub mod Firsts
 pub mod Some
 pub mod Runs

@@ -1,8 +1,9 @@
 -- Steps that the proofs of parsers in Rust cite.
-use Rattle.std.proofs.Common.{◌≡◌, ℕ, zero, suc, ◌-◌, ◌<◌, ◌≢◌, true, false, List, [], ◌∷◌, ◌++◌, length, Some, Ok, Err, refl, sym, ap, ◌∙◌, append_assoc, arith}
+use Rattle.std.proofs.Common.{◌≡◌, ℕ, Bool, cond, zero, suc, ◌-◌, ◌<◌, ◌≢◌, true, false, List, [], ◌∷◌, ◌++◌, length, Some, Ok, Err, refl, sym, ap, ◌∙◌, append_assoc, arith}
 use Rattle.std.proofs.lemmas.List.{append-nil, length-append}
 use Rattle.psm_grammar.specs.Grammar.{Productions}
-use Rattle.psm_grammar.specs.Readers.{Stop, Out, Reader, and_then, starts, repeat, deeper, reads}
+use Rattle.psm_grammar.specs.Language.{has, Test}
+use Rattle.psm_grammar.specs.Readers.{Stop, Wrong, Out, Reader, Deeper, and_then, starts, one, enter, opened, entered, repeat, deeper, reads}
 use Rattle.psm_grammar.specs.Loop.{behind, Looping}
 
 -- where a level is left, the readers of the nonterminals read with one less
@@ -56,3 +57,14 @@ module _ {T X : Type 0} (kind : T → ℕ) (first : List ℕ) (p : Reader T X) w
       let some = some_left rest s in
       let left : 0 < length start - length items = omega (arith, l.room, some) in
       sym l.same ∙ ap (behind items) (repeat_more (length start - length items) rest left s) ∙ ap (λ o. behind items (and_then o (λ x next. and_then (repeat kind first p (length start - length items - 1) next) (λ xs end. Ok (x ∷ xs, end))))) e
+
+-- a token that opens a level is read as any token is
+pub entered_same : {T N A Z : Type 0} {V : N → Type 0} (kind : T → ℕ) (test : Test T A) (n : N) (f : A → V n → Z) (deeper : Deeper T V) (ts : List T)
+    → entered (one kind test) n f deeper ts ≡ opened kind test n f deeper ts
+entered_same kind test n f deeper [] = refl
+entered_same {T} {N} {A} {Z} {V} kind test n f deeper (t ∷ ts) = by (has (kind t) test.kinds)
+  where
+    by : (b : Bool) → and_then (cond b (Ok (test.value t, ts)) (Err (Wrong (t ∷ ts)))) (λ a rest. and_then (enter deeper n (t ∷ ts) rest) (λ y end. Ok (f a y, end)))
+        ≡ cond b (and_then (enter deeper n (t ∷ ts) ts) (λ y end. Ok (f (test.value t) y, end))) (Err (Wrong (t ∷ ts)))
+    by true = refl
+    by false = refl

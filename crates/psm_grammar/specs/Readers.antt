@@ -74,6 +74,10 @@ opened kind test n f deeper (t ∷ ts) = if has (kind t) test.kinds
     then and_then (enter deeper n (t ∷ ts) ts) (λ y end. Ok (f (test.value t) y, end))
     else Err (Wrong (t ∷ ts))
 
+-- a token that opens a level, read as any token is, and then a nonterminal: the same as opened
+abbrev pub entered : {T N A Z : Type 0} {V : N → Type 0} → Reader T A → (n : N) → (A → V n → Z) → Deeper T V → Reader T Z
+entered p n f deeper ts = and_then (p ts) (λ a rest. and_then (enter deeper n ts rest) (λ y end. Ok (f a y, end)))
+
 -- a token, and then a nonterminal at the same level
 abbrev pub followed : {T A Y Z : Type 0} → (T → ℕ) → Test T A → (A → Y → Z) → Reader T Y → Reader T Z
 followed kind test f same [] = Err (Wrong [])

@@ -1,0 +1,11 @@
+pub mod Kinds
+pub mod Tests
+pub mod Parts
+pub mod ExprValues
+pub mod ExprGrammar
+pub mod StatementValues
+pub mod StatementGrammar
+pub mod Productions
+pub mod FileValues
+pub mod FileGrammar
+pub mod Reading

@@ -2,7 +2,9 @@
 #![tactic(auto)]
 
 mod expr;
+mod fault;
 mod file;
+mod laws;
 mod name;
 mod script;
 mod statement;
@@ -13,10 +15,12 @@ pub use expr::{
     Pick, Picks, Predicate, Primary, Select, SetFunction, Source, Sum, SumOperator, Term,
     TermOperator, Test, TextFunction, TrimSide, When,
 };
+pub use fault::ParseFault;
 pub use file::{
     ColumnRule, ColumnRuleForm, Element, FileTree, Mode, Module, Note, NoteForm, Parameter,
     Routine, TableRule, TableRuleForm, TableTree,
 };
+pub use laws::one_tree;
 pub use name::{Identifier, Names, Target, Targets};
 pub use script::{Argument, Command, ConstantRow, ScriptTree};
 pub use statement::{

@@ -1,0 +1,203 @@
+-- Expressions and queries are read by their first tokens, part by part.
+use Rattle.std.proofs.Common.{◌≡◌, ℕ, true, List, [], ◌∷◌, ◌++◌, Option, Some, None, refl}
+use Rattle.psm_token.specs.declared.word.Word.TheVariants as w
+use Rattle.psm_token.specs.declared.sign.Sign.TheVariants as s
+use Rattle.psm_grammar.specs.Grammar.{Grammar, seq, token}
+use Rattle.psm_grammar.specs.Forms.{later, earlier}
+use Rattle.psm_grammar.proofs.Fitting.{Fit, FitsAt, fit_fewer, fit_token, fit_level, fit_nothing, fit_seq, fit_or, fit_ahead, fit_many, fit_image}
+use Rattle.psm_tree.specs.Kinds.{code, codes_of, sign_code, kind}
+use Rattle.psm_tree.specs.Tests.{word, sign, name_kinds, comparison, sum_operator, term_operator}
+use Rattle.psm_tree.specs.Parts.{Part, V, HandlerRest}
+use Rattle.psm_tree.specs.ExprGrammar
+
+-- what may follow each part: anything, where it ends in a token of its own; a semicolon behind a handler
+abbrev pub after : Part → Option (List ℕ)
+after HandlerRest = Some (sign_code s.Semicolon ∷ [])
+after _ = None
+
+abbrev Fits : {X : Type 0} → List ℕ → Grammar kind V X → Type 0
+Fits follow g = Fit after follow g
+
+-- ---- what may stand behind the parts of an expression
+
+abbrev pub behind_expr : List ℕ
+behind_expr = sign_code s.RightParen ∷ sign_code s.Comma ∷ sign_code s.Semicolon
+    ∷ codes_of (w.As ∷ w.From ∷ w.For ∷ w.Into ∷ w.Then ∷ w.Do ∷ w.End ∷ w.When ∷ w.Else ∷ w.Where ∷ w.Order ∷ []) ++ name_kinds
+
+abbrev behind_conjunction : List ℕ
+behind_conjunction = code w.Or ∷ behind_expr
+
+abbrev behind_negation : List ℕ
+behind_negation = code w.And ∷ behind_conjunction
+
+abbrev pub behind_sum : List ℕ
+behind_sum = comparison.kinds ++ codes_of (w.Is ∷ w.Not ∷ w.Between ∷ w.In ∷ w.Like ∷ w.Escape ∷ []) ++ behind_negation
+
+abbrev behind_term : List ℕ
+behind_term = sum_operator.kinds ++ behind_sum
+
+abbrev behind_factor : List ℕ
+behind_factor = term_operator.kinds ++ behind_term
+
+-- what may stand behind an item of a query, and behind a query
+abbrev behind_item : List ℕ
+behind_item = sign_code s.Comma ∷ codes_of (w.As ∷ w.From ∷ w.Into ∷ []) ++ name_kinds
+
+abbrev pub behind_picks : List ℕ
+behind_picks = codes_of (w.From ∷ w.Into ∷ [])
+
+abbrev pub behind_select : List ℕ
+behind_select = sign_code s.RightParen ∷ sign_code s.Semicolon ∷ codes_of (w.Order ∷ w.For ∷ w.Do ∷ [])
+
+-- ---- values
+
+primary_fit : Fits behind_factor ExprGrammar.primary
+primary_fit = record { holds = refl }
+
+factor_fit : Fits behind_factor ExprGrammar.factor
+factor_fit = fit_or refl refl (fit_seq (fit_token refl) primary_fit) (fit_image primary_fit)
+
+next_factors_fit : Fits behind_term ExprGrammar.next_factors
+next_factors_fit = fit_many refl refl (fit_seq (fit_token refl) factor_fit)
+
+term_fit : Fits behind_term ExprGrammar.term
+term_fit = fit_seq factor_fit next_factors_fit
+
+next_terms_fit : Fits behind_sum ExprGrammar.next_terms
+next_terms_fit = fit_many refl refl (fit_seq (fit_token refl) term_fit)
+
+pub sum_fit : Fits behind_sum ExprGrammar.sum
+sum_fit = fit_seq term_fit next_terms_fit
+
+-- ---- conditions
+
+between_fit : Fits behind_negation ExprGrammar.between
+between_fit = fit_seq (fit_token refl) (fit_seq (fit_fewer refl sum_fit) (fit_seq (fit_token refl) (fit_fewer refl sum_fit)))
+
+next_sums_fit : Fits (sign_code s.RightParen ∷ []) ExprGrammar.next_sums
+next_sums_fit = fit_many refl refl (fit_seq (fit_token refl) (fit_fewer refl sum_fit))
+
+in_list_fit : Fits behind_negation ExprGrammar.in_list
+in_list_fit = fit_seq (fit_token refl) (fit_seq (fit_token refl) (fit_seq (fit_seq (fit_fewer refl sum_fit) next_sums_fit) (fit_token refl)))
+
+escape_fit : Fits behind_negation ExprGrammar.escape
+escape_fit = fit_seq (fit_token refl) (fit_fewer refl sum_fit)
+
+like_fit : Fits behind_negation ExprGrammar.like
+like_fit = fit_seq (fit_token refl) (fit_seq (fit_fewer refl sum_fit) (fit_or refl refl (fit_image escape_fit) fit_nothing))
+
+negated_test_fit : Fits behind_negation ExprGrammar.negated_test
+negated_test_fit = fit_seq (fit_token refl) (fit_or refl refl (fit_image between_fit) (fit_or refl refl (fit_image in_list_fit) (fit_image like_fit)))
+
+test_fit : Fits behind_negation ExprGrammar.test
+test_fit = fit_or refl refl (fit_seq (fit_token refl) (fit_fewer refl sum_fit))
+    (fit_or refl refl (record { holds = refl })
+    (fit_or refl refl negated_test_fit
+    (fit_or refl refl (fit_image between_fit)
+    (fit_or refl refl (fit_image in_list_fit)
+    (fit_or refl refl (fit_image like_fit) fit_nothing)))))
+
+predicate_fit : Fits behind_negation ExprGrammar.predicate
+predicate_fit = fit_seq (fit_fewer refl sum_fit) test_fit
+
+negation_fit : Fits behind_negation ExprGrammar.negation
+negation_fit = fit_or refl refl (fit_seq (fit_token refl) predicate_fit) (fit_image predicate_fit)
+
+next_negations_fit : Fits behind_conjunction ExprGrammar.next_negations
+next_negations_fit = fit_many refl refl (fit_seq (fit_token refl) negation_fit)
+
+conjunction_fit : Fits behind_conjunction ExprGrammar.conjunction
+conjunction_fit = fit_seq negation_fit next_negations_fit
+
+next_conjunctions_fit : Fits behind_expr ExprGrammar.next_conjunctions
+next_conjunctions_fit = fit_many refl refl (fit_seq (fit_token refl) conjunction_fit)
+
+pub expr_fit : Fits behind_expr ExprGrammar.expr
+expr_fit = fit_seq conjunction_fit next_conjunctions_fit
+
+-- ---- sources
+
+pub source_fit : Fits behind_expr ExprGrammar.source
+source_fit = fit_or refl refl (fit_image (fit_token refl)) (fit_image expr_fit)
+
+next_sources_fit : Fits (sign_code s.RightParen ∷ []) ExprGrammar.next_sources
+next_sources_fit = fit_many refl refl (fit_seq (fit_token refl) (fit_fewer refl source_fit))
+
+pub sources_fit : Fits (sign_code s.RightParen ∷ []) ExprGrammar.sources
+sources_fit = fit_seq (fit_fewer refl source_fit) next_sources_fit
+
+-- ---- queries
+
+counted_fit : Fits (sign_code s.RightParen ∷ []) ExprGrammar.counted
+counted_fit = fit_or refl refl (fit_image (fit_token refl)) (fit_image (fit_fewer refl expr_fit))
+
+-- what stands in parentheses, whatever follows them
+pub parens_fit : {X : Type 0} {p : Grammar kind V X} (follow : List ℕ) → Fits (sign_code s.RightParen ∷ []) p → Fits follow (ExprGrammar.within_parens p)
+parens_fit follow p = fit_seq (fit_token refl) (fit_seq p (fit_token refl))
+
+item_fit : Fits behind_item ExprGrammar.item
+item_fit = fit_or refl refl (fit_seq (fit_token refl) (parens_fit behind_item counted_fit))
+    (fit_or refl refl (fit_seq (fit_token refl) (parens_fit behind_item (fit_fewer refl expr_fit)))
+    (fit_image (fit_fewer refl expr_fit)))
+
+pick_fit : Fits (sign_code s.Comma ∷ behind_picks) ExprGrammar.pick
+pick_fit = fit_seq (fit_fewer refl item_fit) (record { holds = refl })
+
+pub picks_fit : Fits behind_picks ExprGrammar.picks
+picks_fit = fit_or refl refl (fit_image (fit_token refl)) (fit_seq pick_fit (fit_many refl refl (fit_seq (fit_token refl) pick_fit)))
+
+pub from_fit : Fits behind_select ExprGrammar.from_table
+from_fit = fit_seq (fit_token refl) (fit_seq (record { holds = refl }) (fit_or refl refl (fit_image (fit_seq (fit_token refl) (fit_fewer refl expr_fit))) fit_nothing))
+
+pub select_fit : Fits behind_select ExprGrammar.select
+select_fit = fit_seq (fit_token refl) (fit_seq (fit_fewer refl picks_fit) (fit_seq (fit_token refl) from_fit))
+
+-- ---- what stands behind a token that opens a level
+
+pub enclosed_fit : (follow : List ℕ) → Fits follow ExprGrammar.enclosed
+enclosed_fit follow = fit_or refl refl (fit_seq (fit_image (fit_fewer refl select_fit)) (fit_token refl)) (fit_seq (fit_image (fit_fewer refl expr_fit)) (fit_token refl))
+
+pub arguments_fit : (follow : List ℕ) → Fits follow ExprGrammar.arguments
+arguments_fit follow = fit_or refl refl (fit_image (fit_token refl)) (fit_seq (fit_seq (fit_fewer refl source_fit) next_sources_fit) (fit_token refl))
+
+pub exists_fit : (follow : List ℕ) → Fits follow ExprGrammar.exists_rest
+exists_fit follow = parens_fit follow (fit_fewer refl select_fit)
+
+when_fit : Fits (codes_of (w.When ∷ w.Else ∷ w.End ∷ [])) ExprGrammar.when
+when_fit = fit_seq (fit_token refl) (fit_seq (fit_fewer refl expr_fit) (fit_seq (fit_token refl) (fit_fewer refl source_fit)))
+
+otherwise_fit : Fits (code w.End ∷ []) ExprGrammar.otherwise
+otherwise_fit = fit_seq (fit_token refl) (fit_fewer refl source_fit)
+
+whens_fit : (follow : List ℕ) → Fits follow ExprGrammar.whens
+whens_fit follow = fit_seq when_fit (fit_seq (fit_many refl refl when_fit) (fit_seq (fit_or refl refl (fit_image otherwise_fit) fit_nothing) (fit_token refl)))
+
+pub case_fit : (follow : List ℕ) → Fits follow ExprGrammar.case_rest
+case_fit follow = fit_or refl refl (fit_image (whens_fit follow)) (fit_seq (fit_fewer refl expr_fit) (whens_fit follow))
+
+pub cast_fit : (follow : List ℕ) → Fits follow ExprGrammar.cast_rest
+cast_fit follow = parens_fit follow (fit_seq (fit_fewer refl source_fit) (fit_seq (fit_token refl) (record { holds = refl })))
+
+pub coalesce_fit : (follow : List ℕ) → Fits follow ExprGrammar.coalesce_rest
+coalesce_fit follow = parens_fit follow sources_fit
+
+pub nullif_fit : (follow : List ℕ) → Fits follow ExprGrammar.nullif_rest
+nullif_fit follow = parens_fit follow (fit_seq (fit_fewer refl expr_fit) (fit_seq (fit_token refl) (fit_fewer refl expr_fit)))
+
+pub function_fit : (follow : List ℕ) → Fits follow ExprGrammar.function_rest
+function_fit follow = parens_fit follow (fit_fewer refl expr_fit)
+
+pub position_fit : (follow : List ℕ) → Fits follow ExprGrammar.position_rest
+position_fit follow = parens_fit follow (fit_seq (fit_fewer refl sum_fit) (fit_seq (fit_token refl) (fit_fewer refl sum_fit)))
+
+for_length_fit : Fits (sign_code s.RightParen ∷ []) ExprGrammar.for_length
+for_length_fit = fit_seq (fit_token refl) (fit_fewer refl expr_fit)
+
+pub substring_fit : (follow : List ℕ) → Fits follow ExprGrammar.substring_rest
+substring_fit follow = parens_fit follow (fit_seq (fit_fewer refl expr_fit) (fit_seq (fit_token refl) (fit_seq (fit_fewer refl expr_fit) (fit_or refl refl (fit_image for_length_fit) fit_nothing))))
+
+sided_fit : Fits (sign_code s.RightParen ∷ []) ExprGrammar.sided
+sided_fit = fit_seq (fit_token refl) (fit_seq (fit_token refl) (fit_fewer refl expr_fit))
+
+pub trim_fit : (follow : List ℕ) → Fits follow ExprGrammar.trim_rest
+trim_fit follow = fit_seq (fit_token refl) (fit_ahead refl (fit_seq sided_fit (fit_token refl)) (fit_seq (fit_image (fit_fewer refl expr_fit)) (fit_token refl)))

@@ -1,0 +1,89 @@
+-- Module files and scripts are read by their first tokens.
+use Rattle.std.proofs.Common.{◌≡◌, ℕ, true, List, [], ◌∷◌, ◌++◌, refl}
+use Rattle.psm_token.specs.declared.word.Word.TheVariants as w
+use Rattle.psm_token.specs.declared.sign.Sign.TheVariants as s
+use Rattle.psm_grammar.specs.Grammar.{Grammar}
+use Rattle.psm_grammar.proofs.Fitting.{Fit, fit_fewer, fit_token, fit_nothing, fit_seq, fit_or, fit_ahead, fit_many, fit_image}
+use Rattle.psm_tree.specs.Kinds.{code, codes_of, sign_code, kind, column_rule_words, routine_words}
+use Rattle.psm_tree.specs.Parts.{V}
+use Rattle.psm_tree.specs.FileGrammar
+use Rattle.psm_tree.proofs.ExprFits.{after, expr_fit, parens_fit}
+use Rattle.psm_tree.proofs.StatementFits.{semicolon, ordered_fit, statement_fit}
+
+abbrev Fits : {X : Type 0} → List ℕ → Grammar kind V X → Type 0
+Fits follow g = Fit after follow g
+
+-- ---- tables
+
+abbrev behind_element : List ℕ
+behind_element = sign_code s.Comma ∷ sign_code s.RightParen ∷ []
+
+plain_column_rule_fit : (follow : List ℕ) → Fits follow FileGrammar.plain_column_rule
+plain_column_rule_fit follow = fit_or refl refl (fit_seq (fit_token refl) (fit_token refl))
+    (fit_or refl refl (fit_seq (fit_token refl) (fit_token refl))
+    (fit_or refl refl (fit_image (fit_token refl))
+    (fit_seq (fit_token refl) (parens_fit follow (fit_fewer refl expr_fit)))))
+
+column_rule_fit : (follow : List ℕ) → Fits follow FileGrammar.column_rule
+column_rule_fit follow = fit_or refl refl (fit_seq (fit_token refl) (fit_seq (fit_token refl) (plain_column_rule_fit follow))) (plain_column_rule_fit follow)
+
+column_fit : Fits behind_element FileGrammar.column
+column_fit = fit_seq (fit_token refl) (fit_seq (record { holds = refl }) (fit_seq (record { holds = refl }) (fit_many refl refl (column_rule_fit (codes_of column_rule_words ++ behind_element)))))
+
+plain_table_rule_fit : (follow : List ℕ) → Fits follow FileGrammar.plain_table_rule
+plain_table_rule_fit follow = fit_or refl refl (fit_seq (fit_token refl) (fit_seq (fit_token refl) (parens_fit follow (record { holds = refl }))))
+    (fit_or refl refl (fit_seq (fit_token refl) (parens_fit follow (record { holds = refl })))
+    (fit_seq (fit_token refl) (parens_fit follow (fit_fewer refl expr_fit))))
+
+table_rule_fit : (follow : List ℕ) → Fits follow FileGrammar.table_rule
+table_rule_fit follow = fit_or refl refl (fit_seq (fit_token refl) (fit_seq (fit_token refl) (plain_table_rule_fit follow))) (plain_table_rule_fit follow)
+
+element_fit : Fits behind_element FileGrammar.element
+element_fit = fit_or refl refl column_fit (fit_image (table_rule_fit behind_element))
+
+table_fit : (follow : List ℕ) → Fits follow FileGrammar.table
+table_fit follow = fit_seq (fit_token refl) (parens_fit follow (fit_seq element_fit (fit_many refl refl (fit_seq (fit_token refl) element_fit))))
+
+-- ---- routines
+
+noted_fit : Fits semicolon FileGrammar.noted_statement
+noted_fit = fit_seq (record { holds = refl }) statement_fit
+
+procedure_fit : Fits semicolon FileGrammar.procedure
+procedure_fit = fit_seq (fit_token refl) (fit_seq (fit_token refl) (fit_seq (record { holds = refl }) noted_fit))
+
+returned_fit : Fits semicolon FileGrammar.returned
+returned_fit = fit_or refl refl (fit_seq (fit_token refl) (fit_ahead refl (fit_seq (record { holds = refl }) noted_fit) (fit_seq (record { holds = refl }) noted_fit)))
+    (fit_seq (record { holds = refl }) noted_fit)
+
+function_fit : Fits semicolon FileGrammar.function
+function_fit = fit_seq (fit_token refl) (fit_seq (fit_token refl) (fit_seq (record { holds = refl }) (fit_seq (fit_token refl) returned_fit)))
+
+routine_fit : Fits semicolon FileGrammar.routine
+routine_fit = fit_or refl refl (fit_seq (fit_token refl) (fit_or refl refl procedure_fit function_fit)) (fit_or refl refl procedure_fit function_fit)
+
+-- ---- files
+
+module_fit : Fits semicolon FileGrammar.module_part
+module_fit = fit_seq (fit_token refl) (fit_seq (fit_token refl) (fit_seq (record { holds = refl })
+    (fit_seq (fit_seq (fit_many refl refl (fit_seq routine_fit (fit_token refl))) (fit_token refl)) (fit_token refl))))
+
+created_table_fit : (follow : List ℕ) → Fits follow FileGrammar.created_table
+created_table_fit follow = fit_seq (fit_token refl) (fit_seq (table_fit semicolon) (fit_seq (fit_token refl) (fit_token refl)))
+
+pub file_fit : Fits [] FileGrammar.file
+file_fit = fit_seq (fit_token refl) (fit_seq (fit_many refl refl (created_table_fit (codes_of (w.Table ∷ w.Module ∷ [])))) (fit_seq module_fit (record { holds = refl })))
+
+-- ---- scripts
+
+insert_fit : Fits semicolon FileGrammar.script_insert
+insert_fit = record { holds = refl }
+
+command_fit : Fits semicolon FileGrammar.command
+command_fit = fit_or refl refl (record { holds = refl })
+    (fit_or refl refl insert_fit
+    (fit_or refl refl (fit_image (fit_fewer refl ordered_fit))
+    (fit_or refl refl (record { holds = refl }) (record { holds = refl }))))
+
+pub script_fit : Fits [] FileGrammar.script
+script_fit = fit_image (fit_many refl refl (fit_seq command_fit (fit_token refl)))

@@ -1,0 +1,4 @@
+pub mod ExprFits
+pub mod StatementFits
+pub mod FileFits
+pub mod Readable

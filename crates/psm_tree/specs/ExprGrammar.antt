@@ -1,0 +1,401 @@
+-- The grammar of names, types, constants, expressions and queries (ISO/IEC 9075:1992, 5.3 to 8.12).
+use Rattle.std.specs.Prelude.{ℕ, Bool, true, false, List, [], ◌∷◌, Option, Some, None}
+use Rattle.psm_num.specs.Num.{Num}
+use Rattle.psm_token.specs.declared.word.Word.TheVariants as w
+use Rattle.psm_token.specs.declared.sign.Sign.TheVariants as s
+use Rattle.psm_grammar.specs.Grammar.{Grammar, token, level, nothing, seq, or, ahead, many, image}
+use Rattle.psm_grammar.specs.Forms.{earlier, later, optional, behind_token, before_token}
+use Rattle.psm_tree.specs.Kinds.{code, kind}
+use Rattle.psm_tree.specs.Tests.{At, word, sign, name, number, text, plus_minus, comparison, sum_operator, term_operator, text_function, set_function, trim_side, integer_word, numeric_word, char_word}
+use Rattle.psm_tree.specs.Parts.{Part, Enclosed, Arguments, ExistsRest, CaseRest, CastRest, CoalesceRest, NullIfRest, FunctionRest, PositionRest, SubstringRest, TrimRest, V, Inside, Value, Query}
+use Rattle.psm_tree.specs.ExprValues.{pair, cons, none, target_of, names_of, targets_of, type_of, formed, precision_of, numeric_of, varchar_form, char_form, char_alone, number_constant, signed_constant, text_constant, null_constant, expr_of, conjunction_of, negated, plain, predicate_of, compare_of, null_of, between_of, in_of, like_of, sum_of, next_term_of, term_of, next_factor_of, signed, unsigned, NameRest, Bare, Dotted, number_primary, text_primary, named, called, enclosed_of, exists_of, case_of, cast_of, coalesce_of, nullif_of, function_of, position_of, substring_of, trim_of, substring_parts, both_sides, Whens, whens_of, case_alone, case_over, when_of, null_source, value_source, select_of, all_picks, picks_of, pick_of, expr_item, count_of, all_rows, aggregate_of, from_of}
+use Rattle.psm_tree.specs.declared.name.Identifier.{Identifier}
+use Rattle.psm_tree.specs.declared.name.Target.{Target}
+use Rattle.psm_tree.specs.declared.name.Names.{Names}
+use Rattle.psm_tree.specs.declared.name.Targets.{Targets}
+use Rattle.psm_tree.specs.declared.types.Precision.{Precision}
+use Rattle.psm_tree.specs.declared.types.TypeForm.{TypeForm}
+use Rattle.psm_tree.specs.declared.types.TypeForm.TheVariants as forms
+use Rattle.psm_tree.specs.declared.types.DataType.{DataType}
+use Rattle.psm_tree.specs.declared.types.Constant.{Constant}
+use Rattle.psm_tree.specs.declared.expr.Expr.{Expr}
+use Rattle.psm_tree.specs.declared.expr.Conjunction.{Conjunction}
+use Rattle.psm_tree.specs.declared.expr.Negation.{Negation}
+use Rattle.psm_tree.specs.declared.expr.Predicate.{Predicate}
+use Rattle.psm_tree.specs.declared.expr.Test.{Test}
+use Rattle.psm_tree.specs.declared.expr.Test.TheVariants as tests
+use Rattle.psm_tree.specs.declared.expr.Sum.{Sum}
+use Rattle.psm_tree.specs.declared.expr.NextTerm.{NextTerm}
+use Rattle.psm_tree.specs.declared.expr.Term.{Term}
+use Rattle.psm_tree.specs.declared.expr.NextFactor.{NextFactor}
+use Rattle.psm_tree.specs.declared.expr.Factor.{Factor}
+use Rattle.psm_tree.specs.declared.expr.Primary.{Primary}
+use Rattle.psm_tree.specs.declared.expr.TrimSide.{TrimSide}
+use Rattle.psm_tree.specs.declared.expr.CaseExpr.{CaseExpr}
+use Rattle.psm_tree.specs.declared.expr.When.{When}
+use Rattle.psm_tree.specs.declared.expr.Source.{Source}
+use Rattle.psm_tree.specs.declared.expr.Select.{Select}
+use Rattle.psm_tree.specs.declared.expr.Picks.{Picks}
+use Rattle.psm_tree.specs.declared.expr.Pick.{Pick}
+use Rattle.psm_tree.specs.declared.expr.Item.{Item}
+use Rattle.psm_tree.specs.declared.expr.From.{From}
+
+-- a part of the grammar whose words say an X
+abbrev pub Gram : Type 0 → Type 1
+Gram X = Grammar kind V X
+
+-- what stands before a closing parenthesis
+abbrev pub closed : {X : Type 0} → Gram X → Gram X
+closed p = before_token p (sign s.RightParen)
+
+-- what stands in parentheses
+abbrev pub within_parens : {X : Type 0} → Gram X → Gram X
+within_parens p = behind_token (sign s.LeftParen) (closed p)
+
+-- ---- names
+
+-- target = name ["." name]
+abbrev pub second_name : Gram Identifier
+second_name = behind_token (sign s.Period) (token name)
+
+abbrev pub target : Gram Target
+target = seq target_of (token name) (optional second_name)
+
+-- names = name {"," name}
+abbrev pub next_name : Gram Identifier
+next_name = behind_token (sign s.Comma) (token name)
+
+abbrev pub next_names : Gram (List Identifier)
+next_names = many next_name
+
+abbrev pub names : Gram Names
+names = seq names_of (token name) next_names
+
+abbrev pub names_in_parens : Gram Names
+names_in_parens = within_parens names
+
+-- targets = target {"," target}
+abbrev pub next_target : Gram Target
+next_target = behind_token (sign s.Comma) target
+
+abbrev pub next_targets : Gram (List Target)
+next_targets = many next_target
+
+abbrev pub targets : Gram Targets
+targets = seq targets_of target next_targets
+
+-- ---- types and constants
+
+-- type_length = "(" num ")"
+abbrev pub type_length : Gram (At Num)
+type_length = within_parens (token number)
+
+-- precision = "(" num ["," num] ")"
+abbrev pub scale : Gram (At Num)
+scale = behind_token (sign s.Comma) (token number)
+
+abbrev pub precision : Gram Precision
+precision = within_parens (seq precision_of (token number) (optional scale))
+
+-- plain_type = SMALLINT | INTEGER | INT | (NUMERIC|DECIMAL|DEC) [precision] | VARCHAR type_length
+abbrev pub numeric_type : Gram DataType
+numeric_type = seq numeric_of (token numeric_word) (optional precision)
+
+abbrev pub varchar_type : Gram DataType
+varchar_type = seq formed (token (word w.VarChar)) (image varchar_form type_length)
+
+abbrev pub plain_type : Gram DataType
+plain_type = or (image (type_of forms.SmallInt) (token (word w.SmallInt)))
+    (or (image (type_of forms.Integer) (token integer_word))
+    (or numeric_type varchar_type))
+
+-- char_rest = VARYING type_length | [type_length]
+abbrev pub varying : Gram TypeForm
+varying = behind_token (word w.Varying) (image varchar_form type_length)
+
+abbrev pub char_length : Gram TypeForm
+char_length = or (image char_form type_length) (nothing char_alone)
+
+abbrev pub char_rest : Gram TypeForm
+char_rest = or varying char_length
+
+-- type = plain_type | (CHAR|CHARACTER) char_rest
+abbrev pub char_type : Gram DataType
+char_type = seq formed (token char_word) char_rest
+
+abbrev pub data_type : Gram DataType
+data_type = or char_type plain_type
+
+-- const = ["+"|"-"] num | text | NULL
+abbrev pub constant : Gram Constant
+constant = or (image number_constant (token number))
+    (or (image text_constant (token text))
+    (or (image null_constant (token (word w.Null)))
+    (seq signed_constant (token plus_minus) (token number))))
+
+-- ---- primaries
+
+-- named = name ["." name | "(" [source {"," source}] ")"]
+abbrev pub name_rest : Gram NameRest
+name_rest = or (image Dotted second_name)
+    (or (level Arguments (sign s.LeftParen) called)
+    (nothing Bare))
+
+abbrev pub named_primary : Gram Primary
+named_primary = seq named (token name) name_rest
+
+-- what begins with a word of its own
+abbrev pub worded_primary : Gram Primary
+worded_primary = or (level ExistsRest (word w.Exists) exists_of)
+    (or (level CaseRest (word w.Case) case_of)
+    (or (level CastRest (word w.Cast) cast_of)
+    (or (level CoalesceRest (word w.Coalesce) coalesce_of)
+    (or (level NullIfRest (word w.NullIf) nullif_of)
+    (or (level PositionRest (word w.Position) position_of)
+    (or (level SubstringRest (word w.Substring) substring_of)
+    (or (level TrimRest (word w.Trim) trim_of)
+    (level FunctionRest text_function function_of))))))))
+
+-- primary = num | text | named | "(" inside ")" | ..
+abbrev pub primary : Gram Primary
+primary = or (image number_primary (token number))
+    (or (image text_primary (token text))
+    (or named_primary
+    (or (level Enclosed (sign s.LeftParen) enclosed_of)
+    worded_primary)))
+
+-- ---- values
+
+-- factor = ["+"|"-"] primary
+abbrev pub factor : Gram Factor
+factor = or (seq signed (token plus_minus) primary) (image unsigned primary)
+
+-- term = factor {("*"|"/") factor}
+abbrev pub next_factor : Gram NextFactor
+next_factor = seq next_factor_of (token term_operator) factor
+
+abbrev pub next_factors : Gram (List NextFactor)
+next_factors = many next_factor
+
+abbrev pub term : Gram Term
+term = seq term_of factor next_factors
+
+-- sum = term {("+"|"-"|"||") term}
+abbrev pub next_term : Gram NextTerm
+next_term = seq next_term_of (token sum_operator) term
+
+abbrev pub next_terms : Gram (List NextTerm)
+next_terms = many next_term
+
+abbrev pub sum : Gram Sum
+sum = seq sum_of term next_terms
+
+-- ---- conditions
+
+-- between = BETWEEN sum AND sum
+abbrev pub between : Gram (Sum × Sum)
+between = behind_token (word w.Between) (seq pair sum (behind_token (word w.And) sum))
+
+-- in_list = IN "(" sum {"," sum} ")"
+abbrev pub next_sum : Gram Sum
+next_sum = behind_token (sign s.Comma) sum
+
+abbrev pub next_sums : Gram (List Sum)
+next_sums = many next_sum
+
+abbrev pub sums_in_parens : Gram (Sum × List Sum)
+sums_in_parens = within_parens (seq pair sum next_sums)
+
+abbrev pub in_list : Gram (Sum × List Sum)
+in_list = behind_token (word w.In) sums_in_parens
+
+-- like = LIKE sum [ESCAPE sum]
+abbrev pub escape : Gram Sum
+escape = behind_token (word w.Escape) sum
+
+abbrev pub like : Gram (Sum × Option Sum)
+like = behind_token (word w.Like) (seq pair sum (optional escape))
+
+-- is_null = IS [NOT] NULL
+abbrev pub is_null : Gram Test
+is_null = behind_token (word w.Is) (seq null_of (optional (token (word w.Not))) (token (word w.Null)))
+
+-- compare = ("="|"<>"|"<"|"<="|">"|">=") sum
+abbrev pub compare : Gram Test
+compare = seq compare_of (token comparison) sum
+
+-- negated_test = NOT (between | in_list | like)
+abbrev pub negatable : Gram Test
+negatable = or (image (between_of true) between)
+    (or (image (in_of true) in_list)
+    (image (like_of true) like))
+
+abbrev pub negated_test : Gram Test
+negated_test = behind_token (word w.Not) negatable
+
+-- test = [compare | is_null | negated_test | between | in_list | like]
+abbrev pub test : Gram Test
+test = or compare
+    (or is_null
+    (or negated_test
+    (or (image (between_of false) between)
+    (or (image (in_of false) in_list)
+    (or (image (like_of false) like)
+    (nothing tests.Value))))))
+
+-- predicate = sum test
+abbrev pub predicate : Gram Predicate
+predicate = seq predicate_of sum test
+
+-- negation = [NOT] predicate
+abbrev pub negation : Gram Negation
+negation = or (seq negated (token (word w.Not)) predicate) (image plain predicate)
+
+-- conjunction = negation {AND negation}
+abbrev pub next_negation : Gram Negation
+next_negation = behind_token (word w.And) negation
+
+abbrev pub next_negations : Gram (List Negation)
+next_negations = many next_negation
+
+abbrev pub conjunction : Gram Conjunction
+conjunction = seq conjunction_of negation next_negations
+
+-- expr = conjunction {OR conjunction}
+abbrev pub next_conjunction : Gram Conjunction
+next_conjunction = behind_token (word w.Or) conjunction
+
+abbrev pub next_conjunctions : Gram (List Conjunction)
+next_conjunctions = many next_conjunction
+
+abbrev pub expr : Gram Expr
+expr = seq expr_of conjunction next_conjunctions
+
+-- source = NULL | expr
+abbrev pub source : Gram Source
+source = or (image null_source (token (word w.Null))) (image value_source expr)
+
+-- sources = source {"," source}
+abbrev pub next_source : Gram Source
+next_source = behind_token (sign s.Comma) source
+
+abbrev pub next_sources : Gram (List Source)
+next_sources = many next_source
+
+abbrev pub sources : Gram (Source × List Source)
+sources = seq pair source next_sources
+
+-- ---- queries
+
+-- item = COUNT "(" ("*" | expr) ")" | (SUM|AVG|MIN|MAX) "(" expr ")" | expr
+abbrev pub counted : Gram (Option Expr)
+counted = or (image all_rows (token (sign s.Asterisk))) (image Some expr)
+
+abbrev pub count : Gram Item
+count = seq count_of (token (word w.Count)) (within_parens counted)
+
+abbrev pub aggregate : Gram Item
+aggregate = seq aggregate_of (token set_function) (within_parens expr)
+
+abbrev pub item : Gram Item
+item = or count
+    (or aggregate
+    (image expr_item expr))
+
+-- alias = [[AS] name]
+abbrev pub alias : Gram (Option Identifier)
+alias = or (image Some (behind_token (word w.As) (token name)))
+    (or (image Some (token name))
+    (nothing None))
+
+-- picks = "*" | item [alias] {"," item [alias]}
+abbrev pub pick : Gram Pick
+pick = seq pick_of item alias
+
+abbrev pub next_pick : Gram Pick
+next_pick = behind_token (sign s.Comma) pick
+
+abbrev pub next_picks : Gram (List Pick)
+next_picks = many next_pick
+
+abbrev pub picks : Gram Picks
+picks = or (image all_picks (token (sign s.Asterisk))) (seq picks_of pick next_picks)
+
+-- from = name [alias] [WHERE expr]
+abbrev pub where_condition : Gram Expr
+where_condition = behind_token (word w.Where) expr
+
+abbrev pub from_table : Gram From
+from_table = seq from_of (token name) (seq pair alias (optional where_condition))
+
+-- select = SELECT picks FROM from
+abbrev pub select : Gram Select
+select = seq select_of (token (word w.Select)) (seq pair picks (behind_token (word w.From) from_table))
+
+-- ---- what stands behind a token that opens a level
+
+-- inside = (select | expr) ")"
+abbrev pub enclosed : Gram Inside
+enclosed = or (closed (image Query select)) (closed (image Value expr))
+
+-- arguments = [source {"," source}] ")"
+abbrev pub argument_list : Gram (List Source)
+argument_list = closed (seq cons source next_sources)
+
+abbrev pub arguments : Gram (List Source)
+arguments = or (image none (token (sign s.RightParen))) argument_list
+
+abbrev pub exists_rest : Gram Select
+exists_rest = within_parens select
+
+-- case_rest = [expr] WHEN expr THEN source {WHEN expr THEN source} [ELSE source] END
+abbrev pub when : Gram When
+when = behind_token (word w.When) (seq when_of expr (behind_token (word w.Then) source))
+
+abbrev pub next_whens : Gram (List When)
+next_whens = many when
+
+abbrev pub otherwise : Gram Source
+otherwise = behind_token (word w.Else) source
+
+abbrev pub whens : Gram Whens
+whens = seq whens_of when (seq pair next_whens (before_token (optional otherwise) (word w.End)))
+
+abbrev pub case_rest : Gram CaseExpr
+case_rest = or (image case_alone whens) (seq case_over expr whens)
+
+-- cast_rest = "(" source AS type ")"
+abbrev pub cast_rest : Gram (Source × DataType)
+cast_rest = within_parens (seq pair source (behind_token (word w.As) data_type))
+
+abbrev pub coalesce_rest : Gram (Source × List Source)
+coalesce_rest = within_parens sources
+
+-- nullif_rest = "(" expr "," expr ")"
+abbrev pub nullif_rest : Gram (Expr × Expr)
+nullif_rest = within_parens (seq pair expr (behind_token (sign s.Comma) expr))
+
+abbrev pub function_rest : Gram Expr
+function_rest = within_parens expr
+
+-- position_rest = "(" sum IN sum ")"
+abbrev pub position_rest : Gram (Sum × Sum)
+position_rest = within_parens (seq pair sum (behind_token (word w.In) sum))
+
+-- substring_rest = "(" expr FROM expr [FOR expr] ")"
+abbrev pub for_length : Gram Expr
+for_length = behind_token (word w.For) expr
+
+abbrev pub substring_rest : Gram (Expr × Expr × Option Expr)
+substring_rest = within_parens (seq substring_parts expr (behind_token (word w.From) (seq pair expr (optional for_length))))
+
+-- trim_rest = "(" [(LEADING|TRAILING|BOTH) FROM] expr ")"
+abbrev pub sided : Gram (TrimSide × Expr)
+sided = seq pair (token trim_side) (behind_token (word w.From) expr)
+
+abbrev pub trimmed : Gram (TrimSide × Expr)
+trimmed = ahead (code w.Leading ∷ code w.Trailing ∷ code w.Both ∷ []) (code w.From ∷ [])
+    (closed sided) (closed (image both_sides expr))
+
+abbrev pub trim_rest : Gram (TrimSide × Expr)
+trim_rest = behind_token (sign s.LeftParen) trimmed

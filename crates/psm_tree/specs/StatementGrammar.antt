@@ -1,0 +1,451 @@
+-- The grammar of statements, blocks and declarations (ISO/IEC 9075-4:1996).
+use Rattle.std.specs.Prelude.{ℕ, Bool, true, false, List, [], ◌∷◌, Option, Some, None}
+use Rattle.psm_token.specs.declared.word.Word.TheVariants as w
+use Rattle.psm_token.specs.declared.sign.Sign.TheVariants as s
+use Rattle.psm_grammar.specs.Grammar.{Grammar, token, level, next, nothing, seq, or, ahead, many, image}
+use Rattle.psm_grammar.specs.Forms.{earlier, later, optional, behind_token, before_token}
+use Rattle.psm_tree.specs.Kinds.{code, kind}
+use Rattle.psm_tree.specs.Tests.{At, word, sign, name, number, text, handler_kind, statement_item, condition_item, exception_word}
+use Rattle.psm_tree.specs.Parts.{Phase, Declarations, Cursors, Handlers, Part, Arguments, BeginRest, LoopRest, WhileRest, RepeatRest, ForRest, IfRest, CaseStatementRest, HandlerRest, BodyRest, DeclareRest, V, ForParts, HandlerParts, NamedRest, Declared, Handled, Body}
+use Rattle.psm_tree.specs.ExprValues.{pair, cons}
+use Rattle.psm_tree.specs.StatementValues.{state_of, ordered_query, order_of, order_column, yes, «no», named_condition, state_condition, signalled_of, statement_information, condition_information, number_of_condition, target_of_condition, statement_diagnostics, condition_diagnostics, values_of, inserted_values, inserted_query, assignment_of, where_true, where_current, set_of, call_of, return_of, leave_of, iterate_of, signal_of, resignal_of, diagnostics_of, select_into, selected, insert_of, into_table, Updating, updating, update_of, delete_of, open_of, fetch_of, close_of, simple_statement, unlabelled, labelled, if_of, case_statement_of, statements_of, branch_of, branches_of, case_alone_statement, case_over_statement, compound_of, loop_of, while_of, repeat_of, for_of, for_cursor, for_parts, for_query, undeclared, variables_of, one_variable, condition_of, cursor_of, read_only, updatable, named_rest, handler_parts, state_value, name_value, exception_value, warning_value, not_found_value, declared}
+use Rattle.psm_tree.specs.ExprGrammar.{Gram, closed, within_parens, target, names, names_in_parens, targets, next_names, data_type, arguments, expr, source, sources, picks, from_table, select}
+use Rattle.psm_tree.specs.declared.name.Identifier.{Identifier}
+use Rattle.psm_tree.specs.declared.name.Target.{Target}
+use Rattle.psm_tree.specs.declared.name.Names.{Names}
+use Rattle.psm_tree.specs.declared.name.Targets.{Targets}
+use Rattle.psm_tree.specs.declared.types.DataType.{DataType}
+use Rattle.psm_tree.specs.declared.types.State.{State}
+use Rattle.psm_tree.specs.declared.expr.Expr.{Expr}
+use Rattle.psm_tree.specs.declared.expr.Source.{Source}
+use Rattle.psm_tree.specs.declared.expr.Picks.{Picks}
+use Rattle.psm_tree.specs.declared.expr.From.{From}
+use Rattle.psm_tree.specs.declared.statement.Statement.{Statement}
+use Rattle.psm_tree.specs.declared.statement.Statements.{Statements}
+use Rattle.psm_tree.specs.declared.statement.Branches.{Branches}
+use Rattle.psm_tree.specs.declared.statement.Branch.{Branch}
+use Rattle.psm_tree.specs.declared.statement.Block.{Block}
+use Rattle.psm_tree.specs.declared.statement.ForCursor.{ForCursor}
+use Rattle.psm_tree.specs.declared.statement.OrderedQuery.{OrderedQuery}
+use Rattle.psm_tree.specs.declared.statement.Order.{Order}
+use Rattle.psm_tree.specs.declared.statement.OrderColumn.{OrderColumn}
+use Rattle.psm_tree.specs.declared.statement.Updatability.{Updatability}
+use Rattle.psm_tree.specs.declared.statement.HandlerValue.{HandlerValue}
+use Rattle.psm_tree.specs.declared.statement.Signalled.{Signalled}
+use Rattle.psm_tree.specs.declared.statement.StatementInformation.{StatementInformation}
+use Rattle.psm_tree.specs.declared.statement.ConditionInformation.{ConditionInformation}
+use Rattle.psm_tree.specs.declared.statement.ConditionNumber.{ConditionNumber}
+use Rattle.psm_tree.specs.declared.statement.Diagnostics.{Diagnostics}
+use Rattle.psm_tree.specs.declared.statement.Values.{Values}
+use Rattle.psm_tree.specs.declared.statement.InsertSource.{InsertSource}
+use Rattle.psm_tree.specs.declared.statement.Assignment.{Assignment}
+use Rattle.psm_tree.specs.declared.statement.Where.{Where}
+use Rattle.psm_tree.specs.declared.statement.Simple.{Simple}
+
+-- ---- parts of statements
+
+-- state = SQLSTATE [VALUE] text
+abbrev pub state_text : Gram (At (List ℕ))
+state_text = or (behind_token (word w.Value) (token text)) (token text)
+
+abbrev pub state : Gram State
+state = seq state_of (token (word w.SqlState)) state_text
+
+-- order = ORDER BY name [ASC|DESC] {"," name [ASC|DESC]}
+abbrev pub direction : Gram Bool
+direction = or (image yes (token (word w.Desc)))
+    (or (image «no» (token (word w.Asc)))
+    (nothing false))
+
+abbrev pub column_order : Gram OrderColumn
+column_order = seq order_column (token name) direction
+
+abbrev pub next_column_order : Gram OrderColumn
+next_column_order = behind_token (sign s.Comma) column_order
+
+abbrev pub next_column_orders : Gram (List OrderColumn)
+next_column_orders = many next_column_order
+
+abbrev pub order : Gram Order
+order = seq order_of (token (word w.Order)) (behind_token (word w.By) (seq pair column_order next_column_orders))
+
+-- ordered_select = select [order]
+abbrev pub ordered_select : Gram OrderedQuery
+ordered_select = seq ordered_query select (optional order)
+
+-- signalled = (state | name) [SET MESSAGE_TEXT "=" expr]
+abbrev pub message : Gram Expr
+message = behind_token (word w.Set) (behind_token (word w.MessageText) (behind_token (sign s.Equal) expr))
+
+abbrev pub state_signalled : Gram Signalled
+state_signalled = seq signalled_of (image state_condition state) (optional message)
+
+abbrev pub name_signalled : Gram Signalled
+name_signalled = seq signalled_of (image named_condition (token name)) (optional message)
+
+abbrev pub signalled : Gram Signalled
+signalled = or state_signalled name_signalled
+
+-- where = WHERE (CURRENT OF name | expr)
+abbrev pub current : Gram Where
+current = behind_token (word w.Current) (behind_token (word w.Of) (image where_current (token name)))
+
+abbrev pub which_rows : Gram Where
+which_rows = or current (image where_true expr)
+
+abbrev pub where_part : Gram Where
+where_part = behind_token (word w.Where) which_rows
+
+-- values = "(" source {"," source} ")"
+abbrev pub values : Gram Values
+values = seq values_of (token (sign s.LeftParen)) (closed sources)
+
+abbrev pub next_values : Gram Values
+next_values = behind_token (sign s.Comma) values
+
+abbrev pub more_values : Gram (List Values)
+more_values = many next_values
+
+-- insert_source = VALUES values {"," values} | select
+abbrev pub insert_values : Gram InsertSource
+insert_values = behind_token (word w.Values) (seq inserted_values values more_values)
+
+abbrev pub insert_source : Gram InsertSource
+insert_source = or insert_values (image inserted_query select)
+
+-- assignment = name "=" source
+abbrev pub assignment : Gram Assignment
+assignment = seq assignment_of (token name) (behind_token (sign s.Equal) source)
+
+abbrev pub next_assignment : Gram Assignment
+next_assignment = behind_token (sign s.Comma) assignment
+
+abbrev pub next_assignments : Gram (List Assignment)
+next_assignments = many next_assignment
+
+-- ---- GET DIAGNOSTICS
+
+-- statement_information = target "=" (NUMBER|MORE|ROW_COUNT)
+abbrev pub statement_info : Gram StatementInformation
+statement_info = seq statement_information target (behind_token (sign s.Equal) (token statement_item))
+
+abbrev pub next_statement_info : Gram StatementInformation
+next_statement_info = behind_token (sign s.Comma) statement_info
+
+abbrev pub next_statement_infos : Gram (List StatementInformation)
+next_statement_infos = many next_statement_info
+
+-- condition_information = target "=" (CONDITION_NUMBER|..|CURSOR_NAME)
+abbrev pub condition_info : Gram ConditionInformation
+condition_info = seq condition_information target (behind_token (sign s.Equal) (token condition_item))
+
+abbrev pub next_condition_info : Gram ConditionInformation
+next_condition_info = behind_token (sign s.Comma) condition_info
+
+abbrev pub next_condition_infos : Gram (List ConditionInformation)
+next_condition_infos = many next_condition_info
+
+-- diagnostics = statement_info {"," statement_info} | (EXCEPTION|CONDITION) (num|target) condition_info {"," condition_info}
+abbrev pub condition_number : Gram ConditionNumber
+condition_number = or (image number_of_condition (token number)) (image target_of_condition target)
+
+abbrev pub exception_diagnostics : Gram Diagnostics
+exception_diagnostics = behind_token exception_word (seq condition_diagnostics condition_number (seq pair condition_info next_condition_infos))
+
+abbrev pub diagnostics : Gram Diagnostics
+diagnostics = or exception_diagnostics (seq statement_diagnostics statement_info next_statement_infos)
+
+-- ---- simple statements
+
+abbrev pub set_statement : Gram Simple
+set_statement = seq set_of (token (word w.Set)) (seq pair target (behind_token (sign s.Equal) source))
+
+-- CALL name "(" [source {"," source}] ")"
+abbrev pub call_statement : Gram Simple
+call_statement = seq call_of (token (word w.Call)) (seq pair (token name) (behind_token (sign s.LeftParen) arguments))
+
+abbrev pub return_statement : Gram Simple
+return_statement = seq return_of (token (word w.Return)) source
+
+abbrev pub leave_statement : Gram Simple
+leave_statement = seq leave_of (token (word w.Leave)) (token name)
+
+abbrev pub iterate_statement : Gram Simple
+iterate_statement = seq iterate_of (token (word w.Iterate)) (token name)
+
+abbrev pub signal_statement : Gram Simple
+signal_statement = seq signal_of (token (word w.Signal)) signalled
+
+-- RESIGNAL [signalled]
+abbrev pub resignalled : Gram (Option Signalled)
+resignalled = or (image Some state_signalled)
+    (or (image Some name_signalled)
+    (nothing None))
+
+abbrev pub resignal_statement : Gram Simple
+resignal_statement = seq resignal_of (token (word w.Resignal)) resignalled
+
+abbrev pub diagnostics_statement : Gram Simple
+diagnostics_statement = seq diagnostics_of (token (word w.Get)) (behind_token (word w.Diagnostics) diagnostics)
+
+-- SELECT picks INTO targets FROM from
+abbrev pub into_targets : Gram Targets
+into_targets = behind_token (word w.Into) targets
+
+abbrev pub select_statement : Gram Simple
+select_statement = seq select_into (token (word w.Select)) (seq selected picks (seq pair into_targets (behind_token (word w.From) from_table)))
+
+-- INSERT INTO name [names] insert_source
+abbrev pub insert_statement : Gram Simple
+insert_statement = seq insert_of (token (word w.Insert)) (behind_token (word w.Into) (seq into_table (token name) (seq pair (optional names_in_parens) insert_source)))
+
+-- UPDATE name SET assignment {"," assignment} [where]
+abbrev pub assignments : Gram (Assignment × List Assignment)
+assignments = behind_token (word w.Set) (seq pair assignment next_assignments)
+
+abbrev pub update_statement : Gram Simple
+update_statement = seq update_of (token (word w.Update)) (seq updating (token name) (seq pair assignments (optional where_part)))
+
+abbrev pub delete_statement : Gram Simple
+delete_statement = seq delete_of (token (word w.Delete)) (behind_token (word w.From) (seq pair (token name) (optional where_part)))
+
+abbrev pub open_statement : Gram Simple
+open_statement = seq open_of (token (word w.Open)) (token name)
+
+-- FETCH [[NEXT] FROM] name INTO targets
+abbrev pub fetched : Gram (Identifier × Targets)
+fetched = seq pair (token name) into_targets
+
+abbrev pub fetch_from : Gram (Identifier × Targets)
+fetch_from = behind_token (word w.From) fetched
+
+abbrev pub fetch_rest : Gram (Identifier × Targets)
+fetch_rest = or fetch_from
+    (ahead (code w.Next ∷ []) (code w.From ∷ []) (behind_token (word w.Next) fetch_from) fetched)
+
+abbrev pub fetch_statement : Gram Simple
+fetch_statement = seq fetch_of (token (word w.Fetch)) fetch_rest
+
+abbrev pub close_statement : Gram Simple
+close_statement = seq close_of (token (word w.Close)) (token name)
+
+-- the statements about cursors and tables
+abbrev pub data_statement : Gram Simple
+data_statement = or select_statement
+    (or insert_statement
+    (or update_statement
+    (or delete_statement
+    (or open_statement
+    (or fetch_statement
+    close_statement)))))
+
+abbrev pub simple : Gram Simple
+simple = or set_statement
+    (or call_statement
+    (or return_statement
+    (or leave_statement
+    (or iterate_statement
+    (or signal_statement
+    (or resignal_statement
+    (or diagnostics_statement
+    data_statement)))))))
+
+-- ---- statements
+
+-- block = BEGIN .. | LOOP .. | WHILE .. | REPEAT .. | FOR ..
+abbrev pub block : Gram Block
+block = or (level BeginRest (word w.Begin) compound_of)
+    (or (level LoopRest (word w.Loop) loop_of)
+    (or (level WhileRest (word w.While) while_of)
+    (or (level RepeatRest (word w.Repeat) repeat_of)
+    (level ForRest (word w.For) for_of))))
+
+-- labelled = name ":" block [name]
+abbrev pub labelled_block : Gram (Block × Option Identifier)
+labelled_block = behind_token (sign s.Colon) (seq pair block (optional (token name)))
+
+abbrev pub labelled_statement : Gram Statement
+labelled_statement = seq labelled (token name) labelled_block
+
+abbrev pub if_statement : Gram Statement
+if_statement = level IfRest (word w.If) if_of
+
+abbrev pub case_statement : Gram Statement
+case_statement = level CaseStatementRest (word w.Case) case_statement_of
+
+-- statement = labelled | IF .. | CASE .. | simple | block
+abbrev pub statement : Gram Statement
+statement = or labelled_statement
+    (or if_statement
+    (or case_statement
+    (or (image unlabelled block)
+    (image simple_statement simple))))
+
+-- statements = statement ";" {statement ";"}
+abbrev pub ended_statement : Gram Statement
+ended_statement = before_token statement (sign s.Semicolon)
+
+abbrev pub ended_statements : Gram (List Statement)
+ended_statements = many ended_statement
+
+abbrev pub statements : Gram Statements
+statements = seq statements_of ended_statement ended_statements
+
+-- ---- IF and CASE
+
+-- branch = expr THEN statements
+abbrev pub branch : Gram Branch
+branch = seq branch_of expr (behind_token (word w.Then) statements)
+
+abbrev pub otherwise_statements : Gram Statements
+otherwise_statements = behind_token (word w.Else) statements
+
+-- if_rest = branch {ELSEIF branch} [ELSE statements] END IF
+abbrev pub elseif_branch : Gram Branch
+elseif_branch = behind_token (word w.ElseIf) branch
+
+abbrev pub elseif_branches : Gram (List Branch)
+elseif_branches = many elseif_branch
+
+abbrev pub if_end : Gram (Option Statements)
+if_end = before_token (before_token (optional otherwise_statements) (word w.End)) (word w.If)
+
+abbrev pub if_rest : Gram Branches
+if_rest = seq branches_of branch (seq pair elseif_branches if_end)
+
+-- case_statement_rest = [expr] WHEN branch {WHEN branch} [ELSE statements] END CASE
+abbrev pub when_branch : Gram Branch
+when_branch = behind_token (word w.When) branch
+
+abbrev pub when_branches : Gram (List Branch)
+when_branches = many when_branch
+
+abbrev pub case_end : Gram (Option Statements)
+case_end = before_token (before_token (optional otherwise_statements) (word w.End)) (word w.Case)
+
+abbrev pub case_branches : Gram Branches
+case_branches = seq branches_of when_branch (seq pair when_branches case_end)
+
+abbrev pub case_statement_rest : Gram (Option Expr × Branches)
+case_statement_rest = or (image case_alone_statement case_branches) (seq case_over_statement expr case_branches)
+
+-- ---- loops
+
+-- loop_rest = statements END LOOP
+abbrev pub loop_rest : Gram Statements
+loop_rest = before_token (before_token statements (word w.End)) (word w.Loop)
+
+-- while_rest = expr DO statements END WHILE
+abbrev pub while_body : Gram Statements
+while_body = behind_token (word w.Do) (before_token (before_token statements (word w.End)) (word w.While))
+
+abbrev pub while_rest : Gram (Expr × Statements)
+while_rest = seq pair expr while_body
+
+-- repeat_rest = statements UNTIL expr END REPEAT
+abbrev pub until : Gram Expr
+until = behind_token (word w.Until) (before_token (before_token expr (word w.End)) (word w.Repeat))
+
+abbrev pub repeat_rest : Gram (Statements × Expr)
+repeat_rest = seq pair statements until
+
+-- for_rest = name AS [name [INSENSITIVE] CURSOR FOR] select [order] DO statements END FOR
+abbrev pub insensitive : Gram Bool
+insensitive = or (image yes (token (word w.Insensitive))) (nothing false)
+
+abbrev pub for_cursor_part : Gram ForCursor
+for_cursor_part = seq for_cursor (token name) (before_token (before_token insensitive (word w.Cursor)) (word w.For))
+
+abbrev pub for_body : Gram Statements
+for_body = behind_token (word w.Do) (before_token (before_token statements (word w.End)) (word w.For))
+
+abbrev pub for_rest : Gram ForParts
+for_rest = seq for_parts (token name) (behind_token (word w.As)
+    (seq for_query (optional for_cursor_part) (seq pair ordered_select for_body)))
+
+-- ---- declarations
+
+-- behind its first name: {"," name} type [DEFAULT source]
+abbrev pub default_source : Gram Source
+default_source = behind_token (word w.Default) source
+
+abbrev pub typed : Gram (DataType × Option Source)
+typed = seq pair data_type (optional default_source)
+
+abbrev pub other_variables : Gram (List Identifier)
+other_variables = behind_token (sign s.Comma) (seq cons (token name) next_names)
+
+-- behind the name: CONDITION [FOR state], or what declares variables
+abbrev pub for_state : Gram State
+for_state = behind_token (word w.For) state
+
+abbrev pub declaration_rest : Gram NamedRest
+declaration_rest = or (seq condition_of (token (word w.Condition)) (optional for_state))
+    (or (seq variables_of other_variables typed)
+    (seq one_variable data_type (optional default_source)))
+
+-- behind the name: [INSENSITIVE] CURSOR FOR select [order] [FOR (READ ONLY | UPDATE)]
+abbrev pub read_only_part : Gram Updatability
+read_only_part = behind_token (word w.Read) (image read_only (token (word w.Only)))
+
+abbrev pub updatability : Gram Updatability
+updatability = behind_token (word w.For) (or read_only_part (image updatable (token (word w.Update))))
+
+abbrev pub cursor_query : Gram (OrderedQuery × Option Updatability)
+cursor_query = behind_token (word w.For) (seq pair ordered_select (optional updatability))
+
+abbrev pub cursor_rest : Gram NamedRest
+cursor_rest = seq cursor_of (before_token insensitive (word w.Cursor)) cursor_query
+
+-- handler_rest = HANDLER FOR value {"," value} statement
+abbrev pub handler_value : Gram HandlerValue
+handler_value = or (image state_value state)
+    (or (image exception_value (token (word w.SqlException)))
+    (or (image warning_value (token (word w.SqlWarning)))
+    (or (seq not_found_value (token (word w.Not)) (token (word w.Found)))
+    (image name_value (token name)))))
+
+abbrev pub next_handler_value : Gram HandlerValue
+next_handler_value = behind_token (sign s.Comma) handler_value
+
+abbrev pub next_handler_values : Gram (List HandlerValue)
+next_handler_values = many next_handler_value
+
+abbrev pub handler_rest : Gram HandlerParts
+handler_rest = behind_token (word w.Handler) (behind_token (word w.For)
+    (seq handler_parts (seq pair handler_value next_handler_values) statement))
+
+-- ---- blocks
+
+-- body = {declaration ";"} {cursor ";"} {handler ";"} {statement ";"} END: each declaration says which may follow
+abbrev pub ending : Gram Body
+ending = image undeclared (before_token ended_statements (word w.End))
+
+abbrev pub body_rest : Phase → Gram Body
+body_rest phase = or (next (DeclareRest phase) (word w.Declare) declared) ending
+
+abbrev pub declared_handler : Gram (Declared × Body)
+declared_handler = seq pair (level HandlerRest handler_kind Handled) (next (BodyRest Handlers) (sign s.Semicolon) later)
+
+abbrev pub declared_cursor : Gram (NamedRest × Body)
+declared_cursor = seq pair cursor_rest (next (BodyRest Cursors) (sign s.Semicolon) later)
+
+abbrev pub declared_variables : Gram (NamedRest × Body)
+declared_variables = seq pair declaration_rest (next (BodyRest Declarations) (sign s.Semicolon) later)
+
+abbrev pub declare_rest : Phase → Gram (Declared × Body)
+declare_rest Declarations = or declared_handler (seq named_rest (token name) (or declared_cursor declared_variables))
+declare_rest Cursors = or declared_handler (seq named_rest (token name) declared_cursor)
+declare_rest Handlers = declared_handler
+
+-- begin_rest = [[NOT] ATOMIC] body
+abbrev pub not_atomic : Gram Bool
+not_atomic = behind_token (word w.Not) (image «no» (token (word w.Atomic)))
+
+abbrev pub atomic : Gram Bool
+atomic = or (image yes (token (word w.Atomic)))
+    (or not_atomic
+    (nothing false))
+
+abbrev pub begin_rest : Gram (Bool × Body)
+begin_rest = seq pair atomic (body_rest Declarations)
