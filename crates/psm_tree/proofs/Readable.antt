@@ -1,13 +1,13 @@
 -- The grammar is readable, so that what its reader answers is exact and two derivations of the same tokens are one.
-use Rattle.std.proofs.Common.{◌≡◌, ℕ, ◌+◌, true, List, Option, refl}
+use Rattle.std.proofs.Common.{◌≡◌, ℕ, ◌+◌, ◌-◌, ◌≤◌, true, List, Option, refl, sym, ◌∙◌, arith}
 use Rattle.psm_token.specs.declared.token.Placed.{Placed}
 use Rattle.psm_grammar.specs.Language.{Words, toks}
 use Rattle.psm_grammar.specs.Grammar.{Spells}
-use Rattle.psm_grammar.specs.Readers.{reads}
+use Rattle.psm_grammar.specs.Readers.{Out, reads}
 use Rattle.psm_grammar.specs.Exact.{AtEnd, Holds}
 use Rattle.psm_grammar.specs.Follow.{lives_in, IsReadable}
 use Rattle.psm_grammar.proofs.Fitting.{Fit, FitsAt, readable_of}
-use Rattle.psm_grammar.proofs.Whole.{reads_run}
+use Rattle.psm_grammar.proofs.Whole.{reads_run, only_answer}
 use Rattle.psm_grammar.proofs.Unique.{one_tree}
 use Rattle.psm_tree.specs.Parts.{Part, Enclosed, Arguments, ExistsRest, CaseRest, CastRest, CoalesceRest, NullIfRest, FunctionRest, PositionRest, SubstringRest, TrimRest, BeginRest, LoopRest, WhileRest, RepeatRest, ForRest, IfRest, CaseStatementRest, HandlerRest, BodyRest, DeclareRest, Phase, Declarations, Cursors, Handlers}
 use Rattle.psm_tree.specs.ExprGrammar.{Gram}
@@ -80,3 +80,10 @@ module _ {X : Type 0} {g : Gram X} {follow : List ℕ} (fit : Fit after follow g
   -- two derivations of the same tokens are one
   pub spelled_once : (depth : ℕ) (w v : Words Placed) (x y : X) → Spells productions depth g w x → Spells productions depth g v y → toks w ≡ toks v → (w ≡ v) × (x ≡ y)
   spelled_once depth = one_tree productions after height readable depth g follow fit.holds
+
+  -- two exact answers for the same tokens are one
+  pub answered_once : (depth limit : ℕ) → depth ≤ limit → (ts : List Placed) (o p : Out Placed X) → Holds (Spells productions depth g) AtEnd limit ts o → Holds (Spells productions depth g) AtEnd limit ts p → o ≡ p
+  answered_once depth limit low ts o p h k =
+      let e : depth + (limit - depth) ≡ limit = omega (arith, low) in
+      only_answer productions after height readable (limit - depth) depth limit e g follow fit.holds ts o h
+      ∙ sym (only_answer productions after height readable (limit - depth) depth limit e g follow fit.holds ts p k)
