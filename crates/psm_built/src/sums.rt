@@ -1,7 +1,6 @@
 //! Sums of numbers and names, among the expressions of the full grammar.
 ghost use Rattle.std.specs.Prelude.{◌≡◌, IfOk, encode_utf8_all};
 ghost use Rattle.std.specs.Option.{option_copied};
-ghost use Rattle.psm_built.specs.Numeral.{most_whole};
 ghost use Rattle.psm_built.specs.Forms as forms;
 
 use crate::name::{Name, Numeral};
