@@ -4,8 +4,8 @@ ghost use Rattle.psm_built.specs.Piece.{call_piece, first_line, value_line, valu
 ghost use Rattle.psm_value.specs.declared.datum.Datum.{Datum};
 
 use itoa::Buffer;
-use psm_machine::RunEnd;
 use psm_built::{Mode, Name, Parameter, Signature};
+use psm_machine::RunEnd;
 use psm_value::{Datum, SqlState};
 use std::alloc::{AllocError, Global};
 

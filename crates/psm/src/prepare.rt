@@ -92,7 +92,10 @@ fn module_tree(alloc: Global, bytes: &[u8]) -> Result<FileTree, Refusal>
     let tokens = tokens_of(alloc, bytes, Which::Module)?;
     match parse_file(alloc, &tokens) {
         Ok(tree) => Ok(tree),
-        Err(ParseFault::Syntax(place)) => Err(Refusal::Refused(Which::Module, Fault::Syntax(place))),
+        Err(ParseFault::Syntax(place)) => Err(Refusal::Refused(
+            Which::Module,
+            Fault::Syntax(place),
+        )),
         Err(ParseFault::Deep(place)) => Err(Refusal::Refused(Which::Module, Fault::Deep(place))),
         Err(ParseFault::Memory) => Err(Refusal::Memory),
     }
@@ -106,7 +109,10 @@ fn script_tree(alloc: Global, signature: &Signature, bytes: &[u8]) -> Result<Scr
     let tokens = tokens_of(alloc, bytes, Which::Script)?;
     match parse_script(alloc, &tokens) {
         Ok(tree) => Ok(tree),
-        Err(ParseFault::Syntax(place)) => Err(Refusal::Refused(Which::Script, Fault::Syntax(place))),
+        Err(ParseFault::Syntax(place)) => Err(Refusal::Refused(
+            Which::Script,
+            Fault::Syntax(place),
+        )),
         Err(ParseFault::Deep(place)) => Err(Refusal::Refused(Which::Script, Fault::Deep(place))),
         Err(ParseFault::Memory) => Err(Refusal::Memory),
     }

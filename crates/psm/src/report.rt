@@ -12,9 +12,9 @@ use crate::prepare::{Refusal, Which};
 use crate::script::{ScriptEnd, run_script};
 use crate::status::Status;
 use crate::words::Files;
+use psm_built::Script;
 use psm_io::{Sink, SinkFault};
 use psm_machine::Code;
-use psm_built::Script;
 use std::alloc::{AllocError, Global};
 
 /// The turns of a session.

@@ -6,9 +6,9 @@ ghost use Rattle.psm_built.specs.Piece.{call_piece};
 ghost use Rattle.psm.specs.Script.{Plays, Steps, Runs};
 
 use crate::piece::piece_of_call;
+use psm_built::{Argument, Command, Script};
 use psm_io::{Sink, SinkFault};
 use psm_machine::{Code, RunEnd, run};
-use psm_built::{Argument, Command, Script};
 use psm_value::Datum;
 use std::alloc::{AllocError, Global};
 
