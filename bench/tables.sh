@@ -4,6 +4,7 @@
 set -u
 cd "$(dirname "$0")/../crates/bench_tables" || exit 1
 
+mkdir -p out
 rows=${1:-200000}
 program=out/bench_tables
 if ! rt run -- 1 >out/bench.log 2>&1 || [ ! -x "$program" ]; then
