@@ -10,23 +10,23 @@ use crate::token::{
     at_number, at_sign, at_text, at_word, expect_number, expect_sign, expect_text, expect_word,
 };
 use psm_grammar::Halt;
-use psm_token::{Placed, Sign as SignToken, Token, Word};
-use psm_tree::{Constant, ConstantForm, Sign, Signed};
+use psm_token::{Place, Placed, Sign as SignToken, Token, Word};
+use psm_tree::{Constant, ConstantForm, Sign};
 use std::alloc::Global;
 
-/// Takes `+` or `-`; `Syntax` where another token or none stands there.
-pub fn expect_plus_minus(tokens: &[Placed]) -> Result<(Signed, &[Placed]), Halt>
-    ensures exact { Gives (λ x. (x.0, x.1.now)) result (one kind plus_minus tokens.now) }
+/// Takes `+` or `-`, with its place; `Syntax` where another token or none stands there.
+pub fn expect_plus_minus(tokens: &[Placed]) -> Result<((Place, Sign), &[Placed]), Halt>
+    ensures exact { Gives (λ x. (record { place = x.0.0; value = x.0.1 }, x.1.now)) result (one kind plus_minus tokens.now) }
     ensures takes { IfOk result (λ x. length x.1.now < length tokens.now) }
 {
     if at_sign(tokens, SignToken::Minus) {
         let (place, rest) = expect_sign(tokens, SignToken::Minus)?;
         let sign = Sign::Minus;
-        Ok((Signed { place, sign }, rest))
+        Ok(((place, sign), rest))
     } else {
         let (place, rest) = expect_sign(tokens, SignToken::Plus)?;
         let sign = Sign::Plus;
-        Ok((Signed { place, sign }, rest))
+        Ok(((place, sign), rest))
     }
 }
 
@@ -36,7 +36,7 @@ fn signed_constant(tokens: &[Placed]) -> Result<(Constant, &[Placed]), Halt>
     ensures exact { Gives (λ x. (x.0, x.1.now)) result (signed_constant_read tokens.now) }
     ensures takes { IfOk result (λ x. length x.1.now < length tokens.now) }
 {
-    let (Signed { place, sign }, rest) = expect_plus_minus(tokens)?;
+    let ((place, sign), rest) = expect_plus_minus(tokens)?;
     match expect_number(rest) {
         Ok((_, number, rest)) => {
             let sign = Some(sign);

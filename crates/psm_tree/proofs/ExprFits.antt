@@ -55,7 +55,7 @@ primary_fit : Fits behind_factor ExprGrammar.primary
 primary_fit = record { holds = refl }
 
 factor_fit : Fits behind_factor ExprGrammar.factor
-factor_fit = fit_or refl refl (fit_seq (fit_token refl) primary_fit) (fit_image primary_fit)
+factor_fit = fit_or refl refl (fit_seq (fit_token refl) primary_fit) primary_fit
 
 next_factors_fit : Fits behind_term ExprGrammar.next_factors
 next_factors_fit = fit_many refl refl (fit_seq (fit_token refl) factor_fit)
@@ -101,7 +101,7 @@ predicate_fit : Fits behind_negation ExprGrammar.predicate
 predicate_fit = fit_seq (fit_fewer refl sum_fit) test_fit
 
 negation_fit : Fits behind_negation ExprGrammar.negation
-negation_fit = fit_or refl refl (fit_seq (fit_token refl) predicate_fit) (fit_image predicate_fit)
+negation_fit = fit_or refl refl (fit_seq (fit_token refl) predicate_fit) predicate_fit
 
 next_negations_fit : Fits behind_conjunction ExprGrammar.next_negations
 next_negations_fit = fit_many refl refl (fit_seq (fit_token refl) negation_fit)
@@ -118,7 +118,7 @@ expr_fit = fit_seq conjunction_fit next_conjunctions_fit
 -- ---- sources
 
 pub source_fit : Fits behind_expr ExprGrammar.source
-source_fit = fit_or refl refl (fit_image (fit_token refl)) (fit_image expr_fit)
+source_fit = fit_or refl refl (fit_image (fit_token refl)) expr_fit
 
 next_sources_fit : Fits (sign_code s.RightParen ∷ []) ExprGrammar.next_sources
 next_sources_fit = fit_many refl refl (fit_seq (fit_token refl) (fit_fewer refl source_fit))

@@ -7,8 +7,8 @@ use Rattle.psm_grammar.specs.Grammar.{Grammar, token, level, nothing, seq, or, a
 use Rattle.psm_grammar.specs.Forms.{earlier, later, optional, behind_token, before_token}
 use Rattle.psm_tree.specs.Kinds.{code, kind}
 use Rattle.psm_tree.specs.Tests.{At, word, sign, name, number, text, plus_minus, comparison, sum_operator, term_operator, text_function, set_function, trim_side, integer_word, numeric_word, char_word}
-use Rattle.psm_tree.specs.Parts.{Part, Enclosed, Arguments, ExistsRest, CaseRest, CastRest, CoalesceRest, NullIfRest, FunctionRest, PositionRest, SubstringRest, TrimRest, V, Inside, Value, Query}
-use Rattle.psm_tree.specs.ExprValues.{pair, cons, none, target_of, names_of, targets_of, type_of, formed, precision_of, numeric_of, varchar_form, char_form, char_alone, number_constant, signed_constant, text_constant, null_constant, expr_of, conjunction_of, negated, plain, predicate_of, compare_of, null_of, between_of, in_of, like_of, sum_of, next_term_of, term_of, next_factor_of, signed, unsigned, NameRest, Bare, Dotted, number_primary, text_primary, named, called, enclosed_of, exists_of, case_of, cast_of, coalesce_of, nullif_of, function_of, position_of, substring_of, trim_of, substring_parts, both_sides, Whens, whens_of, case_alone, case_over, when_of, null_source, value_source, select_of, all_picks, picks_of, pick_of, expr_item, count_of, all_rows, aggregate_of, from_of}
+use Rattle.psm_tree.specs.Parts.{Cases, Part, Enclosed, Arguments, ExistsRest, CaseRest, CastRest, CoalesceRest, NullIfRest, FunctionRest, PositionRest, SubstringRest, TrimRest, V, Inside, Value, Query}
+use Rattle.psm_tree.specs.ExprValues.{pair, cons, none, target_of, names_of, targets_of, type_of, formed, precision_of, numeric_of, varchar_form, char_form, char_alone, number_constant, signed_constant, text_constant, null_constant, expr_of, conjunction_of, negated, Test, Nothing, predicate_of, compare_of, null_of, between_of, in_of, like_of, chain_of, link_of, signed, NameRest, Bare, Dotted, number_primary, text_primary, named, called, enclosed_of, exists_of, case_of, cast_of, coalesce_of, nullif_of, function_of, position_of, substring_of, trim_of, substring_parts, both_sides, Whens, whens_of, case_alone, case_over, when_of, null_source, From, from_of, select_of, all_picks, Item, pick_of, expr_item, count_of, all_rows, aggregate_of}
 use Rattle.psm_tree.specs.declared.name.Identifier.{Identifier}
 use Rattle.psm_tree.specs.declared.name.Target.{Target}
 use Rattle.psm_tree.specs.declared.name.Names.{Names}
@@ -19,26 +19,11 @@ use Rattle.psm_tree.specs.declared.types.TypeForm.TheVariants as forms
 use Rattle.psm_tree.specs.declared.types.DataType.{DataType}
 use Rattle.psm_tree.specs.declared.types.Constant.{Constant}
 use Rattle.psm_tree.specs.declared.expr.Expr.{Expr}
-use Rattle.psm_tree.specs.declared.expr.Conjunction.{Conjunction}
-use Rattle.psm_tree.specs.declared.expr.Negation.{Negation}
-use Rattle.psm_tree.specs.declared.expr.Predicate.{Predicate}
-use Rattle.psm_tree.specs.declared.expr.Test.{Test}
-use Rattle.psm_tree.specs.declared.expr.Test.TheVariants as tests
-use Rattle.psm_tree.specs.declared.expr.Sum.{Sum}
-use Rattle.psm_tree.specs.declared.expr.NextTerm.{NextTerm}
-use Rattle.psm_tree.specs.declared.expr.Term.{Term}
-use Rattle.psm_tree.specs.declared.expr.NextFactor.{NextFactor}
-use Rattle.psm_tree.specs.declared.expr.Factor.{Factor}
-use Rattle.psm_tree.specs.declared.expr.Primary.{Primary}
+use Rattle.psm_tree.specs.declared.expr.Link.{Link}
 use Rattle.psm_tree.specs.declared.expr.TrimSide.{TrimSide}
-use Rattle.psm_tree.specs.declared.expr.CaseExpr.{CaseExpr}
 use Rattle.psm_tree.specs.declared.expr.When.{When}
-use Rattle.psm_tree.specs.declared.expr.Source.{Source}
 use Rattle.psm_tree.specs.declared.expr.Select.{Select}
-use Rattle.psm_tree.specs.declared.expr.Picks.{Picks}
 use Rattle.psm_tree.specs.declared.expr.Pick.{Pick}
-use Rattle.psm_tree.specs.declared.expr.Item.{Item}
-use Rattle.psm_tree.specs.declared.expr.From.{From}
 
 -- a part of the grammar whose words say an X
 abbrev pub Gram : Type 0 → Type 1
@@ -141,11 +126,11 @@ name_rest = or (image Dotted second_name)
     (or (level Arguments (sign s.LeftParen) called)
     (nothing Bare))
 
-abbrev pub named_primary : Gram Primary
+abbrev pub named_primary : Gram Expr
 named_primary = seq named (token name) name_rest
 
 -- what begins with a word of its own
-abbrev pub worded_primary : Gram Primary
+abbrev pub worded_primary : Gram Expr
 worded_primary = or (level ExistsRest (word w.Exists) exists_of)
     (or (level CaseRest (word w.Case) case_of)
     (or (level CastRest (word w.Cast) cast_of)
@@ -157,7 +142,7 @@ worded_primary = or (level ExistsRest (word w.Exists) exists_of)
     (level FunctionRest text_function function_of))))))))
 
 -- primary = num | text | named | "(" inside ")" | ..
-abbrev pub primary : Gram Primary
+abbrev pub primary : Gram Expr
 primary = or (image number_primary (token number))
     (or (image text_primary (token text))
     (or named_primary
@@ -167,53 +152,53 @@ primary = or (image number_primary (token number))
 -- ---- values
 
 -- factor = ["+"|"-"] primary
-abbrev pub factor : Gram Factor
-factor = or (seq signed (token plus_minus) primary) (image unsigned primary)
+abbrev pub factor : Gram Expr
+factor = or (seq signed (token plus_minus) primary) primary
 
 -- term = factor {("*"|"/") factor}
-abbrev pub next_factor : Gram NextFactor
-next_factor = seq next_factor_of (token term_operator) factor
+abbrev pub next_factor : Gram Link
+next_factor = seq link_of (token term_operator) factor
 
-abbrev pub next_factors : Gram (List NextFactor)
+abbrev pub next_factors : Gram (List Link)
 next_factors = many next_factor
 
-abbrev pub term : Gram Term
-term = seq term_of factor next_factors
+abbrev pub term : Gram Expr
+term = seq chain_of factor next_factors
 
 -- sum = term {("+"|"-"|"||") term}
-abbrev pub next_term : Gram NextTerm
-next_term = seq next_term_of (token sum_operator) term
+abbrev pub next_term : Gram Link
+next_term = seq link_of (token sum_operator) term
 
-abbrev pub next_terms : Gram (List NextTerm)
+abbrev pub next_terms : Gram (List Link)
 next_terms = many next_term
 
-abbrev pub sum : Gram Sum
-sum = seq sum_of term next_terms
+abbrev pub sum : Gram Expr
+sum = seq chain_of term next_terms
 
 -- ---- conditions
 
 -- between = BETWEEN sum AND sum
-abbrev pub between : Gram (Sum × Sum)
+abbrev pub between : Gram (Expr × Expr)
 between = behind_token (word w.Between) (seq pair sum (behind_token (word w.And) sum))
 
 -- in_list = IN "(" sum {"," sum} ")"
-abbrev pub next_sum : Gram Sum
+abbrev pub next_sum : Gram Expr
 next_sum = behind_token (sign s.Comma) sum
 
-abbrev pub next_sums : Gram (List Sum)
+abbrev pub next_sums : Gram (List Expr)
 next_sums = many next_sum
 
-abbrev pub sums_in_parens : Gram (Sum × List Sum)
+abbrev pub sums_in_parens : Gram (Expr × List Expr)
 sums_in_parens = within_parens (seq pair sum next_sums)
 
-abbrev pub in_list : Gram (Sum × List Sum)
+abbrev pub in_list : Gram (Expr × List Expr)
 in_list = behind_token (word w.In) sums_in_parens
 
 -- like = LIKE sum [ESCAPE sum]
-abbrev pub escape : Gram Sum
+abbrev pub escape : Gram Expr
 escape = behind_token (word w.Escape) sum
 
-abbrev pub like : Gram (Sum × Option Sum)
+abbrev pub like : Gram (Expr × Option Expr)
 like = behind_token (word w.Like) (seq pair sum (optional escape))
 
 -- is_null = IS [NOT] NULL
@@ -241,48 +226,48 @@ test = or compare
     (or (image (between_of false) between)
     (or (image (in_of false) in_list)
     (or (image (like_of false) like)
-    (nothing tests.Value))))))
+    (nothing Nothing))))))
 
 -- predicate = sum test
-abbrev pub predicate : Gram Predicate
+abbrev pub predicate : Gram Expr
 predicate = seq predicate_of sum test
 
 -- negation = [NOT] predicate
-abbrev pub negation : Gram Negation
-negation = or (seq negated (token (word w.Not)) predicate) (image plain predicate)
+abbrev pub negation : Gram Expr
+negation = or (seq negated (token (word w.Not)) predicate) predicate
 
 -- conjunction = negation {AND negation}
-abbrev pub next_negation : Gram Negation
+abbrev pub next_negation : Gram Expr
 next_negation = behind_token (word w.And) negation
 
-abbrev pub next_negations : Gram (List Negation)
+abbrev pub next_negations : Gram (List Expr)
 next_negations = many next_negation
 
-abbrev pub conjunction : Gram Conjunction
+abbrev pub conjunction : Gram Expr
 conjunction = seq conjunction_of negation next_negations
 
 -- expr = conjunction {OR conjunction}
-abbrev pub next_conjunction : Gram Conjunction
+abbrev pub next_conjunction : Gram Expr
 next_conjunction = behind_token (word w.Or) conjunction
 
-abbrev pub next_conjunctions : Gram (List Conjunction)
+abbrev pub next_conjunctions : Gram (List Expr)
 next_conjunctions = many next_conjunction
 
 abbrev pub expr : Gram Expr
 expr = seq expr_of conjunction next_conjunctions
 
 -- source = NULL | expr
-abbrev pub source : Gram Source
-source = or (image null_source (token (word w.Null))) (image value_source expr)
+abbrev pub source : Gram Expr
+source = or (image null_source (token (word w.Null))) expr
 
 -- sources = source {"," source}
-abbrev pub next_source : Gram Source
+abbrev pub next_source : Gram Expr
 next_source = behind_token (sign s.Comma) source
 
-abbrev pub next_sources : Gram (List Source)
+abbrev pub next_sources : Gram (List Expr)
 next_sources = many next_source
 
-abbrev pub sources : Gram (Source × List Source)
+abbrev pub sources : Gram (Expr × List Expr)
 sources = seq pair source next_sources
 
 -- ---- queries
@@ -318,8 +303,8 @@ next_pick = behind_token (sign s.Comma) pick
 abbrev pub next_picks : Gram (List Pick)
 next_picks = many next_pick
 
-abbrev pub picks : Gram Picks
-picks = or (image all_picks (token (sign s.Asterisk))) (seq picks_of pick next_picks)
+abbrev pub picks : Gram (List Pick)
+picks = or (image all_picks (token (sign s.Asterisk))) (seq cons pick next_picks)
 
 -- from = name [alias] [WHERE expr]
 abbrev pub where_condition : Gram Expr
@@ -339,10 +324,10 @@ abbrev pub enclosed : Gram Inside
 enclosed = or (closed (image Query select)) (closed (image Value expr))
 
 -- arguments = [source {"," source}] ")"
-abbrev pub argument_list : Gram (List Source)
+abbrev pub argument_list : Gram (List Expr)
 argument_list = closed (seq cons source next_sources)
 
-abbrev pub arguments : Gram (List Source)
+abbrev pub arguments : Gram (List Expr)
 arguments = or (image none (token (sign s.RightParen))) argument_list
 
 abbrev pub exists_rest : Gram Select
@@ -355,20 +340,20 @@ when = behind_token (word w.When) (seq when_of expr (behind_token (word w.Then) 
 abbrev pub next_whens : Gram (List When)
 next_whens = many when
 
-abbrev pub otherwise : Gram Source
+abbrev pub otherwise : Gram Expr
 otherwise = behind_token (word w.Else) source
 
 abbrev pub whens : Gram Whens
 whens = seq whens_of when (seq pair next_whens (before_token (optional otherwise) (word w.End)))
 
-abbrev pub case_rest : Gram CaseExpr
+abbrev pub case_rest : Gram Cases
 case_rest = or (image case_alone whens) (seq case_over expr whens)
 
 -- cast_rest = "(" source AS type ")"
-abbrev pub cast_rest : Gram (Source × DataType)
+abbrev pub cast_rest : Gram (Expr × DataType)
 cast_rest = within_parens (seq pair source (behind_token (word w.As) data_type))
 
-abbrev pub coalesce_rest : Gram (Source × List Source)
+abbrev pub coalesce_rest : Gram (Expr × List Expr)
 coalesce_rest = within_parens sources
 
 -- nullif_rest = "(" expr "," expr ")"
@@ -379,7 +364,7 @@ abbrev pub function_rest : Gram Expr
 function_rest = within_parens expr
 
 -- position_rest = "(" sum IN sum ")"
-abbrev pub position_rest : Gram (Sum × Sum)
+abbrev pub position_rest : Gram (Expr × Expr)
 position_rest = within_parens (seq pair sum (behind_token (word w.In) sum))
 
 -- substring_rest = "(" expr FROM expr [FOR expr] ")"

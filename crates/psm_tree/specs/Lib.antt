@@ -6,6 +6,6 @@ pub mod ExprGrammar
 pub mod StatementValues
 pub mod StatementGrammar
 pub mod Productions
+pub mod Reading
 pub mod FileValues
 pub mod FileGrammar
-pub mod Reading

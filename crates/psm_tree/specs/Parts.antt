@@ -5,14 +5,11 @@ use Rattle.psm_tree.specs.declared.name.Identifier.{Identifier}
 use Rattle.psm_tree.specs.declared.types.DataType.{DataType}
 use Rattle.psm_tree.specs.declared.types.State.{State}
 use Rattle.psm_tree.specs.declared.expr.Expr.{Expr}
-use Rattle.psm_tree.specs.declared.expr.Sum.{Sum}
-use Rattle.psm_tree.specs.declared.expr.Source.{Source}
 use Rattle.psm_tree.specs.declared.expr.Select.{Select}
-use Rattle.psm_tree.specs.declared.expr.CaseExpr.{CaseExpr}
+use Rattle.psm_tree.specs.declared.expr.When.{When}
 use Rattle.psm_tree.specs.declared.expr.TrimSide.{TrimSide}
 use Rattle.psm_tree.specs.declared.statement.Statement.{Statement}
-use Rattle.psm_tree.specs.declared.statement.Statements.{Statements}
-use Rattle.psm_tree.specs.declared.statement.Branches.{Branches}
+use Rattle.psm_tree.specs.declared.statement.Branch.{Branch}
 use Rattle.psm_tree.specs.declared.statement.Declaration.{Declaration}
 use Rattle.psm_tree.specs.declared.statement.CursorDeclaration.{CursorDeclaration}
 use Rattle.psm_tree.specs.declared.statement.Handler.{Handler}
@@ -40,6 +37,24 @@ pub data Inside : Type 0 where
   Value : Expr → Inside
   Query : Select → Inside
 
+-- the branches of a CASE expression, behind its operand where it has one
+pub record Cases : Type 0 where
+  pub operand : Option Expr
+  pub first : When
+  pub rest : List When
+  pub otherwise : Option Expr
+
+-- one statement or more
+pub record Statements : Type 0 where
+  pub first : Statement
+  pub rest : List Statement
+
+-- the branches of IF or CASE, and the statements behind ELSE
+pub record Branches : Type 0 where
+  pub first : Branch
+  pub rest : List Branch
+  pub otherwise : List Statement
+
 -- what stands behind FOR
 pub record ForParts : Type 0 where
   pub name : Identifier
@@ -55,7 +70,7 @@ pub record HandlerParts : Type 0 where
 
 -- a declaration of variables, of a condition or of a cursor behind its first name
 pub data NamedRest : Type 0 where
-  Variables : List Identifier → DataType → Option Source → NamedRest
+  Variables : List Identifier → DataType → Option Expr → NamedRest
   Condition : Option State → NamedRest
   Cursor : Bool → OrderedQuery → Option Updatability → NamedRest
 
@@ -74,14 +89,14 @@ pub record Body : Type 0 where
 -- what the words of each part say
 abbrev pub V : Part → Type 0
 V Enclosed = Inside
-V Arguments = List Source
+V Arguments = List Expr
 V ExistsRest = Select
-V CaseRest = CaseExpr
-V CastRest = Source × DataType
-V CoalesceRest = Source × List Source
+V CaseRest = Cases
+V CastRest = Expr × DataType
+V CoalesceRest = Expr × List Expr
 V NullIfRest = Expr × Expr
 V FunctionRest = Expr
-V PositionRest = Sum × Sum
+V PositionRest = Expr × Expr
 V SubstringRest = Expr × Expr × Option Expr
 V TrimRest = TrimSide × Expr
 V BeginRest = Bool × Body

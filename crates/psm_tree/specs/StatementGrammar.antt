@@ -6,9 +6,9 @@ use Rattle.psm_grammar.specs.Grammar.{Grammar, token, level, next, nothing, seq,
 use Rattle.psm_grammar.specs.Forms.{earlier, later, optional, behind_token, before_token}
 use Rattle.psm_tree.specs.Kinds.{code, kind}
 use Rattle.psm_tree.specs.Tests.{At, word, sign, name, number, text, handler_kind, statement_item, condition_item, exception_word}
-use Rattle.psm_tree.specs.Parts.{Phase, Declarations, Cursors, Handlers, Part, Arguments, BeginRest, LoopRest, WhileRest, RepeatRest, ForRest, IfRest, CaseStatementRest, HandlerRest, BodyRest, DeclareRest, V, ForParts, HandlerParts, NamedRest, Declared, Handled, Body}
+use Rattle.psm_tree.specs.Parts.{Statements, Branches, Phase, Declarations, Cursors, Handlers, Part, Arguments, BeginRest, LoopRest, WhileRest, RepeatRest, ForRest, IfRest, CaseStatementRest, HandlerRest, BodyRest, DeclareRest, V, ForParts, HandlerParts, NamedRest, Declared, Handled, Body}
 use Rattle.psm_tree.specs.ExprValues.{pair, cons}
-use Rattle.psm_tree.specs.StatementValues.{state_of, ordered_query, order_of, order_column, yes, «no», named_condition, state_condition, signalled_of, statement_information, condition_information, number_of_condition, target_of_condition, statement_diagnostics, condition_diagnostics, values_of, inserted_values, inserted_query, assignment_of, where_true, where_current, set_of, call_of, return_of, leave_of, iterate_of, signal_of, resignal_of, diagnostics_of, select_into, selected, insert_of, into_table, Updating, updating, update_of, delete_of, open_of, fetch_of, close_of, simple_statement, unlabelled, labelled, if_of, case_statement_of, statements_of, branch_of, branches_of, case_alone_statement, case_over_statement, compound_of, loop_of, while_of, repeat_of, for_of, for_cursor, for_parts, for_query, undeclared, variables_of, one_variable, condition_of, cursor_of, read_only, updatable, named_rest, handler_parts, state_value, name_value, exception_value, warning_value, not_found_value, declared}
+use Rattle.psm_tree.specs.StatementValues.{state_of, ordered_query, order_of, order_column, yes, «no», named_condition, state_condition, signalled_of, statement_information, condition_information, number_of_condition, target_of_condition, statement_diagnostics, condition_diagnostics, values_of, inserted_values, inserted_query, assignment_of, where_true, where_current, set_of, call_of, return_of, leave_of, iterate_of, signal_of, resignal_of, diagnostics_of, select_into, selected, insert_of, into_table, Updating, updating, update_of, delete_of, open_of, fetch_of, close_of, simple_statement, unlabelled, labelled, if_of, case_statement_of, statements_of, branch_of, branches_of, case_alone_statement, case_over_statement, Block, Compound, Loop, While, Repeat, For, for_cursor, for_parts, for_query, undeclared, variables_of, one_variable, condition_of, cursor_of, read_only, updatable, named_rest, handler_parts, state_value, name_value, exception_value, warning_value, not_found_value, declared}
 use Rattle.psm_tree.specs.ExprGrammar.{Gram, closed, within_parens, target, names, names_in_parens, targets, next_names, data_type, arguments, expr, source, sources, picks, from_table, select}
 use Rattle.psm_tree.specs.declared.name.Identifier.{Identifier}
 use Rattle.psm_tree.specs.declared.name.Target.{Target}
@@ -17,14 +17,8 @@ use Rattle.psm_tree.specs.declared.name.Targets.{Targets}
 use Rattle.psm_tree.specs.declared.types.DataType.{DataType}
 use Rattle.psm_tree.specs.declared.types.State.{State}
 use Rattle.psm_tree.specs.declared.expr.Expr.{Expr}
-use Rattle.psm_tree.specs.declared.expr.Source.{Source}
-use Rattle.psm_tree.specs.declared.expr.Picks.{Picks}
-use Rattle.psm_tree.specs.declared.expr.From.{From}
 use Rattle.psm_tree.specs.declared.statement.Statement.{Statement}
-use Rattle.psm_tree.specs.declared.statement.Statements.{Statements}
-use Rattle.psm_tree.specs.declared.statement.Branches.{Branches}
 use Rattle.psm_tree.specs.declared.statement.Branch.{Branch}
-use Rattle.psm_tree.specs.declared.statement.Block.{Block}
 use Rattle.psm_tree.specs.declared.statement.ForCursor.{ForCursor}
 use Rattle.psm_tree.specs.declared.statement.OrderedQuery.{OrderedQuery}
 use Rattle.psm_tree.specs.declared.statement.Order.{Order}
@@ -254,11 +248,11 @@ simple = or set_statement
 
 -- block = BEGIN .. | LOOP .. | WHILE .. | REPEAT .. | FOR ..
 abbrev pub block : Gram Block
-block = or (level BeginRest (word w.Begin) compound_of)
-    (or (level LoopRest (word w.Loop) loop_of)
-    (or (level WhileRest (word w.While) while_of)
-    (or (level RepeatRest (word w.Repeat) repeat_of)
-    (level ForRest (word w.For) for_of))))
+block = or (level BeginRest (word w.Begin) Compound)
+    (or (level LoopRest (word w.Loop) Loop)
+    (or (level WhileRest (word w.While) While)
+    (or (level RepeatRest (word w.Repeat) Repeat)
+    (level ForRest (word w.For) For))))
 
 -- labelled = name ":" block [name]
 abbrev pub labelled_block : Gram (Block × Option Identifier)
@@ -366,10 +360,10 @@ for_rest = seq for_parts (token name) (behind_token (word w.As)
 -- ---- declarations
 
 -- behind its first name: {"," name} type [DEFAULT source]
-abbrev pub default_source : Gram Source
+abbrev pub default_source : Gram Expr
 default_source = behind_token (word w.Default) source
 
-abbrev pub typed : Gram (DataType × Option Source)
+abbrev pub typed : Gram (DataType × Option Expr)
 typed = seq pair data_type (optional default_source)
 
 abbrev pub other_variables : Gram (List Identifier)

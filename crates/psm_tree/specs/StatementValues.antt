@@ -3,7 +3,7 @@ use Rattle.std.specs.Prelude.{ℕ, Bool, true, false, List, [], ◌∷◌, Optio
 use Rattle.psm_num.specs.Num.{Num}
 use Rattle.psm_token.specs.declared.place.Place.{Place}
 use Rattle.psm_tree.specs.Tests.{At}
-use Rattle.psm_tree.specs.Parts.{ForParts, HandlerParts, NamedRest, Variables, Condition, Cursor, Declared, Named, Handled, Body}
+use Rattle.psm_tree.specs.Parts.{Statements, Branches, ForParts, HandlerParts, NamedRest, Variables, Condition, Cursor, Declared, Named, Handled, Body}
 use Rattle.psm_tree.specs.declared.name.Identifier.{Identifier}
 use Rattle.psm_tree.specs.declared.name.Target.{Target}
 use Rattle.psm_tree.specs.declared.name.Names.{Names}
@@ -11,19 +11,13 @@ use Rattle.psm_tree.specs.declared.name.Targets.{Targets}
 use Rattle.psm_tree.specs.declared.types.DataType.{DataType}
 use Rattle.psm_tree.specs.declared.types.State.{State}
 use Rattle.psm_tree.specs.declared.expr.Expr.{Expr}
-use Rattle.psm_tree.specs.declared.expr.Source.{Source}
 use Rattle.psm_tree.specs.declared.expr.Select.{Select}
-use Rattle.psm_tree.specs.declared.expr.Picks.{Picks}
-use Rattle.psm_tree.specs.declared.expr.From.{From}
+use Rattle.psm_tree.specs.declared.expr.Pick.{Pick}
+use Rattle.psm_tree.specs.ExprValues.{From}
 use Rattle.psm_tree.specs.declared.statement.Statement.{Statement}
 use Rattle.psm_tree.specs.declared.statement.Statement.TheVariants as statements
 use Rattle.psm_tree.specs.declared.statement.Label.{Label}
-use Rattle.psm_tree.specs.declared.statement.Statements.{Statements, roll-Statements}
-use Rattle.psm_tree.specs.declared.statement.Branches.{Branches, roll-Branches}
 use Rattle.psm_tree.specs.declared.statement.Branch.{Branch, roll-Branch}
-use Rattle.psm_tree.specs.declared.statement.Block.{Block}
-use Rattle.psm_tree.specs.declared.statement.Block.TheVariants as blocks
-use Rattle.psm_tree.specs.declared.statement.Compound.{Compound, roll-Compound}
 use Rattle.psm_tree.specs.declared.statement.ForCursor.{ForCursor}
 use Rattle.psm_tree.specs.declared.statement.OrderedQuery.{OrderedQuery}
 use Rattle.psm_tree.specs.declared.statement.Order.{Order}
@@ -104,7 +98,7 @@ statement_diagnostics first rest = diagnostics.Statement first rest
 abbrev pub condition_diagnostics : ConditionNumber → ConditionInformation × List ConditionInformation → Diagnostics
 condition_diagnostics number p = diagnostics.Condition number p.0 p.1
 
-abbrev pub values_of : Place → Source × List Source → Values
+abbrev pub values_of : Place → Expr × List Expr → Values
 values_of place p = record { place = place; first = p.0; rest = p.1 }
 
 abbrev pub inserted_values : Values → List Values → InsertSource
@@ -113,7 +107,7 @@ inserted_values first rest = inserted.Values first rest
 abbrev pub inserted_query : Select → InsertSource
 inserted_query query = inserted.Query query
 
-abbrev pub assignment_of : Identifier → Source → Assignment
+abbrev pub assignment_of : Identifier → Expr → Assignment
 assignment_of column source = record { column = column; source = source }
 
 abbrev pub where_true : Expr → Where
@@ -124,13 +118,13 @@ where_current cursor = wheres.Current cursor
 
 -- ---- simple statements
 
-abbrev pub set_of : Place → Target × Source → Simple
+abbrev pub set_of : Place → Target × Expr → Simple
 set_of place p = simples.Set place p.0 p.1
 
-abbrev pub call_of : Place → Identifier × List Source → Simple
+abbrev pub call_of : Place → Identifier × List Expr → Simple
 call_of place p = simples.Call place p.0 p.1
 
-abbrev pub return_of : Place → Source → Simple
+abbrev pub return_of : Place → Expr → Simple
 return_of place source = simples.Return place source
 
 abbrev pub leave_of : Place → Identifier → Simple
@@ -148,10 +142,10 @@ resignal_of place signalled = simples.Resignal place signalled
 abbrev pub diagnostics_of : Place → Diagnostics → Simple
 diagnostics_of place d = simples.GetDiagnostics place d
 
-abbrev pub select_into : Place → Picks × Targets × From → Simple
-select_into place p = simples.SelectInto place p.0 p.1 p.2
+abbrev pub select_into : Place → List Pick × Targets × From → Simple
+select_into place p = simples.SelectInto place p.0 p.1 p.2.table p.2.alias p.2.condition
 
-abbrev pub selected : Picks → Targets × From → Picks × Targets × From
+abbrev pub selected : List Pick → Targets × From → List Pick × Targets × From
 selected picks p = (picks, p.0, p.1)
 
 abbrev pub insert_of : Place → Identifier × Option Names × InsertSource → Simple
@@ -190,27 +184,47 @@ close_of place cursor = simples.Close place cursor
 abbrev pub simple_statement : Simple → Statement
 simple_statement simple = statements.Simple simple
 
+-- a block without its label
+pub data Block : Type 0 where
+  Compound : Place → Bool × Body → Block
+  Loop : Place → Statements → Block
+  While : Place → Expr × Statements → Block
+  Repeat : Place → Statements × Expr → Block
+  For : Place → ForParts → Block
+
+abbrev pub block_with : Option Label → Block → Statement
+block_with label (Compound place p) = statements.Compound label place p.0 p.1.declarations p.1.cursors p.1.handlers p.1.statements
+block_with label (Loop place p) = statements.Loop label place p.first p.rest
+block_with label (While place p) = statements.While label place p.0 p.1.first p.1.rest
+block_with label (Repeat place p) = statements.Repeat label place p.0.first p.0.rest p.1
+block_with label (For place p) = statements.For label place p.name p.cursor p.query p.body.first p.body.rest
+
 abbrev pub unlabelled : Block → Statement
-unlabelled block = statements.Block None block
+unlabelled block = block_with None block
 
 -- a block behind its label, and the label behind its end
 abbrev pub labelled : Identifier → Block × Option Identifier → Statement
-labelled start p = statements.Block (Some (record { start = start; end = p.1 })) p.0
+labelled start p = block_with (Some (record { start = start; end = p.1 })) p.0
 
 abbrev pub if_of : Place → Branches → Statement
-if_of place branches = statements.If place branches
+if_of place b = statements.If place b.first b.rest b.otherwise
 
 abbrev pub case_statement_of : Place → Option Expr × Branches → Statement
-case_statement_of place p = statements.Case place p.0 p.1
+case_statement_of place p = statements.Case place p.0 p.1.first p.1.rest p.1.otherwise
 
 abbrev pub statements_of : Statement → List Statement → Statements
-statements_of first rest = roll-Statements (record { first = first; rest = rest })
+statements_of first rest = record { first = first; rest = rest }
 
 abbrev pub branch_of : Expr → Statements → Branch
-branch_of test then' = roll-Branch (record { test = test; «then» = then' })
+branch_of test s = roll-Branch (record { test = test; first = s.first; rest = s.rest })
+
+-- the statements behind ELSE, or none
+abbrev pub listed : Option Statements → List Statement
+listed None = []
+listed (Some s) = s.first ∷ s.rest
 
 abbrev pub branches_of : Branch → List Branch × Option Statements → Branches
-branches_of first p = roll-Branches (record { first = first; rest = p.0; otherwise = p.1 })
+branches_of first p = record { first = first; rest = p.0; otherwise = listed p.1 }
 
 abbrev pub case_alone_statement : Branches → Option Expr × Branches
 case_alone_statement branches = (None, branches)
@@ -219,22 +233,6 @@ abbrev pub case_over_statement : Expr → Branches → Option Expr × Branches
 case_over_statement operand branches = (Some operand, branches)
 
 -- ---- blocks
-
--- what BEGIN opens
-abbrev pub compound_of : Place → Bool × Body → Block
-compound_of place p = blocks.Compound place p.0 (roll-Compound (record { declarations = p.1.declarations; cursors = p.1.cursors; handlers = p.1.handlers; statements = p.1.statements }))
-
-abbrev pub loop_of : Place → Statements → Block
-loop_of place body = blocks.Loop place body
-
-abbrev pub while_of : Place → Expr × Statements → Block
-while_of place p = blocks.While place p.0 p.1
-
-abbrev pub repeat_of : Place → Statements × Expr → Block
-repeat_of place p = blocks.Repeat place p.0 p.1
-
-abbrev pub for_of : Place → ForParts → Block
-for_of place p = blocks.For place p.name p.cursor p.query p.body
 
 abbrev pub for_cursor : Identifier → Bool → ForCursor
 for_cursor name insensitive = record { name = name; insensitive = insensitive }
@@ -251,10 +249,10 @@ for_query cursor p = (cursor, p.0, p.1)
 abbrev pub undeclared : List Statement → Body
 undeclared statements = record { declarations = []; cursors = []; handlers = []; statements = statements }
 
-abbrev pub variables_of : List Identifier → DataType × Option Source → NamedRest
+abbrev pub variables_of : List Identifier → DataType × Option Expr → NamedRest
 variables_of others p = Variables others p.0 p.1
 
-abbrev pub one_variable : DataType → Option Source → NamedRest
+abbrev pub one_variable : DataType → Option Expr → NamedRest
 one_variable kind default = Variables [] kind default
 
 abbrev pub condition_of : Place → Option State → NamedRest

@@ -15,13 +15,10 @@ use Rattle.psm_tree.specs.Kinds.{code, name_kind, number_kind, text_kind, sign_c
 use Rattle.psm_tree.specs.declared.name.Identifier.{Identifier}
 use Rattle.psm_tree.specs.declared.types.Sign.{Sign as PlusMinus}
 use Rattle.psm_tree.specs.declared.types.Sign.TheVariants as signs
-use Rattle.psm_tree.specs.declared.types.Signed.{Signed}
 use Rattle.psm_tree.specs.declared.expr.Comparison.{Comparison}
 use Rattle.psm_tree.specs.declared.expr.Comparison.TheVariants as comparisons
-use Rattle.psm_tree.specs.declared.expr.SumOperator.{SumOperator}
-use Rattle.psm_tree.specs.declared.expr.SumOperator.TheVariants as sums
-use Rattle.psm_tree.specs.declared.expr.TermOperator.{TermOperator}
-use Rattle.psm_tree.specs.declared.expr.TermOperator.TheVariants as terms
+use Rattle.psm_tree.specs.declared.expr.Operator.{Operator}
+use Rattle.psm_tree.specs.declared.expr.Operator.TheVariants as operators
 use Rattle.psm_tree.specs.declared.expr.TextFunction.{TextFunction}
 use Rattle.psm_tree.specs.declared.expr.TextFunction.TheVariants as functions
 use Rattle.psm_tree.specs.declared.expr.SetFunction.{SetFunction}
@@ -107,8 +104,8 @@ sign_of (t.Sign s.Minus) = signs.Minus
 sign_of _ = signs.Plus
 
 -- `+` or `-`, with its place
-abbrev pub plus_minus : Test Placed Signed
-plus_minus = one_sign s.Plus (sign_code s.Plus ∷ sign_code s.Minus ∷ []) (λ p. record { place = p.place; sign = sign_of p.token })
+abbrev pub plus_minus : Test Placed (At PlusMinus)
+plus_minus = one_sign s.Plus (sign_code s.Plus ∷ sign_code s.Minus ∷ []) (at sign_of)
 
 abbrev pub comparison_of : Token → Comparison
 comparison_of (t.Sign s.NotEqual) = comparisons.NotEqual
@@ -121,19 +118,19 @@ comparison_of _ = comparisons.Equal
 abbrev pub comparison : Test Placed Comparison
 comparison = one_sign s.Equal (sign_code s.Equal ∷ sign_code s.NotEqual ∷ sign_code s.Less ∷ sign_code s.LessEqual ∷ sign_code s.Greater ∷ sign_code s.GreaterEqual ∷ []) (λ p. comparison_of p.token)
 
-abbrev pub sum_operator_of : Token → SumOperator
-sum_operator_of (t.Sign s.Minus) = sums.Subtract
-sum_operator_of (t.Sign s.Concatenation) = sums.Concatenate
-sum_operator_of _ = sums.Add
+abbrev pub sum_operator_of : Token → Operator
+sum_operator_of (t.Sign s.Minus) = operators.Subtract
+sum_operator_of (t.Sign s.Concatenation) = operators.Concatenate
+sum_operator_of _ = operators.Add
 
-abbrev pub sum_operator : Test Placed SumOperator
+abbrev pub sum_operator : Test Placed Operator
 sum_operator = one_sign s.Plus (sign_code s.Plus ∷ sign_code s.Minus ∷ sign_code s.Concatenation ∷ []) (λ p. sum_operator_of p.token)
 
-abbrev pub term_operator_of : Token → TermOperator
-term_operator_of (t.Sign s.Solidus) = terms.Divide
-term_operator_of _ = terms.Multiply
+abbrev pub term_operator_of : Token → Operator
+term_operator_of (t.Sign s.Solidus) = operators.Divide
+term_operator_of _ = operators.Multiply
 
-abbrev pub term_operator : Test Placed TermOperator
+abbrev pub term_operator : Test Placed Operator
 term_operator = one_sign s.Asterisk (sign_code s.Asterisk ∷ sign_code s.Solidus ∷ []) (λ p. term_operator_of p.token)
 
 -- ---- words that choose

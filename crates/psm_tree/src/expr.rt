@@ -1,41 +1,16 @@
 //! Expressions and queries. A chain of operators of one level is one list.
 use crate::name::{Identifier, Target};
-use crate::types::{DataType, Signed};
+use crate::types::{DataType, Sign};
 use psm_list::{Boxed, List};
 use psm_num::Dec;
 use psm_text::Text;
 use psm_token::Place;
 
-/// An expression: conditions with OR between them (ISO/IEC 9075:1992, 8.12), or a lone one.
-#[cycle(expression)]
-#[derive(Drop)]
-pub struct Expr {
-    pub first: Conjunction,
-    pub rest: List<Conjunction>,
-}
-
-/// Conditions with AND between them, or a lone one.
-#[cycle(expression)]
-#[derive(Drop)]
-pub struct Conjunction {
-    pub first: Negation,
-    pub rest: List<Negation>,
-}
-
-/// A predicate, with the place of a NOT before it.
-#[cycle(expression)]
-#[derive(Drop)]
-pub struct Negation {
-    pub not: Option<Place>,
-    pub predicate: Predicate,
-}
-
-/// A value and what is asked of it (ISO/IEC 9075:1992, 8.1 to 8.6).
-#[cycle(expression)]
-#[derive(Drop)]
-pub struct Predicate {
-    pub left: Sum,
-    pub test: Test,
+/// AND or OR.
+#[derive(Clone, Copy, Debug, PartialEq, Eq)]
+pub enum Junction {
+    And,
+    Or,
 }
 
 /// A comparison operator (ISO/IEC 9075:1992, 8.2).
@@ -49,90 +24,14 @@ pub enum Comparison {
     GreaterEqual,
 }
 
-/// What a predicate asks of its value.
-#[cycle(expression)]
-#[derive(Drop)]
-pub enum Test {
-    /// Nothing: the predicate is the value.
-    Value,
-    Compare {
-        operator: Comparison,
-        right: Boxed<Sum>,
-    },
-    /// IS NULL, or with `negated` IS NOT NULL.
-    Null {
-        negated: bool,
-    },
-    Between {
-        negated: bool,
-        low: Boxed<Sum>,
-        high: Boxed<Sum>,
-    },
-    In {
-        negated: bool,
-        first: Boxed<Sum>,
-        rest: List<Sum>,
-    },
-    Like {
-        negated: bool,
-        pattern: Boxed<Sum>,
-        escape: Option<Boxed<Sum>>,
-    },
-}
-
-/// `+`, `-` or `||`.
+/// `+`, `-`, `||`, `*` or `/`.
 #[derive(Clone, Copy, Debug, PartialEq, Eq)]
-pub enum SumOperator {
+pub enum Operator {
     Add,
     Subtract,
     Concatenate,
-}
-
-/// Terms with `+`, `-` or `||` between them, or a lone one (ISO/IEC 9075:1992, 6.12 and 6.13).
-#[cycle(expression)]
-#[derive(Drop)]
-pub struct Sum {
-    pub first: Term,
-    pub rest: List<NextTerm>,
-}
-
-/// An operator and the term behind it.
-#[cycle(expression)]
-#[derive(Drop)]
-pub struct NextTerm {
-    pub operator: SumOperator,
-    pub term: Term,
-}
-
-/// `*` or `/`.
-#[derive(Clone, Copy, Debug, PartialEq, Eq)]
-pub enum TermOperator {
     Multiply,
     Divide,
-}
-
-/// Factors with `*` or `/` between them, or a lone one.
-#[cycle(expression)]
-#[derive(Drop)]
-pub struct Term {
-    pub first: Factor,
-    pub rest: List<NextFactor>,
-}
-
-/// An operator and the factor behind it.
-#[cycle(expression)]
-#[derive(Drop)]
-pub struct NextFactor {
-    pub operator: TermOperator,
-    pub factor: Factor,
-}
-
-/// A primary, with a sign before it where there is one.
-#[cycle(expression)]
-#[derive(Drop)]
-pub struct Factor {
-    pub sign: Option<Signed>,
-    pub primary: Primary,
 }
 
 /// The functions of one text (ISO/IEC 9075:1992, 6.6 and 6.7).
@@ -151,10 +50,14 @@ pub enum TrimSide {
     Both,
 }
 
-/// What stands in an expression without an operator around it.
+/// An expression, a condition or a source (ISO/IEC 9075:1992, 6.11 to 8.12).
 #[cycle(expression)]
 #[derive(Drop)]
-pub enum Primary {
+pub enum Expr {
+    /// NULL, which stands where a source may stand and nowhere else.
+    Null {
+        place: Place,
+    },
     Number {
         place: Place,
         value: Dec,
@@ -164,9 +67,57 @@ pub enum Primary {
         value: Text,
     },
     Name(Target),
+    /// Conditions with AND, or with OR, between them: two or more.
+    Junction {
+        junction: Junction,
+        first: Boxed<Expr>,
+        rest: List<Expr>,
+    },
+    Not {
+        place: Place,
+        condition: Boxed<Expr>,
+    },
+    Compare {
+        operator: Comparison,
+        left: Boxed<Expr>,
+        right: Boxed<Expr>,
+    },
+    /// IS NULL, or with `negated` IS NOT NULL.
+    IsNull {
+        negated: bool,
+        value: Boxed<Expr>,
+    },
+    Between {
+        negated: bool,
+        value: Boxed<Expr>,
+        low: Boxed<Expr>,
+        high: Boxed<Expr>,
+    },
+    In {
+        negated: bool,
+        value: Boxed<Expr>,
+        first: Boxed<Expr>,
+        rest: List<Expr>,
+    },
+    Like {
+        negated: bool,
+        value: Boxed<Expr>,
+        pattern: Boxed<Expr>,
+        escape: Option<Boxed<Expr>>,
+    },
+    /// Operands with operators of one level between them: two or more operands.
+    Chain {
+        first: Boxed<Expr>,
+        rest: List<Link>,
+    },
+    Signed {
+        place: Place,
+        sign: Sign,
+        operand: Boxed<Expr>,
+    },
     Call {
         function: Identifier,
-        arguments: List<Source>,
+        arguments: List<Expr>,
     },
     Parenthesized {
         place: Place,
@@ -180,19 +131,23 @@ pub enum Primary {
         place: Place,
         query: Boxed<Select>,
     },
+    /// CASE (ISO/IEC 9075:1992, 6.9), with its operand where there is one.
     Case {
         place: Place,
-        cases: Boxed<CaseExpr>,
+        operand: Option<Boxed<Expr>>,
+        first: Boxed<When>,
+        rest: List<When>,
+        otherwise: Option<Boxed<Expr>>,
     },
     Cast {
         place: Place,
-        source: Boxed<Source>,
+        source: Boxed<Expr>,
         to: DataType,
     },
     Coalesce {
         place: Place,
-        first: Boxed<Source>,
-        rest: List<Source>,
+        first: Boxed<Expr>,
+        rest: List<Expr>,
     },
     NullIf {
         place: Place,
@@ -206,8 +161,8 @@ pub enum Primary {
     },
     Position {
         place: Place,
-        part: Boxed<Sum>,
-        whole: Boxed<Sum>,
+        part: Boxed<Expr>,
+        whole: Boxed<Expr>,
     },
     Substring {
         place: Place,
@@ -222,30 +177,20 @@ pub enum Primary {
     },
 }
 
-/// The cases of a CASE expression (ISO/IEC 9075:1992, 6.9), with its operand where there is one.
+/// An operator and the operand behind it.
 #[cycle(expression)]
 #[derive(Drop)]
-pub struct CaseExpr {
-    pub operand: Option<Expr>,
-    pub first: When,
-    pub rest: List<When>,
-    pub otherwise: Option<Source>,
+pub struct Link {
+    pub operator: Operator,
+    pub operand: Expr,
 }
 
-/// `WHEN expr THEN source`.
+/// `WHEN test THEN result`.
 #[cycle(expression)]
 #[derive(Drop)]
 pub struct When {
     pub test: Expr,
-    pub result: Source,
-}
-
-/// An expression, or NULL.
-#[cycle(expression)]
-#[derive(Drop)]
-pub enum Source {
-    Null { place: Place },
-    Value(Expr),
+    pub result: Expr,
 }
 
 /// A query over one table (ISO/IEC 9075:1992, 7.9).
@@ -253,25 +198,10 @@ pub enum Source {
 #[derive(Drop)]
 pub struct Select {
     pub place: Place,
-    pub picks: Picks,
-    pub from: From,
-}
-
-/// The items of a query.
-#[cycle(expression)]
-#[derive(Drop)]
-pub enum Picks {
-    /// `*`.
-    All { place: Place },
-    Items { first: Pick, rest: List<Pick> },
-}
-
-/// An item of a query, and its own name where it has one.
-#[cycle(expression)]
-#[derive(Drop)]
-pub struct Pick {
-    pub item: Item,
+    pub picks: List<Pick>,
+    pub table: Identifier,
     pub alias: Option<Identifier>,
+    pub condition: Option<Boxed<Expr>>,
 }
 
 /// A set function over an expression (ISO/IEC 9075:1992, 6.5).
@@ -284,27 +214,27 @@ pub enum SetFunction {
     Max,
 }
 
-/// What an item of a query is.
+/// An item of a query, and its own name where it has one.
 #[cycle(expression)]
 #[derive(Drop)]
-pub enum Item {
-    Expr(Expr),
+pub enum Pick {
+    /// `*`, which stands alone.
+    All {
+        place: Place,
+    },
+    Expr {
+        expr: Expr,
+        alias: Option<Identifier>,
+    },
     /// `COUNT(*)`.
     CountRows {
         place: Place,
+        alias: Option<Identifier>,
     },
     Aggregate {
         place: Place,
         function: SetFunction,
         argument: Expr,
+        alias: Option<Identifier>,
     },
-}
-
-/// The table of a query, its alias and its condition.
-#[cycle(expression)]
-#[derive(Drop)]
-pub struct From {
-    pub table: Identifier,
-    pub alias: Option<Identifier>,
-    pub condition: Option<Expr>,
 }

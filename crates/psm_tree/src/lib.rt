@@ -11,9 +11,8 @@ mod statement;
 mod types;
 
 pub use expr::{
-    CaseExpr, Comparison, Conjunction, Expr, Factor, From, Item, Negation, NextFactor, NextTerm,
-    Pick, Picks, Predicate, Primary, Select, SetFunction, Source, Sum, SumOperator, Term,
-    TermOperator, Test, TextFunction, TrimSide, When,
+    Comparison, Expr, Junction, Link, Operator, Pick, Select, SetFunction, TextFunction, TrimSide,
+    When,
 };
 pub use fault::ParseFault;
 pub use file::{
@@ -24,9 +23,9 @@ pub use laws::one_tree;
 pub use name::{Identifier, Names, Target, Targets};
 pub use script::{Argument, Command, ConstantRow, ScriptTree};
 pub use statement::{
-    Assignment, Block, Branch, Branches, Compound, Condition, ConditionInformation, ConditionItem,
-    ConditionNumber, CursorDeclaration, Declaration, Diagnostics, ForCursor, Handler, HandlerKind,
-    HandlerValue, InsertSource, Label, Order, OrderColumn, OrderedQuery, Signalled, Simple,
-    Statement, StatementInformation, StatementItem, Statements, Updatability, Values, Where,
+    Assignment, Branch, Condition, ConditionInformation, ConditionItem, ConditionNumber,
+    CursorDeclaration, Declaration, Diagnostics, ForCursor, Handler, HandlerKind, HandlerValue,
+    InsertSource, Label, Order, OrderColumn, OrderedQuery, Signalled, Simple, Statement,
+    StatementInformation, StatementItem, Updatability, Values, Where,
 };
-pub use types::{Constant, ConstantForm, DataType, Precision, Sign, Signed, State, TypeForm};
+pub use types::{Constant, ConstantForm, DataType, Precision, Sign, State, TypeForm};

@@ -1,28 +1,67 @@
 //! Statements, blocks and declarations (ISO/IEC 9075-4:1996).
-use crate::expr::{Expr, From, Picks, Select, Source};
+use crate::expr::{Expr, Pick, Select};
 use crate::name::{Identifier, Names, Target, Targets};
 use crate::types::{DataType, State};
 use psm_list::{Boxed, List};
 use psm_num::Dec;
 use psm_token::Place;
 
-/// A statement: a block, a simple statement, or one of IF and CASE.
+/// A statement (ISO/IEC 9075-4:1996).
 #[cycle(statement)]
 #[derive(Drop)]
 pub enum Statement {
-    Block {
+    Compound {
         label: Option<Label>,
-        block: Boxed<Block>,
+        place: Place,
+        atomic: bool,
+        declarations: List<Declaration>,
+        cursors: List<CursorDeclaration>,
+        handlers: List<Handler>,
+        statements: List<Statement>,
     },
+    Loop {
+        label: Option<Label>,
+        place: Place,
+        first: Boxed<Statement>,
+        rest: List<Statement>,
+    },
+    While {
+        label: Option<Label>,
+        place: Place,
+        test: Expr,
+        first: Boxed<Statement>,
+        rest: List<Statement>,
+    },
+    Repeat {
+        label: Option<Label>,
+        place: Place,
+        first: Boxed<Statement>,
+        rest: List<Statement>,
+        until: Expr,
+    },
+    For {
+        label: Option<Label>,
+        place: Place,
+        name: Identifier,
+        cursor: Option<ForCursor>,
+        query: OrderedQuery,
+        first: Boxed<Statement>,
+        rest: List<Statement>,
+    },
+    /// IF, with the statements behind ELSE, of which there are none where there is no ELSE.
     If {
         place: Place,
-        branches: Boxed<Branches>,
+        first: Boxed<Branch>,
+        rest: List<Branch>,
+        otherwise: List<Statement>,
     },
     /// CASE, with its operand where it has one.
     Case {
         place: Place,
-        operand: Option<Boxed<Expr>>,
-        branches: Boxed<Branches>,
+        operand: Option<Expr>,
+        first: Boxed<Branch>,
+        rest: List<Branch>,
+        otherwise: List<Statement>,
     },
     Simple(Simple),
 }
@@ -34,71 +73,13 @@ pub struct Label {
     pub end: Option<Identifier>,
 }
 
-/// One statement or more.
-#[cycle(statement)]
-#[derive(Drop)]
-pub struct Statements {
-    pub first: Statement,
-    pub rest: List<Statement>,
-}
-
-/// The tests of IF or CASE, each with its statements, and the statements behind ELSE.
-#[cycle(statement)]
-#[derive(Drop)]
-pub struct Branches {
-    pub first: Branch,
-    pub rest: List<Branch>,
-    pub otherwise: Option<Statements>,
-}
-
-/// A test and the statements behind its THEN.
+/// A test and the statements behind its THEN: one or more.
 #[cycle(statement)]
 #[derive(Drop)]
 pub struct Branch {
     pub test: Expr,
-    pub then: Statements,
-}
-
-/// A statement that has statements and can have a label.
-#[cycle(statement)]
-#[derive(Drop)]
-pub enum Block {
-    Compound {
-        place: Place,
-        atomic: bool,
-        body: Compound,
-    },
-    Loop {
-        place: Place,
-        body: Statements,
-    },
-    While {
-        place: Place,
-        test: Expr,
-        body: Statements,
-    },
-    Repeat {
-        place: Place,
-        body: Statements,
-        until: Expr,
-    },
-    For {
-        place: Place,
-        name: Identifier,
-        cursor: Option<ForCursor>,
-        query: OrderedQuery,
-        body: Statements,
-    },
-}
-
-/// What stands between BEGIN and END.
-#[cycle(statement)]
-#[derive(Drop)]
-pub struct Compound {
-    pub declarations: List<Declaration>,
-    pub cursors: List<CursorDeclaration>,
-    pub handlers: List<Handler>,
-    pub statements: List<Statement>,
+    pub first: Statement,
+    pub rest: List<Statement>,
 }
 
 /// The cursor of a FOR statement.
@@ -137,7 +118,7 @@ pub enum Declaration {
         place: Place,
         names: Names,
         kind: DataType,
-        default: Option<Source>,
+        default: Option<Expr>,
     },
     Condition {
         place: Place,
@@ -269,8 +250,8 @@ pub enum Diagnostics {
 #[derive(Drop)]
 pub struct Values {
     pub place: Place,
-    pub first: Source,
-    pub rest: List<Source>,
+    pub first: Expr,
+    pub rest: List<Expr>,
 }
 
 /// The rows of an INSERT.
@@ -284,7 +265,7 @@ pub enum InsertSource {
 #[derive(Drop)]
 pub struct Assignment {
     pub column: Identifier,
-    pub source: Source,
+    pub source: Expr,
 }
 
 /// Which rows an UPDATE or a DELETE changes.
@@ -300,16 +281,16 @@ pub enum Simple {
     Set {
         place: Place,
         target: Target,
-        source: Source,
+        source: Expr,
     },
     Call {
         place: Place,
         procedure: Identifier,
-        arguments: List<Source>,
+        arguments: List<Expr>,
     },
     Return {
         place: Place,
-        source: Source,
+        source: Expr,
     },
     Leave {
         place: Place,
@@ -333,9 +314,11 @@ pub enum Simple {
     },
     SelectInto {
         place: Place,
-        picks: Picks,
+        picks: List<Pick>,
         targets: Targets,
-        from: From,
+        table: Identifier,
+        alias: Option<Identifier>,
+        condition: Option<Expr>,
     },
     Insert {
         place: Place,

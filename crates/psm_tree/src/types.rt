@@ -34,13 +34,6 @@ pub enum Sign {
     Minus,
 }
 
-/// A sign and its place.
-#[derive(Clone, Copy, Debug)]
-pub struct Signed {
-    pub place: Place,
-    pub sign: Sign,
-}
-
 /// What a constant is (ISO/IEC 9075:1992, 5.3).
 #[derive(Debug, Drop)]
 pub enum ConstantForm {
