@@ -1,3 +1,4 @@
 pub mod Among
+pub mod Beside
 pub mod Fault
 pub mod TokenReaders

@@ -6,12 +6,14 @@
 
 mod constants;
 mod fault;
+mod held;
 mod name_list;
 mod token;
 mod types;
 
 pub use constants::{constant, expect_plus_minus};
 pub use fault::fault_of;
+pub use held::{before_sign, before_word, beside, in_front};
 pub use name_list::{
     names, names_in_parens, next_names, next_targets, second_name, target, targets,
 };

@@ -1,12 +1,11 @@
 -- Expressions and queries are read by their first tokens, part by part.
-use Rattle.std.proofs.Common.{◌≡◌, ℕ, true, List, [], ◌∷◌, ◌++◌, Option, Some, None, refl}
+use Rattle.std.proofs.Common.{ℕ, List, [], ◌∷◌, ◌++◌, Option, Some, None, refl}
 use Rattle.psm_token.specs.declared.word.Word.TheVariants as w
 use Rattle.psm_token.specs.declared.sign.Sign.TheVariants as s
-use Rattle.psm_grammar.specs.Grammar.{Grammar, seq, token}
-use Rattle.psm_grammar.specs.Forms.{later, earlier}
-use Rattle.psm_grammar.proofs.Fitting.{Fit, FitsAt, fit_fewer, fit_token, fit_level, fit_nothing, fit_seq, fit_or, fit_ahead, fit_many, fit_image}
+use Rattle.psm_grammar.specs.Grammar.{Grammar}
+use Rattle.psm_grammar.proofs.Fitting.{Fit, fit_fewer, fit_token, fit_nothing, fit_seq, fit_or, fit_ahead, fit_many, fit_image}
 use Rattle.psm_tree.specs.Kinds.{code, codes_of, sign_code, kind}
-use Rattle.psm_tree.specs.Tests.{word, sign, name_kinds, comparison, sum_operator, term_operator}
+use Rattle.psm_tree.specs.Tests.{name_kinds, comparison, sum_operator, term_operator}
 use Rattle.psm_tree.specs.Parts.{Part, V, HandlerRest}
 use Rattle.psm_tree.specs.ExprGrammar
 

@@ -1,10 +1,10 @@
 -- Module files and scripts are read by their first tokens.
-use Rattle.std.proofs.Common.{◌≡◌, ℕ, true, List, [], ◌∷◌, ◌++◌, refl}
+use Rattle.std.proofs.Common.{ℕ, List, [], ◌∷◌, ◌++◌, refl}
 use Rattle.psm_token.specs.declared.word.Word.TheVariants as w
 use Rattle.psm_token.specs.declared.sign.Sign.TheVariants as s
 use Rattle.psm_grammar.specs.Grammar.{Grammar}
-use Rattle.psm_grammar.proofs.Fitting.{Fit, fit_fewer, fit_token, fit_nothing, fit_seq, fit_or, fit_ahead, fit_many, fit_image}
-use Rattle.psm_tree.specs.Kinds.{code, codes_of, sign_code, kind, column_rule_words, routine_words}
+use Rattle.psm_grammar.proofs.Fitting.{Fit, fit_fewer, fit_token, fit_seq, fit_or, fit_ahead, fit_many, fit_image}
+use Rattle.psm_tree.specs.Kinds.{codes_of, sign_code, kind, column_rule_words}
 use Rattle.psm_tree.specs.Parts.{V}
 use Rattle.psm_tree.specs.FileGrammar
 use Rattle.psm_tree.proofs.ExprFits.{after, expr_fit, parens_fit}

@@ -1,5 +1,5 @@
 -- The grammar is readable, so that what its reader answers is exact and two derivations of the same tokens are one.
-use Rattle.std.proofs.Common.{◌≡◌, ℕ, ◌+◌, true, List, Option, refl}
+use Rattle.std.proofs.Common.{◌≡◌, ℕ, ◌+◌, true, List, refl}
 use Rattle.psm_token.specs.declared.token.Placed.{Placed}
 use Rattle.psm_grammar.specs.Language.{Words, toks}
 use Rattle.psm_grammar.specs.Grammar.{Spells}
@@ -9,7 +9,7 @@ use Rattle.psm_grammar.specs.Follow.{lives_in, IsReadable}
 use Rattle.psm_grammar.proofs.Fitting.{Fit, FitsAt, readable_of}
 use Rattle.psm_grammar.proofs.Whole.{reads_run}
 use Rattle.psm_grammar.proofs.Unique.{one_tree}
-use Rattle.psm_tree.specs.Parts.{Part, Enclosed, Arguments, ExistsRest, CaseRest, CastRest, CoalesceRest, NullIfRest, FunctionRest, PositionRest, SubstringRest, TrimRest, BeginRest, LoopRest, WhileRest, RepeatRest, ForRest, IfRest, CaseStatementRest, HandlerRest, BodyRest, DeclareRest, Phase, Declarations, Cursors, Handlers}
+use Rattle.psm_tree.specs.Parts.{Part, Enclosed, Arguments, ExistsRest, CaseRest, CastRest, CoalesceRest, NullIfRest, FunctionRest, PositionRest, SubstringRest, TrimRest, BeginRest, LoopRest, WhileRest, RepeatRest, ForRest, IfRest, CaseStatementRest, HandlerRest, BodyRest, DeclareRest, Declarations, Cursors, Handlers}
 use Rattle.psm_tree.specs.ExprGrammar.{Gram}
 use Rattle.psm_tree.specs.Productions.{productions}
 use Rattle.psm_tree.proofs.ExprFits.{after, enclosed_fit, arguments_fit, exists_fit, case_fit, cast_fit, coalesce_fit, nullif_fit, function_fit, position_fit, substring_fit, trim_fit}

@@ -4,7 +4,7 @@ use Rattle.psm_token.specs.declared.word.Word.TheVariants as w
 use Rattle.psm_token.specs.declared.sign.Sign.TheVariants as s
 use Rattle.psm_grammar.specs.Grammar.{Grammar}
 use Rattle.psm_grammar.specs.Follow.{apart}
-use Rattle.psm_grammar.proofs.Fitting.{Fit, fit_fewer, fit_token, fit_level, fit_next, fit_nothing, fit_seq, fit_or, fit_ahead, fit_many, fit_image}
+use Rattle.psm_grammar.proofs.Fitting.{Fit, fit_fewer, fit_token, fit_level, fit_next, fit_nothing, fit_seq, fit_or, fit_many, fit_image}
 use Rattle.psm_tree.specs.Kinds.{code, codes_of, sign_code, kind, statement_words}
 use Rattle.psm_tree.specs.Tests.{name_kinds}
 use Rattle.psm_tree.specs.Parts.{V, Phase, Declarations, Cursors, Handlers}

@@ -1,13 +1,13 @@
 -- The grammar of names, types, constants, expressions and queries (ISO/IEC 9075:1992, 5.3 to 8.12).
-use Rattle.std.specs.Prelude.{ℕ, Bool, true, false, List, [], ◌∷◌, Option, Some, None}
+use Rattle.std.specs.Prelude.{true, false, List, [], ◌∷◌, Option, Some, None}
 use Rattle.psm_num.specs.Num.{Num}
 use Rattle.psm_token.specs.declared.word.Word.TheVariants as w
 use Rattle.psm_token.specs.declared.sign.Sign.TheVariants as s
 use Rattle.psm_grammar.specs.Grammar.{Grammar, token, level, nothing, seq, or, ahead, many, image}
-use Rattle.psm_grammar.specs.Forms.{earlier, later, optional, behind_token, before_token}
+use Rattle.psm_grammar.specs.Forms.{optional, behind_token, before_token}
 use Rattle.psm_tree.specs.Kinds.{code, kind}
 use Rattle.psm_tree.specs.Tests.{At, word, sign, name, number, text, plus_minus, comparison, sum_operator, term_operator, text_function, set_function, trim_side, integer_word, numeric_word, char_word}
-use Rattle.psm_tree.specs.Parts.{Cases, Part, Enclosed, Arguments, ExistsRest, CaseRest, CastRest, CoalesceRest, NullIfRest, FunctionRest, PositionRest, SubstringRest, TrimRest, V, Inside, Value, Query}
+use Rattle.psm_tree.specs.Parts.{Cases, Enclosed, Arguments, ExistsRest, CaseRest, CastRest, CoalesceRest, NullIfRest, FunctionRest, PositionRest, SubstringRest, TrimRest, V, Inside, Value, Query}
 use Rattle.psm_tree.specs.ExprValues.{pair, cons, none, target_of, names_of, targets_of, type_of, formed, precision_of, numeric_of, varchar_form, char_form, char_alone, number_constant, signed_constant, text_constant, null_constant, expr_of, conjunction_of, negated, Test, Nothing, predicate_of, compare_of, null_of, between_of, in_of, like_of, chain_of, link_of, signed, NameRest, Bare, Dotted, number_primary, text_primary, named, called, enclosed_of, exists_of, case_of, cast_of, coalesce_of, nullif_of, function_of, position_of, substring_of, trim_of, substring_parts, both_sides, Whens, whens_of, case_alone, case_over, when_of, null_source, From, from_of, select_of, all_picks, Item, pick_of, expr_item, count_of, all_rows, aggregate_of}
 use Rattle.psm_tree.specs.declared.name.Identifier.{Identifier}
 use Rattle.psm_tree.specs.declared.name.Target.{Target}

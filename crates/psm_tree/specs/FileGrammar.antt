@@ -1,14 +1,14 @@
 -- The grammar of module files and scripts (ISO/IEC 9075-4:1996, module definitions; ISO/IEC 9075:1992, 11.3).
-use Rattle.std.specs.Prelude.{ℕ, List, [], ◌∷◌, Option, Some, None}
+use Rattle.std.specs.Prelude.{List, [], ◌∷◌}
 use Rattle.psm_token.specs.declared.place.Place.{Place}
 use Rattle.psm_token.specs.declared.word.Word.TheVariants as w
 use Rattle.psm_token.specs.declared.sign.Sign.TheVariants as s
-use Rattle.psm_grammar.specs.Grammar.{Grammar, token, nothing, seq, or, ahead, many, image}
-use Rattle.psm_grammar.specs.Forms.{earlier, later, optional, behind_token, before_token}
-use Rattle.psm_tree.specs.Kinds.{code, sign_code, kind}
-use Rattle.psm_tree.specs.Tests.{At, word, sign, name, char_word, mode}
+use Rattle.psm_grammar.specs.Grammar.{token, seq, or, ahead, many, image}
+use Rattle.psm_grammar.specs.Forms.{earlier, optional, behind_token, before_token}
+use Rattle.psm_tree.specs.Kinds.{code, sign_code}
+use Rattle.psm_tree.specs.Tests.{word, sign, name, char_word, mode}
 use Rattle.psm_tree.specs.ExprValues.{pair, cons, none}
-use Rattle.psm_tree.specs.FileValues.{column_rule_at, column_rule_by, column_check, primary_key, unique, table_check, column_of, column_parts, rule_element, TableRest, table_rest, moded, unmoded, note_at, note_by, returned_char, ProcedureRest, procedure_rest, procedure_of, FunctionRest, function_rest, function_of, ModuleRest, module_rest, file_of, placeholder, constant_argument, constant_row, call_command, Inserting, inserting, insert_command, select_command, commit_command, rollback_command, script_of}
+use Rattle.psm_tree.specs.FileValues.{column_rule_at, column_rule_by, column_check, primary_key, unique, table_check, column_of, column_parts, rule_element, TableRest, table_rest, moded, unmoded, note_at, note_by, returned_char, procedure_rest, procedure_of, function_rest, function_of, ModuleRest, module_rest, file_of, placeholder, constant_argument, constant_row, call_command, inserting, insert_command, select_command, commit_command, rollback_command, script_of}
 use Rattle.psm_tree.specs.ExprGrammar.{Gram, closed, within_parens, names_in_parens, varying, char_length, plain_type, data_type, constant, expr}
 use Rattle.psm_tree.specs.StatementGrammar.{statement, ordered_select}
 use Rattle.psm_tree.specs.declared.name.Identifier.{Identifier}

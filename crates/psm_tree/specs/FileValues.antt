@@ -1,5 +1,5 @@
 -- What the parts of a module file and of a script make.
-use Rattle.std.specs.Prelude.{ℕ, List, [], ◌∷◌, Option, Some, None}
+use Rattle.std.specs.Prelude.{List, [], ◌∷◌, Option, Some, None}
 use Rattle.psm_token.specs.declared.place.Place.{Place}
 use Rattle.psm_tree.specs.Tests.{At}
 use Rattle.psm_tree.specs.ExprValues.{formed}
@@ -21,7 +21,6 @@ use Rattle.psm_tree.specs.declared.file.ColumnRuleForm.TheVariants as column_rul
 use Rattle.psm_tree.specs.declared.file.TableRule.{TableRule}
 use Rattle.psm_tree.specs.declared.file.TableRuleForm.{TableRuleForm}
 use Rattle.psm_tree.specs.declared.file.TableRuleForm.TheVariants as table_rules
-use Rattle.psm_tree.specs.declared.file.Module.{Module}
 use Rattle.psm_tree.specs.declared.file.Mode.{Mode}
 use Rattle.psm_tree.specs.declared.file.Mode.TheVariants as modes
 use Rattle.psm_tree.specs.declared.file.Parameter.{Parameter}

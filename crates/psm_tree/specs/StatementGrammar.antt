@@ -1,18 +1,16 @@
 -- The grammar of statements, blocks and declarations (ISO/IEC 9075-4:1996).
-use Rattle.std.specs.Prelude.{ℕ, Bool, true, false, List, [], ◌∷◌, Option, Some, None}
+use Rattle.std.specs.Prelude.{ℕ, Bool, false, List, [], ◌∷◌, Option, Some, None}
 use Rattle.psm_token.specs.declared.word.Word.TheVariants as w
 use Rattle.psm_token.specs.declared.sign.Sign.TheVariants as s
-use Rattle.psm_grammar.specs.Grammar.{Grammar, token, level, next, nothing, seq, or, ahead, many, image}
-use Rattle.psm_grammar.specs.Forms.{earlier, later, optional, behind_token, before_token}
-use Rattle.psm_tree.specs.Kinds.{code, kind}
+use Rattle.psm_grammar.specs.Grammar.{token, level, next, nothing, seq, or, ahead, many, image}
+use Rattle.psm_grammar.specs.Forms.{later, optional, behind_token, before_token}
+use Rattle.psm_tree.specs.Kinds.{code}
 use Rattle.psm_tree.specs.Tests.{At, word, sign, name, number, text, handler_kind, statement_item, condition_item, exception_word}
-use Rattle.psm_tree.specs.Parts.{Statements, Branches, Phase, Declarations, Cursors, Handlers, Part, Arguments, BeginRest, LoopRest, WhileRest, RepeatRest, ForRest, IfRest, CaseStatementRest, HandlerRest, BodyRest, DeclareRest, V, ForParts, HandlerParts, NamedRest, Declared, Handled, Body}
+use Rattle.psm_tree.specs.Parts.{Statements, Branches, Phase, Declarations, Cursors, Handlers, BeginRest, LoopRest, WhileRest, RepeatRest, ForRest, IfRest, CaseStatementRest, HandlerRest, BodyRest, DeclareRest, ForParts, HandlerParts, NamedRest, Declared, Handled, Body}
 use Rattle.psm_tree.specs.ExprValues.{pair, cons}
-use Rattle.psm_tree.specs.StatementValues.{state_of, ordered_query, order_of, order_column, yes, «no», named_condition, state_condition, signalled_of, statement_information, condition_information, number_of_condition, target_of_condition, statement_diagnostics, condition_diagnostics, values_of, inserted_values, inserted_query, assignment_of, where_true, where_current, set_of, call_of, return_of, leave_of, iterate_of, signal_of, resignal_of, diagnostics_of, select_into, selected, insert_of, into_table, Updating, updating, update_of, delete_of, open_of, fetch_of, close_of, simple_statement, unlabelled, labelled, if_of, case_statement_of, statements_of, branch_of, branches_of, case_alone_statement, case_over_statement, Block, Compound, Loop, While, Repeat, For, for_cursor, for_parts, for_query, undeclared, variables_of, one_variable, condition_of, cursor_of, read_only, updatable, named_rest, handler_parts, state_value, name_value, exception_value, warning_value, not_found_value, declared}
-use Rattle.psm_tree.specs.ExprGrammar.{Gram, closed, within_parens, target, names, names_in_parens, targets, next_names, data_type, arguments, expr, source, sources, picks, from_table, select}
+use Rattle.psm_tree.specs.StatementValues.{state_of, ordered_query, order_of, order_column, yes, «no», named_condition, state_condition, signalled_of, statement_information, condition_information, number_of_condition, target_of_condition, statement_diagnostics, condition_diagnostics, values_of, inserted_values, inserted_query, assignment_of, where_true, where_current, set_of, call_of, return_of, leave_of, iterate_of, signal_of, resignal_of, diagnostics_of, select_into, selected, insert_of, into_table, updating, update_of, delete_of, open_of, fetch_of, close_of, simple_statement, unlabelled, labelled, if_of, case_statement_of, statements_of, branch_of, branches_of, case_alone_statement, case_over_statement, Block, Compound, Loop, While, Repeat, For, for_cursor, for_parts, for_query, undeclared, variables_of, one_variable, condition_of, cursor_of, read_only, updatable, named_rest, handler_parts, state_value, name_value, exception_value, warning_value, not_found_value, declared}
+use Rattle.psm_tree.specs.ExprGrammar.{Gram, closed, target, names_in_parens, targets, next_names, data_type, arguments, expr, source, sources, picks, from_table, select}
 use Rattle.psm_tree.specs.declared.name.Identifier.{Identifier}
-use Rattle.psm_tree.specs.declared.name.Target.{Target}
-use Rattle.psm_tree.specs.declared.name.Names.{Names}
 use Rattle.psm_tree.specs.declared.name.Targets.{Targets}
 use Rattle.psm_tree.specs.declared.types.DataType.{DataType}
 use Rattle.psm_tree.specs.declared.types.State.{State}

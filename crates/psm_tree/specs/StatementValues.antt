@@ -22,13 +22,10 @@ use Rattle.psm_tree.specs.declared.statement.ForCursor.{ForCursor}
 use Rattle.psm_tree.specs.declared.statement.OrderedQuery.{OrderedQuery}
 use Rattle.psm_tree.specs.declared.statement.Order.{Order}
 use Rattle.psm_tree.specs.declared.statement.OrderColumn.{OrderColumn}
-use Rattle.psm_tree.specs.declared.statement.Declaration.{Declaration}
 use Rattle.psm_tree.specs.declared.statement.Declaration.TheVariants as declarations
-use Rattle.psm_tree.specs.declared.statement.CursorDeclaration.{CursorDeclaration}
 use Rattle.psm_tree.specs.declared.statement.Updatability.{Updatability}
 use Rattle.psm_tree.specs.declared.statement.Updatability.TheVariants as updatabilities
-use Rattle.psm_tree.specs.declared.statement.HandlerKind.{HandlerKind}
-use Rattle.psm_tree.specs.declared.statement.Handler.{Handler, roll-Handler}
+use Rattle.psm_tree.specs.declared.statement.Handler.{roll-Handler}
 use Rattle.psm_tree.specs.declared.statement.HandlerValue.{HandlerValue}
 use Rattle.psm_tree.specs.declared.statement.HandlerValue.TheVariants as handled
 use Rattle.psm_tree.specs.declared.statement.Condition.{Condition as SignalCondition}

@@ -1,5 +1,5 @@
 -- The tokens that productions name: which kinds, and what each of them says.
-use Rattle.std.specs.Prelude.{ℕ, ℤ, pos, List, [], ◌∷◌, Bool, true, false}
+use Rattle.std.specs.Prelude.{ℕ, pos, List, [], ◌∷◌}
 use Rattle.psm_num.specs.Num.{Num}
 use Rattle.psm_token.specs.declared.place.Place.{Place}
 use Rattle.psm_token.specs.declared.word.Word.{Word}

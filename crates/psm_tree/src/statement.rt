@@ -318,7 +318,7 @@ pub enum Simple {
         targets: Targets,
         table: Identifier,
         alias: Option<Identifier>,
-        condition: Option<Expr>,
+        condition: Option<Boxed<Expr>>,
     },
     Insert {
         place: Place,
