@@ -1,0 +1,2 @@
+pub mod ExprReaders
+pub mod Numbered

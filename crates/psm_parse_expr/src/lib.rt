@@ -1,0 +1,22 @@
+//! Expressions and queries (ISO/IEC 9075:1992, 6.1 to 8.12): what tokens spell one, and the tree of it.
+//!
+//! Each level of an expression has a function that answers what the reader of its production answers
+//! (`Gives`, psm_grammar). An operand without an operator around it is itself at the levels above.
+#![tactic(auto)]
+
+mod argument;
+mod case;
+mod condition;
+mod function;
+mod operator;
+mod predicate;
+mod primary;
+mod query;
+mod value;
+mod whole;
+
+pub use argument::{arguments, source, sources};
+pub use condition::expr;
+pub use query::{TableExpression, from_table, picks, select};
+pub use whole::{parse_expr, parse_picks, parse_target, parse_type};
+
