@@ -1,10 +1,11 @@
 -- The readers are exact: what each answers is the run of its production.
-use Rattle.std.proofs.Common.{◌≡◌, ℕ, ◌+◌, ◌-◌, ◌≤◌, [], List, length, drop, Result, Ok, Err, IfOk, refl, sym, subst, arith}
+use Rattle.std.proofs.Common.{◌≡◌, ℕ, ◌+◌, ◌-◌, ◌<◌, [], List, length, drop, take, Result, Ok, Err, IfOk, refl, sym, ap, subst, ◌∙◌, arith}
+use Rattle.std.proofs.lemmas.List.{take_all, length-drop}
 use Rattle.psm_token.specs.declared.token.Placed.{Placed}
 use Rattle.psm_grammar.specs.Grammar.{Spells}
 use Rattle.psm_token.specs.Listed.{Tokens}
 use Rattle.psm_grammar.specs.Language.{Lang}
-use Rattle.psm_grammar.specs.Readers.{Out}
+use Rattle.psm_grammar.specs.Readers.{Reader}
 use Rattle.psm_grammar.specs.Exact.{AtEnd, Holds}
 use Rattle.psm_grammar.specs.Gives.{Gives}
 use Rattle.psm_grammar.specs.declared.halt.Halt.{Halt}
@@ -34,10 +35,23 @@ target_exact levels depth e ts = subst (Holds (Spells productions depth target) 
 pub type_exact : (levels depth : ℕ) → depth + levels ≡ most_levels → (ts : List Placed) → Holds (Spells productions depth data_type) AtEnd most_levels ts (data_type_read ts)
 type_exact levels depth e ts = subst (Holds (Spells productions depth data_type) AtEnd most_levels ts) (sym (data_type_same levels ts)) (reads_run productions after height readable levels depth most_levels e data_type [] refl ts)
 
--- what is answered of the tokens from `at` on, by what their reader answers
-pub run_answered : {R X Y : Type 0} (L : Lang Placed Y) (view : X → Y) (tokens : Tokens) (at : ℕ) (o : Out Placed Y) → Holds L AtEnd most_levels (drop at tokens.tokens) o
-    → (value : R → X) (left : R → List Placed) (read : Result R Halt) → Gives (λ x. (view (value x), left x)) read o → IfOk read (λ x. length (left x) ≤ length tokens.tokens)
-    → (result : Result (X × ℕ) ParseFault) → Numbered (λ x. (value x, length (left x))) tokens read result → ReadsRun L view tokens at result
-run_answered L view tokens at o exact value left (Ok r) gives short result numbered = subst (ReadsRun L view tokens at) (sym numbered)
-    (run_read L view tokens at o exact (value r) (length tokens.tokens - length (left r)) (left r) gives (omega (arith, short)))
-run_answered L view tokens at o exact value left (Err e) gives short result numbered = subst (ReadsRun L view tokens at) (sym numbered) (run_halted L view tokens at o exact e gives)
+-- a slice from a token on
+pub from_token : (at : ℕ) (ts : List Placed) → take (length ts - at) (drop at ts) ≡ drop at ts
+from_token at ts = take_all (length ts - at) (drop at ts) (omega (arith, length-drop at ts))
+
+module _ {R X Y : Type 0} (L : Lang Placed Y) (view : X → Y) (reader : Reader Placed Y) (exact : (ts : List Placed) → Holds L AtEnd most_levels ts (reader ts)) (tokens : Tokens) (at : ℕ) where
+  -- what is answered of the tokens from `at` on, by what their reader answers
+  numbered_run : (value : R → X) (left : R → List Placed) (read : Result R Halt) → Gives (λ x. (view (value x), left x)) read (reader (drop at tokens.tokens)) → IfOk read (λ x. length (left x) < length (drop at tokens.tokens))
+      → (result : Result (X × ℕ) ParseFault) → Numbered (λ x. (value x, length (left x))) tokens read result → ReadsRun L view tokens at result
+  numbered_run value left (Ok r) gives takes result numbered = subst (ReadsRun L view tokens at) (sym numbered)
+      (run_read L view tokens at (reader (drop at tokens.tokens)) (exact (drop at tokens.tokens)) (value r) (length tokens.tokens - length (left r)) (left r) gives (omega (arith, takes, length-drop at tokens.tokens)))
+  numbered_run value left (Err e) gives takes result numbered = subst (ReadsRun L view tokens at) (sym numbered)
+      (run_halted L view tokens at (reader (drop at tokens.tokens)) (exact (drop at tokens.tokens)) e gives)
+
+  -- the same where the reader is given a slice
+  pub run_answered : (value : R → X) (left : R → List Placed) (items : List Placed) → items ≡ tokens.tokens → (read : Result R Halt) → Gives (λ x. (view (value x), left x)) read (reader (take (length items - at) (drop at items)))
+      → IfOk read (λ x. length (left x) < length (take (length items - at) (drop at items)))
+      → (result : Result (X × ℕ) ParseFault) → Numbered (λ x. (value x, length (left x))) tokens read result → ReadsRun L view tokens at result
+  run_answered value left items same read gives takes result numbered =
+      let slice : take (length items - at) (drop at items) ≡ drop at tokens.tokens = from_token at items ∙ ap (drop at) same in
+      numbered_run value left read (subst (λ ts. Gives (λ x. (view (value x), left x)) read (reader ts)) slice gives) (subst (λ ts. IfOk read (λ x. length (left x) < length ts)) slice takes) result numbered

@@ -70,11 +70,7 @@ pub(crate) fn exists(
 /// `CAST (source AS type)` (ISO/IEC 9075:1992, 6.10).
 #[cycle(expression)]
 #[tactic(auto, unfolding(crate::specs::ExprReaders::cast_read, crate::specs::ExprReaders::cast_rest_read))]
-pub(crate) fn cast(
-    alloc: Global,
-    tokens: &[Placed],
-    levels: u32,
-) -> Result<(Expr, &[Placed]), Halt>
+pub(crate) fn cast(alloc: Global, tokens: &[Placed], levels: u32) -> Result<(Expr, &[Placed]), Halt>
     ensures exact { Gives (λ x. (x.0, x.1.now)) result (cast_read levels tokens.now) }
     ensures takes { IfOk result (λ x. length x.1.now < length tokens.now) }
 {
@@ -239,11 +235,7 @@ pub(crate) fn for_length(
 /// `TRIM ([side FROM] text)` (ISO/IEC 9075:1992, 6.7).
 #[cycle(expression)]
 #[tactic(auto, unfolding(crate::specs::ExprReaders::trim_read, crate::specs::ExprReaders::trim_rest_read))]
-pub(crate) fn trim(
-    alloc: Global,
-    tokens: &[Placed],
-    levels: u32,
-) -> Result<(Expr, &[Placed]), Halt>
+pub(crate) fn trim(alloc: Global, tokens: &[Placed], levels: u32) -> Result<(Expr, &[Placed]), Halt>
     ensures exact { Gives (λ x. (x.0, x.1.now)) result (trim_read levels tokens.now) }
     ensures takes { IfOk result (λ x. length x.1.now < length tokens.now) }
 {

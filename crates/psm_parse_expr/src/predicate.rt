@@ -60,7 +60,11 @@ pub(crate) fn predicate(
 /// What a predicate asks of its value.
 #[cycle(expression)]
 #[tactic(auto, unfolding(crate::specs::ExprReaders::test_read))]
-pub(crate) fn predicate_test(alloc: Global, tokens: &[Placed], levels: u32) -> Result<(Test, &[Placed]), Halt>
+pub(crate) fn predicate_test(
+    alloc: Global,
+    tokens: &[Placed],
+    levels: u32,
+) -> Result<(Test, &[Placed]), Halt>
     ensures exact { Gives (λ x. (test_of x.0, x.1.now)) result (test_read levels tokens.now) }
     ensures takes { IfOk result (λ x. length x.1.now ≤ length tokens.now) }
 {

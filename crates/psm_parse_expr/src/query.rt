@@ -83,7 +83,11 @@ pub(crate) fn from_clause(
 /// The table of a query, its alias and its condition (ISO/IEC 9075:1992, 7.4 and 7.6).
 #[cycle(expression)]
 #[tactic(auto, unfolding(crate::specs::ExprReaders::from_table_read))]
-pub fn from_table(alloc: Global, tokens: &[Placed], levels: u32) -> Result<(TableExpression, &[Placed]), Halt>
+pub fn from_table(
+    alloc: Global,
+    tokens: &[Placed],
+    levels: u32,
+) -> Result<(TableExpression, &[Placed]), Halt>
     ensures exact { Gives (λ x. (from_of_table x.0, x.1.now)) result (from_table_read levels tokens.now) }
     ensures takes { IfOk result (λ x. length x.1.now < length tokens.now) }
 {

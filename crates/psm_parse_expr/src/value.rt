@@ -142,7 +142,14 @@ pub(crate) fn factor(
         let ((place, sign), rest) = expect_plus_minus(tokens)?;
         let (operand, rest) = primary(alloc, rest, levels)?;
         let operand = Boxed::new(alloc, operand)?;
-        return Ok((Expr::Signed { place, sign, operand }, rest));
+        return Ok((
+            Expr::Signed {
+                place,
+                sign,
+                operand,
+            },
+            rest,
+        ));
     }
     primary(alloc, tokens, levels)
 }

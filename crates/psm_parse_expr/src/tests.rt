@@ -1,0 +1,483 @@
+//! What is read of texts, and where a reader stops.
+ghost use Rattle.std.specs.Prelude.{◌<◌, length};
+
+use crate::show::{
+    put_alias, put_expr, put_list, put_name, put_optional, put_picks, put_select, put_target,
+    put_type,
+};
+use crate::{
+    arguments, expr, from_table, parse_expr, parse_picks, parse_target, parse_type, picks, select,
+    source, sources,
+};
+use psm_grammar::Halt;
+use psm_parse_token::fault_of;
+use psm_token::{Place, TokenList, tokens};
+use psm_tree::ParseFault;
+use std::alloc::{AllocError, Global};
+use std::test::Fail;
+
+fn put_place(alloc: Global, out: &mut String, place: Place) -> Result<(), AllocError> {
+    let text = format!(in alloc; "{}:{}", place.line, place.column)?;
+    out.push_str(text.as_str())
+}
+
+fn put_fault(alloc: Global, out: &mut String, fault: ParseFault) -> Result<(), AllocError> {
+    match fault {
+        ParseFault::Syntax(place) => {
+            out.push_str("syntax ")?;
+            put_place(alloc, out, place)
+        }
+        ParseFault::Deep(place) => {
+            out.push_str("deep ")?;
+            put_place(alloc, out, place)
+        }
+        ParseFault::Memory => Err(AllocError),
+    }
+}
+
+// What an expression is read as, and how many tokens are left behind it; or the fault.
+fn put_read(
+    alloc: Global,
+    out: &mut String,
+    list: &TokenList,
+    levels: u32,
+) -> Result<(), AllocError> {
+    match expr(alloc, list.items(), levels) {
+        Ok((expr, rest)) => {
+            put_expr(alloc, out, &expr, 10_000)?;
+            if !rest.is_empty() {
+                let left = format!(in alloc; " {} left", rest.len())?;
+                out.push_str(left.as_str())?;
+            }
+            Ok(())
+        }
+        Err(halt) => put_fault(alloc, out, fault_of(list, halt)),
+    }
+}
+
+fn read(alloc: Global, text: &str, levels: u32) -> Result<String, AllocError>
+    requires { length text.now < 4294967295 }
+{
+    let mut out = String::new(alloc);
+    match tokens(alloc, text.as_bytes()) {
+        Ok(list) => put_read(alloc, &mut out, &list, levels)?,
+        Err(_) => out.push_str("no tokens")?,
+    }
+    Ok(out)
+}
+
+#[test]
+fn an_expression_is_read_as_it_associates(rt: HostRuntime) -> Result<(), Fail> {
+    for (text, want) in [
+        ("1", "1e-0"),
+        ("'x'", "'x'"),
+        ("a", "A"),
+        ("a.b", "A.B"),
+        ("f()", "F()"),
+        ("f(1, null)", "F( 1e-0 null)"),
+        ("a - b - c", "(A - B - C)"),
+        ("a - (b - c)", "(A - [(B - C)])"),
+        ("a || b + c", "(A || B + C)"),
+        ("a / b * c", "(A / B * C)"),
+        ("a + b * c", "(A + (B * C))"),
+        ("-a * +b", "(-A * +B)"),
+        ("a or b and not c or d", "(or A (and B (not C)) D)"),
+        ("a = 1 and b <> 2", "(and (A = 1e-0) (B <> 2e-0))"),
+        ("a < 1", "(A < 1e-0)"),
+        ("a <= 1", "(A <= 1e-0)"),
+        ("a > 1", "(A > 1e-0)"),
+        ("a >= 1", "(A >= 1e-0)"),
+        ("a is null", "(A is null)"),
+        ("a is not null", "(A is not null)"),
+        (
+            "a between 1 and 2 and b",
+            "(and (A between 1e-0 and 2e-0) B)",
+        ),
+        ("a not between 1 and 2", "(A not between 1e-0 and 2e-0)"),
+        ("a in (1, 2, 3)", "(A in 1e-0, 2e-0, 3e-0)"),
+        ("a not in (1)", "(A not in 1e-0)"),
+        ("a like 'x'", "(A like 'x')"),
+        ("a like 'x' escape '!'", "(A like 'x' escape '!')"),
+        ("a not like 'x'", "(A not like 'x')"),
+        ("not a between 1 and 2", "(not (A between 1e-0 and 2e-0))"),
+        ("exists (select * from t)", "exists[select * from T]"),
+        ("( select * from t )", "[select * from T]"),
+        ("( selects )", "[SELECTS]"),
+        ("case when a then 1 end", "case( when A then 1e-0)"),
+        (
+            "case a when 1 then null when 2 then b else null end",
+            "case(A when 1e-0 then null when 2e-0 then B else null)",
+        ),
+        ("cast(null as varchar(3))", "cast(null as varchar)"),
+        ("cast(a as numeric(3, 1))", "cast(A as numeric)"),
+        ("coalesce(a)", "coalesce(A)"),
+        ("coalesce(null, a, b)", "coalesce(null, A, B)"),
+        ("nullif(a, b)", "nullif(A, B)"),
+        ("char_length(a)", "char_length(A)"),
+        ("character_length(a)", "char_length(A)"),
+        ("upper(a)", "upper(A)"),
+        ("lower(a)", "lower(A)"),
+        ("position('x' in a)", "position('x' in A)"),
+        ("substring(a from 2)", "substring(A from 2e-0)"),
+        (
+            "substring(a from 2 for 3)",
+            "substring(A from 2e-0 for 3e-0)",
+        ),
+        ("trim(leading from x)", "trim(leading X)"),
+        ("trim(trailing from x)", "trim(trailing X)"),
+        ("trim(both from x)", "trim(both X)"),
+        ("trim(leading || x)", "trim(both (LEADING || X))"),
+        ("trim(x)", "trim(both X)"),
+        ("a b", "A 1 left"),
+        ("a as b", "A 2 left"),
+        ("data.more", "DATA.MORE"),
+    ] {
+        assert!(rt; text.len() < 100);
+        let found = read(rt.alloc(), text, 100)?;
+        assert_eq!(rt; found.as_str(), want, "of {text}");
+    }
+    Ok(())
+}
+
+#[test]
+fn the_first_token_that_nothing_goes_on_with_is_told(rt: HostRuntime) -> Result<(), Fail> {
+    for (text, want) in [
+        ("", "syntax 1:1"),
+        ("then", "syntax 1:1"),
+        ("a +", "syntax 1:4"),
+        ("a + * b", "syntax 1:5"),
+        ("- - a", "syntax 1:3"),
+        ("not not a", "syntax 1:5"),
+        ("a and", "syntax 1:6"),
+        ("a or or b", "syntax 1:6"),
+        ("a =", "syntax 1:4"),
+        ("a = = b", "syntax 1:5"),
+        ("a = b = c", "(A = B) 2 left"),
+        ("a is a", "syntax 1:6"),
+        ("a is not not null", "syntax 1:10"),
+        ("a not null", "syntax 1:7"),
+        ("a not = b", "syntax 1:7"),
+        ("a between 1 or 2", "syntax 1:13"),
+        ("a between between", "syntax 1:11"),
+        ("a between 1 and", "syntax 1:16"),
+        ("a in 1", "syntax 1:6"),
+        ("a in in (1)", "syntax 1:6"),
+        ("a in ()", "syntax 1:7"),
+        ("a in (1,)", "syntax 1:9"),
+        ("a in (1 2)", "syntax 1:9"),
+        ("a like", "syntax 1:7"),
+        ("a like 'x' escape", "syntax 1:18"),
+        ("a like 'x' escape escape", "syntax 1:19"),
+        ("f(", "syntax 1:3"),
+        ("f(1", "syntax 1:4"),
+        ("f(1,)", "syntax 1:5"),
+        ("f(,1)", "syntax 1:3"),
+        ("a.", "syntax 1:3"),
+        ("a.then", "syntax 1:3"),
+        ("a.b.c", "A.B 2 left"),
+        ("()", "syntax 1:2"),
+        ("(a", "syntax 1:3"),
+        ("(a b)", "syntax 1:4"),
+        ("(select", "syntax 1:8"),
+        ("(select * from t", "syntax 1:17"),
+        ("(select select * from t)", "syntax 1:9"),
+        ("(* from t)", "syntax 1:2"),
+        ("exists a", "syntax 1:8"),
+        ("exists exists (select * from t)", "syntax 1:8"),
+        ("exists (a)", "syntax 1:9"),
+        ("case end", "syntax 1:6"),
+        ("case a end", "syntax 1:8"),
+        ("case when a end", "syntax 1:13"),
+        ("case when a then 1", "syntax 1:19"),
+        ("case when a then 1 else end", "syntax 1:25"),
+        ("case when when a then 1 end", "syntax 1:11"),
+        ("case case a when 1 then 1 end", "syntax 1:30"),
+        ("cast a as integer)", "syntax 1:6"),
+        ("cast(a integer)", "syntax 1:8"),
+        ("cast(a as a)", "syntax 1:11"),
+        ("cast cast(a as integer)", "syntax 1:6"),
+        ("coalesce()", "syntax 1:10"),
+        ("coalesce coalesce(a)", "syntax 1:10"),
+        ("nullif(a)", "syntax 1:9"),
+        ("nullif(null, a)", "syntax 1:8"),
+        ("nullif(a, b, c)", "syntax 1:12"),
+        ("nullif nullif(a, b)", "syntax 1:8"),
+        ("upper()", "syntax 1:7"),
+        ("upper upper(a)", "syntax 1:7"),
+        ("position(a)", "syntax 1:11"),
+        ("position(a in b in c)", "syntax 1:17"),
+        ("position position(a in b)", "syntax 1:10"),
+        ("substring(a)", "syntax 1:12"),
+        ("substring(a from)", "syntax 1:17"),
+        ("substring(a from 1 for)", "syntax 1:23"),
+        ("substring(a for 1)", "syntax 1:13"),
+        ("trim()", "syntax 1:6"),
+        ("trim(leading from)", "syntax 1:18"),
+        ("trim(leading x)", "syntax 1:14"),
+        ("trim(from x)", "syntax 1:6"),
+        ("trim trim(x)", "syntax 1:6"),
+    ] {
+        assert!(rt; text.len() < 100);
+        let found = read(rt.alloc(), text, 100)?;
+        assert_eq!(rt; found.as_str(), want, "of {text}");
+    }
+    Ok(())
+}
+
+#[test]
+fn a_level_too_many_is_told_at_its_token(rt: HostRuntime) -> Result<(), Fail> {
+    for (text, levels, want) in [
+        ("(a)", 1u32, "[A]"),
+        ("((a))", 1, "deep 1:2"),
+        ("(a)", 0, "deep 1:1"),
+        ("f(a)", 0, "deep 1:2"),
+        ("f(a)", 1, "F( A)"),
+        ("f(g(a))", 1, "deep 1:4"),
+        ("exists (select * from t)", 0, "deep 1:1"),
+        ("case when a then 1 end", 0, "deep 1:1"),
+        ("cast(a as integer)", 0, "deep 1:1"),
+        ("coalesce(a)", 0, "deep 1:1"),
+        ("nullif(a, b)", 0, "deep 1:1"),
+        ("upper(a)", 0, "deep 1:1"),
+        ("position(a in b)", 0, "deep 1:1"),
+        ("substring(a from 1)", 0, "deep 1:1"),
+        ("trim(a)", 0, "deep 1:1"),
+        ("trim(a)", 1, "trim(both A)"),
+        ("a in (1)", 0, "(A in 1e-0)"),
+    ] {
+        assert!(rt; text.len() < 100);
+        let found = read(rt.alloc(), text, levels)?;
+        assert_eq!(rt; found.as_str(), want, "of {text}");
+    }
+    Ok(())
+}
+
+#[test]
+fn a_hundred_parentheses_may_be_open(rt: HostRuntime) -> Result<(), Fail> {
+    let hundred =
+        "((((((((((((((((((((((((((((((((((((((((((((((((((((((((((((((((((((((((((((((((((((((((((((((((((((";
+    let text = format!(in rt.alloc(); "{hundred}a")?;
+    assert!(rt; text.len() < 200);
+    let found = read(rt.alloc(), text.as_str(), 100)?;
+    assert_eq!(rt; found.as_str(), "syntax 1:102");
+    let text = format!(in rt.alloc(); "{hundred}(a")?;
+    assert!(rt; text.len() < 200);
+    let found = read(rt.alloc(), text.as_str(), 100)?;
+    assert_eq!(rt; found.as_str(), "deep 1:101");
+    Ok(())
+}
+
+// What is read at the front of the tokens.
+#[derive(Clone, Copy)]
+enum Part {
+    Source,
+    Sources,
+    Arguments,
+    Picks,
+    Table,
+    Query,
+}
+
+// What a part is read as; and the number of tokens that are left.
+fn put_part(alloc: Global, out: &mut String, list: &TokenList, part: Part) -> Result<usize, Halt> {
+    let tokens = list.items();
+    match part {
+        Part::Source => {
+            let (read, rest) = source(alloc, tokens, 100)?;
+            put_expr(alloc, out, &read, 10_000)?;
+            Ok(rest.len())
+        }
+        Part::Sources => {
+            let ((first, others), rest) = sources(alloc, tokens, 100)?;
+            put_expr(alloc, out, &first, 10_000)?;
+            put_list(alloc, out, ", ", others.items(), 10_000)?;
+            Ok(rest.len())
+        }
+        Part::Arguments => {
+            let (read, rest) = arguments(alloc, tokens, 100)?;
+            put_list(alloc, out, " ", read.items(), 10_000)?;
+            Ok(rest.len())
+        }
+        Part::Picks => {
+            let (read, rest) = picks(alloc, tokens, 100)?;
+            put_picks(alloc, out, read.items(), 10_000)?;
+            Ok(rest.len())
+        }
+        Part::Table => {
+            let (read, rest) = from_table(alloc, tokens, 100)?;
+            put_name(out, &read.table)?;
+            put_alias(out, &read.alias)?;
+            put_optional(alloc, out, " where ", &read.condition, 10_000)?;
+            Ok(rest.len())
+        }
+        Part::Query => {
+            let (read, rest) = select(alloc, tokens, 100)?;
+            put_select(alloc, out, &read, 10_000)?;
+            Ok(rest.len())
+        }
+    }
+}
+
+fn part(alloc: Global, part: Part, text: &str) -> Result<String, AllocError>
+    requires { length text.now < 4294967295 }
+{
+    let mut out = String::new(alloc);
+    match tokens(alloc, text.as_bytes()) {
+        Ok(list) => match put_part(alloc, &mut out, &list, part) {
+            Ok(left) => {
+                let left = format!(in alloc; " {left} left")?;
+                out.push_str(left.as_str())?;
+            }
+            Err(halt) => put_fault(alloc, &mut out, fault_of(&list, halt))?,
+        },
+        Err(_) => out.push_str("no tokens")?,
+    }
+    Ok(out)
+}
+
+#[test]
+fn each_part_is_read_up_to_its_end(rt: HostRuntime) -> Result<(), Fail> {
+    for (of, text, want) in [
+        (Part::Source, "null", "null 0 left"),
+        (Part::Source, "a;", "A 1 left"),
+        (Part::Source, "then", "syntax 1:1"),
+        (Part::Sources, "a, null, 2)", "A, null, 2e-0 1 left"),
+        (Part::Sources, "a, )", "syntax 1:4"),
+        (Part::Arguments, ") + 1", " 2 left"),
+        (Part::Arguments, "a, null) + 1", " A null 2 left"),
+        (Part::Arguments, "a, null", "syntax 1:8"),
+        (Part::Picks, "* from t", "* 2 left"),
+        (Part::Picks, "a b, c from t", "A as B, C 2 left"),
+        (Part::Picks, "a,", "syntax 1:3"),
+        (Part::Table, "t order", "T 1 left"),
+        (Part::Table, "t u where a", "T as U where A 0 left"),
+        (Part::Table, "where a", "syntax 1:1"),
+    ] {
+        assert!(rt; text.len() < 100);
+        let found = part(rt.alloc(), of, text)?;
+        assert_eq!(rt; found.as_str(), want, "of {text}");
+    }
+    Ok(())
+}
+
+#[test]
+fn a_query_is_read_with_its_aliases(rt: HostRuntime) -> Result<(), Fail> {
+    for (text, want) in [
+        ("select * from t", "select * from T 0 left"),
+        ("select a, b from t", "select A, B from T 0 left"),
+        (
+            "select a b, c as d from t u",
+            "select A as B, C as D from T as U 0 left",
+        ),
+        (
+            "select a from t as u where a = 1",
+            "select A from T as U where (A = 1e-0) 0 left",
+        ),
+        ("select count(*) from t", "select count(*) from T 0 left"),
+        (
+            "select count(a) n from t",
+            "select count(A) as N from T 0 left",
+        ),
+        (
+            "select sum(a), avg(b), min(c), max(d) from t",
+            "select sum(A), avg(B), min(C), max(D) from T 0 left",
+        ),
+        ("select a from t order", "select A from T 1 left"),
+        ("selects a from t", "syntax 1:1"),
+        ("select from t", "syntax 1:8"),
+        ("select a, from t", "syntax 1:11"),
+        ("select * a from t", "syntax 1:10"),
+        ("select a b c from t", "syntax 1:12"),
+        ("select a from from t", "syntax 1:15"),
+        ("select a from t where", "syntax 1:22"),
+        ("select a from t as where", "syntax 1:20"),
+        ("select a where b", "syntax 1:10"),
+        ("select count() from t", "syntax 1:14"),
+        ("select sum(*) from t", "syntax 1:12"),
+        ("select sum a from t", "syntax 1:12"),
+    ] {
+        assert!(rt; text.len() < 100);
+        let found = part(rt.alloc(), Part::Query, text)?;
+        assert_eq!(rt; found.as_str(), want, "of {text}");
+    }
+    Ok(())
+}
+
+// What is read from a token on.
+#[derive(Clone, Copy)]
+enum Whole {
+    Expr,
+    Picks,
+    Target,
+    Type,
+}
+
+// What is read from a token on, and the number of the token behind it; or the fault.
+fn put_whole(
+    alloc: Global,
+    out: &mut String,
+    list: &TokenList,
+    (whole, at, depth): (Whole, usize, u32),
+) -> Result<(), AllocError> {
+    if at > list.items().len() || depth > 100 {
+        return out.push_str("no such token or level");
+    }
+    let next = match whole {
+        Whole::Expr => match parse_expr(alloc, list, at, depth) {
+            Ok((read, next)) => {
+                put_expr(alloc, out, &read, 10_000)?;
+                next
+            }
+            Err(fault) => return put_fault(alloc, out, fault),
+        },
+        Whole::Picks => match parse_picks(alloc, list, at, depth) {
+            Ok((read, next)) => {
+                put_picks(alloc, out, read.items(), 10_000)?;
+                next
+            }
+            Err(fault) => return put_fault(alloc, out, fault),
+        },
+        Whole::Target => match parse_target(alloc, list, at, depth) {
+            Ok((read, next)) => {
+                put_target(out, &read)?;
+                next
+            }
+            Err(fault) => return put_fault(alloc, out, fault),
+        },
+        Whole::Type => match parse_type(alloc, list, at, depth) {
+            Ok((read, next)) => {
+                put_type(out, &read)?;
+                next
+            }
+            Err(fault) => return put_fault(alloc, out, fault),
+        },
+    };
+    let next = format!(in alloc; " to {next}")?;
+    out.push_str(next.as_str())
+}
+
+#[test]
+fn a_run_is_read_from_its_token_on(rt: HostRuntime) -> Result<(), Fail> {
+    for (of, text, at, depth, want) in [
+        (Whole::Expr, "set x = a + b;", 3usize, 0u32, "(A + B) to 6"),
+        (Whole::Expr, "set x = a + ;", 3, 0, "syntax 1:13"),
+        (Whole::Expr, "set x =", 3, 0, "syntax 1:8"),
+        (Whole::Expr, "((a))", 0, 98, "[[A]] to 5"),
+        (Whole::Expr, "((a))", 0, 99, "deep 1:2"),
+        (Whole::Expr, "((a))", 0, 100, "deep 1:1"),
+        (Whole::Picks, "select a, b from t", 1, 0, "A, B to 4"),
+        (Whole::Picks, "select from t", 1, 0, "syntax 1:8"),
+        (Whole::Target, "set a.b = 1", 1, 0, "A.B to 4"),
+        (Whole::Target, "set 1", 1, 100, "syntax 1:5"),
+        (Whole::Type, "declare a numeric(3);", 2, 0, "numeric to 6"),
+        (Whole::Type, "declare a b", 2, 100, "syntax 1:11"),
+    ] {
+        assert!(rt; text.len() < 100);
+        let mut out = String::new(rt.alloc());
+        if let Ok(list) = tokens(rt.alloc(), text.as_bytes()) {
+            put_whole(rt.alloc(), &mut out, &list, (of, at, depth))?;
+        }
+        assert_eq!(rt; out.as_str(), want, "of {text}");
+    }
+    Ok(())
+}
