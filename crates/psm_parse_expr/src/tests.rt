@@ -1,10 +1,7 @@
 //! What is read of texts, and where a reader stops.
 ghost use Rattle.std.specs.Prelude.{◌<◌, length};
 
-use crate::show::{
-    put_alias, put_expr, put_list, put_name, put_optional, put_picks, put_select, put_target,
-    put_type,
-};
+use crate::show::Printer;
 use crate::{
     arguments, expr, from_table, parse_expr, parse_picks, parse_target, parse_type, picks, select,
     source, sources,
@@ -16,21 +13,17 @@ use psm_tree::ParseFault;
 use std::alloc::{AllocError, Global};
 use std::test::Fail;
 
-fn put_place(alloc: Global, out: &mut String, place: Place) -> Result<(), AllocError> {
-    let text = format!(in alloc; "{}:{}", place.line, place.column)?;
-    out.push_str(text.as_str())
+fn put_place(out: &mut Printer, kind: &str, place: Place) -> Result<(), AllocError> {
+    out.put(kind)?;
+    out.put_count(place.line as usize)?;
+    out.put(":")?;
+    out.put_count(place.column as usize)
 }
 
-fn put_fault(alloc: Global, out: &mut String, fault: ParseFault) -> Result<(), AllocError> {
+fn put_fault(out: &mut Printer, fault: ParseFault) -> Result<(), AllocError> {
     match fault {
-        ParseFault::Syntax(place) => {
-            out.push_str("syntax ")?;
-            put_place(alloc, out, place)
-        }
-        ParseFault::Deep(place) => {
-            out.push_str("deep ")?;
-            put_place(alloc, out, place)
-        }
+        ParseFault::Syntax(place) => put_place(out, "syntax ", place),
+        ParseFault::Deep(place) => put_place(out, "deep ", place),
         ParseFault::Memory => Err(AllocError),
     }
 }
@@ -38,30 +31,31 @@ fn put_fault(alloc: Global, out: &mut String, fault: ParseFault) -> Result<(), A
 // What an expression is read as, and how many tokens are left behind it; or the fault.
 fn put_read(
     alloc: Global,
-    out: &mut String,
+    out: &mut Printer,
     list: &TokenList,
     levels: u32,
 ) -> Result<(), AllocError> {
     match expr(alloc, list.items(), levels) {
         Ok((expr, rest)) => {
-            put_expr(alloc, out, &expr, 10_000)?;
+            out.put_expr(&expr, 10_000)?;
             if !rest.is_empty() {
-                let left = format!(in alloc; " {} left", rest.len())?;
-                out.push_str(left.as_str())?;
+                out.put(" ")?;
+                out.put_count(rest.len())?;
+                out.put(" left")?;
             }
             Ok(())
         }
-        Err(halt) => put_fault(alloc, out, fault_of(list, halt)),
+        Err(halt) => put_fault(out, fault_of(list, halt)),
     }
 }
 
-fn read(alloc: Global, text: &str, levels: u32) -> Result<String, AllocError>
+fn read(alloc: Global, text: &str, levels: u32) -> Result<Printer, AllocError>
     requires { length text.now < 4294967295 }
 {
-    let mut out = String::new(alloc);
+    let mut out = Printer::new(alloc);
     match tokens(alloc, text.as_bytes()) {
         Ok(list) => put_read(alloc, &mut out, &list, levels)?,
-        Err(_) => out.push_str("no tokens")?,
+        Err(_) => out.put("no tokens")?,
     }
     Ok(out)
 }
@@ -134,7 +128,7 @@ fn an_expression_is_read_as_it_associates(rt: HostRuntime) -> Result<(), Fail> {
     ] {
         assert!(rt; text.len() < 100);
         let found = read(rt.alloc(), text, 100)?;
-        assert_eq!(rt; found.as_str(), want, "of {text}");
+        assert_eq!(rt; found.text(), want, "of {text}");
     }
     Ok(())
 }
@@ -219,7 +213,7 @@ fn the_first_token_that_nothing_goes_on_with_is_told(rt: HostRuntime) -> Result<
     ] {
         assert!(rt; text.len() < 100);
         let found = read(rt.alloc(), text, 100)?;
-        assert_eq!(rt; found.as_str(), want, "of {text}");
+        assert_eq!(rt; found.text(), want, "of {text}");
     }
     Ok(())
 }
@@ -247,7 +241,7 @@ fn a_level_too_many_is_told_at_its_token(rt: HostRuntime) -> Result<(), Fail> {
     ] {
         assert!(rt; text.len() < 100);
         let found = read(rt.alloc(), text, levels)?;
-        assert_eq!(rt; found.as_str(), want, "of {text}");
+        assert_eq!(rt; found.text(), want, "of {text}");
     }
     Ok(())
 }
@@ -259,11 +253,11 @@ fn a_hundred_parentheses_may_be_open(rt: HostRuntime) -> Result<(), Fail> {
     let text = format!(in rt.alloc(); "{hundred}a")?;
     assert!(rt; text.len() < 200);
     let found = read(rt.alloc(), text.as_str(), 100)?;
-    assert_eq!(rt; found.as_str(), "syntax 1:102");
+    assert_eq!(rt; found.text(), "syntax 1:102");
     let text = format!(in rt.alloc(); "{hundred}(a")?;
     assert!(rt; text.len() < 200);
     let found = read(rt.alloc(), text.as_str(), 100)?;
-    assert_eq!(rt; found.as_str(), "deep 1:101");
+    assert_eq!(rt; found.text(), "deep 1:101");
     Ok(())
 }
 
@@ -279,58 +273,59 @@ enum Part {
 }
 
 // What a part is read as; and the number of tokens that are left.
-fn put_part(alloc: Global, out: &mut String, list: &TokenList, part: Part) -> Result<usize, Halt> {
+fn put_part(alloc: Global, out: &mut Printer, list: &TokenList, part: Part) -> Result<usize, Halt> {
     let tokens = list.items();
     match part {
         Part::Source => {
             let (read, rest) = source(alloc, tokens, 100)?;
-            put_expr(alloc, out, &read, 10_000)?;
+            out.put_expr(&read, 10_000)?;
             Ok(rest.len())
         }
         Part::Sources => {
             let ((first, others), rest) = sources(alloc, tokens, 100)?;
-            put_expr(alloc, out, &first, 10_000)?;
-            put_list(alloc, out, ", ", others.items(), 10_000)?;
+            out.put_expr(&first, 10_000)?;
+            out.put_list(", ", others.items(), 10_000)?;
             Ok(rest.len())
         }
         Part::Arguments => {
             let (read, rest) = arguments(alloc, tokens, 100)?;
-            put_list(alloc, out, " ", read.items(), 10_000)?;
+            out.put_list(" ", read.items(), 10_000)?;
             Ok(rest.len())
         }
         Part::Picks => {
             let (read, rest) = picks(alloc, tokens, 100)?;
-            put_picks(alloc, out, read.items(), 10_000)?;
+            out.put_picks(read.items(), 10_000)?;
             Ok(rest.len())
         }
         Part::Table => {
             let (read, rest) = from_table(alloc, tokens, 100)?;
-            put_name(out, &read.table)?;
-            put_alias(out, &read.alias)?;
-            put_optional(alloc, out, " where ", &read.condition, 10_000)?;
+            out.put_name(&read.table)?;
+            out.put_alias(&read.alias)?;
+            out.put_optional(" where ", &read.condition, 10_000)?;
             Ok(rest.len())
         }
         Part::Query => {
             let (read, rest) = select(alloc, tokens, 100)?;
-            put_select(alloc, out, &read, 10_000)?;
+            out.put_select(&read, 10_000)?;
             Ok(rest.len())
         }
     }
 }
 
-fn part(alloc: Global, part: Part, text: &str) -> Result<String, AllocError>
+fn part(alloc: Global, part: Part, text: &str) -> Result<Printer, AllocError>
     requires { length text.now < 4294967295 }
 {
-    let mut out = String::new(alloc);
+    let mut out = Printer::new(alloc);
     match tokens(alloc, text.as_bytes()) {
         Ok(list) => match put_part(alloc, &mut out, &list, part) {
             Ok(left) => {
-                let left = format!(in alloc; " {left} left")?;
-                out.push_str(left.as_str())?;
+                out.put(" ")?;
+                out.put_count(left)?;
+                out.put(" left")?;
             }
-            Err(halt) => put_fault(alloc, &mut out, fault_of(&list, halt))?,
+            Err(halt) => put_fault(&mut out, fault_of(&list, halt))?,
         },
-        Err(_) => out.push_str("no tokens")?,
+        Err(_) => out.put("no tokens")?,
     }
     Ok(out)
 }
@@ -355,7 +350,7 @@ fn each_part_is_read_up_to_its_end(rt: HostRuntime) -> Result<(), Fail> {
     ] {
         assert!(rt; text.len() < 100);
         let found = part(rt.alloc(), of, text)?;
-        assert_eq!(rt; found.as_str(), want, "of {text}");
+        assert_eq!(rt; found.text(), want, "of {text}");
     }
     Ok(())
 }
@@ -398,7 +393,7 @@ fn a_query_is_read_with_its_aliases(rt: HostRuntime) -> Result<(), Fail> {
     ] {
         assert!(rt; text.len() < 100);
         let found = part(rt.alloc(), Part::Query, text)?;
-        assert_eq!(rt; found.as_str(), want, "of {text}");
+        assert_eq!(rt; found.text(), want, "of {text}");
     }
     Ok(())
 }
@@ -415,45 +410,45 @@ enum Whole {
 // What is read from a token on, and the number of the token behind it; or the fault.
 fn put_whole(
     alloc: Global,
-    out: &mut String,
+    out: &mut Printer,
     list: &TokenList,
     (whole, at, depth): (Whole, usize, u32),
 ) -> Result<(), AllocError> {
     if at > list.items().len() || depth > 100 {
-        return out.push_str("no such token or level");
+        return out.put("no such token or level");
     }
     let next = match whole {
         Whole::Expr => match parse_expr(alloc, list, at, depth) {
             Ok((read, next)) => {
-                put_expr(alloc, out, &read, 10_000)?;
+                out.put_expr(&read, 10_000)?;
                 next
             }
-            Err(fault) => return put_fault(alloc, out, fault),
+            Err(fault) => return put_fault(out, fault),
         },
         Whole::Picks => match parse_picks(alloc, list, at, depth) {
             Ok((read, next)) => {
-                put_picks(alloc, out, read.items(), 10_000)?;
+                out.put_picks(read.items(), 10_000)?;
                 next
             }
-            Err(fault) => return put_fault(alloc, out, fault),
+            Err(fault) => return put_fault(out, fault),
         },
         Whole::Target => match parse_target(alloc, list, at, depth) {
             Ok((read, next)) => {
-                put_target(out, &read)?;
+                out.put_target(&read)?;
                 next
             }
-            Err(fault) => return put_fault(alloc, out, fault),
+            Err(fault) => return put_fault(out, fault),
         },
         Whole::Type => match parse_type(alloc, list, at, depth) {
             Ok((read, next)) => {
-                put_type(out, &read)?;
+                out.put_type(&read)?;
                 next
             }
-            Err(fault) => return put_fault(alloc, out, fault),
+            Err(fault) => return put_fault(out, fault),
         },
     };
-    let next = format!(in alloc; " to {next}")?;
-    out.push_str(next.as_str())
+    out.put(" to ")?;
+    out.put_count(next)
 }
 
 #[test]
@@ -473,11 +468,11 @@ fn a_run_is_read_from_its_token_on(rt: HostRuntime) -> Result<(), Fail> {
         (Whole::Type, "declare a b", 2, 100, "syntax 1:11"),
     ] {
         assert!(rt; text.len() < 100);
-        let mut out = String::new(rt.alloc());
+        let mut out = Printer::new(rt.alloc());
         if let Ok(list) = tokens(rt.alloc(), text.as_bytes()) {
             put_whole(rt.alloc(), &mut out, &list, (of, at, depth))?;
         }
-        assert_eq!(rt; out.as_str(), want, "of {text}");
+        assert_eq!(rt; out.text(), want, "of {text}");
     }
     Ok(())
 }
