@@ -2,6 +2,9 @@
 //!
 //! Each level of an expression has a function that answers what the reader of its production answers
 //! (`Gives`, psm_grammar). An operand without an operator around it is itself at the levels above.
+//!
+//! Each answers `Syntax` at the first token that no spelling goes on with, `Deep` at a token that opens a level
+//! where none is left, and `Memory`. A `Halt` holds the number of tokens that are left at the fault.
 #![tactic(auto)]
 
 mod argument;
