@@ -1,5 +1,5 @@
 //! What is read of texts, and where a reader stops.
-ghost use Rattle.std.specs.Prelude.{◌<◌, length};
+ghost use Rattle.std.specs.Prelude.{◌<◌, ◌≤◌, length};
 
 use crate::show::Printer;
 use crate::{
@@ -8,7 +8,7 @@ use crate::{
 };
 use psm_grammar::Halt;
 use psm_parse_token::fault_of;
-use psm_token::{Place, TokenList, tokens};
+use psm_token::{Place, Placed, TokenList, tokens};
 use psm_tree::ParseFault;
 use std::alloc::{AllocError, Global};
 use std::test::Fail;
@@ -272,47 +272,59 @@ enum Part {
     Query,
 }
 
-// What a part is read as; and the number of tokens that are left.
+// Each writes what a part is read as, and answers the number of tokens that are left.
+fn put_source(alloc: Global, out: &mut Printer, tokens: &[Placed]) -> Result<usize, Halt> {
+    let (read, rest) = source(alloc, tokens, 100)?;
+    out.put_expr(&read, 10_000)?;
+    Ok(rest.len())
+}
+
+fn put_sources(alloc: Global, out: &mut Printer, tokens: &[Placed]) -> Result<usize, Halt> {
+    let ((first, others), rest) = sources(alloc, tokens, 100)?;
+    out.put_expr(&first, 10_000)?;
+    out.put_list(", ", others.items(), 10_000)?;
+    Ok(rest.len())
+}
+
+fn put_arguments(alloc: Global, out: &mut Printer, tokens: &[Placed]) -> Result<usize, Halt> {
+    let (read, rest) = arguments(alloc, tokens, 100)?;
+    out.put_list(" ", read.items(), 10_000)?;
+    Ok(rest.len())
+}
+
+fn put_picks(alloc: Global, out: &mut Printer, tokens: &[Placed]) -> Result<usize, Halt> {
+    let (read, rest) = picks(alloc, tokens, 100)?;
+    out.put_picks(read.items(), 10_000)?;
+    Ok(rest.len())
+}
+
+fn put_table(alloc: Global, out: &mut Printer, tokens: &[Placed]) -> Result<usize, Halt> {
+    let (read, rest) = from_table(alloc, tokens, 100)?;
+    out.put_name(&read.table)?;
+    out.put_alias(&read.alias)?;
+    out.put_optional(" where ", &read.condition, 10_000)?;
+    Ok(rest.len())
+}
+
+fn put_query(alloc: Global, out: &mut Printer, tokens: &[Placed]) -> Result<usize, Halt> {
+    let (read, rest) = select(alloc, tokens, 100)?;
+    out.put_select(&read, 10_000)?;
+    Ok(rest.len())
+}
+
 fn put_part(alloc: Global, out: &mut Printer, list: &TokenList, part: Part) -> Result<usize, Halt> {
     let tokens = list.items();
     match part {
-        Part::Source => {
-            let (read, rest) = source(alloc, tokens, 100)?;
-            out.put_expr(&read, 10_000)?;
-            Ok(rest.len())
-        }
-        Part::Sources => {
-            let ((first, others), rest) = sources(alloc, tokens, 100)?;
-            out.put_expr(&first, 10_000)?;
-            out.put_list(", ", others.items(), 10_000)?;
-            Ok(rest.len())
-        }
-        Part::Arguments => {
-            let (read, rest) = arguments(alloc, tokens, 100)?;
-            out.put_list(" ", read.items(), 10_000)?;
-            Ok(rest.len())
-        }
-        Part::Picks => {
-            let (read, rest) = picks(alloc, tokens, 100)?;
-            out.put_picks(read.items(), 10_000)?;
-            Ok(rest.len())
-        }
-        Part::Table => {
-            let (read, rest) = from_table(alloc, tokens, 100)?;
-            out.put_name(&read.table)?;
-            out.put_alias(&read.alias)?;
-            out.put_optional(" where ", &read.condition, 10_000)?;
-            Ok(rest.len())
-        }
-        Part::Query => {
-            let (read, rest) = select(alloc, tokens, 100)?;
-            out.put_select(&read, 10_000)?;
-            Ok(rest.len())
-        }
+        Part::Source => put_source(alloc, out, tokens),
+        Part::Sources => put_sources(alloc, out, tokens),
+        Part::Arguments => put_arguments(alloc, out, tokens),
+        Part::Picks => put_picks(alloc, out, tokens),
+        Part::Table => put_table(alloc, out, tokens),
+        Part::Query => put_query(alloc, out, tokens),
     }
 }
 
-fn part(alloc: Global, part: Part, text: &str) -> Result<Printer, AllocError>
+fn read_part(alloc: Global, part: Part, text: &str) -> Result<Printer, AllocError>
     requires { length text.now < 4294967295 }
 {
     let mut out = Printer::new(alloc);
@@ -349,7 +361,7 @@ fn each_part_is_read_up_to_its_end(rt: HostRuntime) -> Result<(), Fail> {
         (Part::Table, "where a", "syntax 1:1"),
     ] {
         assert!(rt; text.len() < 100);
-        let found = part(rt.alloc(), of, text)?;
+        let found = read_part(rt.alloc(), of, text)?;
         assert_eq!(rt; found.text(), want, "of {text}");
     }
     Ok(())
@@ -392,7 +404,7 @@ fn a_query_is_read_with_its_aliases(rt: HostRuntime) -> Result<(), Fail> {
         ("select sum a from t", "syntax 1:12"),
     ] {
         assert!(rt; text.len() < 100);
-        let found = part(rt.alloc(), Part::Query, text)?;
+        let found = read_part(rt.alloc(), Part::Query, text)?;
         assert_eq!(rt; found.text(), want, "of {text}");
     }
     Ok(())
@@ -408,6 +420,86 @@ enum Whole {
 }
 
 // What is read from a token on, and the number of the token behind it; or the fault.
+fn put_expr_run(
+    alloc: Global,
+    out: &mut Printer,
+    list: &TokenList,
+    at: usize,
+    depth: u32,
+) -> Result<(), AllocError>
+    requires within { at ≤ length list.now.tokens }
+    requires shallow { depth ≤ 100 }
+{
+    match parse_expr(alloc, list, at, depth) {
+        Ok((read, next)) => {
+            out.put_expr(&read, 10_000)?;
+            out.put(" to ")?;
+            out.put_count(next)
+        }
+        Err(fault) => put_fault(out, fault),
+    }
+}
+
+fn put_picks_run(
+    alloc: Global,
+    out: &mut Printer,
+    list: &TokenList,
+    at: usize,
+    depth: u32,
+) -> Result<(), AllocError>
+    requires within { at ≤ length list.now.tokens }
+    requires shallow { depth ≤ 100 }
+{
+    match parse_picks(alloc, list, at, depth) {
+        Ok((read, next)) => {
+            out.put_picks(read.items(), 10_000)?;
+            out.put(" to ")?;
+            out.put_count(next)
+        }
+        Err(fault) => put_fault(out, fault),
+    }
+}
+
+fn put_target_run(
+    alloc: Global,
+    out: &mut Printer,
+    list: &TokenList,
+    at: usize,
+    depth: u32,
+) -> Result<(), AllocError>
+    requires within { at ≤ length list.now.tokens }
+    requires shallow { depth ≤ 100 }
+{
+    match parse_target(alloc, list, at, depth) {
+        Ok((read, next)) => {
+            out.put_target(&read)?;
+            out.put(" to ")?;
+            out.put_count(next)
+        }
+        Err(fault) => put_fault(out, fault),
+    }
+}
+
+fn put_type_run(
+    alloc: Global,
+    out: &mut Printer,
+    list: &TokenList,
+    at: usize,
+    depth: u32,
+) -> Result<(), AllocError>
+    requires within { at ≤ length list.now.tokens }
+    requires shallow { depth ≤ 100 }
+{
+    match parse_type(alloc, list, at, depth) {
+        Ok((read, next)) => {
+            out.put_type(&read)?;
+            out.put(" to ")?;
+            out.put_count(next)
+        }
+        Err(fault) => put_fault(out, fault),
+    }
+}
+
 fn put_whole(
     alloc: Global,
     out: &mut Printer,
@@ -417,38 +509,12 @@ fn put_whole(
     if at > list.items().len() || depth > 100 {
         return out.put("no such token or level");
     }
-    let next = match whole {
-        Whole::Expr => match parse_expr(alloc, list, at, depth) {
-            Ok((read, next)) => {
-                out.put_expr(&read, 10_000)?;
-                next
-            }
-            Err(fault) => return put_fault(out, fault),
-        },
-        Whole::Picks => match parse_picks(alloc, list, at, depth) {
-            Ok((read, next)) => {
-                out.put_picks(read.items(), 10_000)?;
-                next
-            }
-            Err(fault) => return put_fault(out, fault),
-        },
-        Whole::Target => match parse_target(alloc, list, at, depth) {
-            Ok((read, next)) => {
-                out.put_target(&read)?;
-                next
-            }
-            Err(fault) => return put_fault(out, fault),
-        },
-        Whole::Type => match parse_type(alloc, list, at, depth) {
-            Ok((read, next)) => {
-                out.put_type(&read)?;
-                next
-            }
-            Err(fault) => return put_fault(out, fault),
-        },
-    };
-    out.put(" to ")?;
-    out.put_count(next)
+    match whole {
+        Whole::Expr => put_expr_run(alloc, out, list, at, depth),
+        Whole::Picks => put_picks_run(alloc, out, list, at, depth),
+        Whole::Target => put_target_run(alloc, out, list, at, depth),
+        Whole::Type => put_type_run(alloc, out, list, at, depth),
+    }
 }
 
 #[test]
