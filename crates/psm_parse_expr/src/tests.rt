@@ -11,6 +11,7 @@ use psm_parse_token::fault_of;
 use psm_token::{Place, Placed, TokenList, tokens};
 use psm_tree::ParseFault;
 use std::alloc::{AllocError, Global};
+use std::process::Abort;
 use std::test::Fail;
 
 fn put_place(out: &mut Printer, kind: &str, place: Place) -> Result<(), AllocError> {
@@ -49,20 +50,35 @@ fn put_read(
     }
 }
 
-fn read(alloc: Global, text: &str, levels: u32) -> Result<Printer, AllocError>
-    requires { length text.now < 4294967295 }
-{
-    let mut out = Printer::new(alloc);
-    match tokens(alloc, text.as_bytes()) {
-        Ok(list) => put_read(alloc, &mut out, &list, levels)?,
-        Err(_) => out.put("no tokens")?,
+fn token_list(alloc: Global, text: &str) -> Result<TokenList, AllocError> {
+    if text.len() >= 4_294_967_295 {
+        return Err(AllocError);
     }
+    match tokens(alloc, text.as_bytes()) {
+        Ok(list) => Ok(list),
+        Err(_) => Err(AllocError),
+    }
+}
+
+fn read(alloc: Global, text: &str, levels: u32) -> Result<Printer, AllocError> {
+    let list = token_list(alloc, text)?;
+    let mut out = Printer::new(alloc);
+    put_read(alloc, &mut out, &list, levels)?;
     Ok(out)
 }
 
+// Each expression is read as its row says.
+fn all_read(rt: &impl Abort, alloc: Global, rows: &[(&str, &str)]) -> Result<(), Fail> {
+    for (text, want) in rows {
+        let found = read(alloc, text, 100)?;
+        assert_eq!(rt; found.text(), *want, "of {text}");
+    }
+    Ok(())
+}
+
 #[test]
-fn an_expression_is_read_as_it_associates(rt: HostRuntime) -> Result<(), Fail> {
-    for (text, want) in [
+fn operators_associate_to_the_left(rt: HostRuntime) -> Result<(), Fail> {
+    let rows = [
         ("1", "1e-0"),
         ("'x'", "'x'"),
         ("a", "A"),
@@ -77,6 +93,13 @@ fn an_expression_is_read_as_it_associates(rt: HostRuntime) -> Result<(), Fail> {
         ("-a * +b", "(-A * +B)"),
         ("a or b and not c or d", "(or A (and B (not C)) D)"),
         ("a = 1 and b <> 2", "(and (A = 1e-0) (B <> 2e-0))"),
+    ];
+    all_read(&rt, rt.alloc(), &rows)
+}
+
+#[test]
+fn a_predicate_is_read_with_its_parts(rt: HostRuntime) -> Result<(), Fail> {
+    let rows = [
         ("a < 1", "(A < 1e-0)"),
         ("a <= 1", "(A <= 1e-0)"),
         ("a > 1", "(A > 1e-0)"),
@@ -94,6 +117,13 @@ fn an_expression_is_read_as_it_associates(rt: HostRuntime) -> Result<(), Fail> {
         ("a like 'x' escape '!'", "(A like 'x' escape '!')"),
         ("a not like 'x'", "(A not like 'x')"),
         ("not a between 1 and 2", "(not (A between 1e-0 and 2e-0))"),
+    ];
+    all_read(&rt, rt.alloc(), &rows)
+}
+
+#[test]
+fn a_primary_is_read_with_its_parts(rt: HostRuntime) -> Result<(), Fail> {
+    let rows = [
         ("exists (select * from t)", "exists[select * from T]"),
         ("( select * from t )", "[select * from T]"),
         ("( selects )", "[SELECTS]"),
@@ -107,6 +137,13 @@ fn an_expression_is_read_as_it_associates(rt: HostRuntime) -> Result<(), Fail> {
         ("coalesce(a)", "coalesce(A)"),
         ("coalesce(null, a, b)", "coalesce(null, A, B)"),
         ("nullif(a, b)", "nullif(A, B)"),
+    ];
+    all_read(&rt, rt.alloc(), &rows)
+}
+
+#[test]
+fn a_function_is_read_with_its_parts(rt: HostRuntime) -> Result<(), Fail> {
+    let rows = [
         ("char_length(a)", "char_length(A)"),
         ("character_length(a)", "char_length(A)"),
         ("upper(a)", "upper(A)"),
@@ -125,17 +162,13 @@ fn an_expression_is_read_as_it_associates(rt: HostRuntime) -> Result<(), Fail> {
         ("a b", "A 1 left"),
         ("a as b", "A 2 left"),
         ("data.more", "DATA.MORE"),
-    ] {
-        assert!(rt; text.len() < 100);
-        let found = read(rt.alloc(), text, 100)?;
-        assert_eq!(rt; found.text(), want, "of {text}");
-    }
-    Ok(())
+    ];
+    all_read(&rt, rt.alloc(), &rows)
 }
 
 #[test]
-fn the_first_token_that_nothing_goes_on_with_is_told(rt: HostRuntime) -> Result<(), Fail> {
-    for (text, want) in [
+fn a_fault_of_operators_is_told_at_its_token(rt: HostRuntime) -> Result<(), Fail> {
+    let rows = [
         ("", "syntax 1:1"),
         ("then", "syntax 1:1"),
         ("a +", "syntax 1:4"),
@@ -151,6 +184,13 @@ fn the_first_token_that_nothing_goes_on_with_is_told(rt: HostRuntime) -> Result<
         ("a is not not null", "syntax 1:10"),
         ("a not null", "syntax 1:7"),
         ("a not = b", "syntax 1:7"),
+    ];
+    all_read(&rt, rt.alloc(), &rows)
+}
+
+#[test]
+fn a_fault_of_a_list_is_told_at_its_token(rt: HostRuntime) -> Result<(), Fail> {
+    let rows = [
         ("a between 1 or 2", "syntax 1:13"),
         ("a between between", "syntax 1:11"),
         ("a between 1 and", "syntax 1:16"),
@@ -166,6 +206,13 @@ fn the_first_token_that_nothing_goes_on_with_is_told(rt: HostRuntime) -> Result<
         ("f(1", "syntax 1:4"),
         ("f(1,)", "syntax 1:5"),
         ("f(,1)", "syntax 1:3"),
+    ];
+    all_read(&rt, rt.alloc(), &rows)
+}
+
+#[test]
+fn a_fault_in_parentheses_is_told_at_its_token(rt: HostRuntime) -> Result<(), Fail> {
+    let rows = [
         ("a.", "syntax 1:3"),
         ("a.then", "syntax 1:3"),
         ("a.b.c", "A.B 2 left"),
@@ -179,6 +226,13 @@ fn the_first_token_that_nothing_goes_on_with_is_told(rt: HostRuntime) -> Result<
         ("exists a", "syntax 1:8"),
         ("exists exists (select * from t)", "syntax 1:8"),
         ("exists (a)", "syntax 1:9"),
+    ];
+    all_read(&rt, rt.alloc(), &rows)
+}
+
+#[test]
+fn a_fault_of_case_or_cast_is_told_at_its_token(rt: HostRuntime) -> Result<(), Fail> {
+    let rows = [
         ("case end", "syntax 1:6"),
         ("case a end", "syntax 1:8"),
         ("case when a end", "syntax 1:13"),
@@ -192,6 +246,13 @@ fn the_first_token_that_nothing_goes_on_with_is_told(rt: HostRuntime) -> Result<
         ("cast cast(a as integer)", "syntax 1:6"),
         ("coalesce()", "syntax 1:10"),
         ("coalesce coalesce(a)", "syntax 1:10"),
+    ];
+    all_read(&rt, rt.alloc(), &rows)
+}
+
+#[test]
+fn a_fault_of_a_function_is_told_at_its_token(rt: HostRuntime) -> Result<(), Fail> {
+    let rows = [
         ("nullif(a)", "syntax 1:9"),
         ("nullif(null, a)", "syntax 1:8"),
         ("nullif(a, b, c)", "syntax 1:12"),
@@ -210,12 +271,8 @@ fn the_first_token_that_nothing_goes_on_with_is_told(rt: HostRuntime) -> Result<
         ("trim(leading x)", "syntax 1:14"),
         ("trim(from x)", "syntax 1:6"),
         ("trim trim(x)", "syntax 1:6"),
-    ] {
-        assert!(rt; text.len() < 100);
-        let found = read(rt.alloc(), text, 100)?;
-        assert_eq!(rt; found.text(), want, "of {text}");
-    }
-    Ok(())
+    ];
+    all_read(&rt, rt.alloc(), &rows)
 }
 
 #[test]
@@ -239,7 +296,6 @@ fn a_level_too_many_is_told_at_its_token(rt: HostRuntime) -> Result<(), Fail> {
         ("trim(a)", 1, "trim(both A)"),
         ("a in (1)", 0, "(A in 1e-0)"),
     ] {
-        assert!(rt; text.len() < 100);
         let found = read(rt.alloc(), text, levels)?;
         assert_eq!(rt; found.text(), want, "of {text}");
     }
@@ -251,11 +307,9 @@ fn a_hundred_parentheses_may_be_open(rt: HostRuntime) -> Result<(), Fail> {
     let hundred =
         "((((((((((((((((((((((((((((((((((((((((((((((((((((((((((((((((((((((((((((((((((((((((((((((((((((";
     let text = format!(in rt.alloc(); "{hundred}a")?;
-    assert!(rt; text.len() < 200);
     let found = read(rt.alloc(), text.as_str(), 100)?;
     assert_eq!(rt; found.text(), "syntax 1:102");
     let text = format!(in rt.alloc(); "{hundred}(a")?;
-    assert!(rt; text.len() < 200);
     let found = read(rt.alloc(), text.as_str(), 100)?;
     assert_eq!(rt; found.text(), "deep 1:101");
     Ok(())
@@ -324,27 +378,32 @@ fn put_part(alloc: Global, out: &mut Printer, list: &TokenList, part: Part) -> R
     }
 }
 
-fn read_part(alloc: Global, part: Part, text: &str) -> Result<Printer, AllocError>
-    requires { length text.now < 4294967295 }
-{
+fn read_part(alloc: Global, part: Part, text: &str) -> Result<Printer, AllocError> {
+    let list = token_list(alloc, text)?;
     let mut out = Printer::new(alloc);
-    match tokens(alloc, text.as_bytes()) {
-        Ok(list) => match put_part(alloc, &mut out, &list, part) {
-            Ok(left) => {
-                out.put(" ")?;
-                out.put_count(left)?;
-                out.put(" left")?;
-            }
-            Err(halt) => put_fault(&mut out, fault_of(&list, halt))?,
-        },
-        Err(_) => out.put("no tokens")?,
+    match put_part(alloc, &mut out, &list, part) {
+        Ok(left) => {
+            out.put(" ")?;
+            out.put_count(left)?;
+            out.put(" left")?;
+        }
+        Err(halt) => put_fault(&mut out, fault_of(&list, halt))?,
     }
     Ok(out)
 }
 
+// Each part is read as its row says.
+fn all_parts_read(rt: &impl Abort, alloc: Global, rows: &[(Part, &str, &str)]) -> Result<(), Fail> {
+    for (part, text, want) in rows {
+        let found = read_part(alloc, *part, text)?;
+        assert_eq!(rt; found.text(), *want, "of {text}");
+    }
+    Ok(())
+}
+
 #[test]
 fn each_part_is_read_up_to_its_end(rt: HostRuntime) -> Result<(), Fail> {
-    for (of, text, want) in [
+    let rows = [
         (Part::Source, "null", "null 0 left"),
         (Part::Source, "a;", "A 1 left"),
         (Part::Source, "then", "syntax 1:1"),
@@ -359,55 +418,70 @@ fn each_part_is_read_up_to_its_end(rt: HostRuntime) -> Result<(), Fail> {
         (Part::Table, "t order", "T 1 left"),
         (Part::Table, "t u where a", "T as U where A 0 left"),
         (Part::Table, "where a", "syntax 1:1"),
-    ] {
-        assert!(rt; text.len() < 100);
-        let found = read_part(rt.alloc(), of, text)?;
-        assert_eq!(rt; found.text(), want, "of {text}");
-    }
-    Ok(())
+    ];
+    all_parts_read(&rt, rt.alloc(), &rows)
 }
 
 #[test]
 fn a_query_is_read_with_its_aliases(rt: HostRuntime) -> Result<(), Fail> {
-    for (text, want) in [
-        ("select * from t", "select * from T 0 left"),
-        ("select a, b from t", "select A, B from T 0 left"),
+    let rows = [
+        (Part::Query, "select * from t", "select * from T 0 left"),
         (
+            Part::Query,
+            "select a, b from t",
+            "select A, B from T 0 left",
+        ),
+        (
+            Part::Query,
             "select a b, c as d from t u",
             "select A as B, C as D from T as U 0 left",
         ),
         (
+            Part::Query,
             "select a from t as u where a = 1",
             "select A from T as U where (A = 1e-0) 0 left",
         ),
-        ("select count(*) from t", "select count(*) from T 0 left"),
         (
+            Part::Query,
+            "select count(*) from t",
+            "select count(*) from T 0 left",
+        ),
+        (
+            Part::Query,
             "select count(a) n from t",
             "select count(A) as N from T 0 left",
         ),
         (
+            Part::Query,
             "select sum(a), avg(b), min(c), max(d) from t",
             "select sum(A), avg(B), min(C), max(D) from T 0 left",
         ),
-        ("select a from t order", "select A from T 1 left"),
-        ("selects a from t", "syntax 1:1"),
-        ("select from t", "syntax 1:8"),
-        ("select a, from t", "syntax 1:11"),
-        ("select * a from t", "syntax 1:10"),
-        ("select a b c from t", "syntax 1:12"),
-        ("select a from from t", "syntax 1:15"),
-        ("select a from t where", "syntax 1:22"),
-        ("select a from t as where", "syntax 1:20"),
-        ("select a where b", "syntax 1:10"),
-        ("select count() from t", "syntax 1:14"),
-        ("select sum(*) from t", "syntax 1:12"),
-        ("select sum a from t", "syntax 1:12"),
-    ] {
-        assert!(rt; text.len() < 100);
-        let found = read_part(rt.alloc(), Part::Query, text)?;
-        assert_eq!(rt; found.text(), want, "of {text}");
-    }
-    Ok(())
+        (
+            Part::Query,
+            "select a from t order",
+            "select A from T 1 left",
+        ),
+    ];
+    all_parts_read(&rt, rt.alloc(), &rows)
+}
+
+#[test]
+fn a_fault_of_a_query_is_told_at_its_token(rt: HostRuntime) -> Result<(), Fail> {
+    let rows = [
+        (Part::Query, "selects a from t", "syntax 1:1"),
+        (Part::Query, "select from t", "syntax 1:8"),
+        (Part::Query, "select a, from t", "syntax 1:11"),
+        (Part::Query, "select * a from t", "syntax 1:10"),
+        (Part::Query, "select a b c from t", "syntax 1:12"),
+        (Part::Query, "select a from from t", "syntax 1:15"),
+        (Part::Query, "select a from t where", "syntax 1:22"),
+        (Part::Query, "select a from t as where", "syntax 1:20"),
+        (Part::Query, "select a where b", "syntax 1:10"),
+        (Part::Query, "select count() from t", "syntax 1:14"),
+        (Part::Query, "select sum(*) from t", "syntax 1:12"),
+        (Part::Query, "select sum a from t", "syntax 1:12"),
+    ];
+    all_parts_read(&rt, rt.alloc(), &rows)
 }
 
 // What is read from a token on.
@@ -533,11 +607,9 @@ fn a_run_is_read_from_its_token_on(rt: HostRuntime) -> Result<(), Fail> {
         (Whole::Type, "declare a numeric(3);", 2, 0, "numeric to 6"),
         (Whole::Type, "declare a b", 2, 100, "syntax 1:11"),
     ] {
-        assert!(rt; text.len() < 100);
+        let list = token_list(rt.alloc(), text)?;
         let mut out = Printer::new(rt.alloc());
-        if let Ok(list) = tokens(rt.alloc(), text.as_bytes()) {
-            put_whole(rt.alloc(), &mut out, &list, (of, at, depth))?;
-        }
+        put_whole(rt.alloc(), &mut out, &list, (of, at, depth))?;
         assert_eq!(rt; out.text(), want, "of {text}");
     }
     Ok(())
