@@ -17,6 +17,3 @@ mod rules;
 mod table;
 
 pub use parse::{parse_file, parse_script};
-
-#[cfg(test)]
-mod tests;
