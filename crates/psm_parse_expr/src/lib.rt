@@ -22,8 +22,3 @@ pub use argument::{arguments, source, sources};
 pub use condition::expr;
 pub use query::{TableExpression, from_table, picks, select};
 pub use whole::{parse_expr, parse_picks, parse_target, parse_type};
-
-#[cfg(test)]
-mod show;
-#[cfg(test)]
-mod tests;
