@@ -28,13 +28,13 @@ fn type_told(alloc: Global, text: &str) -> Result<String, AllocError> {
     match data_type(list.items()) {
         Ok((kind, rest)) => {
             let left = rest.len();
-            match kind.form {
+            match &kind.form {
                 TypeForm::SmallInt => format!(in alloc; "SMALLINT, {left} left"),
                 TypeForm::Integer => format!(in alloc; "INTEGER, {left} left"),
                 TypeForm::Numeric(None) => format!(in alloc; "NUMERIC, {left} left"),
                 TypeForm::Numeric(Some(numbers)) => {
                     let precision = numbers.precision.coef();
-                    match numbers.scale {
+                    match &numbers.scale {
                         None => format!(in alloc; "NUMERIC {precision}, {left} left"),
                         Some(scale) => {
                             let scale = scale.coef();
