@@ -1,0 +1,1 @@
+CALL raise_price(100, -5, ?); -- one command
