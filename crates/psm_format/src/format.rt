@@ -20,6 +20,7 @@ pub enum FormatFault {
 }
 
 impl From<AllocError> for FormatFault {
+    ghost use Rattle.std.specs.Prelude.{◌≡◌};
     ghost use Rattle.psm_format.specs.declared.format.FormatFault.TheVariants.{Memory};
 
     ghost from_gives = { λ _ e. e ≡ Memory };
