@@ -1,0 +1,2 @@
+pub mod SimpleReaders
+pub mod StatementReaders
