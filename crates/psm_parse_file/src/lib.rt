@@ -1,6 +1,19 @@
-//! Stand-ins with the contracts of the parsers of module files and scripts.
+//! Module files and scripts from their tokens.
+//!
+//! Each function answers what the reader of its production answers (`Gives`, psm_grammar), and takes a
+//! token where it answers a value. The two public functions say what the grammar says of all the tokens.
 #![tactic(auto)]
 
-mod stub;
+mod call;
+mod command;
+mod insert;
+mod module_file;
+mod notes;
+mod optional;
+mod parameters;
+mod parse;
+mod routine;
+mod rules;
+mod table;
 
-pub use stub::{parse_file, parse_script};
+pub use parse::{parse_file, parse_script};

@@ -1,0 +1,5 @@
+pub mod PartReaders
+pub mod FileReaders
+pub mod Bodies
+pub mod Creating
+pub mod Whole
