@@ -17,3 +17,6 @@ mod rules;
 mod table;
 
 pub use parse::{parse_file, parse_script};
+
+#[cfg(test)]
+mod tests;
