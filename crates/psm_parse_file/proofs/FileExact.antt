@@ -1,5 +1,5 @@
 -- What the readers of whole files and scripts answer is exact.
-use Rattle.std.proofs.Common.{◌≡◌, List, refl, sym, subst}
+use Rattle.std.proofs.Common.{List, refl, sym, subst}
 use Rattle.psm_token.specs.declared.token.Placed.{Placed}
 use Rattle.psm_grammar.specs.Grammar.{Spells}
 use Rattle.psm_grammar.specs.Exact.{AtEnd, Holds}

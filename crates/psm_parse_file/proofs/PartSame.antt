@@ -1,5 +1,5 @@
 -- The readers of parts are those of the grammar.
-use Rattle.std.proofs.Common.{◌≡◌, ℕ, List, [], ◌∷◌, length, Option, Some, None, Ok}
+use Rattle.std.proofs.Common.{◌≡◌, ℕ, List, [], ◌∷◌, length, Some, None, Ok}
 use Rattle.psm_token.specs.declared.token.Placed.{Placed}
 use Rattle.psm_token.specs.declared.word.Word.TheVariants as w
 use Rattle.psm_token.specs.declared.sign.Sign.TheVariants as s

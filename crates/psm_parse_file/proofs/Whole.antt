@@ -1,5 +1,5 @@
 -- The tree of a whole file is read as its grammar says, where its reader is exact.
-use Rattle.std.proofs.Common.{◌≡◌, List, [], ◌∷◌, Result, Ok, Err, sym, subst, ◌∙◌}
+use Rattle.std.proofs.Common.{◌≡◌, List, [], ◌∷◌, Result, Ok, Err, sym, subst}
 use Rattle.psm_token.specs.declared.token.Placed.{Placed}
 use Rattle.psm_token.specs.Listed.{Tokens}
 use Rattle.psm_grammar.specs.Language.{Lang}

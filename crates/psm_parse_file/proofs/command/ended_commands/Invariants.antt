@@ -1,4 +1,4 @@
-use Rattle.std.proofs.Common.{[], ◌∷◌, length}
+use Rattle.std.proofs.Common.{length}
 use Rattle.psm_tree.specs.Kinds.{codes_of, command_words, kind}
 use Rattle.psm_grammar.specs.Loop.{Looping}
 use Rattle.psm_parse_file.specs.FileReaders.{ended_command_read}
