@@ -1,1 +1,6 @@
-pub mod StatementReads
+pub mod Items
+pub mod Same
+pub mod PartSame
+pub mod Alike
+pub mod ExprParts
+pub mod SimpleSame

@@ -1,2 +1,3 @@
+pub mod Items
+pub mod PartReaders
 pub mod SimpleReaders
-pub mod StatementReaders

@@ -1,6 +1,16 @@
-//! Stand-ins with the contracts of the parsers of statements.
+//! Statements, blocks, declarations and handlers (ISO/IEC 9075-4:1996).
+//!
+//! Each function answers what the reader of its production answers (`Gives`, psm_grammar), and takes a
+//! token where it answers a value. A `Halt` holds the number of tokens that are left at the fault.
 #![tactic(auto)]
 
-mod stub;
+mod condition;
+mod cursor;
+mod data;
+mod declaration;
+mod diagnostics;
+mod label;
+mod parts;
+mod simple;
 
-pub use stub::{ordered_select, statement};
+pub use condition::ordered_select;
