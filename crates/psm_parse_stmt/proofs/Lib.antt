@@ -1,6 +1,14 @@
 pub mod Items
+pub mod Mapped
 pub mod Same
 pub mod PartSame
 pub mod Alike
 pub mod ExprParts
 pub mod SimpleSame
+pub mod StatementSame
+pub mod Declares
+pub mod BodySteps
+pub mod Blocks
+pub mod Declaring
+pub mod StatementReads
+pub mod StatementExact

@@ -15,18 +15,18 @@ use Rattle.psm_tree.specs.Tests.{At, word, sign, name, name_kinds, handler_kind}
 use Rattle.psm_tree.specs.Parts.{Statements, Branches, Phase, Declarations, Cursors, Handlers, Part, BeginRest, LoopRest, WhileRest, RepeatRest, ForRest, IfRest, CaseStatementRest, HandlerRest, BodyRest, DeclareRest, V, ForParts, HandlerParts, NamedRest, Variables, Condition, Cursor, Declared, Named, Handled, Body}
 use Rattle.psm_tree.specs.ExprValues.{pair}
 use Rattle.psm_tree.specs.Productions.{productions}
-use Rattle.psm_tree.specs.StatementValues.{Compound, Loop, While, Repeat, For, simple_statement, unlabelled, if_of, case_statement_of, statements_of, branch_of, case_alone_statement, case_over_statement, for_parts, for_query, undeclared, variables_of, one_variable, cursor_of, handler_parts}
+use Rattle.psm_tree.specs.StatementValues.{simple_statement, if_of, case_statement_of, statements_of, branch_of, case_alone_statement, case_over_statement, for_parts, for_query, undeclared, variables_of, one_variable, cursor_of, handler_parts}
 use Rattle.psm_tree.specs.declared.name.Identifier.{Identifier}
 use Rattle.psm_tree.specs.declared.types.DataType.{DataType}
 use Rattle.psm_tree.specs.declared.expr.Expr.{Expr}
 use Rattle.psm_tree.specs.declared.statement.Statement.{Statement}
 use Rattle.psm_tree.specs.declared.statement.Branch.{Branch}
-use Rattle.psm_tree.specs.declared.statement.Statement.TheVariants as statements
-use Rattle.psm_tree.specs.declared.statement.Label.{Label}
 use Rattle.psm_tree.specs.declared.statement.OrderedQuery.{OrderedQuery}
 use Rattle.psm_tree.specs.declared.statement.Updatability.{Updatability}
 use Rattle.psm_parse_token.specs.TokenReaders.{data_type_read}
 use Rattle.psm_parse_expr.specs.ExprReaders.{expr_read, source_read}
+use Rattle.psm_parse_stmt.specs.Blocks.{compound_block, loop_block, while_block, repeat_block, for_block, block_statement}
+use Rattle.psm_parse_stmt.specs.declared.block.Block.{Block}
 use Rattle.psm_parse_stmt.specs.SimpleReaders.{ordered_select_read, simple_read}
 use Rattle.psm_parse_stmt.specs.PartReaders.{atomic_read, condition_rest_read, end_label_read, handler_values_read, insensitive_read, other_variables_read, perhaps, perhaps_for_cursor_read, perhaps_updatability_read}
 
@@ -59,57 +59,35 @@ cursor_rest_read levels = both cursor_of (both earlier insensitive_read (one kin
 
 -- ---- statements
 
--- a block that has no label
-abbrev pub compound_alone : Place → Bool × Body → Statement
-compound_alone place p = unlabelled (Compound place p)
+unfoldable pub compound_read : ℕ → Reader Placed Block
+compound_read levels = entered (one kind (word w.Begin)) BeginRest compound_block (inner levels)
 
-abbrev pub loop_alone : Place → Statements → Statement
-loop_alone place p = unlabelled (Loop place p)
+unfoldable pub loop_read : ℕ → Reader Placed Block
+loop_read levels = entered (one kind (word w.Loop)) LoopRest loop_block (inner levels)
 
-abbrev pub while_alone : Place → Expr × Statements → Statement
-while_alone place p = unlabelled (While place p)
+unfoldable pub while_read : ℕ → Reader Placed Block
+while_read levels = entered (one kind (word w.While)) WhileRest while_block (inner levels)
 
-abbrev pub repeat_alone : Place → Statements × Expr → Statement
-repeat_alone place p = unlabelled (Repeat place p)
+unfoldable pub repeat_read : ℕ → Reader Placed Block
+repeat_read levels = entered (one kind (word w.Repeat)) RepeatRest repeat_block (inner levels)
 
-abbrev pub for_alone : Place → ForParts → Statement
-for_alone place p = unlabelled (For place p)
+unfoldable pub for_read : ℕ → Reader Placed Block
+for_read levels = entered (one kind (word w.For)) ForRest for_block (inner levels)
 
-unfoldable pub compound_read : ℕ → Reader Placed Statement
-compound_read levels = entered (one kind (word w.Begin)) BeginRest compound_alone (inner levels)
-
-unfoldable pub loop_read : ℕ → Reader Placed Statement
-loop_read levels = entered (one kind (word w.Loop)) LoopRest loop_alone (inner levels)
-
-unfoldable pub while_read : ℕ → Reader Placed Statement
-while_read levels = entered (one kind (word w.While)) WhileRest while_alone (inner levels)
-
-unfoldable pub repeat_read : ℕ → Reader Placed Statement
-repeat_read levels = entered (one kind (word w.Repeat)) RepeatRest repeat_alone (inner levels)
-
-unfoldable pub for_read : ℕ → Reader Placed Statement
-for_read levels = entered (one kind (word w.For)) ForRest for_alone (inner levels)
-
-unfoldable pub block_read : ℕ → Reader Placed Statement
+unfoldable pub block_read : ℕ → Reader Placed Block
 block_read levels = pick kind (code w.Begin ∷ []) (compound_read levels)
     (pick kind (code w.Loop ∷ []) (loop_read levels)
     (pick kind (code w.While ∷ []) (while_read levels)
     (pick kind (code w.Repeat ∷ []) (repeat_read levels)
     (for_read levels))))
 
--- a block with that label in place of its own
-abbrev pub with_label : Label → Statement → Statement
-with_label label (statements.Compound own place atomic declarations cursors handlers body) = statements.Compound (Some label) place atomic declarations cursors handlers body
-with_label label (statements.Loop own place first rest) = statements.Loop (Some label) place first rest
-with_label label (statements.While own place test first rest) = statements.While (Some label) place test first rest
-with_label label (statements.Repeat own place first rest until) = statements.Repeat (Some label) place first rest until
-with_label label (statements.For own place name cursor query first rest) = statements.For (Some label) place name cursor query first rest
-with_label label statement = statement
+unfoldable pub unlabelled_statement_read : ℕ → Reader Placed Statement
+unlabelled_statement_read levels = made (block_statement None) (block_read levels)
 
-abbrev pub labelled_as : Identifier → Statement × Option Identifier → Statement
-labelled_as start p = with_label (record { start = start; end = p.1 }) p.0
+abbrev pub labelled_as : Identifier → Block × Option Identifier → Statement
+labelled_as start p = block_statement (Some (record { start = start; end = p.1 })) p.0
 
-unfoldable pub labelled_block_read : ℕ → Reader Placed (Statement × Option Identifier)
+unfoldable pub labelled_block_read : ℕ → Reader Placed (Block × Option Identifier)
 labelled_block_read levels = both later (one kind (sign s.Colon)) (both pair (block_read levels) end_label_read)
 
 unfoldable pub labelled_statement_read : ℕ → Reader Placed Statement
@@ -125,7 +103,7 @@ unfoldable pub statement_read : ℕ → Reader Placed Statement
 statement_read levels = pick kind name_kinds (labelled_statement_read levels)
     (pick kind (code w.If ∷ []) (if_statement_read levels)
     (pick kind (code w.Case ∷ []) (case_statement_read levels)
-    (pick kind (codes_of block_words) (block_read levels)
+    (pick kind (codes_of block_words) (unlabelled_statement_read levels)
     (made simple_statement (simple_read levels)))))
 
 unfoldable pub ended_statement_read : ℕ → Reader Placed Statement

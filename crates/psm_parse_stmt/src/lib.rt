@@ -4,12 +4,15 @@
 //! token where it answers a value. A `Halt` holds the number of tokens that are left at the fault.
 #![tactic(auto)]
 
+mod block;
 mod condition;
 mod cursor;
 mod data;
 mod declaration;
 mod diagnostics;
+mod item;
 mod label;
+mod level;
 mod parts;
 mod simple;
 

@@ -1,0 +1,60 @@
+//! The declarations of a block while it is read.
+ghost use Rattle.std.specs.Prelude.{◌≡◌, IfOk};
+
+use psm_grammar::Halt;
+use psm_tree::{CursorDeclaration, Declaration, Handler};
+
+/// A declaration.
+#[derive(Drop)]
+pub(crate) enum Item {
+    Declaration(Declaration),
+    Cursor(CursorDeclaration),
+    Handler(Handler),
+}
+
+/// Which declarations may still come in a block: all, all but variables and conditions, or handlers alone.
+#[derive(Clone, Copy)]
+pub(crate) enum Stage {
+    Declarations,
+    Cursors,
+    Handlers,
+}
+
+/// The declarations of a block that were read.
+#[derive(Drop)]
+pub(crate) struct Heads {
+    pub declarations: Vec<Declaration>,
+    pub cursors: Vec<CursorDeclaration>,
+    pub handlers: Vec<Handler>,
+}
+
+impl Item {
+    ghost use Rattle.psm_parse_stmt.specs.Declaring.{stage_behind};
+
+    /// Which declarations may come behind this one.
+    pub(crate) fn stage_behind(&self) -> Stage
+        ensures { result ≡ stage_behind self.now }
+    {
+        match self {
+            Item::Declaration(_) => Stage::Declarations,
+            Item::Cursor(_) => Stage::Cursors,
+            Item::Handler(_) => Stage::Handlers,
+        }
+    }
+}
+
+impl Heads {
+    ghost use Rattle.psm_parse_stmt.specs.Declaring.{Adds};
+
+    /// Puts a declaration behind the others of its kind.
+    pub(crate) fn add(&mut self, item: Item) -> Result<(), Halt>
+        ensures { IfOk result (λ _. Adds self.old item self.new) }
+    {
+        match item {
+            Item::Declaration(declaration) => self.declarations.push(declaration)?,
+            Item::Cursor(cursor) => self.cursors.push(cursor)?,
+            Item::Handler(handler) => self.handlers.push(handler)?,
+        }
+        Ok(())
+    }
+}
