@@ -46,6 +46,13 @@ phased_both {X} {Y} p f h a b ts = by (a ts)
     by (Ok r) = then' r.0 (b r.1)
     by (Err e) = tt
 
+phased_made : {X : Type 0} (p : Phase) (f : X → NamedRest) → ((x : X) (name : Identifier) → phase_behind (Named name (f x)) ≡ p) → (a : Reader Placed X) (ts : List Placed) → Phased p (made f a ts)
+phased_made {X} p f h a ts = by (a ts)
+  where
+    by : (o : Out Placed X) → Phased p (and_then o (λ x end. Ok (f x, end)))
+    by (Ok r) = h r.0
+    by (Err e) = tt
+
 cursor_phased : (levels : ℕ) (ts : List Placed) → Phased Cursors (cursor_rest_read levels ts)
 unfolding cursor_rest_read
 cursor_phased levels ts = phased_both Cursors cursor_of (λ x y name. refl) (both earlier insensitive_read (one kind (word w.Cursor))) (cursor_query_read levels) ts
@@ -56,9 +63,9 @@ condition_phased ts = phased_both Declarations condition_of (λ x y name. refl) 
 
 variables_phased : (levels : ℕ) (ts : List Placed) → Phased Declarations (variables_rest_read levels ts)
 unfolding variables_rest_read
-variables_phased levels ts = phased_pick Declarations (sign_code s.Comma ∷ []) (both variables_of other_variables_read (typed_read levels)) (both one_variable data_type_read (perhaps_default_read levels)) ts
+variables_phased levels ts = phased_pick Declarations (sign_code s.Comma ∷ []) (both variables_of other_variables_read (typed_read levels)) (made (variables_of []) (typed_read levels)) ts
     (phased_both Declarations variables_of (λ x y name. refl) other_variables_read (typed_read levels) ts)
-    (phased_both Declarations one_variable (λ x y name. refl) data_type_read (perhaps_default_read levels) ts)
+    (phased_made Declarations (variables_of []) (λ x name. refl) (typed_read levels) ts)
 
 declaration_phased : (levels : ℕ) (ts : List Placed) → Phased Declarations (declaration_rest_read levels ts)
 unfolding declaration_rest_read
@@ -88,13 +95,13 @@ module _ (levels : ℕ) (same : (n : Part) → Reader Placed (V n)) where
   handled ts = handled_opened ts ∙ ap then_rest (sym (entered_same kind handler_kind HandlerRest Handled (inner levels) ts))
 
   twice : (name : Identifier) (r : NamedRest) (o : Out Placed Body) → and_then (and_then o (λ y end. Ok (pair r y, end))) (λ y end. Ok (named_rest name y, end)) ≡ and_then o (λ body end. Ok (pair (Named name r) body, end))
-  twice name r (Ok o) = refl
-  twice name r (Err e) = refl
+  twice n r (Ok o) = refl
+  twice n r (Err e) = refl
 
   named_then : (p : Phase) (name : Identifier) (o : Out Placed NamedRest) → Phased p o
       → and_then (and_then o (λ x rest. and_then (goes p rest) (λ y end. Ok (pair x y, end)))) (λ y end. Ok (named_rest name y, end)) ≡ then_rest (and_then o (λ y end. Ok (Named name y, end)))
-  named_then p name (Ok r) h = twice name r.0 (goes p r.1) ∙ ap (λ q. and_then (goes q r.1) (λ body end. Ok (pair (Named name r.0) body, end))) (sym (h name))
-  named_then p name (Err e) h = refl
+  named_then p n (Ok r) h = twice n r.0 (goes p r.1) ∙ ap (λ q. and_then (goes q r.1) (λ body end. Ok (pair (Named n r.0) body, end))) (sym (h n))
+  named_then p n (Err e) h = refl
 
   named_cursor : (q : Reader Placed NamedRest) (p : Phase) → ((ts : List Placed) → Phased p (q ts)) → (ts : List Placed) → both named_rest (one kind name) (both pair q (goes p)) ts ≡ then_rest (both Named (one kind name) q ts)
   named_cursor q p h ts = by (one kind name ts)

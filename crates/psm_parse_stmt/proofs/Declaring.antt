@@ -17,7 +17,8 @@ use Rattle.psm_parse_stmt.specs.declared.item.Item.TheVariants as item
 use Rattle.psm_parse_stmt.specs.declared.item.Stage.{Stage}
 use Rattle.psm_parse_stmt.specs.declared.item.Heads.{Heads}
 use Rattle.psm_parse_stmt.specs.StatementReaders.{declaration_read, ending_read, statements_end_read, body_rest_read}
-use Rattle.psm_parse_stmt.specs.Declaring.{item_at, item_of, phase_of, stage_behind, with_item, after_heads, with_heads, Adds, heads_body, Declaring}
+use Rattle.psm_parse_stmt.specs.Declaring.{item_at, item_of, declaration_item_read, phase_of, stage_behind, with_item, after_heads, with_heads, Adds, heads_body, Declaring}
+use Rattle.psm_parse_stmt.proofs.ItemSame.{declaration_made}
 use Rattle.psm_parse_stmt.proofs.BodySteps.{rest_behind, declares, declares_not, declares_nothing}
 
 -- ---- one declaration
@@ -46,10 +47,10 @@ item_same levels place (Named name (Condition state)) next = refl
 item_same levels place (Named name (Cursor insensitive query updatability)) next = refl
 item_same levels place (Handled kind parts) next = refl
 
-step_item : (levels : ℕ) (p : Phase) (ts : List Placed) (x : Item) (next : List Placed) → made item_of (declaration_read p levels) ts ≡ Ok (x, next) → length next + 1 < length ts
+step_item : (levels : ℕ) (p : Phase) (ts : List Placed) (x : Item) (next : List Placed) → declaration_item_read p levels ts ≡ Ok (x, next) → length next + 1 < length ts
     → body_rest_read levels p ts ≡ made (with_item x) (body_rest_read levels (phase_of (stage_behind x))) next
 step_item levels p ts x next e short =
-    let d = made_ok item_of (declaration_read p levels ts) x next e in
+    let d = made_ok item_of (declaration_read p levels ts) x next (declaration_made p levels ts ∙ e) in
     declares levels p ts (d.0, next) d.1 short ∙ item_same levels d.0.0 d.0.1 next ∙ ap (λ x. made (with_item x) (body_rest_read levels (phase_of (stage_behind x))) next) d.2
 
 -- ---- declarations before others
@@ -80,7 +81,7 @@ declares_start levels start s heads p d c h = record {
 }
 
 pub declares_more : (levels : ℕ) (start : List Placed) (s : Stage) (heads : Heads) (rest : List Placed) (x : Item) (next : List Placed) (new : Heads) → Declaring levels start s heads rest
-    → made item_of (declaration_read (phase_of s) levels) rest ≡ Ok (x, next) → length next + 1 < length rest → Adds heads x new → Declaring levels start (stage_behind x) new next
+    → declaration_item_read (phase_of s) levels rest ≡ Ok (x, next) → length next + 1 < length rest → Adds heads x new → Declaring levels start (stage_behind x) new next
 declares_more levels start s heads rest x next new l e short a = record {
   same = adds_made heads x new a (body_rest_read levels (phase_of (stage_behind x)) next)
       ∙ ap (λ o. and_then o (λ b end. Ok (with_heads heads b, end))) (sym (step_item levels (phase_of s) rest x next e short)) ∙ l.same;
@@ -88,12 +89,12 @@ declares_more levels start s heads rest x next new l e short a = record {
 }
 
 fails_so : (levels : ℕ) (start : List Placed) (s : Stage) (heads : Heads) (rest : List Placed) (stop : Stop Placed) → Declaring levels start s heads rest → starts kind (code w.Declare ∷ []) rest ≡ true
-    → made item_of (declaration_read (phase_of s) levels) rest ≡ Err stop → body_rest_read levels Declarations start ≡ Err stop
+    → declaration_item_read (phase_of s) levels rest ≡ Err stop → body_rest_read levels Declarations start ≡ Err stop
 fails_so levels start s heads rest stop l d e = sym l.same
-    ∙ ap (λ o. and_then o (λ b end. Ok (with_heads heads b, end))) (declares_not levels (phase_of s) rest stop (made_err item_of (declaration_read (phase_of s) levels rest) stop e) d)
+    ∙ ap (λ o. and_then o (λ b end. Ok (with_heads heads b, end))) (declares_not levels (phase_of s) rest stop (made_err item_of (declaration_read (phase_of s) levels rest) stop (declaration_made (phase_of s) levels rest ∙ e)) d)
 
 pub declares_halts : (levels : ℕ) (start : List Placed) (s : Stage) (heads : Heads) (rest : List Placed) (e : Halt) → Declaring levels start s heads rest → starts kind (code w.Declare ∷ []) rest ≡ true
-    → Halts e (made item_of (declaration_read (phase_of s) levels) rest) → Halts e (body_rest_read levels Declarations start)
+    → Halts e (declaration_item_read (phase_of s) levels rest) → Halts e (body_rest_read levels Declarations start)
 declares_halts levels start s heads rest (halt.Syntax n) l d h = (h.0, fails_so levels start s heads rest (Wrong h.0) l d h.1, h.2)
 declares_halts levels start s heads rest (halt.Deep n) l d h = (h.0, fails_so levels start s heads rest (TooDeep h.0) l d h.1, h.2)
 declares_halts levels start s heads rest halt.Memory l d h = tt

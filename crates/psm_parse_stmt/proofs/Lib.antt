@@ -9,6 +9,7 @@ pub mod StatementSame
 pub mod Declares
 pub mod BodySteps
 pub mod Blocks
+pub mod ItemSame
 pub mod Declaring
 pub mod StatementReads
 pub mod StatementExact

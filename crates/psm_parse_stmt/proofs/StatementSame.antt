@@ -22,7 +22,7 @@ use Rattle.psm_parse_stmt.specs.StatementReaders.{inner, default_source_read, pe
 use Rattle.psm_parse_stmt.proofs.PartSame.{condition_rest_same, end_label_same, handler_values_same, insensitive_same, other_variables_same, perhaps_for_cursor_same, perhaps_updatability_same}
 use Rattle.psm_parse_stmt.proofs.ExprParts.{data_type_same, expr_same, source_same}
 use Rattle.psm_parse_stmt.proofs.SimpleSame.{ordered_select_same, simple_same}
-use Rattle.psm_parse_stmt.proofs.Mapped.{made_made, made_pick, second_mapped, first_mapped}
+use Rattle.psm_parse_stmt.proofs.Mapped.{made_made, made_both, made_pick, second_mapped, first_mapped}
 use Rattle.psm_parse_stmt.proofs.Same.{Same, same_token, same_level, same_image, same_many, same_or, same_seq, same_optional, same_map_level, same_map_or, same_map_before, same_map_behind}
 
 pub default_source_same : (levels : ℕ) → Same levels default_source (default_source_read levels)
@@ -37,9 +37,14 @@ pub typed_same : (levels : ℕ) → Same levels typed (typed_read levels)
 unfolding typed_read
 typed_same levels = same_seq (data_type_same levels) pair (perhaps_default_same levels)
 
-pub variables_rest_same : (levels : ℕ) → Same levels (or (seq variables_of other_variables typed) (seq one_variable data_type (optional default_source))) (variables_rest_read levels)
+one_variable_same : (levels : ℕ) → Same levels (seq one_variable data_type (optional default_source)) (made (variables_of []) (typed_read levels))
+one_variable_same levels = record { same = λ u ts.
+  (λ i. made (variables_of []) (λ ts. (typed_same levels).same u ts i) ts)
+  ∙ made_both (variables_of []) pair (read {kind = kind} (inner levels) u data_type) (read {kind = kind} (inner levels) u (optional default_source)) ts }
+
+variables_rest_same : (levels : ℕ) → Same levels (or (seq variables_of other_variables typed) (seq one_variable data_type (optional default_source))) (variables_rest_read levels)
 unfolding variables_rest_read
-variables_rest_same levels = same_or (same_seq (other_variables_same levels) variables_of (typed_same levels)) (same_seq (data_type_same levels) one_variable (perhaps_default_same levels))
+variables_rest_same levels = same_or (same_seq (other_variables_same levels) variables_of (typed_same levels)) (one_variable_same levels)
 
 pub declaration_rest_same : (levels : ℕ) → Same levels declaration_rest (declaration_rest_read levels)
 unfolding declaration_rest_read

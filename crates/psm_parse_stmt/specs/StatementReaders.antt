@@ -15,7 +15,7 @@ use Rattle.psm_tree.specs.Tests.{At, word, sign, name, name_kinds, handler_kind}
 use Rattle.psm_tree.specs.Parts.{Statements, Branches, Phase, Declarations, Cursors, Handlers, Part, BeginRest, LoopRest, WhileRest, RepeatRest, ForRest, IfRest, CaseStatementRest, HandlerRest, BodyRest, DeclareRest, V, ForParts, HandlerParts, NamedRest, Variables, Condition, Cursor, Declared, Named, Handled, Body}
 use Rattle.psm_tree.specs.ExprValues.{pair}
 use Rattle.psm_tree.specs.Productions.{productions}
-use Rattle.psm_tree.specs.StatementValues.{simple_statement, if_of, case_statement_of, statements_of, branch_of, case_alone_statement, case_over_statement, for_parts, for_query, undeclared, variables_of, one_variable, cursor_of, handler_parts}
+use Rattle.psm_tree.specs.StatementValues.{simple_statement, if_of, case_statement_of, statements_of, branch_of, case_alone_statement, case_over_statement, for_parts, for_query, undeclared, variables_of, cursor_of, handler_parts}
 use Rattle.psm_tree.specs.declared.name.Identifier.{Identifier}
 use Rattle.psm_tree.specs.declared.types.DataType.{DataType}
 use Rattle.psm_tree.specs.declared.expr.Expr.{Expr}
@@ -46,7 +46,7 @@ typed_read levels = both pair data_type_read (perhaps_default_read levels)
 
 unfoldable pub variables_rest_read : ℕ → Reader Placed NamedRest
 variables_rest_read levels = pick kind (sign_code s.Comma ∷ []) (both variables_of other_variables_read (typed_read levels))
-    (both one_variable data_type_read (perhaps_default_read levels))
+    (made (variables_of []) (typed_read levels))
 
 unfoldable pub declaration_rest_read : ℕ → Reader Placed NamedRest
 declaration_rest_read levels = pick kind (code w.Condition ∷ []) condition_rest_read (variables_rest_read levels)
@@ -216,9 +216,9 @@ declaration_read phase levels = both pair (one kind (word w.Declare)) (both earl
 
 -- which declarations may come behind one
 abbrev pub phase_behind : Declared → Phase
-phase_behind (Named name (Variables others kind default)) = Declarations
-phase_behind (Named name (Condition state)) = Declarations
-phase_behind (Named name (Cursor insensitive query updatability)) = Cursors
+phase_behind (Named _ (Variables others kind default)) = Declarations
+phase_behind (Named _ (Condition state)) = Declarations
+phase_behind (Named _ (Cursor insensitive query updatability)) = Cursors
 phase_behind (Handled kind parts) = Handlers
 
 -- the reader of each part that opens a level

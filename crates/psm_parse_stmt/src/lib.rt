@@ -13,6 +13,7 @@ mod diagnostics;
 mod item;
 mod label;
 mod level;
+mod named;
 mod parts;
 mod simple;
 
