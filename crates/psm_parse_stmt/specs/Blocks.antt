@@ -1,6 +1,8 @@
 -- Blocks without their labels, as the parser keeps them until it has read the label behind their end.
-use Rattle.std.specs.Prelude.{Bool, List, Option}
+use Rattle.std.specs.Prelude.{◌≡◌, Bool, List, Option, Result, Ok, Err}
 use Rattle.psm_token.specs.declared.place.Place.{Place}
+use Rattle.psm_grammar.specs.declared.halt.Halt.{Halt}
+use Rattle.psm_grammar.specs.declared.halt.Halt.TheVariants.{Memory}
 use Rattle.psm_tree.specs.Parts.{Statements, ForParts, Body}
 use Rattle.psm_tree.specs.StatementValues.{Block as BlockTree, Compound, Loop, While, Repeat, For}
 use Rattle.psm_tree.specs.declared.expr.Expr.{Expr}
@@ -40,3 +42,8 @@ block_statement label (blocks.Loop place first rest) = statements.Loop label pla
 block_statement label (blocks.While place test first rest) = statements.While label place test first rest
 block_statement label (blocks.Repeat place first rest until) = statements.Repeat label place first rest until
 block_statement label (blocks.For place name cursor query first rest) = statements.For label place name cursor query first rest
+
+-- the statements of a loop as they are, unless memory runs out
+abbrev pub OnHeap : Statement × List Statement → Result (Statement × List Statement) Halt → Type 0
+OnHeap statements (Ok held) = held ≡ statements
+OnHeap statements (Err e) = e ≡ Memory

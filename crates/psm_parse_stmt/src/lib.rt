@@ -5,16 +5,22 @@
 #![tactic(auto)]
 
 mod block;
+mod branch;
+mod compound;
 mod condition;
 mod cursor;
 mod data;
 mod declaration;
+mod declare;
 mod diagnostics;
 mod item;
 mod label;
 mod level;
+mod loops;
 mod named;
 mod parts;
 mod simple;
+mod statements;
 
 pub use condition::ordered_select;
+pub use statements::statement;
