@@ -56,13 +56,19 @@ same_map_level levels n test f g = record { same = λ u ts. sym (made_entered g 
 
 module _ {X Y : Type 0} {levels : ℕ} {g : X → Y} {p : Gram X} {a : Reader Placed Y} (s : Same levels (image g p) a) where
   pub same_map_or : {q : Gram X} {b : Reader Placed Y} → Same levels (image g q) b → Same levels (image g (or p q)) (pick kind (first p) a b)
-  same_map_or {q} r = record { same = λ u ts. (λ i. pick kind (first p) (λ ts. s.same u ts i) (λ ts. r.same u ts i) ts)
-      ∙ sym (made_pick g kind (first p) (read (deeper productions levels) u p) (read (deeper productions levels) u q) ts) }
+  same_map_or {q} r = record {
+    same = λ u ts. (λ i. pick kind (first p) (λ ts. s.same u ts i) (λ ts. r.same u ts i) ts)
+        ∙ sym (made_pick g kind (first p) (read (deeper productions levels) u p) (read (deeper productions levels) u q) ts);
+  }
 
   pub same_map_before : {A : Type 0} (test : Test Placed A) → Same levels (image g (before_token p test)) (both earlier a (one kind test))
-  same_map_before test = record { same = λ u ts. (λ i. both earlier (λ ts. s.same u ts i) (one kind test) ts)
-      ∙ made_behind earlier g (read (deeper productions levels) u p) (one kind test) ts ∙ sym (made_both g earlier (read (deeper productions levels) u p) (one kind test) ts) }
+  same_map_before test = record {
+    same = λ u ts. (λ i. both earlier (λ ts. s.same u ts i) (one kind test) ts)
+        ∙ made_behind earlier g (read (deeper productions levels) u p) (one kind test) ts ∙ sym (made_both g earlier (read (deeper productions levels) u p) (one kind test) ts);
+  }
 
   pub same_map_behind : {A : Type 0} (test : Test Placed A) → Same levels (image g (behind_token test p)) (both later (one kind test) a)
-  same_map_behind test = record { same = λ u ts. (λ i. both later (one kind test) (λ ts. s.same u ts i) ts)
-      ∙ both_made later g (one kind test) (read (deeper productions levels) u p) ts ∙ sym (made_both g later (one kind test) (read (deeper productions levels) u p) ts) }
+  same_map_behind test = record {
+    same = λ u ts. (λ i. both later (one kind test) (λ ts. s.same u ts i) ts)
+        ∙ both_made later g (one kind test) (read (deeper productions levels) u p) ts ∙ sym (made_both g later (one kind test) (read (deeper productions levels) u p) ts);
+  }

@@ -18,7 +18,7 @@ use Rattle.psm_tree.specs.declared.name.Identifier.{Identifier}
 use Rattle.psm_tree.specs.declared.statement.Branch.{Branch}
 use Rattle.psm_tree.specs.declared.statement.Label.{Label}
 use Rattle.psm_parse_stmt.specs.Blocks.{held, block_statement}
-use Rattle.psm_parse_stmt.specs.StatementReaders.{inner, default_source_read, perhaps_default_read, typed_read, variables_rest_read, declaration_rest_read, cursor_query_read, cursor_rest_read, compound_read, loop_read, while_read, repeat_read, for_read, block_read, unlabelled_statement_read, labelled_as, labelled_block_read, labelled_statement_read, if_statement_read, case_statement_read, statement_read, ended_statement_read, ended_statements_read, statements_read, branch_read, next_branch_read, next_branches_read, all_of, else_read, otherwise_read, branches_end_read, more_branches_read, branches_with, if_rest_read, case_branches_read, case_statement_rest_read, loop_body_read, while_rest_read, until_read, repeat_rest_read, for_rest_read, handler_rest_read, statements_end_read, ending_read, handler_read}
+use Rattle.psm_parse_stmt.specs.StatementReaders.{inner, default_source_read, perhaps_default_read, typed_read, variables_rest_read, declaration_rest_read, cursor_query_read, cursor_rest_read, compound_read, loop_read, while_read, repeat_read, for_read, block_read, unlabelled_statement_read, labelled_as, labelled_block_read, labelled_statement_read, if_statement_read, case_statement_read, statement_read, ended_statement_read, ended_statements_read, statements_read, branch_read, next_branch_read, next_branches_read, all_of, else_read, otherwise_read, branches_end_read, more_branches_read, branches_with, if_rest_read, case_branches_read, case_statement_rest_read, loop_body_read, while_rest_read, until_read, repeat_rest_read, for_query_read, for_rest_read, handler_rest_read, statements_end_read, ending_read, handler_read}
 use Rattle.psm_parse_stmt.proofs.PartSame.{condition_rest_same, end_label_same, handler_values_same, insensitive_same, other_variables_same, perhaps_for_cursor_same, perhaps_updatability_same}
 use Rattle.psm_parse_stmt.proofs.ExprParts.{data_type_same, expr_same, source_same}
 use Rattle.psm_parse_stmt.proofs.SimpleSame.{ordered_select_same, simple_same}
@@ -38,9 +38,11 @@ unfolding typed_read
 typed_same levels = same_seq (data_type_same levels) pair (perhaps_default_same levels)
 
 one_variable_same : (levels : ℕ) → Same levels (seq one_variable data_type (optional default_source)) (made (variables_of []) (typed_read levels))
-one_variable_same levels = record { same = λ u ts.
-  (λ i. made (variables_of []) (λ ts. (typed_same levels).same u ts i) ts)
-  ∙ made_both (variables_of []) pair (read {kind = kind} (inner levels) u data_type) (read {kind = kind} (inner levels) u (optional default_source)) ts }
+one_variable_same levels = record {
+  same = λ u ts.
+      (λ i. made (variables_of []) (λ ts. (typed_same levels).same u ts i) ts)
+      ∙ made_both (variables_of []) pair (read {kind = kind} (inner levels) u data_type) (read {kind = kind} (inner levels) u (optional default_source)) ts;
+}
 
 variables_rest_same : (levels : ℕ) → Same levels (or (seq variables_of other_variables typed) (seq one_variable data_type (optional default_source))) (variables_rest_read levels)
 unfolding variables_rest_read
@@ -92,20 +94,24 @@ labelled_behind label (For place p) = refl
 
 unlabelled_statement_same : (levels : ℕ) → Same levels (image unlabelled block) (unlabelled_statement_read levels)
 unfolding unlabelled_statement_read
-unlabelled_statement_same levels = record { same = λ u ts.
-  let blocks = read {kind = kind} (inner levels) u block in
-  (λ i. made (block_statement None) (λ ts. (block_same levels).same u ts i) ts)
-  ∙ made_made (block_statement None) held blocks ts
-  ∙ (λ i. made (λ b. labelled_behind None b i) blocks ts) }
+unlabelled_statement_same levels = record {
+  same = λ u ts.
+      let blocks = read {kind = kind} (inner levels) u block in
+      (λ i. made (block_statement None) (λ ts. (block_same levels).same u ts i) ts)
+      ∙ made_made (block_statement None) held blocks ts
+      ∙ (λ i. made (λ b. labelled_behind None b i) blocks ts);
+}
 
 labelled_statement_same : (levels : ℕ) → Same levels labelled_statement (labelled_statement_read levels)
 unfolding labelled_statement_read labelled_block_read
-labelled_statement_same levels = record { same = λ u ts.
-  let blocks = read {kind = kind} (inner levels) u block in
-  let ends = read {kind = kind} (inner levels) u (optional (token name)) in
-  (λ i. both labelled_as (one kind name) (both later (one kind (sign s.Colon)) (both pair (λ ts. (block_same levels).same u ts i) (λ ts. (end_label_same levels).same u ts i))) ts)
-  ∙ first_mapped labelled_as (one kind name) (one kind (sign s.Colon)) held blocks ends ts
-  ∙ (λ i. both (λ start (p : Block × Option Identifier). labelled_behind (Some (record { start = start; end = p.1 })) p.0 i) (one kind name) (both later (one kind (sign s.Colon)) (both pair blocks ends)) ts) }
+labelled_statement_same levels = record {
+  same = λ u ts.
+      let blocks = read {kind = kind} (inner levels) u block in
+      let ends = read {kind = kind} (inner levels) u (optional (token name)) in
+      (λ i. both labelled_as (one kind name) (both later (one kind (sign s.Colon)) (both pair (λ ts. (block_same levels).same u ts i) (λ ts. (end_label_same levels).same u ts i))) ts)
+      ∙ first_mapped labelled_as (one kind name) (one kind (sign s.Colon)) held blocks ends ts
+      ∙ (λ i. both (λ start (p : Block × Option Identifier). labelled_behind (Some (record { start = start; end = p.1 })) p.0 i) (one kind name) (both later (one kind (sign s.Colon)) (both pair blocks ends)) ts);
+}
 
 pub if_statement_same : (levels : ℕ) → Same levels if_statement (if_statement_read levels)
 unfolding if_statement_read
@@ -149,10 +155,12 @@ else_same levels = same_map_behind (same_image (statements_same levels) all_of) 
 
 otherwise_same : (levels : ℕ) → Same levels (image listed (optional otherwise_statements)) (otherwise_read levels)
 unfolding otherwise_read
-otherwise_same levels = record { same = λ u ts.
-  let others = read {kind = kind} (inner levels) u otherwise_statements in
-  (λ i. pick kind (code w.Else ∷ []) (λ ts. ((else_same levels).same u ts ∙ sym (made_made listed Some others ts)) i) (λ ts. Ok ([], ts)) ts)
-  ∙ sym (made_pick listed kind (code w.Else ∷ []) (made Some others) (λ ts. Ok (None, ts)) ts) }
+otherwise_same levels = record {
+  same = λ u ts.
+      let others = read {kind = kind} (inner levels) u otherwise_statements in
+      (λ i. pick kind (code w.Else ∷ []) (λ ts. ((else_same levels).same u ts ∙ sym (made_made listed Some others ts)) i) (λ ts. Ok ([], ts)) ts)
+      ∙ sym (made_pick listed kind (code w.Else ∷ []) (made Some others) (λ ts. Ok (None, ts)) ts);
+}
 
 branches_end_same : (behind : Word) (levels : ℕ) → Same levels (image listed (before_token (before_token (optional otherwise_statements) (word w.End)) (word behind))) (branches_end_read behind levels)
 unfolding branches_end_read
@@ -165,11 +173,13 @@ module _ (levels : ℕ) (before behind : Word) {first : Gram Branch} {first_read
 
   branches_same : Same levels all_branches (both branches_with first_read (more_branches_read before behind levels))
   unfolding more_branches_read
-  branches_same = record { same = λ u ts.
-    let others = read {kind = kind} (inner levels) u (many (behind_token (word before) branch)) in
-    let ends = read {kind = kind} (inner levels) u (before_token (before_token (optional otherwise_statements) (word w.End)) (word behind)) in
-    (λ i. both branches_with (λ ts. s.same u ts i) (both pair (λ ts. (next_branches_same before levels).same u ts i) (λ ts. (branches_end_same behind levels).same u ts i)) ts)
-    ∙ second_mapped branches_with (read {kind = kind} (inner levels) u first) listed others ends ts }
+  branches_same = record {
+    same = λ u ts.
+        let others = read {kind = kind} (inner levels) u (many (behind_token (word before) branch)) in
+        let ends = read {kind = kind} (inner levels) u (before_token (before_token (optional otherwise_statements) (word w.End)) (word behind)) in
+        (λ i. both branches_with (λ ts. s.same u ts i) (both pair (λ ts. (next_branches_same before levels).same u ts i) (λ ts. (branches_end_same behind levels).same u ts i)) ts)
+        ∙ second_mapped branches_with (read {kind = kind} (inner levels) u first) listed others ends ts;
+  }
 
 pub if_rest_same : (levels : ℕ) → Same levels if_rest (if_rest_read levels)
 unfolding if_rest_read
@@ -200,7 +210,7 @@ unfolding repeat_rest_read
 repeat_rest_same levels = same_seq (statements_same levels) pair (until_same levels)
 
 pub for_rest_same : (levels : ℕ) → Same levels for_rest (for_rest_read levels)
-unfolding for_rest_read
+unfolding for_rest_read for_query_read
 for_rest_same levels = same_seq (same_token levels name) for_parts (same_seq (same_token levels (word w.As)) later (same_seq (perhaps_for_cursor_same levels) for_query (same_seq (ordered_select_same levels) pair (same_seq (same_token levels (word w.Do)) later (loop_body_same w.For levels)))))
 
 pub handler_rest_same : (levels : ℕ) → Same levels handler_rest (handler_rest_read levels)

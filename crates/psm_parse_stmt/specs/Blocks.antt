@@ -44,6 +44,6 @@ block_statement label (blocks.Repeat place first rest until) = statements.Repeat
 block_statement label (blocks.For place name cursor query first rest) = statements.For label place name cursor query first rest
 
 -- the statements of a loop as they are, unless memory runs out
-abbrev pub OnHeap : Statement × List Statement → Result (Statement × List Statement) Halt → Type 0
-OnHeap statements (Ok held) = held ≡ statements
-OnHeap statements (Err e) = e ≡ Memory
+abbrev pub OnHeap : Statement → List Statement → Result (Statement × List Statement) Halt → Type 0
+OnHeap first others (Ok kept) = (kept.0 ≡ first) × (kept.1 ≡ others)
+OnHeap first others (Err e) = e ≡ Memory

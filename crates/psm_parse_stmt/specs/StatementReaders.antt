@@ -172,9 +172,12 @@ until_read levels = both later (one kind (word w.Until)) (both earlier (both ear
 unfoldable pub repeat_rest_read : ℕ → Reader Placed (Statements × Expr)
 repeat_rest_read levels = both pair (statements_read levels) (until_read levels)
 
+unfoldable pub for_query_read : ℕ → Reader Placed (OrderedQuery × Statements)
+for_query_read levels = both pair (ordered_select_read levels) (both later (one kind (word w.Do)) (loop_body_read w.For levels))
+
 unfoldable pub for_rest_read : ℕ → Reader Placed ForParts
 for_rest_read levels = both for_parts (one kind name) (both later (one kind (word w.As))
-    (both for_query perhaps_for_cursor_read (both pair (ordered_select_read levels) (both later (one kind (word w.Do)) (loop_body_read w.For levels)))))
+    (both for_query perhaps_for_cursor_read (for_query_read levels)))
 
 -- ---- blocks
 

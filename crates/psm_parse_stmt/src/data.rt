@@ -3,11 +3,13 @@ ghost use Rattle.std.specs.Prelude.{◌≡◌, ◌<◌, ◌≤◌, length, IfOk}
 ghost use Rattle.psm_grammar.specs.Gives.{Gives};
 ghost use Rattle.psm_parse_stmt.specs.SimpleReaders.{assignment_read, assignments_read, data_statement_read, delete_statement_read, insert_source_read, insert_statement_read, insert_values_read, more_values_read, next_assignment_read, next_assignments_read, next_values_read, select_statement_read, update_statement_read, values_read};
 
-use psm_grammar::Halt;
 use crate::condition::perhaps_where;
-use crate::cursor::{close_statement, fetch_statement, into_targets, open_statement, perhaps_names};
-use psm_parse_expr::{TableExpression, from_table, picks, select, source, sources};
+use crate::cursor::{
+    close_statement, fetch_statement, into_targets, open_statement, perhaps_names,
+};
+use psm_grammar::Halt;
 use psm_list::List;
+use psm_parse_expr::{TableExpression, from_table, picks, select, source, sources};
 use psm_parse_token::{
     at_sign, at_word, before_sign, before_word, beside, expect_name, expect_sign, expect_word,
 };
@@ -44,7 +46,11 @@ fn next_values(alloc: Global, tokens: &[Placed], levels: u32) -> Result<(Values,
 
 /// `{"," values}`
 #[tactic(auto, unfolding(crate::specs::SimpleReaders::more_values_read))]
-fn more_values(alloc: Global, tokens: &[Placed], levels: u32) -> Result<(List<Values>, &[Placed]), Halt>
+fn more_values(
+    alloc: Global,
+    tokens: &[Placed],
+    levels: u32,
+) -> Result<(List<Values>, &[Placed]), Halt>
     ensures exact { Gives (λ x. (x.0, x.1.now)) result (more_values_read levels tokens.now) }
     ensures takes { IfOk result (λ x. length x.1.now ≤ length tokens.now) }
 {
@@ -60,7 +66,11 @@ fn more_values(alloc: Global, tokens: &[Placed], levels: u32) -> Result<(List<Va
 
 /// `VALUES values {"," values}`
 #[tactic(auto, unfolding(crate::specs::SimpleReaders::insert_values_read))]
-fn insert_values(alloc: Global, tokens: &[Placed], levels: u32) -> Result<(InsertSource, &[Placed]), Halt>
+fn insert_values(
+    alloc: Global,
+    tokens: &[Placed],
+    levels: u32,
+) -> Result<(InsertSource, &[Placed]), Halt>
     ensures exact { Gives (λ x. (x.0, x.1.now)) result (insert_values_read levels tokens.now) }
     ensures takes { IfOk result (λ x. length x.1.now < length tokens.now) }
 {
@@ -76,7 +86,11 @@ fn insert_values(alloc: Global, tokens: &[Placed], levels: u32) -> Result<(Inser
 
 /// `VALUES values {"," values} | select`
 #[tactic(auto, unfolding(crate::specs::SimpleReaders::insert_source_read))]
-fn insert_source(alloc: Global, tokens: &[Placed], levels: u32) -> Result<(InsertSource, &[Placed]), Halt>
+fn insert_source(
+    alloc: Global,
+    tokens: &[Placed],
+    levels: u32,
+) -> Result<(InsertSource, &[Placed]), Halt>
     ensures exact { Gives (λ x. (x.0, x.1.now)) result (insert_source_read levels tokens.now) }
     ensures takes { IfOk result (λ x. length x.1.now < length tokens.now) }
 {
@@ -89,7 +103,11 @@ fn insert_source(alloc: Global, tokens: &[Placed], levels: u32) -> Result<(Inser
 
 /// `INSERT INTO name [names] insert_source` (ISO/IEC 9075:1992, 13.8)
 #[tactic(auto, unfolding(crate::specs::SimpleReaders::insert_statement_read))]
-fn insert_statement(alloc: Global, tokens: &[Placed], levels: u32) -> Result<(Simple, &[Placed]), Halt>
+fn insert_statement(
+    alloc: Global,
+    tokens: &[Placed],
+    levels: u32,
+) -> Result<(Simple, &[Placed]), Halt>
     ensures exact { Gives (λ x. (x.0, x.1.now)) result (insert_statement_read levels tokens.now) }
     ensures takes { IfOk result (λ x. length x.1.now < length tokens.now) }
 {
@@ -97,7 +115,10 @@ fn insert_statement(alloc: Global, tokens: &[Placed], levels: u32) -> Result<(Si
     let (_, rest) = expect_word(rest, Word::Into)?;
     let (table, rest) = expect_name(alloc, rest)?;
     let ((table, columns), rest) = beside(table, perhaps_names(alloc, rest))?;
-    let (((table, columns), source), rest) = beside((table, columns), insert_source(alloc, rest, levels))?;
+    let (((table, columns), source), rest) = beside(
+        (table, columns),
+        insert_source(alloc, rest, levels),
+    )?;
     let insert = Simple::Insert {
         place,
         table,
@@ -109,7 +130,11 @@ fn insert_statement(alloc: Global, tokens: &[Placed], levels: u32) -> Result<(Si
 
 /// `name "=" source`
 #[tactic(auto, unfolding(crate::specs::SimpleReaders::assignment_read))]
-fn assignment(alloc: Global, tokens: &[Placed], levels: u32) -> Result<(Assignment, &[Placed]), Halt>
+fn assignment(
+    alloc: Global,
+    tokens: &[Placed],
+    levels: u32,
+) -> Result<(Assignment, &[Placed]), Halt>
     ensures exact { Gives (λ x. (x.0, x.1.now)) result (assignment_read levels tokens.now) }
     ensures takes { IfOk result (λ x. length x.1.now < length tokens.now) }
 {
@@ -121,7 +146,11 @@ fn assignment(alloc: Global, tokens: &[Placed], levels: u32) -> Result<(Assignme
 
 /// `"," name "=" source`
 #[tactic(auto, unfolding(crate::specs::SimpleReaders::next_assignment_read))]
-fn next_assignment(alloc: Global, tokens: &[Placed], levels: u32) -> Result<(Assignment, &[Placed]), Halt>
+fn next_assignment(
+    alloc: Global,
+    tokens: &[Placed],
+    levels: u32,
+) -> Result<(Assignment, &[Placed]), Halt>
     ensures exact { Gives (λ x. (x.0, x.1.now)) result (next_assignment_read levels tokens.now) }
     ensures takes { IfOk result (λ x. length x.1.now < length tokens.now) }
 {
@@ -131,7 +160,11 @@ fn next_assignment(alloc: Global, tokens: &[Placed], levels: u32) -> Result<(Ass
 
 /// `{"," assignment}`
 #[tactic(auto, unfolding(crate::specs::SimpleReaders::next_assignments_read))]
-fn next_assignments(alloc: Global, tokens: &[Placed], levels: u32) -> Result<(List<Assignment>, &[Placed]), Halt>
+fn next_assignments(
+    alloc: Global,
+    tokens: &[Placed],
+    levels: u32,
+) -> Result<(List<Assignment>, &[Placed]), Halt>
     ensures exact { Gives (λ x. (x.0, x.1.now)) result (next_assignments_read levels tokens.now) }
     ensures takes { IfOk result (λ x. length x.1.now ≤ length tokens.now) }
 {
@@ -147,7 +180,11 @@ fn next_assignments(alloc: Global, tokens: &[Placed], levels: u32) -> Result<(Li
 
 /// `SET assignment {"," assignment}`
 #[tactic(auto, unfolding(crate::specs::SimpleReaders::assignments_read))]
-fn assignments(alloc: Global, tokens: &[Placed], levels: u32) -> Result<((Assignment, List<Assignment>), &[Placed]), Halt>
+fn assignments(
+    alloc: Global,
+    tokens: &[Placed],
+    levels: u32,
+) -> Result<((Assignment, List<Assignment>), &[Placed]), Halt>
     ensures exact { Gives (λ x. (x.0, x.1.now)) result (assignments_read levels tokens.now) }
     ensures takes { IfOk result (λ x. length x.1.now < length tokens.now) }
 {
@@ -158,14 +195,21 @@ fn assignments(alloc: Global, tokens: &[Placed], levels: u32) -> Result<((Assign
 
 /// `UPDATE name SET assignment {"," assignment} [where]` (ISO/IEC 9075:1992, 13.9 and 13.10)
 #[tactic(auto, unfolding(crate::specs::SimpleReaders::update_statement_read))]
-fn update_statement(alloc: Global, tokens: &[Placed], levels: u32) -> Result<(Simple, &[Placed]), Halt>
+fn update_statement(
+    alloc: Global,
+    tokens: &[Placed],
+    levels: u32,
+) -> Result<(Simple, &[Placed]), Halt>
     ensures exact { Gives (λ x. (x.0, x.1.now)) result (update_statement_read levels tokens.now) }
     ensures takes { IfOk result (λ x. length x.1.now < length tokens.now) }
 {
     let (place, rest) = expect_word(tokens, Word::Update)?;
     let (table, rest) = expect_name(alloc, rest)?;
     let ((table, changes), rest) = beside(table, assignments(alloc, rest, levels))?;
-    let (((table, (first, others)), which), rest) = beside((table, changes), perhaps_where(alloc, rest, levels))?;
+    let (((table, (first, others)), which), rest) = beside(
+        (table, changes),
+        perhaps_where(alloc, rest, levels),
+    )?;
     let update = Simple::Update {
         place,
         table,
@@ -178,7 +222,11 @@ fn update_statement(alloc: Global, tokens: &[Placed], levels: u32) -> Result<(Si
 
 /// `DELETE FROM name [where]` (ISO/IEC 9075:1992, 13.6 and 13.7)
 #[tactic(auto, unfolding(crate::specs::SimpleReaders::delete_statement_read))]
-fn delete_statement(alloc: Global, tokens: &[Placed], levels: u32) -> Result<(Simple, &[Placed]), Halt>
+fn delete_statement(
+    alloc: Global,
+    tokens: &[Placed],
+    levels: u32,
+) -> Result<(Simple, &[Placed]), Halt>
     ensures exact { Gives (λ x. (x.0, x.1.now)) result (delete_statement_read levels tokens.now) }
     ensures takes { IfOk result (λ x. length x.1.now < length tokens.now) }
 {
@@ -196,7 +244,11 @@ fn delete_statement(alloc: Global, tokens: &[Placed], levels: u32) -> Result<(Si
 
 /// `SELECT picks INTO targets FROM from` (ISO/IEC 9075:1992, 13.5)
 #[tactic(auto, unfolding(crate::specs::SimpleReaders::select_statement_read))]
-fn select_statement(alloc: Global, tokens: &[Placed], levels: u32) -> Result<(Simple, &[Placed]), Halt>
+fn select_statement(
+    alloc: Global,
+    tokens: &[Placed],
+    levels: u32,
+) -> Result<(Simple, &[Placed]), Halt>
     ensures exact { Gives (λ x. (x.0, x.1.now)) result (select_statement_read levels tokens.now) }
     ensures takes { IfOk result (λ x. length x.1.now < length tokens.now) }
 {
@@ -223,7 +275,11 @@ fn select_statement(alloc: Global, tokens: &[Placed], levels: u32) -> Result<(Si
 
 /// A statement about cursors or tables.
 #[tactic(auto, unfolding(crate::specs::SimpleReaders::data_statement_read))]
-pub(crate) fn data_statement(alloc: Global, tokens: &[Placed], levels: u32) -> Result<(Simple, &[Placed]), Halt>
+pub(crate) fn data_statement(
+    alloc: Global,
+    tokens: &[Placed],
+    levels: u32,
+) -> Result<(Simple, &[Placed]), Halt>
     ensures exact { Gives (λ x. (x.0, x.1.now)) result (data_statement_read levels tokens.now) }
     ensures takes { IfOk result (λ x. length x.1.now < length tokens.now) }
 {

@@ -75,12 +75,19 @@ fn declared(
     ensures exact { Gives (λ x. (x.0, x.1.now)) result (declared_item_read place (phase_of stage) levels tokens.now) }
     ensures takes { IfOk result (λ x. length x.1.now < length tokens.now) }
 {
-    if at_one_of(tokens, &HANDLER_WORDS) {
-        return handler(alloc, place, tokens, levels);
-    }
     match stage {
-        Stage::Declarations => named(alloc, place, tokens, levels, Stage::Declarations),
-        Stage::Cursors => named(alloc, place, tokens, levels, Stage::Cursors),
+        Stage::Declarations => {
+            if at_one_of(tokens, &HANDLER_WORDS) {
+                return handler(alloc, place, tokens, levels);
+            }
+            named(alloc, place, tokens, levels, Stage::Declarations)
+        }
+        Stage::Cursors => {
+            if at_one_of(tokens, &HANDLER_WORDS) {
+                return handler(alloc, place, tokens, levels);
+            }
+            named(alloc, place, tokens, levels, Stage::Cursors)
+        }
         Stage::Handlers => handler(alloc, place, tokens, levels),
     }
 }

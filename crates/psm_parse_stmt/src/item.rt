@@ -1,8 +1,8 @@
 //! The declarations of a block while it is read.
 ghost use Rattle.std.specs.Prelude.{◌≡◌, IfOk};
 
-use psm_grammar::Halt;
 use psm_tree::{CursorDeclaration, Declaration, Handler};
+use std::alloc::AllocError;
 
 /// A declaration.
 #[derive(Drop)]
@@ -46,8 +46,8 @@ impl Item {
 impl Heads {
     ghost use Rattle.psm_parse_stmt.specs.Declaring.{Adds};
 
-    /// Puts a declaration behind the others of its kind.
-    pub(crate) fn add(&mut self, item: Item) -> Result<(), Halt>
+    /// Puts a declaration behind the others of its kind. Want of memory is the one refusal.
+    pub(crate) fn add(&mut self, item: Item) -> Result<(), AllocError>
         ensures { IfOk result (λ _. Adds self.old item self.new) }
     {
         match item {

@@ -18,9 +18,16 @@ mod label;
 mod level;
 mod loops;
 mod named;
+mod parse;
 mod parts;
 mod simple;
 mod statements;
 
 pub use condition::ordered_select;
+pub use parse::parse_stmt;
 pub use statements::statement;
+
+#[cfg(test)]
+mod show;
+#[cfg(test)]
+mod tests;

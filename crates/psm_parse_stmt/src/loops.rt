@@ -2,8 +2,9 @@
 ghost use Rattle.std.specs.Prelude.{◌≡◌, ◌<◌, length, IfOk};
 ghost use Rattle.psm_grammar.specs.Gives.{Gives};
 ghost use Rattle.psm_tree.specs.StatementValues.{statements_of};
-ghost use Rattle.psm_parse_stmt.specs.Blocks.{OnHeap};
-ghost use Rattle.psm_parse_stmt.specs.StatementReaders.{for_read, loop_body_read, loop_read, repeat_read, until_read, while_read};
+ghost use Rattle.psm_grammar.specs.Readers.{made};
+ghost use Rattle.psm_parse_stmt.specs.Blocks.{OnHeap, for_block as for_tree};
+ghost use Rattle.psm_parse_stmt.specs.StatementReaders.{for_query_read, for_read, for_rest_read, loop_body_read, loop_read, repeat_read, until_read, while_read};
 
 use crate::block::Block;
 use crate::condition::ordered_select;
@@ -14,18 +15,18 @@ use psm_grammar::Halt;
 use psm_list::{Boxed, List};
 use psm_parse_expr::expr;
 use psm_parse_token::{before_word, beside, expect_name, expect_word};
-use psm_token::{Placed, Word};
-use psm_tree::{Expr, Statement};
+use psm_token::{Place, Placed, Word};
+use psm_tree::{Expr, OrderedQuery, Statement};
 use std::alloc::Global;
 
 /// The statements of a loop with the first of them on the heap; `Memory` alone refuses them.
 fn on_heap(
     alloc: Global,
-    statements: (Statement, List<Statement>),
+    first: Statement,
+    others: List<Statement>,
 ) -> Result<(Boxed<Statement>, List<Statement>), Halt>
-    ensures { OnHeap statements result }
+    ensures { OnHeap first others result }
 {
-    let (first, others) = statements;
     Ok((Boxed::new(alloc, first)?, others))
 }
 
@@ -55,8 +56,8 @@ fn loop_body(
 {
     let (body, rest) = statements(alloc, tokens, levels)?;
     let (body, rest) = before_word(body, rest, Word::End)?;
-    let (body, rest) = before_word(body, rest, behind)?;
-    Ok((on_heap(alloc, body)?, rest))
+    let ((first, others), rest) = before_word(body, rest, behind)?;
+    Ok((on_heap(alloc, first, others)?, rest))
 }
 
 /// `LOOP statements END LOOP`
@@ -119,8 +120,8 @@ pub(crate) fn repeat_block(
 {
     let (place, rest) = expect_word(tokens, Word::Repeat)?;
     let left = level_below(tokens, levels)?;
-    let (body, rest) = statements(alloc, rest, left)?;
-    let body = on_heap(alloc, body)?;
+    let ((first, others), rest) = statements(alloc, rest, left)?;
+    let body = on_heap(alloc, first, others)?;
     let (((first, others), until), rest) = beside(body, until(alloc, rest, left))?;
     let block = Block::Repeat {
         place,
@@ -133,7 +134,7 @@ pub(crate) fn repeat_block(
 
 /// `FOR name AS [name [INSENSITIVE] CURSOR FOR] select [order] DO statements END FOR`
 #[cycle(statements)]
-#[tactic(auto, using(crate::proofs::Blocks::for_part), unfolding(crate::specs::StatementReaders::for_read, crate::specs::StatementReaders::for_rest_read))]
+#[tactic(auto, using(crate::proofs::Blocks::for_part), unfolding(crate::specs::StatementReaders::for_read))]
 pub(crate) fn for_block(
     alloc: Global,
     tokens: &[Placed],
@@ -144,16 +145,28 @@ pub(crate) fn for_block(
 {
     let (place, rest) = expect_word(tokens, Word::For)?;
     let left = level_below(tokens, levels)?;
-    let (name, rest) = expect_name(alloc, rest)?;
+    for_rest(alloc, place, rest, left)
+}
+
+/// What stands behind FOR.
+#[cycle(statements)]
+#[tactic(auto, unfolding(crate::specs::StatementReaders::for_rest_read))]
+fn for_rest(
+    alloc: Global,
+    place: Place,
+    tokens: &[Placed],
+    levels: u32,
+) -> Result<(Block, &[Placed]), Halt>
+    ensures exact { Gives (λ x. (x.0, x.1.now)) result (made (for_tree place) (for_rest_read levels) tokens.now) }
+    ensures takes { IfOk result (λ x. length x.1.now < length tokens.now) }
+{
+    let (name, rest) = expect_name(alloc, tokens)?;
     let (name, rest) = before_word(name, rest, Word::As)?;
-    let (named, rest) = beside(name, perhaps_for_cursor(alloc, rest))?;
-    let (queried, rest) = beside(named, ordered_select(alloc, rest, left))?;
-    let (queried, rest) = before_word(queried, rest, Word::Do)?;
-    let ((queried, (first, others)), rest) = beside(
-        queried,
-        loop_body(alloc, rest, left, Word::For),
+    let ((name, cursor), rest) = beside(name, perhaps_for_cursor(alloc, rest))?;
+    let (((name, cursor), (query, (first, others))), rest) = beside(
+        (name, cursor),
+        for_query(alloc, rest, levels),
     )?;
-    let ((name, cursor), query) = queried;
     let block = Block::For {
         place,
         name,
@@ -163,4 +176,26 @@ pub(crate) fn for_block(
         rest: others,
     };
     Ok((block, rest))
+}
+
+/// `select [order] DO statements END FOR`
+#[cycle(statements)]
+#[tactic(auto, unfolding(crate::specs::StatementReaders::for_query_read))]
+fn for_query(
+    alloc: Global,
+    tokens: &[Placed],
+    levels: u32,
+) -> Result<
+    (
+        (OrderedQuery, (Boxed<Statement>, List<Statement>)),
+        &[Placed],
+    ),
+    Halt,
+>
+    ensures exact { Gives (λ x. ((x.0.0, statements_of x.0.1.0 x.0.1.1), x.1.now)) result (for_query_read levels tokens.now) }
+    ensures takes { IfOk result (λ x. length x.1.now < length tokens.now) }
+{
+    let (query, rest) = ordered_select(alloc, tokens, levels)?;
+    let (query, rest) = before_word(query, rest, Word::Do)?;
+    beside(query, loop_body(alloc, rest, levels, Word::For))
 }

@@ -3,11 +3,11 @@ ghost use Rattle.std.specs.Prelude.{◌≡◌, ◌<◌, ◌≤◌, length, IfOk}
 ghost use Rattle.psm_grammar.specs.Gives.{Gives};
 ghost use Rattle.psm_parse_stmt.specs.SimpleReaders.{call_statement_read, resignal_statement_read, return_statement_read, set_statement_read, signal_statement_read, simple_read};
 
-use psm_grammar::Halt;
 use crate::condition::{resignalled, signalled};
 use crate::data::data_statement;
 use crate::diagnostics::diagnostics_statement;
 use crate::label::{iterate_statement, leave_statement};
+use psm_grammar::Halt;
 use psm_parse_expr::{arguments, source};
 use psm_parse_token::{at_word, before_sign, beside, expect_name, expect_word, target};
 use psm_token::{Placed, Sign, Word};
@@ -34,7 +34,11 @@ fn set_statement(alloc: Global, tokens: &[Placed], levels: u32) -> Result<(Simpl
 
 /// `CALL name "(" [source {"," source}] ")"`
 #[tactic(auto, unfolding(crate::specs::SimpleReaders::call_statement_read))]
-fn call_statement(alloc: Global, tokens: &[Placed], levels: u32) -> Result<(Simple, &[Placed]), Halt>
+fn call_statement(
+    alloc: Global,
+    tokens: &[Placed],
+    levels: u32,
+) -> Result<(Simple, &[Placed]), Halt>
     ensures exact { Gives (λ x. (x.0, x.1.now)) result (call_statement_read levels tokens.now) }
     ensures takes { IfOk result (λ x. length x.1.now < length tokens.now) }
 {
@@ -52,7 +56,11 @@ fn call_statement(alloc: Global, tokens: &[Placed], levels: u32) -> Result<(Simp
 
 /// `RETURN source`
 #[tactic(auto, unfolding(crate::specs::SimpleReaders::return_statement_read))]
-fn return_statement(alloc: Global, tokens: &[Placed], levels: u32) -> Result<(Simple, &[Placed]), Halt>
+fn return_statement(
+    alloc: Global,
+    tokens: &[Placed],
+    levels: u32,
+) -> Result<(Simple, &[Placed]), Halt>
     ensures exact { Gives (λ x. (x.0, x.1.now)) result (return_statement_read levels tokens.now) }
     ensures takes { IfOk result (λ x. length x.1.now < length tokens.now) }
 {
@@ -63,7 +71,11 @@ fn return_statement(alloc: Global, tokens: &[Placed], levels: u32) -> Result<(Si
 
 /// `SIGNAL (state | name) [SET MESSAGE_TEXT "=" expr]`
 #[tactic(auto, unfolding(crate::specs::SimpleReaders::signal_statement_read))]
-fn signal_statement(alloc: Global, tokens: &[Placed], levels: u32) -> Result<(Simple, &[Placed]), Halt>
+fn signal_statement(
+    alloc: Global,
+    tokens: &[Placed],
+    levels: u32,
+) -> Result<(Simple, &[Placed]), Halt>
     ensures exact { Gives (λ x. (x.0, x.1.now)) result (signal_statement_read levels tokens.now) }
     ensures takes { IfOk result (λ x. length x.1.now < length tokens.now) }
 {
@@ -74,7 +86,11 @@ fn signal_statement(alloc: Global, tokens: &[Placed], levels: u32) -> Result<(Si
 
 /// `RESIGNAL [(state | name) [SET MESSAGE_TEXT "=" expr]]`
 #[tactic(auto, unfolding(crate::specs::SimpleReaders::resignal_statement_read))]
-fn resignal_statement(alloc: Global, tokens: &[Placed], levels: u32) -> Result<(Simple, &[Placed]), Halt>
+fn resignal_statement(
+    alloc: Global,
+    tokens: &[Placed],
+    levels: u32,
+) -> Result<(Simple, &[Placed]), Halt>
     ensures exact { Gives (λ x. (x.0, x.1.now)) result (resignal_statement_read levels tokens.now) }
     ensures takes { IfOk result (λ x. length x.1.now < length tokens.now) }
 {
@@ -85,7 +101,11 @@ fn resignal_statement(alloc: Global, tokens: &[Placed], levels: u32) -> Result<(
 
 /// A statement that has no statements.
 #[tactic(auto, unfolding(crate::specs::SimpleReaders::simple_read))]
-pub(crate) fn simple_statement(alloc: Global, tokens: &[Placed], levels: u32) -> Result<(Simple, &[Placed]), Halt>
+pub(crate) fn simple_statement(
+    alloc: Global,
+    tokens: &[Placed],
+    levels: u32,
+) -> Result<(Simple, &[Placed]), Halt>
     ensures exact { Gives (λ x. (x.0, x.1.now)) result (simple_read levels tokens.now) }
     ensures takes { IfOk result (λ x. length x.1.now < length tokens.now) }
 {

@@ -119,8 +119,8 @@ fn labelled_statement(
 {
     let (start, rest) = expect_name(alloc, tokens)?;
     let (start, rest) = before_sign(start, rest, Sign::Colon)?;
-    let (labelled, rest) = beside(start, block(alloc, rest, levels))?;
-    let (((start, block), end), rest) = beside(labelled, end_label(alloc, rest))?;
+    let ((start, block), rest) = beside(start, block(alloc, rest, levels))?;
+    let (((start, block), end), rest) = beside((start, block), end_label(alloc, rest))?;
     let label = Label { start, end };
     Ok((block_statement(Some(label), block), rest))
 }

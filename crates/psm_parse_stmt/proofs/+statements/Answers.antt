@@ -2,13 +2,13 @@ use Rattle.std.proofs.Common.{rules, ◌≡◌, ◌+◌, [], ◌∷◌, ◌++◌
 use Rattle.std.proofs.lemmas.Result.{err_from_is_err_and}
 use Rattle.psm_token.specs.declared.word.Word.TheVariants as w
 use Rattle.psm_grammar.specs.Readers.{starts}
-use Rattle.psm_grammar.proofs.Loops.{goes_on}
+use Rattle.psm_grammar.proofs.Loops.{goes_on, is_done}
 use Rattle.psm_tree.specs.Kinds.{code, codes_of, kind, statement_words}
 use Rattle.psm_tree.specs.Tests.{name_kinds}
 use Rattle.psm_parse_token.proofs.Repeating.{loop_halts}
 use Rattle.psm_parse_stmt.specs.StatementReaders.{ended_statement_read, ended_statements_read, next_branch_read, next_branches_read}
-use Rattle.psm_parse_stmt.specs.Declaring.{declaration_item_read, phase_of, Adds}
-use Rattle.psm_parse_stmt.proofs.Declaring.{declares_start, declares_more, declares_halts, declares_done}
+use Rattle.psm_parse_stmt.specs.Declaring.{declaration_item_read, phase_of, stage_behind, Adds}
+use Rattle.psm_parse_stmt.proofs.Declaring.{declares_more, declares_halts, declares_done}
 use Rattle.psm_parse_stmt.proofs.+statements.Goals as goal
 
 pub statements::ended_statements-returns-in_err-statement-clause-exact : goal.statements::ended_statements-returns-in_err-statement-clause-exact
@@ -25,6 +25,12 @@ statements::ended_statements-loop-alloc-preserved t c =
     let shorter : length c.in_ok-statement.next.now < length c.loop-alloc.rest.now = search rules in
     let pushed : c.push.new.self.items ≡ c.loop-alloc.statements.items ++ c.in_ok-statement.statement ∷ [] = search rules in
     rw pushed (goes_on kind (name_kinds ++ codes_of statement_words) (ended_statement_read c.args.levels) c.args.tokens.now c.loop-alloc.statements.items c.loop-alloc.rest.now c.in_ok-statement.statement c.in_ok-statement.next.now c.loop-alloc.invariant starts_so read_so shorter)
+
+pub statements::ended_statements-returns-clause-exact : goal.statements::ended_statements-returns-clause-exact
+unfolding ended_statements_read
+statements::ended_statements-returns-clause-exact t c =
+    let done : starts kind (name_kinds ++ codes_of statement_words) c.loop-alloc.rest.now ≡ false = search rules in
+    is_done kind (name_kinds ++ codes_of statement_words) (ended_statement_read c.args.levels) c.args.tokens.now c.loop-alloc.statements.items c.loop-alloc.rest.now c.loop-alloc.invariant done
 
 pub branch::next_branches-returns-in_err-branch-clause-exact : goal.branch::next_branches-returns-in_err-branch-clause-exact
 unfolding next_branches_read
@@ -57,7 +63,5 @@ declare::declarations-loop-alloc-preserved t c =
     let read_so : declaration_item_read (phase_of c.loop-alloc.stage) c.args.levels c.loop-alloc.rest.now ≡ Ok (c.in_ok-item.item, c.in_ok-item.next.now) = search rules in
     let shorter : length c.in_ok-item.next.now + 1 < length c.loop-alloc.rest.now = search rules in
     let added : Adds c.loop-alloc.heads c.in_ok-item.item c.add.new.self = search rules in
-    declares_more c.args.levels c.args.tokens.now c.loop-alloc.stage c.loop-alloc.heads c.loop-alloc.rest.now c.in_ok-item.item c.in_ok-item.next.now c.add.new.self c.loop-alloc.invariant read_so shorter added
-
-pub declare::declarations-loop-alloc-established : goal.declare::declarations-loop-alloc-established
-declare::declarations-loop-alloc-established t c = declares_start c.args.levels c.args.tokens.now _ _ refl refl refl refl
+    let staged : c.stage_behind-stage.result ≡ stage_behind c.in_ok-item.item = search rules in
+    rw staged (declares_more c.args.levels c.args.tokens.now c.loop-alloc.stage c.loop-alloc.heads c.loop-alloc.rest.now c.in_ok-item.item c.in_ok-item.next.now c.add.new.self c.loop-alloc.invariant read_so shorter added)

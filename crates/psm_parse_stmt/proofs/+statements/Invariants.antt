@@ -31,6 +31,12 @@ decreases-loops::while_block l = 20 * l.levels + 0
 abbrev pub decreases-loops::repeat_block : goal.decreases-loops::repeat_block
 decreases-loops::repeat_block l = 20 * l.levels + 0
 
+abbrev pub decreases-loops::for_rest : goal.decreases-loops::for_rest
+decreases-loops::for_rest l = 20 * l.levels + 10
+
+abbrev pub decreases-loops::for_query : goal.decreases-loops::for_query
+decreases-loops::for_query l = 20 * l.levels + 9
+
 abbrev pub decreases-loops::for_block : goal.decreases-loops::for_block
 decreases-loops::for_block l = 20 * l.levels + 0
 
