@@ -13,3 +13,4 @@ pub mod ItemSame
 pub mod Declaring
 pub mod StatementReads
 pub mod StatementExact
+pub mod Ended

@@ -20,7 +20,6 @@ const MOST_LEVELS: u32 = 100;
 /// # Errors
 /// `Syntax` at the first token that no statement goes on with, or at the end; `Deep` at the token that opens
 /// level 101; `Memory`.
-#[tactic(auto, using(crate::proofs::StatementExact::statement_run, crate::proofs::StatementExact::statement_halts))]
 pub fn parse_stmt(
     alloc: Global,
     tokens: &TokenList,
