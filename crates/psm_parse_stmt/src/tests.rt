@@ -224,7 +224,7 @@ fn a_statement_with_expressions_is_read(rt: HostRuntime) -> Result<(), Fail> {
             "select a, b into c, d from t where a = 1",
             "select 2 1+1 T where",
         ),
-        ("select * into c from t as u", "select 0 1+0 T U"),
+        ("select * into c from t as u", "select 1 1+0 T U"),
         (
             "insert into t values (1, null), (2, 3)",
             "insert T rows 1+1",
