@@ -39,10 +39,10 @@ says_refusal asked sunk answer f (refusals.Unread w) named h puts =
     (inr (record { files = f; named = named; owed = record { name = name_of f w; is_named = named_or f w; rose = h.rose; message = refl } })) (λ s. s) puts
 says_refusal asked sunk answer f (refusals.TooLong w) named h puts =
     says_put asked sunk status.TooLong answer (line_of f (refusals.TooLong w)) (inr (record { files = f; named = named; owed = h })) (λ s. s) puts
-says_refusal asked sunk answer f (refusals.NotBuilt which.Module) named h puts =
-    says_put asked sunk status.ModuleRefused answer (line_of f (refusals.NotBuilt which.Module)) (inr (record { files = f; named = named; owed = h })) (λ s. s) puts
-says_refusal asked sunk answer f (refusals.NotBuilt which.Script) named h puts =
-    says_put asked sunk status.ScriptRefused answer (line_of f (refusals.NotBuilt which.Script)) (inr (record { files = f; named = named; owed = h })) (λ s. s) puts
+says_refusal asked sunk answer f (refusals.Refused which.Module fault) named h puts =
+    says_put asked sunk status.ModuleRefused answer (line_of f (refusals.Refused which.Module fault)) (inr (record { files = f; named = named; owed = h })) (λ s. s) puts
+says_refusal asked sunk answer f (refusals.Refused which.Script fault) named h puts =
+    says_put asked sunk status.ScriptRefused answer (line_of f (refusals.Refused which.Script fault)) (inr (record { files = f; named = named; owed = h })) (λ s. s) puts
 says_refusal asked sunk answer f refusals.Memory named h puts = subst (λ (a : Status). Says asked sunk a) (sym puts.answer_is) (inl (record { put = puts.put }))
 
 -- ---- a session

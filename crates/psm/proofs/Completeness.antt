@@ -1,13 +1,12 @@
 -- What is due is answered, where nothing outside fails.
 use Rattle.std.proofs.Common.{◌≡◌, ℕ, ◌<◌, ◌≤◌, List, length, Some, None, Err, refl, sym, ap, ◌∙◌, subst, inl, inr, arith}
 use Rattle.std.specs.Prelude.{◌⊎◌}
-use Rattle.psm_built.specs.Accepted.{IsScriptFile}
 use Rattle.psm_built.specs.Session.{Session, End, Done, Stopped, session}
 use Rattle.psm_built.specs.declared.tree.Module.{Module}
 use Rattle.psm_built.specs.declared.tree.Script.{Script}
-use Rattle.psm_built.proofs.Once.{module_once, script_once}
 use Rattle.psm_machine.specs.Played.{played}
 use Rattle.psm_machine.specs.declared.code.Code.{Code}
+use Rattle.psm.specs.Source.{IsScriptFile}
 use Rattle.psm.specs.Words.{Files, files_of}
 use Rattle.psm.specs.Message.{usage}
 use Rattle.psm.specs.Put.{Sunk}
@@ -21,6 +20,7 @@ use Rattle.psm.specs.declared.prepare.Refusal.TheVariants as refusals
 use Rattle.psm.specs.declared.status.Status.{Status}
 use Rattle.psm.specs.declared.status.Status.TheVariants as status
 use Rattle.psm.proofs.Fetched.{told_same}
+use Rattle.psm.proofs.Sources.{module_once, module_not_refused, script_once, script_not_refused}
 
 -- ---- at most one status is due
 
@@ -55,10 +55,10 @@ long_module_only f ms ss ps qs status.ObjectRefused x y = absurd y
 refused_module_only : (f : Files) (ms ss : List ℕ) (ps qs : List (List ℕ)) (due : Status) → IsRefusedModule ms ps → Due f ms ss due qs → due ≡ status.ModuleRefused
 refused_module_only f ms ss ps qs status.ModuleRefused x y = refl
 refused_module_only f ms ss ps qs status.TooLong x (inl y) = absurd (too_long_not_short (length ms) x.none.short y.long)
-refused_module_only f ms ss ps qs status.TooLong x (inr y) = absurd (x.none.none y.tree y.is_module.file)
-refused_module_only f ms ss ps qs status.Done x y = absurd (x.none.none y.tree y.is_module.file)
-refused_module_only f ms ss ps qs status.TurnsUsed x y = absurd (x.none.none y.tree y.is_module.file)
-refused_module_only f ms ss ps qs status.ScriptRefused x y = absurd (x.none.none y.tree y.is_module.file)
+refused_module_only f ms ss ps qs status.TooLong x (inr y) = absurd (module_not_refused ms y.tree x.fault y.is_module.file x.none.fault_is)
+refused_module_only f ms ss ps qs status.Done x y = absurd (module_not_refused ms y.tree x.fault y.is_module.file x.none.fault_is)
+refused_module_only f ms ss ps qs status.TurnsUsed x y = absurd (module_not_refused ms y.tree x.fault y.is_module.file x.none.fault_is)
+refused_module_only f ms ss ps qs status.ScriptRefused x y = absurd (module_not_refused ms y.tree x.fault y.is_module.file x.none.fault_is)
 refused_module_only f ms ss ps qs status.Usage x y = absurd y
 refused_module_only f ms ss ps qs status.ReadFault x y = absurd y
 refused_module_only f ms ss ps qs status.WriteFault x y = absurd y
@@ -69,7 +69,7 @@ long_script_only : (f : Files) (ms ss : List ℕ) (ps qs : List (List ℕ)) (due
 long_script_only f ms ss ps qs status.TooLong x y = refl
 long_script_only f ms ss ps qs status.Done x y = absurd (too_long_not_short (length ss) y.is_script.short x.long)
 long_script_only f ms ss ps qs status.TurnsUsed x y = absurd (too_long_not_short (length ss) y.is_script.short x.long)
-long_script_only f ms ss ps qs status.ModuleRefused x y = absurd (y.none.none x.tree x.is_module.file)
+long_script_only f ms ss ps qs status.ModuleRefused x y = absurd (module_not_refused ms x.tree y.fault x.is_module.file y.none.fault_is)
 long_script_only f ms ss ps qs status.ScriptRefused x y = absurd (too_long_not_short (length ss) y.none.short x.long)
 long_script_only f ms ss ps qs status.Usage x y = absurd y
 long_script_only f ms ss ps qs status.ReadFault x y = absurd y
@@ -81,9 +81,9 @@ refused_script_only : (f : Files) (ms ss : List ℕ) (ps qs : List (List ℕ)) (
 refused_script_only f ms ss ps qs status.ScriptRefused x y = refl
 refused_script_only f ms ss ps qs status.TooLong x (inl y) = absurd (too_long_not_short (length ms) x.is_module.short y.long)
 refused_script_only f ms ss ps qs status.TooLong x (inr y) = absurd (too_long_not_short (length ss) x.none.short y.long)
-refused_script_only f ms ss ps qs status.Done x y = absurd (x.none.none y.script (over_same ms ss x.tree y.tree y.script x.is_module y.is_module y.is_script))
-refused_script_only f ms ss ps qs status.TurnsUsed x y = absurd (x.none.none y.script (over_same ms ss x.tree y.tree y.script x.is_module y.is_module y.is_script))
-refused_script_only f ms ss ps qs status.ModuleRefused x y = absurd (y.none.none x.tree x.is_module.file)
+refused_script_only f ms ss ps qs status.Done x y = absurd (script_not_refused x.tree.procedure.signature ss y.script x.fault (over_same ms ss x.tree y.tree y.script x.is_module y.is_module y.is_script) x.none.fault_is)
+refused_script_only f ms ss ps qs status.TurnsUsed x y = absurd (script_not_refused x.tree.procedure.signature ss y.script x.fault (over_same ms ss x.tree y.tree y.script x.is_module y.is_module y.is_script) x.none.fault_is)
+refused_script_only f ms ss ps qs status.ModuleRefused x y = absurd (module_not_refused ms x.tree y.fault x.is_module.file y.none.fault_is)
 refused_script_only f ms ss ps qs status.Usage x y = absurd y
 refused_script_only f ms ss ps qs status.ReadFault x y = absurd y
 refused_script_only f ms ss ps qs status.WriteFault x y = absurd y
@@ -100,8 +100,8 @@ ends_only f ms ss end ps qs status.Done x y = ap status_at (same_ends ms ss Done
 ends_only f ms ss end ps qs status.TurnsUsed x y = ap status_at (same_ends ms ss Stopped end qs ps y x)
 ends_only f ms ss end ps qs status.TooLong x (inl y) = absurd (too_long_not_short (length ms) x.is_module.short y.long)
 ends_only f ms ss end ps qs status.TooLong x (inr y) = absurd (too_long_not_short (length ss) x.is_script.short y.long)
-ends_only f ms ss end ps qs status.ModuleRefused x y = absurd (y.none.none x.tree x.is_module.file)
-ends_only f ms ss end ps qs status.ScriptRefused x y = absurd (y.none.none x.script (over_same ms ss y.tree x.tree x.script y.is_module x.is_module x.is_script))
+ends_only f ms ss end ps qs status.ModuleRefused x y = absurd (module_not_refused ms x.tree y.fault x.is_module.file y.none.fault_is)
+ends_only f ms ss end ps qs status.ScriptRefused x y = absurd (script_not_refused y.tree.procedure.signature ss x.script y.fault (over_same ms ss y.tree x.tree x.script y.is_module x.is_module x.is_script) y.none.fault_is)
 ends_only f ms ss end ps qs status.Usage x y = absurd y
 ends_only f ms ss end ps qs status.ReadFault x y = absurd y
 ends_only f ms ss end ps qs status.WriteFault x y = absurd y
@@ -142,12 +142,12 @@ due_refusal fetches f ms ss due pieces (refusals.TooLong w) s t hm hs d h =
     let n : ss ≡ h.ss = told_same (fetches.held f.for_script) h.ss ss hs h.told_script in
     let d' : Due f h.ms h.ss due pieces = subst (λ (x : List ℕ). Due f h.ms x due pieces) n (subst (λ (x : List ℕ). Due f x ss due pieces) m d) in
     inr (elim h.due_is [ inl x ↦ long_module_only f h.ms h.ss _ pieces due x d' | inr x ↦ long_script_only f h.ms h.ss _ pieces due x d' ])
-due_refusal fetches f ms ss due pieces (refusals.NotBuilt which.Module) s t hm hs d h =
+due_refusal fetches f ms ss due pieces (refusals.Refused which.Module fault) s t hm hs d h =
     let m : ms ≡ h.ms = told_same (fetches.held f.for_module) h.ms ms hm h.told_module in
     let n : ss ≡ h.ss = told_same (fetches.held f.for_script) h.ss ss hs h.told_script in
     let d' : Due f h.ms h.ss due pieces = subst (λ (x : List ℕ). Due f h.ms x due pieces) n (subst (λ (x : List ℕ). Due f x ss due pieces) m d) in
     inr (refused_module_only f h.ms h.ss _ pieces due h.due_is d')
-due_refusal fetches f ms ss due pieces (refusals.NotBuilt which.Script) s t hm hs d h =
+due_refusal fetches f ms ss due pieces (refusals.Refused which.Script fault) s t hm hs d h =
     let m : ms ≡ h.ms = told_same (fetches.held f.for_module) h.ms ms hm h.told_module in
     let n : ss ≡ h.ss = told_same (fetches.held f.for_script) h.ss ss hs h.told_script in
     let d' : Due f h.ms h.ss due pieces = subst (λ (x : List ℕ). Due f h.ms x due pieces) n (subst (λ (x : List ℕ). Due f x ss due pieces) m d) in
@@ -158,14 +158,14 @@ due_refusal fetches f ms ss due pieces refusals.Memory s t hm hs d h = inl refl
 report_answers : (refusal : Refusal) (f : Files) (sunk : Sunk) (answer : Status) → Stayed sunk.faults_before sunk.faults_after → Reports refusal f sunk answer → Answers (status_of refusal) answer
 report_answers (refusals.Unread w) f sunk answer stayed puts = put_answers _ _ sunk answer stayed puts
 report_answers (refusals.TooLong w) f sunk answer stayed puts = put_answers _ _ sunk answer stayed puts
-report_answers (refusals.NotBuilt w) f sunk answer stayed puts = put_answers _ _ sunk answer stayed puts
+report_answers (refusals.Refused w fault) f sunk answer stayed puts = put_answers _ _ sunk answer stayed puts
 report_answers refusals.Memory f sunk answer stayed puts = inr puts.answer_is
 
 memory_answers : (refusal : Refusal) (f : Files) (sunk : Sunk) (due answer : Status) → refusal ≡ refusals.Memory → Reports refusal f sunk answer → Answers due answer
 memory_answers refusals.Memory f sunk due answer e puts = inr puts.answer_is
 memory_answers (refusals.Unread w) f sunk due answer e puts = absurd cc
 memory_answers (refusals.TooLong w) f sunk due answer e puts = absurd cc
-memory_answers (refusals.NotBuilt w) f sunk due answer e puts = absurd cc
+memory_answers (refusals.Refused w fault) f sunk due answer e puts = absurd cc
 
 pub completes_refusal : (asked : Asked) (sunk : Sunk) (answer : Status) (f : Files) (refusal : Refusal) → files_of asked.words ≡ Some f → Prepares asked.fetches f (Err refusal) → Reports refusal f sunk answer → Completes asked sunk answer
 completes_refusal asked sunk answer f refusal named h puts = record {

@@ -1,3 +1,4 @@
+pub mod Sources
 pub mod Puts
 pub mod Sessions
 pub mod Fetched

@@ -2,10 +2,10 @@
 use Rattle.std.proofs.Common.{◌≡◌, ℕ, List, [], Option, Ok, Err, refl, sym, ◌∙◌, subst, inl, inr}
 use Rattle.std.specs.Prelude.{unwrap_or}
 use Rattle.psm_io.specs.Count.{Rose}
-use Rattle.psm_built.specs.Accepted.{IsScriptFile}
 use Rattle.psm_built.specs.declared.tree.Signature.{Signature}
 use Rattle.psm_built.specs.declared.tree.Script.{Script}
 use Rattle.psm_machine.specs.declared.code.Code.{Code}
+use Rattle.psm.specs.Source.{IsScriptFile, IsScriptFault}
 use Rattle.psm.specs.Words.{Files}
 use Rattle.psm.specs.Contract.{Fetches, Tells, NoneFailed}
 use Rattle.psm.specs.Prepared.{IsRead, IsFailed, Gets, IsCodeOf, Builds, Scripts, IsReady, Prepares}
@@ -32,21 +32,21 @@ module_unread fetches f (refusals.TooLong which.Module) h = record {
   fetched = h.1.fetched;
 }
 module_unread fetches f (refusals.TooLong which.Script) h = absurd cc
-module_unread fetches f (refusals.NotBuilt w) h = absurd h
+module_unread fetches f (refusals.Refused w fault) h = absurd h
 module_unread fetches f refusals.Memory h = tt
 
 pub module_refused : (fetches : Fetches) (f : Files) (bytes : List ℕ) (e : Refusal) → IsRead fetches f.for_module bytes → Builds bytes (Err e) → Prepares fetches f (Err e)
 module_refused fetches f bytes (refusals.Unread w) read h = absurd h
 module_refused fetches f bytes (refusals.TooLong w) read h = absurd h
-module_refused fetches f bytes (refusals.NotBuilt which.Module) read h = record {
+module_refused fetches f bytes (refusals.Refused which.Module fault) read h = record {
   ms = bytes;
   ss = unwrap_or (fetches.held f.for_script) [];
   told_module = read.told;
   told_script = told_or (fetches.held f.for_script) [];
-  due_is = record { none = h.1; message = refl };
+  due_is = record { fault = fault; none = h.1; message = refl };
   fetched = read.fetched;
 }
-module_refused fetches f bytes (refusals.NotBuilt which.Script) read h = absurd cc
+module_refused fetches f bytes (refusals.Refused which.Script fault) read h = absurd cc
 module_refused fetches f bytes refusals.Memory read h = tt
 
 -- ---- the script
@@ -75,14 +75,14 @@ module _ (held held' : List ℕ → Option (List ℕ)) (before mid after : List 
     fetched = both_stay before mid after read.fetched h.1.fetched;
   }
   script_unread (refusals.TooLong which.Module) h = absurd cc
-  script_unread (refusals.NotBuilt w) h = absurd h
+  script_unread (refusals.Refused w fault) h = absurd h
   script_unread refusals.Memory h = tt
 
   pub script_refused : (ss : List ℕ) (e : Refusal) → IsRead (fetches_of held' mid after) f.for_script ss → Scripts code.signature ss (Err e) → Prepares (fetches_of held before after) f (Err e)
   script_refused ss (refusals.Unread w) second h = absurd h
   script_refused ss (refusals.TooLong w) second h = absurd h
-  script_refused ss (refusals.NotBuilt which.Module) second h = absurd cc
-  script_refused ss (refusals.NotBuilt which.Script) second h = record {
+  script_refused ss (refusals.Refused which.Module fault) second h = absurd cc
+  script_refused ss (refusals.Refused which.Script fault) second h = record {
     ms = ms;
     ss = ss;
     told_module = read.told;
@@ -90,7 +90,8 @@ module _ (held held' : List ℕ → Option (List ℕ)) (before mid after : List 
     due_is = record {
       tree = is.tree;
       is_module = is.is_module;
-      none = record { short = h.1.short; none = λ s file. h.1.none s (subst (λ (x : Signature). IsScriptFile x ss s) (sym is.stands.signature) file) };
+      fault = fault;
+      none = record { short = h.1.short; fault_is = subst (λ (x : Signature). IsScriptFault x ss fault) is.stands.signature h.1.fault_is };
       message = refl;
     };
     fetched = both_stay before mid after read.fetched second.fetched;

@@ -1,5 +1,11 @@
 -- The lines that say why nothing was run.
-use Rattle.std.specs.Prelude.{ℕ, List, ◌++◌, codes}
+use Rattle.std.specs.Prelude.{ℕ, List, [], ◌++◌, codes, decimal, Option, Some, None}
+use Rattle.psm_token.specs.declared.place.Place.{Place}
+use Rattle.psm_token.specs.FaultTexts.{fault_text, fault_place}
+use Rattle.psm.specs.declared.prepare.Which.{Which}
+use Rattle.psm.specs.declared.prepare.Which.TheVariants as which
+use Rattle.psm.specs.declared.fault.Fault.{Fault}
+use Rattle.psm.specs.declared.fault.Fault.TheVariants as faults
 
 abbrev pub usage : List ℕ
 usage = codes "usage: psm run M S\n"
@@ -10,8 +16,31 @@ cannot_read name = codes "cannot read " ++ name ++ codes "\n"
 abbrev pub too_long : List ℕ → List ℕ
 too_long name = name ++ codes " is longer than 16777216 bytes\n"
 
-abbrev pub module_not_built : List ℕ
-module_not_built = codes "module not built\n"
+-- ---- refused files
 
-abbrev pub script_not_built : List ℕ
-script_not_built = codes "script not built\n"
+-- which file
+abbrev pub noun_of : Which → List ℕ
+noun_of which.Module = codes "module"
+noun_of which.Script = codes "script"
+
+-- where its fault is
+abbrev pub place_of : Fault → Option Place
+place_of (faults.Token f) = fault_place f
+place_of (faults.Syntax place) = Some place
+place_of (faults.Deep place) = Some place
+place_of faults.NotBuilt = None
+
+-- what its fault is
+abbrev pub text_of : Fault → List ℕ
+text_of (faults.Token f) = fault_text f
+text_of (faults.Syntax place) = codes "syntax fault"
+text_of (faults.Deep place) = codes "nested too deep"
+text_of faults.NotBuilt = codes "not built"
+
+-- a place, as line and column
+abbrev pub place_text : Option Place → List ℕ
+place_text None = []
+place_text (Some place) = decimal place.line ++ codes ":" ++ decimal place.column ++ codes " "
+
+abbrev pub refusal_line : Which → Fault → List ℕ
+refusal_line w fault = noun_of w ++ codes " " ++ place_text (place_of fault) ++ text_of fault ++ codes "\n"

@@ -2,7 +2,10 @@
 use Rattle.std.specs.Prelude.{◌≡◌, ℕ, ◌<◌, ◌≤◌, List, [], ◌∷◌, length, Result, Ok, Err}
 use Rattle.std.specs.Global.{Vec}
 use Rattle.psm_io.specs.Count.{Rose}
-use Rattle.psm_built.specs.Accepted.{IsScriptFile}
+use Rattle.psm_token.specs.declared.token.Placed.{Placed}
+use Rattle.psm_token.specs.Listed.{Tokens}
+use Rattle.psm_token.specs.Spells.{Spells, IsFirstFault}
+use Rattle.psm_grammar.specs.Language.{Lang}
 use Rattle.psm_built.specs.Session.{session}
 use Rattle.psm_built.specs.declared.tree.Module.{Module}
 use Rattle.psm_built.specs.declared.tree.Signature.{Signature}
@@ -10,7 +13,10 @@ use Rattle.psm_built.specs.declared.tree.Script.{Script}
 use Rattle.psm_machine.specs.declared.code.Code.{Code}
 use Rattle.psm_machine.specs.Played.{played}
 use Rattle.psm.specs.Words.{Files}
-use Rattle.psm.specs.Message.{too_long, cannot_read, module_not_built, script_not_built}
+use Rattle.psm.specs.Message.{too_long, cannot_read, refusal_line}
+use Rattle.psm.specs.Source.{IsTreeOf, IsFaultOf, IsScriptFile, IsScriptFault}
+use Rattle.psm.specs.declared.fault.Fault.{Fault}
+use Rattle.psm.specs.declared.fault.Fault.TheVariants as faults
 use Rattle.psm.specs.Program.{most_bytes, IsModuleOf, IsNoModule, IsScriptOf}
 use Rattle.psm.specs.Contract.{Fetches, Tells, NoneFailed, IsDue}
 use Rattle.psm.specs.declared.prepare.Which.{Which}
@@ -43,8 +49,27 @@ abbrev pub Gets : Fetches → List ℕ → Which → Result (Vec ℕ) Refusal �
 Gets fetches name w (Ok bytes) = IsRead fetches name bytes.items
 Gets fetches name w (Err (refusals.Unread x)) = (x ≡ w) × IsFailed fetches name
 Gets fetches name w (Err (refusals.TooLong x)) = (x ≡ w) × IsTooLong fetches name
-Gets fetches name w (Err (refusals.NotBuilt x)) = ⊥
+Gets fetches name w (Err (refusals.Refused x fault)) = ⊥
 Gets fetches name w (Err refusals.Memory) = Unit {0}
+
+-- ---- trees
+
+-- the tree of a file, or why it has none
+abbrev pub ReadsTree : {Y : Type 0} → Lang Placed Y → (Y → Type 0) → Which → List ℕ → Result Y Refusal → Type 0
+ReadsTree L IsBuilt w bytes (Ok tree) = IsTreeOf L bytes tree
+ReadsTree L IsBuilt w bytes (Err (refusals.Refused x fault)) = (x ≡ w) × IsFaultOf L IsBuilt bytes fault
+ReadsTree L IsBuilt w bytes (Err refusals.Memory) = Unit {0}
+ReadsTree L IsBuilt w bytes (Err (refusals.Unread x)) = ⊥
+ReadsTree L IsBuilt w bytes (Err (refusals.TooLong x)) = ⊥
+
+-- the tokens of a file, or its first fault
+abbrev pub ReadsTokens : Which → List ℕ → Result Tokens Refusal → Type 0
+ReadsTokens w bytes (Ok tokens) = Spells bytes tokens
+ReadsTokens w bytes (Err (refusals.Refused x (faults.Token fault))) = (x ≡ w) × IsFirstFault bytes fault
+ReadsTokens w bytes (Err (refusals.Refused x fault)) = ⊥
+ReadsTokens w bytes (Err refusals.Memory) = Unit {0}
+ReadsTokens w bytes (Err (refusals.Unread x)) = ⊥
+ReadsTokens w bytes (Err (refusals.TooLong x)) = ⊥
 
 -- ---- the module
 
@@ -61,17 +86,17 @@ pub record IsCodeOf (bytes : List ℕ) (code : Code) : Type 0 where
 
 abbrev pub Builds : List ℕ → Result Code Refusal → Type 0
 Builds bytes (Ok code) = IsCodeOf bytes code
-Builds bytes (Err (refusals.NotBuilt x)) = (x ≡ which.Module) × IsNoModule bytes
+Builds bytes (Err (refusals.Refused x fault)) = (x ≡ which.Module) × IsNoModule bytes fault
 Builds bytes (Err refusals.Memory) = Unit {0}
 Builds bytes (Err (refusals.Unread x)) = ⊥
 Builds bytes (Err (refusals.TooLong x)) = ⊥
 
 -- ---- the script
 
--- the bytes are no script over the signature
-pub record IsNoScriptFor (signature : Signature) (bytes : List ℕ) : Type 0 where
+-- the bytes are no script over the signature, for that reason
+pub record IsNoScriptFor (signature : Signature) (bytes : List ℕ) (fault : Fault) : Type 0 where
   pub short : length bytes ≤ most_bytes
-  pub none : (s : Script) → IsScriptFile signature bytes s → ⊥
+  pub fault_is : IsScriptFault signature bytes fault
 
 -- the bytes are that script over the signature
 pub record IsScriptFor (signature : Signature) (bytes : List ℕ) (s : Script) : Type 0 where
@@ -80,7 +105,7 @@ pub record IsScriptFor (signature : Signature) (bytes : List ℕ) (s : Script) :
 
 abbrev pub Scripts : Signature → List ℕ → Result Script Refusal → Type 0
 Scripts signature bytes (Ok s) = IsScriptFor signature bytes s
-Scripts signature bytes (Err (refusals.NotBuilt x)) = (x ≡ which.Script) × IsNoScriptFor signature bytes
+Scripts signature bytes (Err (refusals.Refused x fault)) = (x ≡ which.Script) × IsNoScriptFor signature bytes fault
 Scripts signature bytes (Err refusals.Memory) = Unit {0}
 Scripts signature bytes (Err (refusals.Unread x)) = ⊥
 Scripts signature bytes (Err (refusals.TooLong x)) = ⊥
@@ -92,26 +117,22 @@ name_of f which.Module = f.for_module
 name_of f which.Script = f.for_script
 
 -- the status and the line of a file that is not accepted
-abbrev pub status_of_not_built : Which → Status
-status_of_not_built which.Module = status.ModuleRefused
-status_of_not_built which.Script = status.ScriptRefused
-
-abbrev pub not_built : Which → List ℕ
-not_built which.Module = module_not_built
-not_built which.Script = script_not_built
+abbrev pub status_of_refused : Which → Status
+status_of_refused which.Module = status.ModuleRefused
+status_of_refused which.Script = status.ScriptRefused
 
 -- the status of a refusal
 abbrev pub status_of : Refusal → Status
 status_of (refusals.Unread w) = status.ReadFault
 status_of (refusals.TooLong w) = status.TooLong
-status_of (refusals.NotBuilt w) = status_of_not_built w
+status_of (refusals.Refused w fault) = status_of_refused w
 status_of refusals.Memory = status.Memory
 
 -- the line of a refusal
 abbrev pub line_of : Files → Refusal → List ℕ
 line_of f (refusals.Unread w) = cannot_read (name_of f w)
 line_of f (refusals.TooLong w) = too_long (name_of f w)
-line_of f (refusals.NotBuilt w) = not_built w
+line_of f (refusals.Refused w fault) = refusal_line w fault
 line_of f refusals.Memory = []
 
 -- code and script of the two files
@@ -134,5 +155,5 @@ abbrev pub Prepares : Fetches → Files → Result (Code × Script) Refusal → 
 Prepares fetches f (Ok r) = IsReady fetches f r.0 r.1
 Prepares fetches f (Err (refusals.Unread w)) = IsFailed fetches (name_of f w)
 Prepares fetches f (Err (refusals.TooLong w)) = IsDueRefusal fetches f (refusals.TooLong w)
-Prepares fetches f (Err (refusals.NotBuilt w)) = IsDueRefusal fetches f (refusals.NotBuilt w)
+Prepares fetches f (Err (refusals.Refused w fault)) = IsDueRefusal fetches f (refusals.Refused w fault)
 Prepares fetches f (Err refusals.Memory) = Unit {0}

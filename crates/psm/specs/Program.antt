@@ -1,11 +1,13 @@
 -- What the program owes for two files, where nothing outside fails: a status and pieces of text.
 use Rattle.std.specs.Prelude.{◌≡◌, ℕ, ◌<◌, ◌≤◌, ◌⊎◌, List, [], ◌∷◌, length}
-use Rattle.psm_built.specs.Accepted.{IsModuleFile, IsScriptFile}
 use Rattle.psm_built.specs.Session.{End, Done, Stopped, session}
 use Rattle.psm_built.specs.declared.tree.Module.{Module}
 use Rattle.psm_built.specs.declared.tree.Script.{Script}
 use Rattle.psm.specs.Words.{Files}
-use Rattle.psm.specs.Message.{too_long, module_not_built, script_not_built}
+use Rattle.psm.specs.Message.{too_long, refusal_line}
+use Rattle.psm.specs.Source.{IsModuleFile, IsModuleFault, IsScriptFile, IsScriptFault}
+use Rattle.psm.specs.declared.fault.Fault.{Fault}
+use Rattle.psm.specs.declared.prepare.Which.TheVariants as which
 use Rattle.psm.specs.declared.status.Status.{Status}
 use Rattle.psm.specs.declared.status.Status.TheVariants as status
 
@@ -22,20 +24,20 @@ pub record IsModuleOf (bytes : List ℕ) (m : Module) : Type 0 where
   pub short : length bytes ≤ most_bytes
   pub file : IsModuleFile bytes m
 
--- the bytes are within the bound, and the module file of no module
-pub record IsNoModule (bytes : List ℕ) : Type 0 where
+-- the bytes are within the bound, and no module file, for that reason
+pub record IsNoModule (bytes : List ℕ) (fault : Fault) : Type 0 where
   pub short : length bytes ≤ most_bytes
-  pub none : (m : Module) → IsModuleFile bytes m → ⊥
+  pub fault_is : IsModuleFault bytes fault
 
 -- the bytes are within the bound, and that script over the module
 pub record IsScriptOf (m : Module) (bytes : List ℕ) (s : Script) : Type 0 where
   pub short : length bytes ≤ most_bytes
   pub file : IsScriptFile m.procedure.signature bytes s
 
--- the bytes are within the bound, and no script over the module
-pub record IsNoScript (m : Module) (bytes : List ℕ) : Type 0 where
+-- the bytes are within the bound, and no script over the module, for that reason
+pub record IsNoScript (m : Module) (bytes : List ℕ) (fault : Fault) : Type 0 where
   pub short : length bytes ≤ most_bytes
-  pub none : (s : Script) → IsScriptFile m.procedure.signature bytes s → ⊥
+  pub fault_is : IsScriptFault m.procedure.signature bytes fault
 
 -- the session of the two files ends so, with these pieces
 pub record Ends (ms ss : List ℕ) (end : End) (pieces : List (List ℕ)) : Type 0 where
@@ -53,8 +55,9 @@ pub record IsLongModule (f : Files) (ms : List ℕ) (pieces : List (List ℕ)) :
 
 -- the module file is refused
 pub record IsRefusedModule (ms : List ℕ) (pieces : List (List ℕ)) : Type 0 where
-  pub none : IsNoModule ms
-  pub message : pieces ≡ module_not_built ∷ []
+  pub fault : Fault
+  pub none : IsNoModule ms fault
+  pub message : pieces ≡ refusal_line which.Module fault ∷ []
 
 -- the script is too long
 pub record IsLongScript (f : Files) (ms ss : List ℕ) (pieces : List (List ℕ)) : Type 0 where
@@ -67,8 +70,9 @@ pub record IsLongScript (f : Files) (ms ss : List ℕ) (pieces : List (List ℕ)
 pub record IsRefusedScript (ms ss : List ℕ) (pieces : List (List ℕ)) : Type 0 where
   pub tree : Module
   pub is_module : IsModuleOf ms tree
-  pub none : IsNoScript tree ss
-  pub message : pieces ≡ script_not_built ∷ []
+  pub fault : Fault
+  pub none : IsNoScript tree ss fault
+  pub message : pieces ≡ refusal_line which.Script fault ∷ []
 
 -- What is due for two files with these contents, by the status. The first thing that fails decides, in
 -- the order: the module's length, its content, the script's length, its content, the run.

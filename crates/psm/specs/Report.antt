@@ -29,7 +29,7 @@ abbrev pub Reports : Refusal → Files → Sunk → Status → Type 0
 Reports refusals.Memory f sunk answer = IsOut sunk answer
 Reports (refusals.Unread w) f sunk answer = Puts (line_of f (refusals.Unread w)) (status_of (refusals.Unread w)) sunk answer
 Reports (refusals.TooLong w) f sunk answer = Puts (line_of f (refusals.TooLong w)) (status_of (refusals.TooLong w)) sunk answer
-Reports (refusals.NotBuilt w) f sunk answer = Puts (line_of f (refusals.NotBuilt w)) (status_of (refusals.NotBuilt w)) sunk answer
+Reports (refusals.Refused w fault) f sunk answer = Puts (line_of f (refusals.Refused w fault)) (status_of (refusals.Refused w fault)) sunk answer
 
 -- the status of a session's end, with what is written
 abbrev pub Runs : Session → Sunk → Status → Type 0

@@ -1,6 +1,7 @@
 //! `psm`: compiles an SQL server module and runs it over a script.
 #![tactic(auto)]
 
+mod fault;
 mod piece;
 mod prepare;
 mod report;

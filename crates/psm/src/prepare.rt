@@ -1,13 +1,18 @@
 //! From two file names to code and script, or the first thing that fails.
 ghost use Rattle.std.specs.Prelude.{◌≡◌, ◌≤◌, ℕ, List as Seq, length};
 ghost use Rattle.psm.specs.Program.{most_bytes};
-ghost use Rattle.psm.specs.Prepared.{Prepares, Builds, Scripts, Gets};
+ghost use Rattle.psm.specs.Prepared.{Prepares, Builds, Scripts, Gets, ReadsTokens, ReadsTree};
+ghost use Rattle.psm.specs.Source.{module_files, scripts, HasModule, HasScript};
 ghost use Rattle.psm.specs.declared.prepare.Which.TheVariants as which;
 
+use crate::fault::Fault;
 use crate::words::Files;
-use psm_built::{ReadFault, Script, Signature, read_module, read_script};
+use psm_built::{Script, Signature, built_module, built_script};
 use psm_io::{Shelf, ShelfFault};
 use psm_machine::{Code, lower};
+use psm_parse_file::{parse_file, parse_script};
+use psm_token::{LexFault, TokenList, tokens};
+use psm_tree::{FileTree, ParseFault, ScriptTree};
 use std::alloc::Global;
 
 /// The most bytes of a file.
@@ -27,8 +32,8 @@ pub enum Refusal {
     Unread(Which),
     /// The file is too long.
     TooLong(Which),
-    /// The file is not accepted.
-    NotBuilt(Which),
+    /// The file is refused for that reason.
+    Refused(Which, Fault),
     Memory,
 }
 
@@ -67,17 +72,64 @@ fn fetch<F: Shelf>(
     }
 }
 
+// The tokens of a file.
+fn tokens_of(alloc: Global, bytes: &[u8], which: Which) -> Result<TokenList, Refusal>
+    requires { length bytes.now ≤ most_bytes }
+    ensures { ReadsTokens which bytes.now result }
+{
+    match tokens(alloc, bytes) {
+        Ok(tokens) => Ok(tokens),
+        Err(LexFault::Memory) => Err(Refusal::Memory),
+        Err(fault) => Err(Refusal::Refused(which, Fault::Token(fault))),
+    }
+}
+
+// The tree of a module file.
+fn module_tree(alloc: Global, bytes: &[u8]) -> Result<FileTree, Refusal>
+    requires { length bytes.now ≤ most_bytes }
+    ensures { ReadsTree module_files HasModule which.Module bytes.now result }
+{
+    let tokens = tokens_of(alloc, bytes, Which::Module)?;
+    match parse_file(alloc, &tokens) {
+        Ok(tree) => Ok(tree),
+        Err(ParseFault::Syntax(place)) => Err(Refusal::Refused(
+            Which::Module,
+            Fault::Syntax(place),
+        )),
+        Err(ParseFault::Deep(place)) => Err(Refusal::Refused(Which::Module, Fault::Deep(place))),
+        Err(ParseFault::Memory) => Err(Refusal::Memory),
+    }
+}
+
+// The tree of a script.
+fn script_tree(alloc: Global, signature: &Signature, bytes: &[u8]) -> Result<ScriptTree, Refusal>
+    requires { length bytes.now ≤ most_bytes }
+    ensures { ReadsTree scripts (HasScript signature.now) which.Script bytes.now result }
+{
+    let tokens = tokens_of(alloc, bytes, Which::Script)?;
+    match parse_script(alloc, &tokens) {
+        Ok(tree) => Ok(tree),
+        Err(ParseFault::Syntax(place)) => Err(Refusal::Refused(
+            Which::Script,
+            Fault::Syntax(place),
+        )),
+        Err(ParseFault::Deep(place)) => Err(Refusal::Refused(Which::Script, Fault::Deep(place))),
+        Err(ParseFault::Memory) => Err(Refusal::Memory),
+    }
+}
+
 // The code of a module file.
 fn build(alloc: Global, bytes: &[u8]) -> Result<Code, Refusal>
     requires { length bytes.now ≤ most_bytes }
     ensures { Builds bytes.now result }
 {
-    let tree = match read_module(alloc, bytes) {
-        Ok(tree) => tree,
-        Err(ReadFault::Refused) => return Err(Refusal::NotBuilt(Which::Module)),
-        Err(ReadFault::Memory) => return Err(Refusal::Memory),
+    let tree = module_tree(alloc, bytes)?;
+    let built = match built_module(alloc, &tree) {
+        Ok(Some(built)) => built,
+        Ok(None) => return Err(Refusal::Refused(Which::Module, Fault::NotBuilt)),
+        Err(_) => return Err(Refusal::Memory),
     };
-    match lower(alloc, tree) {
+    match lower(alloc, built) {
         Ok(code) => Ok(code),
         Err(_) => Err(Refusal::Memory),
     }
@@ -88,9 +140,10 @@ fn script_over(alloc: Global, signature: &Signature, bytes: &[u8]) -> Result<Scr
     requires { length bytes.now ≤ most_bytes }
     ensures { Scripts signature.now bytes.now result }
 {
-    match read_script(alloc, bytes, signature) {
-        Ok(script) => Ok(script),
-        Err(ReadFault::Refused) => Err(Refusal::NotBuilt(Which::Script)),
-        Err(ReadFault::Memory) => Err(Refusal::Memory),
+    let tree = script_tree(alloc, signature, bytes)?;
+    match built_script(alloc, &tree, signature) {
+        Ok(Some(script)) => Ok(script),
+        Ok(None) => Err(Refusal::Refused(Which::Script, Fault::NotBuilt)),
+        Err(_) => Err(Refusal::Memory),
     }
 }

@@ -1,12 +1,13 @@
 //! What is put for a refusal, and for a script that is run.
 ghost use Rattle.std.specs.Prelude.{◌≡◌, ◌++◌, IfOk};
 ghost use Rattle.psm_machine.specs.Played.{played};
-ghost use Rattle.psm.specs.Message.{usage};
 ghost use Rattle.psm.specs.Program.{turns_bound};
-ghost use Rattle.psm.specs.Prepared.{name_of, not_built, status_of_not_built};
+ghost use Rattle.psm.specs.Message.{refusal_line, usage};
+ghost use Rattle.psm.specs.Prepared.{name_of, status_of_refused};
 ghost use Rattle.psm.specs.Report.{Puts, Reports, Runs};
 ghost use Rattle.psm.specs.declared.status.Status.TheVariants as status;
 
+use crate::fault::{Fault, line_of};
 use crate::prepare::{Refusal, Which};
 use crate::script::{ScriptEnd, run_script};
 use crate::status::Status;
@@ -58,18 +59,27 @@ pub fn report<K: Sink>(alloc: Global, files: &Files<'_>, refusal: Refusal, out: 
             };
             put_line(&line, Status::TooLong, out)
         }
-        Refusal::NotBuilt(which) => report_not_built(which, out),
+        Refusal::Refused(which, fault) => report_refused(alloc, which, fault, out),
         Refusal::Memory => Status::Memory,
     }
 }
 
-// Puts the line of a file that is not accepted.
-fn report_not_built<K: Sink>(which: Which, out: &mut K) -> Status
-    ensures { Puts (not_built which) (status_of_not_built which) (record { before = K.written out.old; after = K.written out.new; faults_before = K.faults out.old; faults_after = K.faults out.new }) result }
+// Puts the line of a file that is refused.
+fn report_refused<K: Sink>(alloc: Global, which: Which, fault: Fault, out: &mut K) -> Status
+    ensures { Puts (refusal_line which fault) (status_of_refused which) (record { before = K.written out.old; after = K.written out.new; faults_before = K.faults out.old; faults_after = K.faults out.new }) result }
+{
+    match line_of(alloc, which, fault) {
+        Ok(line) => put_line(&line, refused_status(which), out),
+        Err(_) => Status::Memory,
+    }
+}
+
+fn refused_status(which: Which) -> Status
+    ensures { result ≡ status_of_refused which }
 {
     match which {
-        Which::Module => put_line(b"module not built\n", Status::ModuleRefused, out),
-        Which::Script => put_line(b"script not built\n", Status::ScriptRefused, out),
+        Which::Module => Status::ModuleRefused,
+        Which::Script => Status::ScriptRefused,
     }
 }
 

@@ -104,7 +104,7 @@ fn a_module_and_a_script_print_their_lines(rt: HostRuntime) -> Result<(), Fail> 
             "",
             "CALL P ( 1 ) ;\n",
             Status::ModuleRefused,
-            "module not built\n",
+            "module 1:1 syntax fault\n",
         ),
         (
             "other procedure",
@@ -125,7 +125,7 @@ fn a_module_and_a_script_print_their_lines(rt: HostRuntime) -> Result<(), Fail> 
             "",
             "",
             Status::ModuleRefused,
-            "module not built\n",
+            "module 1:1 syntax fault\n",
         ),
         (
             "greatest",
@@ -173,6 +173,85 @@ fn a_module_and_a_script_print_their_lines(rt: HostRuntime) -> Result<(), Fail> 
         let (answer, text) = call(rt.alloc(), "run M S", &files(module_file, script))?;
         assert_eq!(rt; answer, status, "at {shows}");
         assert_eq!(rt; text.as_str(), written, "at {shows}");
+    }
+    Ok(())
+}
+
+#[test]
+fn any_layout_of_the_forms_that_run_is_read(rt: HostRuntime) -> Result<(), Fail> {
+    let module_file =
+        "create module \"m m\" language sql -- a note\r\n\tdeclare procedure Next(x int, inout \"y\" INTEGER, out varying integer)\r\nset varying = 2147483647+x-\"y\"; end module;";
+    for (script, written) in [
+        (
+            "call next(1., 2, ?);",
+            "1 CALL NEXT\ny = 2\nVARYING = 2147483646\nOK\n",
+        ),
+        (
+            "CALL\n\"NEXT\" -- the same name\n(0001,0,?) ;",
+            "1 CALL NEXT\nSQLSTATE 22003 numeric value out of range\n",
+        ),
+    ] {
+        let (_, text) = call(rt.alloc(), "run M S", &files(module_file, script))?;
+        assert_eq!(rt; text.as_str(), written, "at {script}");
+    }
+    Ok(())
+}
+
+#[test]
+fn a_refused_file_is_refused_at_its_place(rt: HostRuntime) -> Result<(), Fail> {
+    for (module_file, written) in [
+        (
+            "CREATE MODULE m PROCEDURE p (OUT a INTEGER) SET a = 1000000000000000000; END MODULE",
+            "module 1:53 number too long\n",
+        ),
+        (
+            "CREATE MODULE m PROCEDURE p () IF 1 = 1 THEN CALL p(); END",
+            "module 1:59 syntax fault\n",
+        ),
+        ("CREATE MODULE a--b", "module 1:19 syntax fault\n"),
+        ("\"\"", "module 1:2 bad character\n"),
+        ("1.e", "module 1:3 bad character\n"),
+        (
+            "CREATE MODULE m PROCEDURE p () SET a.1 = 2; END MODULE",
+            "module 1:38 syntax fault\n",
+        ),
+        ("'x", "module 1:1 text without end\n"),
+        (
+            "CREATE MODULE m\r\nPROCEDURE p (OUT n INTEGER) SET n = NULL; END MODULE",
+            "module not built\n",
+        ),
+        (
+            "CREATE MODULE m PROCEDURE p (OUT n INTEGER) SET n = 2147483648; END MODULE",
+            "module not built\n",
+        ),
+        (
+            "CREATE MODULE m PROCEDURE p (OUT n INTEGER) SET n = 1.0; END MODULE",
+            "module not built\n",
+        ),
+        ("CREATE MODULE m END MODULE", "module not built\n"),
+        (
+            "CREATE MODULE m PROCEDURE p (OUT é INTEGER) SET x = 1; END MODULE",
+            "module 1:34 bad character\n",
+        ),
+    ] {
+        let (status, text) = call(rt.alloc(), "run M S", &files(module_file, ""))?;
+        assert_eq!(rt; status, Status::ModuleRefused, "at {module_file}");
+        assert_eq!(rt; text.as_str(), written, "at {module_file}");
+    }
+    for (script, written) in [
+        ("CALL P(1)", "script 1:10 syntax fault\n"),
+        ("CALL P(1);\nCALL P(-);", "script 2:9 syntax fault\n"),
+        ("CALL P(-1);", "script not built\n"),
+        ("CALL P(?);", "script not built\n"),
+        (
+            "COMMIT WORK; SELECT a FROM t ORDER BY a;",
+            "script not built\n",
+        ),
+        ("SELECT '", "script 1:8 text without end\n"),
+    ] {
+        let (status, text) = call(rt.alloc(), "run M S", &files(TRIPLE, script))?;
+        assert_eq!(rt; status, Status::ScriptRefused, "at {script}");
+        assert_eq!(rt; text.as_str(), written, "at {script}");
     }
     Ok(())
 }
@@ -313,7 +392,11 @@ fn faults_outside_have_their_statuses(rt: HostRuntime) -> Result<(), Fail> {
 fn a_file_over_the_bound_is_too_long(rt: HostRuntime) -> Result<(), Fail> {
     let alloc = rt.alloc();
     for (length, status, written) in [
-        (16_777_216, Status::ModuleRefused, "module not built\n"),
+        (
+            16_777_216,
+            Status::ModuleRefused,
+            "module 1:16777217 syntax fault\n",
+        ),
         (
             16_777_217,
             Status::TooLong,

@@ -1,11 +1,4 @@
-pub mod Powers
 pub mod NamePlaces
 pub mod Distinct
-pub mod Words
-pub mod Loop
-pub mod Exact
-pub mod Trees
-pub mod Files
 pub mod Checks
-pub mod WholeFiles
 pub mod Once

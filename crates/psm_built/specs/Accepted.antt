@@ -1,8 +1,7 @@
--- Which files are accepted, and the trees that they stand for.
+-- Which names mean something: those of a module, and what a script calls.
 use Rattle.std.specs.Prelude.{◌≡◌, ℕ, List, [], ◌∷◌, Some, None, IsSome, slice_get}
 use Rattle.std.specs.List.{AllByRecursion}
 use Rattle.psm_built.specs.Names.{place_of, names_of}
-use Rattle.psm_built.specs.Spelling.{module_text, script_text, IsModule, IsScript}
 use Rattle.psm_built.specs.declared.tree.Mode.{Mode}
 use Rattle.psm_built.specs.declared.tree.Mode.TheVariants.{In, Out, InOut}
 use Rattle.psm_built.specs.declared.tree.Parameter.{Parameter}
@@ -18,7 +17,6 @@ use Rattle.psm_built.specs.declared.tree.Argument.{Argument}
 use Rattle.psm_built.specs.declared.tree.Argument.TheVariants as arguments
 use Rattle.psm_built.specs.declared.tree.Command.{Command}
 use Rattle.psm_built.specs.declared.tree.Command.TheVariants.{Call}
-use Rattle.psm_built.specs.declared.tree.Script.{Script}
 
 -- no name stands twice
 abbrev pub AreDistinct : List (List ℕ) → Type 0
@@ -38,7 +36,7 @@ IsTarget name parameters = (i : ℕ) × (p : Parameter) × (place_of name (names
 
 -- a name in an expression is a parameter
 abbrev pub IsKnown : List (List ℕ) → Operand → Type 0
-IsKnown names (operands.Number digits) = Unit {0}
+IsKnown names (operands.Number number) = Unit {0}
 IsKnown names (operands.Name name) = IsSome (place_of name names)
 
 pub record IsKnownTerm (names : List (List ℕ)) (t : Term) : Type 0 where
@@ -56,20 +54,14 @@ pub record IsWellNamed (m : Module) : Type 0 where
   pub distinct : AreDistinct (names_of m.procedure.signature.parameters)
   pub body : IsResolved m.procedure.signature.parameters m.procedure.body
 
--- the bytes are the module file of that module
-pub record IsModuleFile (bytes : List ℕ) (m : Module) : Type 0 where
-  pub words : IsModule m
-  pub text : bytes ≡ module_text m
-  pub names : IsWellNamed m
-
 -- an argument for each parameter: a number for IN and INOUT, a placeholder for OUT
 abbrev pub Passes : Mode → Argument → Type 0
-Passes In (arguments.Number digits) = Unit {0}
-Passes InOut (arguments.Number digits) = Unit {0}
+Passes In (arguments.Number number) = Unit {0}
+Passes InOut (arguments.Number number) = Unit {0}
 Passes Out arguments.Placeholder = Unit {0}
 Passes In arguments.Placeholder = ⊥
 Passes InOut arguments.Placeholder = ⊥
-Passes Out (arguments.Number digits) = ⊥
+Passes Out (arguments.Number number) = ⊥
 
 abbrev pub AllPass : List Parameter → List Argument → Type 0
 AllPass [] [] = Unit {0}
@@ -80,9 +72,3 @@ AllPass (p ∷ ps) [] = ⊥
 -- a command calls the procedure with that signature
 abbrev pub Calls : Signature → Command → Type 0
 Calls signature (Call procedure args) = (procedure ≡ signature.name) × AllPass signature.parameters args
-
--- the bytes are the script of those commands, over the procedure with that signature
-pub record IsScriptFile (signature : Signature) (bytes : List ℕ) (s : Script) : Type 0 where
-  pub words : IsScript s.commands
-  pub text : bytes ≡ script_text s
-  pub calls : AllByRecursion (Calls signature) s.commands

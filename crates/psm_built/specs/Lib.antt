@@ -1,12 +1,10 @@
 pub mod Numeral
 pub mod Names
-pub mod Spelling
 pub mod Accepted
+pub mod Forms
+pub mod Built
 pub mod Frame
 pub mod Meaning
 pub mod Piece
 pub mod Session
-pub mod Reading
 pub mod NameIndex
-pub mod Follows
-pub mod Readers

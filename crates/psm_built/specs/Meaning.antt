@@ -29,7 +29,7 @@ with_value (Ok v) go = go v
 with_value (Err c) go = Err c
 
 abbrev pub operand_value : Operand → Frame → Datum
-operand_value (operands.Number digits) frame = numeral_value digits
+operand_value (operands.Number number) frame = numeral_value number
 operand_value (operands.Name name) frame = value_of name frame
 
 abbrev pub signed_value : Sign → Datum → Datum → Result Datum SqlState

@@ -26,7 +26,7 @@ pub record Session : Type 0 where
 -- the values of the arguments for IN and INOUT parameters
 abbrev pub given : List Argument → List Datum
 given [] = []
-given (arguments.Number digits ∷ others) = numeral_value digits ∷ given others
+given (arguments.Number number ∷ others) = numeral_value number ∷ given others
 given (arguments.Placeholder ∷ others) = given others
 
 -- a piece before those of the later commands

@@ -1,25 +1,23 @@
-//! The tree of a module file and of a script, with its spelling, its meaning and its reader.
+//! The module files and scripts that run today: their small trees, which full trees they are, and what
+//! they mean.
 //!
-//! `specs/` says what a file spells (`Spelling`), which files are accepted (`Accepted`), and what an
-//! accepted module and script mean (`Meaning`, `Session`). None of these knows the machine.
+//! `specs/` says which trees of the full grammar are of these forms (`Forms`, `Built`), which names mean
+//! something (`Accepted`), and what a module and a script mean (`Meaning`, `Session`). None of these
+//! knows the machine.
 #![tactic(auto)]
 
+mod built;
 mod check;
-mod fault;
-mod laws;
-mod module_parts;
+mod modules;
 mod name;
 mod names;
-mod read;
-mod read_words;
-mod script_parts;
+mod scripts;
+mod sums;
 mod tree;
 
-pub use fault::ReadFault;
-pub use laws::one_tree;
+pub use built::{built_module, built_script};
 pub use name::{Name, Numeral};
 pub use names::Names;
-pub use read::{read_module, read_script};
 pub use tree::{
     Argument, Command, Mode, Module, Operand, Parameter, Procedure, Script, Sign, Signature,
     Statement, Sum, Term,

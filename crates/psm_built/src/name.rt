@@ -1,10 +1,10 @@
-ghost use Rattle.std.specs.Prelude.{◌≡◌, ◌<◌, ◌^◌, string_bytes};
-ghost use Rattle.psm_built.specs.Numeral.{IsNumeral, number_of, numeral_value};
+ghost use Rattle.std.specs.Prelude.{◌≡◌, ◌≤◌, string_bytes};
+ghost use Rattle.psm_built.specs.Numeral.{most_whole, numeral_value};
 
 use psm_value::{Datum, Dec};
 use std::marker::Model;
 
-/// A name, seen as its characters.
+/// A name, seen as its UTF-8 bytes.
 #[derive(Debug, Drop)]
 pub struct Name {
     text: String,
@@ -32,47 +32,45 @@ impl Name {
     }
 }
 
-/// A number as it is written, in one to nine digits. Seen as its digits.
-#[derive(Debug, Drop)]
+/// A whole number of a literal, from 0 to 2147483647. Seen as the number.
+#[derive(Clone, Copy, Debug)]
 pub struct Numeral {
-    digits: String,
+    value: u32,
 }
 
 impl Model for Numeral {
-    ghost use Rattle.std.specs.Prelude.{ℕ, List, string_bytes};
-    ghost use Rattle.psm_built.specs.Numeral.{IsNumeral};
+    ghost use Rattle.std.specs.Prelude.{ℕ, ◌≤◌};
+    ghost use Rattle.psm_built.specs.Numeral.{most_whole};
 
-    ghost Value = { List ℕ };
+    ghost Value = { ℕ };
 
-    ghost view = { λ n. string_bytes n.digits };
+    ghost view = { λ n. n.value };
 
-    ghost invariant = { λ n. IsNumeral (string_bytes n.digits) };
+    ghost invariant = { λ n. n.value ≤ most_whole };
+
+    ghost inverse = { λ n. record { value = n } };
 }
 
 impl Numeral {
-    pub fn new(digits: String) -> Numeral
-        requires { IsNumeral (string_bytes digits) }
-        ensures { result ≡ string_bytes digits }
+    pub fn new(value: u32) -> Numeral
+        requires { value ≤ most_whole }
+        ensures { result ≡ value }
     {
-        Numeral { digits }
+        Numeral { value }
     }
 
-    /// The number that the digits spell.
-    pub fn value(&self) -> u32
-        ensures value { result ≡ number_of self.now }
-        ensures small { result < 10 ^ 9 }
+    /// The number.
+    pub fn value(self) -> u32
+        ensures value { result ≡ self }
+        ensures bound { result ≤ most_whole }
     {
-        let mut value = 0;
-        for digit in self.digits.as_bytes() {
-            value = value * 10 + (*digit - b'0') as u32;
-        }
-        value
+        self.value
     }
 
-    /// That number as a value.
-    pub fn datum(&self) -> Datum
-        ensures { result ≡ numeral_value self.now }
+    /// The number as a value, at scale 0.
+    pub fn datum(self) -> Datum
+        ensures { result ≡ numeral_value self }
     {
-        Datum::Num(Dec::new(self.value() as i64, 0).unwrap())
+        Datum::Num(Dec::new(self.value as i64, 0).unwrap())
     }
 }

@@ -34,7 +34,7 @@ slot_served : (names : List (List ℕ)) (name : List ℕ) → IsSome (place_of n
 slot_served names name h = lt-ltb _ _ (slot_small names name h)
 
 operand_well_formed : (names : List (List ℕ)) (n : ℕ) (o : Operand) (rest : List Instr) → IsKnown names o → is_well_formed (length names) n (operand_line names o ∷ rest) ≡ is_well_formed (length names) (n + 1) rest
-operand_well_formed names n (operands.Number digits) rest known = refl
+operand_well_formed names n (operands.Number number) rest known = refl
 operand_well_formed names n (operands.Name name) rest known = rw (slot_served names name known) refl
 
 sign_well_formed : (slots : ℕ) (sign : Sign) (rest : List Instr) → is_well_formed slots 2 (sign_line sign ∷ rest) ≡ is_well_formed slots 1 rest

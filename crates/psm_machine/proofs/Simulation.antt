@@ -38,7 +38,7 @@ with_operands frame operands = record { slots = values_of frame; operands = oper
 
 operand_runs : (ps : List Parameter) (frame : Frame) (o : Operand) (rest : List Instr) (stack : List Datum) → Stands ps frame → IsKnown (names_of ps) o
     → halt (operand_line (names_of ps) o ∷ rest) (with_operands frame stack) ≡ halt rest (with_operands frame (operand_value o frame ∷ stack))
-operand_runs ps frame (operands.Number digits) rest stack s known = refl
+operand_runs ps frame (operands.Number number) rest stack s known = refl
 operand_runs ps frame (operands.Name name) rest stack s known =
     ap (λ (o : Option Datum). go_on (pushed (values_of frame) stack o) (halt rest)) (value_at_slot ps frame name s known)
 

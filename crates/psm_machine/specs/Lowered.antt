@@ -20,7 +20,7 @@ abbrev pub slot_of : List (List ℕ) → List ℕ → ℕ
 slot_of names name = unwrap_or (place_of name names) 0
 
 abbrev pub operand_line : List (List ℕ) → Operand → Instr
-operand_line names (operands.Number digits) = Const (numeral_value digits)
+operand_line names (operands.Number number) = Const (numeral_value number)
 operand_line names (operands.Name name) = Var (slot_of names name)
 
 abbrev pub sign_line : Sign → Instr
