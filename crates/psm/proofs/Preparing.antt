@@ -1,14 +1,19 @@
 -- The refusals of the two files, put together from their steps.
-use Rattle.std.proofs.Common.{◌≡◌, ℕ, List, [], Option, Ok, Err, refl, sym, ◌∙◌, subst, inl, inr}
+use Rattle.std.proofs.Common.{◌≡◌, ℕ, ◌≤◌, List, [], length, Option, Ok, Err, refl, ◌∙◌, subst, inl, inr}
 use Rattle.std.specs.Prelude.{unwrap_or}
 use Rattle.psm_io.specs.Count.{Rose}
 use Rattle.psm_built.specs.declared.tree.Signature.{Signature}
 use Rattle.psm_built.specs.declared.tree.Script.{Script}
 use Rattle.psm_machine.specs.declared.code.Code.{Code}
-use Rattle.psm.specs.Source.{IsScriptFile, IsScriptFault}
+use Rattle.psm_token.specs.declared.token.Placed.{Placed}
+use Rattle.psm_grammar.specs.Language.{Lang}
+use Rattle.psm.specs.Source.{module_files, scripts, HasModule, HasScript, HasNoTree, IsFaultOf, IsScriptFile, IsScriptFault}
+use Rattle.psm.specs.Program.{most_bytes}
+use Rattle.psm.specs.declared.fault.Fault.{Fault}
+use Rattle.psm.specs.declared.fault.Fault.TheVariants as faults
 use Rattle.psm.specs.Words.{Files}
 use Rattle.psm.specs.Contract.{Fetches, Tells, NoneFailed}
-use Rattle.psm.specs.Prepared.{IsRead, IsFailed, Gets, IsCodeOf, Builds, Scripts, IsReady, Prepares}
+use Rattle.psm.specs.Prepared.{IsRead, IsFailed, Gets, ReadsTree, IsCodeOf, Builds, Scripts, IsReady, Prepares}
 use Rattle.psm.specs.declared.prepare.Which.TheVariants as which
 use Rattle.psm.specs.declared.prepare.Refusal.{Refusal}
 use Rattle.psm.specs.declared.prepare.Refusal.TheVariants as refusals
@@ -17,6 +22,26 @@ use Rattle.psm.proofs.Fetched.{told_or}
 -- the fetches of one step
 abbrev pub fetches_of : (List ℕ → Option (List ℕ)) → (List ℕ → ℕ) → (List ℕ → ℕ) → Fetches
 fetches_of held before after = record { held = held; before = before; after = after }
+
+-- ---- files without a tree
+
+fault_of_no_tree : {Y : Type 0} (L : Lang Placed Y) (IsBuilt : Y → Type 0) (bytes : List ℕ) (fault : Fault) → HasNoTree L bytes fault → IsFaultOf L IsBuilt bytes fault
+fault_of_no_tree L IsBuilt bytes (faults.Token f) h = h
+fault_of_no_tree L IsBuilt bytes (faults.Syntax place) h = h
+fault_of_no_tree L IsBuilt bytes (faults.Deep place) h = h
+fault_of_no_tree L IsBuilt bytes faults.NotBuilt h = absurd h
+
+pub module_without_tree : (bytes : List ℕ) (e : Refusal) → length bytes ≤ most_bytes → ReadsTree module_files which.Module bytes (Err e) → Builds bytes (Err e)
+module_without_tree bytes (refusals.Unread w) short h = absurd h
+module_without_tree bytes (refusals.TooLong w) short h = absurd h
+module_without_tree bytes (refusals.Refused w fault) short h = (h.0, record { short = short; fault_is = fault_of_no_tree module_files HasModule bytes fault h.1 })
+module_without_tree bytes refusals.Memory short h = tt
+
+pub script_without_tree : (signature : Signature) (bytes : List ℕ) (e : Refusal) → length bytes ≤ most_bytes → ReadsTree scripts which.Script bytes (Err e) → Scripts signature bytes (Err e)
+script_without_tree signature bytes (refusals.Unread w) short h = absurd h
+script_without_tree signature bytes (refusals.TooLong w) short h = absurd h
+script_without_tree signature bytes (refusals.Refused w fault) short h = (h.0, record { short = short; fault_is = fault_of_no_tree scripts (HasScript signature) bytes fault h.1 })
+script_without_tree signature bytes refusals.Memory short h = tt
 
 -- ---- the module
 

@@ -1,21 +1,22 @@
 -- A file stands for at most one tree, and one that stands for a tree is refused for no reason.
-use Rattle.std.proofs.Common.{◌≡◌, ◌≢◌, ℕ, ◌≤◌, List, [], ◌∷◌, Ok, Err, refl, sym, ap, ◌∙◌, subst, inl, inr, arith}
+use Rattle.std.proofs.Common.{◌≡◌, ◌≢◌, ℕ, List, [], Ok, Err, refl, sym, ap, ◌∙◌, subst, inl, inr}
 use Rattle.psm_token.specs.declared.token.Placed.{Placed}
 use Rattle.psm_token.specs.Listed.{Tokens}
 use Rattle.psm_token.specs.Spells.{Spells}
 use Rattle.psm_token.proofs.Once.{spells_once, fault_excludes}
 use Rattle.psm_grammar.specs.Grammar.{Spells as Derives}
-use Rattle.psm_grammar.specs.Readers.{Out, Wrong, TooDeep}
+use Rattle.psm_grammar.specs.Readers.{Out, Wrong, TooDeep, reads}
 use Rattle.psm_grammar.specs.Exact.{AtEnd, Holds}
 use Rattle.psm_grammar.proofs.Fitting.{Fit}
 use Rattle.psm_tree.specs.ExprGrammar.{Gram}
 use Rattle.psm_tree.specs.Productions.{productions}
-use Rattle.psm_tree.specs.Reading.{most_levels, ReadsAll}
+use Rattle.psm_tree.specs.Reading.{most_levels}
 use Rattle.psm_tree.specs.declared.fault.ParseFault.{ParseFault}
 use Rattle.psm_tree.specs.declared.fault.ParseFault.TheVariants as parse
 use Rattle.psm_tree.proofs.ExprFits.{after}
 use Rattle.psm_tree.proofs.FileFits.{file_fit, script_fit}
-use Rattle.psm_tree.proofs.Readable.{answered_once}
+use Rattle.psm_grammar.proofs.Whole.{only_answer}
+use Rattle.psm_tree.proofs.Readable.{height, readable}
 use Rattle.psm_built.proofs.Once as built
 use Rattle.psm_built.specs.declared.tree.Module.{Module}
 use Rattle.psm_built.specs.declared.tree.Signature.{Signature}
@@ -34,20 +35,24 @@ rest_or ts (Ok r) = r.1
 rest_or ts (Err e) = ts
 
 module _ {Y : Type 0} {g : Gram Y} {follow : List ℕ} (fit : Fit after follow g) (bytes : List ℕ) where
+  -- an exact answer is the reader's
+  read_so : (ts : List Placed) (o : Out Placed Y) → Holds (Derives productions 0 g) AtEnd most_levels ts o → o ≡ reads productions most_levels g ts
+  read_so = only_answer productions after height readable most_levels 0 most_levels refl g follow fit.holds
+
   -- two exact answers for the tokens of the bytes are one
   same_answer : (ts us : Tokens) → Spells bytes ts → Spells bytes us → (o p : Out Placed Y) → Holds (Derives productions 0 g) AtEnd most_levels ts.tokens o → Holds (Derives productions 0 g) AtEnd most_levels us.tokens p → o ≡ p
   same_answer ts us s s' o p h k =
       let e : us ≡ ts = spells_once bytes us ts s' s in
-      answered_once fit 0 most_levels (omega arith) ts.tokens o p h (subst (λ (x : Tokens). Holds (Derives productions 0 g) AtEnd most_levels x.tokens p) e k)
+      read_so ts.tokens o h ∙ sym (read_so ts.tokens p (subst (λ (x : Tokens). Holds (Derives productions 0 g) AtEnd most_levels x.tokens p) e k))
 
   pub tree_once : (y z : Y) → IsTreeOf (Derives productions 0 g) bytes y → IsTreeOf (Derives productions 0 g) bytes z → y ≡ z
   unfolding value_or
   tree_once y z p q = ap (value_or y) (same_answer p.tokens q.tokens p.spelled q.spelled (Ok (y, [])) (Ok (z, [])) p.tree_is q.tree_is)
 
-  ok_wrong : (y : Y) (rest : List Placed) → Ok (y, []) ≡ Err (Wrong rest) → ⊥
+  ok_wrong : (y : Y) (rest : List Placed) → ◌≡◌ {A = Out Placed Y} (Ok (y, [])) (Err (Wrong rest)) → ⊥
   ok_wrong y rest e = cc
 
-  ok_deep : (y : Y) (rest : List Placed) → Ok (y, []) ≡ Err (TooDeep rest) → ⊥
+  ok_deep : (y : Y) (rest : List Placed) → ◌≡◌ {A = Out Placed Y} (Ok (y, [])) (Err (TooDeep rest)) → ⊥
   ok_deep y rest e = cc
 
   no_tree_fault : (y : Y) (fault : ParseFault) → fault ≢ parse.Memory → IsTreeOf (Derives productions 0 g) bytes y → IsTreeFault (Derives productions 0 g) bytes fault → ⊥

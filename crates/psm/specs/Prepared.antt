@@ -14,7 +14,7 @@ use Rattle.psm_machine.specs.declared.code.Code.{Code}
 use Rattle.psm_machine.specs.Played.{played}
 use Rattle.psm.specs.Words.{Files}
 use Rattle.psm.specs.Message.{too_long, cannot_read, refusal_line}
-use Rattle.psm.specs.Source.{IsTreeOf, IsFaultOf, IsScriptFile, IsScriptFault}
+use Rattle.psm.specs.Source.{IsTreeOf, HasNoTree, IsScriptFile, IsScriptFault}
 use Rattle.psm.specs.declared.fault.Fault.{Fault}
 use Rattle.psm.specs.declared.fault.Fault.TheVariants as faults
 use Rattle.psm.specs.Program.{most_bytes, IsModuleOf, IsNoModule, IsScriptOf}
@@ -55,12 +55,12 @@ Gets fetches name w (Err refusals.Memory) = Unit {0}
 -- ---- trees
 
 -- the tree of a file, or why it has none
-abbrev pub ReadsTree : {Y : Type 0} → Lang Placed Y → (Y → Type 0) → Which → List ℕ → Result Y Refusal → Type 0
-ReadsTree L IsBuilt w bytes (Ok tree) = IsTreeOf L bytes tree
-ReadsTree L IsBuilt w bytes (Err (refusals.Refused x fault)) = (x ≡ w) × IsFaultOf L IsBuilt bytes fault
-ReadsTree L IsBuilt w bytes (Err refusals.Memory) = Unit {0}
-ReadsTree L IsBuilt w bytes (Err (refusals.Unread x)) = ⊥
-ReadsTree L IsBuilt w bytes (Err (refusals.TooLong x)) = ⊥
+abbrev pub ReadsTree : {Y : Type 0} → Lang Placed Y → Which → List ℕ → Result Y Refusal → Type 0
+ReadsTree L w bytes (Ok tree) = IsTreeOf L bytes tree
+ReadsTree L w bytes (Err (refusals.Refused x fault)) = (x ≡ w) × HasNoTree L bytes fault
+ReadsTree L w bytes (Err refusals.Memory) = Unit {0}
+ReadsTree L w bytes (Err (refusals.Unread x)) = ⊥
+ReadsTree L w bytes (Err (refusals.TooLong x)) = ⊥
 
 -- the tokens of a file, or its first fault
 abbrev pub ReadsTokens : Which → List ℕ → Result Tokens Refusal → Type 0

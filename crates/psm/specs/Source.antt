@@ -1,6 +1,5 @@
 -- The trees of a file's bytes, and why a file is refused.
-use Rattle.std.specs.Prelude.{◌≡◌, ℕ, List, [], Ok, Err}
-use Rattle.psm_token.specs.declared.place.Place.{Place}
+use Rattle.std.specs.Prelude.{ℕ, List, Ok, Err}
 use Rattle.psm_token.specs.declared.token.Placed.{Placed}
 use Rattle.psm_token.specs.Listed.{Tokens}
 use Rattle.psm_token.specs.Spells.{Spells, IsFirstFault}
@@ -39,6 +38,13 @@ pub record IsTreeFault {Y : Type 0} (L : Lang Placed Y) (bytes : List ℕ) (faul
   pub spelled : Spells bytes tokens
   pub fault_is : ReadsAll {X = Y} L (λ y. y) tokens (Err fault)
 
+-- why the bytes have no tree
+abbrev pub HasNoTree : {Y : Type 0} → Lang Placed Y → List ℕ → Fault → Type 0
+HasNoTree L bytes (faults.Token f) = IsFirstFault bytes f
+HasNoTree L bytes (faults.Syntax place) = IsTreeFault L bytes (parse.Syntax place)
+HasNoTree L bytes (faults.Deep place) = IsTreeFault L bytes (parse.Deep place)
+HasNoTree L bytes faults.NotBuilt = ⊥
+
 -- the bytes have a tree that isn't of the forms that run
 pub record IsNotBuilt {Y : Type 0} (L : Lang Placed Y) (IsBuilt : Y → Type 0) (bytes : List ℕ) : Type 0 where
   pub tree : Y
@@ -47,10 +53,8 @@ pub record IsNotBuilt {Y : Type 0} (L : Lang Placed Y) (IsBuilt : Y → Type 0) 
 
 -- why a file whose trees are spelled by L, and some of which are built, is refused
 abbrev pub IsFaultOf : {Y : Type 0} → Lang Placed Y → (Y → Type 0) → List ℕ → Fault → Type 0
-IsFaultOf L IsBuilt bytes (faults.Token f) = IsFirstFault bytes f
-IsFaultOf L IsBuilt bytes (faults.Syntax place) = IsTreeFault L bytes (parse.Syntax place)
-IsFaultOf L IsBuilt bytes (faults.Deep place) = IsTreeFault L bytes (parse.Deep place)
 IsFaultOf L IsBuilt bytes faults.NotBuilt = IsNotBuilt L IsBuilt bytes
+IsFaultOf L IsBuilt bytes fault = HasNoTree L bytes fault
 
 -- ---- module files
 

@@ -2,7 +2,7 @@
 ghost use Rattle.std.specs.Prelude.{◌≡◌, ◌≤◌, ℕ, List as Seq, length};
 ghost use Rattle.psm.specs.Program.{most_bytes};
 ghost use Rattle.psm.specs.Prepared.{Prepares, Builds, Scripts, Gets, ReadsTokens, ReadsTree};
-ghost use Rattle.psm.specs.Source.{module_files, scripts, HasModule, HasScript};
+ghost use Rattle.psm.specs.Source.{module_files, scripts};
 ghost use Rattle.psm.specs.declared.prepare.Which.TheVariants as which;
 
 use crate::fault::Fault;
@@ -87,7 +87,7 @@ fn tokens_of(alloc: Global, bytes: &[u8], which: Which) -> Result<TokenList, Ref
 // The tree of a module file.
 fn module_tree(alloc: Global, bytes: &[u8]) -> Result<FileTree, Refusal>
     requires { length bytes.now ≤ most_bytes }
-    ensures { ReadsTree module_files HasModule which.Module bytes.now result }
+    ensures { ReadsTree module_files which.Module bytes.now result }
 {
     let tokens = tokens_of(alloc, bytes, Which::Module)?;
     match parse_file(alloc, &tokens) {
@@ -102,9 +102,9 @@ fn module_tree(alloc: Global, bytes: &[u8]) -> Result<FileTree, Refusal>
 }
 
 // The tree of a script.
-fn script_tree(alloc: Global, signature: &Signature, bytes: &[u8]) -> Result<ScriptTree, Refusal>
+fn script_tree(alloc: Global, bytes: &[u8]) -> Result<ScriptTree, Refusal>
     requires { length bytes.now ≤ most_bytes }
-    ensures { ReadsTree scripts (HasScript signature.now) which.Script bytes.now result }
+    ensures { ReadsTree scripts which.Script bytes.now result }
 {
     let tokens = tokens_of(alloc, bytes, Which::Script)?;
     match parse_script(alloc, &tokens) {
@@ -140,7 +140,7 @@ fn script_over(alloc: Global, signature: &Signature, bytes: &[u8]) -> Result<Scr
     requires { length bytes.now ≤ most_bytes }
     ensures { Scripts signature.now bytes.now result }
 {
-    let tree = script_tree(alloc, signature, bytes)?;
+    let tree = script_tree(alloc, bytes)?;
     match built_script(alloc, &tree, signature) {
         Ok(Some(script)) => Ok(script),
         Ok(None) => Err(Refusal::Refused(Which::Script, Fault::NotBuilt)),

@@ -89,135 +89,126 @@ fn a_module_and_a_script_print_their_lines(rt: HostRuntime) -> Result<(), Fail> 
     let null =
         "CREATE MODULE M PROCEDURE Q1 ( OUT X INTEGER , INOUT Y INTEGER ) SET Y = Y + X ; END MODULE\n";
     let left = "CREATE MODULE M PROCEDURE P ( INOUT X INTEGER ) SET X = 10 - 3 - 2 ; END MODULE\n";
+    let layout =
+        "create module \"m m\" language sql -- a note\r\n\tdeclare procedure Next(x int, inout \"y\" INTEGER, out varying integer)\r\nset varying = 2147483647+x-\"y\"; end module;";
     let out_of_range = "1 CALL P\nSQLSTATE 22003 numeric value out of range\n";
-    for (shows, module_file, script, status, written) in [
-        ("modes", THREE_MODES, FIVE_SEVEN, Status::Done, THREE_LINES),
-        (
-            "range",
-            TRIPLE,
-            "CALL P ( 999999999 ) ;\n",
-            Status::Done,
-            out_of_range,
-        ),
-        (
-            "empty module",
-            "",
-            "CALL P ( 1 ) ;\n",
-            Status::ModuleRefused,
-            "module 1:1 syntax fault\n",
-        ),
-        (
-            "other procedure",
-            TRIPLE,
-            "CALL Q ( 1 ) ;\n",
-            Status::ScriptRefused,
-            "script not built\n",
-        ),
-        (
-            "empty script",
-            TRIPLE,
-            "",
-            Status::ScriptRefused,
-            "script not built\n",
-        ),
-        (
-            "module first",
-            "",
-            "",
-            Status::ModuleRefused,
-            "module 1:1 syntax fault\n",
-        ),
+    for (shows, module_file, script, written) in [
+        ("modes", THREE_MODES, FIVE_SEVEN, THREE_LINES),
+        ("range", TRIPLE, "CALL P ( 999999999 ) ;\n", out_of_range),
         (
             "greatest",
             greatest,
             "CALL P ( ? ) ;\n",
-            Status::Done,
             "1 CALL P\nX = 2147483647\nOK\n",
         ),
-        (
-            "past it",
-            past,
-            "CALL P ( ? ) ;\n",
-            Status::Done,
-            out_of_range,
-        ),
+        ("past it", past, "CALL P ( ? ) ;\n", out_of_range),
         (
             "least",
             least,
             "CALL P ( ? ) ;\n",
-            Status::Done,
             "1 CALL P\nX = -2147483648\nOK\n",
         ),
-        (
-            "below it",
-            below,
-            "CALL P ( ? ) ;\n",
-            Status::Done,
-            out_of_range,
-        ),
+        ("below it", below, "CALL P ( ? ) ;\n", out_of_range),
         (
             "null",
             null,
             "CALL Q1 ( ? , 007 ) ;\n",
-            Status::Done,
             "1 CALL Q1\nX = NULL\nY = NULL\nOK\n",
         ),
         (
             "from the left",
             left,
             "CALL P ( 1 ) ;\n",
-            Status::Done,
             "1 CALL P\nX = 5\nOK\n",
+        ),
+        (
+            "any layout",
+            layout,
+            "call next(1., 2, ?);",
+            "1 CALL NEXT\ny = 2\nVARYING = 2147483646\nOK\n",
+        ),
+        (
+            "any layout of a script",
+            layout,
+            "CALL\n\"NEXT\" -- the same name\n(0001,0,?) ;",
+            "1 CALL NEXT\nSQLSTATE 22003 numeric value out of range\n",
         ),
     ] {
         let (answer, text) = call(rt.alloc(), "run M S", &files(module_file, script))?;
-        assert_eq!(rt; answer, status, "at {shows}");
+        assert_eq!(rt; answer, Status::Done, "at {shows}");
         assert_eq!(rt; text.as_str(), written, "at {shows}");
     }
     Ok(())
 }
 
 #[test]
-fn any_layout_of_the_forms_that_run_is_read(rt: HostRuntime) -> Result<(), Fail> {
-    let module_file =
-        "create module \"m m\" language sql -- a note\r\n\tdeclare procedure Next(x int, inout \"y\" INTEGER, out varying integer)\r\nset varying = 2147483647+x-\"y\"; end module;";
-    for (script, written) in [
-        (
-            "call next(1., 2, ?);",
-            "1 CALL NEXT\ny = 2\nVARYING = 2147483646\nOK\n",
-        ),
-        (
-            "CALL\n\"NEXT\" -- the same name\n(0001,0,?) ;",
-            "1 CALL NEXT\nSQLSTATE 22003 numeric value out of range\n",
-        ),
-    ] {
-        let (_, text) = call(rt.alloc(), "run M S", &files(module_file, script))?;
-        assert_eq!(rt; text.as_str(), written, "at {script}");
-    }
-    Ok(())
-}
-
-#[test]
-fn a_refused_file_is_refused_at_its_place(rt: HostRuntime) -> Result<(), Fail> {
+fn a_file_that_is_no_tokens_is_refused_at_its_place(rt: HostRuntime) -> Result<(), Fail> {
     for (module_file, written) in [
         (
             "CREATE MODULE m PROCEDURE p (OUT a INTEGER) SET a = 1000000000000000000; END MODULE",
             "module 1:53 number too long\n",
         ),
+        ("\"\"", "module 1:2 bad character\n"),
+        ("1.e", "module 1:3 bad character\n"),
+        ("'x", "module 1:1 text without end\n"),
+        (
+            "CREATE MODULE m\r\nPROCEDURE \"p",
+            "module 2:11 name without end\n",
+        ),
+        (
+            "CREATE MODULE m PROCEDURE p (OUT é INTEGER) SET x = 1; END MODULE",
+            "module 1:34 bad character\n",
+        ),
+    ] {
+        let (status, text) = call(rt.alloc(), "run M S", &files(module_file, ""))?;
+        assert_eq!(rt; status, Status::ModuleRefused, "at {module_file}");
+        assert_eq!(rt; text.as_str(), written, "at {module_file}");
+    }
+    Ok(())
+}
+
+// A module that sets its parameter to 1 in so many parentheses.
+fn nested(alloc: Global, levels: usize) -> Result<String, Fail> {
+    let before = "CREATE MODULE m PROCEDURE p (OUT a INTEGER) SET a = ";
+    let mut text = String::from_str(alloc, before)?;
+    for _ in 0..levels {
+        text.push('(')?;
+    }
+    text.push('1')?;
+    for _ in 0..levels {
+        text.push(')')?;
+    }
+    text.push_str("; END MODULE")?;
+    Ok(text)
+}
+
+#[test]
+fn a_module_file_without_a_built_tree_is_refused(rt: HostRuntime) -> Result<(), Fail> {
+    let deepest = nested(rt.alloc(), 100)?;
+    let too_deep = nested(rt.alloc(), 101)?;
+    for (module_file, written) in [
+        ("", "module 1:1 syntax fault\n"),
         (
             "CREATE MODULE m PROCEDURE p () IF 1 = 1 THEN CALL p(); END",
             "module 1:59 syntax fault\n",
         ),
+        (
+            "CREATE MODULE m PROCEDURE p (OUT n INTEGER) IF 1 = 1 THEN SET n = 1; END; END MODULE",
+            "module 1:73 syntax fault\n",
+        ),
         ("CREATE MODULE a--b", "module 1:19 syntax fault\n"),
-        ("\"\"", "module 1:2 bad character\n"),
-        ("1.e", "module 1:3 bad character\n"),
         (
             "CREATE MODULE m PROCEDURE p () SET a.1 = 2; END MODULE",
             "module 1:38 syntax fault\n",
         ),
-        ("'x", "module 1:1 text without end\n"),
+        (&too_deep, "module 1:153 nested too deep\n"),
+        (&deepest, "module not built\n"),
         (
             "CREATE MODULE m\r\nPROCEDURE p (OUT n INTEGER) SET n = NULL; END MODULE",
+            "module not built\n",
+        ),
+        (
+            "CREATE MODULE m PROCEDURE p (OUT n INTEGER) SET n = 2 * 3 + 1; END MODULE",
             "module not built\n",
         ),
         (
@@ -229,16 +220,19 @@ fn a_refused_file_is_refused_at_its_place(rt: HostRuntime) -> Result<(), Fail> {
             "module not built\n",
         ),
         ("CREATE MODULE m END MODULE", "module not built\n"),
-        (
-            "CREATE MODULE m PROCEDURE p (OUT é INTEGER) SET x = 1; END MODULE",
-            "module 1:34 bad character\n",
-        ),
     ] {
-        let (status, text) = call(rt.alloc(), "run M S", &files(module_file, ""))?;
+        let (status, text) = call(rt.alloc(), "run M S", &files(module_file, "CALL p(?);"))?;
         assert_eq!(rt; status, Status::ModuleRefused, "at {module_file}");
         assert_eq!(rt; text.as_str(), written, "at {module_file}");
     }
+    Ok(())
+}
+
+#[test]
+fn a_script_that_is_not_built_is_refused(rt: HostRuntime) -> Result<(), Fail> {
     for (script, written) in [
+        ("", "script not built\n"),
+        ("CALL Q ( 1 ) ;\n", "script not built\n"),
         ("CALL P(1)", "script 1:10 syntax fault\n"),
         ("CALL P(1);\nCALL P(-);", "script 2:9 syntax fault\n"),
         ("CALL P(-1);", "script not built\n"),
@@ -391,25 +385,18 @@ fn faults_outside_have_their_statuses(rt: HostRuntime) -> Result<(), Fail> {
 #[test]
 fn a_file_over_the_bound_is_too_long(rt: HostRuntime) -> Result<(), Fail> {
     let alloc = rt.alloc();
-    for (length, status, written) in [
-        (
-            16_777_216,
-            Status::ModuleRefused,
-            "module 1:16777217 syntax fault\n",
-        ),
-        (
-            16_777_217,
-            Status::TooLong,
-            "M is longer than 16777216 bytes\n",
-        ),
-    ] {
-        let mut held = Vec::new(alloc);
-        held.push((String::from_str(alloc, "M")?, vec![in alloc; b' '; length]?))?;
-        let mut shelf = MemShelf::new(alloc, held, Vec::new(alloc));
-        let mut out = MemSink::new(alloc, Vec::new(alloc));
-        let words = words(alloc, "run M M")?;
-        assert_eq!(rt; psm(alloc, &words, &mut shelf, &mut out), status);
-        assert_eq!(rt; out.bytes(), written.as_bytes());
-    }
+    let mut held = Vec::new(alloc);
+    held.push((
+        String::from_str(alloc, "M")?,
+        vec![in alloc; b' '; 16_777_217]?,
+    ))?;
+    let mut shelf = MemShelf::new(alloc, held, Vec::new(alloc));
+    let mut out = MemSink::new(alloc, Vec::new(alloc));
+    let words = words(alloc, "run M M")?;
+    assert_eq!(rt; psm(alloc, &words, &mut shelf, &mut out), Status::TooLong);
+    assert_eq!(rt;
+        out.bytes(),
+        b"M is longer than 16777216 bytes\n".as_slice()
+    );
     Ok(())
 }
