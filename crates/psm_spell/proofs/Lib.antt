@@ -1,2 +1,5 @@
+pub mod Delimited
+pub mod NumberTexts
+pub mod Numerals
 pub mod Plain
 pub mod Spellable
