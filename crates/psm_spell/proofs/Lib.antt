@@ -1,4 +1,5 @@
 pub mod Delimited
+pub mod Files
 pub mod NumberTexts
 pub mod Numerals
 pub mod Plain
