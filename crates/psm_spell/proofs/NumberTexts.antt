@@ -39,8 +39,19 @@ and_true : (a b : Bool) → (a && true && b) ≡ (a && b)
 and_true true b = refl
 and_true false b = refl
 
-decimal_none : decimal 0 ≡ 48 ∷ []
+pub decimal_none : decimal 0 ≡ 48 ∷ []
 decimal_none = decimal-digits_value own (48 ∷ []) refl (omega arith) (λ e. refl) (omega arith)
+
+-- a number below a power of ten has no whole part there
+module _ (v s : ℕ) (small : v < 10 ^ s) where
+  pub no_whole : v / 10 ^ s ≡ 0
+  no_whole = let below : v / 10 ^ s < 1 = div_below v (10 ^ s) 1 (power_pos s) (omega (arith, small)) in omega (arith, below)
+
+  pub all_rest : v % 10 ^ s ≡ v
+  all_rest =
+      let p : 0 < 10 ^ s = power_pos s in
+      let parts : 10 ^ s * (v / 10 ^ s) + v % 10 ^ s ≡ v = omega (arith, p) in
+      omega (arith, parts, ap (λ (q : ℕ). 10 ^ s * q) no_whole)
 
 module _ (v s : ℕ) (scale_bound : s ≤ 18) (size_bound : v < 10 ^ 18) where
   abbrev n : Num
@@ -54,15 +65,6 @@ module _ (v s : ℕ) (scale_bound : s ≤ 18) (size_bound : v < 10 ^ 18) where
 
   fraction_size : length l.fraction ≡ s
   fraction_size = ap (λ (m : Num). m.scale) (literal_value-printed n scale_bound size_bound)
-
-  no_whole : v < 10 ^ s → v / 10 ^ s ≡ 0
-  no_whole small = let below : v / 10 ^ s < 1 = div_below v (10 ^ s) 1 (power_pos s) (omega (arith, small)) in omega (arith, below)
-
-  all_rest : v < 10 ^ s → v % 10 ^ s ≡ v
-  all_rest small =
-      let p : 0 < 10 ^ s = power_pos s in
-      let parts : 10 ^ s * (v / 10 ^ s) + v % 10 ^ s ≡ v = omega (arith, p) in
-      omega (arith, parts, ap (λ (q : ℕ). 10 ^ s * q) (no_whole small))
 
   -- the worth of digits behind a whole part with a sign or none
   abbrev worth : Bool → List ℕ → Num
@@ -82,9 +84,9 @@ module _ (v s : ℕ) (scale_bound : s ≤ 18) (size_bound : v < 10 ^ 18) where
           no_fraction = λ e. absurd cc;
         };
         limit = omega (arith, fraction_size, scale_bound);
-        spelled = ap (λ (b : Bool). 46 ∷ fraction_for b s (v % 10 ^ s)) some ∙ ap (λ (m : ℕ). 46 ∷ filled s m) (all_rest lt)
+        spelled = ap (λ (b : Bool). 46 ∷ fraction_for b s (v % 10 ^ s)) some ∙ ap (λ (m : ℕ). 46 ∷ filled s m) (all_rest v s lt)
             ∙ sym (ap (λ (b : Bool). cond b (46 ∷ filled s v) []) some);
-        value = sym (ap (λ (b : Bool). worth b (decimal (v / 10 ^ s))) no_minus ∙ ap (λ (q : ℕ). worth false (decimal q)) (no_whole lt) ∙ ap (worth false) decimal_none) ∙ literal_value-printed n scale_bound size_bound;
+        value = sym (ap (λ (b : Bool). worth b (decimal (v / 10 ^ s))) no_minus ∙ ap (λ (q : ℕ). worth false (decimal q)) (no_whole v s lt) ∙ ap (worth false) decimal_none) ∙ literal_value-printed n scale_bound size_bound;
       }
 
   not_full : (nat_lt 0 s && nat_lt v (10 ^ s)) ≡ false → s < 18

@@ -1,0 +1,112 @@
+//! Writing tokens.
+ghost use Rattle.std.specs.Prelude.{◌≡◌, ◌≤◌, ◌∷◌, ◌++◌, [], length, IfOk, OnErr, string_bytes};
+ghost use Rattle.std.specs.Str.{chars};
+ghost use Rattle.psm_token.specs.declared.token.Token.{Token};
+ghost use Rattle.psm_token.specs.declared.token.Token.TheVariants as token;
+ghost use Rattle.psm_spell.specs.Parts.{token_of};
+ghost use Rattle.psm_spell.specs.Written.{written, AreSpellable, IsFileOf};
+
+use crate::log::Log;
+use crate::part::Part;
+use crate::spell::{characters, spelled};
+use psm_num::Dec;
+use psm_text::{Name, Text};
+use psm_token::{Sign, Word};
+use std::alloc::{AllocError, Global};
+use std::marker::Model;
+
+/// A text of tokens that grows, seen as the list of the tokens that were written.
+///
+/// Each method that writes a token leaves the writer as it was where memory runs out.
+#[derive(Drop)]
+pub struct Writer {
+    alloc: Global,
+    text: String,
+    log: Log,
+}
+
+impl Model for Writer {
+    ghost use Rattle.std.specs.Prelude.{◌≡◌, List, string_bytes};
+    ghost use Rattle.std.specs.Str.{chars};
+    ghost use Rattle.psm_token.specs.declared.token.Token.{Token};
+    ghost use Rattle.psm_spell.specs.Written.{written};
+
+    ghost Value = { List Token };
+
+    ghost view = { λ w. w.log.tokens };
+
+    ghost invariant = { λ w. chars (string_bytes w.text) ≡ written w.log.tokens };
+}
+
+impl Writer {
+    /// A writer that has written nothing.
+    pub fn new(alloc: Global) -> Writer
+        ensures { result ≡ [] }
+    {
+        Writer {
+            alloc,
+            text: String::new(alloc),
+            log: Log::new(),
+        }
+    }
+
+    fn put(&mut self, part: &Part<'_>) -> Result<(), AllocError>
+        ensures ok { IfOk result (λ _. self.new ≡ self.old ++ token_of part.now ∷ []) }
+        ensures err { OnErr result (self.new ≡ self.old) }
+    {
+        let spelled = spelled(self.alloc, part)?;
+        self.text.push_str(spelled.as_str())?;
+        self.log = self.log.and(part);
+        Ok(())
+    }
+
+    /// Writes a word of the language.
+    pub fn word(&mut self, word: Word) -> Result<(), AllocError>
+        ensures ok { IfOk result (λ _. self.new ≡ self.old ++ token.Word word ∷ []) }
+        ensures err { OnErr result (self.new ≡ self.old) }
+    {
+        self.put(&Part::Word(word))
+    }
+
+    /// Writes a sign.
+    pub fn sign(&mut self, sign: Sign) -> Result<(), AllocError>
+        ensures ok { IfOk result (λ _. self.new ≡ self.old ++ token.Sign sign ∷ []) }
+        ensures err { OnErr result (self.new ≡ self.old) }
+    {
+        self.put(&Part::Sign(sign))
+    }
+
+    /// Writes a name, which is delimited (ISO/IEC 9075:1992, 5.2).
+    pub fn name(&mut self, name: &Name) -> Result<(), AllocError>
+        ensures ok { IfOk result (λ _. self.new ≡ self.old ++ token.Name name.now ∷ []) }
+        ensures err { OnErr result (self.new ≡ self.old) }
+    {
+        let kept = characters(self.alloc, name)?;
+        self.put(&Part::Name(kept.as_slice()))
+    }
+
+    /// Writes a number as an exact numeric literal (ISO/IEC 9075:1992, 5.3).
+    pub fn number(&mut self, number: Dec) -> Result<(), AllocError>
+        ensures ok { IfOk result (λ _. self.new ≡ self.old ++ token.Number number ∷ []) }
+        ensures err { OnErr result (self.new ≡ self.old) }
+    {
+        self.put(&Part::Number(number))
+    }
+
+    /// Writes a text as a character string literal (ISO/IEC 9075:1992, 5.3).
+    pub fn text(&mut self, text: &Text) -> Result<(), AllocError>
+        ensures ok { IfOk result (λ _. self.new ≡ self.old ++ token.Text text.now ∷ []) }
+        ensures err { OnErr result (self.new ≡ self.old) }
+    {
+        self.put(&Part::Text(text.chars()))
+    }
+
+    /// The text of the tokens. Read again, it is these tokens, if each can stand in a file and there are at
+    /// most as many as a file may have.
+    pub fn into_text(self) -> String
+        ensures text { chars (string_bytes result) ≡ written self }
+        ensures file { AreSpellable self → length self ≤ 2000000 → IsFileOf (string_bytes result) self }
+    {
+        self.text
+    }
+}
