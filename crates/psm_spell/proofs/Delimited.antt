@@ -1,5 +1,5 @@
 -- Names and texts stand where they are written.
-use Rattle.std.proofs.Common.{◌≡◌, ℕ, ◌<◌, ◌≤◌, false, List, [], ◌∷◌, ◌++◌, length, refl, ap, append_assoc, ◌∙◌, arith}
+use Rattle.std.proofs.Common.{◌≡◌, ℕ, ◌≤◌, false, List, [], ◌∷◌, ◌++◌, length, refl, ap, append_assoc, arith}
 use Rattle.std.proofs.lemmas.List.{length_push}
 use Rattle.psm_token.specs.declared.token.Token.TheVariants.{Name, Text}
 use Rattle.psm_token.specs.Characters.{begins}

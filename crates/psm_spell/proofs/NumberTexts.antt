@@ -1,23 +1,21 @@
 -- What is written of a number that a literal can have is a literal of it with as many digits as a file may have.
-use Rattle.std.proofs.Common.{◌≡◌, ℕ, zero, suc, ◌+◌, ◌*◌, ◌<◌, ◌≤◌, ◌/◌, ◌%◌, ◌^◌, ℤ, pos, Bool, true, false, not, ◌&&◌, cond, nat_lt, int_lt, unsigned_abs, List, [], ◌∷◌, ◌++◌, length, Option, Some, None, Ok, refl, sym, ap, subst, ◌∙◌, append_assoc, ltb-true, ltb-false, lt-ltb, rules, arith}
+use Rattle.std.proofs.Common.{◌≡◌, ℕ, ◌+◌, ◌*◌, ◌<◌, ◌≤◌, ◌/◌, ◌%◌, ◌^◌, pos, Bool, true, false, not, ◌&&◌, cond, nat_lt, List, [], ◌∷◌, ◌++◌, length, Option, None, refl, sym, ap, subst, ◌∙◌, ltb-true, ltb-false, lt-ltb, rules, arith}
 use Rattle.std.specs.Prelude.{decimal}
 use Rattle.std.specs.Char.{is_ascii_digit}
 use Rattle.std.specs.List.{list_all}
 use Rattle.std.specs.Str.Parse.{digits_value}
-use Rattle.std.proofs.lemmas.Bool.Decides.{nat_tests}
 use Rattle.std.proofs.lemmas.Fmt.{decimal-digits_value}
 use Rattle.std.proofs.lemmas.List.{length-append}
 use Rattle.std.proofs.lemmas.List.Folds.{list_all-append}
 use Rattle.std.proofs.lemmas.Nat.{div_below}
 use Rattle.std.proofs.lemmas.Str.Parse.{digits_value_short}
-use Rattle.psm_num.specs.Literal.{Literal, IsLiteral, Sign, literal_text, literal_digits, literal_value, literal_number, signed, is_minus}
+use Rattle.psm_num.specs.Literal.{Literal, IsLiteral, Sign, literal_text, literal_value}
 use Rattle.psm_num.specs.Num.{Num}
 use Rattle.psm_num.specs.Printed.{printed, filled, decimals_of}
 use Rattle.psm_num.proofs.Digits.{own}
 use Rattle.psm_num.proofs.Literals.{and_first, and_second}
 use Rattle.psm_num.proofs.Powers.{power_pos}
 use Rattle.psm_num.proofs.RoundTrip.{sign_for, fraction_for, literal_for, spells-printed, literal_value-printed, literal_number-printed}
-use Rattle.psm_token.specs.declared.token.Token.{Token}
 use Rattle.psm_token.specs.declared.token.Token.TheVariants.{Number}
 use Rattle.psm_token.specs.Forms.{IsToken}
 use Rattle.psm_token.specs.Fronts.{front_of}

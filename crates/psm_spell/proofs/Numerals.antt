@@ -1,20 +1,11 @@
 -- Numbers stand where they are written.
-use Rattle.std.proofs.Common.{◌≡◌, ℕ, zero, suc, ◌+◌, ◌<◌, ◌≤◌, ◌/◌, ◌%◌, ◌^◌, ℤ, pos, Bool, true, false, not, ◌&&◌, cond, eqb, nat_lt, int_lt, unsigned_abs, List, [], ◌∷◌, ◌++◌, length, take, drop, Option, Some, None, Ok, refl, sym, ap, subst, ◌∙◌, append_assoc, one-add, ltb-true, ltb-false, rules, arith}
-use Rattle.std.specs.Prelude.{decimal}
+use Rattle.std.proofs.Common.{◌≡◌, ℕ, ◌+◌, ◌≤◌, Bool, true, false, List, [], ◌∷◌, ◌++◌, length, take, drop, None, refl, sym, ap, subst, ◌∙◌, append_assoc, arith}
 use Rattle.std.specs.Char.{is_ascii_digit, is_ascii_alphabetic}
-use Rattle.std.specs.List.{prefix_len, list_all}
-use Rattle.std.specs.Str.Parse.{digits_value}
+use Rattle.std.specs.List.{list_all}
 use Rattle.std.proofs.Math.Seq.{take-append_seam, drop-append_seam}
-use Rattle.std.proofs.lemmas.Bool.Decides.{nat_tests}
-use Rattle.std.proofs.lemmas.List.{length-append, append-nil}
-use Rattle.std.proofs.lemmas.List.Folds.{list_all-append}
-use Rattle.std.proofs.lemmas.Str.Parse.{digits_value_short}
-use Rattle.psm_num.specs.Literal.{Literal, IsLiteral, Sign, sign_text, point_text, literal_text, literal_digits, literal_value, literal_number, signed, is_minus}
-use Rattle.psm_num.specs.Num.{Num}
-use Rattle.psm_num.specs.Printed.{printed, filled, decimals_of}
-use Rattle.psm_num.proofs.Digits.{own}
-use Rattle.psm_num.proofs.Literals.{and_first, and_second}
-use Rattle.psm_num.proofs.RoundTrip.{sign_for, fraction_for, literal_for, spells-printed, literal_value-printed, literal_number-printed}
+use Rattle.std.proofs.lemmas.List.{length-append}
+use Rattle.psm_num.specs.Literal.{Literal, IsLiteral, point_text, literal_text, literal_digits, literal_value}
+use Rattle.psm_num.proofs.Literals.{and_first}
 use Rattle.psm_token.specs.declared.token.Token.{Token}
 use Rattle.psm_token.specs.declared.token.Token.TheVariants.{Number}
 use Rattle.psm_token.specs.Characters.{is_separator, is_name_letter, begins}
@@ -22,8 +13,6 @@ use Rattle.psm_token.specs.Forms.{IsToken, IsNumberForm}
 use Rattle.psm_token.specs.Fronts.{front_of}
 use Rattle.psm_token.specs.Numbers.{digits_at, behind_digits, is_point, fraction_at, literal_at, fraction_len, literal_len}
 use Rattle.psm_token.proofs.Looking.{chosen}
-use Rattle.psm_token.proofs.Runs.{number_ok}
-use Rattle.psm_spell.specs.Written.{is_fraction, number_text, IsSpellableNumber}
 use Rattle.psm_spell.proofs.Plain.{run_of}
 
 -- ---- digits, up to a character that is none

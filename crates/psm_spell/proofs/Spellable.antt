@@ -1,11 +1,10 @@
 -- The tokens of a file can be written.
-use Rattle.std.proofs.Common.{◌≡◌, ℕ, zero, suc, ◌+◌, ◌<◌, ◌≤◌, Bool, true, false, not, ◌&&◌, cond, eqb, List, [], ◌∷◌, ◌++◌, length, map, take, drop, inl, inr, refl, sym, ap, subst, ◌∙◌, one-add, arith}
+use Rattle.std.proofs.Common.{◌≡◌, ℕ, zero, suc, ◌+◌, ◌<◌, ◌≤◌, Bool, true, false, not, ◌&&◌, cond, eqb, List, [], ◌∷◌, ◌++◌, length, take, inl, inr, refl, sym, ap, subst, ◌∙◌, arith}
 use Rattle.std.specs.Char.{is_ascii_digit, is_ascii_alphabetic, to_ascii_uppercase}
-use Rattle.std.specs.List.{prefix_len, list_all}
+use Rattle.std.specs.List.{list_all}
 use Rattle.std.proofs.lemmas.List.{length-map, map-append}
 use Rattle.std.proofs.lemmas.List.Folds.{length-prefix_len}
 use Rattle.std.proofs.lemmas.List.Sums.{take_while-cons}
-use Rattle.psm_num.specs.Literal.{IsLiteral, literal_value}
 use Rattle.psm_token.specs.declared.token.Placed.{Placed}
 use Rattle.psm_token.specs.declared.token.Token.{Token}
 use Rattle.psm_token.specs.declared.token.Token.TheVariants.{Word, Name, Number, Text, Sign}
@@ -17,7 +16,7 @@ use Rattle.psm_token.specs.Numbers.{digits_at, behind_digits, is_point, fraction
 use Rattle.psm_token.specs.Spells.{At, Piece, Pieces, Spells, at_start}
 use Rattle.psm_token.proofs.Looking.{chosen, digit_front}
 use Rattle.psm_token.proofs.Reaching.{token_moves}
-use Rattle.psm_spell.specs.Written.{IsSpellable, IsSpellableName, IsSpellableNumber, AreSpellable, bare}
+use Rattle.psm_spell.specs.Written.{IsSpellable, AreSpellable, bare}
 
 -- ---- a literal at the front
 

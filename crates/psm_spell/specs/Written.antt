@@ -1,5 +1,5 @@
 -- Tokens as text, such that the text, read again, is these tokens (ISO/IEC 9075:1992, 5.1 to 5.4).
-use Rattle.std.specs.Prelude.{◌≡◌, ℕ, pos, ◌%◌, ◌^◌, ◌<◌, ◌≤◌, Bool, ◌&&◌, List, [], ◌∷◌, ◌++◌, length, map, nat_lt, int_lt, unsigned_abs, not, None, if◌then◌else◌}
+use Rattle.std.specs.Prelude.{◌≡◌, ℕ, pos, ◌^◌, ◌<◌, ◌≤◌, Bool, ◌&&◌, List, [], ◌∷◌, ◌++◌, length, map, nat_lt, int_lt, unsigned_abs, not, None, if◌then◌else◌}
 use Rattle.psm_num.specs.Literal.{Literal, IsLiteral, literal_digits, literal_value}
 use Rattle.psm_num.specs.Num.{Num}
 use Rattle.psm_num.specs.Printed.{printed, decimals_of}

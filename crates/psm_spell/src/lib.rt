@@ -9,3 +9,6 @@ mod writer;
 
 pub use laws::spelled_tokens;
 pub use writer::Writer;
+
+#[cfg(test)]
+mod tests;

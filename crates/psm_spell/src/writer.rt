@@ -1,7 +1,6 @@
 //! Writing tokens.
 ghost use Rattle.std.specs.Prelude.{◌≡◌, ◌≤◌, ◌∷◌, ◌++◌, [], length, IfOk, OnErr, string_bytes};
 ghost use Rattle.std.specs.Str.{chars};
-ghost use Rattle.psm_token.specs.declared.token.Token.{Token};
 ghost use Rattle.psm_token.specs.declared.token.Token.TheVariants as token;
 ghost use Rattle.psm_spell.specs.Parts.{token_of};
 ghost use Rattle.psm_spell.specs.Written.{written, AreSpellable, IsFileOf};
@@ -15,9 +14,8 @@ use psm_token::{Sign, Word};
 use std::alloc::{AllocError, Global};
 use std::marker::Model;
 
-/// A text of tokens that grows, seen as the list of the tokens that were written.
-///
-/// Each method that writes a token leaves the writer as it was where memory runs out.
+/// A text of tokens that grows, seen as the list of the tokens that were written (ISO/IEC 9075:1992, 5.1 to
+/// 5.4).
 #[derive(Drop)]
 pub struct Writer {
     alloc: Global,
@@ -50,6 +48,7 @@ impl Writer {
         }
     }
 
+    /// Writes a token, which is put together first, so that nothing of it stands where memory runs out.
     fn put(&mut self, part: &Part<'_>) -> Result<(), AllocError>
         ensures ok { IfOk result (λ _. self.new ≡ self.old ++ token_of part.now ∷ []) }
         ensures err { OnErr result (self.new ≡ self.old) }
@@ -62,24 +61,21 @@ impl Writer {
 
     /// Writes a word of the language.
     pub fn word(&mut self, word: Word) -> Result<(), AllocError>
-        ensures ok { IfOk result (λ _. self.new ≡ self.old ++ token.Word word ∷ []) }
-        ensures err { OnErr result (self.new ≡ self.old) }
+        ensures { IfOk result (λ _. self.new ≡ self.old ++ token.Word word ∷ []) }
     {
         self.put(&Part::Word(word))
     }
 
     /// Writes a sign.
     pub fn sign(&mut self, sign: Sign) -> Result<(), AllocError>
-        ensures ok { IfOk result (λ _. self.new ≡ self.old ++ token.Sign sign ∷ []) }
-        ensures err { OnErr result (self.new ≡ self.old) }
+        ensures { IfOk result (λ _. self.new ≡ self.old ++ token.Sign sign ∷ []) }
     {
         self.put(&Part::Sign(sign))
     }
 
     /// Writes a name, which is delimited (ISO/IEC 9075:1992, 5.2).
     pub fn name(&mut self, name: &Name) -> Result<(), AllocError>
-        ensures ok { IfOk result (λ _. self.new ≡ self.old ++ token.Name name.now ∷ []) }
-        ensures err { OnErr result (self.new ≡ self.old) }
+        ensures { IfOk result (λ _. self.new ≡ self.old ++ token.Name name.now ∷ []) }
     {
         let kept = characters(self.alloc, name)?;
         self.put(&Part::Name(kept.as_slice()))
@@ -87,26 +83,25 @@ impl Writer {
 
     /// Writes a number as an exact numeric literal (ISO/IEC 9075:1992, 5.3).
     pub fn number(&mut self, number: Dec) -> Result<(), AllocError>
-        ensures ok { IfOk result (λ _. self.new ≡ self.old ++ token.Number number ∷ []) }
-        ensures err { OnErr result (self.new ≡ self.old) }
+        ensures { IfOk result (λ _. self.new ≡ self.old ++ token.Number number ∷ []) }
     {
         self.put(&Part::Number(number))
     }
 
     /// Writes a text as a character string literal (ISO/IEC 9075:1992, 5.3).
     pub fn text(&mut self, text: &Text) -> Result<(), AllocError>
-        ensures ok { IfOk result (λ _. self.new ≡ self.old ++ token.Text text.now ∷ []) }
-        ensures err { OnErr result (self.new ≡ self.old) }
+        ensures { IfOk result (λ _. self.new ≡ self.old ++ token.Text text.now ∷ []) }
     {
         self.put(&Part::Text(text.chars()))
     }
 
     /// The text of the tokens. Read again, it is these tokens, if each can stand in a file and there are at
-    /// most as many as a file may have.
+    /// most 2,000,000 of them, as many as a file may have.
     pub fn into_text(self) -> String
         ensures text { chars (string_bytes result) ≡ written self }
         ensures file { AreSpellable self → length self ≤ 2000000 → IsFileOf (string_bytes result) self }
     {
-        self.text
+        let Writer { text, .. } = self;
+        text
     }
 }

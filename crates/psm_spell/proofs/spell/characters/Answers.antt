@@ -1,5 +1,4 @@
 use Rattle.std.proofs.Common.{◌≡◌, ℕ, List, IfOk, subst, rules}
-use Rattle.std.specs.Str.{chars}
 use Rattle.std.proofs.lemmas.Str.{chars_from_encodes}
 use Rattle.psm_spell.proofs.Pushing.{named_chars}
 use Rattle.psm_spell.proofs.spell.characters.Goals as goal

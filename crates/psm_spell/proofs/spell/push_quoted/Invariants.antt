@@ -1,4 +1,4 @@
-use Rattle.std.proofs.Common.{◌≡◌, ◌∷◌, ◌++◌, [], drop, string_bytes}
+use Rattle.std.proofs.Common.{◌≡◌, ◌∷◌, ◌++◌, drop, string_bytes}
 use Rattle.std.specs.Str.{chars}
 use Rattle.psm_token.specs.Quotes.{doubled}
 use Rattle.psm_spell.proofs.spell.push_quoted.Given as goal
