@@ -81,7 +81,8 @@ impl Writer {
         self.put(&Part::Name(kept.as_slice()))
     }
 
-    /// Writes a number as an exact numeric literal (ISO/IEC 9075:1992, 5.3).
+    /// Writes a number as an exact numeric literal (ISO/IEC 9075:1992, 5.3), which a number below 0 has none of:
+    /// a text with such a number is not promised to be read again.
     pub fn number(&mut self, number: Dec) -> Result<(), AllocError>
         ensures { IfOk result (λ _. self.new ≡ self.old ++ token.Number number ∷ []) }
     {
