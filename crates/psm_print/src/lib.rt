@@ -1,0 +1,2 @@
+//! Trees of module files as text.
+#![tactic(auto)]
