@@ -35,6 +35,7 @@ use Rattle.psm_tree.specs.declared.expr.SetFunction.{SetFunction}
 use Rattle.psm_tree.specs.declared.expr.SetFunction.TheVariants as sets
 use Rattle.psm_tree.specs.declared.expr.TrimSide.{TrimSide}
 use Rattle.psm_tree.specs.declared.expr.TrimSide.TheVariants as sides
+use Rattle.psm_tree.specs.declared.expr.Select.{Select, out-Select}
 use Rattle.psm_tree.specs.declared.expr.Pick.{Pick}
 use Rattle.psm_tree.specs.declared.expr.Pick.TheVariants as picked
 
@@ -217,3 +218,20 @@ abbrev mutual
   pick_tokens (picked.Expr expr alias) = expr_tokens expr ++ perhaps [] name_tokens alias
   pick_tokens (picked.CountRows place alias) = word w.Count ++ in_parens (sign s.Asterisk) ++ perhaps [] name_tokens alias
   pick_tokens (picked.Aggregate place function argument alias) = set_function_tokens function ++ in_parens (expr_tokens argument) ++ perhaps [] name_tokens alias
+
+-- expressions with a comma between two of them
+abbrev pub listed_tokens : List Expr → List Token
+listed_tokens [] = []
+listed_tokens (e ∷ es) = expr_tokens e ++ each (sign s.Comma) expr_tokens es
+
+-- the items of a query
+abbrev pub picks_tokens : List Pick → List Token
+picks_tokens [] = []
+picks_tokens (p ∷ ps) = pick_tokens p ++ each (sign s.Comma) pick_tokens ps
+
+-- a table, its alias and its condition
+abbrev pub table_tokens : Identifier → Option Identifier → Option Expr → List Token
+table_tokens table alias condition = word w.From ++ name_tokens table ++ perhaps [] name_tokens alias ++ perhaps (word w.Where) expr_tokens condition
+
+abbrev pub select_tokens : Select → List Token
+select_tokens select = let query = out-Select select in word w.Select ++ picks_tokens query.picks ++ table_tokens query.table query.alias query.condition

@@ -1,1 +1,3 @@
 pub mod ExprTokens
+pub mod StatementTokens
+pub mod FileTokens

@@ -1,0 +1,100 @@
+-- The tokens that are printed for module files: of each tree the shortest of its spellings.
+use Rattle.std.specs.Prelude.{Bool, true, false, List, [], ◌∷◌, ◌++◌, Option, Some, None, if◌then◌else◌, nat_eq, ◌&&◌}
+use Rattle.psm_token.specs.declared.place.Place.{Place}
+use Rattle.psm_token.specs.declared.word.Word.TheVariants as w
+use Rattle.psm_token.specs.declared.sign.Sign.TheVariants as s
+use Rattle.psm_token.specs.declared.token.Token.{Token}
+use Rattle.psm_tree.specs.declared.types.DataType.{DataType}
+use Rattle.psm_tree.specs.declared.file.FileTree.{FileTree}
+use Rattle.psm_tree.specs.declared.file.TableTree.{TableTree}
+use Rattle.psm_tree.specs.declared.file.Element.{Element}
+use Rattle.psm_tree.specs.declared.file.Element.TheVariants as elements
+use Rattle.psm_tree.specs.declared.file.ColumnRule.{ColumnRule}
+use Rattle.psm_tree.specs.declared.file.ColumnRuleForm.{ColumnRuleForm}
+use Rattle.psm_tree.specs.declared.file.ColumnRuleForm.TheVariants as column_rules
+use Rattle.psm_tree.specs.declared.file.TableRule.{TableRule}
+use Rattle.psm_tree.specs.declared.file.TableRuleForm.{TableRuleForm}
+use Rattle.psm_tree.specs.declared.file.TableRuleForm.TheVariants as table_rules
+use Rattle.psm_tree.specs.declared.file.Module.{Module}
+use Rattle.psm_tree.specs.declared.file.Mode.{Mode}
+use Rattle.psm_tree.specs.declared.file.Mode.TheVariants as modes
+use Rattle.psm_tree.specs.declared.file.Parameter.{Parameter}
+use Rattle.psm_tree.specs.declared.file.NoteForm.{NoteForm}
+use Rattle.psm_tree.specs.declared.file.NoteForm.TheVariants as notes
+use Rattle.psm_tree.specs.declared.file.Note.{Note}
+use Rattle.psm_tree.specs.declared.file.Routine.{Routine}
+use Rattle.psm_print.specs.ExprTokens.{word, sign, perhaps, each, in_parens, name_tokens, names_tokens, type_tokens, constant_tokens, expr_tokens}
+use Rattle.psm_print.specs.StatementTokens.{ended, statement_tokens}
+
+-- ---- tables
+
+abbrev pub column_rule_form_tokens : ColumnRuleForm → List Token
+column_rule_form_tokens column_rules.NotNull = word w.Not ++ word w.Null
+column_rule_form_tokens column_rules.PrimaryKey = word w.Primary ++ word w.Key
+column_rule_form_tokens column_rules.Unique = word w.Unique
+column_rule_form_tokens (column_rules.Check expr) = word w.Check ++ in_parens (expr_tokens expr)
+
+abbrev pub column_rule_tokens : ColumnRule → List Token
+column_rule_tokens rule = column_rule_form_tokens rule.form
+
+abbrev pub table_rule_form_tokens : TableRuleForm → List Token
+table_rule_form_tokens (table_rules.PrimaryKey names) = word w.Primary ++ word w.Key ++ in_parens (names_tokens names)
+table_rule_form_tokens (table_rules.Unique names) = word w.Unique ++ in_parens (names_tokens names)
+table_rule_form_tokens (table_rules.Check expr) = word w.Check ++ in_parens (expr_tokens expr)
+
+abbrev pub table_rule_tokens : TableRule → List Token
+table_rule_tokens rule = table_rule_form_tokens rule.form
+
+abbrev pub element_tokens : Element → List Token
+element_tokens (elements.Column name kind default rules) = name_tokens name ++ type_tokens kind ++ perhaps (word w.Default) constant_tokens default ++ each [] column_rule_tokens rules
+element_tokens (elements.Rule rule) = table_rule_tokens rule
+
+abbrev pub table_tree_tokens : TableTree → List Token
+table_tree_tokens table = word w.Create ++ word w.Table ++ name_tokens table.name ++ in_parens (element_tokens table.first ++ each (sign s.Comma) element_tokens table.rest)
+
+-- ---- routines
+
+abbrev pub same_place : Place → Place → Bool
+same_place p q = nat_eq p.line q.line && nat_eq p.column q.column
+
+abbrev pub mode_tokens : Mode → List Token
+mode_tokens modes.In = word w.In
+mode_tokens modes.Out = word w.Out
+mode_tokens modes.InOut = word w.InOut
+
+-- the mode, which is left out where no token of the source said it
+abbrev pub said_mode_tokens : Parameter → List Token
+said_mode_tokens p = if same_place p.place p.name.place then [] else mode_tokens p.mode
+
+abbrev pub parameter_tokens : Parameter → List Token
+parameter_tokens p = said_mode_tokens p ++ name_tokens p.name ++ type_tokens p.kind
+
+abbrev pub parameters_tokens : List Parameter → List Token
+parameters_tokens [] = []
+parameters_tokens (p ∷ ps) = parameter_tokens p ++ each (sign s.Comma) parameter_tokens ps
+
+abbrev pub note_form_tokens : NoteForm → List Token
+note_form_tokens notes.Language = word w.Language ++ word w.Sql
+note_form_tokens notes.Deterministic = word w.Deterministic
+note_form_tokens notes.NotDeterministic = word w.Not ++ word w.Deterministic
+note_form_tokens notes.ContainsSql = word w.Contains ++ word w.Sql
+note_form_tokens notes.ReadsSqlData = word w.Reads ++ word w.Sql ++ word w.Data
+note_form_tokens notes.ModifiesSqlData = word w.Modifies ++ word w.Sql ++ word w.Data
+
+abbrev pub note_tokens : Note → List Token
+note_tokens note = note_form_tokens note.form
+
+abbrev pub kind_tokens : Option DataType → List Token
+kind_tokens None = word w.Procedure
+kind_tokens (Some kind) = word w.Function
+
+abbrev pub routine_tokens : Routine → List Token
+routine_tokens r = kind_tokens r.returns ++ name_tokens r.name ++ in_parens (parameters_tokens r.parameters) ++ perhaps (word w.Returns) type_tokens r.returns ++ each [] note_tokens r.notes ++ statement_tokens r.body
+
+-- ---- files
+
+abbrev pub module_tokens : Module → List Token
+module_tokens m = word w.Create ++ word w.Module ++ name_tokens m.name ++ ended routine_tokens m.routines ++ word w.End ++ word w.Module
+
+abbrev pub file_tokens : FileTree → List Token
+file_tokens file = ended table_tree_tokens file.tables ++ module_tokens file.«module»
