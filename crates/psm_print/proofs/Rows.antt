@@ -1,5 +1,5 @@
 -- The tokens of the parts of expressions, over boxes and lists in place of rows.
-use Rattle.std.proofs.Common.{◌≡◌, ℕ, List, [], ◌∷◌, ◌++◌, Option, Some, None, refl, sym, ap, ◌∙◌}
+use Rattle.std.proofs.Common.{◌≡◌, List, [], ◌++◌, Option, Some, None, refl, sym, ap, ◌∙◌}
 use Rattle.std.proofs.lemmas.List.{append_assoc, append-nil}
 use denote.Hole.Carrier
 use native.Mathlib.Omega.{arith}
@@ -7,7 +7,7 @@ use Rattle.psm_token.specs.declared.word.Word.TheVariants as w
 use Rattle.psm_token.specs.declared.sign.Sign.TheVariants as s
 use Rattle.psm_token.specs.declared.token.Token.{Token}
 use Rattle.psm_tree.specs.declared.expr.Expr.{Expr, Row_of-Expr, end_of-Expr, more_of-Expr, items-the_row-Expr, items_hidden-the_row-Expr-1, Row_of-Link, end_of-Link, more_of-Link, items-the_row-Link, items_hidden-the_row-Link-2, Row_of-Pick, end_of-Pick, more_of-Pick, items-the_row-Pick, items_hidden-the_row-Pick-3, Row_of-When, end_of-When, more_of-When, items-the_row-When, items_hidden-the_row-When-6}
-use Rattle.psm_tree.specs.declared.expr.Expr.TheBlock.{hidden-the_row-Expr-0, hidden-the_row-Expr-1, shape-the_row-Expr-0, shape-the_row-Expr-1, hidden-the_row-Link-2, hidden-the_row-Pick-3, shape-the_row-Select-4, hidden-the_row-Select-4, shape-the_row-When-5, hidden-the_row-When-5, hidden-the_row-When-6, back-Expr-Like-3}
+use Rattle.psm_tree.specs.declared.expr.Expr.TheBlock.{hidden-the_row-Expr-0, hidden-the_row-Expr-1, shape-the_row-Expr-0, hidden-the_row-Link-2, hidden-the_row-Pick-3, shape-the_row-Select-4, hidden-the_row-Select-4, shape-the_row-When-5, hidden-the_row-When-5, hidden-the_row-When-6, back-Expr-Like-3}
 use Rattle.psm_tree.specs.declared.expr.Link.{Link}
 use Rattle.psm_tree.specs.declared.expr.When.{When}
 use Rattle.psm_tree.specs.declared.expr.Pick.{Pick}
