@@ -26,19 +26,26 @@ placed_at p t = record { token = t; place = p }
 -- the tokens of a test go over into these
 pub record Says (z : Setting) {A : Type 0} (from to : Test Placed A) (tok : A → Token) : Type 0 where
   pub place : A → Place
-  pub known : (a : A) → has (token_kind (tok a)) to.kinds ≡ true
-  pub again : (a : A) → to.value (placed_at (place a) (tok a)) ≡ a
+  pub known : (y : Placed) → has (kind y) from.kinds ≡ true → has (token_kind (tok (from.value y))) to.kinds ≡ true
+  pub again : (y : Placed) → has (kind y) from.kinds ≡ true → to.value (placed_at (place (from.value y)) (tok (from.value y))) ≡ from.value y
   pub kept : (y : Placed) → has (kind y) from.kinds ≡ true → z.good y.token → z.good (tok (from.value y))
+
+-- where that holds of any value
+pub says_all : {z : Setting} {A : Type 0} {from to : Test Placed A} {tok : A → Token} (place : A → Place) → ((a : A) → has (token_kind (tok a)) to.kinds ≡ true) → ((a : A) → to.value (placed_at (place a) (tok a)) ≡ a)
+    → ((y : Placed) → has (kind y) from.kinds ≡ true → z.good y.token → z.good (tok (from.value y))) → Says z from to tok
+says_all {from = from} place known again kept = record { place = place; known = λ y e. known (from.value y); again = λ y e. again (from.value y); kept = kept }
 
 token_into : {z : Setting} {A : Type 0} {from to : Test Placed A} {tok : A → Token} → Says z from to tok
     → (d : ℕ) (w : Words Placed) (x : A) → OneToken kind from d w x → AllGood z.good w → Printed z.good (OneToken kind to d) x (tok x ∷ []) (length w)
-token_into {z} {tok = tok} s d w x l a = record {
-  word = (placed_at (s.place x) (tok x), d) ∷ [];
-  spells = record { at = placed_at (s.place x) (tok x); whole = refl; known = s.known x; made = sym (s.again x) };
-  bare = refl;
-  short = omega (arith, ap length l.whole);
-  kept = (subst (λ v. z.good (tok v)) (sym l.made) (s.kept l.at l.known (subst (AllGood z.good) l.whole a).0), tt);
-}
+token_into {z} {from = from} {to = to} {tok = tok} s d w x l a =
+    let v = from.value l.at in
+    subst (λ v. Printed z.good (OneToken kind to d) v (tok v ∷ []) (length w)) (sym l.made) (record {
+      word = (placed_at (s.place v) (tok v), d) ∷ [];
+      spells = record { at = placed_at (s.place v) (tok v); whole = refl; known = s.known l.at l.known; made = sym (s.again l.at l.known) };
+      bare = refl;
+      short = omega (arith, ap length l.whole);
+      kept = (s.kept l.at l.known (subst (AllGood z.good) l.whole a).0, tt);
+    })
 
 pub into_token : {z : Setting} {A : Type 0} {from to : Test Placed A} {tok : A → Token} → Says z from to tok → Into z (token from) (token to) (λ a. tok a ∷ [])
 into_token {z} s = record { into = token_into s z.depth }
@@ -71,10 +78,10 @@ known_one : (n : ℕ) → has n (n ∷ []) ≡ true
 known_one n = ap (λ b. if b then true else false) (eq-eqb n n refl)
 
 pub says_word : {z : Setting} (x : Word) → Says z (word x) (word x) (λ a. t.Word x)
-says_word {z} x = record { place = λ a. a; known = λ a. known_one (code x); again = λ a. refl; kept = λ y e g. z.kept.of_word x }
+says_word {z} x = says_all (λ a. a) (λ a. known_one (code x)) (λ a. refl) (λ y e g. z.kept.of_word x)
 
 pub says_sign : {z : Setting} (x : Sign) → Says z (sign x) (sign x) (λ a. t.Sign x)
-says_sign {z} x = record { place = λ a. a; known = λ a. known_one (sign_code x); again = λ a. refl; kept = λ y e g. z.kept.of_sign x }
+says_sign {z} x = says_all (λ a. a) (λ a. known_one (sign_code x)) (λ a. refl) (λ y e g. z.kept.of_sign x)
 
 pub into_word : {z : Setting} (x : Word) → Into z (token (word x)) (token (word x)) (λ a. t.Word x ∷ [])
 into_word x = into_token (says_word x)
