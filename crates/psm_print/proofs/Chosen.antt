@@ -236,7 +236,7 @@ into_set_function {z} = into_told _ (λ a. set_function_told a.value) (into_toke
   kept = λ y e g. z.kept.of_word _;
 }))
 
-abbrev side_word : TrimSide → Word
+abbrev pub side_word : TrimSide → Word
 side_word sides.Leading = w.Leading
 side_word sides.Trailing = w.Trailing
 side_word sides.Both = w.Both
@@ -269,7 +269,7 @@ char_into_varchar {z} = into_token (says_all (λ a. a) (λ a. refl) (λ a. refl)
 pub into_exception : {z : Setting} → Into z (token exception_word) (token exception_word) (λ a. t.Word w.Exception ∷ [])
 into_exception {z} = into_token (says_all (λ a. a) (λ a. refl) (λ a. refl) (λ y e g. z.kept.of_word _))
 
-abbrev handler_word : HandlerKind → Word
+abbrev pub handler_word : HandlerKind → Word
 handler_word handlers.Continue = w.Continue
 handler_word handlers.Exit = w.Exit
 handler_word handlers.Undo = w.Undo

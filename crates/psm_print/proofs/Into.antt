@@ -11,7 +11,9 @@ use Rattle.psm_grammar.specs.Forms.{earlier, later, optional, behind_token, befo
 use Rattle.psm_tree.specs.Kinds.{kind}
 use Rattle.psm_tree.specs.Parts.{Part, V}
 use Rattle.psm_tree.specs.ExprGrammar.{Gram}
-use Rattle.psm_print.specs.ExprTokens.{perhaps, each}
+use Rattle.psm_token.specs.declared.sign.Sign.TheVariants as s
+use Rattle.psm_print.specs.ExprTokens.{sign, perhaps, each}
+use Rattle.psm_print.specs.StatementTokens.{ended}
 use Rattle.psm_print.specs.Printed.{AllGood, Kept, Printed}
 use Rattle.psm_print.specs.PartTokens.{part_tokens, Shaped}
 
@@ -77,17 +79,26 @@ pub record Into (z : Setting) {X : Type 0} (g h : Gram X) (c : X → List Token)
 pub into_told : {z : Setting} {X : Type 0} {g h : Gram X} {b : X → List Token} (c : X → List Token) → ((x : X) → b x ≡ c x) → Into z g h b → Into z g h c
 into_told c e i = record { into = λ w x l a. retold (e x) (i.into w x l a) }
 
+-- where the value is of one kind
+pub into_told_if : {z : Setting} {X : Type 0} {g h : Gram X} {b : X → List Token} (c : X → List Token) → ((w : Words Placed) (x : X) → said z g w x → b x ≡ c x) → Into z g h b → Into z g h c
+into_told_if c e i = record { into = λ w x l a. retold (e w x l) (i.into w x l a) }
+
 -- ---- parts in a row
 
-pub into_seq : {z : Setting} {X Y Z : Type 0} {f : X → Y → Z} {p h : Gram X} {q k : Gram Y} {b : X → List Token} {d : Y → List Token} (c : Z → List Token)
-    → Into z p h b → Into z q k d → ((x : X) (y : Y) → b x ++ d y ≡ c (f x y)) → Into z (seq f p q) (seq f h k) c
-into_seq {z} {f = f} {b = b} {d = d} c i j e = record { into = λ w x l a.
+-- where something is known of the values of the back
+pub into_seq_if : {z : Setting} {X Y Z : Type 0} {f : X → Y → Z} {p h : Gram X} {q k : Gram Y} {b : X → List Token} {d : Y → List Token} (c : Z → List Token) (Q : Y → Type 0)
+    → ((w : Words Placed) (y : Y) → said z q w y → Q y) → Into z p h b → Into z q k d → ((x : X) (y : Y) → Q y → b x ++ d y ≡ c (f x y)) → Into z (seq f p q) (seq f h k) c
+into_seq_if {z} {f = f} {b = b} {d = d} c Q known i j e = record { into = λ w x l a.
     let g = subst (AllGood z.good) l.whole a in
     let p = i.into l.front l.one l.left (good_front z.good l.front l.back g) in
     let q = j.into l.back l.two l.right (good_back z.good l.front l.back g) in
     let n : length l.front + length l.back ≤ length w = omega (arith, length-append l.front l.back, ap length l.whole) in
     reread (λ u m. record { front = m.front; back = m.back; one = m.one; two = m.two; whole = m.whole; left = m.left; right = m.right; made = l.made ∙ m.made })
-        (retold (e l.one l.two ∙ ap c (sym l.made)) (shorter n (joined f p q))) }
+        (retold (e l.one l.two (known l.back l.two l.right) ∙ ap c (sym l.made)) (shorter n (joined f p q))) }
+
+pub into_seq : {z : Setting} {X Y Z : Type 0} {f : X → Y → Z} {p h : Gram X} {q k : Gram Y} {b : X → List Token} {d : Y → List Token} (c : Z → List Token)
+    → Into z p h b → Into z q k d → ((x : X) (y : Y) → b x ++ d y ≡ c (f x y)) → Into z (seq f p q) (seq f h k) c
+into_seq c i j e = into_seq_if c (λ y. Unit {0}) (λ w y l. tt) i j (λ x y t. e x y)
 
 -- the front alone is printed
 pub into_front : {z : Setting} {X Y : Type 0} {p h : Gram X} {q : Gram Y} {c : X → List Token} → Into z p h c → Into z (seq earlier p (optional q)) (seq earlier h (optional q)) c
@@ -180,3 +191,17 @@ many_into {z} c i e f w (x ∷ xs) l a =
 
 pub into_many : {z : Setting} {X : Type 0} {p h : Gram X} {b : X → List Token} (c : List X → List Token) → Into z p h b → c [] ≡ [] → ((x : X) (xs : List X) → b x ++ c xs ≡ c (x ∷ xs)) → Into z (many p) (many h) c
 into_many c i e f = record { into = many_into c i e f }
+
+-- ---- how trees hold what may come or comes often
+
+pub into_perhaps : {z : Setting} {X : Type 0} {p h : Gram X} {b : X → List Token} (before : List Token) (tokens : X → List Token) → Into z p h b → ((x : X) → b x ≡ before ++ tokens x)
+    → Into z (optional p) (optional h) (perhaps before tokens)
+into_perhaps before tokens i e = into_optional (perhaps before tokens) i refl e
+
+pub into_each : {z : Setting} {X : Type 0} {p h : Gram X} {b : X → List Token} (before : List Token) (tokens : X → List Token) → Into z p h b → ((x : X) → b x ≡ before ++ tokens x)
+    → Into z (many p) (many h) (each before tokens)
+into_each before tokens i e = into_many (each before tokens) i refl (λ x xs. ap (λ ts. ts ++ each before tokens xs) (e x))
+
+pub into_ended : {z : Setting} {X : Type 0} {p h : Gram X} {b : X → List Token} (tokens : X → List Token) → Into z p h b → ((x : X) → b x ≡ tokens x ++ sign s.Semicolon)
+    → Into z (many p) (many h) (ended tokens)
+into_ended tokens i e = into_many (ended tokens) i refl (λ x xs. ap (λ ts. ts ++ ended tokens xs) (e x))

@@ -15,7 +15,9 @@ use Rattle.psm_grammar.specs.Forms.{earlier, later, behind_token, before_token}
 use Rattle.psm_tree.specs.Kinds.{code, sign_code, token_kind, kind}
 use Rattle.psm_tree.specs.Tests.{word, sign}
 use Rattle.psm_tree.specs.Parts.{Part, V}
-use Rattle.psm_tree.specs.ExprGrammar.{Gram}
+use Rattle.psm_token.specs.declared.sign.Sign.TheVariants as s
+use Rattle.psm_tree.specs.ExprGrammar.{Gram, closed, within_parens}
+use Rattle.psm_print.specs.ExprTokens.{in_parens}
 use Rattle.psm_print.specs.Printed.{AllGood, Kept, Printed}
 use Rattle.psm_print.specs.PartTokens.{part_tokens, Shaped}
 use Rattle.psm_print.proofs.Into.{Setting, Into, Claim, said, into_seq, joined, good_front, good_back, retold, shorter, reread}
@@ -100,3 +102,10 @@ before_word x i = into_seq _ i (into_word x) (λ y a. refl)
 
 pub before_sign : {z : Setting} {X : Type 0} {p h : Gram X} {b : X → List Token} (x : Sign) → Into z p h b → Into z (before_token p (sign x)) (before_token h (sign x)) (λ y. b y ++ (t.Sign x ∷ []))
 before_sign x i = into_seq _ i (into_sign x) (λ y a. refl)
+
+-- in parentheses
+pub into_closed : {z : Setting} {X : Type 0} {p h : Gram X} {b : X → List Token} → Into z p h b → Into z (closed p) (closed h) (λ y. b y ++ (t.Sign s.RightParen ∷ []))
+into_closed i = before_sign s.RightParen i
+
+pub into_parens : {z : Setting} {X : Type 0} {p h : Gram X} {b : X → List Token} → Into z p h b → Into z (within_parens p) (within_parens h) (λ y. in_parens (b y))
+into_parens i = behind_sign s.LeftParen (into_closed i)
