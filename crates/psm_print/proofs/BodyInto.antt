@@ -16,7 +16,7 @@ use Rattle.psm_tree.specs.declared.name.Identifier.{Identifier}
 use Rattle.psm_tree.specs.declared.statement.HandlerKind.{HandlerKind}
 use Rattle.psm_print.specs.ExprTokens.{word, sign, perhaps, each, name_tokens, type_tokens, expr_tokens}
 use Rattle.psm_print.specs.StatementTokens.{state_tokens, ordered_query_tokens, declaration_tokens, insensitive_tokens, updatability_tokens, cursor_tokens, handler_kind_tokens, handler_value_tokens, ended, statement_tokens}
-use Rattle.psm_print.specs.PartTokens.{handler_tokens, handler_parts_tokens, body_tokens, named_rest_tokens, declared_tokens, part_tokens, Late, Ordered, Shaped}
+use Rattle.psm_print.specs.PartTokens.{handler_tokens, handler_parts_tokens, body_tokens, named_rest_tokens, declared_tokens, part_tokens, Late, Comes, OnlyCursor, Ordered}
 use Rattle.psm_print.proofs.Regrouped.{left3, left4}
 use Rattle.psm_print.proofs.Into.{Setting, Into, into_told, into_told_if, into_seq, into_or, into_image, into_perhaps}
 use Rattle.psm_print.proofs.Tokens.{says_word, says_sign, into_level, into_next, into_word, behind_word, behind_sign, before_word}
@@ -78,3 +78,57 @@ pub declare_into : {z : Setting} (phase : Phase) → Into z (declare_rest phase)
 declare_into Declarations = into_or declared_handler_into (into_seq declare_tokens into_name (into_or declared_cursor_into declared_variables_into) named_told)
 declare_into Cursors = into_or declared_handler_into (into_seq declare_tokens into_name declared_cursor_into named_told)
 declare_into Handlers = declared_handler_into
+
+-- ---- blocks
+
+variables_left : (n o k e d c h b : List Token) → word w.Declare ++ ((n ++ (o ++ k ++ e)) ++ sign s.Semicolon ++ (d ++ c ++ h ++ b ++ word w.End)) ≡ ((word w.Declare ++ (n ++ o) ++ k ++ e ++ sign s.Semicolon) ++ d) ++ c ++ h ++ b ++ word w.End
+variables_left n o k e d c h b = grind (arith, append_assoc)
+
+condition_left : (n f d c h b : List Token) → word w.Declare ++ ((n ++ (word w.Condition ++ f)) ++ sign s.Semicolon ++ (d ++ c ++ h ++ b ++ word w.End)) ≡ ((word w.Declare ++ n ++ word w.Condition ++ f ++ sign s.Semicolon) ++ d) ++ c ++ h ++ b ++ word w.End
+condition_left n f d c h b = grind (arith, append_assoc)
+
+cursor_left : (n i q u c h b : List Token) → word w.Declare ++ ((n ++ (i ++ word w.Cursor ++ word w.For ++ q ++ u)) ++ sign s.Semicolon ++ (c ++ h ++ b ++ word w.End))
+    ≡ ((word w.Declare ++ n ++ i ++ word w.Cursor ++ word w.For ++ q ++ u ++ sign s.Semicolon) ++ c) ++ h ++ b ++ word w.End
+cursor_left n i q u c h b = grind (arith, append_assoc)
+
+handler_left : (k v r a h b : List Token) → word w.Declare ++ ((k ++ (word w.Handler ++ word w.For ++ v ++ r ++ a)) ++ sign s.Semicolon ++ (h ++ b ++ word w.End))
+    ≡ ((word w.Declare ++ k ++ word w.Handler ++ word w.For ++ v ++ r ++ a ++ sign s.Semicolon) ++ h) ++ b ++ word w.End
+handler_left k v r a h b = grind (arith, append_assoc)
+
+-- a cursor before a block that has no variables, and a handler before one that has no cursors either
+cursor_told : (place : Place) (name : Identifier) (insensitive : Bool) (query : _) (updatability : _) (b : Body) → Late Cursors b
+    → word w.Declare ++ declare_tokens (Named name (Cursor insensitive query updatability), b) ≡ body_tokens (with_named place name (Cursor insensitive query updatability) b)
+cursor_told place name insensitive query updatability b h =
+    subst (λ ds. word w.Declare ++ declare_tokens (Named name (Cursor insensitive query updatability), record b { declarations = ds }) ≡ body_tokens (with_named place name (Cursor insensitive query updatability) (record b { declarations = ds }))) (sym h)
+        (cursor_left (name_tokens name) (insensitive_tokens insensitive) (ordered_query_tokens query) (perhaps (word w.For) updatability_tokens updatability) (ended cursor_tokens b.cursors) (ended handler_tokens b.handlers) (ended statement_tokens b.statements))
+
+handler_first : (place : Place) (kind : At HandlerKind) (p : HandlerParts) (b : Body) → Late Handlers b → word w.Declare ++ declare_tokens (Handled kind p, b) ≡ body_tokens (with_declared place (Handled kind p) b)
+handler_first place kind p b h =
+    subst (λ ds. word w.Declare ++ declare_tokens (Handled kind p, record b { declarations = ds }) ≡ body_tokens (with_declared place (Handled kind p) (record b { declarations = ds }))) (sym h.0)
+        (subst (λ cs. word w.Declare ++ declare_tokens (Handled kind p, record b { declarations = []; cursors = cs }) ≡ body_tokens (with_declared place (Handled kind p) (record b { declarations = []; cursors = cs }))) (sym h.1)
+        (handler_left (handler_kind_tokens kind.value) (handler_value_tokens p.first) (each (sign s.Comma) handler_value_tokens p.rest) (statement_tokens p.action) (ended handler_tokens b.handlers) (ended statement_tokens b.statements)))
+
+named_first : (place : Place) (name : Identifier) (x : NamedRest) (b : Body) → Comes x b → word w.Declare ++ declare_tokens (Named name x, b) ≡ body_tokens (with_named place name x b)
+named_first place name (Variables others kind default) b h = variables_left (name_tokens name) (each (sign s.Comma) name_tokens others) (type_tokens kind) (perhaps (word w.Default) expr_tokens default)
+    (ended declaration_tokens b.declarations) (ended cursor_tokens b.cursors) (ended handler_tokens b.handlers) (ended statement_tokens b.statements)
+named_first place name (Condition state) b h = condition_left (name_tokens name) (perhaps (word w.For) state_tokens state) (ended declaration_tokens b.declarations) (ended cursor_tokens b.cursors) (ended handler_tokens b.handlers) (ended statement_tokens b.statements)
+named_first place name (Cursor insensitive query updatability) b h = cursor_told place name insensitive query updatability b h
+
+only_comes : (x : NamedRest) (b : Body) → OnlyCursor x b → Comes x b
+only_comes (Cursor insensitive query updatability) b h = h
+only_comes (Variables others kind default) b h = tt
+only_comes (Condition state) b h = tt
+
+declared_told : (phase : Phase) (place : Place) (x : Declared) (b : Body) → Ordered phase x b → word w.Declare ++ declare_tokens (x, b) ≡ body_tokens (with_declared place x b)
+declared_told Declarations place (Handled kind p) b h = handler_first place kind p b h
+declared_told Cursors place (Handled kind p) b h = handler_first place kind p b h
+declared_told Handlers place (Handled kind p) b h = handler_first place kind p b h
+declared_told Declarations place (Named name x) b h = named_first place name x b h
+declared_told Cursors place (Named name x) b h = named_first place name x b (only_comes x b h)
+declared_told Handlers place (Named name x) b h = absurd h
+
+pub body_into : {z : Setting} (phase : Phase) → Into z (body_rest phase) (body_rest phase) body_tokens
+body_into phase = into_or (into_next body_tokens (says_word w.Declare) (λ a y h. declared_told phase a y.0 y.1 h)) (into_image body_tokens (before_word w.End ended_statements_into) (λ x. refl))
+
+pub begin_into : {z : Setting} → Into z begin_rest begin_rest (part_tokens BeginRest)
+begin_into = into_seq (part_tokens BeginRest) atomic_into (body_into Declarations) (λ x y. refl)
