@@ -88,14 +88,13 @@ into_told_if c e i = record { into = λ w x l a. retold (e w x l) (i.into w x l 
 -- where something is known of the values of the back
 pub into_seq_if : {z : Setting} {X Y Z : Type 0} {f : X → Y → Z} {p h : Gram X} {q k : Gram Y} {b : X → List Token} {d : Y → List Token} (c : Z → List Token) (Q : Y → Type 0)
     → ((w : Words Placed) (y : Y) → said z q w y → Q y) → Into z p h b → Into z q k d → ((x : X) (y : Y) → Q y → b x ++ d y ≡ c (f x y)) → Into z (seq f p q) (seq f h k) c
-into_seq_if {z} {f = f} {b = b} {d = d} c Q known i j e = record {
+into_seq_if {z} {f = f} {h = h} {k = k} c Q known i j e = record {
   into = λ w x l a.
       let g = subst (AllGood z.good) l.whole a in
       let p = i.into l.front l.one l.left (good_front z.good l.front l.back g) in
       let q = j.into l.back l.two l.right (good_back z.good l.front l.back g) in
       let n : length l.front + length l.back ≤ length w = omega (arith, length-append l.front l.back, ap length l.whole) in
-      reread (λ u m. record { front = m.front; back = m.back; one = m.one; two = m.two; whole = m.whole; left = m.left; right = m.right; made = l.made ∙ m.made })
-      (retold (e l.one l.two (known l.back l.two l.right) ∙ ap c (sym l.made)) (shorter n (joined f p q)));
+      subst (λ v. Printed z.good (said z (seq f h k)) v (c v) (length w)) (sym l.made) (retold (e l.one l.two (known l.back l.two l.right)) (shorter n (joined f p q)));
 }
 
 pub into_seq : {z : Setting} {X Y Z : Type 0} {f : X → Y → Z} {p h : Gram X} {q k : Gram Y} {b : X → List Token} {d : Y → List Token} (c : Z → List Token)
@@ -125,8 +124,7 @@ into_both {z} {X} {Y} {A = A} {f = f} {h = h} {q = q} {k = k} c i j same e = rec
       let n : length l.front + length m.back ≤ length w = omega (arith, length-append l.front l.back, ap length l.whole, length-append m.front m.back, ap length m.whole) in
       let back : Printed z.good (said z (seq pair (optional q) k)) (None, m.two) _ (length m.back) =
       reread (λ t s. record { front = []; back = t; one = None; two = m.two; whole = refl; left = inr (record { whole = refl; made = refl }); right = s; made = refl }) v in
-      reread (λ t s. record { front = s.front; back = s.back; one = s.one; two = s.two; whole = s.whole; left = s.left; right = s.right; made = made ∙ s.made })
-      (retold (e l.one m.two ∙ ap c (sym made)) (shorter n (joined f u back)));
+      subst (λ y. Printed z.good (said z (seq f h (seq pair (optional q) k))) y (c y) (length w)) (sym made) (retold (e l.one m.two) (shorter n (joined f u back)));
 }
 
 -- a token before the printed word is left out
