@@ -11,7 +11,7 @@ use Rattle.psm_tree.specs.Tests.{char_word}
 use Rattle.psm_tree.specs.ExprValues.{pair, formed}
 use Rattle.psm_tree.specs.FileValues.{TableRest, ProcedureRest, FunctionRest, ModuleRest, tables_from, file_of, returned_char}
 use Rattle.psm_tree.specs.ExprGrammar.{varying, char_length}
-use Rattle.psm_tree.specs.FileGrammar.{plain_column_rule, column_rule, column_rule_list, column, plain_table_rule, table_rule, element, table, named_type, param, params, note, noted_statement, procedure, returned, function, plain_routine, routine, module_part, created_tables, file}
+use Rattle.psm_tree.specs.FileGrammar.{plain_column_rule, column_rule, column_rule_list, column, plain_table_rule, table_rule, element, table, params, note, noted_statement, procedure, returned, function, plain_routine, routine, module_part, created_tables, file}
 use Rattle.psm_tree.specs.declared.types.DataType.{DataType}
 use Rattle.psm_tree.specs.declared.types.TypeForm.{TypeForm}
 use Rattle.psm_tree.specs.declared.statement.Statement.{Statement}
@@ -25,6 +25,7 @@ use Rattle.psm_print.proofs.Tokens.{into_word, into_sign, behind_word, behind_si
 use Rattle.psm_print.proofs.Chosen.{into_name, into_char}
 use Rattle.psm_print.proofs.TypesInto.{names_in_parens_into, rest_tokens, IsChar, is_char, char_told, plain_into, varying_into, char_length_into, data_type_into, constant_into}
 use Rattle.psm_print.proofs.ExprInto.{expr_into}
+use Rattle.psm_print.proofs.ParamInto.{param_into}
 use Rattle.psm_print.proofs.StatementInto.{statement_into}
 
 -- ---- tables
@@ -64,12 +65,9 @@ table_into = into_seq table_tokens into_name (into_parens (into_seq (λ p. eleme
 
 -- ---- routines
 
-pub named_type_into : {z : Setting} → Into z named_type named_type (λ p. name_tokens p.0 ++ type_tokens p.1)
-named_type_into = into_seq (λ p. name_tokens p.0 ++ type_tokens p.1) into_name data_type_into (λ x y. refl)
-
-params_into : {z : Setting} → Into z param param parameter_tokens → Into z params params (λ ps. in_parens (parameters_tokens ps))
-params_into i = behind_sign s.LeftParen (into_or (into_image (λ ps. parameters_tokens ps ++ sign s.RightParen) (into_sign s.RightParen) (λ x. refl))
-    (into_closed (into_seq parameters_tokens i (into_each (sign s.Comma) parameter_tokens (behind_sign s.Comma i) (λ x. refl)) (λ x y. refl))))
+params_into : {z : Setting} → Into z params params (λ ps. in_parens (parameters_tokens ps))
+params_into = behind_sign s.LeftParen (into_or (into_image (λ ps. parameters_tokens ps ++ sign s.RightParen) (into_sign s.RightParen) (λ x. refl))
+    (into_closed (into_seq parameters_tokens param_into (into_each (sign s.Comma) parameter_tokens (behind_sign s.Comma param_into) (λ x. refl)) (λ x y. refl))))
 
 note_into : {z : Setting} → Into z note note note_tokens
 note_into = into_or (into_seq note_tokens (into_word w.Language) (into_word w.Sql) (λ x y. refl)) (into_or (into_image note_tokens (into_word w.Deterministic) (λ x. refl))
@@ -88,8 +86,8 @@ procedure_left p n b = grind (arith, append_assoc, append-nil)
 abbrev procedure_tokens : ProcedureRest → List Token
 procedure_tokens r = name_tokens r.name ++ (in_parens (parameters_tokens r.parameters) ++ [] ++ each [] note_tokens r.notes ++ statement_tokens r.body)
 
-procedure_into : {z : Setting} → Into z param param parameter_tokens → Into z procedure procedure routine_tokens
-procedure_into i = into_seq routine_tokens (into_word w.Procedure) (into_seq procedure_tokens into_name (into_seq (λ p. in_parens (parameters_tokens p.0) ++ noted_tokens p.1) (params_into i) noted_into (λ x y. refl))
+procedure_into : {z : Setting} → Into z procedure procedure routine_tokens
+procedure_into = into_seq routine_tokens (into_word w.Procedure) (into_seq procedure_tokens into_name (into_seq (λ p. in_parens (parameters_tokens p.0) ++ noted_tokens p.1) params_into noted_into (λ x y. refl))
     (λ x y. ap (λ ts. name_tokens x ++ ts) (procedure_left (parameters_tokens y.0) (each [] note_tokens y.1.0) (statement_tokens y.1.1)))) (λ x y. refl)
 
 -- ---- functions, where CHAR VARYING becomes VARCHAR
@@ -116,16 +114,16 @@ function_left p k n b = grind (arith, append_assoc)
 abbrev function_tokens : FunctionRest → List Token
 function_tokens r = name_tokens r.name ++ (in_parens (parameters_tokens r.parameters) ++ (word w.Returns ++ type_tokens r.returns) ++ each [] note_tokens r.notes ++ statement_tokens r.body)
 
-function_into : {z : Setting} → Into z param param parameter_tokens → Into z function function routine_tokens
-function_into i = into_seq routine_tokens (into_word w.Function) (into_seq function_tokens into_name (into_seq (λ p. in_parens (parameters_tokens p.0) ++ (word w.Returns ++ returned_tokens p.1)) (params_into i) (behind_word w.Returns returned_into) (λ x y. refl))
+function_into : {z : Setting} → Into z function function routine_tokens
+function_into = into_seq routine_tokens (into_word w.Function) (into_seq function_tokens into_name (into_seq (λ p. in_parens (parameters_tokens p.0) ++ (word w.Returns ++ returned_tokens p.1)) params_into (behind_word w.Returns returned_into) (λ x y. refl))
     (λ x y. ap (λ ts. name_tokens x ++ ts) (function_left (parameters_tokens y.0) (type_tokens y.1.0) (each [] note_tokens y.1.1.0) (statement_tokens y.1.1.1)))) (λ x y. refl)
 
-plain_routine_into : {z : Setting} → Into z param param parameter_tokens → Into z plain_routine plain_routine routine_tokens
-plain_routine_into i = into_or (procedure_into i) (function_into i)
+plain_routine_into : {z : Setting} → Into z plain_routine plain_routine routine_tokens
+plain_routine_into = into_or procedure_into function_into
 
 -- DECLARE is left out
-routine_into : {z : Setting} → Into z param param parameter_tokens → Into z routine routine routine_tokens
-routine_into i = or_from (or_right (left_out (plain_routine_into i))) (or_right (plain_routine_into i))
+routine_into : {z : Setting} → Into z routine routine routine_tokens
+routine_into = or_from (or_right (left_out plain_routine_into)) (or_right plain_routine_into)
 
 -- ---- files
 
@@ -133,9 +131,9 @@ abbrev body_tokens : ModuleRest → List Token
 body_tokens m = word w.Module ++ name_tokens m.name ++ (ended routine_tokens m.routines ++ word w.End ++ word w.Module)
 
 -- LANGUAGE SQL is left out
-module_into : {z : Setting} → Into z param param parameter_tokens → Into z module_part module_part body_tokens
-module_into i = behind_word w.Module (into_both (λ m. name_tokens m.name ++ (ended routine_tokens m.routines ++ word w.End ++ word w.Module)) into_name
-    (before_word w.Module (before_word w.End (into_ended routine_tokens (before_sign s.Semicolon (routine_into i)) (λ x. refl)))) (λ x o y. refl) (λ x y. refl))
+module_into : {z : Setting} → Into z module_part module_part body_tokens
+module_into = behind_word w.Module (into_both (λ m. name_tokens m.name ++ (ended routine_tokens m.routines ++ word w.End ++ word w.Module)) into_name
+    (before_word w.Module (before_word w.End (into_ended routine_tokens (before_sign s.Semicolon routine_into) (λ x. refl)))) (λ x o y. refl) (λ x y. refl))
 
 abbrev created_tokens : TableRest × Place → List Token
 created_tokens p = word w.Table ++ table_tokens p.0 ++ (sign s.Semicolon ++ word w.Create)
@@ -152,5 +150,5 @@ file_told place [] m = refl
 file_told place (x ∷ ts) m = moved_left (table_tokens x.0) (each [] created_tokens ts) (body_tokens m) (ended table_tree_tokens (tables_from x.1 ts)) (module_tokens (file_of x.1 (ts, m)).«module») (file_told x.1 ts m)
 
 -- the last semicolon is left out
-pub file_into : {z : Setting} → Into z param param parameter_tokens → Into z file file file_tokens
-file_into i = into_seq file_tokens (into_word w.Create) (into_seq (λ p. each [] created_tokens p.0 ++ body_tokens p.1) created_into (into_front (module_into i)) (λ x y. refl)) (λ x y. file_told x y.0 y.1)
+pub file_into : {z : Setting} → Into z file file file_tokens
+file_into = into_seq file_tokens (into_word w.Create) (into_seq (λ p. each [] created_tokens p.0 ++ body_tokens p.1) created_into (into_front module_into) (λ x y. refl)) (λ x y. file_told x y.0 y.1)

@@ -5,15 +5,13 @@ use Rattle.psm_token.specs.declared.token.Placed.{Placed}
 use Rattle.psm_grammar.specs.Language.{Words}
 use Rattle.psm_grammar.specs.Grammar.{Spells}
 use Rattle.psm_tree.specs.Productions.{productions}
-use Rattle.psm_tree.specs.FileGrammar.{param, file}
+use Rattle.psm_tree.specs.FileGrammar.{file}
 use Rattle.psm_tree.specs.declared.file.FileTree.{FileTree}
-use Rattle.psm_print.specs.FileTokens.{parameter_tokens, file_tokens}
+use Rattle.psm_print.specs.FileTokens.{file_tokens}
 use Rattle.psm_print.specs.Printed.{AllGood, Kept, Printed}
-use Rattle.psm_print.proofs.Into.{Setting, Into}
 use Rattle.psm_print.proofs.FileInto.{file_into}
 use Rattle.psm_print.proofs.Whole.{at_level}
 
--- from a derivation of a tree another of the same tree, whose tokens are those that are printed; where parameters are printed so
-pub file_printed_if : ((z : Setting) → Into z param param parameter_tokens) → (good : Token → Type 0) → Kept good → (w : Words Placed) (t : FileTree) → Spells productions 0 file w t → AllGood good w
-    → Printed good (λ u x. Spells productions 0 file u x) t (file_tokens t) (length w)
-file_printed_if params good kept w t l a = (file_into (params (at_level good kept 0))).into w t l a
+-- from a derivation of a tree another of the same tree, whose tokens are those that are printed
+pub file_printed : (good : Token → Type 0) → Kept good → (w : Words Placed) (t : FileTree) → Spells productions 0 file w t → AllGood good w → Printed good (λ u x. Spells productions 0 file u x) t (file_tokens t) (length w)
+file_printed good kept w t l a = (file_into {z = at_level good kept 0}).into w t l a
