@@ -35,6 +35,8 @@ use Rattle.psm_tree.specs.declared.expr.SetFunction.{SetFunction}
 use Rattle.psm_tree.specs.declared.expr.SetFunction.TheVariants as sets
 use Rattle.psm_tree.specs.declared.expr.TrimSide.{TrimSide}
 use Rattle.psm_tree.specs.declared.expr.TrimSide.TheVariants as sides
+use Rattle.psm_tree.specs.declared.expr.Link.{Link, out-Link}
+use Rattle.psm_tree.specs.declared.expr.When.{When, out-When}
 use Rattle.psm_tree.specs.declared.expr.Select.{Select, out-Select}
 use Rattle.psm_tree.specs.declared.expr.Pick.{Pick}
 use Rattle.psm_tree.specs.declared.expr.Pick.TheVariants as picked
@@ -150,6 +152,10 @@ not_tokens false = []
 
 -- ---- expressions and queries
 
+-- the name of an item or of a table, where it has one
+abbrev pub alias_tokens : Option Identifier → List Token
+alias_tokens alias = perhaps [] name_tokens alias
+
 abbrev mutual
   pub expr_tokens : Expr → List Token
   expr_tokens (exprs.Null place) = word w.Null
@@ -202,7 +208,7 @@ abbrev mutual
 
   pub select_row : {m : _} → Row_of-Select m → List Token
   select_row end_of-Select = []
-  select_row (more_of-Select place m picks table alias condition selects) = (word w.Select ++ picks_row picks ++ word w.From ++ name_tokens table ++ perhaps [] name_tokens alias ++ expr_held (word w.Where) condition) ++ select_row selects
+  select_row (more_of-Select place m picks table alias condition selects) = (word w.Select ++ picks_row picks ++ word w.From ++ name_tokens table ++ alias_tokens alias ++ expr_held (word w.Where) condition) ++ select_row selects
 
   -- the items of a query with a comma between two of them
   pub picks_row : {m : _} → Row_of-Pick m → List Token
@@ -215,9 +221,17 @@ abbrev mutual
 
   pub pick_tokens : Pick → List Token
   pick_tokens (picked.All place) = sign s.Asterisk
-  pick_tokens (picked.Expr expr alias) = expr_tokens expr ++ perhaps [] name_tokens alias
-  pick_tokens (picked.CountRows place alias) = word w.Count ++ in_parens (sign s.Asterisk) ++ perhaps [] name_tokens alias
-  pick_tokens (picked.Aggregate place function argument alias) = set_function_tokens function ++ in_parens (expr_tokens argument) ++ perhaps [] name_tokens alias
+  pick_tokens (picked.Expr expr alias) = expr_tokens expr ++ alias_tokens alias
+  pick_tokens (picked.CountRows place alias) = word w.Count ++ in_parens (sign s.Asterisk) ++ alias_tokens alias
+  pick_tokens (picked.Aggregate place function argument alias) = set_function_tokens function ++ in_parens (expr_tokens argument) ++ alias_tokens alias
+
+-- an operator and the operand behind it
+abbrev pub link_tokens : Link → List Token
+link_tokens link = let l = out-Link link in operator_tokens l.operator ++ expr_tokens l.operand
+
+-- a branch of a CASE expression
+abbrev pub when_tokens : When → List Token
+when_tokens when = let b = out-When when in word w.When ++ expr_tokens b.test ++ word w.Then ++ expr_tokens b.result
 
 -- expressions with a comma between two of them
 abbrev pub listed_tokens : List Expr → List Token
@@ -231,7 +245,7 @@ picks_tokens (p ∷ ps) = pick_tokens p ++ each (sign s.Comma) pick_tokens ps
 
 -- a table, its alias and its condition
 abbrev pub table_tokens : Identifier → Option Identifier → Option Expr → List Token
-table_tokens table alias condition = word w.From ++ name_tokens table ++ perhaps [] name_tokens alias ++ perhaps (word w.Where) expr_tokens condition
+table_tokens table alias condition = word w.From ++ name_tokens table ++ alias_tokens alias ++ perhaps (word w.Where) expr_tokens condition
 
 abbrev pub select_tokens : Select → List Token
 select_tokens select = let query = out-Select select in word w.Select ++ picks_tokens query.picks ++ table_tokens query.table query.alias query.condition

@@ -1,2 +1,9 @@
-//! Trees of module files as text.
+//! The text of a module file's tree: each tree is printed by the shortest of its spellings, and what is
+//! printed is read again as the same tree.
 #![tactic(auto)]
+
+
+mod names;
+mod operators;
+
+mod exprs;

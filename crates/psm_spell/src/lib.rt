@@ -1,0 +1,6 @@
+//! Stand-in.
+#![tactic(auto)]
+
+mod writer;
+
+pub use writer::Writer;
