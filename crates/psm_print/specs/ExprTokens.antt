@@ -1,6 +1,6 @@
 -- The tokens that are printed for names, types, constants, expressions and queries: of each tree the shortest
 -- of its spellings, with every name delimited.
-use Rattle.std.specs.Prelude.{ℕ, Bool, true, false, List, [], ◌∷◌, ◌++◌, Option, Some, None}
+use Rattle.std.specs.Prelude.{Bool, true, false, List, [], ◌∷◌, ◌++◌, Option, Some, None}
 use Rattle.psm_num.specs.Num.{Num}
 use Rattle.psm_token.specs.declared.word.Word.{Word}
 use Rattle.psm_token.specs.declared.word.Word.TheVariants as w

@@ -1,14 +1,10 @@
 -- The tokens that are printed for statements, blocks and declarations: of each tree the shortest of its spellings.
-use Rattle.std.specs.Prelude.{ℕ, Bool, true, false, List, [], ◌∷◌, ◌++◌, Option, Some, None}
-use Rattle.psm_token.specs.declared.word.Word.{Word}
+use Rattle.std.specs.Prelude.{Bool, true, false, List, [], ◌∷◌, ◌++◌, Option, Some, None}
 use Rattle.psm_token.specs.declared.word.Word.TheVariants as w
 use Rattle.psm_token.specs.declared.sign.Sign.TheVariants as s
 use Rattle.psm_token.specs.declared.token.Token.{Token}
 use Rattle.psm_token.specs.declared.token.Token.TheVariants as t
-use Rattle.psm_tree.specs.declared.name.Identifier.{Identifier}
-use Rattle.psm_tree.specs.declared.name.Names.{Names}
 use Rattle.psm_tree.specs.declared.types.State.{State}
-use Rattle.psm_tree.specs.declared.expr.Expr.{Expr}
 use Rattle.psm_tree.specs.declared.statement.Statement.{Statement, Row_of-Statement, end_of-Statement, more_of-Statement, Row_of-Handler, end_of-Handler, more_of-Handler, Row_of-Branch, end_of-Branch, more_of-Branch}
 use Rattle.psm_tree.specs.declared.statement.Statement.TheVariants as statements
 use Rattle.psm_tree.specs.declared.statement.Label.{Label}
@@ -46,7 +42,7 @@ use Rattle.psm_tree.specs.declared.statement.Where.{Where}
 use Rattle.psm_tree.specs.declared.statement.Where.TheVariants as wheres
 use Rattle.psm_tree.specs.declared.statement.Simple.{Simple}
 use Rattle.psm_tree.specs.declared.statement.Simple.TheVariants as simples
-use Rattle.psm_print.specs.ExprTokens.{word, sign, perhaps, each, in_parens, name_tokens, target_tokens, names_tokens, targets_tokens, number_tokens, type_tokens, expr_tokens, listed_tokens, picks_tokens, table_tokens, select_tokens, not_tokens}
+use Rattle.psm_print.specs.ExprTokens.{word, sign, perhaps, each, in_parens, name_tokens, target_tokens, names_tokens, targets_tokens, number_tokens, type_tokens, expr_tokens, listed_tokens, picks_tokens, table_tokens, select_tokens}
 
 -- ---- parts of statements
 
