@@ -35,9 +35,9 @@ use Rattle.psm_tree.specs.declared.expr.SetFunction.{SetFunction}
 use Rattle.psm_tree.specs.declared.expr.SetFunction.TheVariants as sets
 use Rattle.psm_tree.specs.declared.expr.TrimSide.{TrimSide}
 use Rattle.psm_tree.specs.declared.expr.TrimSide.TheVariants as sides
-use Rattle.psm_tree.specs.declared.expr.Link.{Link, out-Link}
-use Rattle.psm_tree.specs.declared.expr.When.{When, out-When}
-use Rattle.psm_tree.specs.declared.expr.Select.{Select, out-Select}
+use Rattle.psm_tree.specs.declared.expr.Link.{Link}
+use Rattle.psm_tree.specs.declared.expr.When.{When}
+use Rattle.psm_tree.specs.declared.expr.Select.{Select}
 use Rattle.psm_tree.specs.declared.expr.Pick.{Pick}
 use Rattle.psm_tree.specs.declared.expr.Pick.TheVariants as picked
 
@@ -57,6 +57,11 @@ perhaps before tokens (Some a) = before ++ tokens a
 abbrev pub each : {A : Type 0} → List Token → (A → List Token) → List A → List Token
 each before tokens [] = []
 each before tokens (a ∷ rest) = (before ++ tokens a) ++ each before tokens rest
+
+-- items with a comma between two of them
+abbrev pub listed : {A : Type 0} → (A → List Token) → List A → List Token
+listed tokens [] = []
+listed tokens (a ∷ rest) = tokens a ++ each (sign s.Comma) tokens rest
 
 -- tokens in parentheses
 abbrev pub in_parens : List Token → List Token
@@ -227,25 +232,23 @@ abbrev mutual
 
 -- an operator and the operand behind it
 abbrev pub link_tokens : Link → List Token
-link_tokens link = let l = out-Link link in operator_tokens l.operator ++ expr_tokens l.operand
+link_tokens link = operator_tokens link.operator ++ expr_tokens link.operand
 
 -- a branch of a CASE expression
 abbrev pub when_tokens : When → List Token
-when_tokens when = let b = out-When when in word w.When ++ expr_tokens b.test ++ word w.Then ++ expr_tokens b.result
+when_tokens when = word w.When ++ expr_tokens when.test ++ word w.Then ++ expr_tokens when.result
 
 -- expressions with a comma between two of them
 abbrev pub listed_tokens : List Expr → List Token
-listed_tokens [] = []
-listed_tokens (e ∷ es) = expr_tokens e ++ each (sign s.Comma) expr_tokens es
+listed_tokens es = listed expr_tokens es
 
 -- the items of a query
 abbrev pub picks_tokens : List Pick → List Token
-picks_tokens [] = []
-picks_tokens (p ∷ ps) = pick_tokens p ++ each (sign s.Comma) pick_tokens ps
+picks_tokens ps = listed pick_tokens ps
 
 -- a table, its alias and its condition
 abbrev pub table_tokens : Identifier → Option Identifier → Option Expr → List Token
 table_tokens table alias condition = word w.From ++ name_tokens table ++ alias_tokens alias ++ perhaps (word w.Where) expr_tokens condition
 
 abbrev pub select_tokens : Select → List Token
-select_tokens select = let query = out-Select select in word w.Select ++ picks_tokens query.picks ++ table_tokens query.table query.alias query.condition
+select_tokens select = word w.Select ++ picks_tokens select.picks ++ table_tokens select.table select.alias select.condition

@@ -27,11 +27,13 @@ pub(crate) fn expr(out: &mut Writer, e: &Expr) -> Result<(), AllocError>
             rest,
         } => {
             expr(out, first.get())?;
-            joined(out, rest, *junction)
+            joined(out, rest, *junction)?;
+            Ok(())
         }
         Expr::Not { condition, .. } => {
             out.word(Word::Not)?;
-            expr(out, condition.get())
+            expr(out, condition.get())?;
+            Ok(())
         }
         Expr::Compare {
             operator,
@@ -40,13 +42,15 @@ pub(crate) fn expr(out: &mut Writer, e: &Expr) -> Result<(), AllocError>
         } => {
             expr(out, left.get())?;
             comparison(out, *operator)?;
-            expr(out, right.get())
+            expr(out, right.get())?;
+            Ok(())
         }
         Expr::IsNull { negated, value } => {
             expr(out, value.get())?;
             out.word(Word::Is)?;
             not(out, *negated)?;
-            out.word(Word::Null)
+            out.word(Word::Null)?;
+            Ok(())
         }
         Expr::Between {
             negated,
@@ -59,7 +63,8 @@ pub(crate) fn expr(out: &mut Writer, e: &Expr) -> Result<(), AllocError>
             out.word(Word::Between)?;
             expr(out, low.get())?;
             out.word(Word::And)?;
-            expr(out, high.get())
+            expr(out, high.get())?;
+            Ok(())
         }
         Expr::In {
             negated,
@@ -73,7 +78,8 @@ pub(crate) fn expr(out: &mut Writer, e: &Expr) -> Result<(), AllocError>
             out.sign(Sign::LeftParen)?;
             expr(out, first.get())?;
             more(out, rest)?;
-            out.sign(Sign::RightParen)
+            out.sign(Sign::RightParen)?;
+            Ok(())
         }
         Expr::Like {
             negated,
@@ -89,17 +95,20 @@ pub(crate) fn expr(out: &mut Writer, e: &Expr) -> Result<(), AllocError>
                 None => Ok(()),
                 Some(escape) => {
                     out.word(Word::Escape)?;
-                    expr(out, escape.get())
+                    expr(out, escape.get())?;
+                    Ok(())
                 }
             }
         }
         Expr::Chain { first, rest } => {
             expr(out, first.get())?;
-            links(out, rest)
+            links(out, rest)?;
+            Ok(())
         }
         Expr::Signed { sign, operand, .. } => {
             plus_minus(out, *sign)?;
-            expr(out, operand.get())
+            expr(out, operand.get())?;
+            Ok(())
         }
         Expr::Call {
             function,
@@ -108,23 +117,27 @@ pub(crate) fn expr(out: &mut Writer, e: &Expr) -> Result<(), AllocError>
             name(out, function)?;
             out.sign(Sign::LeftParen)?;
             listed(out, arguments)?;
-            out.sign(Sign::RightParen)
+            out.sign(Sign::RightParen)?;
+            Ok(())
         }
         Expr::Parenthesized { expr: inner, .. } => {
             out.sign(Sign::LeftParen)?;
             expr(out, inner.get())?;
-            out.sign(Sign::RightParen)
+            out.sign(Sign::RightParen)?;
+            Ok(())
         }
         Expr::Subquery { query, .. } => {
             out.sign(Sign::LeftParen)?;
             select(out, query.get())?;
-            out.sign(Sign::RightParen)
+            out.sign(Sign::RightParen)?;
+            Ok(())
         }
         Expr::Exists { query, .. } => {
             out.word(Word::Exists)?;
             out.sign(Sign::LeftParen)?;
             select(out, query.get())?;
-            out.sign(Sign::RightParen)
+            out.sign(Sign::RightParen)?;
+            Ok(())
         }
         Expr::Case {
             operand,
@@ -147,7 +160,8 @@ pub(crate) fn expr(out: &mut Writer, e: &Expr) -> Result<(), AllocError>
                     expr(out, otherwise.get())?;
                 }
             }
-            out.word(Word::End)
+            out.word(Word::End)?;
+            Ok(())
         }
         Expr::Cast { source, to, .. } => {
             out.word(Word::Cast)?;
@@ -155,14 +169,16 @@ pub(crate) fn expr(out: &mut Writer, e: &Expr) -> Result<(), AllocError>
             expr(out, source.get())?;
             out.word(Word::As)?;
             data_type(out, to)?;
-            out.sign(Sign::RightParen)
+            out.sign(Sign::RightParen)?;
+            Ok(())
         }
         Expr::Coalesce { first, rest, .. } => {
             out.word(Word::Coalesce)?;
             out.sign(Sign::LeftParen)?;
             expr(out, first.get())?;
             more(out, rest)?;
-            out.sign(Sign::RightParen)
+            out.sign(Sign::RightParen)?;
+            Ok(())
         }
         Expr::NullIf { left, right, .. } => {
             out.word(Word::NullIf)?;
@@ -170,7 +186,8 @@ pub(crate) fn expr(out: &mut Writer, e: &Expr) -> Result<(), AllocError>
             expr(out, left.get())?;
             out.sign(Sign::Comma)?;
             expr(out, right.get())?;
-            out.sign(Sign::RightParen)
+            out.sign(Sign::RightParen)?;
+            Ok(())
         }
         Expr::Function {
             function, argument, ..
@@ -178,7 +195,8 @@ pub(crate) fn expr(out: &mut Writer, e: &Expr) -> Result<(), AllocError>
             text_function(out, *function)?;
             out.sign(Sign::LeftParen)?;
             expr(out, argument.get())?;
-            out.sign(Sign::RightParen)
+            out.sign(Sign::RightParen)?;
+            Ok(())
         }
         Expr::Position { part, whole, .. } => {
             out.word(Word::Position)?;
@@ -186,7 +204,8 @@ pub(crate) fn expr(out: &mut Writer, e: &Expr) -> Result<(), AllocError>
             expr(out, part.get())?;
             out.word(Word::In)?;
             expr(out, whole.get())?;
-            out.sign(Sign::RightParen)
+            out.sign(Sign::RightParen)?;
+            Ok(())
         }
         Expr::Substring {
             text, from, length, ..
@@ -203,21 +222,23 @@ pub(crate) fn expr(out: &mut Writer, e: &Expr) -> Result<(), AllocError>
                     expr(out, length.get())?;
                 }
             }
-            out.sign(Sign::RightParen)
+            out.sign(Sign::RightParen)?;
+            Ok(())
         }
         Expr::Trim { side: which, text, .. } => {
             out.word(Word::Trim)?;
             out.sign(Sign::LeftParen)?;
             side(out, *which)?;
             expr(out, text.get())?;
-            out.sign(Sign::RightParen)
+            out.sign(Sign::RightParen)?;
+            Ok(())
         }
     }
 }
 
 /// Expressions, each behind a comma.
 #[cycle(printing)]
-pub(crate) fn more(out: &mut Writer, items: &List<Expr>) -> Result<(), AllocError>
+fn more(out: &mut Writer, items: &List<Expr>) -> Result<(), AllocError>
     ensures { IfOk result (λ _. out.new ≡ out.old ++ each (sign s.Comma) expr_tokens items.now) }
 {
     for item in items.items() {
@@ -244,17 +265,15 @@ fn joined(out: &mut Writer, items: &List<Expr>, by: Junction) -> Result<(), Allo
 pub(crate) fn listed(out: &mut Writer, items: &List<Expr>) -> Result<(), AllocError>
     ensures { IfOk result (λ _. out.new ≡ out.old ++ listed_tokens items.now) }
 {
-    match items.items() {
-        [] => Ok(()),
-        [first, rest @ ..] => {
-            expr(out, first)?;
-            for item in rest {
-                out.sign(Sign::Comma)?;
-                expr(out, item)?;
-            }
-            Ok(())
+    let mut first = true;
+    for item in items.items() {
+        if !first {
+            out.sign(Sign::Comma)?;
         }
+        first = false;
+        expr(out, item)?;
     }
+    Ok(())
 }
 
 /// Operators, and the operand behind each.
@@ -324,17 +343,15 @@ pub(crate) fn alias(out: &mut Writer, alias: &Option<Identifier>) -> Result<(), 
 pub(crate) fn picks(out: &mut Writer, picks: &List<Pick>) -> Result<(), AllocError>
     ensures { IfOk result (λ _. out.new ≡ out.old ++ picks_tokens picks.now) }
 {
-    match picks.items() {
-        [] => Ok(()),
-        [first, rest @ ..] => {
-            pick(out, first)?;
-            for item in rest {
-                out.sign(Sign::Comma)?;
-                pick(out, item)?;
-            }
-            Ok(())
+    let mut first = true;
+    for item in picks.items() {
+        if !first {
+            out.sign(Sign::Comma)?;
         }
+        first = false;
+        pick(out, item)?;
     }
+    Ok(())
 }
 
 /// An item of a query.
