@@ -25,9 +25,9 @@ use Rattle.psm_tree.specs.declared.statement.CursorDeclaration.{CursorDeclaratio
 use Rattle.psm_tree.specs.declared.statement.Handler.{Handler}
 use Rattle.psm_tree.specs.declared.statement.Branch.{Branch}
 use Rattle.psm_token.specs.declared.token.Token.TheVariants as t
-use Rattle.psm_print.specs.ExprTokens.{link_tokens, when_tokens, word, sign, perhaps, each, in_parens, name_tokens, type_tokens, plus_minus_tokens, junction_tokens, comparison_tokens, text_function_tokens, side_tokens, not_tokens, expr_tokens, listed_tokens, select_tokens}
+use Rattle.psm_print.specs.ExprTokens.{word, sign, perhaps, each, in_parens, name_tokens, type_tokens, plus_minus_tokens, junction_tokens, comparison_tokens, text_function_tokens, side_tokens, not_tokens, expr_tokens, listed_tokens, select_tokens}
 use Rattle.psm_print.specs.StatementTokens.{ordered_query_tokens, declaration_tokens, cursor_tokens, for_cursor_tokens, start_tokens, end_tokens, atomic_tokens, ended, statement_tokens}
-use Rattle.psm_print.proofs.Rows.{box_tokens, list_tokens, first_tokens, held_tokens, links_tokens, boxed_when_tokens, whens_tokens, boxed_select_tokens}
+use Rattle.psm_print.proofs.Rows.{link_tokens, when_tokens, box_tokens, list_tokens, first_tokens, held_tokens, links_tokens, boxed_when_tokens, whens_tokens, boxed_select_tokens}
 use Rattle.psm_print.proofs.StatementRows.{else_tokens, branch_tokens, handler_tokens, statements_tokens, boxed_tokens, otherwise_tokens, boxed_branch_tokens, branches_tokens, handlers_tokens}
 
 -- ---- expressions

@@ -12,7 +12,8 @@ use Rattle.psm_tree.specs.declared.expr.Link.{Link}
 use Rattle.psm_tree.specs.declared.expr.When.{When}
 use Rattle.psm_tree.specs.declared.expr.Pick.{Pick}
 use Rattle.psm_tree.specs.declared.expr.Select.{Select}
-use Rattle.psm_print.specs.ExprTokens.{word, sign, perhaps, each, expr_tokens, expr_row, expr_held, first_row, link_row, when_row, select_row, picks_row, pick_row, pick_tokens, operator_tokens, name_tokens, alias_tokens, link_tokens, when_tokens, table_tokens, listed_tokens, picks_tokens, select_tokens}
+use Rattle.psm_print.specs.ExprTokens.{word, sign, perhaps, each, expr_tokens, expr_row, expr_held, first_row, link_row, when_row, select_row, picks_row, pick_row, pick_tokens, operator_tokens, name_tokens, table_tokens, listed_tokens, picks_tokens, select_tokens}
+pub use Rattle.psm_print.specs.PartTokens.{link_tokens, when_tokens}
 
 -- a box is one expression
 pub box_tokens : (before : List Token) (e : Expr) → expr_row before (hidden-the_row-Expr-0 e) ≡ before ++ expr_tokens e

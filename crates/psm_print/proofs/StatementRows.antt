@@ -14,17 +14,7 @@ use Rattle.psm_tree.specs.declared.statement.Handler.{Handler}
 use Rattle.psm_print.specs.ExprTokens.{word, sign, each, expr_tokens}
 use Rattle.psm_print.specs.StatementTokens.{ended, handler_kind_tokens, handler_value_tokens, statement_tokens, statement_row, action_row, else_row, branch_row, handler_row}
 
--- the statements behind ELSE, which is left out where there are none
-abbrev pub else_tokens : List Statement → List Token
-else_tokens [] = []
-else_tokens (first ∷ rest) = word w.Else ++ (statement_tokens first ++ sign s.Semicolon) ++ ended statement_tokens rest
-
--- a test and the statements behind its THEN
-abbrev pub branch_tokens : Branch → List Token
-branch_tokens b = expr_tokens b.test ++ word w.Then ++ (statement_tokens b.first ++ sign s.Semicolon) ++ ended statement_tokens b.rest
-
-abbrev pub handler_tokens : Handler → List Token
-handler_tokens h = word w.Declare ++ handler_kind_tokens h.kind ++ word w.Handler ++ word w.For ++ handler_value_tokens h.first ++ each (sign s.Comma) handler_value_tokens h.rest ++ statement_tokens h.action
+pub use Rattle.psm_print.specs.PartTokens.{else_tokens, branch_tokens, handler_tokens}
 
 statement_items : {m : _} (es : Row_of-Statement m) → statement_row es ≡ ended statement_tokens (items-the_row-Statement _ es)
 statement_items end_of-Statement = refl

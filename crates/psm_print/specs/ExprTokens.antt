@@ -230,14 +230,6 @@ abbrev mutual
   pick_tokens (picked.CountRows place alias) = word w.Count ++ in_parens (sign s.Asterisk) ++ alias_tokens alias
   pick_tokens (picked.Aggregate place function argument alias) = set_function_tokens function ++ in_parens (expr_tokens argument) ++ alias_tokens alias
 
--- an operator and the operand behind it
-abbrev pub link_tokens : Link → List Token
-link_tokens link = operator_tokens link.operator ++ expr_tokens link.operand
-
--- a branch of a CASE expression
-abbrev pub when_tokens : When → List Token
-when_tokens when = word w.When ++ expr_tokens when.test ++ word w.Then ++ expr_tokens when.result
-
 -- expressions with a comma between two of them
 abbrev pub listed_tokens : List Expr → List Token
 listed_tokens es = listed expr_tokens es

@@ -1,3 +1,5 @@
 pub mod ExprTokens
 pub mod StatementTokens
 pub mod FileTokens
+pub mod Printed
+pub mod PartTokens

@@ -77,12 +77,18 @@ where_tokens (wheres.Current cursor) = word w.Where ++ word w.Current ++ word w.
 abbrev pub values_tokens : Values → List Token
 values_tokens values = in_parens (expr_tokens values.first ++ each (sign s.Comma) expr_tokens values.rest)
 
+abbrev pub rows_tokens : Values → List Values → List Token
+rows_tokens first rest = values_tokens first ++ each (sign s.Comma) values_tokens rest
+
 abbrev pub insert_source_tokens : InsertSource → List Token
-insert_source_tokens (inserted.Values first rest) = word w.Values ++ values_tokens first ++ each (sign s.Comma) values_tokens rest
+insert_source_tokens (inserted.Values first rest) = word w.Values ++ rows_tokens first rest
 insert_source_tokens (inserted.Query query) = select_tokens query
 
 abbrev pub assignment_tokens : Assignment → List Token
 assignment_tokens a = name_tokens a.column ++ sign s.Equal ++ expr_tokens a.source
+
+abbrev pub assignments_tokens : Assignment → List Assignment → List Token
+assignments_tokens first rest = assignment_tokens first ++ each (sign s.Comma) assignment_tokens rest
 
 -- ---- GET DIAGNOSTICS
 
@@ -127,7 +133,7 @@ simple_tokens (simples.Resignal place signalled) = word w.Resignal ++ perhaps []
 simple_tokens (simples.GetDiagnostics place diagnostics) = word w.Get ++ word w.Diagnostics ++ diagnostics_tokens diagnostics
 simple_tokens (simples.SelectInto place picks targets table alias condition) = word w.Select ++ picks_tokens picks ++ word w.Into ++ targets_tokens targets ++ table_tokens table alias condition
 simple_tokens (simples.Insert place table columns source) = word w.Insert ++ word w.Into ++ name_tokens table ++ perhaps [] (λ names. in_parens (names_tokens names)) columns ++ insert_source_tokens source
-simple_tokens (simples.Update place table first rest which) = word w.Update ++ name_tokens table ++ word w.Set ++ assignment_tokens first ++ each (sign s.Comma) assignment_tokens rest ++ perhaps [] where_tokens which
+simple_tokens (simples.Update place table first rest which) = word w.Update ++ name_tokens table ++ word w.Set ++ assignments_tokens first rest ++ perhaps [] where_tokens which
 simple_tokens (simples.Delete place table which) = word w.Delete ++ word w.From ++ name_tokens table ++ perhaps [] where_tokens which
 simple_tokens (simples.Open place cursor) = word w.Open ++ name_tokens cursor
 simple_tokens (simples.Fetch place cursor targets) = word w.Fetch ++ name_tokens cursor ++ word w.Into ++ targets_tokens targets

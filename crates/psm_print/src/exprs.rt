@@ -1,7 +1,8 @@
 //! Expressions and queries.
 ghost use Rattle.std.specs.Prelude.{◌≡◌, ◌++◌, [], IfOk};
 ghost use Rattle.psm_token.specs.declared.sign.Sign.TheVariants as s;
-ghost use Rattle.psm_print.specs.ExprTokens.{sign, each, expr_tokens, listed_tokens, junction_tokens, link_tokens, when_tokens, alias_tokens, pick_tokens, picks_tokens, select_tokens};
+ghost use Rattle.psm_print.specs.PartTokens.{link_tokens, when_tokens};
+ghost use Rattle.psm_print.specs.ExprTokens.{sign, each, expr_tokens, listed_tokens, junction_tokens, alias_tokens, pick_tokens, picks_tokens, select_tokens};
 
 use crate::names::{data_type, name, target};
 use crate::operators::{comparison, junction, not, operator, plus_minus, set_function, side, text_function};
@@ -238,7 +239,7 @@ pub(crate) fn expr(out: &mut Writer, e: &Expr) -> Result<(), AllocError>
 
 /// Expressions, each behind a comma.
 #[cycle(printing)]
-fn more(out: &mut Writer, items: &List<Expr>) -> Result<(), AllocError>
+pub(crate) fn more(out: &mut Writer, items: &List<Expr>) -> Result<(), AllocError>
     ensures { IfOk result (λ _. out.new ≡ out.old ++ each (sign s.Comma) expr_tokens items.now) }
 {
     for item in items.items() {

@@ -2,8 +2,8 @@
 //! printed is read again as the same tree.
 #![tactic(auto)]
 
-
+mod diagnostics;
+mod exprs;
 mod names;
 mod operators;
-
-mod exprs;
+mod parts;

@@ -1,6 +1,7 @@
 use Rattle.std.proofs.Common.{◌≡◌, ◌++◌, [], drop}
 use Rattle.psm_token.specs.declared.sign.Sign.TheVariants as s
-use Rattle.psm_print.specs.ExprTokens.{sign, each, expr_tokens, listed_tokens, picks_tokens, junction_tokens, link_tokens, when_tokens, pick_tokens}
+use Rattle.psm_print.specs.ExprTokens.{sign, each, expr_tokens, listed_tokens, picks_tokens, junction_tokens, pick_tokens}
+use Rattle.psm_print.specs.PartTokens.{link_tokens, when_tokens}
 use Rattle.psm_print.proofs.Listing.{left}
 use Rattle.psm_print.proofs.exprs.+printing.Given as goal
 
