@@ -100,13 +100,13 @@ cursor_told : (place : Place) (name : Identifier) (insensitive : Bool) (query : 
     → word w.Declare ++ declare_tokens (Named name (Cursor insensitive query updatability), b) ≡ body_tokens (with_named place name (Cursor insensitive query updatability) b)
 cursor_told place name insensitive query updatability b h =
     subst (λ ds. word w.Declare ++ declare_tokens (Named name (Cursor insensitive query updatability), record b { declarations = ds }) ≡ body_tokens (with_named place name (Cursor insensitive query updatability) (record b { declarations = ds }))) (sym h)
-        (cursor_left (name_tokens name) (insensitive_tokens insensitive) (ordered_query_tokens query) (perhaps (word w.For) updatability_tokens updatability) (ended cursor_tokens b.cursors) (ended handler_tokens b.handlers) (ended statement_tokens b.statements))
+    (cursor_left (name_tokens name) (insensitive_tokens insensitive) (ordered_query_tokens query) (perhaps (word w.For) updatability_tokens updatability) (ended cursor_tokens b.cursors) (ended handler_tokens b.handlers) (ended statement_tokens b.statements))
 
 handler_first : (place : Place) (kind : At HandlerKind) (p : HandlerParts) (b : Body) → Late Handlers b → word w.Declare ++ declare_tokens (Handled kind p, b) ≡ body_tokens (with_declared place (Handled kind p) b)
 handler_first place kind p b h =
     subst (λ ds. word w.Declare ++ declare_tokens (Handled kind p, record b { declarations = ds }) ≡ body_tokens (with_declared place (Handled kind p) (record b { declarations = ds }))) (sym h.0)
-        (subst (λ cs. word w.Declare ++ declare_tokens (Handled kind p, record b { declarations = []; cursors = cs }) ≡ body_tokens (with_declared place (Handled kind p) (record b { declarations = []; cursors = cs }))) (sym h.1)
-        (handler_left (handler_kind_tokens kind.value) (handler_value_tokens p.first) (each (sign s.Comma) handler_value_tokens p.rest) (statement_tokens p.action) (ended handler_tokens b.handlers) (ended statement_tokens b.statements)))
+    (subst (λ cs. word w.Declare ++ declare_tokens (Handled kind p, record b { declarations = []; cursors = cs }) ≡ body_tokens (with_declared place (Handled kind p) (record b { declarations = []; cursors = cs }))) (sym h.1)
+    (handler_left (handler_kind_tokens kind.value) (handler_value_tokens p.first) (each (sign s.Comma) handler_value_tokens p.rest) (statement_tokens p.action) (ended handler_tokens b.handlers) (ended statement_tokens b.statements)))
 
 named_first : (place : Place) (name : Identifier) (x : NamedRest) (b : Body) → Comes x b → word w.Declare ++ declare_tokens (Named name x, b) ≡ body_tokens (with_named place name x b)
 named_first place name (Variables others kind default) b h = variables_left (name_tokens name) (each (sign s.Comma) name_tokens others) (type_tokens kind) (perhaps (word w.Default) expr_tokens default)

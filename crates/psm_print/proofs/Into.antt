@@ -88,13 +88,15 @@ into_told_if c e i = record { into = λ w x l a. retold (e w x l) (i.into w x l 
 -- where something is known of the values of the back
 pub into_seq_if : {z : Setting} {X Y Z : Type 0} {f : X → Y → Z} {p h : Gram X} {q k : Gram Y} {b : X → List Token} {d : Y → List Token} (c : Z → List Token) (Q : Y → Type 0)
     → ((w : Words Placed) (y : Y) → said z q w y → Q y) → Into z p h b → Into z q k d → ((x : X) (y : Y) → Q y → b x ++ d y ≡ c (f x y)) → Into z (seq f p q) (seq f h k) c
-into_seq_if {z} {f = f} {b = b} {d = d} c Q known i j e = record { into = λ w x l a.
-    let g = subst (AllGood z.good) l.whole a in
-    let p = i.into l.front l.one l.left (good_front z.good l.front l.back g) in
-    let q = j.into l.back l.two l.right (good_back z.good l.front l.back g) in
-    let n : length l.front + length l.back ≤ length w = omega (arith, length-append l.front l.back, ap length l.whole) in
-    reread (λ u m. record { front = m.front; back = m.back; one = m.one; two = m.two; whole = m.whole; left = m.left; right = m.right; made = l.made ∙ m.made })
-        (retold (e l.one l.two (known l.back l.two l.right) ∙ ap c (sym l.made)) (shorter n (joined f p q))) }
+into_seq_if {z} {f = f} {b = b} {d = d} c Q known i j e = record {
+  into = λ w x l a.
+      let g = subst (AllGood z.good) l.whole a in
+      let p = i.into l.front l.one l.left (good_front z.good l.front l.back g) in
+      let q = j.into l.back l.two l.right (good_back z.good l.front l.back g) in
+      let n : length l.front + length l.back ≤ length w = omega (arith, length-append l.front l.back, ap length l.whole) in
+      reread (λ u m. record { front = m.front; back = m.back; one = m.one; two = m.two; whole = m.whole; left = m.left; right = m.right; made = l.made ∙ m.made })
+      (retold (e l.one l.two (known l.back l.two l.right) ∙ ap c (sym l.made)) (shorter n (joined f p q)));
+}
 
 pub into_seq : {z : Setting} {X Y Z : Type 0} {f : X → Y → Z} {p h : Gram X} {q k : Gram Y} {b : X → List Token} {d : Y → List Token} (c : Z → List Token)
     → Into z p h b → Into z q k d → ((x : X) (y : Y) → b x ++ d y ≡ c (f x y)) → Into z (seq f p q) (seq f h k) c
@@ -102,18 +104,22 @@ into_seq c i j e = into_seq_if c (λ y. Unit {0}) (λ w y l. tt) i j (λ x y t. 
 
 -- the front alone is printed
 pub into_front : {z : Setting} {X Y : Type 0} {p h : Gram X} {q : Gram Y} {c : X → List Token} → Into z p h c → Into z (seq earlier p (optional q)) (seq earlier h (optional q)) c
-into_front {z} {c = c} i = record { into = λ w x l a.
-    let p = i.into l.front l.one l.left (good_front z.good l.front l.back (subst (AllGood z.good) l.whole a)) in
-    let n : length l.front ≤ length w = omega (arith, length-append l.front l.back, ap length l.whole) in
-    reread (λ u m. record { front = u; back = []; one = l.one; two = None; whole = sym (append-nil u); left = m; right = inr (record { whole = refl; made = refl }); made = l.made })
-        (retold (ap c (sym l.made)) (shorter n p)) }
+into_front {z} {c = c} i = record {
+  into = λ w x l a.
+      let p = i.into l.front l.one l.left (good_front z.good l.front l.back (subst (AllGood z.good) l.whole a)) in
+      let n : length l.front ≤ length w = omega (arith, length-append l.front l.back, ap length l.whole) in
+      reread (λ u m. record { front = u; back = []; one = l.one; two = None; whole = sym (append-nil u); left = m; right = inr (record { whole = refl; made = refl }); made = l.made })
+      (retold (ap c (sym l.made)) (shorter n p));
+}
 
 -- a token before the printed word is left out
 pub left_out : {z : Setting} {A X : Type 0} {test : Test Placed A} {p h : Gram X} {c : X → List Token} → Into z p h c → Into z (behind_token test p) h c
-left_out {z} {h = h} {c = c} i = record { into = λ w x l a.
-    let p = i.into l.back l.two l.right (good_back z.good l.front l.back (subst (AllGood z.good) l.whole a)) in
-    let n : length l.back ≤ length w = omega (arith, length-append l.front l.back, ap length l.whole) in
-    subst (λ y. Printed z.good (said z h) y (c y) (length w)) (sym l.made) (shorter n p) }
+left_out {z} {h = h} {c = c} i = record {
+  into = λ w x l a.
+      let p = i.into l.back l.two l.right (good_back z.good l.front l.back (subst (AllGood z.good) l.whole a)) in
+      let n : length l.back ≤ length w = omega (arith, length-append l.front l.back, ap length l.whole) in
+      subst (λ y. Printed z.good (said z h) y (c y) (length w)) (sym l.made) (shorter n p);
+}
 
 -- ---- choices
 
@@ -137,30 +143,37 @@ ahead_right i = record { into = λ w x l a. reread (λ u m. inr m) (i.into w x l
 
 -- a choice behind a word is a choice of both
 pub seq_or : {z : Setting} {X Y Z : Type 0} {f : X → Y → Z} {p : Gram X} {q r : Gram Y} {h : Gram Z} {c : Z → List Token} → Into z (seq f p q) h c → Into z (seq f p r) h c → Into z (seq f p (or q r)) h c
-seq_or i j = record { into = λ w x l a. elim l.right [
-    inl m ↦ i.into w x (record { front = l.front; back = l.back; one = l.one; two = l.two; whole = l.whole; left = l.left; right = m; made = l.made }) a
-  | inr m ↦ j.into w x (record { front = l.front; back = l.back; one = l.one; two = l.two; whole = l.whole; left = l.left; right = m; made = l.made }) a ] }
+seq_or i j = record {
+  into = λ w x l a. elim l.right [
+    | inl m ↦ i.into w x (record { front = l.front; back = l.back; one = l.one; two = l.two; whole = l.whole; left = l.left; right = m; made = l.made }) a
+    | inr m ↦ j.into w x (record { front = l.front; back = l.back; one = l.one; two = l.two; whole = l.whole; left = l.left; right = m; made = l.made }) a
+  ];
+}
 
 -- a word behind two is behind the second of them
 pub seq_again : {z : Setting} {X Y Z A B C : Type 0} {f : X → A → B} {g : Y → Z → A} {p : Gram X} {q : Gram Y} {r : Gram Z} {h : Gram B} {c : B → List Token} (k : C → Z → B) (m : X → Y → C)
     → ((x : X) (y : Y) (v : Z) → f x (g y v) ≡ k (m x y) v) → Into z (seq k (seq m p q) r) h c → Into z (seq f p (seq g q r)) h c
-seq_again {f = f} k m e i = record { into = λ w x l a.
-    i.into w x (record {
-      front = l.front ++ l.right.front;
-      back = l.right.back;
-      one = m l.one l.right.one;
-      two = l.right.two;
-      whole = l.whole ∙ ap (λ u. l.front ++ u) l.right.whole ∙ sym (append_assoc l.front l.right.front l.right.back);
-      left = record { front = l.front; back = l.right.front; one = l.one; two = l.right.one; whole = refl; left = l.left; right = l.right.left; made = refl };
-      right = l.right.right;
-      made = l.made ∙ ap (f l.one) l.right.made ∙ e l.one l.right.one l.right.two;
-    }) a }
+seq_again {f = f} k m e i = record {
+  into = λ w x l a.
+      i.into w x (record {
+        front = l.front ++ l.right.front;
+        back = l.right.back;
+        one = m l.one l.right.one;
+        two = l.right.two;
+        whole = l.whole ∙ ap (λ u. l.front ++ u) l.right.whole ∙ sym (append_assoc l.front l.right.front l.right.back);
+        left = record { front = l.front; back = l.right.front; one = l.one; two = l.right.one; whole = refl; left = l.left; right = l.right.left; made = refl };
+        right = l.right.right;
+        made = l.made ∙ ap (f l.one) l.right.made ∙ e l.one l.right.one l.right.two;
+      }) a;
+}
 
 -- ---- values
 
 pub into_image : {z : Setting} {X Y : Type 0} {f : X → Y} {p h : Gram X} {b : X → List Token} (c : Y → List Token) → Into z p h b → ((x : X) → b x ≡ c (f x)) → Into z (image f p) (image f h) c
-into_image c i e = record { into = λ w x l a.
-    reread (λ u m. record { one = l.one; left = m; made = l.made }) (retold (e l.one ∙ ap c (sym l.made)) (i.into w l.one l.left a)) }
+into_image c i e = record {
+  into = λ w x l a.
+      reread (λ u m. record { one = l.one; left = m; made = l.made }) (retold (e l.one ∙ ap c (sym l.made)) (i.into w l.one l.left a));
+}
 
 pub into_nothing : {z : Setting} {X : Type 0} {y : X} (c : X → List Token) → c y ≡ [] → Into z (nothing y) (nothing y) c
 into_nothing {z} c e = record { into = λ w x l a. record { word = []; spells = record { whole = refl; made = l.made }; bare = sym (ap c l.made ∙ e); short = omega arith; kept = tt } }

@@ -153,12 +153,16 @@ one_side_into {z} = or_from (record { into = λ u x l a. trim_at z u x.0 x.1 l a
 
 -- a choice before a parenthesis, by two tokens
 closed_ahead : {z : Setting} {X : Type 0} {ones twos : List ℕ} {p q : Gram X} {c : X → List Token} → Into z (closed (or p q)) (closed (or p q)) c → Into z (ahead ones twos (closed p) (closed q)) (ahead ones twos (closed p) (closed q)) c
-closed_ahead i = record { into = λ u x l a. reread (λ v m. elim m.left [
-    inl n ↦ inl (record { front = m.front; back = m.back; one = m.one; two = m.two; whole = m.whole; left = n; right = m.right; made = m.made })
-  | inr n ↦ inr (record { front = m.front; back = m.back; one = m.one; two = m.two; whole = m.whole; left = n; right = m.right; made = m.made }) ])
-    (i.into u x (elim l [
-    inl n ↦ record { front = n.front; back = n.back; one = n.one; two = n.two; whole = n.whole; left = inl n.left; right = n.right; made = n.made }
-  | inr n ↦ record { front = n.front; back = n.back; one = n.one; two = n.two; whole = n.whole; left = inr n.left; right = n.right; made = n.made } ]) a) }
+closed_ahead i = record {
+  into = λ u x l a. reread (λ v m. elim m.left [
+    | inl n ↦ inl (record { front = m.front; back = m.back; one = m.one; two = m.two; whole = m.whole; left = n; right = m.right; made = m.made })
+    | inr n ↦ inr (record { front = m.front; back = m.back; one = m.one; two = m.two; whole = m.whole; left = n; right = m.right; made = m.made })
+  ])
+      (i.into u x (elim l [
+        | inl n ↦ record { front = n.front; back = n.back; one = n.one; two = n.two; whole = n.whole; left = inl n.left; right = n.right; made = n.made }
+        | inr n ↦ record { front = n.front; back = n.back; one = n.one; two = n.two; whole = n.whole; left = inr n.left; right = n.right; made = n.made }
+      ]) a);
+}
 
 pub trim_into : {z : Setting} → Into z trim_rest trim_rest (part_tokens TrimRest)
 trim_into = behind_sign s.LeftParen (closed_ahead (into_closed one_side_into))

@@ -68,7 +68,7 @@ pub statement_into : {z : Setting} → Into z statement statement statement_toke
 statement_into = into_or (into_seq statement_tokens into_name labelled_into (λ x p. block_told (Some (record { start = x; end = p.1 })) p.0))
     (into_or (into_level statement_tokens (says_word w.If) (λ a y. sym (tokens-If a y.first y.rest y.otherwise)))
     (into_or (into_level statement_tokens (says_word w.Case) (λ a y. ap (λ ts. word w.Case ++ ts) (case_left (perhaps [] expr_tokens y.0) (word w.When ++ branch_tokens y.1.first) (each (word w.When) branch_tokens y.1.rest) (else_tokens y.1.otherwise))
-        ∙ sym (tokens-CaseStatement a y.0 y.1.first y.1.rest y.1.otherwise)))
+    ∙ sym (tokens-CaseStatement a y.0 y.1.first y.1.rest y.1.otherwise)))
     (into_or (into_image statement_tokens block_into (λ x. sym (append-nil (unlabelled_tokens x)) ∙ block_told None x)) (into_image statement_tokens simple_into (λ x. refl)))))
 
 -- ---- one statement or more

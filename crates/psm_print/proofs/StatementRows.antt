@@ -13,7 +13,6 @@ use Rattle.psm_tree.specs.declared.statement.Branch.{Branch}
 use Rattle.psm_tree.specs.declared.statement.Handler.{Handler}
 use Rattle.psm_print.specs.ExprTokens.{word, sign, each, expr_tokens}
 use Rattle.psm_print.specs.StatementTokens.{ended, handler_kind_tokens, handler_value_tokens, statement_tokens, statement_row, action_row, else_row, branch_row, handler_row}
-
 pub use Rattle.psm_print.specs.PartTokens.{else_tokens, branch_tokens, handler_tokens}
 
 statement_items : {m : _} (es : Row_of-Statement m) → statement_row es ≡ ended statement_tokens (items-the_row-Statement _ es)

@@ -56,23 +56,27 @@ into_token {z} s = record { into = token_into s z.depth }
 
 pub into_level : {z : Setting} {A Y : Type 0} {n : Part} {from : Test Placed A} {f : A → V n → Y} {tok : A → Token} (c : Y → List Token) → Says z from from tok
     → ((a : A) (y : V n) → tok a ∷ part_tokens n y ≡ c (f a y)) → Into z (level n from f) (level n from f) c
-into_level {z} {n = n} {f = f} c s e = record { into = λ w x l a.
-    let g = subst (AllGood z.good) l.whole a in
-    let p = token_into s _ l.front l.one l.left (good_front z.good l.front l.back g) in
-    let q = z.inner_printed n l.back l.two l.right (good_back z.good l.front l.back g) in
-    let m : length l.front + length l.back ≤ length w = omega (arith, length-append l.front l.back, ap length l.whole) in
-    reread (λ u m. record { front = m.front; back = m.back; one = m.one; two = m.two; whole = m.whole; left = m.left; right = m.right; made = l.made ∙ m.made })
-        (retold (e l.one l.two ∙ ap c (sym l.made)) (shorter m (joined f p q))) }
+into_level {z} {n = n} {f = f} c s e = record {
+  into = λ w x l a.
+      let g = subst (AllGood z.good) l.whole a in
+      let p = token_into s _ l.front l.one l.left (good_front z.good l.front l.back g) in
+      let q = z.inner_printed n l.back l.two l.right (good_back z.good l.front l.back g) in
+      let m : length l.front + length l.back ≤ length w = omega (arith, length-append l.front l.back, ap length l.whole) in
+      reread (λ u m. record { front = m.front; back = m.back; one = m.one; two = m.two; whole = m.whole; left = m.left; right = m.right; made = l.made ∙ m.made })
+      (retold (e l.one l.two ∙ ap c (sym l.made)) (shorter m (joined f p q)));
+}
 
 pub into_next : {z : Setting} {A Y : Type 0} {n : Part} {from : Test Placed A} {f : A → V n → Y} {tok : A → Token} (c : Y → List Token) → Says z from from tok
     → ((a : A) (y : V n) → Shaped n y → tok a ∷ part_tokens n y ≡ c (f a y)) → Into z (next n from f) (next n from f) c
-into_next {z} {n = n} {f = f} c s e = record { into = λ w x l a.
-    let g = subst (AllGood z.good) l.whole a in
-    let p = token_into s _ l.front l.one l.left (good_front z.good l.front l.back g) in
-    let q = z.same_printed n l.back l.two l.right (good_back z.good l.front l.back g) in
-    let m : length l.front + length l.back ≤ length w = omega (arith, length-append l.front l.back, ap length l.whole) in
-    reread (λ u m. record { front = m.front; back = m.back; one = m.one; two = m.two; whole = m.whole; left = m.left; right = m.right; made = l.made ∙ m.made })
-        (retold (e l.one l.two (z.shaped n l.back l.two l.right) ∙ ap c (sym l.made)) (shorter m (joined f p q))) }
+into_next {z} {n = n} {f = f} c s e = record {
+  into = λ w x l a.
+      let g = subst (AllGood z.good) l.whole a in
+      let p = token_into s _ l.front l.one l.left (good_front z.good l.front l.back g) in
+      let q = z.same_printed n l.back l.two l.right (good_back z.good l.front l.back g) in
+      let m : length l.front + length l.back ≤ length w = omega (arith, length-append l.front l.back, ap length l.whole) in
+      reread (λ u m. record { front = m.front; back = m.back; one = m.one; two = m.two; whole = m.whole; left = m.left; right = m.right; made = l.made ∙ m.made })
+      (retold (e l.one l.two (z.shaped n l.back l.two l.right) ∙ ap c (sym l.made)) (shorter m (joined f p q)));
+}
 
 -- ---- words and signs
 

@@ -171,6 +171,10 @@ handler_value_tokens (handled.SqlException place) = word w.SqlException
 handler_value_tokens (handled.SqlWarning place) = word w.SqlWarning
 handler_value_tokens (handled.NotFound place) = word w.Not ++ word w.Found
 
+-- what a handler handles
+abbrev pub handled_tokens : HandlerValue → List HandlerValue → List Token
+handled_tokens first rest = handler_value_tokens first ++ each (sign s.Comma) handler_value_tokens rest
+
 -- ---- statements that have statements
 
 -- the label before a block

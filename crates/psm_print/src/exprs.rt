@@ -5,7 +5,9 @@ ghost use Rattle.psm_print.specs.PartTokens.{link_tokens, when_tokens};
 ghost use Rattle.psm_print.specs.ExprTokens.{sign, each, expr_tokens, listed_tokens, junction_tokens, alias_tokens, pick_tokens, picks_tokens, select_tokens};
 
 use crate::names::{data_type, name, target};
-use crate::operators::{comparison, junction, not, operator, plus_minus, set_function, side, text_function};
+use crate::operators::{
+    comparison, junction, not, operator, plus_minus, set_function, side, text_function,
+};
 use psm_list::List;
 use psm_spell::Writer;
 use psm_token::{Sign, Word};
@@ -191,7 +193,9 @@ pub(crate) fn expr(out: &mut Writer, e: &Expr) -> Result<(), AllocError>
             Ok(())
         }
         Expr::Function {
-            function, argument, ..
+            function,
+            argument,
+            ..
         } => {
             text_function(out, *function)?;
             out.sign(Sign::LeftParen)?;
@@ -209,7 +213,10 @@ pub(crate) fn expr(out: &mut Writer, e: &Expr) -> Result<(), AllocError>
             Ok(())
         }
         Expr::Substring {
-            text, from, length, ..
+            text,
+            from,
+            length,
+            ..
         } => {
             out.word(Word::Substring)?;
             out.sign(Sign::LeftParen)?;
@@ -226,7 +233,11 @@ pub(crate) fn expr(out: &mut Writer, e: &Expr) -> Result<(), AllocError>
             out.sign(Sign::RightParen)?;
             Ok(())
         }
-        Expr::Trim { side: which, text, .. } => {
+        Expr::Trim {
+            side: which,
+            text,
+            ..
+        } => {
             out.word(Word::Trim)?;
             out.sign(Sign::LeftParen)?;
             side(out, *which)?;
@@ -362,7 +373,10 @@ fn pick(out: &mut Writer, pick: &Pick) -> Result<(), AllocError>
 {
     match pick {
         Pick::All { .. } => out.sign(Sign::Asterisk),
-        Pick::Expr { expr: value, alias: own } => {
+        Pick::Expr {
+            expr: value,
+            alias: own,
+        } => {
             expr(out, value)?;
             alias(out, own)
         }

@@ -2,8 +2,11 @@
 //! printed is read again as the same tree.
 #![tactic(auto)]
 
+mod declarations;
 mod diagnostics;
 mod exprs;
 mod names;
 mod operators;
 mod parts;
+mod simple;
+mod statements;

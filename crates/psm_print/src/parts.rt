@@ -8,8 +8,8 @@ use psm_list::List;
 use psm_spell::Writer;
 use psm_token::{Sign, Word};
 use psm_tree::{
-    Assignment, Condition, InsertSource, Order, OrderColumn, OrderedQuery, Signalled, State, Values,
-    Where,
+    Assignment, Condition, InsertSource, Order, OrderColumn, OrderedQuery, Signalled, State,
+    Values, Where,
 };
 use std::alloc::AllocError;
 
@@ -145,7 +145,11 @@ fn assignment(out: &mut Writer, assignment: &Assignment) -> Result<(), AllocErro
 }
 
 /// The columns that an UPDATE sets.
-pub(crate) fn assignments(out: &mut Writer, first: &Assignment, rest: &List<Assignment>) -> Result<(), AllocError>
+pub(crate) fn assignments(
+    out: &mut Writer,
+    first: &Assignment,
+    rest: &List<Assignment>,
+) -> Result<(), AllocError>
     ensures { IfOk result (λ _. out.new ≡ out.old ++ assignments_tokens first.now rest.now) }
 {
     assignment(out, first)?;

@@ -70,4 +70,3 @@ expr-returns-in_ok-sign-in-Substring-2 t c = let e = ap expr_tokens c.in-Substri
 
 pub expr-returns-in_ok-sign-in-Trim-2 : goal.expr-returns-in_ok-sign-in-Trim-2
 expr-returns-in_ok-sign-in-Trim-2 t c = let e = ap expr_tokens c.in-Trim.is ∙ tokens-Trim c.in-Trim.place c.in-Trim.which c.in-Trim.text in grind (arith, append_assoc, append-nil, e)
-
