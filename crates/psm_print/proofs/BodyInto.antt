@@ -1,30 +1,29 @@
 -- The declarations of a block go over into printed ones.
-use Rattle.std.proofs.Common.{◌≡◌, inl, inr, Bool, List, [], ◌∷◌, ◌++◌, Option, Some, None, refl, sym, ap, subst, ◌∙◌}
-use Rattle.std.proofs.lemmas.List.{append_assoc, append-nil}
+use Rattle.std.proofs.Common.{◌≡◌, Bool, List, [], ◌∷◌, ◌++◌, refl, sym, ap, subst, ◌∙◌}
+use Rattle.std.proofs.lemmas.List.{append_assoc}
 use native.Mathlib.Omega.{arith}
 use Rattle.psm_token.specs.declared.place.Place.{Place}
 use Rattle.psm_token.specs.declared.word.Word.TheVariants as w
 use Rattle.psm_token.specs.declared.sign.Sign.TheVariants as s
 use Rattle.psm_token.specs.declared.token.Token.{Token}
-use Rattle.psm_token.specs.declared.token.Placed.{Placed}
-use Rattle.psm_grammar.specs.Language.{Words, Lang}
 use Rattle.psm_tree.specs.Tests.{At}
-use Rattle.psm_tree.specs.Parts.{Phase, Declarations, Cursors, Handlers, BodyRest, DeclareRest, BeginRest, NamedRest, Variables, Condition, Cursor, Declared, Named, Handled, HandlerParts, Body, Part, V}
+use Rattle.psm_tree.specs.Parts.{Phase, Declarations, Cursors, Handlers, BeginRest, NamedRest, Variables, Condition, Cursor, Declared, Named, Handled, HandlerParts, Body}
 use Rattle.psm_tree.specs.StatementValues.{with_declared, with_named}
-use Rattle.psm_tree.specs.StatementGrammar.{typed, other_variables, declaration_rest, cursor_query, cursor_rest, ending, body_rest, declared_handler, declared_cursor, declared_variables, declare_rest, begin_rest}
+use Rattle.psm_tree.specs.StatementGrammar.{typed, other_variables, declaration_rest, cursor_query, cursor_rest, body_rest, declared_handler, declared_cursor, declared_variables, declare_rest, begin_rest}
 use Rattle.psm_tree.specs.declared.name.Identifier.{Identifier}
 use Rattle.psm_tree.specs.declared.statement.HandlerKind.{HandlerKind}
 use Rattle.psm_print.specs.ExprTokens.{word, sign, perhaps, each, name_tokens, type_tokens, expr_tokens}
 use Rattle.psm_print.specs.StatementTokens.{state_tokens, ordered_query_tokens, declaration_tokens, insensitive_tokens, updatability_tokens, cursor_tokens, handler_kind_tokens, handler_value_tokens, ended, statement_tokens}
-use Rattle.psm_print.specs.PartTokens.{handler_tokens, handler_parts_tokens, body_tokens, named_rest_tokens, declared_tokens, part_tokens, Late, Comes, OnlyCursor, Ordered}
+use Rattle.psm_print.specs.PartTokens.{handler_tokens, handler_parts_tokens, body_tokens, named_rest_tokens, declared_tokens, part_tokens, Late, Comes, Ordered}
 use Rattle.psm_print.proofs.Regrouped.{left3, left4}
-use Rattle.psm_print.proofs.Into.{Setting, Into, into_told, into_told_if, into_seq, into_or, into_image, into_perhaps}
+use Rattle.psm_print.proofs.Into.{Setting, Into, into_told_if, into_seq, into_or, into_image, into_perhaps}
 use Rattle.psm_print.proofs.Tokens.{says_word, says_sign, into_level, into_next, into_word, behind_word, behind_sign, before_word}
 use Rattle.psm_print.proofs.Chosen.{into_name, says_handler, handler_told}
 use Rattle.psm_print.proofs.TypesInto.{next_names_into, data_type_into}
 use Rattle.psm_print.proofs.ExprInto.{source_into}
 use Rattle.psm_print.proofs.PartsInto.{ordered_into, for_state_into, insensitive_into, updatability_into, atomic_into}
 use Rattle.psm_print.proofs.StatementInto.{ended_statements_into}
+use Rattle.psm_print.proofs.Phases.{only_comes}
 
 -- ---- behind the name
 
@@ -113,11 +112,6 @@ named_first place name (Variables others kind default) b h = variables_left (nam
     (ended declaration_tokens b.declarations) (ended cursor_tokens b.cursors) (ended handler_tokens b.handlers) (ended statement_tokens b.statements)
 named_first place name (Condition state) b h = condition_left (name_tokens name) (perhaps (word w.For) state_tokens state) (ended declaration_tokens b.declarations) (ended cursor_tokens b.cursors) (ended handler_tokens b.handlers) (ended statement_tokens b.statements)
 named_first place name (Cursor insensitive query updatability) b h = cursor_told place name insensitive query updatability b h
-
-only_comes : (x : NamedRest) (b : Body) → OnlyCursor x b → Comes x b
-only_comes (Cursor insensitive query updatability) b h = h
-only_comes (Variables others kind default) b h = tt
-only_comes (Condition state) b h = tt
 
 declared_told : (phase : Phase) (place : Place) (x : Declared) (b : Body) → Ordered phase x b → word w.Declare ++ declare_tokens (x, b) ≡ body_tokens (with_declared place x b)
 declared_told Declarations place (Handled kind p) b h = handler_first place kind p b h

@@ -1,6 +1,5 @@
 -- Names, literals, operators and words that choose go over into printed tokens.
-use Rattle.std.proofs.Common.{◌≡◌, ℕ, Bool, true, false, List, [], ◌∷◌, refl, sym, ap, ◌∙◌}
-use Rattle.psm_num.specs.Num.{Num}
+use Rattle.std.proofs.Common.{◌≡◌, Bool, true, false, [], ◌∷◌, refl, ap}
 use Rattle.psm_token.specs.declared.place.Place.{Place}
 use Rattle.psm_token.specs.declared.word.Word.{Word}
 use Rattle.psm_token.specs.declared.word.Word.TheVariants as w
@@ -8,12 +7,10 @@ use Rattle.psm_token.specs.declared.sign.Sign.{Sign}
 use Rattle.psm_token.specs.declared.sign.Sign.TheVariants as s
 use Rattle.psm_token.specs.declared.token.Token.{Token}
 use Rattle.psm_token.specs.declared.token.Token.TheVariants as t
-use Rattle.psm_token.specs.declared.token.Placed.{Placed}
-use Rattle.psm_grammar.specs.Language.{has, Test}
+use Rattle.psm_grammar.specs.Language.{has}
 use Rattle.psm_grammar.specs.Grammar.{token}
-use Rattle.psm_tree.specs.Kinds.{code, sign_code, token_kind, kind, name_kind, number_kind, text_kind}
-use Rattle.psm_tree.specs.Tests.{At, word, sign, name, name_kinds, spelled, number, number_of, text, characters_of, plus_minus, sign_of, comparison, comparison_of, sum_operator, sum_operator_of, term_operator, term_operator_of, text_function, text_function_of, set_function, set_function_of, trim_side, trim_side_of, integer_word, numeric_word, char_word, handler_kind, handler_kind_of, statement_item, statement_item_of, condition_item, condition_item_of, exception_word, mode, mode_of}
-use Rattle.psm_tree.specs.declared.name.Identifier.{Identifier}
+use Rattle.psm_tree.specs.Kinds.{code, sign_code, token_kind, number_kind, text_kind}
+use Rattle.psm_tree.specs.Tests.{word, name, name_kinds, spelled, number, number_of, text, characters_of, plus_minus, sign_of, comparison, comparison_of, sum_operator, sum_operator_of, term_operator, term_operator_of, text_function, text_function_of, set_function, set_function_of, trim_side, trim_side_of, integer_word, numeric_word, char_word, handler_kind, handler_kind_of, statement_item, statement_item_of, condition_item, condition_item_of, exception_word, mode, mode_of}
 use Rattle.psm_tree.specs.declared.types.Sign.{Sign as PlusMinus}
 use Rattle.psm_tree.specs.declared.types.Sign.TheVariants as signs
 use Rattle.psm_tree.specs.declared.expr.Comparison.{Comparison}
@@ -37,7 +34,6 @@ use Rattle.psm_tree.specs.declared.file.Mode.TheVariants as modes
 use Rattle.psm_print.specs.ExprTokens.{name_tokens, number_tokens, plus_minus_tokens, comparison_tokens, operator_tokens, text_function_tokens, set_function_tokens}
 use Rattle.psm_print.specs.StatementTokens.{handler_kind_tokens, statement_item_tokens, condition_item_tokens}
 use Rattle.psm_print.specs.FileTokens.{mode_tokens}
-use Rattle.psm_print.specs.Printed.{Kept}
 use Rattle.psm_print.proofs.Into.{Setting, Into, into_told}
 use Rattle.psm_print.proofs.Tokens.{Says, says_all, into_token}
 

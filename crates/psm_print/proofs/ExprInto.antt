@@ -1,27 +1,25 @@
 -- Expressions go over into printed ones.
-use Rattle.std.proofs.Common.{◌≡◌, inl, inr, ℕ, Bool, true, false, List, [], ◌∷◌, ◌++◌, Option, Some, None, refl, sym, ap, subst, ◌∙◌}
+use Rattle.std.proofs.Common.{◌≡◌, inl, inr, false, List, [], ◌∷◌, ◌++◌, Option, Some, None, refl, sym, ap, subst, ◌∙◌}
 use Rattle.std.proofs.lemmas.List.{append_assoc, append-nil}
 use Rattle.psm_token.specs.declared.place.Place.{Place}
 use Rattle.psm_token.specs.declared.word.Word.TheVariants as w
 use Rattle.psm_token.specs.declared.sign.Sign.TheVariants as s
 use Rattle.psm_token.specs.declared.token.Token.{Token}
-use Rattle.psm_token.specs.declared.token.Token.TheVariants as t
 use Rattle.psm_token.specs.declared.token.Placed.{Placed}
 use Rattle.psm_grammar.specs.Language.{Words}
 use Rattle.psm_tree.specs.Parts.{Inside, Value, Query}
-use Rattle.psm_tree.specs.ExprValues.{expr_of, conjunction_of, Test, Nothing, Compare, IsNull, Between, In, Like, predicate_of, null_of, between_of, in_of, like_of, chain_of, NameRest, Bare, Dotted, Called, named, enclosed_of}
-use Rattle.psm_tree.specs.ExprGrammar.{name_rest, named_primary, worded_primary, primary, factor, next_factors, term, next_terms, sum, between, next_sums, in_list, like, is_null, compare, negatable, negated_test, test, predicate, negation, conjunction, expr, source, next_sources, sources}
+use Rattle.psm_tree.specs.ExprValues.{expr_of, conjunction_of, Test, Nothing, Compare, IsNull, Between, In, Like, predicate_of, null_of, chain_of, NameRest, Bare, Dotted, Called, named, enclosed_of}
+use Rattle.psm_tree.specs.ExprGrammar.{named_primary, worded_primary, primary, factor, next_factors, term, next_terms, sum, between, next_sums, in_list, like, is_null, negatable, negated_test, test, predicate, negation, conjunction, expr, source, next_sources, sources}
 use Rattle.psm_tree.specs.declared.name.Identifier.{Identifier}
 use Rattle.psm_tree.specs.declared.expr.Expr.{Expr}
 use Rattle.psm_tree.specs.declared.expr.Junction.TheVariants as junctions
 use Rattle.psm_tree.specs.declared.expr.Link.{Link}
-use Rattle.psm_print.specs.ExprTokens.{word, sign, perhaps, each, in_parens, name_tokens, comparison_tokens, operator_tokens, not_tokens, expr_tokens, listed_tokens}
+use Rattle.psm_print.specs.ExprTokens.{word, sign, perhaps, each, in_parens, name_tokens, comparison_tokens, not_tokens, expr_tokens, listed_tokens}
 use Rattle.psm_print.specs.PartTokens.{link_tokens, inside_tokens}
 use Rattle.psm_print.proofs.Equations.{tokens-Junction, tokens-Not, tokens-Compare, tokens-IsNull, tokens-Between, tokens-In, tokens-Like, tokens-Chain, tokens-Signed, tokens-Call, tokens-Parenthesized, tokens-Subquery, tokens-Exists, tokens-Case, tokens-Cast, tokens-Coalesce, tokens-NullIf, tokens-Function, tokens-Position, tokens-Substring, tokens-Trim}
 use Rattle.psm_print.proofs.Into.{Setting, Into, said, into_seq, into_seq_if, into_or, into_image, into_nothing, into_perhaps, into_each}
 use Rattle.psm_print.proofs.Tokens.{says_word, says_sign, into_level, into_word, behind_word, behind_sign, into_parens}
 use Rattle.psm_print.proofs.Chosen.{into_name, into_number, into_text, into_plus_minus, into_comparison, into_sum_operator, into_term_operator, says_text_function, text_function_told}
-use Rattle.psm_print.proofs.TypesInto.{target_into}
 
 -- ---- primaries
 

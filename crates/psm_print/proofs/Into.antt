@@ -1,15 +1,15 @@
 -- Words of a part of the grammar go over into printed words, with the same values and in no more tokens.
-use Rattle.std.proofs.Common.{◌≡◌, inl, inr, ℕ, zero, suc, ◌+◌, ◌≤◌, true, List, [], ◌∷◌, ◌++◌, map, length, Option, Some, None, refl, sym, ap, subst, ◌∙◌}
+use Rattle.std.proofs.Common.{◌≡◌, inl, inr, ℕ, ◌+◌, ◌≤◌, List, [], ◌∷◌, ◌++◌, length, Option, Some, None, refl, sym, ap, subst, ◌∙◌}
 use Rattle.std.proofs.lemmas.List.{append_assoc, append-nil, map-append, length-append}
-use Rattle.std.proofs.Math.Nat.{le_refl, le_trans}
+use Rattle.std.proofs.Math.Nat.{le_trans}
 use native.Mathlib.Omega.{arith}
 use Rattle.psm_token.specs.declared.token.Token.{Token}
 use Rattle.psm_token.specs.declared.token.Placed.{Placed}
-use Rattle.psm_grammar.specs.Language.{Words, Lang, has, Test, Token as OneToken, Nothing, Seq, Many, Image}
-use Rattle.psm_grammar.specs.Grammar.{Grammar, token, level, next, nothing, seq, or, ahead, many, image, lang}
-use Rattle.psm_grammar.specs.Forms.{earlier, later, optional, behind_token, before_token}
-use Rattle.psm_tree.specs.Kinds.{kind}
+use Rattle.psm_grammar.specs.Language.{Words, Lang, Test, Seq, Many}
+use Rattle.psm_grammar.specs.Grammar.{nothing, seq, or, ahead, many, image, lang}
+use Rattle.psm_grammar.specs.Forms.{earlier, optional, behind_token}
 use Rattle.psm_tree.specs.Parts.{Part, V}
+use Rattle.psm_tree.specs.ExprValues.{pair}
 use Rattle.psm_tree.specs.ExprGrammar.{Gram}
 use Rattle.psm_token.specs.declared.sign.Sign.TheVariants as s
 use Rattle.psm_print.specs.ExprTokens.{sign, perhaps, each}
@@ -88,14 +88,13 @@ into_told_if c e i = record { into = λ w x l a. retold (e w x l) (i.into w x l 
 -- where something is known of the values of the back
 pub into_seq_if : {z : Setting} {X Y Z : Type 0} {f : X → Y → Z} {p h : Gram X} {q k : Gram Y} {b : X → List Token} {d : Y → List Token} (c : Z → List Token) (Q : Y → Type 0)
     → ((w : Words Placed) (y : Y) → said z q w y → Q y) → Into z p h b → Into z q k d → ((x : X) (y : Y) → Q y → b x ++ d y ≡ c (f x y)) → Into z (seq f p q) (seq f h k) c
-into_seq_if {z} {f = f} {b = b} {d = d} c Q known i j e = record {
+into_seq_if {z} {f = f} {h = h} {k = k} c Q known i j e = record {
   into = λ w x l a.
       let g = subst (AllGood z.good) l.whole a in
       let p = i.into l.front l.one l.left (good_front z.good l.front l.back g) in
       let q = j.into l.back l.two l.right (good_back z.good l.front l.back g) in
       let n : length l.front + length l.back ≤ length w = omega (arith, length-append l.front l.back, ap length l.whole) in
-      reread (λ u m. record { front = m.front; back = m.back; one = m.one; two = m.two; whole = m.whole; left = m.left; right = m.right; made = l.made ∙ m.made })
-      (retold (e l.one l.two (known l.back l.two l.right) ∙ ap c (sym l.made)) (shorter n (joined f p q)));
+      subst (λ v. Printed z.good (said z (seq f h k)) v (c v) (length w)) (sym l.made) (retold (e l.one l.two (known l.back l.two l.right)) (shorter n (joined f p q)));
 }
 
 pub into_seq : {z : Setting} {X Y Z : Type 0} {f : X → Y → Z} {p h : Gram X} {q k : Gram Y} {b : X → List Token} {d : Y → List Token} (c : Z → List Token)
@@ -110,6 +109,22 @@ into_front {z} {c = c} i = record {
       let n : length l.front ≤ length w = omega (arith, length-append l.front l.back, ap length l.whole) in
       reread (λ u m. record { front = u; back = []; one = l.one; two = None; whole = sym (append-nil u); left = m; right = inr (record { whole = refl; made = refl }); made = l.made })
       (retold (ap c (sym l.made)) (shorter n p));
+}
+
+-- what may stand between two parts is left out, where the value doesn't tell it
+pub into_both : {z : Setting} {X Y Z A : Type 0} {f : X → Option A × Y → Z} {p h : Gram X} {q : Gram A} {r k : Gram Y} {b : X → List Token} {d : Y → List Token} (c : Z → List Token)
+    → Into z p h b → Into z r k d → ((x : X) (o : Option A) (y : Y) → f x (o, y) ≡ f x (None, y)) → ((x : X) (y : Y) → b x ++ d y ≡ c (f x (None, y))) → Into z (seq f p (seq pair (optional q) r)) (seq f h (seq pair (optional q) k)) c
+into_both {z} {X} {Y} {A = A} {f = f} {h = h} {q = q} {k = k} c i j same e = record {
+  into = λ w x l a.
+      let g = subst (AllGood z.good) l.whole a in
+      let m = l.right in
+      let u = i.into l.front l.one l.left (good_front z.good l.front l.back g) in
+      let v = j.into m.back m.two m.right (good_back z.good m.front m.back (subst (AllGood z.good) m.whole (good_back z.good l.front l.back g))) in
+      let made : x ≡ f l.one (None, m.two) = l.made ∙ ap (f l.one) m.made ∙ same l.one m.one m.two in
+      let n : length l.front + length m.back ≤ length w = omega (arith, length-append l.front l.back, ap length l.whole, length-append m.front m.back, ap length m.whole) in
+      let back : Printed z.good (said z (seq pair (optional q) k)) (None, m.two) _ (length m.back) =
+      reread (λ t s. record { front = []; back = t; one = None; two = m.two; whole = refl; left = inr (record { whole = refl; made = refl }); right = s; made = refl }) v in
+      subst (λ y. Printed z.good (said z (seq f h (seq pair (optional q) k))) y (c y) (length w)) (sym made) (retold (e l.one m.two) (shorter n (joined f u back)));
 }
 
 -- a token before the printed word is left out
@@ -144,6 +159,14 @@ ahead_right i = record { into = λ w x l a. reread (λ u m. inr m) (i.into w x l
 -- a choice behind a word is a choice of both
 pub seq_or : {z : Setting} {X Y Z : Type 0} {f : X → Y → Z} {p : Gram X} {q r : Gram Y} {h : Gram Z} {c : Z → List Token} → Into z (seq f p q) h c → Into z (seq f p r) h c → Into z (seq f p (or q r)) h c
 seq_or i j = record {
+  into = λ w x l a. elim l.right [
+    | inl m ↦ i.into w x (record { front = l.front; back = l.back; one = l.one; two = l.two; whole = l.whole; left = l.left; right = m; made = l.made }) a
+    | inr m ↦ j.into w x (record { front = l.front; back = l.back; one = l.one; two = l.two; whole = l.whole; left = l.left; right = m; made = l.made }) a
+  ];
+}
+
+pub seq_ahead : {z : Setting} {X Y Z : Type 0} {f : X → Y → Z} {ones twos : List ℕ} {p : Gram X} {q r : Gram Y} {h : Gram Z} {c : Z → List Token} → Into z (seq f p q) h c → Into z (seq f p r) h c → Into z (seq f p (ahead ones twos q r)) h c
+seq_ahead i j = record {
   into = λ w x l a. elim l.right [
     | inl m ↦ i.into w x (record { front = l.front; back = l.back; one = l.one; two = l.two; whole = l.whole; left = l.left; right = m; made = l.made }) a
     | inr m ↦ j.into w x (record { front = l.front; back = l.back; one = l.one; two = l.two; whole = l.whole; left = l.left; right = m; made = l.made }) a

@@ -1,15 +1,10 @@
 -- The parts of statements go over into printed ones.
-use Rattle.std.proofs.Common.{◌≡◌, inl, inr, ℕ, Bool, true, false, List, [], ◌∷◌, ◌++◌, Option, Some, None, refl, sym, ap, subst, ◌∙◌}
-use Rattle.psm_token.specs.declared.place.Place.{Place}
+use Rattle.std.proofs.Common.{◌≡◌, List, [], ◌++◌, refl, sym, ap, subst, ◌∙◌}
 use Rattle.psm_token.specs.declared.word.Word.TheVariants as w
 use Rattle.psm_token.specs.declared.sign.Sign.TheVariants as s
 use Rattle.psm_token.specs.declared.token.Token.{Token}
-use Rattle.psm_token.specs.declared.token.Token.TheVariants as t
-use Rattle.psm_grammar.specs.Grammar.{token}
-use Rattle.psm_tree.specs.ExprGrammar.{targets}
 use Rattle.psm_tree.specs.StatementValues.{condition_diagnostics}
-use Rattle.psm_tree.specs.StatementGrammar.{state_text, state, direction, column_order, next_column_orders, order, ordered_select, message, signalled, state_signalled, name_signalled, current, which_rows, where_part, values, more_values, insert_source, assignment, next_assignments, statement_info, next_statement_infos, condition_info, next_condition_infos, condition_number, exception_diagnostics, diagnostics, for_state, insert_values, read_only_part, updatability, insensitive, atomic, handler_value, next_handler_values}
-use Rattle.psm_tree.specs.declared.statement.Signalled.{Signalled}
+use Rattle.psm_tree.specs.StatementGrammar.{state, direction, column_order, order, ordered_select, message, signalled, state_signalled, name_signalled, current, where_part, values, insert_source, assignment, statement_info, condition_info, condition_number, exception_diagnostics, diagnostics, for_state, insert_values, read_only_part, updatability, insensitive, atomic, handler_value}
 use Rattle.psm_tree.specs.declared.statement.Updatability.{Updatability}
 use Rattle.psm_tree.specs.declared.statement.ConditionInformation.{ConditionInformation}
 use Rattle.psm_tree.specs.declared.statement.ConditionNumber.{ConditionNumber}
@@ -19,10 +14,10 @@ use Rattle.psm_tree.specs.declared.statement.InsertSource.{InsertSource}
 use Rattle.psm_tree.specs.declared.statement.InsertSource.TheVariants as inserted
 use Rattle.psm_tree.specs.declared.statement.Where.{Where}
 use Rattle.psm_tree.specs.declared.statement.Where.TheVariants as wheres
-use Rattle.psm_print.specs.ExprTokens.{word, sign, perhaps, each, in_parens, name_tokens, target_tokens, number_tokens, expr_tokens, select_tokens}
+use Rattle.psm_print.specs.ExprTokens.{word, sign, each, name_tokens, target_tokens, expr_tokens}
 use Rattle.psm_print.specs.StatementTokens.{state_tokens, direction_tokens, column_order_tokens, order_tokens, ordered_query_tokens, condition_tokens, signalled_tokens, where_tokens, values_tokens, insert_source_tokens, assignment_tokens, statement_item_tokens, condition_item_tokens, statement_info_tokens, condition_info_tokens, condition_number_tokens, diagnostics_tokens, updatability_tokens, insensitive_tokens, handler_value_tokens, atomic_tokens}
-use Rattle.psm_print.proofs.Regrouped.{left3, left4}
-use Rattle.psm_print.proofs.Into.{Setting, Into, into_told, into_told_if, into_seq, left_out, or_from, or_left, or_right, into_or, into_gone, into_image, into_nothing, into_perhaps, into_each}
+use Rattle.psm_print.proofs.Regrouped.{left3}
+use Rattle.psm_print.proofs.Into.{Setting, Into, into_told, into_told_if, into_seq, left_out, or_from, or_right, into_or, into_gone, into_image, into_nothing, into_perhaps, into_each}
 use Rattle.psm_print.proofs.Tokens.{into_word, into_sign, behind_word, behind_sign, into_closed}
 use Rattle.psm_print.proofs.Chosen.{into_name, into_number, into_text, into_statement_item, into_condition_item, into_exception}
 use Rattle.psm_print.proofs.TypesInto.{target_into}

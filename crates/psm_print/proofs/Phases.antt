@@ -1,5 +1,5 @@
 -- The rest of a block declares what its phase lets it declare, and nothing else.
-use Rattle.std.proofs.Common.{◌≡◌, inl, inr, ℕ, zero, suc, List, [], Option, refl, sym, ap, subst, ◌∙◌}
+use Rattle.std.proofs.Common.{inl, inr, ℕ, zero, suc, List, refl, sym, subst}
 use Rattle.psm_token.specs.declared.place.Place.{Place}
 use Rattle.psm_token.specs.declared.token.Placed.{Placed}
 use Rattle.psm_grammar.specs.Language.{Words, Lang}
@@ -8,8 +8,8 @@ use Rattle.psm_tree.specs.Kinds.{kind}
 use Rattle.psm_tree.specs.Tests.{At}
 use Rattle.psm_tree.specs.Parts.{Phase, Declarations, Cursors, Handlers, BodyRest, DeclareRest, NamedRest, Variables, Condition, Cursor, Declared, Named, Handled, HandlerParts, Body, Part, V}
 use Rattle.psm_tree.specs.Productions.{productions}
-use Rattle.psm_tree.specs.StatementValues.{undeclared, with_declared, declared, named_rest}
-use Rattle.psm_tree.specs.StatementGrammar.{declaration_rest, cursor_rest, body_rest, declared_handler, declared_cursor, declared_variables, declare_rest}
+use Rattle.psm_tree.specs.StatementValues.{undeclared, with_declared}
+use Rattle.psm_tree.specs.StatementGrammar.{declaration_rest, body_rest, declared_handler, declared_cursor, declared_variables, declare_rest}
 use Rattle.psm_tree.specs.declared.name.Identifier.{Identifier}
 use Rattle.psm_tree.specs.declared.statement.Statement.{Statement}
 use Rattle.psm_tree.specs.declared.statement.HandlerKind.{HandlerKind}
@@ -37,6 +37,11 @@ handled_ordered Declarations k p b h = h
 handled_ordered Cursors k p b h = h
 handled_ordered Handlers k p b h = h
 
+pub only_comes : (x : NamedRest) (b : Body) → OnlyCursor x b → Comes x b
+only_comes (Cursor insensitive query updatability) b h = h
+only_comes (Variables others kind default) b h = tt
+only_comes (Condition state) b h = tt
+
 module _ (inner same : (n : Part) → Lang Placed (V n)) (d : ℕ) (known : (n : Part) (w : Words Placed) (x : V n) → same n w x → Shaped n x) where
   body_shaped : (phase : Phase) (w : Words Placed) (x : Body) → lang inner same d (body_rest phase) w x → Late phase x
   body_shaped phase w x (inl l) = subst (Late phase) (sym l.made) (late_declared phase l.one l.two.0 l.two.1 (known (DeclareRest phase) l.back l.two l.right))
@@ -53,11 +58,6 @@ module _ (inner same : (n : Part) → Lang Placed (V n)) (d : ℕ) (known : (n :
       let h : Late Cursors l.two = subst (Late Cursors) (sym l.right.made) (known (BodyRest Cursors) l.right.back l.right.two l.right.right) in
       let o : OnlyCursor l.one l.two = subst (λ y. OnlyCursor y l.two) (sym l.left.made) h in
       subst (λ (p : NamedRest × Body). OnlyCursor p.0 p.1) (sym l.made) o
-
-  only_comes : (x : NamedRest) (b : Body) → OnlyCursor x b → Comes x b
-  only_comes (Cursor insensitive query updatability) b h = h
-  only_comes (Variables others kind default) b h = tt
-  only_comes (Condition state) b h = tt
 
   variables_come : (w : Words Placed) (x : NamedRest) (b : Body) → lang inner same d declaration_rest w x → Comes x b
   variables_come w x b (inl l) = subst (λ y. Comes y b) (sym l.made) tt

@@ -1,6 +1,6 @@
 -- Queries, and what stands behind the opening token of an expression, go over into printed ones.
-use Rattle.std.proofs.Common.{◌≡◌, inl, inr, ℕ, ◌+◌, ◌≤◌, Bool, List, [], ◌∷◌, ◌++◌, length, Option, Some, None, refl, sym, ap, subst, ◌∙◌}
-use Rattle.std.proofs.lemmas.List.{append_assoc, append-nil, length-append}
+use Rattle.std.proofs.Common.{◌≡◌, inl, inr, ℕ, ◌≤◌, List, [], ◌∷◌, ◌++◌, length, Option, Some, None, refl, sym, ap, subst, ◌∙◌}
+use Rattle.std.proofs.lemmas.List.{length-append}
 use native.Mathlib.Omega.{arith}
 use Rattle.psm_token.specs.declared.place.Place.{Place}
 use Rattle.psm_token.specs.declared.word.Word.TheVariants as w
@@ -10,9 +10,9 @@ use Rattle.psm_token.specs.declared.token.Token.TheVariants as t
 use Rattle.psm_token.specs.declared.token.Placed.{Placed}
 use Rattle.psm_grammar.specs.Language.{Words}
 use Rattle.psm_grammar.specs.Grammar.{or, ahead, image}
-use Rattle.psm_tree.specs.Parts.{Enclosed, Arguments, ExistsRest, CaseRest, CastRest, CoalesceRest, NullIfRest, FunctionRest, PositionRest, SubstringRest, TrimRest}
+use Rattle.psm_tree.specs.Parts.{Enclosed, Arguments, ExistsRest, CastRest, CoalesceRest, NullIfRest, FunctionRest, PositionRest, SubstringRest, TrimRest}
 use Rattle.psm_tree.specs.ExprValues.{both_sides, Whens, From, Item, Plain, Rows, Aggregate, pick_of, count_of}
-use Rattle.psm_tree.specs.ExprGrammar.{Gram, closed, expr, counted, count, aggregate, item, alias, pick, next_picks, picks, from_table, select, enclosed, arguments, exists_rest, when, next_whens, whens, case_rest, cast_rest, coalesce_rest, nullif_rest, function_rest, position_rest, substring_rest, sided, trim_rest}
+use Rattle.psm_tree.specs.ExprGrammar.{Gram, closed, expr, counted, item, alias, pick, picks, from_table, select, enclosed, arguments, exists_rest, when, whens, case_rest, cast_rest, coalesce_rest, nullif_rest, function_rest, position_rest, substring_rest, sided, trim_rest}
 use Rattle.psm_tree.specs.declared.name.Identifier.{Identifier}
 use Rattle.psm_tree.specs.declared.expr.Expr.{Expr}
 use Rattle.psm_tree.specs.declared.expr.TrimSide.{TrimSide}
@@ -21,7 +21,7 @@ use Rattle.psm_print.specs.ExprTokens.{word, sign, perhaps, each, in_parens, nam
 use Rattle.psm_print.specs.Printed.{AllGood, Printed}
 use Rattle.psm_print.specs.PartTokens.{when_tokens, inside_tokens, cases_tokens, part_tokens}
 use Rattle.psm_print.proofs.Regrouped.{left3, left4, left5}
-use Rattle.psm_print.proofs.Into.{Setting, Into, said, good_back, retold, shorter, reread, into_told, into_seq, left_out, or_from, or_left, or_right, into_or, ahead_from, ahead_right, into_image, into_nothing, into_perhaps, into_each}
+use Rattle.psm_print.proofs.Into.{Setting, Into, said, good_back, retold, shorter, reread, into_seq, left_out, or_from, or_left, or_right, into_or, into_image, into_nothing, into_perhaps, into_each}
 use Rattle.psm_print.proofs.Tokens.{into_word, into_sign, behind_word, behind_sign, before_word, into_closed, into_parens}
 use Rattle.psm_print.proofs.Chosen.{into_name, into_set_function, side_word, into_side}
 use Rattle.psm_print.proofs.TypesInto.{data_type_into}

@@ -11,12 +11,3 @@ module _ {A : Type 0} where
 
   pub left5 : (a b c d e : List A) → a ++ (b ++ (c ++ (d ++ e))) ≡ a ++ b ++ c ++ d ++ e
   left5 a b c d e = left4 a b c (d ++ e) ∙ left3 (a ++ b ++ c) d e
-
-  pub left6 : (a b c d e f : List A) → a ++ (b ++ (c ++ (d ++ (e ++ f)))) ≡ a ++ b ++ c ++ d ++ e ++ f
-  left6 a b c d e f = left5 a b c d (e ++ f) ∙ left3 (a ++ b ++ c ++ d) e f
-
-  pub left7 : (a b c d e f g : List A) → a ++ (b ++ (c ++ (d ++ (e ++ (f ++ g))))) ≡ a ++ b ++ c ++ d ++ e ++ f ++ g
-  left7 a b c d e f g = left6 a b c d e (f ++ g) ∙ left3 (a ++ b ++ c ++ d ++ e) f g
-
-  pub left8 : (a b c d e f g h : List A) → a ++ (b ++ (c ++ (d ++ (e ++ (f ++ (g ++ h)))))) ≡ a ++ b ++ c ++ d ++ e ++ f ++ g ++ h
-  left8 a b c d e f g h = left7 a b c d e f (g ++ h) ∙ left3 (a ++ b ++ c ++ d ++ e ++ f) g h

@@ -1,13 +1,12 @@
 -- Simple statements go over into printed ones.
-use Rattle.std.proofs.Common.{◌≡◌, List, [], ◌∷◌, ◌++◌, Option, refl}
+use Rattle.std.proofs.Common.{[], ◌++◌, refl}
 use Rattle.psm_token.specs.declared.word.Word.TheVariants as w
 use Rattle.psm_token.specs.declared.sign.Sign.TheVariants as s
-use Rattle.psm_token.specs.declared.token.Token.{Token}
 use Rattle.psm_tree.specs.StatementGrammar.{set_statement, call_statement, return_statement, leave_statement, iterate_statement, signal_statement, resignalled, resignal_statement, diagnostics_statement, into_targets, select_statement, insert_statement, assignments, update_statement, delete_statement, open_statement, fetched, fetch_rest, fetch_statement, close_statement, data_statement, simple}
 use Rattle.psm_print.specs.ExprTokens.{word, sign, perhaps, each, in_parens, name_tokens, target_tokens, names_tokens, targets_tokens, expr_tokens, listed_tokens, picks_tokens}
 use Rattle.psm_print.specs.StatementTokens.{signalled_tokens, where_tokens, insert_source_tokens, assignment_tokens, simple_tokens}
 use Rattle.psm_print.proofs.Regrouped.{left3, left4}
-use Rattle.psm_print.proofs.Into.{Setting, Into, into_seq, left_out, or_from, or_left, or_right, into_or, ahead_from, ahead_right, into_image, into_nothing, into_perhaps, into_each}
+use Rattle.psm_print.proofs.Into.{Setting, Into, into_seq, left_out, or_from, or_right, into_or, ahead_from, ahead_right, into_image, into_nothing, into_perhaps, into_each}
 use Rattle.psm_print.proofs.Tokens.{into_word, behind_word, behind_sign}
 use Rattle.psm_print.proofs.Chosen.{into_name}
 use Rattle.psm_print.proofs.TypesInto.{target_into, names_in_parens_into, targets_into}

@@ -1,18 +1,18 @@
 -- Statements, and what stands behind their opening words, go over into printed ones.
-use Rattle.std.proofs.Common.{◌≡◌, List, [], ◌∷◌, ◌++◌, Option, Some, None, refl, sym, ap, ◌∙◌}
+use Rattle.std.proofs.Common.{◌≡◌, List, [], ◌++◌, Option, Some, None, refl, sym, ap, ◌∙◌}
 use Rattle.std.proofs.lemmas.List.{append_assoc, append-nil}
 use native.Mathlib.Omega.{arith}
 use Rattle.psm_token.specs.declared.word.Word.TheVariants as w
 use Rattle.psm_token.specs.declared.sign.Sign.TheVariants as s
 use Rattle.psm_token.specs.declared.token.Token.{Token}
-use Rattle.psm_tree.specs.Parts.{Statements, Branches, BeginRest, LoopRest, WhileRest, RepeatRest, ForRest, IfRest, CaseStatementRest, HandlerRest}
+use Rattle.psm_tree.specs.Parts.{Statements, BeginRest, LoopRest, WhileRest, RepeatRest, ForRest, CaseStatementRest}
 use Rattle.psm_tree.specs.StatementValues.{Block, Compound, Loop, While, Repeat, For, block_with, listed}
-use Rattle.psm_tree.specs.StatementGrammar.{block, labelled_block, statement, ended_statement, ended_statements, statements, branch, otherwise_statements, elseif_branches, if_end, if_rest, when_branches, case_end, case_branches, case_statement_rest, loop_rest, while_body, while_rest, until, repeat_rest, for_cursor_part, for_body, for_rest, handler_rest}
+use Rattle.psm_tree.specs.StatementGrammar.{block, labelled_block, statement, ended_statement, ended_statements, statements, branch, if_end, if_rest, case_end, case_branches, case_statement_rest, loop_rest, while_rest, repeat_rest, for_cursor_part, for_rest, handler_rest}
 use Rattle.psm_tree.specs.declared.statement.Label.{Label}
 use Rattle.psm_print.specs.ExprTokens.{word, sign, perhaps, each, name_tokens, expr_tokens}
-use Rattle.psm_print.specs.StatementTokens.{ordered_query_tokens, insensitive_tokens, declaration_tokens, cursor_tokens, for_cursor_tokens, handler_value_tokens, start_tokens, end_tokens, atomic_tokens, ended, statement_tokens}
+use Rattle.psm_print.specs.StatementTokens.{ordered_query_tokens, declaration_tokens, cursor_tokens, for_cursor_tokens, handler_value_tokens, start_tokens, end_tokens, atomic_tokens, ended, statement_tokens}
 use Rattle.psm_print.specs.PartTokens.{else_tokens, branch_tokens, handler_tokens, handler_parts_tokens, block_tokens, for_tokens, if_tokens, case_tokens, part_tokens}
-use Rattle.psm_print.proofs.Regrouped.{left3, left4}
+use Rattle.psm_print.proofs.Regrouped.{left4}
 use Rattle.psm_print.proofs.Equations.{tokens-Compound, tokens-Loop, tokens-While, tokens-Repeat, tokens-For, tokens-If, tokens-CaseStatement}
 use Rattle.psm_print.proofs.Into.{Setting, Into, into_told, into_seq, into_or, into_image, into_perhaps, into_each, into_ended}
 use Rattle.psm_print.proofs.Tokens.{says_word, into_level, behind_word, behind_sign, before_word, before_sign}

@@ -1,6 +1,6 @@
 -- Single tokens go over into printed ones, and so do the tokens before what nonterminals stand for.
-use Rattle.std.proofs.Common.{◌≡◌, ℕ, ◌+◌, ◌≤◌, Bool, true, false, List, [], ◌∷◌, ◌++◌, map, length, refl, sym, ap, subst, ◌∙◌, if◌then◌else◌}
-use Rattle.std.proofs.lemmas.List.{map-append, length-append}
+use Rattle.std.proofs.Common.{◌≡◌, ℕ, suc, ◌+◌, ◌≤◌, true, false, List, [], ◌∷◌, ◌++◌, length, refl, sym, ap, subst, if◌then◌else◌}
+use Rattle.std.proofs.lemmas.List.{length-append}
 use Rattle.std.proofs.lemmas.Bool.{eq-eqb}
 use native.Mathlib.Omega.{arith}
 use Rattle.psm_token.specs.declared.place.Place.{Place}
@@ -9,18 +9,18 @@ use Rattle.psm_token.specs.declared.sign.Sign.{Sign}
 use Rattle.psm_token.specs.declared.token.Token.{Token}
 use Rattle.psm_token.specs.declared.token.Token.TheVariants as t
 use Rattle.psm_token.specs.declared.token.Placed.{Placed}
-use Rattle.psm_grammar.specs.Language.{Words, Lang, has, Test, Token as OneToken}
-use Rattle.psm_grammar.specs.Grammar.{Grammar, token, level, next, seq, lang}
-use Rattle.psm_grammar.specs.Forms.{earlier, later, behind_token, before_token}
+use Rattle.psm_grammar.specs.Language.{Words, Lang, has, Test, Token as OneToken, Seq}
+use Rattle.psm_grammar.specs.Grammar.{token, level, next}
+use Rattle.psm_grammar.specs.Forms.{behind_token, before_token}
 use Rattle.psm_tree.specs.Kinds.{code, sign_code, token_kind, kind}
 use Rattle.psm_tree.specs.Tests.{word, sign}
 use Rattle.psm_tree.specs.Parts.{Part, V}
 use Rattle.psm_token.specs.declared.sign.Sign.TheVariants as s
 use Rattle.psm_tree.specs.ExprGrammar.{Gram, closed, within_parens}
 use Rattle.psm_print.specs.ExprTokens.{in_parens}
-use Rattle.psm_print.specs.Printed.{AllGood, Kept, Printed}
+use Rattle.psm_print.specs.Printed.{AllGood, Printed}
 use Rattle.psm_print.specs.PartTokens.{part_tokens, Shaped}
-use Rattle.psm_print.proofs.Into.{Setting, Into, Claim, said, into_seq, joined, good_front, good_back, retold, shorter, reread}
+use Rattle.psm_print.proofs.Into.{Setting, Claim, Into, into_seq, joined, good_front, good_back, retold, shorter}
 
 abbrev pub placed_at : Place → Token → Placed
 placed_at p t = record { token = t; place = p }
@@ -54,29 +54,23 @@ into_token {z} s = record { into = token_into s z.depth }
 
 -- ---- levels
 
+-- a token and a word of what stands behind it
+behind_into : {z : Setting} {A Y : Type 0} {n : Part} {from : Test Placed A} {f : A → V n → Y} {tok : A → Token} (c : Y → List Token) → Says z from from tok → (L : (n : Part) → Lang Placed (V n)) → Claim z.good L
+    → ((a : A) (u : Words Placed) (y : V n) → L n u y → tok a ∷ part_tokens n y ≡ c (f a y)) → (d : ℕ) (w : Words Placed) (x : Y) → Seq f (OneToken kind from d) (L n) w x → AllGood z.good w → Printed z.good (Seq f (OneToken kind from d) (L n)) x (c x) (length w)
+behind_into {z} {n = n} {from = from} {f = f} c s L printed e d w x l a =
+    let g = subst (AllGood z.good) l.whole a in
+    let p = token_into s d l.front l.one l.left (good_front z.good l.front l.back g) in
+    let q = printed n l.back l.two l.right (good_back z.good l.front l.back g) in
+    let m : length l.front + length l.back ≤ length w = omega (arith, length-append l.front l.back, ap length l.whole) in
+    subst (λ v. Printed z.good (Seq f (OneToken kind from d) (L n)) v (c v) (length w)) (sym l.made) (retold (e l.one l.back l.two l.right) (shorter m (joined f p q)))
+
 pub into_level : {z : Setting} {A Y : Type 0} {n : Part} {from : Test Placed A} {f : A → V n → Y} {tok : A → Token} (c : Y → List Token) → Says z from from tok
     → ((a : A) (y : V n) → tok a ∷ part_tokens n y ≡ c (f a y)) → Into z (level n from f) (level n from f) c
-into_level {z} {n = n} {f = f} c s e = record {
-  into = λ w x l a.
-      let g = subst (AllGood z.good) l.whole a in
-      let p = token_into s _ l.front l.one l.left (good_front z.good l.front l.back g) in
-      let q = z.inner_printed n l.back l.two l.right (good_back z.good l.front l.back g) in
-      let m : length l.front + length l.back ≤ length w = omega (arith, length-append l.front l.back, ap length l.whole) in
-      reread (λ u m. record { front = m.front; back = m.back; one = m.one; two = m.two; whole = m.whole; left = m.left; right = m.right; made = l.made ∙ m.made })
-      (retold (e l.one l.two ∙ ap c (sym l.made)) (shorter m (joined f p q)));
-}
+into_level {z} c s e = record { into = behind_into c s z.inner z.inner_printed (λ a u y m. e a y) (suc z.depth) }
 
 pub into_next : {z : Setting} {A Y : Type 0} {n : Part} {from : Test Placed A} {f : A → V n → Y} {tok : A → Token} (c : Y → List Token) → Says z from from tok
     → ((a : A) (y : V n) → Shaped n y → tok a ∷ part_tokens n y ≡ c (f a y)) → Into z (next n from f) (next n from f) c
-into_next {z} {n = n} {f = f} c s e = record {
-  into = λ w x l a.
-      let g = subst (AllGood z.good) l.whole a in
-      let p = token_into s _ l.front l.one l.left (good_front z.good l.front l.back g) in
-      let q = z.same_printed n l.back l.two l.right (good_back z.good l.front l.back g) in
-      let m : length l.front + length l.back ≤ length w = omega (arith, length-append l.front l.back, ap length l.whole) in
-      reread (λ u m. record { front = m.front; back = m.back; one = m.one; two = m.two; whole = m.whole; left = m.left; right = m.right; made = l.made ∙ m.made })
-      (retold (e l.one l.two (z.shaped n l.back l.two l.right) ∙ ap c (sym l.made)) (shorter m (joined f p q)));
-}
+into_next {z} {n = n} c s e = record { into = behind_into c s z.same z.same_printed (λ a u y m. e a y (z.shaped n u y m)) z.depth }
 
 -- ---- words and signs
 

@@ -1,23 +1,21 @@
 -- Names, types and constants go over into printed ones.
-use Rattle.std.proofs.Common.{◌≡◌, inl, inr, ℕ, List, [], ◌∷◌, ◌++◌, Option, Some, None, refl, sym, ap, ◌∙◌}
+use Rattle.std.proofs.Common.{◌≡◌, inl, inr, List, [], ◌++◌, Option, Some, None, refl, sym, ap, ◌∙◌}
 use Rattle.psm_num.specs.Num.{Num}
 use Rattle.psm_token.specs.declared.place.Place.{Place}
 use Rattle.psm_token.specs.declared.word.Word.TheVariants as w
 use Rattle.psm_token.specs.declared.sign.Sign.TheVariants as s
 use Rattle.psm_token.specs.declared.token.Token.{Token}
-use Rattle.psm_token.specs.declared.token.Token.TheVariants as t
 use Rattle.psm_token.specs.declared.token.Placed.{Placed}
 use Rattle.psm_grammar.specs.Language.{Words}
 use Rattle.psm_grammar.specs.Grammar.{token, seq}
 use Rattle.psm_tree.specs.Tests.{At, char_word}
 use Rattle.psm_tree.specs.ExprValues.{formed, precision_of}
 use Rattle.psm_tree.specs.ExprGrammar.{target, next_names, names, names_in_parens, targets, type_length, precision, numeric_type, varchar_type, plain_type, varying, char_length, char_type, data_type, constant}
-use Rattle.psm_tree.specs.declared.types.Precision.{Precision}
 use Rattle.psm_tree.specs.declared.types.TypeForm.{TypeForm}
 use Rattle.psm_tree.specs.declared.types.TypeForm.TheVariants as forms
 use Rattle.psm_print.specs.ExprTokens.{word, sign, perhaps, each, in_parens, name_tokens, target_tokens, names_tokens, targets_tokens, number_tokens, precision_tokens, length_tokens, type_tokens, constant_tokens}
 use Rattle.psm_print.proofs.Into.{Setting, Into, said, into_seq, into_seq_if, left_out, or_from, or_left, or_right, into_or, seq_or, into_image, into_nothing, into_perhaps, into_each}
-use Rattle.psm_print.proofs.Tokens.{into_word, behind_word, behind_sign, into_parens}
+use Rattle.psm_print.proofs.Tokens.{into_word, behind_sign, into_parens}
 use Rattle.psm_print.proofs.Chosen.{into_name, into_number, into_text, into_plus_minus, into_integer, into_numeric, into_char, char_into_varchar}
 
 -- ---- names
@@ -54,7 +52,7 @@ numeric_into : {z : Setting} → Into z numeric_type numeric_type type_tokens
 numeric_into = into_seq type_tokens into_numeric (into_perhaps [] precision_tokens precision_into (λ x. refl)) (λ x y. refl)
 
 -- the length behind CHAR or VARCHAR
-abbrev rest_tokens : TypeForm → List Token
+abbrev pub rest_tokens : TypeForm → List Token
 rest_tokens (forms.VarChar length) = length_tokens length
 rest_tokens (forms.Char length) = perhaps [] length_tokens length
 rest_tokens _ = []
@@ -62,13 +60,13 @@ rest_tokens _ = []
 abbrev IsVarChar : TypeForm → Type 0
 IsVarChar form = (n : Num) × (form ≡ forms.VarChar n)
 
-abbrev IsChar : TypeForm → Type 0
+abbrev pub IsChar : TypeForm → Type 0
 IsChar form = (n : Option Num) × (form ≡ forms.Char n)
 
 varchar_told : (place : Place) (form : TypeForm) → IsVarChar form → word w.VarChar ++ rest_tokens form ≡ type_tokens (formed place form)
 varchar_told place form h = ap (λ f. word w.VarChar ++ rest_tokens f) h.1 ∙ ap (λ f. type_tokens (formed place f)) (sym h.1)
 
-char_told : (place : Place) (form : TypeForm) → IsChar form → word w.Char ++ rest_tokens form ≡ type_tokens (formed place form)
+pub char_told : (place : Place) (form : TypeForm) → IsChar form → word w.Char ++ rest_tokens form ≡ type_tokens (formed place form)
 char_told place form h = ap (λ f. word w.Char ++ rest_tokens f) h.1 ∙ ap (λ f. type_tokens (formed place f)) (sym h.1)
 
 varchar_into : {z : Setting} → Into z varchar_type varchar_type type_tokens

@@ -1,5 +1,5 @@
 -- The tokens that are printed for module files: of each tree the shortest of its spellings.
-use Rattle.std.specs.Prelude.{Bool, List, [], ◌∷◌, ◌++◌, Option, Some, None, if◌then◌else◌, nat_eq, ◌&&◌}
+use Rattle.std.specs.Prelude.{Bool, true, List, [], ◌∷◌, ◌++◌, Option, Some, None, nat_eq, ◌&&◌}
 use Rattle.psm_token.specs.declared.place.Place.{Place}
 use Rattle.psm_token.specs.declared.word.Word.TheVariants as w
 use Rattle.psm_token.specs.declared.sign.Sign.TheVariants as s
@@ -62,9 +62,13 @@ mode_tokens modes.In = word w.In
 mode_tokens modes.Out = word w.Out
 mode_tokens modes.InOut = word w.InOut
 
--- the mode, which is left out where no token of the source said it
+-- the mode, which is left out where no token of the source said it: IN, at the place of the name
+abbrev pub said_tokens : Mode → Bool → List Token
+said_tokens modes.In true = []
+said_tokens mode same = mode_tokens mode
+
 abbrev pub said_mode_tokens : Parameter → List Token
-said_mode_tokens p = if same_place p.place p.name.place then [] else mode_tokens p.mode
+said_mode_tokens p = said_tokens p.mode (same_place p.place p.name.place)
 
 abbrev pub parameter_tokens : Parameter → List Token
 parameter_tokens p = said_mode_tokens p ++ name_tokens p.name ++ type_tokens p.kind
