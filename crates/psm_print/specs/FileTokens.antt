@@ -23,7 +23,7 @@ use Rattle.psm_tree.specs.declared.file.NoteForm.{NoteForm}
 use Rattle.psm_tree.specs.declared.file.NoteForm.TheVariants as notes
 use Rattle.psm_tree.specs.declared.file.Note.{Note}
 use Rattle.psm_tree.specs.declared.file.Routine.{Routine}
-use Rattle.psm_print.specs.ExprTokens.{word, sign, perhaps, each, in_parens, name_tokens, names_tokens, type_tokens, constant_tokens, expr_tokens}
+use Rattle.psm_print.specs.ExprTokens.{word, sign, perhaps, each, listed, in_parens, name_tokens, names_tokens, type_tokens, constant_tokens, expr_tokens}
 use Rattle.psm_print.specs.StatementTokens.{ended, statement_tokens}
 
 -- ---- tables
@@ -74,8 +74,7 @@ abbrev pub parameter_tokens : Parameter → List Token
 parameter_tokens p = said_mode_tokens p ++ name_tokens p.name ++ type_tokens p.kind
 
 abbrev pub parameters_tokens : List Parameter → List Token
-parameters_tokens [] = []
-parameters_tokens (p ∷ ps) = parameter_tokens p ++ each (sign s.Comma) parameter_tokens ps
+parameters_tokens ps = listed parameter_tokens ps
 
 abbrev pub note_form_tokens : NoteForm → List Token
 note_form_tokens notes.Language = word w.Language ++ word w.Sql

@@ -4,6 +4,7 @@ use Rattle.psm_token.specs.declared.word.Word.TheVariants as w
 use Rattle.psm_token.specs.declared.sign.Sign.TheVariants as s
 use Rattle.psm_token.specs.declared.token.Token.{Token}
 use Rattle.psm_token.specs.declared.token.Token.TheVariants as t
+use Rattle.psm_tree.specs.declared.name.Identifier.{Identifier}
 use Rattle.psm_tree.specs.declared.types.State.{State}
 use Rattle.psm_tree.specs.declared.statement.Statement.{Statement, Row_of-Statement, end_of-Statement, more_of-Statement, Row_of-Handler, end_of-Handler, more_of-Handler, Row_of-Branch, end_of-Branch, more_of-Branch}
 use Rattle.psm_tree.specs.declared.statement.Statement.TheVariants as statements
@@ -196,6 +197,10 @@ atomic_tokens false = []
 abbrev pub ended : {A : Type 0} → (A → List Token) → List A → List Token
 ended tokens [] = []
 ended tokens (a ∷ rest) = (tokens a ++ sign s.Semicolon) ++ ended tokens rest
+
+-- what stands behind FOR, up to DO
+abbrev pub for_head_tokens : Identifier → Option ForCursor → OrderedQuery → List Token
+for_head_tokens name cursor query = name_tokens name ++ word w.As ++ perhaps [] for_cursor_tokens cursor ++ ordered_query_tokens query ++ word w.Do
 
 abbrev mutual
   pub statement_tokens : Statement → List Token

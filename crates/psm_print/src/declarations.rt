@@ -101,12 +101,13 @@ fn cursor(out: &mut Writer, cursor: &CursorDeclaration) -> Result<(), AllocError
     out.word(Word::For)?;
     ordered_query(out, &cursor.query)?;
     match cursor.updatability {
-        None => Ok(()),
+        None => {}
         Some(says) => {
             out.word(Word::For)?;
-            updatability(out, says)
+            updatability(out, says)?;
         }
     }
+    Ok(())
 }
 
 /// Declarations of cursors, each with a semicolon behind it.

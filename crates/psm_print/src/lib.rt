@@ -5,6 +5,7 @@
 mod declarations;
 mod diagnostics;
 mod exprs;
+mod files;
 mod names;
 mod operators;
 mod parts;

@@ -1,7 +1,7 @@
 //! Statements that have statements, and handlers.
-ghost use Rattle.std.specs.Prelude.{◌≡◌, ◌++◌, IfOk};
-ghost use Rattle.psm_print.specs.ExprTokens.{word, each};
-ghost use Rattle.psm_print.specs.StatementTokens.{ended, statement_tokens};
+ghost use Rattle.std.specs.Prelude.{◌≡◌, ◌++◌, [], IfOk};
+ghost use Rattle.psm_print.specs.ExprTokens.{word, each, perhaps, expr_tokens};
+ghost use Rattle.psm_print.specs.StatementTokens.{ended, for_head_tokens, statement_tokens};
 ghost use Rattle.psm_print.specs.PartTokens.{else_tokens, branch_tokens, handler_tokens};
 
 use crate::declarations::{
@@ -14,7 +14,7 @@ use crate::simple::simple;
 use psm_list::List;
 use psm_spell::Writer;
 use psm_token::{Sign, Word};
-use psm_tree::{Branch, Handler, Statement};
+use psm_tree::{Branch, Expr, ForCursor, Handler, Identifier, OrderedQuery, Statement};
 use std::alloc::AllocError;
 
 /// A statement.
@@ -108,14 +108,7 @@ pub(crate) fn statement(out: &mut Writer, s: &Statement) -> Result<(), AllocErro
         } => {
             start_label(out, label)?;
             out.word(Word::For)?;
-            name(out, row)?;
-            out.word(Word::As)?;
-            match cursor {
-                None => {}
-                Some(cursor) => for_cursor(out, cursor)?,
-            }
-            ordered_query(out, query)?;
-            out.word(Word::Do)?;
+            for_head(out, row, cursor, query)?;
             statement(out, first.get())?;
             out.sign(Sign::Semicolon)?;
             statements(out, rest)?;
@@ -146,10 +139,7 @@ pub(crate) fn statement(out: &mut Writer, s: &Statement) -> Result<(), AllocErro
             ..
         } => {
             out.word(Word::Case)?;
-            match operand {
-                None => {}
-                Some(operand) => expr(out, operand)?,
-            }
+            perhaps_expr(out, operand)?;
             out.word(Word::When)?;
             branch(out, first.get())?;
             branches(out, rest, Word::When)?;
@@ -159,6 +149,35 @@ pub(crate) fn statement(out: &mut Writer, s: &Statement) -> Result<(), AllocErro
             Ok(())
         }
         Statement::Simple(alone) => simple(out, alone),
+    }
+}
+
+/// `name AS [cursor] query DO`.
+fn for_head(
+    out: &mut Writer,
+    row: &Identifier,
+    cursor: &Option<ForCursor>,
+    query: &OrderedQuery,
+) -> Result<(), AllocError>
+    ensures { IfOk result (λ _. out.new ≡ out.old ++ for_head_tokens row.now cursor.now query.now) }
+{
+    name(out, row)?;
+    out.word(Word::As)?;
+    match cursor {
+        None => {}
+        Some(cursor) => for_cursor(out, cursor)?,
+    }
+    ordered_query(out, query)?;
+    out.word(Word::Do)
+}
+
+/// The operand of CASE, where it has one.
+fn perhaps_expr(out: &mut Writer, operand: &Option<Expr>) -> Result<(), AllocError>
+    ensures { IfOk result (λ _. out.new ≡ out.old ++ perhaps [] expr_tokens operand.now) }
+{
+    match operand {
+        None => Ok(()),
+        Some(operand) => expr(out, operand),
     }
 }
 

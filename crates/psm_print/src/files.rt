@@ -1,0 +1,302 @@
+//! Module files: tables, routines and the module.
+ghost use Rattle.std.specs.Prelude.{◌≡◌, ◌++◌, [], IfOk};
+ghost use Rattle.psm_token.specs.declared.sign.Sign.TheVariants as s;
+ghost use Rattle.psm_token.specs.declared.word.Word.TheVariants as w;
+ghost use Rattle.psm_print.specs.ExprTokens.{word, sign, perhaps, each, in_parens, names_tokens, type_tokens, expr_tokens};
+ghost use Rattle.psm_print.specs.StatementTokens.{ended};
+ghost use Rattle.psm_print.specs.FileTokens.{column_rule_tokens, table_rule_tokens, element_tokens, table_tree_tokens, said_mode_tokens, parameter_tokens, parameters_tokens, note_tokens, kind_tokens, routine_tokens, module_tokens, file_tokens};
+
+use crate::exprs::expr;
+use crate::names::{constant, data_type, name, names};
+use crate::statements::statement;
+use psm_list::List;
+use psm_spell::Writer;
+use psm_token::{Sign, Word};
+use psm_tree::{
+    ColumnRule, ColumnRuleForm, DataType, Element, Expr, FileTree, Mode, Module, Names, Note,
+    NoteForm, Parameter, Routine, TableRule, TableRuleForm, TableTree,
+};
+use std::alloc::AllocError;
+
+/// An expression in parentheses.
+fn enclosed(out: &mut Writer, value: &Expr) -> Result<(), AllocError>
+    ensures { IfOk result (λ _. out.new ≡ out.old ++ in_parens (expr_tokens value.now)) }
+{
+    out.sign(Sign::LeftParen)?;
+    expr(out, value)?;
+    out.sign(Sign::RightParen)
+}
+
+/// Names in parentheses.
+fn enclosed_names(out: &mut Writer, columns: &Names) -> Result<(), AllocError>
+    ensures { IfOk result (λ _. out.new ≡ out.old ++ in_parens (names_tokens columns.now)) }
+{
+    out.sign(Sign::LeftParen)?;
+    names(out, columns)?;
+    out.sign(Sign::RightParen)
+}
+
+/// A rule of a column.
+fn column_rule(out: &mut Writer, rule: &ColumnRule) -> Result<(), AllocError>
+    ensures { IfOk result (λ _. out.new ≡ out.old ++ column_rule_tokens rule.now) }
+{
+    match &rule.form {
+        ColumnRuleForm::NotNull => {
+            out.word(Word::Not)?;
+            out.word(Word::Null)
+        }
+        ColumnRuleForm::PrimaryKey => {
+            out.word(Word::Primary)?;
+            out.word(Word::Key)
+        }
+        ColumnRuleForm::Unique => out.word(Word::Unique),
+        ColumnRuleForm::Check(test) => {
+            out.word(Word::Check)?;
+            enclosed(out, test)
+        }
+    }
+}
+
+/// A rule of a table.
+fn table_rule(out: &mut Writer, rule: &TableRule) -> Result<(), AllocError>
+    ensures { IfOk result (λ _. out.new ≡ out.old ++ table_rule_tokens rule.now) }
+{
+    match &rule.form {
+        TableRuleForm::PrimaryKey(columns) => {
+            out.word(Word::Primary)?;
+            out.word(Word::Key)?;
+            enclosed_names(out, columns)
+        }
+        TableRuleForm::Unique(columns) => {
+            out.word(Word::Unique)?;
+            enclosed_names(out, columns)
+        }
+        TableRuleForm::Check(test) => {
+            out.word(Word::Check)?;
+            enclosed(out, test)
+        }
+    }
+}
+
+/// The rules of a column.
+fn column_rules(out: &mut Writer, rules: &List<ColumnRule>) -> Result<(), AllocError>
+    ensures { IfOk result (λ _. out.new ≡ out.old ++ each [] column_rule_tokens rules.now) }
+{
+    for rule in rules.items() {
+        column_rule(out, rule)?;
+    }
+    Ok(())
+}
+
+/// A column or a rule.
+fn element(out: &mut Writer, element: &Element) -> Result<(), AllocError>
+    ensures { IfOk result (λ _. out.new ≡ out.old ++ element_tokens element.now) }
+{
+    match element {
+        Element::Column {
+            name: column,
+            kind,
+            default,
+            rules,
+        } => {
+            name(out, column)?;
+            data_type(out, kind)?;
+            match default {
+                None => {}
+                Some(value) => {
+                    out.word(Word::Default)?;
+                    constant(out, value)?;
+                }
+            }
+            column_rules(out, rules)
+        }
+        Element::Rule(rule) => table_rule(out, rule),
+    }
+}
+
+/// A table.
+fn table(out: &mut Writer, table: &TableTree) -> Result<(), AllocError>
+    ensures { IfOk result (λ _. out.new ≡ out.old ++ table_tree_tokens table.now) }
+{
+    out.word(Word::Create)?;
+    out.word(Word::Table)?;
+    name(out, &table.name)?;
+    out.sign(Sign::LeftParen)?;
+    element(out, &table.first)?;
+    elements(out, &table.rest)?;
+    out.sign(Sign::RightParen)
+}
+
+/// Elements, each behind a comma.
+fn elements(out: &mut Writer, elements: &List<Element>) -> Result<(), AllocError>
+    ensures { IfOk result (λ _. out.new ≡ out.old ++ each (sign s.Comma) element_tokens elements.now) }
+{
+    for next in elements.items() {
+        out.sign(Sign::Comma)?;
+        element(out, next)?;
+    }
+    Ok(())
+}
+
+/// The mode of a parameter, which is left out where it is IN and no token of the source said it.
+fn mode(out: &mut Writer, parameter: &Parameter) -> Result<(), AllocError>
+    ensures { IfOk result (λ _. out.new ≡ out.old ++ said_mode_tokens parameter.now) }
+{
+    match parameter.mode {
+        Mode::In => {
+            let place = parameter.place;
+            let own = parameter.name.place;
+            if place.line == own.line && place.column == own.column {
+                Ok(())
+            } else {
+                out.word(Word::In)
+            }
+        }
+        Mode::Out => out.word(Word::Out),
+        Mode::InOut => out.word(Word::InOut),
+    }
+}
+
+/// A parameter.
+fn parameter(out: &mut Writer, parameter: &Parameter) -> Result<(), AllocError>
+    ensures { IfOk result (λ _. out.new ≡ out.old ++ parameter_tokens parameter.now) }
+{
+    mode(out, parameter)?;
+    name(out, &parameter.name)?;
+    data_type(out, &parameter.kind)
+}
+
+/// Parameters with a comma between two of them.
+fn parameters(out: &mut Writer, parameters: &List<Parameter>) -> Result<(), AllocError>
+    ensures { IfOk result (λ _. out.new ≡ out.old ++ parameters_tokens parameters.now) }
+{
+    let mut first = true;
+    for item in parameters.items() {
+        if !first {
+            out.sign(Sign::Comma)?;
+        }
+        first = false;
+        parameter(out, item)?;
+    }
+    Ok(())
+}
+
+/// A note on a routine.
+fn note(out: &mut Writer, note: &Note) -> Result<(), AllocError>
+    ensures { IfOk result (λ _. out.new ≡ out.old ++ note_tokens note.now) }
+{
+    match note.form {
+        NoteForm::Language => {
+            out.word(Word::Language)?;
+            out.word(Word::Sql)
+        }
+        NoteForm::Deterministic => out.word(Word::Deterministic),
+        NoteForm::NotDeterministic => {
+            out.word(Word::Not)?;
+            out.word(Word::Deterministic)
+        }
+        NoteForm::ContainsSql => {
+            out.word(Word::Contains)?;
+            out.word(Word::Sql)
+        }
+        NoteForm::ReadsSqlData => {
+            out.word(Word::Reads)?;
+            out.word(Word::Sql)?;
+            out.word(Word::Data)
+        }
+        NoteForm::ModifiesSqlData => {
+            out.word(Word::Modifies)?;
+            out.word(Word::Sql)?;
+            out.word(Word::Data)
+        }
+    }
+}
+
+/// The notes on a routine.
+fn notes(out: &mut Writer, notes: &List<Note>) -> Result<(), AllocError>
+    ensures { IfOk result (λ _. out.new ≡ out.old ++ each [] note_tokens notes.now) }
+{
+    for next in notes.items() {
+        note(out, next)?;
+    }
+    Ok(())
+}
+
+/// PROCEDURE, or FUNCTION where a type is given back.
+fn routine_kind(out: &mut Writer, returns: &Option<DataType>) -> Result<(), AllocError>
+    ensures { IfOk result (λ _. out.new ≡ out.old ++ kind_tokens returns.now) }
+{
+    match returns {
+        None => out.word(Word::Procedure),
+        Some(_) => out.word(Word::Function),
+    }
+}
+
+/// RETURNS and the type of a function.
+fn returned(out: &mut Writer, returns: &Option<DataType>) -> Result<(), AllocError>
+    ensures { IfOk result (λ _. out.new ≡ out.old ++ perhaps (word w.Returns) type_tokens returns.now) }
+{
+    match returns {
+        None => Ok(()),
+        Some(kind) => {
+            out.word(Word::Returns)?;
+            data_type(out, kind)
+        }
+    }
+}
+
+/// A routine.
+fn routine(out: &mut Writer, routine: &Routine) -> Result<(), AllocError>
+    ensures { IfOk result (λ _. out.new ≡ out.old ++ routine_tokens routine.now) }
+{
+    routine_kind(out, &routine.returns)?;
+    name(out, &routine.name)?;
+    out.sign(Sign::LeftParen)?;
+    parameters(out, &routine.parameters)?;
+    out.sign(Sign::RightParen)?;
+    returned(out, &routine.returns)?;
+    notes(out, &routine.notes)?;
+    statement(out, &routine.body)
+}
+
+/// Routines, each with a semicolon behind it.
+fn routines(out: &mut Writer, routines: &List<Routine>) -> Result<(), AllocError>
+    ensures { IfOk result (λ _. out.new ≡ out.old ++ ended routine_tokens routines.now) }
+{
+    for next in routines.items() {
+        routine(out, next)?;
+        out.sign(Sign::Semicolon)?;
+    }
+    Ok(())
+}
+
+/// The module.
+fn module_part(out: &mut Writer, module: &Module) -> Result<(), AllocError>
+    ensures { IfOk result (λ _. out.new ≡ out.old ++ module_tokens module.now) }
+{
+    out.word(Word::Create)?;
+    out.word(Word::Module)?;
+    name(out, &module.name)?;
+    routines(out, &module.routines)?;
+    out.word(Word::End)?;
+    out.word(Word::Module)
+}
+
+/// Tables, each with a semicolon behind it.
+fn tables(out: &mut Writer, tables: &List<TableTree>) -> Result<(), AllocError>
+    ensures { IfOk result (λ _. out.new ≡ out.old ++ ended table_tree_tokens tables.now) }
+{
+    for next in tables.items() {
+        table(out, next)?;
+        out.sign(Sign::Semicolon)?;
+    }
+    Ok(())
+}
+
+/// A module file.
+pub(crate) fn file(out: &mut Writer, file: &FileTree) -> Result<(), AllocError>
+    ensures { IfOk result (λ _. out.new ≡ out.old ++ file_tokens file.now) }
+{
+    tables(out, &file.tables)?;
+    module_part(out, &file.module)
+}
