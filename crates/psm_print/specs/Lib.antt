@@ -3,3 +3,4 @@ pub mod StatementTokens
 pub mod FileTokens
 pub mod Printed
 pub mod PartTokens
+pub mod Printing

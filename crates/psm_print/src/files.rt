@@ -256,7 +256,8 @@ fn routine(out: &mut Writer, routine: &Routine) -> Result<(), AllocError>
     out.sign(Sign::RightParen)?;
     returned(out, &routine.returns)?;
     notes(out, &routine.notes)?;
-    statement(out, &routine.body)
+    statement(out, &routine.body)?;
+    Ok(())
 }
 
 /// Routines, each with a semicolon behind it.

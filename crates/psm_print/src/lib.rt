@@ -11,3 +11,6 @@ mod operators;
 mod parts;
 mod simple;
 mod statements;
+mod tree_text;
+
+pub use tree_text::print;

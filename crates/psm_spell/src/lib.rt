@@ -1,6 +1,14 @@
-//! Stand-in.
+//! Tokens as text, such that the text, read again, is these tokens (ISO/IEC 9075:1992, 5.1 to 5.4).
 #![tactic(auto)]
 
+mod laws;
+mod log;
+mod part;
+mod spell;
 mod writer;
 
+pub use laws::spelled_tokens;
 pub use writer::Writer;
+
+#[cfg(test)]
+mod tests;

@@ -1,0 +1,27 @@
+//! Tokens that are lent.
+ghost use Rattle.std.specs.Prelude.{◌≡◌};
+ghost use Rattle.psm_spell.specs.Parts.{token_of};
+ghost use Rattle.psm_spell.specs.Written.{gap_of};
+
+use psm_num::Dec;
+use psm_token::{Sign, Word};
+
+/// A token, where the characters of a name or a text are lent.
+#[derive(Clone, Copy, Drop)]
+pub(crate) enum Part<'a> {
+    Word(Word),
+    Name(&'a [char]),
+    Number(Dec),
+    Text(&'a [char]),
+    Sign(Sign),
+}
+
+/// What is written behind a token: a line feed behind a semicolon, else a blank.
+pub(crate) fn gap(part: &Part<'_>) -> char
+    ensures { result ≡ gap_of (token_of part.now) }
+{
+    match part {
+        Part::Sign(Sign::Semicolon) => '\n',
+        _ => ' ',
+    }
+}
