@@ -6,7 +6,6 @@ CREATE MODULE "Price list" LANGUAGE SQL
     percent INTEGER,
     OUT new_price INTEGER
   )
-  DETERMINISTIC
   SET new_price = price + percent - 1;
 
 END MODULE;

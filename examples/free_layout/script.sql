@@ -1,1 +1,1 @@
-CALL raise_price(100, -5, ?); -- one command
+CALL raise_price(100, 5, ?); -- one command
