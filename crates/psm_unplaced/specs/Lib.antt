@@ -1,0 +1,4 @@
+pub mod Unplaced
+pub mod ExprUnplaced
+pub mod StatementUnplaced
+pub mod FileUnplaced

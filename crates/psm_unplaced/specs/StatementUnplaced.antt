@@ -1,0 +1,159 @@
+-- Statements, blocks and declarations whose places are forgotten.
+use Rattle.std.specs.Prelude.{List, Option, map, option_map}
+use Rattle.psm_tree.specs.declared.expr.Expr.{Expr}
+use Rattle.psm_tree.specs.declared.statement.Statement.{Statement, roll-Statement}
+use Rattle.psm_tree.specs.declared.statement.Statement.TheOpen.{Statement-F, Compound, Loop, While, Repeat, For, If, Case, Simple as SimpleLayer, Branch-F, Handler-F}
+use Rattle.psm_tree.specs.declared.statement.Statement.TheFolds.{fold-Statement, fold-Branch, fold-Handler}
+use Rattle.psm_tree.specs.declared.statement.Label.{Label}
+use Rattle.psm_tree.specs.declared.statement.Branch.{Branch, roll-Branch}
+use Rattle.psm_tree.specs.declared.statement.ForCursor.{ForCursor}
+use Rattle.psm_tree.specs.declared.statement.OrderedQuery.{OrderedQuery}
+use Rattle.psm_tree.specs.declared.statement.Order.{Order}
+use Rattle.psm_tree.specs.declared.statement.OrderColumn.{OrderColumn}
+use Rattle.psm_tree.specs.declared.statement.Declaration.{Declaration}
+use Rattle.psm_tree.specs.declared.statement.Declaration.TheVariants as declarations
+use Rattle.psm_tree.specs.declared.statement.CursorDeclaration.{CursorDeclaration}
+use Rattle.psm_tree.specs.declared.statement.Handler.{Handler, roll-Handler}
+use Rattle.psm_tree.specs.declared.statement.HandlerValue.{HandlerValue}
+use Rattle.psm_tree.specs.declared.statement.HandlerValue.TheVariants as handled
+use Rattle.psm_tree.specs.declared.statement.Condition.{Condition}
+use Rattle.psm_tree.specs.declared.statement.Condition.TheVariants as signals
+use Rattle.psm_tree.specs.declared.statement.Signalled.{Signalled}
+use Rattle.psm_tree.specs.declared.statement.StatementInformation.{StatementInformation}
+use Rattle.psm_tree.specs.declared.statement.ConditionInformation.{ConditionInformation}
+use Rattle.psm_tree.specs.declared.statement.ConditionNumber.{ConditionNumber}
+use Rattle.psm_tree.specs.declared.statement.ConditionNumber.TheVariants as numbers
+use Rattle.psm_tree.specs.declared.statement.Diagnostics.{Diagnostics}
+use Rattle.psm_tree.specs.declared.statement.Diagnostics.TheVariants as diagnostics
+use Rattle.psm_tree.specs.declared.statement.Values.{Values}
+use Rattle.psm_tree.specs.declared.statement.InsertSource.{InsertSource}
+use Rattle.psm_tree.specs.declared.statement.InsertSource.TheVariants as inserted
+use Rattle.psm_tree.specs.declared.statement.Assignment.{Assignment}
+use Rattle.psm_tree.specs.declared.statement.Where.{Where}
+use Rattle.psm_tree.specs.declared.statement.Where.TheVariants as wheres
+use Rattle.psm_tree.specs.declared.statement.Simple.{Simple}
+use Rattle.psm_tree.specs.declared.statement.Simple.TheVariants as simples
+use Rattle.psm_unplaced.specs.Unplaced.{origin}
+use Rattle.psm_unplaced.specs.ExprUnplaced.{name_unplaced, target_unplaced, names_unplaced, targets_unplaced, type_unplaced, state_unplaced, alias_unplaced, expr_unplaced, pick_unplaced, select_unplaced}
+
+-- ---- parts of statements
+
+abbrev pub order_column_unplaced : OrderColumn → OrderColumn
+order_column_unplaced c = record { column = name_unplaced c.column; descending = c.descending }
+
+abbrev pub order_unplaced : Order → Order
+order_unplaced order = record { place = origin; first = order_column_unplaced order.first; rest = map order_column_unplaced order.rest }
+
+abbrev pub ordered_query_unplaced : OrderedQuery → OrderedQuery
+ordered_query_unplaced q = record { query = select_unplaced q.query; order = option_map order_unplaced q.order }
+
+abbrev pub condition_unplaced : Condition → Condition
+condition_unplaced (signals.Name name) = signals.Name (name_unplaced name)
+condition_unplaced (signals.State state) = signals.State (state_unplaced state)
+
+abbrev pub signalled_unplaced : Signalled → Signalled
+signalled_unplaced s = record { condition = condition_unplaced s.condition; message = option_map expr_unplaced s.message }
+
+abbrev pub where_unplaced : Where → Where
+where_unplaced (wheres.Condition condition) = wheres.Condition (expr_unplaced condition)
+where_unplaced (wheres.Current cursor) = wheres.Current (name_unplaced cursor)
+
+abbrev pub values_unplaced : Values → Values
+values_unplaced values = record { place = origin; first = expr_unplaced values.first; rest = map expr_unplaced values.rest }
+
+abbrev pub insert_source_unplaced : InsertSource → InsertSource
+insert_source_unplaced (inserted.Values first rest) = inserted.Values (values_unplaced first) (map values_unplaced rest)
+insert_source_unplaced (inserted.Query query) = inserted.Query (select_unplaced query)
+
+abbrev pub assignment_unplaced : Assignment → Assignment
+assignment_unplaced a = record { column = name_unplaced a.column; source = expr_unplaced a.source }
+
+-- ---- GET DIAGNOSTICS
+
+abbrev pub statement_info_unplaced : StatementInformation → StatementInformation
+statement_info_unplaced i = record { target = target_unplaced i.target; place = origin; item = i.item }
+
+abbrev pub condition_info_unplaced : ConditionInformation → ConditionInformation
+condition_info_unplaced i = record { target = target_unplaced i.target; place = origin; item = i.item }
+
+abbrev pub condition_number_unplaced : ConditionNumber → ConditionNumber
+condition_number_unplaced (numbers.Number place number) = numbers.Number origin number
+condition_number_unplaced (numbers.Target target) = numbers.Target (target_unplaced target)
+
+abbrev pub diagnostics_unplaced : Diagnostics → Diagnostics
+diagnostics_unplaced (diagnostics.Statement first rest) = diagnostics.Statement (statement_info_unplaced first) (map statement_info_unplaced rest)
+diagnostics_unplaced (diagnostics.Condition number first rest) = diagnostics.Condition (condition_number_unplaced number) (condition_info_unplaced first) (map condition_info_unplaced rest)
+
+-- ---- simple statements
+
+abbrev pub simple_unplaced : Simple → Simple
+simple_unplaced (simples.Set place target source) = simples.Set origin (target_unplaced target) (expr_unplaced source)
+simple_unplaced (simples.Call place procedure arguments) = simples.Call origin (name_unplaced procedure) (map expr_unplaced arguments)
+simple_unplaced (simples.Return place source) = simples.Return origin (expr_unplaced source)
+simple_unplaced (simples.Leave place label) = simples.Leave origin (name_unplaced label)
+simple_unplaced (simples.Iterate place label) = simples.Iterate origin (name_unplaced label)
+simple_unplaced (simples.Signal place signalled) = simples.Signal origin (signalled_unplaced signalled)
+simple_unplaced (simples.Resignal place signalled) = simples.Resignal origin (option_map signalled_unplaced signalled)
+simple_unplaced (simples.GetDiagnostics place diagnostics) = simples.GetDiagnostics origin (diagnostics_unplaced diagnostics)
+simple_unplaced (simples.SelectInto place picks targets table alias condition) = simples.SelectInto origin (map pick_unplaced picks) (targets_unplaced targets) (name_unplaced table) (alias_unplaced alias) (option_map expr_unplaced condition)
+simple_unplaced (simples.Insert place table columns source) = simples.Insert origin (name_unplaced table) (option_map names_unplaced columns) (insert_source_unplaced source)
+simple_unplaced (simples.Update place table first rest which) = simples.Update origin (name_unplaced table) (assignment_unplaced first) (map assignment_unplaced rest) (option_map where_unplaced which)
+simple_unplaced (simples.Delete place table which) = simples.Delete origin (name_unplaced table) (option_map where_unplaced which)
+simple_unplaced (simples.Open place cursor) = simples.Open origin (name_unplaced cursor)
+simple_unplaced (simples.Fetch place cursor targets) = simples.Fetch origin (name_unplaced cursor) (targets_unplaced targets)
+simple_unplaced (simples.Close place cursor) = simples.Close origin (name_unplaced cursor)
+
+-- ---- declarations
+
+abbrev pub declaration_unplaced : Declaration → Declaration
+declaration_unplaced (declarations.Variables place names kind default) = declarations.Variables origin (names_unplaced names) (type_unplaced kind) (option_map expr_unplaced default)
+declaration_unplaced (declarations.Condition place name state) = declarations.Condition origin (name_unplaced name) (option_map state_unplaced state)
+
+abbrev pub cursor_unplaced : CursorDeclaration → CursorDeclaration
+cursor_unplaced c = record { place = origin; name = name_unplaced c.name; insensitive = c.insensitive; query = ordered_query_unplaced c.query; updatability = c.updatability }
+
+abbrev pub for_cursor_unplaced : ForCursor → ForCursor
+for_cursor_unplaced c = record { name = name_unplaced c.name; insensitive = c.insensitive }
+
+abbrev pub handler_value_unplaced : HandlerValue → HandlerValue
+handler_value_unplaced (handled.State state) = handled.State (state_unplaced state)
+handler_value_unplaced (handled.Name name) = handled.Name (name_unplaced name)
+handler_value_unplaced (handled.SqlException place) = handled.SqlException origin
+handler_value_unplaced (handled.SqlWarning place) = handled.SqlWarning origin
+handler_value_unplaced (handled.NotFound place) = handled.NotFound origin
+
+-- ---- statements that have statements: each layer by itself, where the statements in it have forgotten their places before
+
+abbrev pub label_unplaced : Label → Label
+label_unplaced label = record { start = name_unplaced label.start; end = option_map name_unplaced label.end }
+
+abbrev pub Layer : Type 0
+Layer = Statement-F Statement Branch Handler
+
+abbrev pub layer_unplaced : Layer → Layer
+layer_unplaced (Compound label place atomic declarations cursors handlers body) = Compound (option_map label_unplaced label) origin atomic (map declaration_unplaced declarations) (map cursor_unplaced cursors) handlers body
+layer_unplaced (Loop label place first rest) = Loop (option_map label_unplaced label) origin first rest
+layer_unplaced (While label place test first rest) = While (option_map label_unplaced label) origin (expr_unplaced test) first rest
+layer_unplaced (Repeat label place first rest until) = Repeat (option_map label_unplaced label) origin first rest (expr_unplaced until)
+layer_unplaced (For label place name cursor query first rest) = For (option_map label_unplaced label) origin (name_unplaced name) (option_map for_cursor_unplaced cursor) (ordered_query_unplaced query) first rest
+layer_unplaced (If place first rest otherwise) = If origin first rest otherwise
+layer_unplaced (Case place operand first rest otherwise) = Case origin (option_map expr_unplaced operand) first rest otherwise
+layer_unplaced (SimpleLayer simple) = SimpleLayer (simple_unplaced simple)
+
+abbrev pub statement_step : Layer → Statement
+statement_step layer = roll-Statement (layer_unplaced layer)
+
+abbrev pub branch_step : Branch-F Statement Branch Handler → Branch
+branch_step b = roll-Branch (record { test = expr_unplaced b.test; first = b.first; rest = b.rest })
+
+abbrev pub handler_step : Handler-F Statement Branch Handler → Handler
+handler_step h = roll-Handler (record { place = origin; «at» = origin; kind = h.kind; first = handler_value_unplaced h.first; rest = map handler_value_unplaced h.rest; action = h.action })
+
+abbrev pub statement_unplaced : Statement → Statement
+statement_unplaced = fold-Statement Statement Branch Handler statement_step branch_step handler_step
+
+abbrev pub branch_unplaced : Branch → Branch
+branch_unplaced = fold-Branch Statement Branch Handler statement_step branch_step handler_step
+
+abbrev pub handler_unplaced : Handler → Handler
+handler_unplaced = fold-Handler Statement Branch Handler statement_step branch_step handler_step

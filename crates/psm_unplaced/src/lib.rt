@@ -1,0 +1,7 @@
+//! Trees with their places forgotten, and the law that tokens which are the same places apart spell
+//! trees that are the same places apart.
+#![tactic(auto)]
+
+mod laws;
+
+pub use laws::one_tree_places_apart;
