@@ -1,25 +1,40 @@
 -- What becomes of the layers of expressions and statements where places are forgotten.
-use Rattle.std.proofs.Common.{◌≡◌, Bool, List, Option, Some, None, option_map, map, refl, sym, ap, ◌∙◌}
-use Rattle.psm_tree.specs.declared.expr.Junction.{Junction}
+use Rattle.std.proofs.Common.{◌≡◌, List, map, refl}
 use Rattle.psm_tree.specs.declared.expr.Expr.{Expr, roll-Expr}
-use Rattle.psm_tree.specs.declared.expr.Expr.TheVariants as exprs
-use Rattle.psm_tree.specs.declared.expr.Expr.TheOpen as layers
-use Rattle.psm_tree.specs.declared.expr.Expr.TheFolds.{map-Expr, fold-roll-Expr}
-use Rattle.psm_tree.specs.declared.expr.Link.{Link}
-use Rattle.psm_tree.specs.declared.expr.When.{When}
-use Rattle.psm_tree.specs.declared.expr.Select.{Select}
-use Rattle.psm_tree.specs.declared.expr.Pick.{Pick}
+use Rattle.psm_tree.specs.declared.expr.Expr.TheOpen.{Pick-F, Link-F, Select-F, When-F}
+use Rattle.psm_tree.specs.declared.expr.Expr.TheFolds.{map-Expr, map-Pick, map-Link, map-Select, map-When, fold-roll-Expr, fold-roll-Pick, fold-roll-Link, fold-roll-Select, fold-roll-When}
+use Rattle.psm_tree.specs.declared.expr.Link.{Link, roll-Link}
+use Rattle.psm_tree.specs.declared.expr.When.{When, roll-When}
+use Rattle.psm_tree.specs.declared.expr.Select.{Select, roll-Select}
+use Rattle.psm_tree.specs.declared.expr.Pick.{Pick, roll-Pick}
+use Rattle.psm_tree.specs.declared.statement.Statement.{Statement, roll-Statement}
+use Rattle.psm_tree.specs.declared.statement.Statement.TheOpen.{Branch-F, Handler-F}
+use Rattle.psm_tree.specs.declared.statement.Statement.TheFolds.{map-Statement, map-Branch, map-Handler, fold-roll-Statement, fold-roll-Branch, fold-roll-Handler}
+use Rattle.psm_tree.specs.declared.statement.Branch.{Branch, roll-Branch}
+use Rattle.psm_tree.specs.declared.statement.Handler.{Handler, roll-Handler}
 use Rattle.psm_unplaced.specs.ExprUnplaced.{Layer, expr_step, pick_step, link_step, select_step, when_step, expr_unplaced, pick_unplaced, link_unplaced, select_unplaced, when_unplaced}
-use denote.Hole.Carrier
+use Rattle.psm_unplaced.specs.StatementUnplaced.{Layer as StatementLayer, statement_step, branch_step, handler_step, statement_unplaced, branch_unplaced, handler_unplaced}
 
 pub expr_rolled : (layer : Layer) → expr_unplaced (roll-Expr layer) ≡ expr_step (map-Expr Expr Pick Link Select When Expr Pick Link Select When expr_unplaced pick_unplaced link_unplaced select_unplaced when_unplaced layer)
 expr_rolled layer = fold-roll-Expr Expr Pick Link Select When expr_step pick_step link_step select_step when_step layer
 
-pub unplaced-Junction : (junction : Junction) (first : Expr) (rest : List Expr) → expr_unplaced (exprs.Junction junction first rest) ≡ exprs.Junction junction (expr_unplaced first) (map expr_unplaced rest)
-unfolding roll-Expr Carrier.roll
-unplaced-Junction junction first rest = expr_rolled (layers.Junction junction first rest)
+pub pick_rolled : (layer : Pick-F Expr Pick Link Select When) → pick_unplaced (roll-Pick layer) ≡ pick_step (map-Pick Expr Pick Link Select When Expr Pick Link Select When expr_unplaced pick_unplaced link_unplaced select_unplaced when_unplaced layer)
+pick_rolled layer = fold-roll-Pick Expr Pick Link Select When expr_step pick_step link_step select_step when_step layer
 
-pub unplaced-Like : (negated : Bool) (value pattern : Expr) (escape : Option Expr) → expr_unplaced (exprs.Like negated value pattern escape) ≡ exprs.Like negated (expr_unplaced value) (expr_unplaced pattern) (option_map expr_unplaced escape)
-unfolding roll-Expr Carrier.roll
-unplaced-Like negated value pattern None = expr_rolled (layers.Like negated value pattern None)
-unplaced-Like negated value pattern (Some escape) = expr_rolled (layers.Like negated value pattern (Some escape))
+pub link_rolled : (layer : Link-F Expr Pick Link Select When) → link_unplaced (roll-Link layer) ≡ link_step (map-Link Expr Pick Link Select When Expr Pick Link Select When expr_unplaced pick_unplaced link_unplaced select_unplaced when_unplaced layer)
+link_rolled layer = fold-roll-Link Expr Pick Link Select When expr_step pick_step link_step select_step when_step layer
+
+pub select_rolled : (layer : Select-F Expr Pick Link Select When) → select_unplaced (roll-Select layer) ≡ select_step (map-Select Expr Pick Link Select When Expr Pick Link Select When expr_unplaced pick_unplaced link_unplaced select_unplaced when_unplaced layer)
+select_rolled layer = fold-roll-Select Expr Pick Link Select When expr_step pick_step link_step select_step when_step layer
+
+pub when_rolled : (layer : When-F Expr Pick Link Select When) → when_unplaced (roll-When layer) ≡ when_step (map-When Expr Pick Link Select When Expr Pick Link Select When expr_unplaced pick_unplaced link_unplaced select_unplaced when_unplaced layer)
+when_rolled layer = fold-roll-When Expr Pick Link Select When expr_step pick_step link_step select_step when_step layer
+
+pub statement_rolled : (layer : StatementLayer) → statement_unplaced (roll-Statement layer) ≡ statement_step (map-Statement Statement Branch Handler Statement Branch Handler statement_unplaced branch_unplaced handler_unplaced layer)
+statement_rolled layer = fold-roll-Statement Statement Branch Handler statement_step branch_step handler_step layer
+
+pub branch_rolled : (layer : Branch-F Statement Branch Handler) → branch_unplaced (roll-Branch layer) ≡ branch_step (map-Branch Statement Branch Handler Statement Branch Handler statement_unplaced branch_unplaced handler_unplaced layer)
+branch_rolled layer = fold-roll-Branch Statement Branch Handler statement_step branch_step handler_step layer
+
+pub handler_rolled : (layer : Handler-F Statement Branch Handler) → handler_unplaced (roll-Handler layer) ≡ handler_step (map-Handler Statement Branch Handler Statement Branch Handler statement_unplaced branch_unplaced handler_unplaced layer)
+handler_rolled layer = fold-roll-Handler Statement Branch Handler statement_step branch_step handler_step layer

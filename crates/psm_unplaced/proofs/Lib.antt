@@ -1,1 +1,4 @@
 pub mod Equations
+pub mod ValuesUnplaced
+pub mod Carried
+pub mod ExprCarried

@@ -1,0 +1,344 @@
+-- Names, types, constants, expressions and queries forget their places where their tokens do, part by part.
+use Rattle.std.proofs.Common.{◌≡◌, ℕ, Bool, true, false, List, [], ◌∷◌, Option, Some, None, map, option_map, refl, sym, ap}
+use denote.Hole.Carrier
+use Rattle.psm_num.specs.Num.{Num}
+use Rattle.psm_token.specs.declared.place.Place.{Place}
+use Rattle.psm_grammar.specs.Grammar.{token}
+use Rattle.psm_tree.specs.Tests.{At, number_of, characters_of, sign_of, text_function_of, set_function_of, comparison, sum_operator, term_operator, trim_side}
+use Rattle.psm_tree.specs.Parts.{Inside, Value, Query, Cases}
+use Rattle.psm_tree.specs.ExprValues.{Test, Nothing, Compare, IsNull, Between, In, Like, NameRest, Bare, Dotted, Called, Item, Plain, Rows, Aggregate, joined, predicate_of, chain_of, named, enclosed_of, precision_of, numeric_of, null_of, count_of, pick_of, case_of, substring_of, number_primary, text_primary, signed, link_of, negated, null_source, select_of, all_picks, when_of, Whens}
+use Rattle.psm_tree.specs.ExprGrammar
+use Rattle.psm_tree.specs.declared.name.Identifier.{Identifier}
+use Rattle.psm_tree.specs.declared.types.Precision.{Precision}
+use Rattle.psm_tree.specs.declared.types.Sign.{Sign}
+use Rattle.psm_tree.specs.declared.expr.Expr.{Expr, roll-Expr}
+use Rattle.psm_tree.specs.declared.expr.Expr.TheVariants as exprs
+use Rattle.psm_tree.specs.declared.expr.Expr.TheOpen as layers
+use Rattle.psm_tree.specs.declared.expr.Junction.{Junction}
+use Rattle.psm_tree.specs.declared.expr.Junction.TheVariants as junctions
+use Rattle.psm_tree.specs.declared.expr.Operator.{Operator}
+use Rattle.psm_tree.specs.declared.expr.Link.{Link}
+use Rattle.psm_tree.specs.declared.expr.When.{When}
+use Rattle.psm_tree.specs.declared.expr.Pick.{Pick, roll-Pick}
+use Rattle.psm_unplaced.specs.Unplaced.{origin}
+use Rattle.psm_unplaced.specs.ExprUnplaced.{name_unplaced, target_unplaced, names_unplaced, targets_unplaced, type_unplaced, constant_unplaced, alias_unplaced, expr_unplaced, link_unplaced, when_unplaced, select_unplaced, pick_unplaced}
+use Rattle.psm_unplaced.proofs.ValuesUnplaced.{same, both, all_three, place_unplaced, at_unplaced, test_unplaced, name_rest_unplaced, inside_unplaced, whens_unplaced, cases_unplaced, from_unplaced, item_unplaced}
+use Rattle.psm_unplaced.proofs.Equations.{expr_rolled, link_rolled, when_rolled, select_rolled, pick_rolled}
+use Rattle.psm_unplaced.proofs.Carried.{Carried, carried_token, carried_place, carried_at, carried_name, carried_level, carried_level_at, carried_nothing, carried_seq, carried_or, carried_ahead, carried_many, carried_image, carried_pair, carried_cons, carried_optional, carried_behind, carried_before, carried_within}
+
+-- ---- names
+
+second_name_carried : Carried name_unplaced ExprGrammar.second_name
+second_name_carried = carried_behind carried_name
+
+pub target_carried : Carried target_unplaced ExprGrammar.target
+target_carried = carried_seq carried_name (carried_optional second_name_carried) (λ x y. refl)
+
+pub next_names_carried : Carried (map name_unplaced) ExprGrammar.next_names
+next_names_carried = carried_many (carried_behind carried_name)
+
+names_carried : Carried names_unplaced ExprGrammar.names
+names_carried = carried_seq carried_name next_names_carried (λ x y. refl)
+
+pub names_in_parens_carried : Carried names_unplaced ExprGrammar.names_in_parens
+names_in_parens_carried = carried_within names_carried
+
+pub targets_carried : Carried targets_unplaced ExprGrammar.targets
+targets_carried = carried_seq target_carried (carried_many (carried_behind target_carried)) (λ x y. refl)
+
+-- ---- types and constants
+
+type_length_carried : Carried at_unplaced ExprGrammar.type_length
+type_length_carried = carried_within (carried_at number_of)
+
+precise : (precision : At Num) (scale : Option (At Num)) → precision_of (at_unplaced precision) (option_map at_unplaced scale) ≡ precision_of precision scale
+precise precision None = refl
+precise precision (Some scale) = refl
+
+precision_carried : Carried same ExprGrammar.precision
+precision_carried = carried_within (carried_seq (carried_at number_of) (carried_optional (carried_behind (carried_at number_of))) precise)
+
+numeric : (place : Place) (precision : Option Precision) → numeric_of origin (option_map same precision) ≡ type_unplaced (numeric_of place precision)
+numeric place None = refl
+numeric place (Some precision) = refl
+
+pub plain_type_carried : Carried type_unplaced ExprGrammar.plain_type
+plain_type_carried = carried_or (carried_image carried_place (λ x. refl))
+    (carried_or (carried_image carried_place (λ x. refl))
+    (carried_or (carried_seq carried_place (carried_optional precision_carried) numeric)
+    (carried_seq carried_place (carried_image {h = same} type_length_carried (λ x. refl)) (λ x y. refl))))
+
+pub varying_carried : Carried same ExprGrammar.varying
+varying_carried = carried_behind (carried_image type_length_carried (λ x. refl))
+
+pub char_length_carried : Carried same ExprGrammar.char_length
+char_length_carried = carried_or (carried_image type_length_carried (λ x. refl)) (carried_nothing refl)
+
+pub data_type_carried : Carried type_unplaced ExprGrammar.data_type
+data_type_carried = carried_or (carried_seq carried_place (carried_or varying_carried char_length_carried) (λ x y. refl)) plain_type_carried
+
+pub constant_carried : Carried constant_unplaced ExprGrammar.constant
+constant_carried = carried_or (carried_image (carried_at number_of) (λ x. refl))
+    (carried_or (carried_image (carried_at characters_of) (λ x. refl))
+    (carried_or (carried_image carried_place (λ x. refl))
+    (carried_seq (carried_at sign_of) (carried_at number_of) (λ x y. refl))))
+
+-- ---- primaries
+
+name_rest_carried : Carried name_rest_unplaced ExprGrammar.name_rest
+name_rest_carried = carried_or (carried_image second_name_carried (λ x. refl))
+    (carried_or (carried_level (λ x y. refl))
+    (carried_nothing refl))
+
+named_unplaced : (name : Identifier) (rest : NameRest) → named (name_unplaced name) (name_rest_unplaced rest) ≡ expr_unplaced (named name rest)
+unfolding roll-Expr Carrier.roll
+named_unplaced name Bare = sym (expr_rolled (layers.Name (record { first = name; second = None })))
+named_unplaced name (Dotted second) = sym (expr_rolled (layers.Name (record { first = name; second = Some second })))
+named_unplaced name (Called arguments) = sym (expr_rolled (layers.Call name arguments))
+
+cased : (place : Place) (operand : Option Expr) (first : When) (rest : List When) (otherwise : Option Expr) → exprs.Case origin (option_map expr_unplaced operand) (when_unplaced first) (map when_unplaced rest) (option_map expr_unplaced otherwise) ≡ expr_unplaced (exprs.Case place operand first rest otherwise)
+unfolding roll-Expr Carrier.roll
+cased place None first rest None = sym (expr_rolled (layers.Case place None first rest None))
+cased place None first rest (Some otherwise) = sym (expr_rolled (layers.Case place None first rest (Some otherwise)))
+cased place (Some operand) first rest None = sym (expr_rolled (layers.Case place (Some operand) first rest None))
+cased place (Some operand) first rest (Some otherwise) = sym (expr_rolled (layers.Case place (Some operand) first rest (Some otherwise)))
+
+case_unplaced : (place : Place) (c : Cases) → case_of origin (cases_unplaced c) ≡ expr_unplaced (case_of place c)
+case_unplaced place c = cased place c.operand c.first c.rest c.otherwise
+
+cut : (place : Place) (text from : Expr) (length : Option Expr) → exprs.Substring origin (expr_unplaced text) (expr_unplaced from) (option_map expr_unplaced length) ≡ expr_unplaced (exprs.Substring place text from length)
+unfolding roll-Expr Carrier.roll
+cut place text from None = sym (expr_rolled (layers.Substring place text from None))
+cut place text from (Some length) = sym (expr_rolled (layers.Substring place text from (Some length)))
+
+substring_unplaced : (place : Place) (p : Expr × Expr × Option Expr) → substring_of origin (all_three expr_unplaced expr_unplaced (option_map expr_unplaced) p) ≡ expr_unplaced (substring_of place p)
+substring_unplaced place p = cut place p.0 p.1 p.2
+
+worded_carried : Carried expr_unplaced ExprGrammar.worded_primary
+unfolding roll-Expr Carrier.roll
+worded_carried = carried_or (carried_level (λ x y. sym (expr_rolled (layers.Exists x y))))
+    (carried_or (carried_level case_unplaced)
+    (carried_or (carried_level (λ x y. sym (expr_rolled (layers.Cast x y.0 y.1))))
+    (carried_or (carried_level (λ x y. sym (expr_rolled (layers.Coalesce x y.0 y.1))))
+    (carried_or (carried_level (λ x y. sym (expr_rolled (layers.NullIf x y.0 y.1))))
+    (carried_or (carried_level (λ x y. sym (expr_rolled (layers.Position x y.0 y.1))))
+    (carried_or (carried_level substring_unplaced)
+    (carried_or (carried_level (λ x y. sym (expr_rolled (layers.Trim x y.0 y.1))))
+    (carried_level_at text_function_of (λ x y. sym (expr_rolled (layers.Function x.place x.value y)))))))))))
+
+enclosed_unplaced : (place : Place) (inside : Inside) → enclosed_of origin (inside_unplaced inside) ≡ expr_unplaced (enclosed_of place inside)
+unfolding roll-Expr Carrier.roll
+enclosed_unplaced place (Value expr) = sym (expr_rolled (layers.Parenthesized place expr))
+enclosed_unplaced place (Query query) = sym (expr_rolled (layers.Subquery place query))
+
+number_unplaced : (n : At Num) → number_primary (at_unplaced n) ≡ expr_unplaced (number_primary n)
+unfolding roll-Expr Carrier.roll
+number_unplaced n = sym (expr_rolled (layers.Number n.place n.value))
+
+text_unplaced : (text : At (List ℕ)) → text_primary (at_unplaced text) ≡ expr_unplaced (text_primary text)
+unfolding roll-Expr Carrier.roll
+text_unplaced text = sym (expr_rolled (layers.Text text.place text.value))
+
+primary_carried : Carried expr_unplaced ExprGrammar.primary
+primary_carried = carried_or (carried_image (carried_at number_of) number_unplaced)
+    (carried_or (carried_image (carried_at characters_of) text_unplaced)
+    (carried_or (carried_seq carried_name name_rest_carried named_unplaced)
+    (carried_or (carried_level enclosed_unplaced)
+    worded_carried)))
+
+-- ---- values
+
+signed_unplaced : (sign : At Sign) (operand : Expr) → signed (at_unplaced sign) (expr_unplaced operand) ≡ expr_unplaced (signed sign operand)
+unfolding roll-Expr Carrier.roll
+signed_unplaced sign operand = sym (expr_rolled (layers.Signed sign.place sign.value operand))
+
+linked : (operator : Operator) (operand : Expr) → link_of operator (expr_unplaced operand) ≡ link_unplaced (link_of operator operand)
+linked operator operand = sym (link_rolled (record { operator = operator; operand = operand }))
+
+chained : (first : Expr) (rest : List Link) → chain_of (expr_unplaced first) (map link_unplaced rest) ≡ expr_unplaced (chain_of first rest)
+unfolding roll-Expr Carrier.roll
+chained first [] = refl
+chained first (link ∷ rest) = sym (expr_rolled (layers.Chain first (link ∷ rest)))
+
+factor_carried : Carried expr_unplaced ExprGrammar.factor
+factor_carried = carried_or (carried_seq (carried_at sign_of) primary_carried signed_unplaced) primary_carried
+
+term_operator_carried : Carried same (token term_operator)
+term_operator_carried = carried_token (λ t. refl)
+
+term_carried : Carried expr_unplaced ExprGrammar.term
+term_carried = carried_seq factor_carried (carried_many (carried_seq term_operator_carried factor_carried linked)) chained
+
+sum_operator_carried : Carried same (token sum_operator)
+sum_operator_carried = carried_token (λ t. refl)
+
+sum_carried : Carried expr_unplaced ExprGrammar.sum
+sum_carried = carried_seq term_carried (carried_many (carried_seq sum_operator_carried term_carried linked)) chained
+
+-- ---- conditions
+
+between_carried : Carried (both expr_unplaced expr_unplaced) ExprGrammar.between
+between_carried = carried_behind (carried_pair sum_carried (carried_behind sum_carried))
+
+in_list_carried : Carried (both expr_unplaced (map expr_unplaced)) ExprGrammar.in_list
+in_list_carried = carried_behind (carried_within (carried_pair sum_carried (carried_many (carried_behind sum_carried))))
+
+like_carried : Carried (both expr_unplaced (option_map expr_unplaced)) ExprGrammar.like
+like_carried = carried_behind (carried_pair sum_carried (carried_optional (carried_behind sum_carried)))
+
+null_unplaced : (negation : Option Place) (place : Place) → null_of (option_map place_unplaced negation) origin ≡ test_unplaced (null_of negation place)
+null_unplaced None place = refl
+null_unplaced (Some negation) place = refl
+
+is_null_carried : Carried test_unplaced ExprGrammar.is_null
+is_null_carried = carried_behind (carried_seq (carried_optional carried_place) carried_place null_unplaced)
+
+comparison_carried : Carried same (token comparison)
+comparison_carried = carried_token (λ t. refl)
+
+compare_carried : Carried test_unplaced ExprGrammar.compare
+compare_carried = carried_seq comparison_carried sum_carried (λ x y. refl)
+
+negated_test_carried : Carried test_unplaced ExprGrammar.negated_test
+negated_test_carried = carried_behind (carried_or (carried_image between_carried (λ x. refl))
+    (carried_or (carried_image in_list_carried (λ x. refl))
+    (carried_image like_carried (λ x. refl))))
+
+test_carried : Carried test_unplaced ExprGrammar.test
+test_carried = carried_or compare_carried
+    (carried_or is_null_carried
+    (carried_or negated_test_carried
+    (carried_or (carried_image between_carried (λ x. refl))
+    (carried_or (carried_image in_list_carried (λ x. refl))
+    (carried_or (carried_image like_carried (λ x. refl))
+    (carried_nothing refl))))))
+
+predicated : (value : Expr) (test : Test) → predicate_of (expr_unplaced value) (test_unplaced test) ≡ expr_unplaced (predicate_of value test)
+unfolding roll-Expr Carrier.roll
+predicated value Nothing = refl
+predicated value (Compare operator right) = sym (expr_rolled (layers.Compare operator value right))
+predicated value (IsNull negated) = sym (expr_rolled (layers.IsNull negated value))
+predicated value (Between negated low high) = sym (expr_rolled (layers.Between negated value low high))
+predicated value (In negated first rest) = sym (expr_rolled (layers.In negated value first rest))
+predicated value (Like negated pattern None) = sym (expr_rolled (layers.Like negated value pattern None))
+predicated value (Like negated pattern (Some escape)) = sym (expr_rolled (layers.Like negated value pattern (Some escape)))
+
+negated_unplaced : (place : Place) (condition : Expr) → negated origin (expr_unplaced condition) ≡ expr_unplaced (negated place condition)
+unfolding roll-Expr Carrier.roll
+negated_unplaced place condition = sym (expr_rolled (layers.Not place condition))
+
+predicate_carried : Carried expr_unplaced ExprGrammar.predicate
+predicate_carried = carried_seq sum_carried test_carried predicated
+
+negation_carried : Carried expr_unplaced ExprGrammar.negation
+negation_carried = carried_or (carried_seq carried_place predicate_carried negated_unplaced) predicate_carried
+
+joins : (junction : Junction) (first : Expr) (rest : List Expr) → joined junction (expr_unplaced first) (map expr_unplaced rest) ≡ expr_unplaced (joined junction first rest)
+unfolding roll-Expr Carrier.roll
+joins junction first [] = refl
+joins junction first (next ∷ rest) = sym (expr_rolled (layers.Junction junction first (next ∷ rest)))
+
+conjunction_carried : Carried expr_unplaced ExprGrammar.conjunction
+conjunction_carried = carried_seq negation_carried (carried_many (carried_behind negation_carried)) (joins junctions.And)
+
+pub expr_carried : Carried expr_unplaced ExprGrammar.expr
+expr_carried = carried_seq conjunction_carried (carried_many (carried_behind conjunction_carried)) (joins junctions.Or)
+
+null_source_unplaced : (place : Place) → null_source origin ≡ expr_unplaced (null_source place)
+unfolding roll-Expr Carrier.roll
+null_source_unplaced place = sym (expr_rolled (layers.Null place))
+
+pub source_carried : Carried expr_unplaced ExprGrammar.source
+source_carried = carried_or (carried_image carried_place null_source_unplaced) expr_carried
+
+pub sources_carried : Carried (both expr_unplaced (map expr_unplaced)) ExprGrammar.sources
+sources_carried = carried_pair source_carried (carried_many (carried_behind source_carried))
+
+-- ---- queries
+
+counts : (place : Place) (argument : Option Expr) → count_of origin (option_map expr_unplaced argument) ≡ item_unplaced (count_of place argument)
+counts place None = refl
+counts place (Some argument) = refl
+
+item_carried : Carried item_unplaced ExprGrammar.item
+item_carried = carried_or (carried_seq carried_place (carried_within (carried_or (carried_image carried_place (λ x. refl)) (carried_image expr_carried (λ x. refl)))) counts)
+    (carried_or (carried_seq (carried_at set_function_of) (carried_within expr_carried) (λ x y. refl))
+    (carried_image expr_carried (λ x. refl)))
+
+alias_carried : Carried alias_unplaced ExprGrammar.alias
+alias_carried = carried_or (carried_image (carried_behind carried_name) (λ x. refl))
+    (carried_or (carried_image carried_name (λ x. refl))
+    (carried_nothing refl))
+
+picks_item : (item : Item) (alias : Option Identifier) → pick_of (item_unplaced item) (alias_unplaced alias) ≡ pick_unplaced (pick_of item alias)
+unfolding roll-Pick Carrier.roll
+picks_item (Plain expr) alias = sym (pick_rolled (layers.Expr expr alias))
+picks_item (Rows place) alias = sym (pick_rolled (layers.CountRows place alias))
+picks_item (Aggregate place function argument) alias = sym (pick_rolled (layers.Aggregate place function argument alias))
+
+pick_carried : Carried pick_unplaced ExprGrammar.pick
+pick_carried = carried_seq item_carried alias_carried picks_item
+
+all_unplaced : (place : Place) → all_picks origin ≡ map pick_unplaced (all_picks place)
+unfolding roll-Pick Carrier.roll
+all_unplaced place = ap (λ p. p ∷ []) (sym (pick_rolled (layers.All place)))
+
+pub picks_carried : Carried (map pick_unplaced) ExprGrammar.picks
+picks_carried = carried_or (carried_image carried_place all_unplaced) (carried_cons pick_carried (carried_many (carried_behind pick_carried)))
+
+pub from_table_carried : Carried from_unplaced ExprGrammar.from_table
+from_table_carried = carried_seq carried_name (carried_pair alias_carried (carried_optional (carried_behind expr_carried))) (λ x y. refl)
+
+selects : (place : Place) (picks : List Pick) (table : Identifier) (alias : Option Identifier) (condition : Option Expr) → select_of origin (map pick_unplaced picks, from_unplaced (record { table = table; alias = alias; condition = condition })) ≡ select_unplaced (select_of place (picks, record { table = table; alias = alias; condition = condition }))
+selects place picks table alias None = sym (select_rolled (record { place = place; picks = picks; table = table; alias = alias; condition = None }))
+selects place picks table alias (Some condition) = sym (select_rolled (record { place = place; picks = picks; table = table; alias = alias; condition = Some condition }))
+
+pub select_carried : Carried select_unplaced ExprGrammar.select
+select_carried = carried_seq carried_place (carried_pair picks_carried (carried_behind from_table_carried)) (λ x y. selects x y.0 y.1.table y.1.alias y.1.condition)
+
+-- ---- what stands behind a token that opens a level
+
+pub enclosed_carried : Carried inside_unplaced ExprGrammar.enclosed
+enclosed_carried = carried_or (carried_before (carried_image select_carried (λ x. refl))) (carried_before (carried_image expr_carried (λ x. refl)))
+
+pub arguments_carried : Carried (map expr_unplaced) ExprGrammar.arguments
+arguments_carried = carried_or (carried_image carried_place (λ x. refl)) (carried_before (carried_cons source_carried (carried_many (carried_behind source_carried))))
+
+pub exists_carried : Carried select_unplaced ExprGrammar.exists_rest
+exists_carried = carried_within select_carried
+
+when_made : (test result : Expr) → when_of (expr_unplaced test) (expr_unplaced result) ≡ when_unplaced (when_of test result)
+when_made test result = sym (when_rolled (record { test = test; result = result }))
+
+when_carried : Carried when_unplaced ExprGrammar.when
+when_carried = carried_behind (carried_seq expr_carried (carried_behind source_carried) when_made)
+
+whens_carried : Carried whens_unplaced ExprGrammar.whens
+whens_carried = carried_seq when_carried (carried_pair (carried_many when_carried) (carried_before (carried_optional (carried_behind source_carried)))) (λ x y. refl)
+
+pub case_carried : Carried cases_unplaced ExprGrammar.case_rest
+case_carried = carried_or (carried_image whens_carried (λ x. refl)) (carried_seq expr_carried whens_carried (λ x y. refl))
+
+pub cast_carried : Carried (both expr_unplaced type_unplaced) ExprGrammar.cast_rest
+cast_carried = carried_within (carried_pair source_carried (carried_behind data_type_carried))
+
+pub coalesce_carried : Carried (both expr_unplaced (map expr_unplaced)) ExprGrammar.coalesce_rest
+coalesce_carried = carried_within sources_carried
+
+pub nullif_carried : Carried (both expr_unplaced expr_unplaced) ExprGrammar.nullif_rest
+nullif_carried = carried_within (carried_pair expr_carried (carried_behind expr_carried))
+
+pub function_carried : Carried expr_unplaced ExprGrammar.function_rest
+function_carried = carried_within expr_carried
+
+pub position_carried : Carried (both expr_unplaced expr_unplaced) ExprGrammar.position_rest
+position_carried = carried_within (carried_pair sum_carried (carried_behind sum_carried))
+
+pub substring_carried : Carried (all_three expr_unplaced expr_unplaced (option_map expr_unplaced)) ExprGrammar.substring_rest
+substring_carried = carried_within (carried_seq expr_carried (carried_behind (carried_pair expr_carried (carried_optional (carried_behind expr_carried)))) (λ x y. refl))
+
+trim_side_carried : Carried same (token trim_side)
+trim_side_carried = carried_token (λ t. refl)
+
+pub trim_carried : Carried (both same expr_unplaced) ExprGrammar.trim_rest
+trim_carried = carried_behind (carried_ahead (carried_before (carried_pair trim_side_carried (carried_behind expr_carried))) (carried_before (carried_image expr_carried (λ x. refl))))
