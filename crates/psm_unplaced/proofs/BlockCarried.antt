@@ -1,0 +1,111 @@
+-- Loops, declarations and blocks forget their places where their tokens do, part by part.
+use Rattle.std.proofs.Common.{◌≡◌, Bool, List, [], ◌∷◌, Option, Some, None, map, option_map, refl, sym, ap}
+use Rattle.psm_token.specs.declared.place.Place.{Place}
+use Rattle.psm_tree.specs.Tests.{At, handler_kind_of}
+use Rattle.psm_tree.specs.Parts.{Phase, Declarations, Cursors, Handlers, Statements, ForParts, HandlerParts, NamedRest, Variables, Condition, Cursor, Declared, Named, Handled, Body, V}
+use Rattle.psm_tree.specs.StatementValues.{with_named, with_declared, declared}
+use Rattle.psm_tree.specs.StatementGrammar
+use Rattle.psm_tree.specs.declared.name.Identifier.{Identifier}
+use Rattle.psm_tree.specs.declared.statement.HandlerKind.{HandlerKind}
+use Rattle.psm_unplaced.specs.Unplaced.{origin}
+use Rattle.psm_unplaced.specs.ExprUnplaced.{type_unplaced, expr_unplaced, name_unplaced}
+use Rattle.psm_unplaced.specs.StatementUnplaced.{ordered_query_unplaced, for_cursor_unplaced, handler_value_unplaced, handler_unplaced, statement_unplaced}
+use Rattle.psm_unplaced.proofs.ValuesUnplaced.{same, both, all_three, place_unplaced, at_unplaced, statements_unplaced, for_parts_unplaced, handler_parts_unplaced, named_rest_unplaced, declared_unplaced, body_unplaced}
+use Rattle.psm_unplaced.proofs.Equations.{handler_rolled}
+use Rattle.psm_unplaced.proofs.Carried.{Carried, carried_place, carried_name, carried_level_at, carried_next, carried_nothing, carried_seq, carried_or, carried_many, carried_image, carried_pair, carried_cons, carried_optional, carried_behind, carried_before}
+use Rattle.psm_unplaced.proofs.ExprCarried.{next_names_carried, data_type_carried, expr_carried, source_carried}
+use Rattle.psm_unplaced.proofs.StatementCarried.{state_carried, ordered_select_carried, statement_carried, ended_statements_carried, statements_carried}
+
+-- ---- loops
+
+pub loop_carried : Carried statements_unplaced StatementGrammar.loop_rest
+loop_carried = carried_before (carried_before statements_carried)
+
+pub while_carried : Carried (both expr_unplaced statements_unplaced) StatementGrammar.while_rest
+while_carried = carried_pair expr_carried (carried_behind (carried_before (carried_before statements_carried)))
+
+pub repeat_carried : Carried (both statements_unplaced expr_unplaced) StatementGrammar.repeat_rest
+repeat_carried = carried_pair statements_carried (carried_behind (carried_before (carried_before expr_carried)))
+
+insensitive_carried : Carried same StatementGrammar.insensitive
+insensitive_carried = carried_or (carried_image carried_place (λ x. refl)) (carried_nothing refl)
+
+for_cursor_carried : Carried for_cursor_unplaced StatementGrammar.for_cursor_part
+for_cursor_carried = carried_seq carried_name (carried_before (carried_before insensitive_carried)) (λ x y. refl)
+
+for_body_carried : Carried statements_unplaced StatementGrammar.for_body
+for_body_carried = carried_behind (carried_before (carried_before statements_carried))
+
+pub for_carried : Carried for_parts_unplaced StatementGrammar.for_rest
+for_carried = carried_seq carried_name (carried_behind (carried_seq {h = all_three (option_map for_cursor_unplaced) ordered_query_unplaced statements_unplaced} (carried_optional for_cursor_carried) (carried_pair ordered_select_carried for_body_carried) (λ x y. refl))) (λ x y. refl)
+
+-- ---- declarations
+
+typed_carried : Carried (both type_unplaced (option_map expr_unplaced)) StatementGrammar.typed
+typed_carried = carried_pair data_type_carried (carried_optional (carried_behind source_carried))
+
+other_variables_carried : Carried (map name_unplaced) StatementGrammar.other_variables
+other_variables_carried = carried_behind (carried_cons carried_name next_names_carried)
+
+declaration_carried : Carried named_rest_unplaced StatementGrammar.declaration_rest
+declaration_carried = carried_or (carried_seq carried_place (carried_optional (carried_behind state_carried)) (λ x y. refl))
+    (carried_or (carried_seq other_variables_carried typed_carried (λ x y. refl))
+    (carried_seq data_type_carried (carried_optional (carried_behind source_carried)) (λ x y. refl)))
+
+updatability_carried : Carried same StatementGrammar.updatability
+updatability_carried = carried_behind (carried_or (carried_behind (carried_image carried_place (λ x. refl))) (carried_image carried_place (λ x. refl)))
+
+unchanged : {A : Type 0} (x : Option A) → option_map same x ≡ x
+unchanged None = refl
+unchanged (Some x) = refl
+
+cursor_carried : Carried named_rest_unplaced StatementGrammar.cursor_rest
+cursor_carried = carried_seq (carried_before insensitive_carried) (carried_behind (carried_pair ordered_select_carried (carried_optional updatability_carried)))
+    (λ x y. ap (Cursor x (ordered_query_unplaced y.0)) (unchanged y.1))
+
+handler_value_carried : Carried handler_value_unplaced StatementGrammar.handler_value
+handler_value_carried = carried_or (carried_image state_carried (λ x. refl))
+    (carried_or (carried_image carried_place (λ x. refl))
+    (carried_or (carried_image carried_place (λ x. refl))
+    (carried_or (carried_seq carried_place carried_place (λ x y. refl))
+    (carried_image carried_name (λ x. refl)))))
+
+pub handler_carried : Carried handler_parts_unplaced StatementGrammar.handler_rest
+handler_carried = carried_behind (carried_behind (carried_seq (carried_pair handler_value_carried (carried_many (carried_behind handler_value_carried))) statement_carried (λ x y. refl)))
+
+-- ---- blocks
+
+handling : (place : Place) (kind : At HandlerKind) (p : HandlerParts) (body : Body) → with_declared origin (Handled (at_unplaced kind) (handler_parts_unplaced p)) (body_unplaced body) ≡ body_unplaced (with_declared place (Handled kind p) body)
+handling place kind p body = ap (λ h. record { declarations = (body_unplaced body).declarations; cursors = (body_unplaced body).cursors; handlers = h ∷ map handler_unplaced body.handlers; statements = (body_unplaced body).statements })
+    (sym (handler_rolled (record { place = place; «at» = kind.place; kind = kind.value; first = p.first; rest = p.rest; action = p.action })))
+
+declaring : (place : Place) (d : Declared) (body : Body) → with_declared origin (declared_unplaced d) (body_unplaced body) ≡ body_unplaced (with_declared place d body)
+declaring place (Named name (Variables others kind default)) body = refl
+declaring place (Named name (Condition state)) body = refl
+declaring place (Named name (Cursor insensitive query updatability)) body = refl
+declaring place (Handled kind p) body = handling place kind p body
+
+pub body_carried : (phase : Phase) → Carried body_unplaced (StatementGrammar.body_rest phase)
+body_carried phase = carried_or (carried_next (λ x y. declaring x y.0 y.1)) (carried_image (carried_before ended_statements_carried) (λ x. refl))
+
+declared_handler_carried : Carried (both declared_unplaced body_unplaced) StatementGrammar.declared_handler
+declared_handler_carried = carried_pair (carried_level_at handler_kind_of (λ x y. refl)) (carried_next (λ x y. refl))
+
+declared_cursor_carried : Carried (both named_rest_unplaced body_unplaced) StatementGrammar.declared_cursor
+declared_cursor_carried = carried_pair cursor_carried (carried_next (λ x y. refl))
+
+declared_variables_carried : Carried (both named_rest_unplaced body_unplaced) StatementGrammar.declared_variables
+declared_variables_carried = carried_pair declaration_carried (carried_next (λ x y. refl))
+
+pub declare_carried : (phase : Phase) → Carried (both declared_unplaced body_unplaced) (StatementGrammar.declare_rest phase)
+declare_carried Declarations = carried_or declared_handler_carried (carried_seq carried_name (carried_or declared_cursor_carried declared_variables_carried) (λ x y. refl))
+declare_carried Cursors = carried_or declared_handler_carried (carried_seq carried_name declared_cursor_carried (λ x y. refl))
+declare_carried Handlers = declared_handler_carried
+
+atomic_carried : Carried same StatementGrammar.atomic
+atomic_carried = carried_or (carried_image carried_place (λ x. refl))
+    (carried_or (carried_behind (carried_image carried_place (λ x. refl)))
+    (carried_nothing refl))
+
+pub begin_carried : Carried (both same body_unplaced) StatementGrammar.begin_rest
+begin_carried = carried_pair atomic_carried (body_carried Declarations)

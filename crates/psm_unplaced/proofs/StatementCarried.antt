@@ -1,0 +1,199 @@
+-- Statements forget their places where their tokens do, part by part.
+use Rattle.std.proofs.Common.{◌≡◌, Bool, List, [], ◌∷◌, Option, Some, None, map, option_map, refl, sym}
+use denote.Hole.Carrier
+use Rattle.psm_token.specs.declared.place.Place.{Place}
+use Rattle.psm_grammar.specs.Forms.{optional}
+use Rattle.psm_tree.specs.Tests.{At, number_of, characters_of, statement_item_of, condition_item_of}
+use Rattle.psm_tree.specs.Parts.{Statements, Branches, ForParts, Body}
+use Rattle.psm_tree.specs.StatementValues.{Block, Compound, Loop, While, Repeat, For, block_with, unlabelled, labelled, simple_statement, if_of, case_statement_of, listed, branches_of, branch_of}
+use Rattle.psm_tree.specs.StatementGrammar
+use Rattle.psm_tree.specs.declared.name.Identifier.{Identifier}
+use Rattle.psm_tree.specs.declared.expr.Expr.{Expr}
+use Rattle.psm_tree.specs.declared.statement.Statement.{Statement, roll-Statement}
+use Rattle.psm_tree.specs.declared.statement.Statement.TheOpen as layers
+use Rattle.psm_tree.specs.declared.statement.Label.{Label}
+use Rattle.psm_tree.specs.declared.statement.Branch.{Branch}
+use Rattle.psm_tree.specs.declared.statement.Simple.{Simple}
+use Rattle.psm_unplaced.specs.Unplaced.{origin}
+use Rattle.psm_unplaced.specs.ExprUnplaced.{state_unplaced, expr_unplaced, pick_unplaced, name_unplaced, names_unplaced, targets_unplaced}
+use Rattle.psm_unplaced.specs.StatementUnplaced
+use Rattle.psm_unplaced.specs.StatementUnplaced.{ordered_query_unplaced, order_unplaced, order_column_unplaced, signalled_unplaced, where_unplaced, values_unplaced, insert_source_unplaced, assignment_unplaced, statement_info_unplaced, condition_info_unplaced, diagnostics_unplaced, simple_unplaced, label_unplaced, statement_unplaced, branch_unplaced}
+use Rattle.psm_unplaced.proofs.ValuesUnplaced.{same, both, all_three, place_unplaced, at_unplaced, from_unplaced, updating_unplaced, statements_unplaced, branches_unplaced, block_unplaced}
+use Rattle.psm_unplaced.proofs.Equations.{statement_rolled, branch_rolled}
+use Rattle.psm_unplaced.proofs.Carried.{Carried, carried_place, carried_at, carried_name, carried_level, carried_nothing, carried_seq, carried_or, carried_ahead, carried_many, carried_image, carried_pair, carried_optional, carried_behind, carried_before}
+use Rattle.psm_unplaced.proofs.ExprCarried.{target_carried, names_in_parens_carried, targets_carried, expr_carried, source_carried, sources_carried, picks_carried, from_table_carried, select_carried, arguments_carried}
+
+-- ---- parts of statements
+
+pub state_carried : Carried state_unplaced StatementGrammar.state
+state_carried = carried_seq carried_place (carried_or (carried_behind (carried_at characters_of)) (carried_at characters_of)) (λ x y. refl)
+
+direction_carried : Carried same StatementGrammar.direction
+direction_carried = carried_or (carried_image carried_place (λ x. refl))
+    (carried_or (carried_image carried_place (λ x. refl))
+    (carried_nothing refl))
+
+column_order_carried : Carried order_column_unplaced StatementGrammar.column_order
+column_order_carried = carried_seq carried_name direction_carried (λ x y. refl)
+
+order_carried : Carried order_unplaced StatementGrammar.order
+order_carried = carried_seq carried_place (carried_behind (carried_pair column_order_carried (carried_many (carried_behind column_order_carried)))) (λ x y. refl)
+
+pub ordered_select_carried : Carried ordered_query_unplaced StatementGrammar.ordered_select
+ordered_select_carried = carried_seq select_carried (carried_optional order_carried) (λ x y. refl)
+
+message_carried : Carried expr_unplaced StatementGrammar.message
+message_carried = carried_behind (carried_behind (carried_behind expr_carried))
+
+state_signalled_carried : Carried signalled_unplaced StatementGrammar.state_signalled
+state_signalled_carried = carried_seq (carried_image {h = StatementUnplaced.condition_unplaced} state_carried (λ x. refl)) (carried_optional message_carried) (λ x y. refl)
+
+name_signalled_carried : Carried signalled_unplaced StatementGrammar.name_signalled
+name_signalled_carried = carried_seq (carried_image {h = StatementUnplaced.condition_unplaced} carried_name (λ x. refl)) (carried_optional message_carried) (λ x y. refl)
+
+where_carried : Carried where_unplaced StatementGrammar.where_part
+where_carried = carried_behind (carried_or (carried_behind (carried_behind (carried_image carried_name (λ x. refl)))) (carried_image expr_carried (λ x. refl)))
+
+values_carried : Carried values_unplaced StatementGrammar.values
+values_carried = carried_seq carried_place (carried_before sources_carried) (λ x y. refl)
+
+insert_source_carried : Carried insert_source_unplaced StatementGrammar.insert_source
+insert_source_carried = carried_or (carried_behind (carried_seq values_carried (carried_many (carried_behind values_carried)) (λ x y. refl))) (carried_image select_carried (λ x. refl))
+
+assignment_carried : Carried assignment_unplaced StatementGrammar.assignment
+assignment_carried = carried_seq carried_name (carried_behind source_carried) (λ x y. refl)
+
+-- ---- GET DIAGNOSTICS
+
+statement_info_carried : Carried statement_info_unplaced StatementGrammar.statement_info
+statement_info_carried = carried_seq target_carried (carried_behind (carried_at statement_item_of)) (λ x y. refl)
+
+condition_info_carried : Carried condition_info_unplaced StatementGrammar.condition_info
+condition_info_carried = carried_seq target_carried (carried_behind (carried_at condition_item_of)) (λ x y. refl)
+
+condition_number_carried : Carried StatementUnplaced.condition_number_unplaced StatementGrammar.condition_number
+condition_number_carried = carried_or (carried_image (carried_at number_of) (λ x. refl)) (carried_image target_carried (λ x. refl))
+
+diagnostics_carried : Carried diagnostics_unplaced StatementGrammar.diagnostics
+diagnostics_carried = carried_or (carried_behind (carried_seq condition_number_carried (carried_pair condition_info_carried (carried_many (carried_behind condition_info_carried))) (λ x y. refl)))
+    (carried_seq statement_info_carried (carried_many (carried_behind statement_info_carried)) (λ x y. refl))
+
+-- ---- simple statements
+
+resignalled_carried : Carried (option_map signalled_unplaced) StatementGrammar.resignalled
+resignalled_carried = carried_or (carried_image state_signalled_carried (λ x. refl))
+    (carried_or (carried_image name_signalled_carried (λ x. refl))
+    (carried_nothing refl))
+
+into_targets_carried : Carried targets_unplaced StatementGrammar.into_targets
+into_targets_carried = carried_behind targets_carried
+
+select_statement_carried : Carried simple_unplaced StatementGrammar.select_statement
+select_statement_carried = carried_seq carried_place (carried_seq {h = all_three (map pick_unplaced) targets_unplaced from_unplaced} picks_carried (carried_pair into_targets_carried (carried_behind from_table_carried)) (λ x y. refl)) (λ x y. refl)
+
+insert_statement_carried : Carried simple_unplaced StatementGrammar.insert_statement
+insert_statement_carried = carried_seq carried_place (carried_behind (carried_seq {h = all_three name_unplaced (option_map names_unplaced) insert_source_unplaced} carried_name (carried_pair (carried_optional names_in_parens_carried) insert_source_carried) (λ x y. refl))) (λ x y. refl)
+
+update_statement_carried : Carried simple_unplaced StatementGrammar.update_statement
+update_statement_carried = carried_seq carried_place (carried_seq {h = updating_unplaced} carried_name (carried_pair (carried_behind (carried_pair assignment_carried (carried_many (carried_behind assignment_carried)))) (carried_optional where_carried)) (λ x y. refl)) (λ x y. refl)
+
+delete_statement_carried : Carried simple_unplaced StatementGrammar.delete_statement
+delete_statement_carried = carried_seq carried_place (carried_behind (carried_pair carried_name (carried_optional where_carried))) (λ x y. refl)
+
+fetched_carried : Carried (both name_unplaced targets_unplaced) StatementGrammar.fetched
+fetched_carried = carried_pair carried_name into_targets_carried
+
+fetch_statement_carried : Carried simple_unplaced StatementGrammar.fetch_statement
+fetch_statement_carried = carried_seq carried_place (carried_or (carried_behind fetched_carried) (carried_ahead (carried_behind (carried_behind fetched_carried)) fetched_carried)) (λ x y. refl)
+
+data_statement_carried : Carried simple_unplaced StatementGrammar.data_statement
+data_statement_carried = carried_or select_statement_carried
+    (carried_or insert_statement_carried
+    (carried_or update_statement_carried
+    (carried_or delete_statement_carried
+    (carried_or (carried_seq carried_place carried_name (λ x y. refl))
+    (carried_or fetch_statement_carried
+    (carried_seq carried_place carried_name (λ x y. refl)))))))
+
+simple_carried : Carried simple_unplaced StatementGrammar.simple
+simple_carried = carried_or (carried_seq carried_place (carried_pair target_carried (carried_behind source_carried)) (λ x y. refl))
+    (carried_or (carried_seq carried_place (carried_pair carried_name (carried_behind arguments_carried)) (λ x y. refl))
+    (carried_or (carried_seq carried_place source_carried (λ x y. refl))
+    (carried_or (carried_seq carried_place carried_name (λ x y. refl))
+    (carried_or (carried_seq carried_place carried_name (λ x y. refl))
+    (carried_or (carried_seq carried_place (carried_or state_signalled_carried name_signalled_carried) (λ x y. refl))
+    (carried_or (carried_seq carried_place resignalled_carried (λ x y. refl))
+    (carried_or (carried_seq carried_place (carried_behind diagnostics_carried) (λ x y. refl))
+    data_statement_carried)))))))
+
+-- ---- statements
+
+block_carried : Carried block_unplaced StatementGrammar.block
+block_carried = carried_or (carried_level (λ x y. refl))
+    (carried_or (carried_level (λ x y. refl))
+    (carried_or (carried_level (λ x y. refl))
+    (carried_or (carried_level (λ x y. refl))
+    (carried_level (λ x y. refl)))))
+
+blocked : (label : Option Label) (block : Block) → block_with (option_map label_unplaced label) (block_unplaced block) ≡ statement_unplaced (block_with label block)
+unfolding roll-Statement Carrier.roll
+blocked label (Compound place p) = sym (statement_rolled (layers.Compound label place p.0 p.1.declarations p.1.cursors p.1.handlers p.1.statements))
+blocked label (Loop place p) = sym (statement_rolled (layers.Loop label place p.first p.rest))
+blocked label (While place p) = sym (statement_rolled (layers.While label place p.0 p.1.first p.1.rest))
+blocked label (Repeat place p) = sym (statement_rolled (layers.Repeat label place p.0.first p.0.rest p.1))
+blocked label (For place p) = sym (statement_rolled (layers.For label place p.name p.cursor p.query p.body.first p.body.rest))
+
+labelled_unplaced : (start : Identifier) (p : Block × Option Identifier) → labelled (name_unplaced start) (both block_unplaced (option_map name_unplaced) p) ≡ statement_unplaced (labelled start p)
+labelled_unplaced start p = blocked (Some (record { start = start; end = p.1 })) p.0
+
+labelled_carried : Carried statement_unplaced StatementGrammar.labelled_statement
+labelled_carried = carried_seq carried_name (carried_behind (carried_pair block_carried (carried_optional carried_name))) labelled_unplaced
+
+ifs : (place : Place) (b : Branches) → if_of origin (branches_unplaced b) ≡ statement_unplaced (if_of place b)
+unfolding roll-Statement Carrier.roll
+ifs place b = sym (statement_rolled (layers.If place b.first b.rest b.otherwise))
+
+cases : (place : Place) (p : Option Expr × Branches) → case_statement_of origin (both (option_map expr_unplaced) branches_unplaced p) ≡ statement_unplaced (case_statement_of place p)
+unfolding roll-Statement Carrier.roll
+cases place p = sym (statement_rolled (layers.Case place p.0 p.1.first p.1.rest p.1.otherwise))
+
+simply : (simple : Simple) → simple_statement (simple_unplaced simple) ≡ statement_unplaced (simple_statement simple)
+unfolding roll-Statement Carrier.roll
+simply simple = sym (statement_rolled (layers.Simple simple))
+
+pub statement_carried : Carried statement_unplaced StatementGrammar.statement
+statement_carried = carried_or labelled_carried
+    (carried_or (carried_level ifs)
+    (carried_or (carried_level cases)
+    (carried_or (carried_image block_carried (blocked None))
+    (carried_image simple_carried simply))))
+
+pub ended_statements_carried : Carried (map statement_unplaced) StatementGrammar.ended_statements
+ended_statements_carried = carried_many (carried_before statement_carried)
+
+pub statements_carried : Carried statements_unplaced StatementGrammar.statements
+statements_carried = carried_seq (carried_before statement_carried) ended_statements_carried (λ x y. refl)
+
+-- ---- IF and CASE
+
+branched : (test : Expr) (s : Statements) → branch_of (expr_unplaced test) (statements_unplaced s) ≡ branch_unplaced (branch_of test s)
+branched test s = sym (branch_rolled (record { test = test; first = s.first; rest = s.rest }))
+
+branch_carried : Carried branch_unplaced StatementGrammar.branch
+branch_carried = carried_seq expr_carried (carried_behind statements_carried) branched
+
+otherwise_carried : Carried (option_map statements_unplaced) (optional StatementGrammar.otherwise_statements)
+otherwise_carried = carried_optional (carried_behind statements_carried)
+
+gathered : (first : Branch) (p : List Branch × Option Statements) → branches_of (branch_unplaced first) (both (map branch_unplaced) (option_map statements_unplaced) p) ≡ branches_unplaced (branches_of first p)
+gathered first (rest, None) = refl
+gathered first (rest, Some s) = refl
+
+pub if_carried : Carried branches_unplaced StatementGrammar.if_rest
+if_carried = carried_seq branch_carried (carried_pair (carried_many (carried_behind branch_carried)) (carried_before (carried_before otherwise_carried))) gathered
+
+case_branches_carried : Carried branches_unplaced StatementGrammar.case_branches
+case_branches_carried = carried_seq (carried_behind branch_carried) (carried_pair (carried_many (carried_behind branch_carried)) (carried_before (carried_before otherwise_carried))) gathered
+
+pub case_carried : Carried (both (option_map expr_unplaced) branches_unplaced) StatementGrammar.case_statement_rest
+case_carried = carried_or (carried_image case_branches_carried (λ x. refl)) (carried_seq expr_carried case_branches_carried (λ x y. refl))
