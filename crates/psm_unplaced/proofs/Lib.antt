@@ -4,3 +4,5 @@ pub mod Carried
 pub mod ExprCarried
 pub mod StatementCarried
 pub mod BlockCarried
+pub mod FileCarried
+pub mod Apart

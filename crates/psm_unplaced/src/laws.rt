@@ -5,12 +5,22 @@ ghost use Rattle.psm_grammar.specs.Language.{Words, toks};
 ghost use Rattle.psm_grammar.specs.Grammar.{Spells};
 ghost use Rattle.psm_tree.specs.Productions.{productions};
 ghost use Rattle.psm_tree.specs.ExprGrammar.{expr};
+ghost use Rattle.psm_tree.specs.StatementGrammar.{statement};
+ghost use Rattle.psm_tree.specs.FileGrammar.{file, script};
 ghost use Rattle.psm_tree.specs.declared.expr.Expr.{Expr as ExprTree};
+ghost use Rattle.psm_tree.specs.declared.statement.Statement.{Statement as StatementTree};
+ghost use Rattle.psm_tree.specs.declared.file.FileTree.{FileTree as TheFile};
+ghost use Rattle.psm_tree.specs.declared.script.ScriptTree.{ScriptTree as TheScript};
 ghost use Rattle.psm_unplaced.specs.Unplaced.{unplaced};
 ghost use Rattle.psm_unplaced.specs.ExprUnplaced.{expr_unplaced};
+ghost use Rattle.psm_unplaced.specs.StatementUnplaced.{statement_unplaced};
+ghost use Rattle.psm_unplaced.specs.FileUnplaced.{file_unplaced, script_unplaced};
 
 /// Tokens that are the same, places apart, spell trees that are the same, places apart: of files and
 /// scripts, and of expressions and statements at each depth of nesting.
 pub fn one_tree_places_apart()
+    ensures of_file { (w v : Words Placed) (x y : TheFile) → Spells productions 0 file w x → Spells productions 0 file v y → map unplaced (toks w) ≡ map unplaced (toks v) → file_unplaced x ≡ file_unplaced y }
+    ensures of_script { (w v : Words Placed) (x y : TheScript) → Spells productions 0 script w x → Spells productions 0 script v y → map unplaced (toks w) ≡ map unplaced (toks v) → script_unplaced x ≡ script_unplaced y }
     ensures of_expr { (depth : ℕ) (w v : Words Placed) (x y : ExprTree) → Spells productions depth expr w x → Spells productions depth expr v y → map unplaced (toks w) ≡ map unplaced (toks v) → expr_unplaced x ≡ expr_unplaced y }
+    ensures of_statement { (depth : ℕ) (w v : Words Placed) (x y : StatementTree) → Spells productions depth statement w x → Spells productions depth statement v y → map unplaced (toks w) ≡ map unplaced (toks v) → statement_unplaced x ≡ statement_unplaced y }
 {}

@@ -1,0 +1,153 @@
+-- Module files and scripts forget their places where their tokens do, part by part.
+use Rattle.std.proofs.Common.{◌≡◌, List, [], ◌∷◌, Option, map, option_map, refl, ap}
+use Rattle.psm_token.specs.declared.place.Place.{Place}
+use Rattle.psm_tree.specs.Tests.{mode_of}
+use Rattle.psm_tree.specs.FileValues.{TableRest, tables_from, table_of, last_place, ProcedureRest, FunctionRest, ModuleRest, file_of, Inserting}
+use Rattle.psm_tree.specs.FileGrammar
+use Rattle.psm_tree.specs.declared.statement.Statement.{Statement}
+use Rattle.psm_tree.specs.declared.file.Note.{Note}
+use Rattle.psm_tree.specs.declared.types.DataType.{DataType}
+use Rattle.psm_tree.specs.declared.name.Identifier.{Identifier}
+use Rattle.psm_unplaced.specs.Unplaced.{origin}
+use Rattle.psm_unplaced.specs.ExprUnplaced.{name_unplaced, names_unplaced, type_unplaced, constant_unplaced}
+use Rattle.psm_unplaced.specs.StatementUnplaced.{statement_unplaced}
+use Rattle.psm_unplaced.specs.FileUnplaced.{column_rule_unplaced, table_rule_unplaced, element_unplaced, table_unplaced, parameter_unplaced, note_unplaced, routine_unplaced, module_unplaced, file_unplaced, argument_unplaced, row_unplaced, command_unplaced, script_unplaced}
+use Rattle.psm_unplaced.proofs.ValuesUnplaced.{same, both, all_three, place_unplaced}
+use Rattle.psm_unplaced.proofs.Carried.{Carried, carried_place, carried_at, carried_name, carried_nothing, carried_seq, carried_or, carried_ahead, carried_many, carried_image, carried_pair, carried_cons, carried_optional, carried_behind, carried_before, carried_within}
+use Rattle.psm_unplaced.proofs.ExprCarried.{names_in_parens_carried, varying_carried, char_length_carried, plain_type_carried, data_type_carried, constant_carried, expr_carried}
+use Rattle.psm_unplaced.proofs.StatementCarried.{ordered_select_carried, statement_carried}
+
+-- ---- tables
+
+plain_column_rule_carried : Carried column_rule_unplaced FileGrammar.plain_column_rule
+plain_column_rule_carried = carried_or (carried_seq carried_place carried_place (λ x y. refl))
+    (carried_or (carried_seq carried_place carried_place (λ x y. refl))
+    (carried_or (carried_image carried_place (λ x. refl))
+    (carried_seq carried_place (carried_within expr_carried) (λ x y. refl))))
+
+column_rule_carried : Carried column_rule_unplaced FileGrammar.column_rule
+column_rule_carried = carried_or (carried_behind (carried_seq carried_name plain_column_rule_carried (λ x y. refl))) plain_column_rule_carried
+
+column_carried : Carried element_unplaced FileGrammar.column
+column_carried = carried_seq carried_name (carried_seq {h = all_three type_unplaced (option_map constant_unplaced) (map column_rule_unplaced)} data_type_carried
+    (carried_pair (carried_optional (carried_behind constant_carried)) (carried_many column_rule_carried)) (λ x y. refl)) (λ x y. refl)
+
+plain_table_rule_carried : Carried table_rule_unplaced FileGrammar.plain_table_rule
+plain_table_rule_carried = carried_or (carried_seq carried_place (carried_behind names_in_parens_carried) (λ x y. refl))
+    (carried_or (carried_seq carried_place names_in_parens_carried (λ x y. refl))
+    (carried_seq carried_place (carried_within expr_carried) (λ x y. refl)))
+
+table_rule_carried : Carried table_rule_unplaced FileGrammar.table_rule
+table_rule_carried = carried_or (carried_behind (carried_seq carried_name plain_table_rule_carried (λ x y. refl))) plain_table_rule_carried
+
+element_carried : Carried element_unplaced FileGrammar.element
+element_carried = carried_or column_carried (carried_image table_rule_carried (λ x. refl))
+
+abbrev table_rest_unplaced : TableRest → TableRest
+table_rest_unplaced t = record { name = name_unplaced t.name; first = element_unplaced t.first; rest = map element_unplaced t.rest }
+
+table_carried : Carried table_rest_unplaced FileGrammar.table
+table_carried = carried_seq carried_name (carried_within (carried_pair element_carried (carried_many (carried_behind element_carried)))) (λ x y. refl)
+
+-- ---- routines
+
+named_type_carried : Carried (both name_unplaced type_unplaced) FileGrammar.named_type
+named_type_carried = carried_pair carried_name data_type_carried
+
+param_carried : Carried parameter_unplaced FileGrammar.param
+param_carried = carried_or (carried_seq (carried_at mode_of) named_type_carried (λ x y. refl)) (carried_image named_type_carried (λ x. refl))
+
+params_carried : Carried (map parameter_unplaced) FileGrammar.params
+params_carried = carried_behind (carried_or (carried_image carried_place (λ x. refl)) (carried_before (carried_cons param_carried (carried_many (carried_behind param_carried)))))
+
+sql_data_carried : Carried place_unplaced FileGrammar.sql_data
+sql_data_carried = carried_behind carried_place
+
+note_carried : Carried note_unplaced FileGrammar.note
+note_carried = carried_or (carried_seq carried_place carried_place (λ x y. refl))
+    (carried_or (carried_image carried_place (λ x. refl))
+    (carried_or (carried_seq carried_place carried_place (λ x y. refl))
+    (carried_or (carried_seq carried_place carried_place (λ x y. refl))
+    (carried_or (carried_seq carried_place sql_data_carried (λ x y. refl))
+    (carried_seq carried_place sql_data_carried (λ x y. refl))))))
+
+abbrev noted_unplaced : List Note × Statement → List Note × Statement
+noted_unplaced = both (map note_unplaced) statement_unplaced
+
+noted_carried : Carried noted_unplaced FileGrammar.noted_statement
+noted_carried = carried_pair (carried_many note_carried) statement_carried
+
+abbrev procedure_rest_unplaced : ProcedureRest → ProcedureRest
+procedure_rest_unplaced r = record { name = name_unplaced r.name; parameters = map parameter_unplaced r.parameters; notes = map note_unplaced r.notes; body = statement_unplaced r.body }
+
+procedure_carried : Carried routine_unplaced FileGrammar.procedure
+procedure_carried = carried_seq carried_place (carried_seq {h = procedure_rest_unplaced} carried_name (carried_pair params_carried noted_carried) (λ x y. refl)) (λ x y. refl)
+
+returned_carried : Carried (both type_unplaced noted_unplaced) FileGrammar.returned
+returned_carried = carried_or (carried_seq carried_place (carried_ahead {h = both same noted_unplaced} (carried_pair varying_carried noted_carried) (carried_pair char_length_carried noted_carried)) (λ x y. refl))
+    (carried_pair plain_type_carried noted_carried)
+
+abbrev function_rest_unplaced : FunctionRest → FunctionRest
+function_rest_unplaced r = record { name = name_unplaced r.name; parameters = map parameter_unplaced r.parameters; returns = type_unplaced r.returns; notes = map note_unplaced r.notes; body = statement_unplaced r.body }
+
+function_carried : Carried routine_unplaced FileGrammar.function
+function_carried = carried_seq carried_place (carried_seq {h = function_rest_unplaced} carried_name (carried_pair params_carried (carried_behind returned_carried)) (λ x y. refl)) (λ x y. refl)
+
+routine_carried : Carried routine_unplaced FileGrammar.routine
+routine_carried = carried_or (carried_behind (carried_or procedure_carried function_carried)) (carried_or procedure_carried function_carried)
+
+-- ---- files
+
+abbrev module_rest_unplaced : ModuleRest → ModuleRest
+module_rest_unplaced m = record { name = name_unplaced m.name; routines = map routine_unplaced m.routines }
+
+module_carried : Carried module_rest_unplaced FileGrammar.module_part
+module_carried = carried_behind (carried_seq carried_name (carried_pair (carried_optional (carried_behind carried_place)) (carried_before (carried_before (carried_many (carried_before routine_carried))))) (λ x y. refl))
+
+created_tables_carried : Carried (map (both table_rest_unplaced place_unplaced)) FileGrammar.created_tables
+created_tables_carried = carried_many (carried_behind (carried_pair table_carried (carried_behind carried_place)))
+
+tables_unplaced : (place : Place) (ts : List (TableRest × Place)) → tables_from origin (map (both table_rest_unplaced place_unplaced) ts) ≡ map table_unplaced (tables_from place ts)
+tables_unplaced place [] = refl
+tables_unplaced place (t ∷ ts) = ap (λ tables. table_unplaced (table_of place t.0) ∷ tables) (tables_unplaced t.1 ts)
+
+last_unplaced : (ts : List (TableRest × Place)) → last_place origin (map (both table_rest_unplaced place_unplaced) ts) ≡ origin
+last_unplaced [] = refl
+last_unplaced (t ∷ ts) = last_unplaced ts
+
+made_file : (place : Place) (p : List (TableRest × Place) × ModuleRest) → file_of origin (both (map (both table_rest_unplaced place_unplaced)) module_rest_unplaced p) ≡ file_unplaced (file_of place p)
+made_file place p = λ i. record {
+  tables = tables_unplaced place p.0 i;
+  «module» = record { place = last_unplaced p.0 i; name = name_unplaced p.1.name; routines = map routine_unplaced p.1.routines };
+}
+
+pub file_carried : Carried file_unplaced FileGrammar.file
+file_carried = carried_seq carried_place (carried_pair created_tables_carried (carried_seq module_carried (carried_optional carried_place) (λ x y. refl))) made_file
+
+-- ---- scripts
+
+argument_carried : Carried argument_unplaced FileGrammar.argument
+argument_carried = carried_or (carried_image carried_place (λ x. refl)) (carried_image constant_carried (λ x. refl))
+
+script_arguments_carried : Carried (map argument_unplaced) FileGrammar.script_arguments
+script_arguments_carried = carried_or (carried_image carried_place (λ x. refl)) (carried_before (carried_cons argument_carried (carried_many (carried_behind argument_carried))))
+
+row_carried : Carried row_unplaced FileGrammar.row
+row_carried = carried_seq carried_place (carried_before (carried_pair constant_carried (carried_many (carried_behind constant_carried)))) (λ x y. refl)
+
+abbrev inserting_unplaced : Inserting → Inserting
+inserting_unplaced i = record { table = name_unplaced i.table; columns = option_map names_unplaced i.columns; first = row_unplaced i.first; rest = map row_unplaced i.rest }
+
+inserting_carried : Carried command_unplaced FileGrammar.script_insert
+inserting_carried = carried_seq carried_place (carried_behind (carried_seq {h = inserting_unplaced} carried_name
+    (carried_pair (carried_optional names_in_parens_carried) (carried_behind (carried_pair row_carried (carried_many (carried_behind row_carried))))) (λ x y. refl))) (λ x y. refl)
+
+command_carried : Carried command_unplaced FileGrammar.command
+command_carried = carried_or (carried_seq carried_place (carried_pair carried_name (carried_behind script_arguments_carried)) (λ x y. refl))
+    (carried_or inserting_carried
+    (carried_or (carried_image ordered_select_carried (λ x. refl))
+    (carried_or (carried_seq carried_place (carried_optional carried_place) (λ x y. refl))
+    (carried_seq carried_place (carried_optional carried_place) (λ x y. refl)))))
+
+pub script_carried : Carried script_unplaced FileGrammar.script
+script_carried = carried_image (carried_many (carried_before command_carried)) (λ x. refl)
