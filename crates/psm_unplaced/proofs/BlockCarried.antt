@@ -1,16 +1,15 @@
 -- Loops, declarations and blocks forget their places where their tokens do, part by part.
-use Rattle.std.proofs.Common.{◌≡◌, Bool, List, [], ◌∷◌, Option, Some, None, map, option_map, refl, sym, ap}
+use Rattle.std.proofs.Common.{◌≡◌, ◌∷◌, Option, Some, None, map, option_map, refl, sym, ap}
 use Rattle.psm_token.specs.declared.place.Place.{Place}
 use Rattle.psm_tree.specs.Tests.{At, handler_kind_of}
-use Rattle.psm_tree.specs.Parts.{Phase, Declarations, Cursors, Handlers, Statements, ForParts, HandlerParts, NamedRest, Variables, Condition, Cursor, Declared, Named, Handled, Body, V}
-use Rattle.psm_tree.specs.StatementValues.{with_named, with_declared, declared}
+use Rattle.psm_tree.specs.Parts.{Phase, Declarations, Cursors, Handlers, HandlerParts, Variables, Condition, Cursor, Declared, Named, Handled, Body}
+use Rattle.psm_tree.specs.StatementValues.{with_declared}
 use Rattle.psm_tree.specs.StatementGrammar
-use Rattle.psm_tree.specs.declared.name.Identifier.{Identifier}
 use Rattle.psm_tree.specs.declared.statement.HandlerKind.{HandlerKind}
 use Rattle.psm_unplaced.specs.Unplaced.{origin}
 use Rattle.psm_unplaced.specs.ExprUnplaced.{type_unplaced, expr_unplaced, name_unplaced}
-use Rattle.psm_unplaced.specs.StatementUnplaced.{ordered_query_unplaced, for_cursor_unplaced, handler_value_unplaced, handler_unplaced, statement_unplaced}
-use Rattle.psm_unplaced.proofs.ValuesUnplaced.{same, both, all_three, place_unplaced, at_unplaced, statements_unplaced, for_parts_unplaced, handler_parts_unplaced, named_rest_unplaced, declared_unplaced, body_unplaced}
+use Rattle.psm_unplaced.specs.StatementUnplaced.{ordered_query_unplaced, for_cursor_unplaced, handler_value_unplaced, handler_unplaced}
+use Rattle.psm_unplaced.proofs.ValuesUnplaced.{same, both, all_three, at_unplaced, statements_unplaced, for_parts_unplaced, handler_parts_unplaced, named_rest_unplaced, declared_unplaced, body_unplaced}
 use Rattle.psm_unplaced.proofs.Equations.{handler_rolled}
 use Rattle.psm_unplaced.proofs.Carried.{Carried, carried_place, carried_name, carried_level_at, carried_next, carried_nothing, carried_seq, carried_or, carried_many, carried_image, carried_pair, carried_cons, carried_optional, carried_behind, carried_before}
 use Rattle.psm_unplaced.proofs.ExprCarried.{next_names_carried, data_type_carried, expr_carried, source_carried}

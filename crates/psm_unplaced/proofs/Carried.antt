@@ -1,5 +1,5 @@
 -- Grammars whose values forget their places where their tokens do, and the ways to make them of one another.
-use Rattle.std.proofs.Common.{◌≡◌, ℕ, true, List, [], ◌∷◌, Option, Some, None, map, option_map, refl}
+use Rattle.std.proofs.Common.{◌≡◌, ℕ, List, map, option_map, refl}
 use Rattle.psm_token.specs.declared.place.Place.{Place}
 use Rattle.psm_token.specs.declared.token.Token.{Token}
 use Rattle.psm_token.specs.declared.token.Placed.{Placed}
@@ -10,7 +10,7 @@ use Rattle.psm_grammar.specs.Places.{Carries}
 use Rattle.psm_tree.specs.Tests.{At, at, place_of, name}
 use Rattle.psm_tree.specs.Parts.{Part, V}
 use Rattle.psm_tree.specs.ExprValues.{pair, cons}
-use Rattle.psm_tree.specs.ExprGrammar.{Gram, closed, within_parens}
+use Rattle.psm_tree.specs.ExprGrammar.{Gram, within_parens}
 use Rattle.psm_unplaced.specs.Unplaced.{origin, unplaced}
 use Rattle.psm_unplaced.specs.ExprUnplaced.{name_unplaced}
 use Rattle.psm_unplaced.proofs.ValuesUnplaced.{both, place_unplaced, at_unplaced, part_unplaced}

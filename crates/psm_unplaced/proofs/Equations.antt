@@ -1,5 +1,5 @@
 -- What becomes of the layers of expressions and statements where places are forgotten.
-use Rattle.std.proofs.Common.{◌≡◌, List, map, refl}
+use Rattle.std.proofs.Common.{◌≡◌}
 use Rattle.psm_tree.specs.declared.expr.Expr.{Expr, roll-Expr}
 use Rattle.psm_tree.specs.declared.expr.Expr.TheOpen.{Pick-F, Link-F, Select-F, When-F}
 use Rattle.psm_tree.specs.declared.expr.Expr.TheFolds.{map-Expr, map-Pick, map-Link, map-Select, map-When, fold-roll-Expr, fold-roll-Pick, fold-roll-Link, fold-roll-Select, fold-roll-When}

@@ -1,12 +1,12 @@
 -- Names, types, constants, expressions and queries forget their places where their tokens do, part by part.
-use Rattle.std.proofs.Common.{◌≡◌, ℕ, Bool, true, false, List, [], ◌∷◌, Option, Some, None, map, option_map, refl, sym, ap}
+use Rattle.std.proofs.Common.{◌≡◌, ℕ, List, [], ◌∷◌, Option, Some, None, map, option_map, refl, sym, ap}
 use denote.Hole.Carrier
 use Rattle.psm_num.specs.Num.{Num}
 use Rattle.psm_token.specs.declared.place.Place.{Place}
 use Rattle.psm_grammar.specs.Grammar.{token}
 use Rattle.psm_tree.specs.Tests.{At, number_of, characters_of, sign_of, text_function_of, set_function_of, comparison, sum_operator, term_operator, trim_side}
 use Rattle.psm_tree.specs.Parts.{Inside, Value, Query, Cases}
-use Rattle.psm_tree.specs.ExprValues.{Test, Nothing, Compare, IsNull, Between, In, Like, NameRest, Bare, Dotted, Called, Item, Plain, Rows, Aggregate, joined, predicate_of, chain_of, named, enclosed_of, precision_of, numeric_of, null_of, count_of, pick_of, case_of, substring_of, number_primary, text_primary, signed, link_of, negated, null_source, select_of, all_picks, when_of, Whens}
+use Rattle.psm_tree.specs.ExprValues.{Test, Nothing, Compare, IsNull, Between, In, Like, NameRest, Bare, Dotted, Called, Item, Plain, Rows, Aggregate, joined, predicate_of, chain_of, named, enclosed_of, precision_of, numeric_of, null_of, count_of, pick_of, case_of, substring_of, number_primary, text_primary, signed, link_of, negated, null_source, select_of, all_picks, when_of}
 use Rattle.psm_tree.specs.ExprGrammar
 use Rattle.psm_tree.specs.declared.name.Identifier.{Identifier}
 use Rattle.psm_tree.specs.declared.types.Precision.{Precision}

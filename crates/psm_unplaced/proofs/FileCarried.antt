@@ -1,19 +1,17 @@
 -- Module files and scripts forget their places where their tokens do, part by part.
-use Rattle.std.proofs.Common.{◌≡◌, List, [], ◌∷◌, Option, map, option_map, refl, ap}
+use Rattle.std.proofs.Common.{◌≡◌, List, [], ◌∷◌, map, option_map, refl, ap}
 use Rattle.psm_token.specs.declared.place.Place.{Place}
 use Rattle.psm_tree.specs.Tests.{mode_of}
 use Rattle.psm_tree.specs.FileValues.{TableRest, tables_from, table_of, last_place, ProcedureRest, FunctionRest, ModuleRest, file_of, Inserting}
 use Rattle.psm_tree.specs.FileGrammar
 use Rattle.psm_tree.specs.declared.statement.Statement.{Statement}
 use Rattle.psm_tree.specs.declared.file.Note.{Note}
-use Rattle.psm_tree.specs.declared.types.DataType.{DataType}
-use Rattle.psm_tree.specs.declared.name.Identifier.{Identifier}
 use Rattle.psm_unplaced.specs.Unplaced.{origin}
 use Rattle.psm_unplaced.specs.ExprUnplaced.{name_unplaced, names_unplaced, type_unplaced, constant_unplaced}
 use Rattle.psm_unplaced.specs.StatementUnplaced.{statement_unplaced}
-use Rattle.psm_unplaced.specs.FileUnplaced.{column_rule_unplaced, table_rule_unplaced, element_unplaced, table_unplaced, parameter_unplaced, note_unplaced, routine_unplaced, module_unplaced, file_unplaced, argument_unplaced, row_unplaced, command_unplaced, script_unplaced}
+use Rattle.psm_unplaced.specs.FileUnplaced.{column_rule_unplaced, table_rule_unplaced, element_unplaced, table_unplaced, parameter_unplaced, note_unplaced, routine_unplaced, file_unplaced, argument_unplaced, row_unplaced, command_unplaced, script_unplaced}
 use Rattle.psm_unplaced.proofs.ValuesUnplaced.{same, both, all_three, place_unplaced}
-use Rattle.psm_unplaced.proofs.Carried.{Carried, carried_place, carried_at, carried_name, carried_nothing, carried_seq, carried_or, carried_ahead, carried_many, carried_image, carried_pair, carried_cons, carried_optional, carried_behind, carried_before, carried_within}
+use Rattle.psm_unplaced.proofs.Carried.{Carried, carried_place, carried_at, carried_name, carried_seq, carried_or, carried_ahead, carried_many, carried_image, carried_pair, carried_cons, carried_optional, carried_behind, carried_before, carried_within}
 use Rattle.psm_unplaced.proofs.ExprCarried.{names_in_parens_carried, varying_carried, char_length_carried, plain_type_carried, data_type_carried, constant_carried, expr_carried}
 use Rattle.psm_unplaced.proofs.StatementCarried.{ordered_select_carried, statement_carried}
 

@@ -1,15 +1,15 @@
 -- Statements forget their places where their tokens do, part by part.
-use Rattle.std.proofs.Common.{◌≡◌, Bool, List, [], ◌∷◌, Option, Some, None, map, option_map, refl, sym}
+use Rattle.std.proofs.Common.{◌≡◌, List, Option, Some, None, map, option_map, refl, sym}
 use denote.Hole.Carrier
 use Rattle.psm_token.specs.declared.place.Place.{Place}
 use Rattle.psm_grammar.specs.Forms.{optional}
-use Rattle.psm_tree.specs.Tests.{At, number_of, characters_of, statement_item_of, condition_item_of}
-use Rattle.psm_tree.specs.Parts.{Statements, Branches, ForParts, Body}
-use Rattle.psm_tree.specs.StatementValues.{Block, Compound, Loop, While, Repeat, For, block_with, unlabelled, labelled, simple_statement, if_of, case_statement_of, listed, branches_of, branch_of}
+use Rattle.psm_tree.specs.Tests.{number_of, characters_of, statement_item_of, condition_item_of}
+use Rattle.psm_tree.specs.Parts.{Statements, Branches}
+use Rattle.psm_tree.specs.StatementValues.{Block, Compound, Loop, While, Repeat, For, block_with, labelled, simple_statement, if_of, case_statement_of, branches_of, branch_of}
 use Rattle.psm_tree.specs.StatementGrammar
 use Rattle.psm_tree.specs.declared.name.Identifier.{Identifier}
 use Rattle.psm_tree.specs.declared.expr.Expr.{Expr}
-use Rattle.psm_tree.specs.declared.statement.Statement.{Statement, roll-Statement}
+use Rattle.psm_tree.specs.declared.statement.Statement.{roll-Statement}
 use Rattle.psm_tree.specs.declared.statement.Statement.TheOpen as layers
 use Rattle.psm_tree.specs.declared.statement.Label.{Label}
 use Rattle.psm_tree.specs.declared.statement.Branch.{Branch}
@@ -18,7 +18,7 @@ use Rattle.psm_unplaced.specs.Unplaced.{origin}
 use Rattle.psm_unplaced.specs.ExprUnplaced.{state_unplaced, expr_unplaced, pick_unplaced, name_unplaced, names_unplaced, targets_unplaced}
 use Rattle.psm_unplaced.specs.StatementUnplaced
 use Rattle.psm_unplaced.specs.StatementUnplaced.{ordered_query_unplaced, order_unplaced, order_column_unplaced, signalled_unplaced, where_unplaced, values_unplaced, insert_source_unplaced, assignment_unplaced, statement_info_unplaced, condition_info_unplaced, diagnostics_unplaced, simple_unplaced, label_unplaced, statement_unplaced, branch_unplaced}
-use Rattle.psm_unplaced.proofs.ValuesUnplaced.{same, both, all_three, place_unplaced, at_unplaced, from_unplaced, updating_unplaced, statements_unplaced, branches_unplaced, block_unplaced}
+use Rattle.psm_unplaced.proofs.ValuesUnplaced.{same, both, all_three, from_unplaced, updating_unplaced, statements_unplaced, branches_unplaced, block_unplaced}
 use Rattle.psm_unplaced.proofs.Equations.{statement_rolled, branch_rolled}
 use Rattle.psm_unplaced.proofs.Carried.{Carried, carried_place, carried_at, carried_name, carried_level, carried_nothing, carried_seq, carried_or, carried_ahead, carried_many, carried_image, carried_pair, carried_optional, carried_behind, carried_before}
 use Rattle.psm_unplaced.proofs.ExprCarried.{target_carried, names_in_parens_carried, targets_carried, expr_carried, source_carried, sources_carried, picks_carried, from_table_carried, select_carried, arguments_carried}

@@ -1,6 +1,6 @@
 -- Names, types, constants, expressions and queries whose places are forgotten: every place becomes one
 -- place, and all else stays as it is.
-use Rattle.std.specs.Prelude.{List, Option, map, option_map}
+use Rattle.std.specs.Prelude.{Option, map, option_map}
 use Rattle.psm_tree.specs.declared.name.Identifier.{Identifier}
 use Rattle.psm_tree.specs.declared.name.Target.{Target}
 use Rattle.psm_tree.specs.declared.name.Names.{Names}

@@ -1,5 +1,5 @@
 -- Module files and scripts whose places are forgotten.
-use Rattle.std.specs.Prelude.{List, Option, map, option_map}
+use Rattle.std.specs.Prelude.{map, option_map}
 use Rattle.psm_tree.specs.declared.file.FileTree.{FileTree}
 use Rattle.psm_tree.specs.declared.file.TableTree.{TableTree}
 use Rattle.psm_tree.specs.declared.file.Element.{Element}

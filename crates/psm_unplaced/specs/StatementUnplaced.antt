@@ -1,6 +1,5 @@
 -- Statements, blocks and declarations whose places are forgotten.
-use Rattle.std.specs.Prelude.{List, Option, map, option_map}
-use Rattle.psm_tree.specs.declared.expr.Expr.{Expr}
+use Rattle.std.specs.Prelude.{map, option_map}
 use Rattle.psm_tree.specs.declared.statement.Statement.{Statement, roll-Statement}
 use Rattle.psm_tree.specs.declared.statement.Statement.TheOpen.{Statement-F, Compound, Loop, While, Repeat, For, If, Case, Simple as SimpleLayer, Branch-F, Handler-F}
 use Rattle.psm_tree.specs.declared.statement.Statement.TheFolds.{fold-Statement, fold-Branch, fold-Handler}
