@@ -74,18 +74,18 @@ handler_carried = carried_behind (carried_behind (carried_seq (carried_pair hand
 
 -- ---- blocks
 
-handling : (place : Place) (kind : At HandlerKind) (p : HandlerParts) (body : Body) → with_declared origin (Handled (at_unplaced kind) (handler_parts_unplaced p)) (body_unplaced body) ≡ body_unplaced (with_declared place (Handled kind p) body)
-handling place kind p body = ap (λ h. record { declarations = (body_unplaced body).declarations; cursors = (body_unplaced body).cursors; handlers = h ∷ map handler_unplaced body.handlers; statements = (body_unplaced body).statements })
+handler_made : (place : Place) (kind : At HandlerKind) (p : HandlerParts) (body : Body) → with_declared origin (Handled (at_unplaced kind) (handler_parts_unplaced p)) (body_unplaced body) ≡ body_unplaced (with_declared place (Handled kind p) body)
+handler_made place kind p body = ap (λ h. record { declarations = (body_unplaced body).declarations; cursors = (body_unplaced body).cursors; handlers = h ∷ map handler_unplaced body.handlers; statements = (body_unplaced body).statements })
     (sym (handler_rolled (record { place = place; «at» = kind.place; kind = kind.value; first = p.first; rest = p.rest; action = p.action })))
 
-declaring : (place : Place) (d : Declared) (body : Body) → with_declared origin (declared_unplaced d) (body_unplaced body) ≡ body_unplaced (with_declared place d body)
-declaring place (Named name (Variables others kind default)) body = refl
-declaring place (Named name (Condition state)) body = refl
-declaring place (Named name (Cursor insensitive query updatability)) body = refl
-declaring place (Handled kind p) body = handling place kind p body
+declared_made : (place : Place) (d : Declared) (body : Body) → with_declared origin (declared_unplaced d) (body_unplaced body) ≡ body_unplaced (with_declared place d body)
+declared_made place (Named name (Variables others kind default)) body = refl
+declared_made place (Named name (Condition state)) body = refl
+declared_made place (Named name (Cursor insensitive query updatability)) body = refl
+declared_made place (Handled kind p) body = handler_made place kind p body
 
 pub body_carried : (phase : Phase) → Carried body_unplaced (StatementGrammar.body_rest phase)
-body_carried phase = carried_or (carried_next (λ x y. declaring x y.0 y.1)) (carried_image (carried_before ended_statements_carried) (λ x. refl))
+body_carried phase = carried_or (carried_next (λ x y. declared_made x y.0 y.1)) (carried_image (carried_before ended_statements_carried) (λ x. refl))
 
 declared_handler_carried : Carried (both declared_unplaced body_unplaced) StatementGrammar.declared_handler
 declared_handler_carried = carried_pair (carried_level_at handler_kind_of (λ x y. refl)) (carried_next (λ x y. refl))

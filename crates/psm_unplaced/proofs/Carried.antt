@@ -15,7 +15,7 @@ use Rattle.psm_unplaced.specs.Unplaced.{origin, unplaced}
 use Rattle.psm_unplaced.specs.ExprUnplaced.{name_unplaced}
 use Rattle.psm_unplaced.proofs.ValuesUnplaced.{both, place_unplaced, at_unplaced, part_unplaced}
 
--- the values of tokens without their places are those of the tokens, without theirs by h
+-- what tokens without places say by this part is what the tokens say, without its places, which h forgets
 pub record Carried {X : Type 0} (h : X → X) (g : Gram X) : Type 0 where
   pub holds : Carries unplaced part_unplaced h g
 

@@ -1,4 +1,4 @@
--- What becomes of the layers of expressions and statements where places are forgotten.
+-- Expressions and statements made of one layer forget their places layer by layer.
 use Rattle.std.proofs.Common.{◌≡◌}
 use Rattle.psm_tree.specs.declared.expr.Expr.{Expr, roll-Expr}
 use Rattle.psm_tree.specs.declared.expr.Expr.TheOpen.{Pick-F, Link-F, Select-F, When-F}

@@ -1,4 +1,5 @@
 -- Names, types, constants, expressions and queries forget their places where their tokens do, part by part.
+-- A lemma `.._made` says of what makes a value of its parts: of parts without places it makes the value without places.
 use Rattle.std.proofs.Common.{◌≡◌, ℕ, List, [], ◌∷◌, Option, Some, None, map, option_map, refl, sym, ap}
 use denote.Hole.Carrier
 use Rattle.psm_num.specs.Num.{Num}
@@ -51,21 +52,21 @@ targets_carried = carried_seq target_carried (carried_many (carried_behind targe
 type_length_carried : Carried at_unplaced ExprGrammar.type_length
 type_length_carried = carried_within (carried_at number_of)
 
-precise : (precision : At Num) (scale : Option (At Num)) → precision_of (at_unplaced precision) (option_map at_unplaced scale) ≡ precision_of precision scale
-precise precision None = refl
-precise precision (Some scale) = refl
+precision_made : (precision : At Num) (scale : Option (At Num)) → precision_of (at_unplaced precision) (option_map at_unplaced scale) ≡ precision_of precision scale
+precision_made precision None = refl
+precision_made precision (Some scale) = refl
 
 precision_carried : Carried same ExprGrammar.precision
-precision_carried = carried_within (carried_seq (carried_at number_of) (carried_optional (carried_behind (carried_at number_of))) precise)
+precision_carried = carried_within (carried_seq (carried_at number_of) (carried_optional (carried_behind (carried_at number_of))) precision_made)
 
-numeric : (place : Place) (precision : Option Precision) → numeric_of origin (option_map same precision) ≡ type_unplaced (numeric_of place precision)
-numeric place None = refl
-numeric place (Some precision) = refl
+numeric_made : (place : Place) (precision : Option Precision) → numeric_of origin (option_map same precision) ≡ type_unplaced (numeric_of place precision)
+numeric_made place None = refl
+numeric_made place (Some precision) = refl
 
 pub plain_type_carried : Carried type_unplaced ExprGrammar.plain_type
 plain_type_carried = carried_or (carried_image carried_place (λ x. refl))
     (carried_or (carried_image carried_place (λ x. refl))
-    (carried_or (carried_seq carried_place (carried_optional precision_carried) numeric)
+    (carried_or (carried_seq carried_place (carried_optional precision_carried) numeric_made)
     (carried_seq carried_place (carried_image {h = same} type_length_carried (λ x. refl)) (λ x y. refl))))
 
 pub varying_carried : Carried same ExprGrammar.varying
@@ -90,90 +91,90 @@ name_rest_carried = carried_or (carried_image second_name_carried (λ x. refl))
     (carried_or (carried_level (λ x y. refl))
     (carried_nothing refl))
 
-named_unplaced : (name : Identifier) (rest : NameRest) → named (name_unplaced name) (name_rest_unplaced rest) ≡ expr_unplaced (named name rest)
+named_made : (name : Identifier) (rest : NameRest) → named (name_unplaced name) (name_rest_unplaced rest) ≡ expr_unplaced (named name rest)
 unfolding roll-Expr Carrier.roll
-named_unplaced name Bare = sym (expr_rolled (layers.Name (record { first = name; second = None })))
-named_unplaced name (Dotted second) = sym (expr_rolled (layers.Name (record { first = name; second = Some second })))
-named_unplaced name (Called arguments) = sym (expr_rolled (layers.Call name arguments))
+named_made name Bare = sym (expr_rolled (layers.Name (record { first = name; second = None })))
+named_made name (Dotted second) = sym (expr_rolled (layers.Name (record { first = name; second = Some second })))
+named_made name (Called arguments) = sym (expr_rolled (layers.Call name arguments))
 
-cased : (place : Place) (operand : Option Expr) (first : When) (rest : List When) (otherwise : Option Expr) → exprs.Case origin (option_map expr_unplaced operand) (when_unplaced first) (map when_unplaced rest) (option_map expr_unplaced otherwise) ≡ expr_unplaced (exprs.Case place operand first rest otherwise)
+case_by_parts : (place : Place) (operand : Option Expr) (first : When) (rest : List When) (otherwise : Option Expr) → exprs.Case origin (option_map expr_unplaced operand) (when_unplaced first) (map when_unplaced rest) (option_map expr_unplaced otherwise) ≡ expr_unplaced (exprs.Case place operand first rest otherwise)
 unfolding roll-Expr Carrier.roll
-cased place None first rest None = sym (expr_rolled (layers.Case place None first rest None))
-cased place None first rest (Some otherwise) = sym (expr_rolled (layers.Case place None first rest (Some otherwise)))
-cased place (Some operand) first rest None = sym (expr_rolled (layers.Case place (Some operand) first rest None))
-cased place (Some operand) first rest (Some otherwise) = sym (expr_rolled (layers.Case place (Some operand) first rest (Some otherwise)))
+case_by_parts place None first rest None = sym (expr_rolled (layers.Case place None first rest None))
+case_by_parts place None first rest (Some otherwise) = sym (expr_rolled (layers.Case place None first rest (Some otherwise)))
+case_by_parts place (Some operand) first rest None = sym (expr_rolled (layers.Case place (Some operand) first rest None))
+case_by_parts place (Some operand) first rest (Some otherwise) = sym (expr_rolled (layers.Case place (Some operand) first rest (Some otherwise)))
 
-case_unplaced : (place : Place) (c : Cases) → case_of origin (cases_unplaced c) ≡ expr_unplaced (case_of place c)
-case_unplaced place c = cased place c.operand c.first c.rest c.otherwise
+case_made : (place : Place) (c : Cases) → case_of origin (cases_unplaced c) ≡ expr_unplaced (case_of place c)
+case_made place c = case_by_parts place c.operand c.first c.rest c.otherwise
 
-cut : (place : Place) (text from : Expr) (length : Option Expr) → exprs.Substring origin (expr_unplaced text) (expr_unplaced from) (option_map expr_unplaced length) ≡ expr_unplaced (exprs.Substring place text from length)
+substring_by_parts : (place : Place) (text from : Expr) (length : Option Expr) → exprs.Substring origin (expr_unplaced text) (expr_unplaced from) (option_map expr_unplaced length) ≡ expr_unplaced (exprs.Substring place text from length)
 unfolding roll-Expr Carrier.roll
-cut place text from None = sym (expr_rolled (layers.Substring place text from None))
-cut place text from (Some length) = sym (expr_rolled (layers.Substring place text from (Some length)))
+substring_by_parts place text from None = sym (expr_rolled (layers.Substring place text from None))
+substring_by_parts place text from (Some length) = sym (expr_rolled (layers.Substring place text from (Some length)))
 
-substring_unplaced : (place : Place) (p : Expr × Expr × Option Expr) → substring_of origin (all_three expr_unplaced expr_unplaced (option_map expr_unplaced) p) ≡ expr_unplaced (substring_of place p)
-substring_unplaced place p = cut place p.0 p.1 p.2
+substring_made : (place : Place) (p : Expr × Expr × Option Expr) → substring_of origin (all_three expr_unplaced expr_unplaced (option_map expr_unplaced) p) ≡ expr_unplaced (substring_of place p)
+substring_made place p = substring_by_parts place p.0 p.1 p.2
 
 worded_carried : Carried expr_unplaced ExprGrammar.worded_primary
 unfolding roll-Expr Carrier.roll
 worded_carried = carried_or (carried_level (λ x y. sym (expr_rolled (layers.Exists x y))))
-    (carried_or (carried_level case_unplaced)
+    (carried_or (carried_level case_made)
     (carried_or (carried_level (λ x y. sym (expr_rolled (layers.Cast x y.0 y.1))))
     (carried_or (carried_level (λ x y. sym (expr_rolled (layers.Coalesce x y.0 y.1))))
     (carried_or (carried_level (λ x y. sym (expr_rolled (layers.NullIf x y.0 y.1))))
     (carried_or (carried_level (λ x y. sym (expr_rolled (layers.Position x y.0 y.1))))
-    (carried_or (carried_level substring_unplaced)
+    (carried_or (carried_level substring_made)
     (carried_or (carried_level (λ x y. sym (expr_rolled (layers.Trim x y.0 y.1))))
     (carried_level_at text_function_of (λ x y. sym (expr_rolled (layers.Function x.place x.value y)))))))))))
 
-enclosed_unplaced : (place : Place) (inside : Inside) → enclosed_of origin (inside_unplaced inside) ≡ expr_unplaced (enclosed_of place inside)
+enclosed_made : (place : Place) (inside : Inside) → enclosed_of origin (inside_unplaced inside) ≡ expr_unplaced (enclosed_of place inside)
 unfolding roll-Expr Carrier.roll
-enclosed_unplaced place (Value expr) = sym (expr_rolled (layers.Parenthesized place expr))
-enclosed_unplaced place (Query query) = sym (expr_rolled (layers.Subquery place query))
+enclosed_made place (Value expr) = sym (expr_rolled (layers.Parenthesized place expr))
+enclosed_made place (Query query) = sym (expr_rolled (layers.Subquery place query))
 
-number_unplaced : (n : At Num) → number_primary (at_unplaced n) ≡ expr_unplaced (number_primary n)
+number_made : (n : At Num) → number_primary (at_unplaced n) ≡ expr_unplaced (number_primary n)
 unfolding roll-Expr Carrier.roll
-number_unplaced n = sym (expr_rolled (layers.Number n.place n.value))
+number_made n = sym (expr_rolled (layers.Number n.place n.value))
 
-text_unplaced : (text : At (List ℕ)) → text_primary (at_unplaced text) ≡ expr_unplaced (text_primary text)
+text_made : (text : At (List ℕ)) → text_primary (at_unplaced text) ≡ expr_unplaced (text_primary text)
 unfolding roll-Expr Carrier.roll
-text_unplaced text = sym (expr_rolled (layers.Text text.place text.value))
+text_made text = sym (expr_rolled (layers.Text text.place text.value))
 
 primary_carried : Carried expr_unplaced ExprGrammar.primary
-primary_carried = carried_or (carried_image (carried_at number_of) number_unplaced)
-    (carried_or (carried_image (carried_at characters_of) text_unplaced)
-    (carried_or (carried_seq carried_name name_rest_carried named_unplaced)
-    (carried_or (carried_level enclosed_unplaced)
+primary_carried = carried_or (carried_image (carried_at number_of) number_made)
+    (carried_or (carried_image (carried_at characters_of) text_made)
+    (carried_or (carried_seq carried_name name_rest_carried named_made)
+    (carried_or (carried_level enclosed_made)
     worded_carried)))
 
 -- ---- values
 
-signed_unplaced : (sign : At Sign) (operand : Expr) → signed (at_unplaced sign) (expr_unplaced operand) ≡ expr_unplaced (signed sign operand)
+signed_made : (sign : At Sign) (operand : Expr) → signed (at_unplaced sign) (expr_unplaced operand) ≡ expr_unplaced (signed sign operand)
 unfolding roll-Expr Carrier.roll
-signed_unplaced sign operand = sym (expr_rolled (layers.Signed sign.place sign.value operand))
+signed_made sign operand = sym (expr_rolled (layers.Signed sign.place sign.value operand))
 
-linked : (operator : Operator) (operand : Expr) → link_of operator (expr_unplaced operand) ≡ link_unplaced (link_of operator operand)
-linked operator operand = sym (link_rolled (record { operator = operator; operand = operand }))
+link_made : (operator : Operator) (operand : Expr) → link_of operator (expr_unplaced operand) ≡ link_unplaced (link_of operator operand)
+link_made operator operand = sym (link_rolled (record { operator = operator; operand = operand }))
 
-chained : (first : Expr) (rest : List Link) → chain_of (expr_unplaced first) (map link_unplaced rest) ≡ expr_unplaced (chain_of first rest)
+chain_made : (first : Expr) (rest : List Link) → chain_of (expr_unplaced first) (map link_unplaced rest) ≡ expr_unplaced (chain_of first rest)
 unfolding roll-Expr Carrier.roll
-chained first [] = refl
-chained first (link ∷ rest) = sym (expr_rolled (layers.Chain first (link ∷ rest)))
+chain_made first [] = refl
+chain_made first (link ∷ rest) = sym (expr_rolled (layers.Chain first (link ∷ rest)))
 
 factor_carried : Carried expr_unplaced ExprGrammar.factor
-factor_carried = carried_or (carried_seq (carried_at sign_of) primary_carried signed_unplaced) primary_carried
+factor_carried = carried_or (carried_seq (carried_at sign_of) primary_carried signed_made) primary_carried
 
 term_operator_carried : Carried same (token term_operator)
 term_operator_carried = carried_token (λ t. refl)
 
 term_carried : Carried expr_unplaced ExprGrammar.term
-term_carried = carried_seq factor_carried (carried_many (carried_seq term_operator_carried factor_carried linked)) chained
+term_carried = carried_seq factor_carried (carried_many (carried_seq term_operator_carried factor_carried link_made)) chain_made
 
 sum_operator_carried : Carried same (token sum_operator)
 sum_operator_carried = carried_token (λ t. refl)
 
 sum_carried : Carried expr_unplaced ExprGrammar.sum
-sum_carried = carried_seq term_carried (carried_many (carried_seq sum_operator_carried term_carried linked)) chained
+sum_carried = carried_seq term_carried (carried_many (carried_seq sum_operator_carried term_carried link_made)) chain_made
 
 -- ---- conditions
 
@@ -186,12 +187,12 @@ in_list_carried = carried_behind (carried_within (carried_pair sum_carried (carr
 like_carried : Carried (both expr_unplaced (option_map expr_unplaced)) ExprGrammar.like
 like_carried = carried_behind (carried_pair sum_carried (carried_optional (carried_behind sum_carried)))
 
-null_unplaced : (negation : Option Place) (place : Place) → null_of (option_map place_unplaced negation) origin ≡ test_unplaced (null_of negation place)
-null_unplaced None place = refl
-null_unplaced (Some negation) place = refl
+null_made : (negation : Option Place) (place : Place) → null_of (option_map place_unplaced negation) origin ≡ test_unplaced (null_of negation place)
+null_made None place = refl
+null_made (Some negation) place = refl
 
 is_null_carried : Carried test_unplaced ExprGrammar.is_null
-is_null_carried = carried_behind (carried_seq (carried_optional carried_place) carried_place null_unplaced)
+is_null_carried = carried_behind (carried_seq (carried_optional carried_place) carried_place null_made)
 
 comparison_carried : Carried same (token comparison)
 comparison_carried = carried_token (λ t. refl)
@@ -213,55 +214,55 @@ test_carried = carried_or compare_carried
     (carried_or (carried_image like_carried (λ x. refl))
     (carried_nothing refl))))))
 
-predicated : (value : Expr) (test : Test) → predicate_of (expr_unplaced value) (test_unplaced test) ≡ expr_unplaced (predicate_of value test)
+predicate_made : (value : Expr) (test : Test) → predicate_of (expr_unplaced value) (test_unplaced test) ≡ expr_unplaced (predicate_of value test)
 unfolding roll-Expr Carrier.roll
-predicated value Nothing = refl
-predicated value (Compare operator right) = sym (expr_rolled (layers.Compare operator value right))
-predicated value (IsNull negated) = sym (expr_rolled (layers.IsNull negated value))
-predicated value (Between negated low high) = sym (expr_rolled (layers.Between negated value low high))
-predicated value (In negated first rest) = sym (expr_rolled (layers.In negated value first rest))
-predicated value (Like negated pattern None) = sym (expr_rolled (layers.Like negated value pattern None))
-predicated value (Like negated pattern (Some escape)) = sym (expr_rolled (layers.Like negated value pattern (Some escape)))
+predicate_made value Nothing = refl
+predicate_made value (Compare operator right) = sym (expr_rolled (layers.Compare operator value right))
+predicate_made value (IsNull negated) = sym (expr_rolled (layers.IsNull negated value))
+predicate_made value (Between negated low high) = sym (expr_rolled (layers.Between negated value low high))
+predicate_made value (In negated first rest) = sym (expr_rolled (layers.In negated value first rest))
+predicate_made value (Like negated pattern None) = sym (expr_rolled (layers.Like negated value pattern None))
+predicate_made value (Like negated pattern (Some escape)) = sym (expr_rolled (layers.Like negated value pattern (Some escape)))
 
-negated_unplaced : (place : Place) (condition : Expr) → negated origin (expr_unplaced condition) ≡ expr_unplaced (negated place condition)
+negated_made : (place : Place) (condition : Expr) → negated origin (expr_unplaced condition) ≡ expr_unplaced (negated place condition)
 unfolding roll-Expr Carrier.roll
-negated_unplaced place condition = sym (expr_rolled (layers.Not place condition))
+negated_made place condition = sym (expr_rolled (layers.Not place condition))
 
 predicate_carried : Carried expr_unplaced ExprGrammar.predicate
-predicate_carried = carried_seq sum_carried test_carried predicated
+predicate_carried = carried_seq sum_carried test_carried predicate_made
 
 negation_carried : Carried expr_unplaced ExprGrammar.negation
-negation_carried = carried_or (carried_seq carried_place predicate_carried negated_unplaced) predicate_carried
+negation_carried = carried_or (carried_seq carried_place predicate_carried negated_made) predicate_carried
 
-joins : (junction : Junction) (first : Expr) (rest : List Expr) → joined junction (expr_unplaced first) (map expr_unplaced rest) ≡ expr_unplaced (joined junction first rest)
+joined_made : (junction : Junction) (first : Expr) (rest : List Expr) → joined junction (expr_unplaced first) (map expr_unplaced rest) ≡ expr_unplaced (joined junction first rest)
 unfolding roll-Expr Carrier.roll
-joins junction first [] = refl
-joins junction first (next ∷ rest) = sym (expr_rolled (layers.Junction junction first (next ∷ rest)))
+joined_made junction first [] = refl
+joined_made junction first (next ∷ rest) = sym (expr_rolled (layers.Junction junction first (next ∷ rest)))
 
 conjunction_carried : Carried expr_unplaced ExprGrammar.conjunction
-conjunction_carried = carried_seq negation_carried (carried_many (carried_behind negation_carried)) (joins junctions.And)
+conjunction_carried = carried_seq negation_carried (carried_many (carried_behind negation_carried)) (joined_made junctions.And)
 
 pub expr_carried : Carried expr_unplaced ExprGrammar.expr
-expr_carried = carried_seq conjunction_carried (carried_many (carried_behind conjunction_carried)) (joins junctions.Or)
+expr_carried = carried_seq conjunction_carried (carried_many (carried_behind conjunction_carried)) (joined_made junctions.Or)
 
-null_source_unplaced : (place : Place) → null_source origin ≡ expr_unplaced (null_source place)
+null_source_made : (place : Place) → null_source origin ≡ expr_unplaced (null_source place)
 unfolding roll-Expr Carrier.roll
-null_source_unplaced place = sym (expr_rolled (layers.Null place))
+null_source_made place = sym (expr_rolled (layers.Null place))
 
 pub source_carried : Carried expr_unplaced ExprGrammar.source
-source_carried = carried_or (carried_image carried_place null_source_unplaced) expr_carried
+source_carried = carried_or (carried_image carried_place null_source_made) expr_carried
 
 pub sources_carried : Carried (both expr_unplaced (map expr_unplaced)) ExprGrammar.sources
 sources_carried = carried_pair source_carried (carried_many (carried_behind source_carried))
 
 -- ---- queries
 
-counts : (place : Place) (argument : Option Expr) → count_of origin (option_map expr_unplaced argument) ≡ item_unplaced (count_of place argument)
-counts place None = refl
-counts place (Some argument) = refl
+count_made : (place : Place) (argument : Option Expr) → count_of origin (option_map expr_unplaced argument) ≡ item_unplaced (count_of place argument)
+count_made place None = refl
+count_made place (Some argument) = refl
 
 item_carried : Carried item_unplaced ExprGrammar.item
-item_carried = carried_or (carried_seq carried_place (carried_within (carried_or (carried_image carried_place (λ x. refl)) (carried_image expr_carried (λ x. refl)))) counts)
+item_carried = carried_or (carried_seq carried_place (carried_within (carried_or (carried_image carried_place (λ x. refl)) (carried_image expr_carried (λ x. refl)))) count_made)
     (carried_or (carried_seq (carried_at set_function_of) (carried_within expr_carried) (λ x y. refl))
     (carried_image expr_carried (λ x. refl)))
 
@@ -270,31 +271,31 @@ alias_carried = carried_or (carried_image (carried_behind carried_name) (λ x. r
     (carried_or (carried_image carried_name (λ x. refl))
     (carried_nothing refl))
 
-picks_item : (item : Item) (alias : Option Identifier) → pick_of (item_unplaced item) (alias_unplaced alias) ≡ pick_unplaced (pick_of item alias)
+pick_made : (item : Item) (alias : Option Identifier) → pick_of (item_unplaced item) (alias_unplaced alias) ≡ pick_unplaced (pick_of item alias)
 unfolding roll-Pick Carrier.roll
-picks_item (Plain expr) alias = sym (pick_rolled (layers.Expr expr alias))
-picks_item (Rows place) alias = sym (pick_rolled (layers.CountRows place alias))
-picks_item (Aggregate place function argument) alias = sym (pick_rolled (layers.Aggregate place function argument alias))
+pick_made (Plain expr) alias = sym (pick_rolled (layers.Expr expr alias))
+pick_made (Rows place) alias = sym (pick_rolled (layers.CountRows place alias))
+pick_made (Aggregate place function argument) alias = sym (pick_rolled (layers.Aggregate place function argument alias))
 
 pick_carried : Carried pick_unplaced ExprGrammar.pick
-pick_carried = carried_seq item_carried alias_carried picks_item
+pick_carried = carried_seq item_carried alias_carried pick_made
 
-all_unplaced : (place : Place) → all_picks origin ≡ map pick_unplaced (all_picks place)
+all_picks_made : (place : Place) → all_picks origin ≡ map pick_unplaced (all_picks place)
 unfolding roll-Pick Carrier.roll
-all_unplaced place = ap (λ p. p ∷ []) (sym (pick_rolled (layers.All place)))
+all_picks_made place = ap (λ p. p ∷ []) (sym (pick_rolled (layers.All place)))
 
 pub picks_carried : Carried (map pick_unplaced) ExprGrammar.picks
-picks_carried = carried_or (carried_image carried_place all_unplaced) (carried_cons pick_carried (carried_many (carried_behind pick_carried)))
+picks_carried = carried_or (carried_image carried_place all_picks_made) (carried_cons pick_carried (carried_many (carried_behind pick_carried)))
 
 pub from_table_carried : Carried from_unplaced ExprGrammar.from_table
 from_table_carried = carried_seq carried_name (carried_pair alias_carried (carried_optional (carried_behind expr_carried))) (λ x y. refl)
 
-selects : (place : Place) (picks : List Pick) (table : Identifier) (alias : Option Identifier) (condition : Option Expr) → select_of origin (map pick_unplaced picks, from_unplaced (record { table = table; alias = alias; condition = condition })) ≡ select_unplaced (select_of place (picks, record { table = table; alias = alias; condition = condition }))
-selects place picks table alias None = sym (select_rolled (record { place = place; picks = picks; table = table; alias = alias; condition = None }))
-selects place picks table alias (Some condition) = sym (select_rolled (record { place = place; picks = picks; table = table; alias = alias; condition = Some condition }))
+select_made : (place : Place) (picks : List Pick) (table : Identifier) (alias : Option Identifier) (condition : Option Expr) → select_of origin (map pick_unplaced picks, from_unplaced (record { table = table; alias = alias; condition = condition })) ≡ select_unplaced (select_of place (picks, record { table = table; alias = alias; condition = condition }))
+select_made place picks table alias None = sym (select_rolled (record { place = place; picks = picks; table = table; alias = alias; condition = None }))
+select_made place picks table alias (Some condition) = sym (select_rolled (record { place = place; picks = picks; table = table; alias = alias; condition = Some condition }))
 
 pub select_carried : Carried select_unplaced ExprGrammar.select
-select_carried = carried_seq carried_place (carried_pair picks_carried (carried_behind from_table_carried)) (λ x y. selects x y.0 y.1.table y.1.alias y.1.condition)
+select_carried = carried_seq carried_place (carried_pair picks_carried (carried_behind from_table_carried)) (λ x y. select_made x y.0 y.1.table y.1.alias y.1.condition)
 
 -- ---- what stands behind a token that opens a level
 

@@ -105,22 +105,22 @@ module_carried = carried_behind (carried_seq carried_name (carried_pair (carried
 created_tables_carried : Carried (map (both table_rest_unplaced place_unplaced)) FileGrammar.created_tables
 created_tables_carried = carried_many (carried_behind (carried_pair table_carried (carried_behind carried_place)))
 
-tables_unplaced : (place : Place) (ts : List (TableRest × Place)) → tables_from origin (map (both table_rest_unplaced place_unplaced) ts) ≡ map table_unplaced (tables_from place ts)
-tables_unplaced place [] = refl
-tables_unplaced place (t ∷ ts) = ap (λ tables. table_unplaced (table_of place t.0) ∷ tables) (tables_unplaced t.1 ts)
+tables_made : (place : Place) (ts : List (TableRest × Place)) → tables_from origin (map (both table_rest_unplaced place_unplaced) ts) ≡ map table_unplaced (tables_from place ts)
+tables_made place [] = refl
+tables_made place (t ∷ ts) = ap (λ tables. table_unplaced (table_of place t.0) ∷ tables) (tables_made t.1 ts)
 
-last_unplaced : (ts : List (TableRest × Place)) → last_place origin (map (both table_rest_unplaced place_unplaced) ts) ≡ origin
-last_unplaced [] = refl
-last_unplaced (t ∷ ts) = last_unplaced ts
+last_place_made : (ts : List (TableRest × Place)) → last_place origin (map (both table_rest_unplaced place_unplaced) ts) ≡ origin
+last_place_made [] = refl
+last_place_made (t ∷ ts) = last_place_made ts
 
-made_file : (place : Place) (p : List (TableRest × Place) × ModuleRest) → file_of origin (both (map (both table_rest_unplaced place_unplaced)) module_rest_unplaced p) ≡ file_unplaced (file_of place p)
-made_file place p = λ i. record {
-  tables = tables_unplaced place p.0 i;
-  «module» = record { place = last_unplaced p.0 i; name = name_unplaced p.1.name; routines = map routine_unplaced p.1.routines };
+file_made : (place : Place) (p : List (TableRest × Place) × ModuleRest) → file_of origin (both (map (both table_rest_unplaced place_unplaced)) module_rest_unplaced p) ≡ file_unplaced (file_of place p)
+file_made place p = λ i. record {
+  tables = tables_made place p.0 i;
+  «module» = record { place = last_place_made p.0 i; name = name_unplaced p.1.name; routines = map routine_unplaced p.1.routines };
 }
 
 pub file_carried : Carried file_unplaced FileGrammar.file
-file_carried = carried_seq carried_place (carried_pair created_tables_carried (carried_seq module_carried (carried_optional carried_place) (λ x y. refl))) made_file
+file_carried = carried_seq carried_place (carried_pair created_tables_carried (carried_seq module_carried (carried_optional carried_place) (λ x y. refl))) file_made
 
 -- ---- scripts
 

@@ -135,38 +135,38 @@ block_carried = carried_or (carried_level (λ x y. refl))
     (carried_or (carried_level (λ x y. refl))
     (carried_level (λ x y. refl)))))
 
-blocked : (label : Option Label) (block : Block) → block_with (option_map label_unplaced label) (block_unplaced block) ≡ statement_unplaced (block_with label block)
+block_made : (label : Option Label) (block : Block) → block_with (option_map label_unplaced label) (block_unplaced block) ≡ statement_unplaced (block_with label block)
 unfolding roll-Statement Carrier.roll
-blocked label (Compound place p) = sym (statement_rolled (layers.Compound label place p.0 p.1.declarations p.1.cursors p.1.handlers p.1.statements))
-blocked label (Loop place p) = sym (statement_rolled (layers.Loop label place p.first p.rest))
-blocked label (While place p) = sym (statement_rolled (layers.While label place p.0 p.1.first p.1.rest))
-blocked label (Repeat place p) = sym (statement_rolled (layers.Repeat label place p.0.first p.0.rest p.1))
-blocked label (For place p) = sym (statement_rolled (layers.For label place p.name p.cursor p.query p.body.first p.body.rest))
+block_made label (Compound place p) = sym (statement_rolled (layers.Compound label place p.0 p.1.declarations p.1.cursors p.1.handlers p.1.statements))
+block_made label (Loop place p) = sym (statement_rolled (layers.Loop label place p.first p.rest))
+block_made label (While place p) = sym (statement_rolled (layers.While label place p.0 p.1.first p.1.rest))
+block_made label (Repeat place p) = sym (statement_rolled (layers.Repeat label place p.0.first p.0.rest p.1))
+block_made label (For place p) = sym (statement_rolled (layers.For label place p.name p.cursor p.query p.body.first p.body.rest))
 
-labelled_unplaced : (start : Identifier) (p : Block × Option Identifier) → labelled (name_unplaced start) (both block_unplaced (option_map name_unplaced) p) ≡ statement_unplaced (labelled start p)
-labelled_unplaced start p = blocked (Some (record { start = start; end = p.1 })) p.0
+labelled_made : (start : Identifier) (p : Block × Option Identifier) → labelled (name_unplaced start) (both block_unplaced (option_map name_unplaced) p) ≡ statement_unplaced (labelled start p)
+labelled_made start p = block_made (Some (record { start = start; end = p.1 })) p.0
 
 labelled_carried : Carried statement_unplaced StatementGrammar.labelled_statement
-labelled_carried = carried_seq carried_name (carried_behind (carried_pair block_carried (carried_optional carried_name))) labelled_unplaced
+labelled_carried = carried_seq carried_name (carried_behind (carried_pair block_carried (carried_optional carried_name))) labelled_made
 
-ifs : (place : Place) (b : Branches) → if_of origin (branches_unplaced b) ≡ statement_unplaced (if_of place b)
+if_made : (place : Place) (b : Branches) → if_of origin (branches_unplaced b) ≡ statement_unplaced (if_of place b)
 unfolding roll-Statement Carrier.roll
-ifs place b = sym (statement_rolled (layers.If place b.first b.rest b.otherwise))
+if_made place b = sym (statement_rolled (layers.If place b.first b.rest b.otherwise))
 
-cases : (place : Place) (p : Option Expr × Branches) → case_statement_of origin (both (option_map expr_unplaced) branches_unplaced p) ≡ statement_unplaced (case_statement_of place p)
+case_made : (place : Place) (p : Option Expr × Branches) → case_statement_of origin (both (option_map expr_unplaced) branches_unplaced p) ≡ statement_unplaced (case_statement_of place p)
 unfolding roll-Statement Carrier.roll
-cases place p = sym (statement_rolled (layers.Case place p.0 p.1.first p.1.rest p.1.otherwise))
+case_made place p = sym (statement_rolled (layers.Case place p.0 p.1.first p.1.rest p.1.otherwise))
 
-simply : (simple : Simple) → simple_statement (simple_unplaced simple) ≡ statement_unplaced (simple_statement simple)
+simple_made : (simple : Simple) → simple_statement (simple_unplaced simple) ≡ statement_unplaced (simple_statement simple)
 unfolding roll-Statement Carrier.roll
-simply simple = sym (statement_rolled (layers.Simple simple))
+simple_made simple = sym (statement_rolled (layers.Simple simple))
 
 pub statement_carried : Carried statement_unplaced StatementGrammar.statement
 statement_carried = carried_or labelled_carried
-    (carried_or (carried_level ifs)
-    (carried_or (carried_level cases)
-    (carried_or (carried_image block_carried (blocked None))
-    (carried_image simple_carried simply))))
+    (carried_or (carried_level if_made)
+    (carried_or (carried_level case_made)
+    (carried_or (carried_image block_carried (block_made None))
+    (carried_image simple_carried simple_made))))
 
 pub ended_statements_carried : Carried (map statement_unplaced) StatementGrammar.ended_statements
 ended_statements_carried = carried_many (carried_before statement_carried)
@@ -176,24 +176,24 @@ statements_carried = carried_seq (carried_before statement_carried) ended_statem
 
 -- ---- IF and CASE
 
-branched : (test : Expr) (s : Statements) → branch_of (expr_unplaced test) (statements_unplaced s) ≡ branch_unplaced (branch_of test s)
-branched test s = sym (branch_rolled (record { test = test; first = s.first; rest = s.rest }))
+branch_made : (test : Expr) (s : Statements) → branch_of (expr_unplaced test) (statements_unplaced s) ≡ branch_unplaced (branch_of test s)
+branch_made test s = sym (branch_rolled (record { test = test; first = s.first; rest = s.rest }))
 
 branch_carried : Carried branch_unplaced StatementGrammar.branch
-branch_carried = carried_seq expr_carried (carried_behind statements_carried) branched
+branch_carried = carried_seq expr_carried (carried_behind statements_carried) branch_made
 
 otherwise_carried : Carried (option_map statements_unplaced) (optional StatementGrammar.otherwise_statements)
 otherwise_carried = carried_optional (carried_behind statements_carried)
 
-gathered : (first : Branch) (p : List Branch × Option Statements) → branches_of (branch_unplaced first) (both (map branch_unplaced) (option_map statements_unplaced) p) ≡ branches_unplaced (branches_of first p)
-gathered first (rest, None) = refl
-gathered first (rest, Some s) = refl
+branches_made : (first : Branch) (p : List Branch × Option Statements) → branches_of (branch_unplaced first) (both (map branch_unplaced) (option_map statements_unplaced) p) ≡ branches_unplaced (branches_of first p)
+branches_made first (rest, None) = refl
+branches_made first (rest, Some s) = refl
 
 pub if_carried : Carried branches_unplaced StatementGrammar.if_rest
-if_carried = carried_seq branch_carried (carried_pair (carried_many (carried_behind branch_carried)) (carried_before (carried_before otherwise_carried))) gathered
+if_carried = carried_seq branch_carried (carried_pair (carried_many (carried_behind branch_carried)) (carried_before (carried_before otherwise_carried))) branches_made
 
 case_branches_carried : Carried branches_unplaced StatementGrammar.case_branches
-case_branches_carried = carried_seq (carried_behind branch_carried) (carried_pair (carried_many (carried_behind branch_carried)) (carried_before (carried_before otherwise_carried))) gathered
+case_branches_carried = carried_seq (carried_behind branch_carried) (carried_pair (carried_many (carried_behind branch_carried)) (carried_before (carried_before otherwise_carried))) branches_made
 
 pub case_carried : Carried (both (option_map expr_unplaced) branches_unplaced) StatementGrammar.case_statement_rest
 case_carried = carried_or (carried_image case_branches_carried (λ x. refl)) (carried_seq expr_carried case_branches_carried (λ x y. refl))

@@ -9,7 +9,7 @@ use Rattle.psm_tree.specs.declared.types.DataType.{DataType}
 use Rattle.psm_tree.specs.declared.types.Constant.{Constant}
 use Rattle.psm_tree.specs.declared.types.State.{State}
 use Rattle.psm_tree.specs.declared.expr.Expr.{Expr, roll-Expr}
-use Rattle.psm_tree.specs.declared.expr.Expr.TheOpen.{Expr-F, Null, Number, Text, Name, Junction, Not, Compare, IsNull, Between, In, Like, Chain, Signed, Call, Parenthesized, Subquery, Exists, Case, Cast, Coalesce, NullIf, Function, Position, Substring, Trim, Pick-F, Link-F, Select-F, When-F}
+use Rattle.psm_tree.specs.declared.expr.Expr.TheOpen.{Expr-F, Pick-F, Link-F, Select-F, When-F}
 use Rattle.psm_tree.specs.declared.expr.Expr.TheOpen as layers
 use Rattle.psm_tree.specs.declared.expr.Expr.TheFolds.{fold-Expr, fold-Link, fold-When, fold-Select, fold-Pick}
 use Rattle.psm_tree.specs.declared.expr.Link.{Link, roll-Link}
@@ -42,40 +42,41 @@ constant_unplaced constant = record { place = origin; form = constant.form }
 abbrev pub state_unplaced : State → State
 state_unplaced state = record { place = origin; «at» = origin; text = state.text }
 
--- ---- expressions and queries: each layer by itself, where the trees in it have forgotten their places before
+-- ---- expressions and queries
 
 abbrev pub alias_unplaced : Option Identifier → Option Identifier
 alias_unplaced alias = option_map name_unplaced alias
 
+-- one layer of an expression; the trees in it have forgotten their places before it does
 abbrev pub Layer : Type 0
 Layer = Expr-F Expr Pick Link Select When
 
 abbrev pub layer_unplaced : Layer → Layer
-layer_unplaced (Null place) = Null origin
-layer_unplaced (Number place value) = Number origin value
-layer_unplaced (Text place value) = Text origin value
-layer_unplaced (Name target) = Name (target_unplaced target)
-layer_unplaced (Junction junction first rest) = Junction junction first rest
-layer_unplaced (Not place condition) = Not origin condition
-layer_unplaced (Compare operator left right) = Compare operator left right
-layer_unplaced (IsNull negated value) = IsNull negated value
-layer_unplaced (Between negated value low high) = Between negated value low high
-layer_unplaced (In negated value first rest) = In negated value first rest
-layer_unplaced (Like negated value pattern escape) = Like negated value pattern escape
-layer_unplaced (Chain first rest) = Chain first rest
-layer_unplaced (Signed place sign operand) = Signed origin sign operand
-layer_unplaced (Call function arguments) = Call (name_unplaced function) arguments
-layer_unplaced (Parenthesized place expr) = Parenthesized origin expr
-layer_unplaced (Subquery place query) = Subquery origin query
-layer_unplaced (Exists place query) = Exists origin query
-layer_unplaced (Case place operand first rest otherwise) = Case origin operand first rest otherwise
-layer_unplaced (Cast place source to) = Cast origin source (type_unplaced to)
-layer_unplaced (Coalesce place first rest) = Coalesce origin first rest
-layer_unplaced (NullIf place left right) = NullIf origin left right
-layer_unplaced (Function place function argument) = Function origin function argument
-layer_unplaced (Position place part whole) = Position origin part whole
-layer_unplaced (Substring place text from length) = Substring origin text from length
-layer_unplaced (Trim place side text) = Trim origin side text
+layer_unplaced (layers.Null place) = layers.Null origin
+layer_unplaced (layers.Number place value) = layers.Number origin value
+layer_unplaced (layers.Text place value) = layers.Text origin value
+layer_unplaced (layers.Name target) = layers.Name (target_unplaced target)
+layer_unplaced (layers.Junction junction first rest) = layers.Junction junction first rest
+layer_unplaced (layers.Not place condition) = layers.Not origin condition
+layer_unplaced (layers.Compare operator left right) = layers.Compare operator left right
+layer_unplaced (layers.IsNull negated value) = layers.IsNull negated value
+layer_unplaced (layers.Between negated value low high) = layers.Between negated value low high
+layer_unplaced (layers.In negated value first rest) = layers.In negated value first rest
+layer_unplaced (layers.Like negated value pattern escape) = layers.Like negated value pattern escape
+layer_unplaced (layers.Chain first rest) = layers.Chain first rest
+layer_unplaced (layers.Signed place sign operand) = layers.Signed origin sign operand
+layer_unplaced (layers.Call function arguments) = layers.Call (name_unplaced function) arguments
+layer_unplaced (layers.Parenthesized place expr) = layers.Parenthesized origin expr
+layer_unplaced (layers.Subquery place query) = layers.Subquery origin query
+layer_unplaced (layers.Exists place query) = layers.Exists origin query
+layer_unplaced (layers.Case place operand first rest otherwise) = layers.Case origin operand first rest otherwise
+layer_unplaced (layers.Cast place source to) = layers.Cast origin source (type_unplaced to)
+layer_unplaced (layers.Coalesce place first rest) = layers.Coalesce origin first rest
+layer_unplaced (layers.NullIf place left right) = layers.NullIf origin left right
+layer_unplaced (layers.Function place function argument) = layers.Function origin function argument
+layer_unplaced (layers.Position place part whole) = layers.Position origin part whole
+layer_unplaced (layers.Substring place text from length) = layers.Substring origin text from length
+layer_unplaced (layers.Trim place side text) = layers.Trim origin side text
 
 abbrev pub expr_step : Layer → Expr
 expr_step layer = roll-Expr (layer_unplaced layer)

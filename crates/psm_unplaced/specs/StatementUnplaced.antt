@@ -1,7 +1,8 @@
 -- Statements, blocks and declarations whose places are forgotten.
 use Rattle.std.specs.Prelude.{map, option_map}
 use Rattle.psm_tree.specs.declared.statement.Statement.{Statement, roll-Statement}
-use Rattle.psm_tree.specs.declared.statement.Statement.TheOpen.{Statement-F, Compound, Loop, While, Repeat, For, If, Case, Simple as SimpleLayer, Branch-F, Handler-F}
+use Rattle.psm_tree.specs.declared.statement.Statement.TheOpen.{Statement-F, Branch-F, Handler-F}
+use Rattle.psm_tree.specs.declared.statement.Statement.TheOpen as layers
 use Rattle.psm_tree.specs.declared.statement.Statement.TheFolds.{fold-Statement, fold-Branch, fold-Handler}
 use Rattle.psm_tree.specs.declared.statement.Label.{Label}
 use Rattle.psm_tree.specs.declared.statement.Branch.{Branch, roll-Branch}
@@ -121,23 +122,24 @@ handler_value_unplaced (handled.SqlException place) = handled.SqlException origi
 handler_value_unplaced (handled.SqlWarning place) = handled.SqlWarning origin
 handler_value_unplaced (handled.NotFound place) = handled.NotFound origin
 
--- ---- statements that have statements: each layer by itself, where the statements in it have forgotten their places before
+-- ---- statements that have statements
 
 abbrev pub label_unplaced : Label → Label
 label_unplaced label = record { start = name_unplaced label.start; end = option_map name_unplaced label.end }
 
+-- one layer of a statement; the statements in it have forgotten their places before it does
 abbrev pub Layer : Type 0
 Layer = Statement-F Statement Branch Handler
 
 abbrev pub layer_unplaced : Layer → Layer
-layer_unplaced (Compound label place atomic declarations cursors handlers body) = Compound (option_map label_unplaced label) origin atomic (map declaration_unplaced declarations) (map cursor_unplaced cursors) handlers body
-layer_unplaced (Loop label place first rest) = Loop (option_map label_unplaced label) origin first rest
-layer_unplaced (While label place test first rest) = While (option_map label_unplaced label) origin (expr_unplaced test) first rest
-layer_unplaced (Repeat label place first rest until) = Repeat (option_map label_unplaced label) origin first rest (expr_unplaced until)
-layer_unplaced (For label place name cursor query first rest) = For (option_map label_unplaced label) origin (name_unplaced name) (option_map for_cursor_unplaced cursor) (ordered_query_unplaced query) first rest
-layer_unplaced (If place first rest otherwise) = If origin first rest otherwise
-layer_unplaced (Case place operand first rest otherwise) = Case origin (option_map expr_unplaced operand) first rest otherwise
-layer_unplaced (SimpleLayer simple) = SimpleLayer (simple_unplaced simple)
+layer_unplaced (layers.Compound label place atomic declarations cursors handlers body) = layers.Compound (option_map label_unplaced label) origin atomic (map declaration_unplaced declarations) (map cursor_unplaced cursors) handlers body
+layer_unplaced (layers.Loop label place first rest) = layers.Loop (option_map label_unplaced label) origin first rest
+layer_unplaced (layers.While label place test first rest) = layers.While (option_map label_unplaced label) origin (expr_unplaced test) first rest
+layer_unplaced (layers.Repeat label place first rest until) = layers.Repeat (option_map label_unplaced label) origin first rest (expr_unplaced until)
+layer_unplaced (layers.For label place name cursor query first rest) = layers.For (option_map label_unplaced label) origin (name_unplaced name) (option_map for_cursor_unplaced cursor) (ordered_query_unplaced query) first rest
+layer_unplaced (layers.If place first rest otherwise) = layers.If origin first rest otherwise
+layer_unplaced (layers.Case place operand first rest otherwise) = layers.Case origin (option_map expr_unplaced operand) first rest otherwise
+layer_unplaced (layers.Simple simple) = layers.Simple (simple_unplaced simple)
 
 abbrev pub statement_step : Layer → Statement
 statement_step layer = roll-Statement (layer_unplaced layer)
