@@ -3,9 +3,9 @@ use Rattle.std.proofs.Common.{◌≡◌, ℕ, List, map, refl}
 use Rattle.psm_token.specs.declared.token.Placed.{Placed}
 use Rattle.psm_grammar.specs.Language.{Words, toks}
 use Rattle.psm_grammar.specs.Grammar.{Spells}
-use Rattle.psm_grammar.specs.Places.{Unnoticed}
+use Rattle.psm_grammar.specs.Places.{moved, Unnoticed}
 use Rattle.psm_grammar.proofs.Fitting.{Fit}
-use Rattle.psm_grammar.proofs.Moved.{one_apart}
+use Rattle.psm_grammar.proofs.Moved.{spells_moved, one_apart}
 use Rattle.psm_tree.specs.Parts.{Part, Enclosed, Arguments, ExistsRest, CaseRest, CastRest, CoalesceRest, NullIfRest, FunctionRest, PositionRest, SubstringRest, TrimRest, BeginRest, LoopRest, WhileRest, RepeatRest, ForRest, IfRest, CaseStatementRest, HandlerRest, BodyRest, DeclareRest}
 use Rattle.psm_tree.specs.ExprGrammar.{Gram}
 use Rattle.psm_tree.specs.Productions.{productions}
@@ -47,3 +47,7 @@ unnoticed = record { kinds = λ t. refl; values = λ n. (part_carried n).holds }
 -- tokens that are the same places apart spell values that are the same where their places are forgotten
 pub spelled_apart : {X : Type 0} {g : Gram X} {h : X → X} {follow : List ℕ} → Fit after follow g → Carried h g → (depth : ℕ) (w v : Words Placed) (x y : X) → Spells productions depth g w x → Spells productions depth g v y → map unplaced (toks w) ≡ map unplaced (toks v) → h x ≡ h y
 spelled_apart {g} {h} {follow} fit carried depth = one_apart productions unplaced part_unplaced unnoticed after height readable depth g follow fit.holds h carried.holds
+
+-- tokens without places spell the value without places
+pub spelled_unplaced : {X : Type 0} {g : Gram X} {h : X → X} → Carried h g → (depth : ℕ) (w : Words Placed) (x : X) → Spells productions depth g w x → Spells productions depth g (moved unplaced w) (h x)
+spelled_unplaced {g} {h} carried depth = spells_moved productions unplaced part_unplaced unnoticed depth g h carried.holds

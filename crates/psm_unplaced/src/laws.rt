@@ -3,6 +3,7 @@ ghost use Rattle.std.specs.Prelude.{◌≡◌, ℕ, map};
 ghost use Rattle.psm_token.specs.declared.token.Placed.{Placed};
 ghost use Rattle.psm_grammar.specs.Language.{Words, toks};
 ghost use Rattle.psm_grammar.specs.Grammar.{Spells};
+ghost use Rattle.psm_grammar.specs.Places.{moved};
 ghost use Rattle.psm_tree.specs.Productions.{productions};
 ghost use Rattle.psm_tree.specs.ExprGrammar.{expr};
 ghost use Rattle.psm_tree.specs.StatementGrammar.{statement};
@@ -23,4 +24,13 @@ pub fn one_tree_places_apart()
     ensures of_script { (w v : Words Placed) (x y : TheScript) → Spells productions 0 script w x → Spells productions 0 script v y → map unplaced (toks w) ≡ map unplaced (toks v) → script_unplaced x ≡ script_unplaced y }
     ensures of_expr { (depth : ℕ) (w v : Words Placed) (x y : ExprTree) → Spells productions depth expr w x → Spells productions depth expr v y → map unplaced (toks w) ≡ map unplaced (toks v) → expr_unplaced x ≡ expr_unplaced y }
     ensures of_statement { (depth : ℕ) (w v : Words Placed) (x y : StatementTree) → Spells productions depth statement w x → Spells productions depth statement v y → map unplaced (toks w) ≡ map unplaced (toks v) → statement_unplaced x ≡ statement_unplaced y }
+{}
+
+/// Tokens without their places spell the tree without its places: what is forgotten of a tree are places
+/// alone, and nothing that another tree of the grammar has.
+pub fn trees_without_places()
+    ensures of_file { (w : Words Placed) (x : TheFile) → Spells productions 0 file w x → Spells productions 0 file (moved unplaced w) (file_unplaced x) }
+    ensures of_script { (w : Words Placed) (x : TheScript) → Spells productions 0 script w x → Spells productions 0 script (moved unplaced w) (script_unplaced x) }
+    ensures of_expr { (depth : ℕ) (w : Words Placed) (x : ExprTree) → Spells productions depth expr w x → Spells productions depth expr (moved unplaced w) (expr_unplaced x) }
+    ensures of_statement { (depth : ℕ) (w : Words Placed) (x : StatementTree) → Spells productions depth statement w x → Spells productions depth statement (moved unplaced w) (statement_unplaced x) }
 {}

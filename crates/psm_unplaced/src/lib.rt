@@ -4,4 +4,4 @@
 
 mod laws;
 
-pub use laws::one_tree_places_apart;
+pub use laws::{one_tree_places_apart, trees_without_places};
