@@ -6,7 +6,7 @@ use Rattle.psm_built.specs.declared.tree.Module.{Module}
 use Rattle.psm_built.specs.declared.tree.Script.{Script}
 use Rattle.psm_machine.specs.Played.{played}
 use Rattle.psm_machine.specs.declared.code.Code.{Code}
-use Rattle.psm.specs.Source.{IsScriptFile}
+use Rattle.psm_build.specs.Source.{IsScriptFile}
 use Rattle.psm.specs.Words.{Files, files_of}
 use Rattle.psm.specs.Message.{usage}
 use Rattle.psm.specs.Put.{Sunk}
@@ -20,7 +20,7 @@ use Rattle.psm.specs.declared.prepare.Refusal.TheVariants as refusals
 use Rattle.psm.specs.declared.status.Status.{Status}
 use Rattle.psm.specs.declared.status.Status.TheVariants as status
 use Rattle.psm.proofs.Fetched.{told_same}
-use Rattle.psm.proofs.Sources.{module_once, module_not_refused, script_once, script_not_refused}
+use Rattle.psm_build.proofs.Sources.{module_once, module_not_refused, script_once, script_not_refused}
 
 -- ---- at most one status is due
 

@@ -1,4 +1,3 @@
-pub mod Sources
 pub mod Puts
 pub mod Sessions
 pub mod Fetched

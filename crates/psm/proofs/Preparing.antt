@@ -1,19 +1,14 @@
 -- The refusals of the two files, put together from their steps.
-use Rattle.std.proofs.Common.{◌≡◌, ℕ, ◌≤◌, List, [], length, Option, Ok, Err, refl, ◌∙◌, subst, inl, inr}
+use Rattle.std.proofs.Common.{◌≡◌, ℕ, List, [], Option, Ok, Err, refl, ◌∙◌, subst, inl, inr}
 use Rattle.std.specs.Prelude.{unwrap_or}
 use Rattle.psm_io.specs.Count.{Rose}
 use Rattle.psm_built.specs.declared.tree.Signature.{Signature}
 use Rattle.psm_built.specs.declared.tree.Script.{Script}
 use Rattle.psm_machine.specs.declared.code.Code.{Code}
-use Rattle.psm_token.specs.declared.token.Placed.{Placed}
-use Rattle.psm_grammar.specs.Language.{Lang}
-use Rattle.psm.specs.Source.{module_files, scripts, HasModule, HasScript, HasNoTree, IsFaultOf, IsScriptFile, IsScriptFault}
-use Rattle.psm.specs.Program.{most_bytes}
-use Rattle.psm.specs.declared.fault.Fault.{Fault}
-use Rattle.psm.specs.declared.fault.Fault.TheVariants as faults
+use Rattle.psm_build.specs.Source.{IsScriptFile, IsScriptFault}
 use Rattle.psm.specs.Words.{Files}
 use Rattle.psm.specs.Contract.{Fetches, Tells, NoneFailed}
-use Rattle.psm.specs.Prepared.{IsRead, IsFailed, Gets, ReadsTree, IsCodeOf, Builds, Scripts, IsReady, Prepares}
+use Rattle.psm.specs.Prepared.{IsRead, IsFailed, Gets, IsCodeWithin, GetsCode, GetsScript, IsReady, Prepares}
 use Rattle.psm.specs.declared.prepare.Which.TheVariants as which
 use Rattle.psm.specs.declared.prepare.Refusal.{Refusal}
 use Rattle.psm.specs.declared.prepare.Refusal.TheVariants as refusals
@@ -22,26 +17,6 @@ use Rattle.psm.proofs.Fetched.{told_or}
 -- the fetches of one step
 abbrev pub fetches_of : (List ℕ → Option (List ℕ)) → (List ℕ → ℕ) → (List ℕ → ℕ) → Fetches
 fetches_of held before after = record { held = held; before = before; after = after }
-
--- ---- files without a tree
-
-fault_of_no_tree : {Y : Type 0} (L : Lang Placed Y) (IsBuilt : Y → Type 0) (bytes : List ℕ) (fault : Fault) → HasNoTree L bytes fault → IsFaultOf L IsBuilt bytes fault
-fault_of_no_tree L IsBuilt bytes (faults.Token f) h = h
-fault_of_no_tree L IsBuilt bytes (faults.Syntax place) h = h
-fault_of_no_tree L IsBuilt bytes (faults.Deep place) h = h
-fault_of_no_tree L IsBuilt bytes faults.NotBuilt h = absurd h
-
-pub module_without_tree : (bytes : List ℕ) (e : Refusal) → length bytes ≤ most_bytes → ReadsTree module_files which.Module bytes (Err e) → Builds bytes (Err e)
-module_without_tree bytes (refusals.Unread w) short h = absurd h
-module_without_tree bytes (refusals.TooLong w) short h = absurd h
-module_without_tree bytes (refusals.Refused w fault) short h = (h.0, record { short = short; fault_is = fault_of_no_tree module_files HasModule bytes fault h.1 })
-module_without_tree bytes refusals.Memory short h = tt
-
-pub script_without_tree : (signature : Signature) (bytes : List ℕ) (e : Refusal) → length bytes ≤ most_bytes → ReadsTree scripts which.Script bytes (Err e) → Scripts signature bytes (Err e)
-script_without_tree signature bytes (refusals.Unread w) short h = absurd h
-script_without_tree signature bytes (refusals.TooLong w) short h = absurd h
-script_without_tree signature bytes (refusals.Refused w fault) short h = (h.0, record { short = short; fault_is = fault_of_no_tree scripts (HasScript signature) bytes fault h.1 })
-script_without_tree signature bytes refusals.Memory short h = tt
 
 -- ---- the module
 
@@ -60,7 +35,7 @@ module_unread fetches f (refusals.TooLong which.Script) h = absurd cc
 module_unread fetches f (refusals.Refused w fault) h = absurd h
 module_unread fetches f refusals.Memory h = tt
 
-pub module_refused : (fetches : Fetches) (f : Files) (bytes : List ℕ) (e : Refusal) → IsRead fetches f.for_module bytes → Builds bytes (Err e) → Prepares fetches f (Err e)
+pub module_refused : (fetches : Fetches) (f : Files) (bytes : List ℕ) (e : Refusal) → IsRead fetches f.for_module bytes → GetsCode bytes (Err e) → Prepares fetches f (Err e)
 module_refused fetches f bytes (refusals.Unread w) read h = absurd h
 module_refused fetches f bytes (refusals.TooLong w) read h = absurd h
 module_refused fetches f bytes (refusals.Refused which.Module fault) read h = record {
@@ -87,7 +62,7 @@ told_from : (held held' : List ℕ → Option (List ℕ)) (name bytes : List ℕ
 told_from held held' name bytes same h = subst (λ (o : Option (List ℕ)). Tells o bytes) (same name) h
 
 module _ (held held' : List ℕ → Option (List ℕ)) (before mid after : List ℕ → ℕ) (f : Files) (ms : List ℕ) (code : Code)
-    (read : IsRead (fetches_of held before mid) f.for_module ms) (is : IsCodeOf ms code) (same : (n : List ℕ) → held' n ≡ held n) where
+    (read : IsRead (fetches_of held before mid) f.for_module ms) (is : IsCodeWithin ms code) (same : (n : List ℕ) → held' n ≡ held n) where
   pub script_unread : (e : Refusal) → Gets (fetches_of held' mid after) f.for_script which.Script (Err e) → Prepares (fetches_of held before after) f (Err e)
   script_unread (refusals.Unread which.Script) h = failed_from held held' before mid after f.for_script read.fetched h.1
   script_unread (refusals.Unread which.Module) h = absurd cc
@@ -103,7 +78,7 @@ module _ (held held' : List ℕ → Option (List ℕ)) (before mid after : List 
   script_unread (refusals.Refused w fault) h = absurd h
   script_unread refusals.Memory h = tt
 
-  pub script_refused : (ss : List ℕ) (e : Refusal) → IsRead (fetches_of held' mid after) f.for_script ss → Scripts code.signature ss (Err e) → Prepares (fetches_of held before after) f (Err e)
+  pub script_refused : (ss : List ℕ) (e : Refusal) → IsRead (fetches_of held' mid after) f.for_script ss → GetsScript code.signature ss (Err e) → Prepares (fetches_of held before after) f (Err e)
   script_refused ss (refusals.Unread w) second h = absurd h
   script_refused ss (refusals.TooLong w) second h = absurd h
   script_refused ss (refusals.Refused which.Module fault) second h = absurd cc
@@ -123,7 +98,7 @@ module _ (held held' : List ℕ → Option (List ℕ)) (before mid after : List 
   }
   script_refused ss refusals.Memory second h = tt
 
-  pub script_ready : (ss : List ℕ) (s : Script) → IsRead (fetches_of held' mid after) f.for_script ss → Scripts code.signature ss (Ok s) → IsReady (fetches_of held before after) f code s
+  pub script_ready : (ss : List ℕ) (s : Script) → IsRead (fetches_of held' mid after) f.for_script ss → GetsScript code.signature ss (Ok s) → IsReady (fetches_of held before after) f code s
   script_ready ss s second h = record {
     ms = ms;
     ss = ss;

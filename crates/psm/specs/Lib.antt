@@ -1,7 +1,6 @@
 pub mod Status
 pub mod Words
 pub mod Message
-pub mod Source
 pub mod Put
 pub mod Script
 pub mod Program

@@ -1,11 +1,10 @@
 -- The lines that say why nothing was run.
 use Rattle.std.specs.Prelude.{ℕ, List, [], ◌++◌, codes, decimal, Option, Some, None}
 use Rattle.psm_token.specs.declared.place.Place.{Place}
-use Rattle.psm_token.specs.FaultTexts.{fault_text, fault_place}
 use Rattle.psm.specs.declared.prepare.Which.{Which}
 use Rattle.psm.specs.declared.prepare.Which.TheVariants as which
-use Rattle.psm.specs.declared.fault.Fault.{Fault}
-use Rattle.psm.specs.declared.fault.Fault.TheVariants as faults
+use Rattle.psm_build.specs.declared.fault.Fault.{Fault}
+use Rattle.psm_build.specs.FaultTexts.{place_of, text_of}
 
 abbrev pub usage : List ℕ
 usage = codes "usage: psm run M S\n"
@@ -22,20 +21,6 @@ too_long name = name ++ codes " is longer than 16777216 bytes\n"
 abbrev pub noun_of : Which → List ℕ
 noun_of which.Module = codes "module"
 noun_of which.Script = codes "script"
-
--- where its fault is
-abbrev pub place_of : Fault → Option Place
-place_of (faults.Token f) = fault_place f
-place_of (faults.Syntax place) = Some place
-place_of (faults.Deep place) = Some place
-place_of faults.NotBuilt = None
-
--- what its fault is
-abbrev pub text_of : Fault → List ℕ
-text_of (faults.Token f) = fault_text f
-text_of (faults.Syntax place) = codes "syntax fault"
-text_of (faults.Deep place) = codes "nested too deep"
-text_of faults.NotBuilt = codes "not built"
 
 -- a place, as line and column
 abbrev pub place_text : Option Place → List ℕ

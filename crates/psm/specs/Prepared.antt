@@ -2,21 +2,15 @@
 use Rattle.std.specs.Prelude.{◌≡◌, ℕ, ◌<◌, ◌≤◌, List, [], ◌∷◌, length, Result, Ok, Err}
 use Rattle.std.specs.Global.{Vec}
 use Rattle.psm_io.specs.Count.{Rose}
-use Rattle.psm_token.specs.declared.token.Placed.{Placed}
-use Rattle.psm_token.specs.Listed.{Tokens}
-use Rattle.psm_token.specs.Spells.{Spells, IsFirstFault}
-use Rattle.psm_grammar.specs.Language.{Lang}
-use Rattle.psm_built.specs.Session.{session}
 use Rattle.psm_built.specs.declared.tree.Module.{Module}
 use Rattle.psm_built.specs.declared.tree.Signature.{Signature}
 use Rattle.psm_built.specs.declared.tree.Script.{Script}
 use Rattle.psm_machine.specs.declared.code.Code.{Code}
-use Rattle.psm_machine.specs.Played.{played}
+use Rattle.psm_build.specs.Source.{IsScriptFile, IsScriptFault}
+use Rattle.psm_build.specs.Building.{StandsFor}
+use Rattle.psm_build.specs.declared.fault.Fault.{Fault}
 use Rattle.psm.specs.Words.{Files}
 use Rattle.psm.specs.Message.{too_long, cannot_read, refusal_line}
-use Rattle.psm.specs.Source.{IsTreeOf, HasNoTree, IsScriptFile, IsScriptFault}
-use Rattle.psm.specs.declared.fault.Fault.{Fault}
-use Rattle.psm.specs.declared.fault.Fault.TheVariants as faults
 use Rattle.psm.specs.Program.{most_bytes, IsModuleOf, IsNoModule, IsScriptOf}
 use Rattle.psm.specs.Contract.{Fetches, Tells, NoneFailed, IsDue}
 use Rattle.psm.specs.declared.prepare.Which.{Which}
@@ -52,44 +46,20 @@ Gets fetches name w (Err (refusals.TooLong x)) = (x ≡ w) × IsTooLong fetches 
 Gets fetches name w (Err (refusals.Refused x fault)) = ⊥
 Gets fetches name w (Err refusals.Memory) = Unit {0}
 
--- ---- trees
-
--- the tree of a file, or why it has none
-abbrev pub ReadsTree : {Y : Type 0} → Lang Placed Y → Which → List ℕ → Result Y Refusal → Type 0
-ReadsTree L w bytes (Ok tree) = IsTreeOf L bytes tree
-ReadsTree L w bytes (Err (refusals.Refused x fault)) = (x ≡ w) × HasNoTree L bytes fault
-ReadsTree L w bytes (Err refusals.Memory) = Unit {0}
-ReadsTree L w bytes (Err (refusals.Unread x)) = ⊥
-ReadsTree L w bytes (Err (refusals.TooLong x)) = ⊥
-
--- the tokens of a file, or its first fault
-abbrev pub ReadsTokens : Which → List ℕ → Result Tokens Refusal → Type 0
-ReadsTokens w bytes (Ok tokens) = Spells bytes tokens
-ReadsTokens w bytes (Err (refusals.Refused x (faults.Token fault))) = (x ≡ w) × IsFirstFault bytes fault
-ReadsTokens w bytes (Err (refusals.Refused x fault)) = ⊥
-ReadsTokens w bytes (Err refusals.Memory) = Unit {0}
-ReadsTokens w bytes (Err (refusals.Unread x)) = ⊥
-ReadsTokens w bytes (Err (refusals.TooLong x)) = ⊥
-
 -- ---- the module
 
--- code on which every script plays as the session over the module
-pub record StandsFor (code : Code) (m : Module) : Type 0 where
-  pub signature : code.signature ≡ m.procedure.signature
-  pub plays : (s : Script) (turns : ℕ) → played code s turns ≡ session m s turns
-
--- the bytes are the module file of a module, for which the code stands
-pub record IsCodeOf (bytes : List ℕ) (code : Code) : Type 0 where
+-- the bytes are within the bound, and the module file of a module, for which the code stands
+pub record IsCodeWithin (bytes : List ℕ) (code : Code) : Type 0 where
   pub tree : Module
   pub is_module : IsModuleOf bytes tree
   pub stands : StandsFor code tree
 
-abbrev pub Builds : List ℕ → Result Code Refusal → Type 0
-Builds bytes (Ok code) = IsCodeOf bytes code
-Builds bytes (Err (refusals.Refused x fault)) = (x ≡ which.Module) × IsNoModule bytes fault
-Builds bytes (Err refusals.Memory) = Unit {0}
-Builds bytes (Err (refusals.Unread x)) = ⊥
-Builds bytes (Err (refusals.TooLong x)) = ⊥
+abbrev pub GetsCode : List ℕ → Result Code Refusal → Type 0
+GetsCode bytes (Ok code) = IsCodeWithin bytes code
+GetsCode bytes (Err (refusals.Refused x fault)) = (x ≡ which.Module) × IsNoModule bytes fault
+GetsCode bytes (Err refusals.Memory) = Unit {0}
+GetsCode bytes (Err (refusals.Unread x)) = ⊥
+GetsCode bytes (Err (refusals.TooLong x)) = ⊥
 
 -- ---- the script
 
@@ -103,12 +73,12 @@ pub record IsScriptFor (signature : Signature) (bytes : List ℕ) (s : Script) :
   pub short : length bytes ≤ most_bytes
   pub file : IsScriptFile signature bytes s
 
-abbrev pub Scripts : Signature → List ℕ → Result Script Refusal → Type 0
-Scripts signature bytes (Ok s) = IsScriptFor signature bytes s
-Scripts signature bytes (Err (refusals.Refused x fault)) = (x ≡ which.Script) × IsNoScriptFor signature bytes fault
-Scripts signature bytes (Err refusals.Memory) = Unit {0}
-Scripts signature bytes (Err (refusals.Unread x)) = ⊥
-Scripts signature bytes (Err (refusals.TooLong x)) = ⊥
+abbrev pub GetsScript : Signature → List ℕ → Result Script Refusal → Type 0
+GetsScript signature bytes (Ok s) = IsScriptFor signature bytes s
+GetsScript signature bytes (Err (refusals.Refused x fault)) = (x ≡ which.Script) × IsNoScriptFor signature bytes fault
+GetsScript signature bytes (Err refusals.Memory) = Unit {0}
+GetsScript signature bytes (Err (refusals.Unread x)) = ⊥
+GetsScript signature bytes (Err (refusals.TooLong x)) = ⊥
 
 -- ---- both
 

@@ -5,8 +5,8 @@ use Rattle.psm_built.specs.declared.tree.Module.{Module}
 use Rattle.psm_built.specs.declared.tree.Script.{Script}
 use Rattle.psm.specs.Words.{Files}
 use Rattle.psm.specs.Message.{too_long, refusal_line}
-use Rattle.psm.specs.Source.{IsModuleFile, IsModuleFault, IsScriptFile, IsScriptFault}
-use Rattle.psm.specs.declared.fault.Fault.{Fault}
+use Rattle.psm_build.specs.Source.{IsModuleFile, IsModuleFault, IsScriptFile, IsScriptFault}
+use Rattle.psm_build.specs.declared.fault.Fault.{Fault}
 use Rattle.psm.specs.declared.prepare.Which.TheVariants as which
 use Rattle.psm.specs.declared.status.Status.{Status}
 use Rattle.psm.specs.declared.status.Status.TheVariants as status

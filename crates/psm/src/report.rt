@@ -7,11 +7,12 @@ ghost use Rattle.psm.specs.Prepared.{name_of, status_of_refused};
 ghost use Rattle.psm.specs.Report.{Puts, Reports, Runs};
 ghost use Rattle.psm.specs.declared.status.Status.TheVariants as status;
 
-use crate::fault::{Fault, line_of};
+use crate::fault::line_of;
 use crate::prepare::{Refusal, Which};
 use crate::script::{ScriptEnd, run_script};
 use crate::status::Status;
 use crate::words::Files;
+use psm_build::Fault;
 use psm_built::Script;
 use psm_io::{Sink, SinkFault};
 use psm_machine::Code;

@@ -22,9 +22,9 @@ use Rattle.psm_built.specs.declared.tree.Module.{Module}
 use Rattle.psm_built.specs.declared.tree.Signature.{Signature}
 use Rattle.psm_built.specs.declared.tree.Script.{Script}
 use Rattle.psm_built.specs.Built.{IsBuiltModule, IsBuiltScript}
-use Rattle.psm.specs.Source.{IsTreeOf, IsTreeFault, IsFaultOf, IsModuleFile, IsModuleFault, HasModule, IsScriptFile, IsScriptFault, HasScript}
-use Rattle.psm.specs.declared.fault.Fault.{Fault}
-use Rattle.psm.specs.declared.fault.Fault.TheVariants as faults
+use Rattle.psm_build.specs.Source.{IsTreeOf, IsTreeFault, IsFaultOf, IsModuleFile, IsModuleFault, HasModule, IsScriptFile, IsScriptFault, HasScript}
+use Rattle.psm_build.specs.declared.fault.Fault.{Fault}
+use Rattle.psm_build.specs.declared.fault.Fault.TheVariants as faults
 
 value_or : {T Y : Type 0} → Y → Out T Y → Y
 value_or y (Ok r) = r.0

@@ -16,8 +16,8 @@ use Rattle.psm_built.specs.Built.{IsBuiltModule, IsBuiltScript}
 use Rattle.psm_built.specs.declared.tree.Module.{Module}
 use Rattle.psm_built.specs.declared.tree.Signature.{Signature}
 use Rattle.psm_built.specs.declared.tree.Script.{Script}
-use Rattle.psm.specs.declared.fault.Fault.{Fault}
-use Rattle.psm.specs.declared.fault.Fault.TheVariants as faults
+use Rattle.psm_build.specs.declared.fault.Fault.{Fault}
+use Rattle.psm_build.specs.declared.fault.Fault.TheVariants as faults
 
 -- the tokens of module files, and of scripts, with their trees
 abbrev pub module_files : Lang Placed FileTree
