@@ -1,0 +1,90 @@
+//! Why a row has no other answer.
+
+use psm_format::FormatFault;
+use psm_token::{LexFault, Place};
+use psm_tree::ParseFault;
+use std::alloc::{AllocError, AllocFailed, Global};
+
+/// What is wrong with a row or its text.
+#[derive(Clone, Copy, Debug, PartialEq, Eq)]
+pub enum Fault {
+    /// The line is no row, or its text is too long, or it has no such token or level.
+    Row,
+    /// The text is no list of tokens.
+    Token(LexFault),
+    /// No tree is spelled so: the place of the first token that none goes on with, or the end.
+    Syntax(Place),
+    /// The token at this place opens level 101 of nesting.
+    Deep(Place),
+    /// What is printed of a file isn't printed of itself.
+    Unstable,
+    /// There is no memory.
+    Memory,
+}
+
+impl Fault {
+    fn place(self) -> Option<Place> {
+        match self {
+            Fault::Token(fault) => fault.place(),
+            Fault::Syntax(place) | Fault::Deep(place) => Some(place),
+            Fault::Row | Fault::Unstable | Fault::Memory => None,
+        }
+    }
+
+    fn text(self) -> &'static str {
+        match self {
+            Fault::Row => "no row",
+            Fault::Token(fault) => fault.text(),
+            Fault::Syntax(_) => "syntax fault",
+            Fault::Deep(_) => "nested too deep",
+            Fault::Unstable => "printed anew otherwise",
+            Fault::Memory => "no memory",
+        }
+    }
+
+    /// Where it is wrong, and what.
+    pub fn told(self, alloc: Global) -> Result<String, AllocError> {
+        match self.place() {
+            None => String::from_str(alloc, self.text()),
+            Some(Place { line, column }) => format!(in alloc; "{line}:{column} {}", self.text()),
+        }
+    }
+}
+
+impl From<AllocError> for Fault {
+    fn from(_error: AllocError) -> Fault {
+        Fault::Memory
+    }
+}
+
+impl<T: Drop> From<AllocFailed<T>> for Fault {
+    fn from(_error: AllocFailed<T>) -> Fault {
+        Fault::Memory
+    }
+}
+
+impl From<LexFault> for Fault {
+    fn from(fault: LexFault) -> Fault {
+        Fault::Token(fault)
+    }
+}
+
+impl From<ParseFault> for Fault {
+    fn from(fault: ParseFault) -> Fault {
+        match fault {
+            ParseFault::Syntax(place) => Fault::Syntax(place),
+            ParseFault::Deep(place) => Fault::Deep(place),
+            ParseFault::Memory => Fault::Memory,
+        }
+    }
+}
+
+impl From<FormatFault> for Fault {
+    fn from(fault: FormatFault) -> Fault {
+        match fault {
+            FormatFault::Lex(fault) => Fault::from(fault),
+            FormatFault::Parse(fault) => Fault::from(fault),
+            FormatFault::Memory => Fault::Memory,
+        }
+    }
+}
