@@ -1,5 +1,5 @@
 //! Writing tokens.
-ghost use Rattle.std.specs.Prelude.{◌≡◌, ◌≤◌, ◌∷◌, ◌++◌, [], length, IfOk, OnErr, string_bytes};
+ghost use Rattle.std.specs.Prelude.{◌≡◌, ◌≤◌, ◌∷◌, ◌++◌, [], length, IfOk, OnErr, MatchResult, string_bytes};
 ghost use Rattle.std.specs.Str.{chars};
 ghost use Rattle.psm_token.specs.declared.token.Token.TheVariants as token;
 ghost use Rattle.psm_spell.specs.Parts.{token_of};
@@ -61,21 +61,21 @@ impl Writer {
 
     /// Writes a word of the language.
     pub fn word(&mut self, word: Word) -> Result<(), AllocError>
-        ensures { IfOk result (λ _. self.new ≡ self.old ++ token.Word word ∷ []) }
+        ensures { MatchResult result (λ _. self.new ≡ self.old ++ token.Word word ∷ []) (λ _. self.new ≡ self.old) }
     {
         self.put(&Part::Word(word))
     }
 
     /// Writes a sign.
     pub fn sign(&mut self, sign: Sign) -> Result<(), AllocError>
-        ensures { IfOk result (λ _. self.new ≡ self.old ++ token.Sign sign ∷ []) }
+        ensures { MatchResult result (λ _. self.new ≡ self.old ++ token.Sign sign ∷ []) (λ _. self.new ≡ self.old) }
     {
         self.put(&Part::Sign(sign))
     }
 
     /// Writes a name, which is delimited (ISO/IEC 9075:1992, 5.2).
     pub fn name(&mut self, name: &Name) -> Result<(), AllocError>
-        ensures { IfOk result (λ _. self.new ≡ self.old ++ token.Name name.now ∷ []) }
+        ensures { MatchResult result (λ _. self.new ≡ self.old ++ token.Name name.now ∷ []) (λ _. self.new ≡ self.old) }
     {
         let kept = characters(self.alloc, name)?;
         self.put(&Part::Name(kept.as_slice()))
@@ -84,14 +84,14 @@ impl Writer {
     /// Writes a number as an exact numeric literal (ISO/IEC 9075:1992, 5.3), which a number below 0 has none of:
     /// a text with such a number is not promised to be read again.
     pub fn number(&mut self, number: Dec) -> Result<(), AllocError>
-        ensures { IfOk result (λ _. self.new ≡ self.old ++ token.Number number ∷ []) }
+        ensures { MatchResult result (λ _. self.new ≡ self.old ++ token.Number number ∷ []) (λ _. self.new ≡ self.old) }
     {
         self.put(&Part::Number(number))
     }
 
     /// Writes a text as a character string literal (ISO/IEC 9075:1992, 5.3).
     pub fn text(&mut self, text: &Text) -> Result<(), AllocError>
-        ensures { IfOk result (λ _. self.new ≡ self.old ++ token.Text text.now ∷ []) }
+        ensures { MatchResult result (λ _. self.new ≡ self.old ++ token.Text text.now ∷ []) (λ _. self.new ≡ self.old) }
     {
         self.put(&Part::Text(text.chars()))
     }
