@@ -6,12 +6,10 @@ use Rattle.psm_built.specs.declared.tree.Module.{Module}
 use Rattle.psm_built.specs.declared.tree.Signature.{Signature}
 use Rattle.psm_built.specs.declared.tree.Script.{Script}
 use Rattle.psm_machine.specs.declared.code.Code.{Code}
-use Rattle.psm_build.specs.Source.{IsScriptFile, IsScriptFault}
 use Rattle.psm_build.specs.Building.{StandsFor}
-use Rattle.psm_build.specs.declared.fault.Fault.{Fault}
 use Rattle.psm.specs.Words.{Files}
 use Rattle.psm.specs.Message.{too_long, cannot_read, refusal_line}
-use Rattle.psm.specs.Program.{most_bytes, IsModuleOf, IsNoModule, IsScriptOf}
+use Rattle.psm.specs.Program.{most_bytes, IsModuleOf, IsNoModule, IsScriptOf, IsScriptFor, IsNoScriptFor}
 use Rattle.psm.specs.Contract.{Fetches, Tells, NoneFailed, IsDue}
 use Rattle.psm.specs.declared.prepare.Which.{Which}
 use Rattle.psm.specs.declared.prepare.Which.TheVariants as which
@@ -62,16 +60,6 @@ GetsCode bytes (Err (refusals.Unread x)) = ⊥
 GetsCode bytes (Err (refusals.TooLong x)) = ⊥
 
 -- ---- the script
-
--- the bytes are no script over the signature, for that reason
-pub record IsNoScriptFor (signature : Signature) (bytes : List ℕ) (fault : Fault) : Type 0 where
-  pub short : length bytes ≤ most_bytes
-  pub fault_is : IsScriptFault signature bytes fault
-
--- the bytes are that script over the signature
-pub record IsScriptFor (signature : Signature) (bytes : List ℕ) (s : Script) : Type 0 where
-  pub short : length bytes ≤ most_bytes
-  pub file : IsScriptFile signature bytes s
 
 abbrev pub GetsScript : Signature → List ℕ → Result Script Refusal → Type 0
 GetsScript signature bytes (Ok s) = IsScriptFor signature bytes s

@@ -2,6 +2,7 @@
 use Rattle.std.specs.Prelude.{◌≡◌, ℕ, ◌<◌, ◌≤◌, ◌⊎◌, List, [], ◌∷◌, length}
 use Rattle.psm_built.specs.Session.{End, Done, Stopped, session}
 use Rattle.psm_built.specs.declared.tree.Module.{Module}
+use Rattle.psm_built.specs.declared.tree.Signature.{Signature}
 use Rattle.psm_built.specs.declared.tree.Script.{Script}
 use Rattle.psm.specs.Words.{Files}
 use Rattle.psm.specs.Message.{too_long, refusal_line}
@@ -29,15 +30,22 @@ pub record IsNoModule (bytes : List ℕ) (fault : Fault) : Type 0 where
   pub short : length bytes ≤ most_bytes
   pub fault_is : IsModuleFault bytes fault
 
--- the bytes are within the bound, and that script over the module
-pub record IsScriptOf (m : Module) (bytes : List ℕ) (s : Script) : Type 0 where
+-- the bytes are within the bound, and that script over the procedure with that signature
+pub record IsScriptFor (signature : Signature) (bytes : List ℕ) (s : Script) : Type 0 where
   pub short : length bytes ≤ most_bytes
-  pub file : IsScriptFile m.procedure.signature bytes s
+  pub file : IsScriptFile signature bytes s
 
--- the bytes are within the bound, and no script over the module, for that reason
-pub record IsNoScript (m : Module) (bytes : List ℕ) (fault : Fault) : Type 0 where
+-- the bytes are within the bound, and no script over the procedure with that signature, for that reason
+pub record IsNoScriptFor (signature : Signature) (bytes : List ℕ) (fault : Fault) : Type 0 where
   pub short : length bytes ≤ most_bytes
-  pub fault_is : IsScriptFault m.procedure.signature bytes fault
+  pub fault_is : IsScriptFault signature bytes fault
+
+-- the same over the module
+abbrev pub IsScriptOf : Module → List ℕ → Script → Type 0
+IsScriptOf m bytes s = IsScriptFor m.procedure.signature bytes s
+
+abbrev pub IsNoScript : Module → List ℕ → Fault → Type 0
+IsNoScript m bytes fault = IsNoScriptFor m.procedure.signature bytes fault
 
 -- the session of the two files ends so, with these pieces
 pub record Ends (ms ss : List ℕ) (end : End) (pieces : List (List ℕ)) : Type 0 where
