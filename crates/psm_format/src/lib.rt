@@ -4,6 +4,3 @@
 mod format;
 
 pub use format::{FormatFault, format_module};
-
-#[cfg(test)]
-mod tests;

@@ -12,6 +12,3 @@ mod read;
 pub use dec::Dec;
 pub use fault::NumFault;
 pub use laws::{order_is_total, read_inverts_print};
-
-#[cfg(test)]
-mod tests;

@@ -22,6 +22,3 @@ pub use token::{
     expect_number, expect_one_of, expect_sign, expect_text, expect_word,
 };
 pub use types::{char_length, char_rest, data_type, plain_type, type_length, varying};
-
-#[cfg(test)]
-mod tests;

@@ -9,6 +9,3 @@ mod writer;
 
 pub use laws::spelled_tokens;
 pub use writer::Writer;
-
-#[cfg(test)]
-mod tests;

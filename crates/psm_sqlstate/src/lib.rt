@@ -6,6 +6,3 @@ mod state;
 
 pub use kind::Kind;
 pub use state::SqlState;
-
-#[cfg(test)]
-mod tests;

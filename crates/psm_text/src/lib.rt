@@ -16,6 +16,3 @@ pub use order::padded_order_laws;
 pub use parts::Side;
 pub use psm_list::{Boxed, List};
 pub use text::Text;
-
-#[cfg(test)]
-mod tests;

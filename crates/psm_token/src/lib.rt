@@ -22,6 +22,3 @@ pub use place::Place;
 pub use sign::Sign;
 pub use token::{Placed, Token};
 pub use word::Word;
-
-#[cfg(test)]
-mod tests;

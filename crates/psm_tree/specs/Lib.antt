@@ -9,3 +9,4 @@ pub mod Productions
 pub mod Reading
 pub mod FileValues
 pub mod FileGrammar
+pub mod FaultTexts

@@ -1,4 +1,7 @@
 //! Why tokens have no tree.
+ghost use Rattle.std.specs.Prelude.{◌≡◌};
+ghost use Rattle.psm_tree.specs.FaultTexts.{fault_text, fault_place};
+
 use psm_token::Place;
 
 /// Why tokens have no tree.
@@ -10,4 +13,27 @@ pub enum ParseFault {
     Deep(Place),
     /// There is no memory for the tree.
     Memory,
+}
+
+impl ParseFault {
+    /// What is wrong, in words; nothing for `Memory`.
+    pub fn text(self) -> &'static str
+        ensures { result.now ≡ fault_text self }
+    {
+        match self {
+            ParseFault::Syntax(_) => "syntax fault",
+            ParseFault::Deep(_) => "nested too deep",
+            ParseFault::Memory => "",
+        }
+    }
+
+    /// Where it is wrong; `None` for `Memory`.
+    pub fn place(self) -> Option<Place>
+        ensures { result ≡ fault_place self }
+    {
+        match self {
+            ParseFault::Syntax(place) | ParseFault::Deep(place) => Some(place),
+            ParseFault::Memory => None,
+        }
+    }
 }

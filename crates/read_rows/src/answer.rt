@@ -43,7 +43,8 @@ fn cuts(alloc: Global, row: Row<'_>, bytes: &[u8]) -> Result<String, Fault>
             let text = &bytes[..at];
             match read(alloc, row, text) {
                 Ok(_) => whole = whole.saturating_add(1),
-                Err(Fault::Syntax(place)) if place == tokens(alloc, text)?.end() => {
+                Err(Fault::Tree(ParseFault::Syntax(place)))
+                    if place == tokens(alloc, text)?.end() => {
                     faulty = faulty.saturating_add(1);
                 }
                 Err(fault) => return Err(fault),

@@ -12,10 +12,8 @@ pub enum Fault {
     Row,
     /// The text is no list of tokens.
     Token(LexFault),
-    /// No tree is spelled so: the place of the first token that none goes on with, or the end.
-    Syntax(Place),
-    /// The token at this place opens level 101 of nesting.
-    Deep(Place),
+    /// The tokens have no tree.
+    Tree(ParseFault),
     /// What is printed of a file isn't printed of itself.
     Unstable,
     /// There is no memory.
@@ -26,7 +24,7 @@ impl Fault {
     fn place(self) -> Option<Place> {
         match self {
             Fault::Token(fault) => fault.place(),
-            Fault::Syntax(place) | Fault::Deep(place) => Some(place),
+            Fault::Tree(fault) => fault.place(),
             Fault::Row | Fault::Unstable | Fault::Memory => None,
         }
     }
@@ -35,8 +33,7 @@ impl Fault {
         match self {
             Fault::Row => "no row",
             Fault::Token(fault) => fault.text(),
-            Fault::Syntax(_) => "syntax fault",
-            Fault::Deep(_) => "nested too deep",
+            Fault::Tree(fault) => fault.text(),
             Fault::Unstable => "printed anew otherwise",
             Fault::Memory => "no memory",
         }
@@ -72,9 +69,8 @@ impl From<LexFault> for Fault {
 impl From<ParseFault> for Fault {
     fn from(fault: ParseFault) -> Fault {
         match fault {
-            ParseFault::Syntax(place) => Fault::Syntax(place),
-            ParseFault::Deep(place) => Fault::Deep(place),
             ParseFault::Memory => Fault::Memory,
+            fault => Fault::Tree(fault),
         }
     }
 }
