@@ -8,6 +8,7 @@ use crate::run::run;
 use crate::script::script;
 use crate::unescape::unescaped;
 use psm_token::{TokenList, tokens};
+use psm_tree::ParseFault;
 use std::alloc::{AllocError, Global};
 
 /// What was read of a row's text, or what is wrong with it and where.
