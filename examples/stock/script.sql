@@ -1,0 +1,1 @@
+CALL receive(40, 3, 120);
