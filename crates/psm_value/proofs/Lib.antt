@@ -2,4 +2,5 @@ pub mod DataOrder
 pub mod Literals
 pub mod Quoting
 pub mod Ranges
+pub mod Stable
 pub mod Trims

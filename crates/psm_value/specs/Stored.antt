@@ -1,14 +1,14 @@
 -- Store assignment (ISO/IEC 9075:1992, 9.2).
-use Rattle.std.specs.Prelude.{ℕ, ℤ, pos, negsuc, ◌^◌, Bool, true, false, ◌&&◌, List, codes, nat_lt, int_le, unsigned_abs, Result, Ok, Err, if◌then◌else◌}
+use Rattle.std.specs.Prelude.{ℕ, ℤ, pos, negsuc, ◌^◌, Bool, true, false, ◌&&◌, List, length, codes, nat_eq, nat_le, nat_lt, int_le, unsigned_abs, Result, Ok, Err, if◌then◌else◌}
 use Rattle.psm_num.specs.Num as num
 use Rattle.psm_num.specs.Arithmetic.{at_scale}
-use Rattle.psm_text.specs.declared.fault.TextFault.{TextFault}
 use Rattle.psm_text.specs.Storing as text
 use Rattle.psm_sqlstate.specs.declared.state.SqlState.{SqlState}
 use Rattle.psm_value.specs.declared.datum.Datum.{Datum}
 use Rattle.psm_value.specs.declared.datum.Datum.TheVariants.{Null, Num, Text}
 use Rattle.psm_value.specs.declared.sqltype.SqlType.{SqlType}
 use Rattle.psm_value.specs.declared.sqltype.SqlType.TheVariants.{SmallInt, Integer, Numeric, Char, VarChar}
+use Rattle.psm_value.specs.TextFaults.{as_text}
 
 -- how many digits behind the point the type keeps
 abbrev pub scale_of : SqlType → ℕ
@@ -31,11 +31,6 @@ abbrev pub stored_number : SqlType → num.Num → Result Datum SqlState
 stored_number to n = let cut = at_scale n (scale_of to) in
     if is_in_range to cut.coef then Ok (Num cut) else Err (codes "22003")
 
--- the text that fits, or the condition that a character is lost
-abbrev pub as_text : Result (List ℕ) TextFault → Result Datum SqlState
-as_text (Ok t) = Ok (Text t)
-as_text (Err fault) = Err (codes "22001")
-
 -- a text may lose blanks alone, and CHAR is filled with blanks; a type of numbers holds no text
 abbrev pub stored_text : SqlType → List ℕ → Result Datum SqlState
 stored_text (Char n) t = as_text (text.stored n true t)
@@ -49,3 +44,18 @@ abbrev pub stored : SqlType → Datum → Result Datum SqlState
 stored to Null = Ok Null
 stored to (Num n) = stored_number to n
 stored to (Text t) = stored_text to t
+
+-- whether texts of so many characters are as the type stores them; a type of numbers holds no text
+abbrev pub has_length : SqlType → ℕ → Bool
+has_length (Char n) count = nat_eq count n
+has_length (VarChar n) count = nat_le count n
+has_length SmallInt count = false
+has_length Integer count = false
+has_length (Numeric p s) count = false
+
+-- whether a value is as the type stores it: null, a number of exactly the type's scale and in its range, or a text of
+-- exactly n characters in CHAR(n) and of at most n in VARCHAR(n)
+abbrev pub is_stored : SqlType → Datum → Bool
+is_stored to Null = true
+is_stored to (Num n) = nat_eq n.scale (scale_of to) && is_in_range to n.coef
+is_stored to (Text t) = has_length to (length t)

@@ -1,4 +1,4 @@
-ghost use Rattle.std.specs.Prelude.{◌≡◌, ◌++◌, IfOk, OnOk, encode_utf8_all};
+ghost use Rattle.std.specs.Prelude.{◌≡◌, ◌++◌, IfOk, OnOk, OnErr, encode_utf8_all, take, vec_len};
 ghost use Rattle.psm_num.specs.Printed.{printed as printed_number};
 ghost use Rattle.psm_value.specs.Printed.{doubled, printed, quoted};
 
@@ -26,27 +26,43 @@ impl Datum {
         }
     }
     /// Appends the value as a script prints it: `NULL`, the digits of a number, or a text between single
-    /// quotes, with each single quote in it doubled, in UTF-8.
+    /// quotes, with each single quote in it doubled, in UTF-8. Where memory runs out, `out` is as it was.
     pub fn print(&self, out: &mut Vec<u8>) -> Result<(), AllocError>
-        ensures { OnOk result (out.new.items ≡ out.old.items ++ printed self.now) }
+        ensures ok { OnOk result (out.new.items ≡ out.old.items ++ printed self.now) }
+        ensures err { OnErr result (out.new.items ≡ out.old.items) }
     {
         match self {
             Datum::Null => out.extend_from_slice(b"NULL"),
             Datum::Num(number) => print_number(*number, out),
-            Datum::Text(text) => print_quoted(text.chars(), out),
+            Datum::Text(text) => print_text(text.chars(), out),
         }
     }
 }
 
 fn print_number(number: Dec, out: &mut Vec<u8>) -> Result<(), AllocError>
-    ensures { OnOk result (out.new.items ≡ out.old.items ++ printed_number number) }
+    ensures ok { OnOk result (out.new.items ≡ out.old.items ++ printed_number number) }
+    ensures err { OnErr result (out.new.items ≡ out.old.items) }
 {
     let digits = number.print(*out.allocator())?;
     out.extend_from_slice(digits.as_bytes())
 }
 
+fn print_text(characters: &[char], out: &mut Vec<u8>) -> Result<(), AllocError>
+    ensures ok { OnOk result (out.new.items ≡ out.old.items ++ quoted characters.now) }
+    ensures err { OnErr result (out.new.items ≡ out.old.items) }
+{
+    let len = out.len();
+    let printed = print_quoted(characters, out);
+    if printed.is_err() {
+        out.truncate(len);
+    }
+    printed
+}
+
+// After a refusal a part of what is due stands behind what stood there before.
 fn print_quoted(characters: &[char], out: &mut Vec<u8>) -> Result<(), AllocError>
-    ensures { OnOk result (out.new.items ≡ out.old.items ++ quoted characters.now) }
+    ensures ok { OnOk result (out.new.items ≡ out.old.items ++ quoted characters.now) }
+    ensures err { OnErr result (take (vec_len out.old) out.new.items ≡ out.old.items) }
 {
     out.push(b'\'')?;
     for c in characters {
@@ -58,7 +74,8 @@ fn print_quoted(characters: &[char], out: &mut Vec<u8>) -> Result<(), AllocError
 
 // A character within quotes.
 fn print_character(c: char, out: &mut Vec<u8>) -> Result<(), AllocError>
-    ensures { OnOk result (out.new.items ≡ out.old.items ++ encode_utf8_all (doubled c)) }
+    ensures ok { OnOk result (out.new.items ≡ out.old.items ++ encode_utf8_all (doubled c)) }
+    ensures err { OnErr result (out.new.items ≡ out.old.items) }
 {
     if c == '\'' {
         return out.extend_from_slice(b"''");

@@ -22,8 +22,5 @@ pub use psm_sqlstate::SqlState;
 pub use psm_text::Text;
 pub use sqltype::SqlType;
 pub use steps::Steps;
-pub use storing::{fetch_into, store_into};
+pub use storing::{fetch_into, is_stored, store_into, storing_is_stable};
 pub use truth::Truth;
-
-#[cfg(test)]
-mod tests;

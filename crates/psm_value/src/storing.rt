@@ -1,9 +1,12 @@
-ghost use Rattle.std.specs.Prelude.{◌≡◌, ◌≤◌, codes, if◌then◌else◌};
+ghost use Rattle.std.specs.Prelude.{◌≡◌, ◌≤◌, ◌↔◌, ℕ, Bool, IsTrue, Ok, length, codes, if◌then◌else◌};
+ghost use Rattle.psm_value.specs.declared.datum.Datum.{Datum};
 ghost use Rattle.psm_value.specs.declared.datum.Datum.TheVariants as data_of;
+ghost use Rattle.psm_value.specs.declared.sqltype.SqlType.{SqlType};
 ghost use Rattle.psm_value.specs.Answer.{Gives};
 ghost use Rattle.psm_value.specs.Fetched.{fetched, fetched_text};
-ghost use Rattle.psm_value.specs.SqlType.{IsType};
-ghost use Rattle.psm_value.specs.Stored.{is_in_range as is_in_range_of, scale_of, stored, stored_number, stored_text};
+ghost use Rattle.psm_value.specs.Cast.{cast_of};
+ghost use Rattle.psm_value.specs.SqlType.{IsType, IsOfFamily};
+ghost use Rattle.psm_value.specs.Stored.{has_length as has_length_of, is_in_range as is_in_range_of, is_stored as is_as_stored, scale_of, stored, stored_number, stored_text};
 
 use crate::datum::Datum;
 use crate::fault::ValueFault;
@@ -40,6 +43,31 @@ pub fn fetch_into(alloc: Global, to: SqlType, value: &Datum) -> Result<(Datum, b
         Datum::Text(text) => fetch_text(alloc, to, text),
     }
 }
+
+/// Whether a value is as the type stores it: null, a number of exactly the type's scale and in its range, or a
+/// text of exactly `n` characters in CHAR(n) and of at most `n` in VARCHAR(n). Takes no memory.
+pub fn is_stored(to: SqlType, value: &Datum) -> bool
+    requires { IsType to }
+    ensures { result ≡ is_as_stored to value.now }
+{
+    match value {
+        Datum::Null => true,
+        Datum::Num(number) => number.scale() == scale(to) && is_in_range(to, number.coef()),
+        Datum::Text(text) => has_length(to, text.len()),
+    }
+}
+
+/// What is stored is null or of the type's family, is as the type stores it, and stays as it is when it is
+/// stored there again. What is fetched or cast is as the type stores it too. A value is as its type stores it
+/// exactly where storing leaves it as it is.
+pub fn storing_is_stable()
+    ensures family { (to : SqlType) (d e : Datum) → stored to d ≡ Ok e → IsOfFamily to e }
+    ensures as_stored { (to : SqlType) (d e : Datum) → stored to d ≡ Ok e → IsTrue (is_as_stored to e) }
+    ensures again { (to : SqlType) (d e : Datum) → stored to d ≡ Ok e → stored to e ≡ Ok e }
+    ensures exactly { (to : SqlType) (d : Datum) → IsTrue (is_as_stored to d) ↔ (stored to d ≡ Ok d) }
+    ensures fetched { (to : SqlType) (d e : Datum) (lost : Bool) → fetched to d ≡ Ok (e, lost) → IsTrue (is_as_stored to e) }
+    ensures cast { (to : SqlType) (d e : Datum) → cast_of to d ≡ Ok e → IsTrue (is_as_stored to e) }
+{}
 
 pub(crate) fn store_number(to: SqlType, number: Dec) -> Result<Datum, SqlState>
     requires { IsType to }
@@ -84,6 +112,17 @@ fn fetch_text(alloc: Global, to: SqlType, text: &Text) -> Result<(Datum, bool), 
         _ => return Err(ValueFault::Condition(SqlState::RIGHT_TRUNCATION)),
     };
     Ok((Datum::Text(cut), lost))
+}
+
+// Whether texts of so many characters are as the type stores them.
+fn has_length(to: SqlType, count: u32) -> bool
+    ensures { result ≡ has_length_of to count }
+{
+    match to {
+        SqlType::Char { n } => count == u32::from(n),
+        SqlType::VarChar { n } => count <= u32::from(n),
+        SqlType::SmallInt | SqlType::Integer | SqlType::Numeric { .. } => false,
+    }
 }
 
 // How many digits behind the point the type keeps.
