@@ -1,0 +1,24 @@
+use super::*;
+use std::test::Fail;
+
+const PUSHES: u32 = 3000;
+
+#[test]
+fn items_stay_over_growth_and_come_back_last_first(rt: HostRuntime) -> Result<(), Fail> {
+    let mut stack = SegStack::new(rt.alloc());
+    assert_eq!(rt; stack.top(), None);
+    'fill: for number in 0..PUSHES {
+        stack.reserve()?;
+        stack.push(number);
+    }
+    assert_eq!(rt; stack.len(), 3000);
+    assert_eq!(rt; stack.get(0), Some(&0));
+    assert_eq!(rt; stack.get(1023), Some(&1023));
+    assert_eq!(rt; stack.get(1024), Some(&1024));
+    assert_eq!(rt; stack.get(3000), None);
+    stack.cut(1025);
+    assert_eq!(rt; stack.pop(), Some(1024));
+    assert_eq!(rt; stack.pop(), Some(1023));
+    assert_eq!(rt; stack.top(), Some(&1022));
+    Ok(())
+}
