@@ -1,6 +1,7 @@
 pub mod Among
 pub mod Likes
 pub mod Positions
+pub mod Results
 pub mod Running
 pub mod Standing
 pub mod Stepping

@@ -7,10 +7,10 @@ use Rattle.psm_text.specs.declared.fault.TextFault.TheVariants.{TooLong, Substri
 use Rattle.psm_text.specs.Like.{Liked, Matches, Item, Literal, One, Any, items_of}
 use Rattle.psm_value.specs.declared.fault.ValueFault.{ValueFault}
 use Rattle.psm_value.specs.declared.truth.Truth.{Truth}
-use Rattle.psm_value.specs.TextFaults.{fault_of}
+use Rattle.psm_value.specs.TextFaults.{state_of, fault_of}
 use Rattle.psm_value.specs.Answer.{Gives}
 use Rattle.psm_exprcode.specs.Comparison.{truth_of}
-use Rattle.psm_exprcode.specs.Values.{as_truth, state_of}
+use Rattle.psm_exprcode.specs.Values.{as_truth}
 use Rattle.psm_exprcode.specs.Texts.{like_of, matches, is_later}
 
 later_at : (f : List ℕ → Bool) (t : List ℕ) → is_later f t ≡ true → (k : ℕ) × (f (drop k t) ≡ true)

@@ -1,233 +1,233 @@
--- Where the letters say that an operation may go on, it finds its operands and leaves what they say.
-use Rattle.std.proofs.Common.{◌≡◌, ℕ, zero, suc, Bool, true, false, List, [], ◌∷◌, length, refl, ap, sym, subst, ◌∙◌, Some, ltb-true, leb-true}
-use Rattle.std.specs.Prelude.{option_and_then, slice_get, if◌then◌else◌, Ok}
+-- Each operation does with operands what the table says of their letters.
+use Rattle.std.proofs.Common.{◌≡◌, ℕ, zero, suc, ◌<◌, Bool, true, false, ◌&&◌, List, [], ◌∷◌, ◌++◌, length, refl, ap, sym, ◌∙◌, arith, Option, Some, None, Result, Ok, Err, leb-true, append_assoc}
+use Rattle.std.specs.Prelude.{slice_get, replicate}
+use Rattle.psm_num.proofs.Literals.{and_first, and_second}
+use Rattle.psm_text.specs.Parts.{upper_of, lower_of}
 use Rattle.psm_value.specs.declared.datum.Datum.{Datum}
+use Rattle.psm_value.specs.declared.datum.Datum.TheVariants as data_of
 use Rattle.psm_value.specs.declared.truth.Truth.{Truth as Answer}
+use Rattle.psm_value.specs.declared.truth.Truth.TheVariants as truth
 use Rattle.psm_value.specs.Arithmetic.{sum_of, difference_of, product_of, quotient_of, negated_of}
 use Rattle.psm_value.specs.Cast.{cast_of}
 use Rattle.psm_value.specs.Truth.{both, either, opposite}
-use Rattle.psm_text.specs.Parts.{upper_of, lower_of}
+use Rattle.psm_exprcode.specs.declared.comparing.Test.{Test}
 use Rattle.psm_exprcode.specs.declared.comparing.Test.TheVariants as test
-use Rattle.psm_exprcode.specs.Texts.{trim_of}
-use Rattle.psm_exprcode.specs.Values.{rescaled, concatenated, length_of, position_of, part_from, part_of, on_text, like, like_escaped}
 use Rattle.psm_exprcode.specs.declared.op.Letter.{Letter}
 use Rattle.psm_exprcode.specs.declared.op.Letter.TheVariants.{N, T, B}
 use Rattle.psm_exprcode.specs.declared.op.Op.{Op}
 use Rattle.psm_exprcode.specs.declared.op.Op.TheVariants as op
 use Rattle.psm_exprcode.specs.declared.operand.Operand.{Operand}
 use Rattle.psm_exprcode.specs.declared.operand.Operand.TheVariants.{Value, Truth}
-use Rattle.psm_exprcode.specs.declared.operand.Next.TheVariants.{Ahead}
-use Rattle.psm_exprcode.specs.Applied.{Applied, Went, with_value, with_truth, on_value, on_two, on_three, on_truth, on_many, nipped, with_named, applied}
+use Rattle.psm_exprcode.specs.declared.operand.Next.TheVariants.{Ahead, Jump}
+use Rattle.psm_exprcode.specs.Applied.{Applied, Went, Raised, Lacking, with_value, with_truth, with_named, on_value, on_two, on_three, on_truth, on_many, nipped, set_at, unless_true, applied}
 use Rattle.psm_exprcode.specs.Comparison.{truth_of, tested, between, among, unless_equal, is_null}
-use Rattle.psm_exprcode.specs.Evaluated.{is_named}
-use Rattle.psm_exprcode.specs.Fits.{Fits, are_values, are_truths, is_over_value}
-use Rattle.psm_exprcode.specs.WellFormed.{without, puts, by_kind, letter_of, takes, is_bounded}
+use Rattle.psm_exprcode.specs.Fits.{are_values, are_truths, is_over_value, finds, IsNamed, IsWithin, Fits}
+use Rattle.psm_exprcode.specs.Kinds.{is_letter, is_value, has_letter, letter_of, is_of, are_of, have}
+use Rattle.psm_exprcode.specs.Operations.{effect}
+use Rattle.psm_exprcode.specs.Texts.{trim_of}
+use Rattle.psm_exprcode.specs.Values.{rescaled, concatenated, length_of, position_of, part_from, part_of, on_text, like, like_escaped}
+use Rattle.psm_exprcode.specs.WellFormed.{is_bounded, is_known, is_of_kind}
+use Rattle.psm_exprcode.proofs.Results.{sum-gives, difference-gives, product-gives, quotient-gives, negated-gives, rescaled-gives, concatenated-gives, length-gives, position-gives, part_from-gives, part_of-gives, on_text-gives, unless_equal-gives, cast-gives}
+use Rattle.psm_exprcode.proofs.Standing.{both_true, gives, Leads, value_puts, truth_puts, is_in, named_puts, on_value-leads, on_two-leads, on_three-leads, on_truth-leads, on_many-leads, on-values, on-many, on-one_truth, on-two_truths}
 use Rattle.psm_exprcode.proofs.Types.{type_within}
-use Rattle.psm_exprcode.proofs.Standing.{is_val, is_truth, have, have_head, same_some, Leads, Step, Off, Puts, puts_some, without_off, fixed, kinds, kind_some, and_then_some, off_values, off_truths, on_value_leads, on_truth_leads, on_two_leads, on_three_leads, on_many_leads, value_leads, truth_leads, named_leads, letter_of-val}
+use Rattle.psm_exprcode.proofs.Stripping.{is_letter-same}
+
+-- ---- columns and variables
+
+-- whether the value of the column or the variable that the operation names is there, and of the kind k
+abbrev pub names : List Datum → List Datum → Op → Letter → Bool
+names row vars (op.Variable i) k = is_in k (slice_get vars i)
+names row vars (op.Column i) k = is_in k (slice_get row i)
+names row vars o k = true
+
+known_in : (k : Letter) (kinds : List Letter) (values : List Datum) (i : ℕ) → are_of kinds values ≡ true → is_known k (slice_get kinds i) ≡ true → is_in k (slice_get values i) ≡ true
+known_in k [] values i h g = absurd (cc)
+known_in k (l ∷ kinds) [] i h g = absurd (cc)
+known_in k (l ∷ kinds) (d ∷ values) zero h g = ap (λ j. has_letter j d) (is_letter-same k l g) ∙ and_first (has_letter l d) (are_of kinds values) h
+known_in k (l ∷ kinds) (d ∷ values) (suc i) h g = known_in k kinds values i (and_second (has_letter l d) (are_of kinds values) h) g
+
+pub of_kind-names : (columns variables : List Letter) (row vars : List Datum) (o : Op) (k : Letter) → are_of columns row ≡ true → are_of variables vars ≡ true
+    → is_of_kind columns variables o k ≡ true → names row vars o k ≡ true
+of_kind-names columns variables row vars (op.Variable i) k h g m = known_in k variables vars i g m
+of_kind-names columns variables row vars (op.Column i) k h g m = known_in k columns row i h m
+of_kind-names columns variables row vars o k h g m = refl
+
+in_length : (k : Letter) (values : List Datum) (i : ℕ) → is_in k (slice_get values i) ≡ true → i < length values
+in_length k [] i h = absurd (cc)
+in_length k (d ∷ values) zero h = omega arith
+in_length k (d ∷ values) (suc i) h = let n = in_length k values i h in omega (arith, n)
+
+names-named : (row vars : List Datum) (o : Op) (k : Letter) → names row vars o k ≡ true → IsNamed o row vars
+names-named row vars (op.Variable i) k h = in_length k vars i h
+names-named row vars (op.Column i) k h = in_length k row i h
+names-named row vars o k h = tt
+
+bounded-within : (o : Op) → is_bounded o ≡ true → IsWithin o
+bounded-within (op.Rescale s) h = leb-true s 18 h
+bounded-within (op.Cast to) h = type_within to h
+bounded-within o h = tt
 
 -- ---- forms of operations
 
-turn : (s s' : List Letter) (a : Applied) → s' ≡ s → Leads (Step s) a → Leads (Step s') a
-turn s s' a e h = let F : List Letter → Type 0 = λ u. Leads (Step u) a in subst F (sym e) h
+compares : (k : Letter) (rest : List Letter) (os : List Operand) (t : Test) → is_value k ≡ true → have (k ∷ k ∷ rest) os ≡ true
+    → Leads (Some (B ∷ [])) None rest (on_two (λ a b below. with_truth below (Ok (tested t a b))) os)
+compares k rest os t v h =
+    on_two-leads (Leads (Some (B ∷ [])) None rest) k k rest os (λ a b below. with_truth below (Ok (tested t a b))) v v h (λ a b below ha i. truth_puts rest below (Ok (tested t a b)) i)
 
-one_value : (p : Letter) (s s' : List Letter) (os : List Operand) (f : Datum → List Operand → Applied) → Puts is_val 1 p s s' → have s os ≡ true
-    → ((a : Datum) (t : List Letter) (below : List Operand) → have t below ≡ true → Leads (Step (p ∷ t)) (f a below)) → Leads (Step s') (on_value f os)
-one_value p s s' os f h d go = turn (p ∷ h.rest) s' (on_value f os) h.is
-    (on_value_leads 0 s h.rest os f (Step (p ∷ h.rest)) h.off d (λ a u below e g. go a h.rest below (ap (λ w. have w below) (sym e) ∙ g)))
+calculates : (rest : List Letter) (os : List Operand) (f : Datum → Datum → Result Datum (List ℕ)) → ((a b : Datum) → gives N (f a b) ≡ true) → have (N ∷ N ∷ rest) os ≡ true
+    → Leads (Some (N ∷ [])) None rest (on_two (λ a b below. with_value below (f a b)) os)
+calculates rest os f g h =
+    on_two-leads (Leads (Some (N ∷ [])) None rest) N N rest os (λ a b below. with_value below (f a b)) refl refl h (λ a b below ha i. value_puts N rest below (f a b) (g a b) i)
 
-two_values : (p : Letter) (s s' : List Letter) (os : List Operand) (f : Datum → Datum → List Operand → Applied) → Puts is_val 2 p s s' → have s os ≡ true
-    → ((a b : Datum) (t : List Letter) (below : List Operand) → have t below ≡ true → Leads (Step (p ∷ t)) (f a b below)) → Leads (Step s') (on_two f os)
-two_values p s s' os f h d go = turn (p ∷ h.rest) s' (on_two f os) h.is
-    (on_two_leads s h.rest os f (Step (p ∷ h.rest)) h.off d (λ a b below g. go a b h.rest below g))
+changes : (k p : Letter) (rest : List Letter) (os : List Operand) (f : Datum → Result Datum (List ℕ)) → is_value k ≡ true → ((a : Datum) → gives p (f a) ≡ true) → have (k ∷ rest) os ≡ true
+    → Leads (Some (p ∷ [])) None rest (on_value (λ a below. with_value below (f a)) os)
+changes k p rest os f v g h =
+    on_value-leads (Leads (Some (p ∷ [])) None rest) k rest os (λ a below. with_value below (f a)) v h (λ a below ha i. value_puts p rest below (f a) (g a) i)
 
-three_values : (p : Letter) (s s' : List Letter) (os : List Operand) (f : Datum → Datum → Datum → List Operand → Applied) → Puts is_val 3 p s s' → have s os ≡ true
-    → ((a b c : Datum) (t : List Letter) (below : List Operand) → have t below ≡ true → Leads (Step (p ∷ t)) (f a b c below)) → Leads (Step s') (on_three f os)
-three_values p s s' os f h d go = turn (p ∷ h.rest) s' (on_three f os) h.is
-    (on_three_leads s h.rest os f (Step (p ∷ h.rest)) h.off d (λ a b c below g. go a b c h.rest below g))
+combines : (rest : List Letter) (os : List Operand) (f : Answer → Answer → Answer) → have (B ∷ B ∷ rest) os ≡ true
+    → Leads (Some (B ∷ [])) None rest (on_truth (λ b. on_truth (λ a below. with_truth below (Ok (f a b)))) os)
+combines rest os f h =
+    on_truth-leads (Leads (Some (B ∷ [])) None rest) (B ∷ rest) os (λ b. on_truth (λ a below. with_truth below (Ok (f a b)))) h (λ b u i.
+    on_truth-leads (Leads (Some (B ∷ [])) None rest) rest u (λ a below. with_truth below (Ok (f a b))) i (λ a below j. truth_puts rest below (Ok (f a b)) j))
 
-two_truths : (s s' : List Letter) (os : List Operand) (f : Answer → Answer → Answer) → Puts is_truth 2 B s s' → have s os ≡ true
-    → Leads (Step s') (on_truth (λ b. on_truth (λ a below. with_truth below (Ok (f a b)))) os)
-two_truths s s' os f h d = turn (B ∷ h.rest) s' (on_truth (λ b. on_truth (λ a below. with_truth below (Ok (f a b)))) os) h.is
-    (on_truth_leads 1 s h.rest os (λ b. on_truth (λ a below. with_truth below (Ok (f a b)))) (Step (B ∷ h.rest)) h.off d (λ b u below q g.
-    on_truth_leads 0 u h.rest below (λ a under. with_truth under (Ok (f a b))) (Step (B ∷ h.rest)) q g (λ a v under e k.
-    truth_leads h.rest under (Ok (f a b)) (ap (λ w. have w under) (sym e) ∙ k))))
+nips : (k x : Letter) (rest : List Letter) (os : List Operand) → is_value k ≡ true → have (x ∷ k ∷ rest) os ≡ true → Leads (Some (x ∷ [])) None rest (nipped os)
+nips k x rest [] v h = absurd (cc)
+nips k x rest (o ∷ os) v h =
+    on_value-leads (Leads (Some (x ∷ [])) None rest) k rest os (λ a below. Went Ahead (o ∷ below)) v (and_second (is_of x o) (have (k ∷ rest) os) h) (λ a below ha i.
+    both_true (is_of x o) (have rest below) (and_first (is_of x o) (have (k ∷ rest) os) h) i)
 
-one_truth : (s s' : List Letter) (os : List Operand) (f : Answer → Answer) → Puts is_truth 1 B s s' → have s os ≡ true
-    → Leads (Step s') (on_truth (λ a below. with_truth below (Ok (f a))) os)
-one_truth s s' os f h d = turn (B ∷ h.rest) s' (on_truth (λ a below. with_truth below (Ok (f a))) os) h.is
-    (on_truth_leads 0 s h.rest os (λ a below. with_truth below (Ok (f a))) (Step (B ∷ h.rest)) h.off d (λ a v under e k.
-    truth_leads h.rest under (Ok (f a)) (ap (λ w. have w under) (sym e) ∙ k)))
+finds_among : (n : ℕ) (k : Letter) (rest : List Letter) (os : List Operand) → is_value k ≡ true → have ((replicate n k ++ k ∷ []) ++ rest) os ≡ true
+    → Leads (Some (B ∷ [])) None rest (on_many n (λ bs. on_value (λ a below. with_truth below (Ok (among a bs)))) os)
+finds_among n k rest os v h =
+    on_many-leads (Leads (Some (B ∷ [])) None rest) n k (k ∷ rest) os (λ bs. on_value (λ a below. with_truth below (Ok (among a bs)))) v
+    (ap (λ s. have s os) (sym (append_assoc (replicate n k) (k ∷ []) rest)) ∙ h) (λ bs u i.
+    on_value-leads (Leads (Some (B ∷ [])) None rest) k rest u (λ a below. with_truth below (Ok (among a bs))) v i (λ a below ha j. truth_puts rest below (Ok (among a bs)) j))
 
-many_values : (n : ℕ) (s s' : List Letter) (os : List Operand) → Puts is_val (suc n) B s s' → have s os ≡ true
-    → Leads (Step s') (on_many n (λ bs. on_value (λ a below. with_truth below (Ok (among a bs)))) os)
-many_values n s s' os h d = turn (B ∷ h.rest) s' (on_many n (λ bs. on_value (λ a below. with_truth below (Ok (among a bs)))) os) h.is
-    (on_many_leads n s h.rest os (λ bs. on_value (λ a below. with_truth below (Ok (among a bs)))) (Step (B ∷ h.rest)) h.off d (λ bs u below q g.
-    on_value_leads 0 u h.rest below (λ a under. with_truth under (Ok (among a bs))) (Step (B ∷ h.rest)) q g (λ a v under e k.
-    truth_leads h.rest under (Ok (among a bs)) (ap (λ w. have w under) (sym e) ∙ k))))
+decides : (p : ℕ) (rest : List Letter) (t : Answer) (below : List Operand) → have rest below ≡ true → Leads (Some []) (Some (p, [])) rest (unless_true p t below)
+decides p rest truth.True below h = h
+decides p rest truth.False below h = (refl, h)
+decides p rest truth.Unknown below h = (refl, h)
 
-one_more_off : (n : ℕ) (s u t : List Letter) → Off is_val n s u → Off is_val 1 u t → Off is_val (suc n) s t
-one_more_off zero s u t p q = let F : List Letter → Type 0 = λ w. Off is_val 1 w t in subst F (sym p) q
-one_more_off (suc n) [] u t p q = absurd p
-one_more_off (suc n) (k ∷ s) u t p q = (p.0, one_more_off n s u t p.1 q)
+sets : (p : ℕ) (k : Letter) (rest : List Letter) (a : Datum) (below : List Operand) → has_letter k a ≡ true → have rest below ≡ true → Leads (Some []) (Some (p, k ∷ [])) rest (set_at p a below)
+sets p k rest data_of.Null below g h = h
+sets p k rest (data_of.Num n) below g h = (refl, both_true (has_letter k (data_of.Num n)) (have rest below) g h)
+sets p k rest (data_of.Text t) below g h = (refl, both_true (has_letter k (data_of.Text t)) (have rest below) g h)
 
-substring_puts : (n : ℕ) (s s' : List Letter) → puts T (option_and_then (without 1 T) (without n N s)) ≡ Some s' → Puts is_val (suc n) T s s'
-substring_puts n s s' h =
-    let r = puts_some T (option_and_then (without 1 T) (without n N s)) s' h in
-    let q = and_then_some (without 1 T) (without n N s) r.0 r.1 in
-    record { rest = r.0; off = one_more_off n s q.0 r.0 (without_off is_val n N s q.0 refl q.1) (without_off is_val 1 T q.0 r.0 refl q.2); is = r.2 }
+-- ---- the table
 
--- what a value of one letter's kind puts in its place
-swapped : (p : Letter → Letter) (n : ℕ) (s s' : List Letter) → by_kind (λ k. puts (p k) (without n k s)) s ≡ Some s' → (k : Letter) × (is_val k ≡ true) × Puts is_val n (p k) s s'
-swapped p n s s' h = let r = kind_some (λ k. puts (p k) (without n k s)) s s' h in (r.0, r.1, fixed is_val n r.0 (p r.0) s s' r.1 r.2)
+-- over operands of the letters that it takes, an operation puts operands of the letters that the table says, or raises
+pub op_leads : (o : Op) (k x : Letter) (rest : List Letter) (os : List Operand) (row vars : List Datum) → is_value k ≡ true → is_bounded o ≡ true → names row vars o k ≡ true
+    → have ((effect o k x).takes ++ rest) os ≡ true → Leads (effect o k x).ahead (effect o k x).away rest (applied o os row vars)
+op_leads (op.Constant l d) k x rest os row vars v b n h = both_true (has_letter l d) (have rest os) b h
+op_leads (op.Variable i) k x rest os row vars v b n h = named_puts k rest os (slice_get vars i) n h
+op_leads (op.Column i) k x rest os row vars v b n h = named_puts k rest os (slice_get row i) n h
+op_leads op.Duplicate k x rest os row vars v b n h =
+    on_value-leads (Leads (Some (k ∷ k ∷ [])) None rest) k rest os (λ a below. Went Ahead (Value a ∷ Value a ∷ below)) v h (λ a below ha i.
+    both_true (has_letter k a) (has_letter k a && have rest below) ha (both_true (has_letter k a) (have rest below) ha i))
+op_leads op.Drop k x rest os row vars v b n h = on_value-leads (Leads (Some []) None rest) k rest os (λ a below. Went Ahead below) v h (λ a below ha i. i)
+op_leads op.DropBelow k x rest os row vars v b n h = nips k x rest os v h
+op_leads op.Negate k x rest os row vars v b n h = changes N N rest os (λ a. Ok (negated_of a)) refl negated-gives h
+op_leads op.Add k x rest os row vars v b n h = calculates rest os sum_of sum-gives h
+op_leads op.Subtract k x rest os row vars v b n h = calculates rest os difference_of difference-gives h
+op_leads op.Multiply k x rest os row vars v b n h = calculates rest os product_of product-gives h
+op_leads op.Divide k x rest os row vars v b n h = calculates rest os quotient_of quotient-gives h
+op_leads (op.Rescale s) k x rest os row vars v b n h = changes N N rest os (rescaled s) refl (rescaled-gives s) h
+op_leads op.Concatenate k x rest os row vars v b n h =
+    on_two-leads (Leads (Some (T ∷ [])) None rest) T T rest os (λ a b below. with_value below (concatenated a b)) refl refl h (λ a b below ha i. value_puts T rest below (concatenated a b) (concatenated-gives a b) i)
+op_leads op.CharacterLength k x rest os row vars v b n h = changes T N rest os (λ a. Ok (length_of a)) refl length-gives h
+op_leads op.Position k x rest os row vars v b n h =
+    on_two-leads (Leads (Some (N ∷ [])) None rest) T T rest os (λ a b below. with_value below (Ok (position_of a b))) refl refl h (λ a b below ha i. value_puts N rest below (Ok (position_of a b)) (position-gives a b) i)
+op_leads op.SubstringFrom k x rest os row vars v b n h =
+    on_two-leads (Leads (Some (T ∷ [])) None rest) T N rest os (λ a b below. with_value below (part_from a b)) refl refl h (λ a b below ha i. value_puts T rest below (part_from a b) (part_from-gives a b) i)
+op_leads op.SubstringFromFor k x rest os row vars v b n h =
+    on_three-leads (Leads (Some (T ∷ [])) None rest) T N N rest os (λ a b c below. with_value below (part_of a b c)) refl refl refl h (λ a b c below i. value_puts T rest below (part_of a b c) (part_of-gives a b c) i)
+op_leads (op.Trim side) k x rest os row vars v b n h = changes T T rest os (λ a. Ok (on_text (trim_of side) a)) refl (on_text-gives (trim_of side)) h
+op_leads op.Upper k x rest os row vars v b n h = changes T T rest os (λ a. Ok (on_text upper_of a)) refl (on_text-gives upper_of) h
+op_leads op.Lower k x rest os row vars v b n h = changes T T rest os (λ a. Ok (on_text lower_of a)) refl (on_text-gives lower_of) h
+op_leads op.Equal k x rest os row vars v b n h = compares k rest os test.Equal v h
+op_leads op.NotEqual k x rest os row vars v b n h = compares k rest os test.Unequal v h
+op_leads op.Less k x rest os row vars v b n h = compares k rest os test.Less v h
+op_leads op.LessOrEqual k x rest os row vars v b n h = compares k rest os test.AtMost v h
+op_leads op.Greater k x rest os row vars v b n h = compares k rest os test.Greater v h
+op_leads op.GreaterOrEqual k x rest os row vars v b n h = compares k rest os test.AtLeast v h
+op_leads op.And k x rest os row vars v b n h = combines rest os both h
+op_leads op.Or k x rest os row vars v b n h = combines rest os either h
+op_leads op.Not k x rest os row vars v b n h =
+    on_truth-leads (Leads (Some (B ∷ [])) None rest) rest os (λ t below. with_truth below (Ok (opposite t))) h (λ t below i. truth_puts rest below (Ok (opposite t)) i)
+op_leads op.IsNull k x rest os row vars v b n h =
+    on_value-leads (Leads (Some (B ∷ [])) None rest) k rest os (λ a below. with_truth below (Ok (truth_of (is_null a)))) v h (λ a below ha i. truth_puts rest below (Ok (truth_of (is_null a))) i)
+op_leads op.Like k x rest os row vars v b n h =
+    on_two-leads (Leads (Some (B ∷ [])) None rest) T T rest os (λ t p below. with_truth below (like t p)) refl refl h (λ t p below ha i. truth_puts rest below (like t p) i)
+op_leads op.LikeEscape k x rest os row vars v b n h =
+    on_three-leads (Leads (Some (B ∷ [])) None rest) T T T rest os (λ t p e below. with_truth below (like_escaped t p e)) refl refl refl h (λ t p e below i. truth_puts rest below (like_escaped t p e) i)
+op_leads op.Between k x rest os row vars v b n h =
+    on_three-leads (Leads (Some (B ∷ [])) None rest) k k k rest os (λ a low high below. with_truth below (Ok (between a low high))) v v v h (λ a low high below i. truth_puts rest below (Ok (between a low high)) i)
+op_leads (op.In m) k x rest os row vars v b n h = finds_among m k rest os v h
+op_leads op.NullIf k x rest os row vars v b n h =
+    on_two-leads (Leads (Some (k ∷ [])) None rest) k k rest os (λ a b below. with_value below (Ok (unless_equal a b))) v v h (λ a b below ha i. value_puts k rest below (Ok (unless_equal a b)) (unless_equal-gives k a b v ha) i)
+op_leads (op.Cast to) k x rest os row vars v b n h = changes k (letter_of to) rest os (cast_of to) v (cast-gives to) h
+op_leads (op.Jump p) k x rest os row vars v b n h = (refl, h)
+op_leads (op.JumpUnlessTrue p) k x rest os row vars v b n h =
+    on_truth-leads (Leads (Some []) (Some (p, [])) rest) rest os (unless_true p) h (λ t below i. decides p rest t below i)
+op_leads (op.JumpUnlessNull p) k x rest os row vars v b n h =
+    on_value-leads (Leads (Some []) (Some (p, k ∷ [])) rest) k rest os (set_at p) v h (λ a below ha i. sets p k rest a below ha i)
 
--- ---- operations that go ahead
+one_kind : (k : Letter) (rest : List Letter) (os : List Operand) → is_value k ≡ true → have (k ∷ rest) os ≡ true → are_values 1 os ≡ true
+one_kind k rest os v h = on-values (k ∷ []) rest os (both_true (is_value k) true v refl) h
 
-abbrev pub may_jump : Op → Bool
-may_jump (op.Jump p) = true
-may_jump (op.JumpNot p) = true
-may_jump (op.JumpSet p) = true
-may_jump o = false
+two_kinds : (k : Letter) (rest : List Letter) (os : List Operand) → is_value k ≡ true → have (k ∷ k ∷ rest) os ≡ true → are_values 2 os ≡ true
+two_kinds k rest os v h = on-values (k ∷ k ∷ []) rest os (both_true (is_value k) (is_value k && true) v (both_true (is_value k) true v refl)) h
 
-dup_leads : (s s' : List Letter) (os : List Operand) → by_kind (λ k. Some (k ∷ s)) s ≡ Some s' → have s os ≡ true
-    → Leads (Step s') (on_value (λ a below. Went Ahead (Value a ∷ Value a ∷ below)) os)
-dup_leads [] s' os h d = absurd (cc)
-dup_leads (N ∷ s) s' [] h d = absurd (cc)
-dup_leads (N ∷ s) s' (Value a ∷ os) h d = turn (N ∷ N ∷ s) s' (Went Ahead (Value a ∷ Value a ∷ os)) (sym (same_some (N ∷ N ∷ s) s' h)) (refl, d)
-dup_leads (N ∷ s) s' (Truth t ∷ os) h d = absurd (cc)
-dup_leads (T ∷ s) s' [] h d = absurd (cc)
-dup_leads (T ∷ s) s' (Value a ∷ os) h d = turn (T ∷ T ∷ s) s' (Went Ahead (Value a ∷ Value a ∷ os)) (sym (same_some (T ∷ T ∷ s) s' h)) (refl, d)
-dup_leads (T ∷ s) s' (Truth t ∷ os) h d = absurd (cc)
-dup_leads (B ∷ s) s' os h d = absurd (cc)
+three_kinds : (k : Letter) (rest : List Letter) (os : List Operand) → is_value k ≡ true → have (k ∷ k ∷ k ∷ rest) os ≡ true → are_values 3 os ≡ true
+three_kinds k rest os v h =
+    on-values (k ∷ k ∷ k ∷ []) rest os (both_true (is_value k) (is_value k && (is_value k && true)) v (both_true (is_value k) (is_value k && true) v (both_true (is_value k) true v refl))) h
 
-pub kind_off : (s s' : List Letter) → by_kind (λ k. without 1 k s) s ≡ Some s' → Off is_val 1 s s'
-kind_off s s' h = let r = kind_some (λ k. without 1 k s) s s' h in without_off is_val 1 r.0 s s' r.1 r.2
+over_kind : (k x : Letter) (rest : List Letter) (os : List Operand) → is_value k ≡ true → have (x ∷ k ∷ rest) os ≡ true → is_over_value os ≡ true
+over_kind k x rest [] v h = absurd (cc)
+over_kind k x rest (o ∷ os) v h = one_kind k rest os v (and_second (is_of x o) (have (k ∷ rest) os) h)
 
-drop_leads : (s s' : List Letter) (os : List Operand) → by_kind (λ k. without 1 k s) s ≡ Some s' → have s os ≡ true → Leads (Step s') (on_value (λ a below. Went Ahead below) os)
-drop_leads s s' os h d =
-    on_value_leads 0 s s' os (λ a below. Went Ahead below) (Step s') (kind_off s s' h) d (λ a u below e g. (refl, ap (λ w. have w below) (sym e) ∙ g))
+op_finds : (o : Op) (k x : Letter) (rest : List Letter) (os : List Operand) → is_value k ≡ true → have ((effect o k x).takes ++ rest) os ≡ true → finds o os ≡ true
+op_finds (op.Constant l d) k x rest os v h = refl
+op_finds (op.Variable i) k x rest os v h = refl
+op_finds (op.Column i) k x rest os v h = refl
+op_finds op.Duplicate k x rest os v h = one_kind k rest os v h
+op_finds op.Drop k x rest os v h = one_kind k rest os v h
+op_finds op.DropBelow k x rest os v h = over_kind k x rest os v h
+op_finds op.Negate k x rest os v h = on-values (N ∷ []) rest os refl h
+op_finds op.Add k x rest os v h = on-values (N ∷ N ∷ []) rest os refl h
+op_finds op.Subtract k x rest os v h = on-values (N ∷ N ∷ []) rest os refl h
+op_finds op.Multiply k x rest os v h = on-values (N ∷ N ∷ []) rest os refl h
+op_finds op.Divide k x rest os v h = on-values (N ∷ N ∷ []) rest os refl h
+op_finds (op.Rescale s) k x rest os v h = on-values (N ∷ []) rest os refl h
+op_finds op.Concatenate k x rest os v h = on-values (T ∷ T ∷ []) rest os refl h
+op_finds op.CharacterLength k x rest os v h = on-values (T ∷ []) rest os refl h
+op_finds op.Position k x rest os v h = on-values (T ∷ T ∷ []) rest os refl h
+op_finds op.SubstringFrom k x rest os v h = on-values (N ∷ T ∷ []) rest os refl h
+op_finds op.SubstringFromFor k x rest os v h = on-values (N ∷ N ∷ T ∷ []) rest os refl h
+op_finds (op.Trim side) k x rest os v h = on-values (T ∷ []) rest os refl h
+op_finds op.Upper k x rest os v h = on-values (T ∷ []) rest os refl h
+op_finds op.Lower k x rest os v h = on-values (T ∷ []) rest os refl h
+op_finds op.Equal k x rest os v h = two_kinds k rest os v h
+op_finds op.NotEqual k x rest os v h = two_kinds k rest os v h
+op_finds op.Less k x rest os v h = two_kinds k rest os v h
+op_finds op.LessOrEqual k x rest os v h = two_kinds k rest os v h
+op_finds op.Greater k x rest os v h = two_kinds k rest os v h
+op_finds op.GreaterOrEqual k x rest os v h = two_kinds k rest os v h
+op_finds op.And k x rest os v h = on-two_truths rest os h
+op_finds op.Or k x rest os v h = on-two_truths rest os h
+op_finds op.Not k x rest os v h = on-one_truth rest os h
+op_finds op.IsNull k x rest os v h = one_kind k rest os v h
+op_finds op.Like k x rest os v h = on-values (T ∷ T ∷ []) rest os refl h
+op_finds op.LikeEscape k x rest os v h = on-values (T ∷ T ∷ T ∷ []) rest os refl h
+op_finds op.Between k x rest os v h = three_kinds k rest os v h
+op_finds (op.In m) k x rest os v h = on-many m k rest os v (ap (λ s. have s os) (sym (append_assoc (replicate m k) (k ∷ []) rest)) ∙ h)
+op_finds op.NullIf k x rest os v h = two_kinds k rest os v h
+op_finds (op.Cast to) k x rest os v h = one_kind k rest os v h
+op_finds (op.Jump p) k x rest os v h = refl
+op_finds (op.JumpUnlessTrue p) k x rest os v h = on-one_truth rest os h
+op_finds (op.JumpUnlessNull p) k x rest os v h = one_kind k rest os v h
 
-nip_below : (x : Letter) (s s' : List Letter) → puts x (by_kind (λ k. without 1 k s) s) ≡ Some s' → (t : List Letter) × Off is_val 1 s t × (s' ≡ x ∷ t)
-nip_below x s s' h = let r = puts_some x (by_kind (λ k. without 1 k s) s) s' h in (r.0, kind_off s r.0 r.1, r.2)
-
-nip_leads : (x : Letter) (s s' : List Letter) (os : List Operand) → puts x (by_kind (λ k. without 1 k s) s) ≡ Some s' → have (x ∷ s) os ≡ true → Leads (Step s') (nipped os)
-nip_leads x s s' [] h d = absurd (cc)
-nip_leads x s s' (o ∷ os) h d =
-    let r = nip_below x s s' h in
-    let both = have_head x s o os d in
-    turn (x ∷ r.0) s' (nipped (o ∷ os)) r.2
-    (on_value_leads 0 s r.0 os (λ a below. Went Ahead (o ∷ below)) (Step (x ∷ r.0)) r.1 both.1 (λ a u below e g.
-    (refl, ap (λ b. if b then have r.0 below else false) both.0 ∙ (ap (λ w. have w below) (sym e) ∙ g))))
-
-nip_fits : (x : Letter) (s s' : List Letter) (os : List Operand) → puts x (by_kind (λ k. without 1 k s) s) ≡ Some s' → have (x ∷ s) os ≡ true → is_over_value os ≡ true
-nip_fits x s s' [] h d = absurd (cc)
-nip_fits x s s' (o ∷ os) h d = let r = nip_below x s s' h in off_values 1 s r.0 os r.1 (have_head x s o os d).1
-
-kind_compares : (s s' : List Letter) (os : List Operand) (f : Datum → Datum → Answer) → by_kind (λ k. puts B (without 2 k s)) s ≡ Some s' → have s os ≡ true
-    → Leads (Step s') (on_two (λ a b below. with_truth below (Ok (f a b))) os)
-kind_compares s s' os f h d = two_values B s s' os (λ a b below. with_truth below (Ok (f a b))) (kinds 2 B s s' h) d (λ a b t below g. truth_leads t below (Ok (f a b)) g)
-
--- an operation that doesn't jump goes ahead with what its letters say, or raises a condition
-pub op_leads : (due : Letter) (o : Op) (s s' : List Letter) (os : List Operand) (row vars : List Datum) → is_val due ≡ true → takes due o s ≡ Some s' → have s os ≡ true
-    → is_bounded o ≡ true → is_named o row vars ≡ true → may_jump o ≡ false → Leads (Step s') (applied o os row vars)
-op_leads due op.Nip [] s' os row vars v h d b n j = absurd (cc)
-op_leads due op.Nip (x ∷ s) s' os row vars v h d b n j = nip_leads x s s' os h d
-op_leads due (op.Const N c) s s' os row vars v h d b n j = turn (N ∷ s) s' (Went Ahead (Value c ∷ os)) (sym (same_some (N ∷ s) s' h)) (refl, d)
-op_leads due (op.Const T c) s s' os row vars v h d b n j = turn (T ∷ s) s' (Went Ahead (Value c ∷ os)) (sym (same_some (T ∷ s) s' h)) (refl, d)
-op_leads due (op.Const B c) s s' os row vars v h d b n j = absurd (cc)
-op_leads due (op.Var i) s s' os row vars v h d b n j = turn (due ∷ s) s' (with_named os (slice_get vars i)) (sym (same_some (due ∷ s) s' h)) (named_leads due s os vars i v d n)
-op_leads due (op.Col i) s s' os row vars v h d b n j = turn (due ∷ s) s' (with_named os (slice_get row i)) (sym (same_some (due ∷ s) s' h)) (named_leads due s os row i v d n)
-op_leads due op.Dup s s' os row vars v h d b n j = dup_leads s s' os h d
-op_leads due op.Drop s s' os row vars v h d b n j = drop_leads s s' os h d
-op_leads due op.Neg s s' os row vars v h d b n j = one_value N s s' os (λ a below. with_value below (Ok (negated_of a))) (fixed is_val 1 N N s s' refl h) d (λ a t below g. value_leads N t below (Ok (negated_of a)) refl g)
-op_leads due op.Add s s' os row vars v h d b n j = two_values N s s' os (λ a b below. with_value below (sum_of a b)) (fixed is_val 2 N N s s' refl h) d (λ a b t below g. value_leads N t below (sum_of a b) refl g)
-op_leads due op.Sub s s' os row vars v h d b n j = two_values N s s' os (λ a b below. with_value below (difference_of a b)) (fixed is_val 2 N N s s' refl h) d (λ a b t below g. value_leads N t below (difference_of a b) refl g)
-op_leads due op.Mul s s' os row vars v h d b n j = two_values N s s' os (λ a b below. with_value below (product_of a b)) (fixed is_val 2 N N s s' refl h) d (λ a b t below g. value_leads N t below (product_of a b) refl g)
-op_leads due op.Div s s' os row vars v h d b n j = two_values N s s' os (λ a b below. with_value below (quotient_of a b)) (fixed is_val 2 N N s s' refl h) d (λ a b t below g. value_leads N t below (quotient_of a b) refl g)
-op_leads due (op.Scale c) s s' os row vars v h d b n j = one_value N s s' os (λ a below. with_value below (rescaled c a)) (fixed is_val 1 N N s s' refl h) d (λ a t below g. value_leads N t below (rescaled c a) refl g)
-op_leads due op.Cat s s' os row vars v h d b n j = two_values T s s' os (λ a b below. with_value below (concatenated a b)) (fixed is_val 2 T T s s' refl h) d (λ a b t below g. value_leads T t below (concatenated a b) refl g)
-op_leads due op.Len s s' os row vars v h d b n j = one_value N s s' os (λ a below. with_value below (Ok (length_of a))) (fixed is_val 1 T N s s' refl h) d (λ a t below g. value_leads N t below (Ok (length_of a)) refl g)
-op_leads due op.Pos s s' os row vars v h d b n j = two_values N s s' os (λ a b below. with_value below (Ok (position_of a b))) (fixed is_val 2 T N s s' refl h) d (λ a b t below g. value_leads N t below (Ok (position_of a b)) refl g)
-op_leads due op.Sub2 s s' os row vars v h d b n j = two_values T s s' os (λ a b below. with_value below (part_from a b)) (substring_puts 1 s s' h) d (λ a b t below g. value_leads T t below (part_from a b) refl g)
-op_leads due op.Sub3 s s' os row vars v h d b n j = three_values T s s' os (λ a b c below. with_value below (part_of a b c)) (substring_puts 2 s s' h) d (λ a b c t below g. value_leads T t below (part_of a b c) refl g)
-op_leads due (op.Trim side) s s' os row vars v h d b n j = one_value T s s' os (λ a below. with_value below (Ok (on_text (trim_of side) a))) (fixed is_val 1 T T s s' refl h) d (λ a t below g. value_leads T t below (Ok (on_text (trim_of side) a)) refl g)
-op_leads due op.Up s s' os row vars v h d b n j = one_value T s s' os (λ a below. with_value below (Ok (on_text upper_of a))) (fixed is_val 1 T T s s' refl h) d (λ a t below g. value_leads T t below (Ok (on_text upper_of a)) refl g)
-op_leads due op.Low s s' os row vars v h d b n j = one_value T s s' os (λ a below. with_value below (Ok (on_text lower_of a))) (fixed is_val 1 T T s s' refl h) d (λ a t below g. value_leads T t below (Ok (on_text lower_of a)) refl g)
-op_leads due op.Eq s s' os row vars v h d b n j = kind_compares s s' os (tested test.Equal) h d
-op_leads due op.Ne s s' os row vars v h d b n j = kind_compares s s' os (tested test.Unequal) h d
-op_leads due op.Lt s s' os row vars v h d b n j = kind_compares s s' os (tested test.Less) h d
-op_leads due op.Le s s' os row vars v h d b n j = kind_compares s s' os (tested test.AtMost) h d
-op_leads due op.Gt s s' os row vars v h d b n j = kind_compares s s' os (tested test.Greater) h d
-op_leads due op.Ge s s' os row vars v h d b n j = kind_compares s s' os (tested test.AtLeast) h d
-op_leads due op.And s s' os row vars v h d b n j = two_truths s s' os both (fixed is_truth 2 B B s s' refl h) d
-op_leads due op.Or s s' os row vars v h d b n j = two_truths s s' os either (fixed is_truth 2 B B s s' refl h) d
-op_leads due op.Not s s' os row vars v h d b n j = one_truth s s' os opposite (fixed is_truth 1 B B s s' refl h) d
-op_leads due op.IsNull s s' os row vars v h d b n j = one_value B s s' os (λ a below. with_truth below (Ok (truth_of (is_null a)))) (kinds 1 B s s' h) d (λ a t below g. truth_leads t below (Ok (truth_of (is_null a))) g)
-op_leads due op.Like s s' os row vars v h d b n j = two_values B s s' os (λ a b below. with_truth below (like a b)) (fixed is_val 2 T B s s' refl h) d (λ a b t below g. truth_leads t below (like a b) g)
-op_leads due op.LikeEscape s s' os row vars v h d b n j = three_values B s s' os (λ a b c below. with_truth below (like_escaped a b c)) (fixed is_val 3 T B s s' refl h) d (λ a b c t below g. truth_leads t below (like_escaped a b c) g)
-op_leads due op.Between s s' os row vars v h d b n j = three_values B s s' os (λ a b c below. with_truth below (Ok (between a b c))) (kinds 3 B s s' h) d (λ a b c t below g. truth_leads t below (Ok (between a b c)) g)
-op_leads due (op.In c) s s' os row vars v h d b n j = many_values c s s' os (kinds (suc c) B s s' h) d
-op_leads due op.NullIf s s' os row vars v h d b n j = let r = swapped (λ k. k) 2 s s' h in two_values r.0 s s' os (λ a b below. with_value below (Ok (unless_equal a b))) r.2 d (λ a b t below g. value_leads r.0 t below (Ok (unless_equal a b)) r.1 g)
-op_leads due (op.Cast to) s s' os row vars v h d b n j = let r = swapped (λ k. letter_of to) 1 s s' h in one_value (letter_of to) s s' os (λ a below. with_value below (cast_of to a)) r.2 d (λ a t below g. value_leads (letter_of to) t below (cast_of to a) (letter_of-val to) g)
-op_leads due (op.Jump p) s s' os row vars v h d b n j = absurd (cc)
-op_leads due (op.JumpNot p) s s' os row vars v h d b n j = absurd (cc)
-op_leads due (op.JumpSet p) s s' os row vars v h d b n j = absurd (cc)
-
-puts_values : (n : ℕ) (p : Letter) (s s' : List Letter) (os : List Operand) → Puts is_val n p s s' → have s os ≡ true → are_values n os ≡ true
-puts_values n p s s' os h d = off_values n s h.rest os h.off d
-
-puts_truths : (n : ℕ) (p : Letter) (s s' : List Letter) (os : List Operand) → Puts is_truth n p s s' → have s os ≡ true → are_truths n os ≡ true
-puts_truths n p s s' os h d = off_truths n s h.rest os h.off d
-
-dup_fits : (s s' : List Letter) (os : List Operand) → by_kind (λ k. Some (k ∷ s)) s ≡ Some s' → have s os ≡ true → are_values 1 os ≡ true
-dup_fits [] s' os h d = absurd (cc)
-dup_fits (N ∷ s) s' [] h d = absurd (cc)
-dup_fits (N ∷ s) s' (Value a ∷ os) h d = refl
-dup_fits (N ∷ s) s' (Truth t ∷ os) h d = absurd (cc)
-dup_fits (T ∷ s) s' [] h d = absurd (cc)
-dup_fits (T ∷ s) s' (Value a ∷ os) h d = refl
-dup_fits (T ∷ s) s' (Truth t ∷ os) h d = absurd (cc)
-dup_fits (B ∷ s) s' os h d = absurd (cc)
-
--- an operation whose letters follow finds what it needs
-pub op_fits : (due : Letter) (o : Op) (s s' : List Letter) (os : List Operand) (row vars : List Datum) → takes due o s ≡ Some s' → have s os ≡ true
-    → is_bounded o ≡ true → is_named o row vars ≡ true → Fits o os row vars
-op_fits due op.Nip [] s' os row vars h d b n = absurd (cc)
-op_fits due op.Nip (x ∷ s) s' os row vars h d b n = nip_fits x s s' os h d
-op_fits due (op.Const k v) s s' os row vars h d b n = tt
-op_fits due (op.Var i) s s' os row vars h d b n = ltb-true i (length vars) n
-op_fits due (op.Col i) s s' os row vars h d b n = ltb-true i (length row) n
-op_fits due op.Dup s s' os row vars h d b n = dup_fits s s' os h d
-op_fits due op.Drop s s' os row vars h d b n = off_values 1 s s' os (kind_off s s' h) d
-op_fits due op.Neg s s' os row vars h d b n = puts_values 1 N s s' os (fixed is_val 1 N N s s' refl h) d
-op_fits due op.Add s s' os row vars h d b n = puts_values 2 N s s' os (fixed is_val 2 N N s s' refl h) d
-op_fits due op.Sub s s' os row vars h d b n = puts_values 2 N s s' os (fixed is_val 2 N N s s' refl h) d
-op_fits due op.Mul s s' os row vars h d b n = puts_values 2 N s s' os (fixed is_val 2 N N s s' refl h) d
-op_fits due op.Div s s' os row vars h d b n = puts_values 2 N s s' os (fixed is_val 2 N N s s' refl h) d
-op_fits due (op.Scale c) s s' os row vars h d b n = (leb-true c 18 b, puts_values 1 N s s' os (fixed is_val 1 N N s s' refl h) d)
-op_fits due op.Cat s s' os row vars h d b n = puts_values 2 T s s' os (fixed is_val 2 T T s s' refl h) d
-op_fits due op.Len s s' os row vars h d b n = puts_values 1 N s s' os (fixed is_val 1 T N s s' refl h) d
-op_fits due op.Pos s s' os row vars h d b n = puts_values 2 N s s' os (fixed is_val 2 T N s s' refl h) d
-op_fits due op.Sub2 s s' os row vars h d b n = puts_values 2 T s s' os (substring_puts 1 s s' h) d
-op_fits due op.Sub3 s s' os row vars h d b n = puts_values 3 T s s' os (substring_puts 2 s s' h) d
-op_fits due (op.Trim side) s s' os row vars h d b n = puts_values 1 T s s' os (fixed is_val 1 T T s s' refl h) d
-op_fits due op.Up s s' os row vars h d b n = puts_values 1 T s s' os (fixed is_val 1 T T s s' refl h) d
-op_fits due op.Low s s' os row vars h d b n = puts_values 1 T s s' os (fixed is_val 1 T T s s' refl h) d
-op_fits due op.Eq s s' os row vars h d b n = puts_values 2 B s s' os (kinds 2 B s s' h) d
-op_fits due op.Ne s s' os row vars h d b n = puts_values 2 B s s' os (kinds 2 B s s' h) d
-op_fits due op.Lt s s' os row vars h d b n = puts_values 2 B s s' os (kinds 2 B s s' h) d
-op_fits due op.Le s s' os row vars h d b n = puts_values 2 B s s' os (kinds 2 B s s' h) d
-op_fits due op.Gt s s' os row vars h d b n = puts_values 2 B s s' os (kinds 2 B s s' h) d
-op_fits due op.Ge s s' os row vars h d b n = puts_values 2 B s s' os (kinds 2 B s s' h) d
-op_fits due op.And s s' os row vars h d b n = puts_truths 2 B s s' os (fixed is_truth 2 B B s s' refl h) d
-op_fits due op.Or s s' os row vars h d b n = puts_truths 2 B s s' os (fixed is_truth 2 B B s s' refl h) d
-op_fits due op.Not s s' os row vars h d b n = puts_truths 1 B s s' os (fixed is_truth 1 B B s s' refl h) d
-op_fits due op.IsNull s s' os row vars h d b n = puts_values 1 B s s' os (kinds 1 B s s' h) d
-op_fits due op.Like s s' os row vars h d b n = puts_values 2 B s s' os (fixed is_val 2 T B s s' refl h) d
-op_fits due op.LikeEscape s s' os row vars h d b n = puts_values 3 B s s' os (fixed is_val 3 T B s s' refl h) d
-op_fits due op.Between s s' os row vars h d b n = puts_values 3 B s s' os (kinds 3 B s s' h) d
-op_fits due (op.In c) s s' os row vars h d b n = puts_values (suc c) B s s' os (kinds (suc c) B s s' h) d
-op_fits due op.NullIf s s' os row vars h d b n = let r = swapped (λ k. k) 2 s s' h in puts_values 2 r.0 s s' os r.2 d
-op_fits due (op.Cast to) s s' os row vars h d b n = let r = swapped (λ k. letter_of to) 1 s s' h in (type_within to b, puts_values 1 (letter_of to) s s' os r.2 d)
-op_fits due (op.Jump p) s s' os row vars h d b n = tt
-op_fits due (op.JumpNot p) s s' os row vars h d b n = off_truths 1 s s' os (without_off is_truth 1 B s s' refl h) d
-op_fits due (op.JumpSet p) s s' os row vars h d b n = off_values 1 s s' os (kind_off s s' h) d
+-- an operation finds what it needs
+pub op_fits : (o : Op) (k x : Letter) (rest : List Letter) (os : List Operand) (row vars : List Datum) → is_value k ≡ true → is_bounded o ≡ true → names row vars o k ≡ true
+    → have ((effect o k x).takes ++ rest) os ≡ true → Fits o os row vars
+op_fits o k x rest os row vars v b n h = (op_finds o k x rest os v h, names-named row vars o k n, bounded-within o b)

@@ -1,15 +1,16 @@
 -- The value of an expression.
-use Rattle.std.specs.Prelude.{◌≡◌, ℕ, suc, Bool, true, ◌&&◌, List, [], ◌∷◌, length, nat_eq, nat_lt, Option, Some, None, Result, Ok, Err, if◌then◌else◌}
+use Rattle.std.specs.Prelude.{◌≡◌, ℕ, suc, List, [], ◌∷◌, nat_eq, IsTrue, Option, Some, None, Result, Ok, Err, if◌then◌else◌}
 use Rattle.psm_value.specs.declared.datum.Datum.{Datum}
 use Rattle.psm_value.specs.declared.fault.ValueFault.{ValueFault}
 use Rattle.psm_value.specs.declared.fault.ValueFault.TheVariants.{Condition, Memory}
 use Rattle.psm_exprcode.specs.declared.op.Line.{Line}
-use Rattle.psm_exprcode.specs.declared.op.Op.{Op}
-use Rattle.psm_exprcode.specs.declared.op.Op.TheVariants as op
+use Rattle.psm_exprcode.specs.declared.op.Letter.{Letter}
 use Rattle.psm_exprcode.specs.declared.operand.Operand.{Operand}
 use Rattle.psm_exprcode.specs.declared.operand.Next.{Next}
 use Rattle.psm_exprcode.specs.declared.operand.Next.TheVariants.{Ahead, Jump}
 use Rattle.psm_exprcode.specs.Applied.{Applied, Went, Raised, Lacking, applied}
+use Rattle.psm_exprcode.specs.Kinds.{are_of}
+use Rattle.psm_exprcode.specs.WellFormed.{does_fit}
 
 -- what an expression comes to: an operand, the SQLSTATE of its first condition, or nothing where something is lacking
 abbrev pub Outcome : Type 0
@@ -42,16 +43,13 @@ ran row vars at pc (l ∷ after) os =
 abbrev pub evaluated : List Line → List Datum → List Datum → Outcome
 evaluated lines row vars = ran row vars 0 0 lines []
 
--- whether the column or the variable that the operation names is there
-abbrev pub is_named : Op → List Datum → List Datum → Bool
-is_named (op.Var i) row vars = nat_lt i (length vars)
-is_named (op.Col i) row vars = nat_lt i (length row)
-is_named o row vars = true
-
--- whether each column and variable that the code names is there
-abbrev pub are_named : List Line → List Datum → List Datum → Bool
-are_named [] row vars = true
-are_named (l ∷ after) row vars = is_named l.op row vars && are_named after row vars
+-- the columns and the variables are of kinds that the code fits, and it ends with that letter
+pub record Suits (lines : List Line) (row vars : List Datum) (end : Letter) : Type 0 where
+  pub columns : List Letter
+  pub variables : List Letter
+  pub fits : IsTrue (does_fit columns variables lines end)
+  pub row_kinds : IsTrue (are_of columns row)
+  pub variable_kinds : IsTrue (are_of variables vars)
 
 -- the answer is the one that is due, but for want of memory
 abbrev pub Evaluates : Outcome → Result Operand ValueFault → Type 0

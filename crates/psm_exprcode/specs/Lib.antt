@@ -3,7 +3,10 @@ pub mod Applied
 pub mod Comparison
 pub mod Evaluated
 pub mod Fits
-pub mod Letters
+pub mod Kinds
+pub mod Operations
+pub mod Table
 pub mod Texts
 pub mod Values
+pub mod Ways
 pub mod WellFormed

@@ -4,7 +4,6 @@ use Rattle.std.specs.Prelude.{ℕ, ℤ, pos, List, length, codes, Some, None, Bo
 use Rattle.psm_num.specs.Num as num
 use Rattle.psm_num.specs.Arithmetic.{at_scale}
 use Rattle.psm_text.specs.declared.fault.TextFault.{TextFault}
-use Rattle.psm_text.specs.declared.fault.TextFault.TheVariants as texts
 use Rattle.psm_text.specs.Like.{escape_of}
 use Rattle.psm_text.specs.Parts.{joined, substring_of}
 use Rattle.psm_value.specs.declared.datum.Datum.{Datum}
@@ -12,22 +11,9 @@ use Rattle.psm_value.specs.declared.datum.Datum.TheVariants.{Null, Num, Text}
 use Rattle.psm_value.specs.declared.truth.Truth.{Truth}
 use Rattle.psm_value.specs.declared.truth.Truth.TheVariants.{Unknown}
 use Rattle.psm_value.specs.Arithmetic.{as_datum}
+use Rattle.psm_value.specs.TextFaults.{state_of, as_text}
 use Rattle.psm_exprcode.specs.Comparison.{truth_of}
 use Rattle.psm_exprcode.specs.Texts.{place_of, like_of}
-
--- the SQLSTATE of the condition that a fault of a text is
-abbrev pub state_of : TextFault → List ℕ
-state_of texts.TooLong = codes "22001"
-state_of texts.Substring = codes "22011"
-state_of texts.EscapeChar = codes "22019"
-state_of texts.EscapePair = codes "22025"
-state_of texts.Lost = codes "22001"
-state_of texts.Memory = codes "22001"
-
--- a text as a value
-abbrev pub as_text : Result (List ℕ) TextFault → Result Datum (List ℕ)
-as_text (Ok t) = Ok (Text t)
-as_text (Err fault) = Err (state_of fault)
 
 -- a number of characters as a value
 abbrev pub whole : ℕ → Datum

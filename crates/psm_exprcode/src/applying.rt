@@ -1,7 +1,8 @@
 //! What an operation comes to.
 ghost use Rattle.std.specs.Prelude.{reverse};
 ghost use Rattle.psm_exprcode.specs.Applied.{applied};
-ghost use Rattle.psm_exprcode.specs.Fits.{Fits, Carries, taken};
+ghost use Rattle.psm_exprcode.specs.Fits.{Fits, Carries};
+ghost use Rattle.psm_exprcode.specs.Operations.{taken};
 
 use crate::comparing::{Test, compare_two, null_if, test_among, test_between, test_null};
 use crate::deciding::{and_two, not_one, or_two};
@@ -19,8 +20,8 @@ use std::alloc::Global;
 /// Carries out one operation over the operands, the last one at the end: what it takes is taken off, and its
 /// result is put on. Null comes first: a null operand gives null or unknown, and no condition is asked.
 ///
-/// The operands that the operation takes have to be there, with values and truth values where it takes
-/// them, and so have the column and the variable that it names; its type or scale is within bounds.
+/// The operands that the operation takes have to be there, of the letters that the table of operations says,
+/// and so have the column and the variable that it names; its type, scale or constant is within bounds.
 /// A condition comes exactly where it is due. After it, and where memory runs out, the operands below those
 /// that the operation takes are unchanged, and those are gone (ISO/IEC 9075:1992, clauses 6 and 8).
 pub fn apply(
@@ -34,32 +35,32 @@ pub fn apply(
     ensures { Carries (taken op.now) (λ os. applied op.now os row.now vars.now) operands.old result operands.new }
 {
     match op {
-        Op::Const(_, value) => put_copy(alloc, operands, value),
-        Op::Var(place) => put_named(alloc, operands, vars, *place),
-        Op::Col(place) => put_named(alloc, operands, row, *place),
-        Op::Dup => duplicate(alloc, operands),
+        Op::Constant(_, value) => put_copy(alloc, operands, value),
+        Op::Variable(place) => put_named(alloc, operands, vars, *place),
+        Op::Column(place) => put_named(alloc, operands, row, *place),
+        Op::Duplicate => duplicate(alloc, operands),
         Op::Drop => Ok(drop_last(operands)),
-        Op::Nip => nip(operands),
-        Op::Neg => negate(operands),
+        Op::DropBelow => nip(operands),
+        Op::Negate => negate(operands),
         Op::Add => add_two(operands),
-        Op::Sub => sub_two(operands),
-        Op::Mul => mul_two(operands),
-        Op::Div => div_two(operands),
-        Op::Scale(scale) => rescale(operands, *scale),
-        Op::Cat => concatenate_two(alloc, operands),
-        Op::Len => count_one(operands),
-        Op::Pos => find_two(operands),
-        Op::Sub2 => part_two(alloc, operands),
-        Op::Sub3 => part_three(alloc, operands),
+        Op::Subtract => sub_two(operands),
+        Op::Multiply => mul_two(operands),
+        Op::Divide => div_two(operands),
+        Op::Rescale(scale) => rescale(operands, *scale),
+        Op::Concatenate => concatenate_two(alloc, operands),
+        Op::CharacterLength => count_one(operands),
+        Op::Position => find_two(operands),
+        Op::SubstringFrom => part_two(alloc, operands),
+        Op::SubstringFromFor => part_three(alloc, operands),
         Op::Trim(side) => trim_one(alloc, operands, *side),
-        Op::Up => upper_one(alloc, operands),
-        Op::Low => lower_one(alloc, operands),
-        Op::Eq => compare_two(operands, Test::Equal),
-        Op::Ne => compare_two(operands, Test::Unequal),
-        Op::Lt => compare_two(operands, Test::Less),
-        Op::Le => compare_two(operands, Test::AtMost),
-        Op::Gt => compare_two(operands, Test::Greater),
-        Op::Ge => compare_two(operands, Test::AtLeast),
+        Op::Upper => upper_one(alloc, operands),
+        Op::Lower => lower_one(alloc, operands),
+        Op::Equal => compare_two(operands, Test::Equal),
+        Op::NotEqual => compare_two(operands, Test::Unequal),
+        Op::Less => compare_two(operands, Test::Less),
+        Op::LessOrEqual => compare_two(operands, Test::AtMost),
+        Op::Greater => compare_two(operands, Test::Greater),
+        Op::GreaterOrEqual => compare_two(operands, Test::AtLeast),
         Op::And => and_two(operands),
         Op::Or => or_two(operands),
         Op::Not => not_one(operands),
@@ -71,7 +72,7 @@ pub fn apply(
         Op::NullIf => null_if(operands),
         Op::Cast(to) => cast_one(alloc, operands, *to),
         Op::Jump(place) => Ok(Next::Jump(*place)),
-        Op::JumpNot(place) => Ok(jump_not(operands, *place)),
-        Op::JumpSet(place) => Ok(jump_set(operands, *place)),
+        Op::JumpUnlessTrue(place) => Ok(jump_not(operands, *place)),
+        Op::JumpUnlessNull(place) => Ok(jump_set(operands, *place)),
     }
 }

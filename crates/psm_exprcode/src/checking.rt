@@ -1,25 +1,49 @@
-//! Whether lines are well formed. No call here takes memory.
-ghost use Rattle.std.specs.Prelude.{◌≡◌, ◌+◌, ◌<◌, length, drop, reverse, slice_get};
+//! Whether lines are well formed, and whether they fit columns and variables of known kinds. No call here
+//! takes memory.
+ghost use Rattle.std.specs.Prelude.{◌≡◌, ◌+◌, ◌-◌, ◌<◌, ◌++◌, ◌&&◌, suc, nat_lt, length, drop, reverse, slice_get, option_map};
 ghost use Rattle.std.specs.Option.{option_copied};
-ghost use Rattle.psm_exprcode.specs.Letters.{letters_of};
-ghost use Rattle.psm_exprcode.specs.WellFormed.{has_letter, is_type as is_type_within, is_bounded as is_op_bounded, lands as letters_land, lands_where, jumps as letters_jump, goes_ahead as op_goes_ahead, goes_away as op_goes_away, takes, is_jump as is_jump_op, is_line, are_lines, is_well_formed as are_well_formed};
+ghost use Rattle.psm_exprcode.specs.Kinds.{some_letter};
+ghost use Rattle.psm_exprcode.specs.Operations.{effect};
+ghost use Rattle.psm_exprcode.specs.Table.{effect_of, letters_of, jump_of};
+ghost use Rattle.psm_exprcode.specs.Ways.{allowed};
+ghost use Rattle.psm_exprcode.specs.WellFormed.{is_type as is_type_within, is_bounded as is_op_bounded, is_known as is_of_known, lands as letters_land, goes_ahead as letters_go_ahead, goes_away as letters_go_away, leads as letters_lead, is_line, are_lines, ends_with as lines_end_with, is_well_formed as are_well_formed};
 
-use crate::letters::{Stack, is_single, is_stated, only, only_without, taken};
+use crate::letters::{are_stated, left};
 use crate::op::{Letter, Line, Op};
+use crate::table::{Entry, Letters};
 use psm_value::{Datum, SqlType};
 
-/// Whether the first line states no operand, and each line is right.
+/// The kinds of the columns and of the variables, where they are known.
+#[derive(Clone, Copy)]
+pub(crate) enum Kinds<'a> {
+    Any,
+    Of {
+        columns: &'a [Letter],
+        variables: &'a [Letter],
+    },
+}
+
+/// Whether the lines end with the same letter on every way, and each of them is right.
 pub(crate) fn is_well_formed(lines: &[Line]) -> bool
     ensures { result ≡ are_well_formed lines.now }
 {
-    lands(lines, 0, only(&[])) && are_right(lines)
+    ends_with(Kinds::Any, lines, Letter::N)
+        || ends_with(Kinds::Any, lines, Letter::T)
+        || ends_with(Kinds::Any, lines, Letter::B)
 }
 
-fn are_right(lines: &[Line]) -> bool
-    ensures { result ≡ are_lines 0 lines.now }
+/// Whether the first line states no operand, each line is right, and the lines end with that letter.
+pub(crate) fn ends_with(kinds: Kinds<'_>, lines: &[Line], end: Letter) -> bool
+    ensures { result ≡ lines_end_with (allowed kinds.entry) lines.now end }
+{
+    lands(end, lines, 0, Letters::none(), &[]) && are_right(kinds, end, lines)
+}
+
+fn are_right(kinds: Kinds<'_>, end: Letter, lines: &[Line]) -> bool
+    ensures { result ≡ are_lines (allowed kinds.entry) end 0 lines.now }
 {
     for (at, line) in lines.iter().enumerate() {
-        if !is_right(at, line, lines_after(lines, at)) {
+        if !is_right(kinds, end, at, line, lines_after(lines, at)) {
             return false;
         }
     }
@@ -34,13 +58,53 @@ fn lines_after(lines: &[Line], at: usize) -> &[Line]
 }
 
 // Whether a line at a place is right, with the lines after it.
-fn is_right(at: usize, line: &Line, after: &[Line]) -> bool
-    ensures { result ≡ is_line at line.now after.now }
+fn is_right(kinds: Kinds<'_>, end: Letter, at: usize, line: &Line, after: &[Line]) -> bool
+    ensures { result ≡ is_line (allowed kinds.entry) end at line.now after.now }
+{
+    is_bounded(&line.op)
+        && (is_right_of(kinds, Letter::N, end, at, line, after)
+            || is_right_of(kinds, Letter::T, end, at, line, after))
+}
+
+// The same where a value that may be of either kind is of that one.
+fn is_right_of(
+    kinds: Kinds<'_>,
+    kind: Letter,
+    end: Letter,
+    at: usize,
+    line: &Line,
+    after: &[Line],
+) -> bool
+    ensures { result ≡ (allowed kinds.entry line.now.op kind && some_letter (λ x. letters_lead end at (effect line.now.op kind x) (reverse line.now.stack) after.now)) }
 {
     let stack = line.stack.items();
-    is_bounded(&line.op)
-        && goes_ahead(&line.op, stack, after)
-        && goes_away(at, &line.op, stack, after)
+    allows(kinds, &line.op, kind)
+        && (leads(end, at, line.op.entry(kind, Letter::N), stack, after)
+            || leads(end, at, line.op.entry(kind, Letter::T), stack, after)
+            || leads(end, at, line.op.entry(kind, Letter::B), stack, after))
+}
+
+// Whether the variable or the column that the operation names may be of the kind.
+fn allows(kinds: Kinds<'_>, op: &Op, kind: Letter) -> bool
+    ensures { result ≡ allowed kinds.entry op.now kind }
+{
+    match kinds {
+        Kinds::Any => true,
+        Kinds::Of { columns, variables } => match op {
+            Op::Variable(place) => is_known(kind, variables, *place),
+            Op::Column(place) => is_known(kind, columns, *place),
+            _ => true,
+        },
+    }
+}
+
+fn is_known(kind: Letter, kinds: &[Letter], place: u32) -> bool
+    ensures { result ≡ is_of_known kind (slice_get kinds.now place) }
+{
+    match kinds.get(place as usize) {
+        Some(known) => kind == *known,
+        None => false,
+    }
 }
 
 // Whether what stands in the operation is within bounds.
@@ -48,20 +112,10 @@ fn is_bounded(op: &Op) -> bool
     ensures { result ≡ is_op_bounded op.now }
 {
     match op {
-        Op::Const(letter, value) => is_of_letter(*letter, value),
-        Op::Scale(scale) => *scale <= 18,
+        Op::Constant(letter, value) => letter.is_of(value),
+        Op::Rescale(scale) => *scale <= 18,
         Op::Cast(to) => is_type(*to),
         _ => true,
-    }
-}
-
-fn is_of_letter(letter: Letter, value: &Datum) -> bool
-    ensures { result ≡ has_letter letter value.now }
-{
-    match letter {
-        Letter::N => !matches!(value, Datum::Text(_)),
-        Letter::T => !matches!(value, Datum::Num(_)),
-        Letter::B => false,
     }
 }
 
@@ -72,57 +126,57 @@ fn is_type(to: SqlType) -> bool
     to.is_within_bounds()
 }
 
-// Whether the letters fit where the operation goes ahead.
-fn goes_ahead(op: &Op, stack: &[Letter], after: &[Line]) -> bool
-    ensures { result ≡ op_goes_ahead op.now (reverse stack.now) after.now }
+// Whether an operation at a place finds what it takes, and brings what is stated wherever it goes on.
+fn leads(end: Letter, at: usize, entry: Entry, stack: &[Letter], after: &[Line]) -> bool
+    ensures { result ≡ letters_lead end at (effect_of entry) (reverse stack.now) after.now }
 {
-    is_jump(op) || leads(Letter::N, op, stack, after) || leads(Letter::T, op, stack, after)
-}
-
-fn is_jump(op: &Op) -> bool
-    ensures { result ≡ is_jump_op op.now }
-{
-    matches!(op, Op::Jump(_))
-}
-
-fn leads(due: Letter, op: &Op, stack: &[Letter], after: &[Line]) -> bool
-    ensures { result ≡ lands_where after.now (takes due op.now (reverse stack.now)) }
-{
-    match taken(due, op, stack) {
-        Some(stack) => lands(after, 0, stack),
+    match left(stack, entry.takes) {
+        Some(rest) => {
+            goes_ahead(end, entry.ahead, rest, after) && goes_away(end, at, entry.away, rest, after)
+        }
         None => false,
     }
 }
 
-// Whether the letters fit where it jumps, if it does.
-fn goes_away(at: usize, op: &Op, stack: &[Letter], after: &[Line]) -> bool
-    ensures { result ≡ op_goes_away at op.now (reverse stack.now) after.now }
+fn goes_ahead(end: Letter, puts: Option<Letters>, rest: &[Letter], after: &[Line]) -> bool
+    ensures { result ≡ letters_go_ahead end (option_map letters_of puts) (reverse rest.now) after.now }
 {
-    match op {
-        Op::Jump(place) | Op::JumpSet(place) => jumps(at, *place, only(stack), after),
-        Op::JumpNot(place) => match only_without(stack, Letter::B, 1) {
-            Some(stack) => jumps(at, *place, stack, after),
-            None => false,
-        },
-        _ => true,
+    match puts {
+        Some(puts) => lands(end, after, 0, puts, rest),
+        None => true,
     }
 }
 
-// Whether a place follows, and the letters fit there.
-fn jumps(at: usize, place: u32, stack: Stack, after: &[Line]) -> bool
-    ensures { result ≡ letters_jump at place after.now (letters_of stack.entry) }
+fn goes_away(
+    end: Letter,
+    at: usize,
+    jump: Option<(u32, Letters)>,
+    rest: &[Letter],
+    after: &[Line],
+) -> bool
+    ensures { result ≡ letters_go_away end at (option_map jump_of jump) (reverse rest.now) after.now }
 {
-    let place = place as usize;
-    at < place && lands(after, place - at - 1, stack)
+    match jump {
+        Some((place, puts)) => jumps(end, at, place, puts, rest, after),
+        None => true,
+    }
 }
 
-// Whether the letters are those that a line states, so many below the first, or one at the end.
-fn lands(after: &[Line], distance: usize, stack: Stack) -> bool
-    ensures { result ≡ letters_land after.now distance (letters_of stack.entry) }
+// Whether a place follows, and the letters are those that are stated there.
+fn jumps(end: Letter, at: usize, place: u32, puts: Letters, rest: &[Letter], after: &[Line]) -> bool
+    ensures { result ≡ (nat_lt at place && letters_land end after.now (place - suc at) (letters_of puts ++ reverse rest.now)) }
+{
+    let place = place as usize;
+    at < place && lands(end, after, place - at - 1, puts, rest)
+}
+
+// Whether the letters are those that a line states, so many below the first, or the one at the end.
+fn lands(end: Letter, after: &[Line], distance: usize, puts: Letters, rest: &[Letter]) -> bool
+    ensures { result ≡ letters_land end after.now distance (letters_of puts ++ reverse rest.now) }
 {
     match line_at(after, distance) {
-        Some(line) => is_stated(stack, line.stack.items()),
-        None => distance == after.len() && is_single(stack),
+        Some(line) => are_stated(puts, rest, line.stack.items()),
+        None => distance == after.len() && are_stated(puts, rest, &[end]),
     }
 }
 

@@ -1,15 +1,13 @@
 ghost use Rattle.std.specs.Prelude.{◌≡◌, IsTrue};
-ghost use Rattle.psm_exprcode.specs.Evaluated.{is_named, are_named};
-ghost use Rattle.psm_exprcode.specs.WellFormed.{code_of, is_well_formed as are_well_formed};
+ghost use Rattle.psm_exprcode.specs.WellFormed.{code_of, does_fit, is_well_formed as are_well_formed};
 
-use crate::checking::is_well_formed;
-use crate::op::{Line, Op};
+use crate::checking::{Kinds, ends_with, is_well_formed};
+use crate::op::{Letter, Line};
 use psm_list::List;
-use psm_value::Datum;
 use std::marker::Model;
 
-/// The code of an expression, seen as its lines: the letters of each line's operands follow from those of
-/// the lines that lead to it, jumps go ahead, one operand stands at the end, and types, scales and
+/// The code of an expression, seen as its lines: each way to a line brings exactly the letters that the line
+/// states, every way to the end brings one operand of one letter, jumps go ahead, and types, scales and
 /// constants are within bounds.
 #[derive(Debug, Drop)]
 pub struct ExprCode {
@@ -48,31 +46,11 @@ impl ExprCode {
         self.lines.items()
     }
 
-    /// Whether each column and each variable that the code names is there. Takes no memory.
-    pub fn finds(&self, row: &[Datum], vars: &[Datum]) -> bool
-        ensures { result ≡ are_named self.now row.now vars.now }
+    /// Whether each column and each variable that the code names is there, of the kind with which the code
+    /// says its letter, and the code ends with an operand of that letter. Takes no memory.
+    pub fn fits(&self, columns: &[Letter], variables: &[Letter], end: Letter) -> bool
+        ensures { result ≡ does_fit columns.now variables.now self.now end }
     {
-        are_found(self.lines(), row, vars)
-    }
-}
-
-fn are_found(lines: &[Line], row: &[Datum], vars: &[Datum]) -> bool
-    ensures { result ≡ are_named lines.now row.now vars.now }
-{
-    for line in lines {
-        if !is_found(&line.op, row, vars) {
-            return false;
-        }
-    }
-    true
-}
-
-fn is_found(op: &Op, row: &[Datum], vars: &[Datum]) -> bool
-    ensures { result ≡ is_named op.now row.now vars.now }
-{
-    match op {
-        Op::Var(place) => (*place as usize) < vars.len(),
-        Op::Col(place) => (*place as usize) < row.len(),
-        _ => true,
+        ends_with(Kinds::Of { columns, variables }, self.lines(), end)
     }
 }

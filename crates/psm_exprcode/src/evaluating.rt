@@ -1,7 +1,8 @@
 //! The value of an expression.
-ghost use Rattle.std.specs.Prelude.{◌≡◌, ◌<◌, ◌^◌, IsTrue, IsSome};
-ghost use Rattle.psm_exprcode.specs.Evaluated.{are_named, evaluated, place_after as place_that_follows, Evaluates};
-ghost use Rattle.psm_exprcode.specs.WellFormed.{is_well_formed};
+ghost use Rattle.std.specs.Prelude.{◌≡◌, ◌<◌, ◌^◌, [], IsTrue, IsSome, IfOk};
+ghost use Rattle.psm_exprcode.specs.declared.op.Letter.{Letter};
+ghost use Rattle.psm_exprcode.specs.Evaluated.{evaluated, place_after as place_that_follows, Evaluates, Suits};
+ghost use Rattle.psm_exprcode.specs.Kinds.{is_of};
 
 use crate::applying::apply;
 use crate::code::ExprCode;
@@ -13,39 +14,68 @@ use std::alloc::Global;
 
 /// The value of an expression: its operations one after another from the first line, and the one operand
 /// that stands at the end, or the first condition that an operation raises. No operation lacks an operand.
+/// The operand is of the letter with which the code ends: a truth value for B, a number or null for N, a
+/// text or null for T.
 ///
-/// Each column and each variable that the code names has to be there. Memory is taken for texts and
-/// for the operands alone (ISO/IEC 9075:1992, clauses 6 and 8).
+/// The columns and the variables have to be of kinds that the code fits; null is of each kind. Memory is
+/// taken for texts and for the operands alone (ISO/IEC 9075:1992, clauses 6 and 8).
 pub fn eval(
     alloc: Global,
     code: &ExprCode,
     row: &[Datum],
     vars: &[Datum],
 ) -> Result<Operand, ValueFault>
-    requires { IsTrue (are_named code.now row.now vars.now) }
+    requires { (end : Letter) × Suits code.now row.now vars.now end }
     ensures value { Evaluates (evaluated code.now row.now vars.now) result }
     ensures lacks_nothing { IsSome (evaluated code.now row.now vars.now) }
+    ensures letter { (end : Letter) → Suits code.now row.now vars.now end → IfOk result (λ o. IsTrue (is_of end o)) }
 {
-    run(alloc, code.lines(), row, vars)
+    eval_on(alloc, &mut Vec::new(alloc), code, row, vars)
+}
+
+/// As [`eval`], over an operand stack that is lent, so that many rows need one stack. What stands there is
+/// dropped first, and with every answer the stack is empty.
+pub fn eval_on(
+    alloc: Global,
+    operands: &mut Vec<Operand>,
+    code: &ExprCode,
+    row: &[Datum],
+    vars: &[Datum],
+) -> Result<Operand, ValueFault>
+    requires { (end : Letter) × Suits code.now row.now vars.now end }
+    ensures value { Evaluates (evaluated code.now row.now vars.now) result }
+    ensures lacks_nothing { IsSome (evaluated code.now row.now vars.now) }
+    ensures letter { (end : Letter) → Suits code.now row.now vars.now end → IfOk result (λ o. IsTrue (is_of end o)) }
+    ensures empty { operands.new.items ≡ [] }
+{
+    operands.clear();
+    let answer = run(alloc, operands, code.lines(), row, vars);
+    operands.clear();
+    answer
 }
 
 #[tactic(auto, using(crate::proofs::Running::evaluated_some))]
-fn run(alloc: Global, lines: &[Line], row: &[Datum], vars: &[Datum]) -> Result<Operand, ValueFault>
-    requires well_formed { IsTrue (is_well_formed lines.now) }
-    requires named { IsTrue (are_named lines.now row.now vars.now) }
+fn run(
+    alloc: Global,
+    operands: &mut Vec<Operand>,
+    lines: &[Line],
+    row: &[Datum],
+    vars: &[Datum],
+) -> Result<Operand, ValueFault>
+    requires empty { operands.old.items ≡ [] }
+    requires suits { (end : Letter) × Suits lines.now row.now vars.now end }
     ensures value { Evaluates (evaluated lines.now row.now vars.now) result }
     ensures lacks_nothing { IsSome (evaluated lines.now row.now vars.now) }
 {
-    let mut operands = Vec::new(alloc);
     let mut place: usize = 0;
     for (at, line) in lines.iter().enumerate() {
         // A line before the place is one that a jump passed over.
         if at == place {
-            let next = apply(alloc, &line.op, &mut operands, row, vars)?;
+            let next = apply(alloc, &line.op, operands, row, vars)?;
             place = place_after(at, next);
         }
     }
-    Ok(pop(&mut operands))
+    Ok(pop(operands))
 }
 
 // The place after that of a line.

@@ -14,13 +14,12 @@ mod numbers;
 mod op;
 mod operand;
 mod stack;
+mod table;
 mod texts;
 
 pub use applying::apply;
 pub use code::ExprCode;
-pub use evaluating::eval;
+pub use evaluating::{eval, eval_on};
 pub use op::{Letter, Line, Op, RawExpr};
 pub use operand::{Next, Operand};
-
-#[cfg(test)]
-mod tests;
+pub use table::{Entry, Letters};

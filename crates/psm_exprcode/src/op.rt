@@ -1,3 +1,6 @@
+ghost use Rattle.std.specs.Prelude.{◌≡◌};
+ghost use Rattle.psm_exprcode.specs.Kinds.{are_of, has_letter};
+
 use psm_list::List;
 use psm_text::Side;
 use psm_value::{Datum, SqlType};
@@ -13,61 +16,90 @@ pub enum Letter {
     B,
 }
 
+impl Letter {
+    /// Whether a value is of the kind. Null is of both kinds of values.
+    pub fn is_of(self, value: &Datum) -> bool
+        ensures { result ≡ has_letter self value.now }
+    {
+        match self {
+            Letter::N => !matches!(value, Datum::Text(_)),
+            Letter::T => !matches!(value, Datum::Num(_)),
+            Letter::B => false,
+        }
+    }
+
+    /// Whether values are of those kinds, one for one.
+    pub fn are_of(kinds: &[Letter], values: &[Datum]) -> bool
+        ensures { result ≡ are_of kinds.now values.now }
+    {
+        let mut left = kinds;
+        let mut right = values;
+        while let Some((kind, others)) = left.split_first() {
+            match right.split_first() {
+                Some((value, more)) if kind.is_of(value) => right = more,
+                _ => return false,
+            }
+            left = others;
+        }
+        right.is_empty()
+    }
+}
+
 /// An operation of an expression over a stack of operands. A number of a line is its place, from 0.
 #[derive(Debug, Drop)]
 pub enum Op {
     /// Puts a value, of that letter, on the stack.
-    Const(Letter, Datum),
+    Constant(Letter, Datum),
     /// Puts a variable's value on the stack.
-    Var(u32),
+    Variable(u32),
     /// Puts a column's value on the stack.
-    Col(u32),
+    Column(u32),
     /// Puts the last operand once more.
-    Dup,
+    Duplicate,
     /// Takes the last operand off.
     Drop,
     /// Takes the operand below the last one off.
-    Nip,
+    DropBelow,
     /// The number with its other sign.
-    Neg,
+    Negate,
     /// The sum.
     Add,
     /// The difference.
-    Sub,
+    Subtract,
     /// The product.
-    Mul,
+    Multiply,
     /// The quotient.
-    Div,
+    Divide,
     /// The number with so many digits behind the point.
-    Scale(u8),
+    Rescale(u8),
     /// The second text behind the first.
-    Cat,
+    Concatenate,
     /// The number of characters.
-    Len,
+    CharacterLength,
     /// The place of a text, the lower operand, in another.
-    Pos,
+    Position,
     /// SUBSTRING of a text from a place on.
-    Sub2,
+    SubstringFrom,
     /// SUBSTRING of a text from a place on, for a number of characters.
-    Sub3,
+    SubstringFromFor,
     /// The text without the blanks at that side.
     Trim(Side),
     /// The text with capital letters.
-    Up,
+    Upper,
     /// The text with small letters.
-    Low,
+    Lower,
     /// Whether two values are equal.
-    Eq,
+    Equal,
     /// Whether they differ.
-    Ne,
+    NotEqual,
     /// Whether the first is less.
-    Lt,
+    Less,
     /// Whether the first is at most the second.
-    Le,
+    LessOrEqual,
     /// Whether the first is greater.
-    Gt,
+    Greater,
     /// Whether the first is at least the second.
-    Ge,
+    GreaterOrEqual,
     /// AND.
     And,
     /// OR.
@@ -91,9 +123,9 @@ pub enum Op {
     /// Goes on at a line.
     Jump(u32),
     /// Takes a truth value off and goes on at a line unless it is true.
-    JumpNot(u32),
+    JumpUnlessTrue(u32),
     /// Goes on at a line with a value that isn't null; takes it off where it is.
-    JumpSet(u32),
+    JumpUnlessNull(u32),
 }
 
 /// A line of an expression: the operands that stand before the operation, the last one at the end, and

@@ -7,7 +7,7 @@ ghost use Rattle.psm_value.specs.Answer.{Gives};
 ghost use Rattle.psm_exprcode.specs.Applied.{value_of_one, value_of_two, on_two, on_three, with_value, with_truth};
 ghost use Rattle.psm_exprcode.specs.Fits.{are_values, Carries};
 ghost use Rattle.psm_exprcode.specs.Texts.{place_of, trim_of, like_of};
-ghost use Rattle.psm_exprcode.specs.Values.{as_text, as_truth, whole, concatenated, length_of, position_of, cut_of, part_from, part_of, on_text, like, like_escaped};
+ghost use Rattle.psm_exprcode.specs.Values.{as_truth, whole, concatenated, length_of, position_of, cut_of, part_from, part_of, on_text, like, like_escaped};
 
 use crate::comparing::decided;
 use crate::operand::{Next, Operand};

@@ -1,6 +1,7 @@
 use Rattle.std.proofs.Common.{◌≡◌, drop}
+use Rattle.psm_exprcode.specs.Ways.{allowed}
 use Rattle.psm_exprcode.specs.WellFormed.{are_lines}
 use Rattle.psm_exprcode.proofs.checking.are_right.Given as goal
 
 abbrev pub invariant-loop-at : goal.invariant-loop-at
-invariant-loop-at l = are_lines l.at (drop l.at l.lines) ≡ are_lines 0 l.lines
+invariant-loop-at l = are_lines (allowed l.kinds) l.end l.at (drop l.at l.lines) ≡ are_lines (allowed l.kinds) l.end 0 l.lines

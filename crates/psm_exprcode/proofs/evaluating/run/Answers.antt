@@ -1,7 +1,7 @@
 use Rattle.std.proofs.Common.{◌<◌, ◌+◌, ◌∙◌, length, arith, sym, ap, subst, ◌≡◌, List}
 use Rattle.std.specs.Prelude.{reverse}
 use Rattle.psm_exprcode.specs.declared.operand.Operand.{Operand}
-use Rattle.psm_exprcode.proofs.Running.{fits_at, going_on, going_past, Going}
+use Rattle.psm_exprcode.proofs.Running.{going_first, fits_at, going_on, going_past, Going, evaluated_some}
 use Rattle.psm_exprcode.proofs.evaluating.run.Goals as goal
 use Rattle.psm_exprcode.proofs.evaluating.run.Goals.{then-at-place+in_ok-next, else-at-place}
 
@@ -25,3 +25,10 @@ loop-at-preserved c =
           within c.index-lines-at.is c.loop-at.invariant w.if-at-place.false in
           rw (w.place-is, w.operands-is) past
     ]
+
+pub loop-at-init : goal.loop-at-init
+loop-at-init c =
+    going_first c.args.lines.now c.args.row.now c.args.vars.now (reverse c.args.operands.now.items) c.requires.suits.0 c.requires.suits.1 (ap reverse c.requires.empty)
+
+pub returns-in_err-next-clause-lacks_nothing : goal.returns-in_err-next-clause-lacks_nothing
+returns-in_err-next-clause-lacks_nothing c = evaluated_some c.args.lines.now c.args.row.now c.args.vars.now c.requires.suits.0 c.requires.suits.1
