@@ -1,5 +1,5 @@
 -- The kinds of what operations come to.
-use Rattle.std.proofs.Common.{◌≡◌, ℕ, ℤ, Bool, true, false, List, refl, Option, Some, None, Result, Ok, Err}
+use Rattle.std.proofs.Common.{◌≡◌, ℕ, Bool, true, false, List, refl, Option, Some, None, Result, Ok, Err}
 use Rattle.std.specs.Prelude.{codes, if◌then◌else◌}
 use Rattle.psm_num.specs.declared.fault.NumFault.{NumFault}
 use Rattle.psm_num.specs.declared.fault.NumFault.TheVariants.{Range, Zero, NotNumber}
@@ -17,7 +17,7 @@ use Rattle.psm_value.specs.declared.sqltype.SqlType.{SqlType}
 use Rattle.psm_value.specs.declared.sqltype.SqlType.TheVariants.{SmallInt, Integer, Numeric, Char, VarChar}
 use Rattle.psm_value.specs.Arithmetic.{as_datum, numbers_of, on_numbers, sum_of, difference_of, product_of, quotient_of, negated_of}
 use Rattle.psm_value.specs.Cast.{cast_of, then_stored, trimmed}
-use Rattle.psm_value.specs.Stored.{scale_of, is_in_range, stored}
+use Rattle.psm_value.specs.Stored.{is_in_range, stored}
 use Rattle.psm_value.specs.TextFaults.{as_text}
 use Rattle.psm_exprcode.specs.declared.op.Letter.{Letter}
 use Rattle.psm_exprcode.specs.declared.op.Letter.TheVariants.{N, T, B}

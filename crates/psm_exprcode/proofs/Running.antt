@@ -1,7 +1,7 @@
 -- Code that fits the kinds of columns and variables lacks nothing over values of those kinds, and its operands are of the
 -- letters that its lines state.
 use Rattle.std.proofs.Common.{◌≡◌, ◌⊎◌, inl, inr, ℕ, suc, ◌+◌, ◌-◌, ◌<◌, ◌≤◌, Bool, true, false, ◌&&◌, ◌||◌, List, [], ◌∷◌, ◌++◌, length, drop, get_or, nat_eq, nat_lt, refl, ap, sym, subst, ◌∙◌, arith, Option, Some, None, Ok, Err, Result, ltb-true, eqb-true, eq-eqb}
-use Rattle.std.specs.Prelude.{slice_get, reverse, IsSome, is_some, IsTrue, IfOk, if◌then◌else◌}
+use Rattle.std.specs.Prelude.{slice_get, reverse, IsSome, IsTrue, IfOk, if◌then◌else◌}
 use Rattle.std.proofs.lemmas.Bool.{ne_eqb}
 use Rattle.std.proofs.Math.Seq.{drop-cons}
 use Rattle.psm_num.proofs.Literals.{and_first, and_second}
@@ -19,7 +19,7 @@ use Rattle.psm_exprcode.specs.Evaluated.{Outcome, place_after, goes_on, ended, r
 use Rattle.psm_exprcode.specs.Fits.{Fits}
 use Rattle.psm_exprcode.specs.Kinds.{is_letter, is_value, some_value, some_letter, is_of, have}
 use Rattle.psm_exprcode.specs.Operations.{Effect, effect}
-use Rattle.psm_exprcode.specs.WellFormed.{same_stack, left_of, is_bounded, are_stated, lands, goes_ahead, goes_away, goes_on_with, leads, is_line, are_lines, ends_with, is_of_kind}
+use Rattle.psm_exprcode.specs.WellFormed.{same_stack, left_of, is_bounded, are_stated, lands, goes_ahead, goes_away, goes_on_with, leads, is_line, are_lines, is_of_kind}
 use Rattle.psm_exprcode.proofs.Standing.{Leads}
 use Rattle.psm_exprcode.proofs.Stepping.{names, of_kind-names, op_leads, op_fits}
 use Rattle.psm_exprcode.proofs.Stripping.{is_letter-same, left_of-some}

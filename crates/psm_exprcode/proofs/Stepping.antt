@@ -1,5 +1,5 @@
 -- Each operation does with operands what the table says of their letters.
-use Rattle.std.proofs.Common.{◌≡◌, ℕ, zero, suc, ◌<◌, Bool, true, false, ◌&&◌, List, [], ◌∷◌, ◌++◌, length, refl, ap, sym, ◌∙◌, arith, Option, Some, None, Result, Ok, Err, leb-true, append_assoc}
+use Rattle.std.proofs.Common.{◌≡◌, ℕ, zero, suc, ◌<◌, Bool, true, ◌&&◌, List, [], ◌∷◌, ◌++◌, length, refl, ap, sym, ◌∙◌, arith, Some, None, Result, Ok, leb-true, append_assoc}
 use Rattle.std.specs.Prelude.{slice_get, replicate}
 use Rattle.psm_num.proofs.Literals.{and_first, and_second}
 use Rattle.psm_text.specs.Parts.{upper_of, lower_of}
@@ -17,12 +17,12 @@ use Rattle.psm_exprcode.specs.declared.op.Letter.TheVariants.{N, T, B}
 use Rattle.psm_exprcode.specs.declared.op.Op.{Op}
 use Rattle.psm_exprcode.specs.declared.op.Op.TheVariants as op
 use Rattle.psm_exprcode.specs.declared.operand.Operand.{Operand}
-use Rattle.psm_exprcode.specs.declared.operand.Operand.TheVariants.{Value, Truth}
-use Rattle.psm_exprcode.specs.declared.operand.Next.TheVariants.{Ahead, Jump}
-use Rattle.psm_exprcode.specs.Applied.{Applied, Went, Raised, Lacking, with_value, with_truth, with_named, on_value, on_two, on_three, on_truth, on_many, nipped, set_at, unless_true, applied}
+use Rattle.psm_exprcode.specs.declared.operand.Operand.TheVariants.{Value}
+use Rattle.psm_exprcode.specs.declared.operand.Next.TheVariants.{Ahead}
+use Rattle.psm_exprcode.specs.Applied.{Went, with_value, with_truth, on_value, on_two, on_truth, on_many, nipped, set_at, unless_true, applied}
 use Rattle.psm_exprcode.specs.Comparison.{truth_of, tested, between, among, unless_equal, is_null}
-use Rattle.psm_exprcode.specs.Fits.{are_values, are_truths, is_over_value, finds, IsNamed, IsWithin, Fits}
-use Rattle.psm_exprcode.specs.Kinds.{is_letter, is_value, has_letter, letter_of, is_of, are_of, have}
+use Rattle.psm_exprcode.specs.Fits.{are_values, is_over_value, finds, IsNamed, IsWithin, Fits}
+use Rattle.psm_exprcode.specs.Kinds.{is_value, has_letter, letter_of, is_of, are_of, have}
 use Rattle.psm_exprcode.specs.Operations.{effect}
 use Rattle.psm_exprcode.specs.Texts.{trim_of}
 use Rattle.psm_exprcode.specs.Values.{rescaled, concatenated, length_of, position_of, part_from, part_of, on_text, like, like_escaped}

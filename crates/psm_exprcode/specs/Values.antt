@@ -1,6 +1,6 @@
 -- Operations on values that have a place in expressions alone (ISO/IEC 9075:1992, 6.6, 6.7, 6.13 and 8.5). Null
 -- comes first: a null operand gives null or unknown, and so does one that isn't of the operation's family.
-use Rattle.std.specs.Prelude.{ℕ, ℤ, pos, List, length, codes, Some, None, Bool, Result, Ok, Err}
+use Rattle.std.specs.Prelude.{ℕ, ℤ, pos, List, length, Some, None, Bool, Result, Ok, Err}
 use Rattle.psm_num.specs.Num as num
 use Rattle.psm_num.specs.Arithmetic.{at_scale}
 use Rattle.psm_text.specs.declared.fault.TextFault.{TextFault}

@@ -11,8 +11,11 @@ use psm_value::SqlType;
 /// Letters of operands that stand on one another: so many of one letter, on one other or on none.
 #[derive(Clone, Copy, Debug, PartialEq, Eq)]
 pub struct Letters {
+    /// The letter of those on top.
     pub letter: Letter,
+    /// How many of them there are.
     pub count: u32,
+    /// The letter of the one operand below them.
     pub below: Option<Letter>,
 }
 
