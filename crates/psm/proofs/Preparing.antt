@@ -2,7 +2,7 @@
 use Rattle.std.proofs.Common.{◌≡◌, ◌≢◌, ℕ, List, [], Option, Ok, Err, ◌∙◌, subst}
 use Rattle.std.specs.Prelude.{unwrap_or}
 use Rattle.psm_io.specs.Count.{Rose}
-use Rattle.psm_build.specs.Program.{StandsFor, Code, Script}
+use Rattle.psm_build.specs.Program.{StandsFor, Code, ScriptCode}
 use Rattle.psm_build.proofs.Files.{is_module_file}
 use Rattle.psm.specs.Fetches.{Fetches, Tells, NoneFailed, IsUnread}
 use Rattle.psm.specs.Prepared.{IsRead, Gets, GetsCode, GetsScript, Prepares}
@@ -119,7 +119,7 @@ module _ (held held' : List ℕ → Option (List ℕ)) (before mid after : List 
   }
   script_refused ss Memory second h = tt
 
-  pub script_ready : (ss : List ℕ) (s : Script) → IsRead (between held' mid after) f.for_script ss → GetsScript ms code ss (Ok s) → Prepares (between held before after) f (Ok (code, s))
+  pub script_ready : (ss : List ℕ) (s : ScriptCode) → IsRead (between held' mid after) f.for_script ss → GetsScript ms code ss (Ok s) → Prepares (between held before after) f (Ok (code, s))
   script_ready ss s second h = record {
     ms = ms;
     ss = ss;

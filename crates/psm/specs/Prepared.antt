@@ -1,7 +1,7 @@
 -- What is known of the two files, step by step.
 use Rattle.std.specs.Prelude.{◌≡◌, ℕ, ◌<◌, ◌≤◌, List, length, Option, Some, None, IfSome, Result, Ok, Err}
 use Rattle.std.specs.Global.{Vec}
-use Rattle.psm_build.specs.Program.{IsModuleFault, IsModuleNotBuilt, IsScriptFault, IsScriptNotBuilt, ComesTo, StandsFor, Code, Script}
+use Rattle.psm_build.specs.Program.{IsModuleFault, IsModuleNotBuilt, IsScriptFault, IsScriptNotBuilt, ComesTo, StandsFor, Code, ScriptCode}
 use Rattle.psm_build.specs.declared.fault.BuildFault.{BuildFault}
 use Rattle.psm_build.specs.declared.fault.BuildFault.TheVariants as builds
 use Rattle.psm_script.specs.Session.{Session}
@@ -56,7 +56,7 @@ GetsCode ms (Err (TooLong x)) = ⊥
 
 -- ---- the script
 
-abbrev pub GetsScript : List ℕ → Code → List ℕ → Result Script Refusal → Type 0
+abbrev pub GetsScript : List ℕ → Code → List ℕ → Result ScriptCode Refusal → Type 0
 GetsScript ms code ss (Ok commands) = (turns : ℕ) → ComesTo ms ss turns (played code commands turns)
 GetsScript ms code ss (Err (Refused x line column fault)) = (x ≡ which.Script) × IsScriptFault ms ss line column fault
 GetsScript ms code ss (Err (NotBuilt x)) = (x ≡ which.Script) × IsScriptNotBuilt ms ss
@@ -79,6 +79,6 @@ found_of (NotBuilt which.Script) = Some (found.Accepted found.NotBuilt)
 found_of Memory = None
 
 -- both files are accepted, and come to what the code and the commands play; or a refusal tells what was found
-abbrev pub Prepares : Fetches → Files → Result (Code × Script) Refusal → Type 0
+abbrev pub Prepares : Fetches → Files → Result (Code × ScriptCode) Refusal → Type 0
 Prepares fetches f (Ok r) = Finds fetches f (found.Accepted (found.Accepted (played r.0 r.1 turns_bound)))
 Prepares fetches f (Err refusal) = IfSome (found_of refusal) (Finds fetches f)

@@ -7,7 +7,7 @@ ghost use Rattle.psm.specs.Prepared.{Prepares, GetsCode, GetsScript, Gets, refus
 ghost use Rattle.psm.specs.Words.{named};
 
 use crate::words::Files;
-use psm_build::{BuildFault, Code, Fault, Script, build, build_script};
+use psm_build::{BuildFault, Code, Fault, ScriptCode, build, build_script};
 use psm_io::{Shelf, ShelfFault};
 use std::alloc::Global;
 
@@ -46,7 +46,7 @@ pub fn prepare<F: Shelf>(
     alloc: Global,
     files: &Files<'_>,
     shelf: &mut F,
-) -> Result<(Code, Script), Refusal>
+) -> Result<(Code, ScriptCode), Refusal>
     ensures { Prepares (fetches_of F.held F.faults shelf.old shelf.new) (named files.now.for_module.now files.now.for_script.now) result }
 {
     let bytes = fetch(alloc, files.for_module, Which::Module, shelf)?;
@@ -86,7 +86,7 @@ fn code_of(alloc: Global, bytes: &[u8]) -> Result<Code, Refusal>
 }
 
 // A script over the code.
-fn script_over(alloc: Global, code: &Code, bytes: &[u8]) -> Result<Script, Refusal>
+fn script_over(alloc: Global, code: &Code, bytes: &[u8]) -> Result<ScriptCode, Refusal>
     requires { length bytes.now ≤ most_bytes }
     ensures { (ms : Seq ℕ) → StandsFor ms code.now → GetsScript ms code.now bytes.now result }
 {

@@ -13,7 +13,7 @@ use crate::line::{fault_line, unbuilt_line};
 use crate::prepare::{Refusal, Which};
 use crate::status::Status;
 use crate::words::Files;
-use psm_build::{Code, Fault, Script};
+use psm_build::{Code, Fault, ScriptCode};
 use psm_io::{Sink, SinkFault};
 use psm_script::{ScriptEnd, run_script};
 use std::alloc::{AllocError, Global};
@@ -22,7 +22,7 @@ use std::alloc::{AllocError, Global};
 const TURNS: u64 = 1_000_000;
 
 /// Runs the script over the code, and puts the piece of each command.
-pub fn play<K: Sink>(alloc: Global, code: &Code, script: &Script, out: &mut K) -> Status
+pub fn play<K: Sink>(alloc: Global, code: &Code, script: &ScriptCode, out: &mut K) -> Status
     ensures { Runs (played code.now script.now turns_bound) (sunk_of K.written K.faults out.old out.new) result }
 {
     let mut turns = TURNS;

@@ -2,7 +2,8 @@
 use Rattle.std.specs.Prelude.{◌≡◌, ℕ, List}
 use Rattle.psm_built.specs.Session.{Session, session}
 use Rattle.psm_built.specs.declared.tree.Module.{Module}
-pub use Rattle.psm_built.specs.declared.tree.Script.{Script}
+use Rattle.psm_built.specs.declared.tree.Script.{Script}
+pub use Rattle.psm_built.specs.declared.tree.Script.{Script as ScriptCode}
 use Rattle.psm_straight.specs.Played.{played}
 pub use Rattle.psm_straight.specs.declared.code.Code.{Code}
 use Rattle.psm_build.specs.Source.{module_files, scripts, IsFaultAt, IsUnbuilt, IsModule, HasModule, IsScript, HasScript}
@@ -62,5 +63,5 @@ pub record StandsFor (bytes : List ℕ) (code : Code) : Type 0 where
   pub plays : (s : Script) (turns : ℕ) → played code s turns ≡ session tree s turns
 
 -- the commands are the script of the bytes, over the procedure of the code
-abbrev pub IsScriptOf : Code → List ℕ → Script → Type 0
+abbrev pub IsScriptOf : Code → List ℕ → ScriptCode → Type 0
 IsScriptOf code bytes commands = IsScript code.signature bytes commands

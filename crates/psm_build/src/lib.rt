@@ -8,5 +8,5 @@ mod read;
 
 pub use code::{build, build_script};
 pub use fault::{BuildFault, Fault};
-pub use psm_built::Script;
+pub use psm_built::Script as ScriptCode;
 pub use psm_straight::Code;
