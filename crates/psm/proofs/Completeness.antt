@@ -1,124 +1,91 @@
 -- What is due is answered, where nothing outside fails.
-use Rattle.std.proofs.Common.{◌≡◌, ℕ, ◌<◌, ◌≤◌, List, length, Some, None, Err, refl, sym, ap, ◌∙◌, subst, inl, inr, arith}
-use Rattle.std.specs.Prelude.{◌⊎◌}
-use Rattle.psm_built.specs.Session.{Session, End, Done, Stopped, session}
-use Rattle.psm_built.specs.declared.tree.Module.{Module}
-use Rattle.psm_built.specs.declared.tree.Script.{Script}
-use Rattle.psm_machine.specs.Played.{played}
-use Rattle.psm_machine.specs.declared.code.Code.{Code}
-use Rattle.psm_build.specs.Source.{IsScriptFile}
-use Rattle.psm.specs.Words.{Files, files_of}
+use Rattle.std.proofs.Common.{◌≡◌, ℕ, ◌<◌, ◌≤◌, List, length, Option, Some, None, refl, sym, ap, ◌∙◌, subst, inl, inr, arith}
+use Rattle.std.specs.Prelude.{◌⊎◌, IfSome, MatchOption}
+use Rattle.psm_build.proofs.Files.{Exclusive, module_exclusive, script_exclusive, comes_to_script, comes_to_once}
+use Rattle.psm_build.specs.Program.{IsModuleFile}
+use Rattle.psm_build.specs.declared.fault.Fault.{Fault}
+use Rattle.psm_build.specs.declared.fault.BuildFault.{BuildFault}
+use Rattle.psm_build.specs.declared.fault.BuildFault.TheVariants as builds
+use Rattle.psm_script.specs.Put.{Sunk}
+use Rattle.psm_script.specs.Session.{Session}
+use Rattle.psm.specs.Contract.{Asked, IsPut, IsBroken, IsCut, RunsOut, Stayed, Answers, Completes}
+use Rattle.psm.specs.Fetches.{Fetches, AreRead, Finds}
+use Rattle.psm.specs.Found.{most_bytes, turns_bound, Found, Unread, Long, Refused, NotBuilt, Accepted, FileIs, ScriptIs, FilesAre}
 use Rattle.psm.specs.Message.{usage}
-use Rattle.psm.specs.Put.{Sunk}
-use Rattle.psm.specs.Program.{most_bytes, turns_bound, IsModuleOf, IsScriptOf, Ends, IsLongModule, IsRefusedModule, IsLongScript, IsRefusedScript, Due}
-use Rattle.psm.specs.Contract.{Fetches, Asked, Stayed, Answers, Completes}
-use Rattle.psm.specs.Prepared.{status_of, IsReady, Prepares}
-use Rattle.psm.specs.Report.{Puts, Reports, Runs}
-use Rattle.psm.specs.declared.prepare.Which.TheVariants as which
+use Rattle.psm.specs.Prepared.{found_of}
+use Rattle.psm.specs.Program.{Owed, with_line, due_for_session, due}
+use Rattle.psm.specs.Report.{PutsLine, Reports, Runs}
+use Rattle.psm.specs.Words.{Files, files_of}
 use Rattle.psm.specs.declared.prepare.Refusal.{Refusal}
-use Rattle.psm.specs.declared.prepare.Refusal.TheVariants as refusals
 use Rattle.psm.specs.declared.status.Status.{Status}
 use Rattle.psm.specs.declared.status.Status.TheVariants as status
+use Rattle.psm.proofs.Answering.{reported, ran}
 use Rattle.psm.proofs.Fetched.{told_same}
-use Rattle.psm_build.proofs.Sources.{module_once, module_not_refused, script_once, script_not_refused}
 
--- ---- at most one status is due
+-- ---- at most one thing is found
 
-same_tree : (ms : List ℕ) (m n : Module) → IsModuleOf ms m → IsModuleOf ms n → m ≡ n
-same_tree ms m n p q = module_once ms m n p.file q.file
+-- a fault of a file as what is found of it
+abbrev pub found_by : {A : Type 0} → BuildFault → Found A
+found_by (builds.Refused line column fault) = Refused line column fault
+found_by builds.NotBuilt = NotBuilt
+found_by builds.Memory = Unread
 
--- a script over one of them is a script over the other
-over_same : (ms ss : List ℕ) (m n : Module) (s : Script) → IsModuleOf ms m → IsModuleOf ms n → IsScriptOf n ss s → IsScriptFile m.procedure.signature ss s
-over_same ms ss m n s p q is = subst (λ (x : Module). IsScriptFile x.procedure.signature ss s) (same_tree ms n m q p) is.file
+not_both : (n : ℕ) → n ≤ most_bytes → most_bytes < n → ⊥
+not_both n h k = omega arith
 
-same_ends : (ms ss : List ℕ) (a b : End) (ps qs : List (List ℕ)) → Ends ms ss a ps → Ends ms ss b qs → a ≡ b
-same_ends ms ss a b ps qs x y =
-    let trees : x.tree ≡ y.tree = same_tree ms x.tree y.tree x.is_module y.is_module in
-    let scripts : x.script ≡ y.script = script_once x.tree.procedure.signature ss x.script y.script x.is_script.file (over_same ms ss x.tree y.tree y.script x.is_module y.is_module y.is_script) in
-    sym x.end_is ∙ ap (λ (m : Module). (session m x.script turns_bound).end) trees ∙ ap (λ (s : Script). (session y.tree s turns_bound).end) scripts ∙ y.end_is
+module _ {A : Type 0} (IsFile : Type 0) (IsFault : ℕ → ℕ → Fault → Type 0) (IsNotBuilt : Type 0) (Is : A → Type 0)
+    (one : Exclusive IsFile IsFault IsNotBuilt) (is_file : (a : A) → Is a → IsFile) (is_once : (a b : A) → Is a → Is b → a ≡ b) (bytes : List ℕ) where
+  file_once : (x y : Found A) → FileIs IsFault IsNotBuilt Is bytes x → FileIs IsFault IsNotBuilt Is bytes y → x ≡ y
+  file_once Unread y h k = absurd h
+  file_once Long Unread h k = absurd k
+  file_once Long Long h k = refl
+  file_once Long (Refused l c f) h k = absurd (not_both (length bytes) k.0 h)
+  file_once Long NotBuilt h k = absurd (not_both (length bytes) k.0 h)
+  file_once Long (Accepted a) h k = absurd (not_both (length bytes) k.0 h)
+  file_once (Refused l c f) Unread h k = absurd k
+  file_once (Refused l c f) Long h k = absurd (not_both (length bytes) h.0 k)
+  file_once (Refused l c f) (Refused l' c' f') h k = ap found_by (one.one_fault l c l' c' f f' h.1 k.1)
+  file_once (Refused l c f) NotBuilt h k = absurd (one.fault_or_not_built l c f h.1 k.1)
+  file_once (Refused l c f) (Accepted a) h k = absurd (one.file_or_fault l c f (is_file a k.1) h.1)
+  file_once NotBuilt Unread h k = absurd k
+  file_once NotBuilt Long h k = absurd (not_both (length bytes) h.0 k)
+  file_once NotBuilt (Refused l c f) h k = absurd (one.fault_or_not_built l c f k.1 h.1)
+  file_once NotBuilt NotBuilt h k = refl
+  file_once NotBuilt (Accepted a) h k = absurd (one.file_or_not_built (is_file a k.1) h.1)
+  file_once (Accepted a) Unread h k = absurd k
+  file_once (Accepted a) Long h k = absurd (not_both (length bytes) h.0 k)
+  file_once (Accepted a) (Refused l c f) h k = absurd (one.file_or_fault l c f (is_file a h.1) k.1)
+  file_once (Accepted a) NotBuilt h k = absurd (one.file_or_not_built (is_file a h.1) k.1)
+  file_once (Accepted a) (Accepted b) h k = ap Accepted (is_once a b h.1 k.1)
 
-too_long_not_short : (n : ℕ) → n ≤ most_bytes → most_bytes < n → ⊥
-too_long_not_short n h k = omega arith
+script_once : (ms ss : List ℕ) (x y : Found Session) → ScriptIs ms ss x → ScriptIs ms ss y → x ≡ y
+script_once ms ss = file_once _ _ _ _ (script_exclusive ms ss) (comes_to_script ms ss turns_bound) (comes_to_once ms ss turns_bound) ss
 
-long_module_only : (f : Files) (ms ss : List ℕ) (ps qs : List (List ℕ)) (due : Status) → IsLongModule f ms ps → Due f ms ss due qs → due ≡ status.TooLong
-long_module_only f ms ss ps qs status.TooLong x y = refl
-long_module_only f ms ss ps qs status.Done x y = absurd (too_long_not_short (length ms) y.is_module.short x.long)
-long_module_only f ms ss ps qs status.TurnsUsed x y = absurd (too_long_not_short (length ms) y.is_module.short x.long)
-long_module_only f ms ss ps qs status.ModuleRefused x y = absurd (too_long_not_short (length ms) y.none.short x.long)
-long_module_only f ms ss ps qs status.ScriptRefused x y = absurd (too_long_not_short (length ms) y.is_module.short x.long)
-long_module_only f ms ss ps qs status.Usage x y = absurd y
-long_module_only f ms ss ps qs status.ReadFault x y = absurd y
-long_module_only f ms ss ps qs status.WriteFault x y = absurd y
-long_module_only f ms ss ps qs status.Memory x y = absurd y
-long_module_only f ms ss ps qs status.ObjectRefused x y = absurd y
+files_once : (ms ss : List ℕ) (x y : Found (Found Session)) → FilesAre ms ss x → FilesAre ms ss y → x ≡ y
+files_once ms ss = file_once _ _ _ _ (module_exclusive ms) (λ a h. h.0) (λ a b h k. script_once ms ss a b h.1 k.1) ms
 
-refused_module_only : (f : Files) (ms ss : List ℕ) (ps qs : List (List ℕ)) (due : Status) → IsRefusedModule ms ps → Due f ms ss due qs → due ≡ status.ModuleRefused
-refused_module_only f ms ss ps qs status.ModuleRefused x y = refl
-refused_module_only f ms ss ps qs status.TooLong x (inl y) = absurd (too_long_not_short (length ms) x.none.short y.long)
-refused_module_only f ms ss ps qs status.TooLong x (inr y) = absurd (module_not_refused ms y.tree x.fault y.is_module.file x.none.fault_is)
-refused_module_only f ms ss ps qs status.Done x y = absurd (module_not_refused ms y.tree x.fault y.is_module.file x.none.fault_is)
-refused_module_only f ms ss ps qs status.TurnsUsed x y = absurd (module_not_refused ms y.tree x.fault y.is_module.file x.none.fault_is)
-refused_module_only f ms ss ps qs status.ScriptRefused x y = absurd (module_not_refused ms y.tree x.fault y.is_module.file x.none.fault_is)
-refused_module_only f ms ss ps qs status.Usage x y = absurd y
-refused_module_only f ms ss ps qs status.ReadFault x y = absurd y
-refused_module_only f ms ss ps qs status.WriteFault x y = absurd y
-refused_module_only f ms ss ps qs status.Memory x y = absurd y
-refused_module_only f ms ss ps qs status.ObjectRefused x y = absurd y
+-- ---- what was found is what the files are
 
-long_script_only : (f : Files) (ms ss : List ℕ) (ps qs : List (List ℕ)) (due : Status) → IsLongScript f ms ss ps → Due f ms ss due qs → due ≡ status.TooLong
-long_script_only f ms ss ps qs status.TooLong x y = refl
-long_script_only f ms ss ps qs status.Done x y = absurd (too_long_not_short (length ss) y.is_script.short x.long)
-long_script_only f ms ss ps qs status.TurnsUsed x y = absurd (too_long_not_short (length ss) y.is_script.short x.long)
-long_script_only f ms ss ps qs status.ModuleRefused x y = absurd (module_not_refused ms x.tree y.fault x.is_module.file y.none.fault_is)
-long_script_only f ms ss ps qs status.ScriptRefused x y = absurd (too_long_not_short (length ss) y.none.short x.long)
-long_script_only f ms ss ps qs status.Usage x y = absurd y
-long_script_only f ms ss ps qs status.ReadFault x y = absurd y
-long_script_only f ms ss ps qs status.WriteFault x y = absurd y
-long_script_only f ms ss ps qs status.Memory x y = absurd y
-long_script_only f ms ss ps qs status.ObjectRefused x y = absurd y
+module _ (fetches : Fetches) (f : Files) (ms ss : List ℕ) (hm : fetches.held f.for_module ≡ Some ms) (hs : fetches.held f.for_script ≡ Some ss) where
+  read_same : (x y : Found (Found Session)) → AreRead fetches f x → FilesAre ms ss y → x ≡ y
+  read_same x y h k =
+      let m : ms ≡ h.ms = told_same (fetches.held f.for_module) h.ms ms hm h.told_module in
+      let n : ss ≡ h.ss = told_same (fetches.held f.for_script) h.ss ss hs h.told_script in
+      files_once h.ms h.ss x y h.files_are (subst (λ (b : List ℕ). FilesAre h.ms b y) n (subst (λ (b : List ℕ). FilesAre b ss y) m k))
 
-refused_script_only : (f : Files) (ms ss : List ℕ) (ps qs : List (List ℕ)) (due : Status) → IsRefusedScript ms ss ps → Due f ms ss due qs → due ≡ status.ScriptRefused
-refused_script_only f ms ss ps qs status.ScriptRefused x y = refl
-refused_script_only f ms ss ps qs status.TooLong x (inl y) = absurd (too_long_not_short (length ms) x.is_module.short y.long)
-refused_script_only f ms ss ps qs status.TooLong x (inr y) = absurd (too_long_not_short (length ss) x.none.short y.long)
-refused_script_only f ms ss ps qs status.Done x y = absurd (script_not_refused x.tree.procedure.signature ss y.script x.fault (over_same ms ss x.tree y.tree y.script x.is_module y.is_module y.is_script) x.none.fault_is)
-refused_script_only f ms ss ps qs status.TurnsUsed x y = absurd (script_not_refused x.tree.procedure.signature ss y.script x.fault (over_same ms ss x.tree y.tree y.script x.is_module y.is_module y.is_script) x.none.fault_is)
-refused_script_only f ms ss ps qs status.ModuleRefused x y = absurd (module_not_refused ms x.tree y.fault x.is_module.file y.none.fault_is)
-refused_script_only f ms ss ps qs status.Usage x y = absurd y
-refused_script_only f ms ss ps qs status.ReadFault x y = absurd y
-refused_script_only f ms ss ps qs status.WriteFault x y = absurd y
-refused_script_only f ms ss ps qs status.Memory x y = absurd y
-refused_script_only f ms ss ps qs status.ObjectRefused x y = absurd y
-
--- the status of a session's end
-abbrev pub status_at : End → Status
-status_at Done = status.Done
-status_at Stopped = status.TurnsUsed
-
-ends_only : (f : Files) (ms ss : List ℕ) (end : End) (ps qs : List (List ℕ)) (due : Status) → Ends ms ss end ps → Due f ms ss due qs → due ≡ status_at end
-ends_only f ms ss end ps qs status.Done x y = ap status_at (same_ends ms ss Done end qs ps y x)
-ends_only f ms ss end ps qs status.TurnsUsed x y = ap status_at (same_ends ms ss Stopped end qs ps y x)
-ends_only f ms ss end ps qs status.TooLong x (inl y) = absurd (too_long_not_short (length ms) x.is_module.short y.long)
-ends_only f ms ss end ps qs status.TooLong x (inr y) = absurd (too_long_not_short (length ss) x.is_script.short y.long)
-ends_only f ms ss end ps qs status.ModuleRefused x y = absurd (module_not_refused ms x.tree y.fault x.is_module.file y.none.fault_is)
-ends_only f ms ss end ps qs status.ScriptRefused x y = absurd (script_not_refused y.tree.procedure.signature ss x.script y.fault (over_same ms ss y.tree x.tree x.script y.is_module x.is_module x.is_script) y.none.fault_is)
-ends_only f ms ss end ps qs status.Usage x y = absurd y
-ends_only f ms ss end ps qs status.ReadFault x y = absurd y
-ends_only f ms ss end ps qs status.WriteFault x y = absurd y
-ends_only f ms ss end ps qs status.Memory x y = absurd y
-ends_only f ms ss end ps qs status.ObjectRefused x y = absurd y
+  found_same : Stayed (fetches.before f.for_module) (fetches.after f.for_module) → Stayed (fetches.before f.for_script) (fetches.after f.for_script)
+      → (x y : Found (Found Session)) → Finds fetches f x → FilesAre ms ss y → x ≡ y
+  found_same s t Unread y h k = absurd (s h.rose)
+  found_same s t Long y h k = read_same Long y h k
+  found_same s t (Refused l c e) y h k = read_same (Refused l c e) y h k
+  found_same s t NotBuilt y h k = read_same NotBuilt y h k
+  found_same s t (Accepted Unread) y h k = absurd (t h.unread.rose)
+  found_same s t (Accepted Long) y h k = read_same (Accepted Long) y h k
+  found_same s t (Accepted (Refused l c e)) y h k = read_same (Accepted (Refused l c e)) y h k
+  found_same s t (Accepted NotBuilt) y h k = read_same (Accepted NotBuilt) y h k
+  found_same s t (Accepted (Accepted session)) y h k = read_same (Accepted (Accepted session)) y h k
 
 -- ---- answers
-
--- a line that is put for a status, where no put failed
-put_answers : (line : List ℕ) (due : Status) (sunk : Sunk) (answer : Status) → Stayed sunk.faults_before sunk.faults_after → Puts line due sunk answer → Answers due answer
-put_answers line due sunk answer stayed (inl p) = inl p.answer_is
-put_answers line due sunk answer stayed (inr (inl p)) = absurd (stayed p.put.rose)
-put_answers line due sunk answer stayed (inr (inr p)) = inr p.answer_is
-
-answers_same : (due due' answer : Status) → due ≡ due' → Answers due' answer → Answers due answer
-answers_same due due' answer e (inl a) = inl (a ∙ sym e)
-answers_same due due' answer e (inr a) = inr a
 
 no_files : (words : List (List ℕ)) (f : Files) → files_of words ≡ Some f → files_of words ≡ None → ⊥
 no_files words f e n = cc
@@ -126,88 +93,48 @@ no_files words f e n = cc
 same_files : (words : List (List ℕ)) (f g : Files) → files_of words ≡ Some f → files_of words ≡ Some g → f ≡ g
 same_files words f g e e' = cc
 
-pub completes_usage : (asked : Asked) (sunk : Sunk) (answer : Status) → files_of asked.words ≡ None → Puts usage status.Usage sunk answer → Completes asked sunk answer
-completes_usage asked sunk answer none puts = record {
-  misused = λ stayed n. put_answers usage status.Usage sunk answer stayed puts;
-  told = λ f ms ss due pieces stayed s t named hm hs d. absurd (no_files asked.words f named none);
-}
+module _ (asked : Asked) (sunk : Sunk) (answer : Status) where
+  line_answers : (owed : Owed) → PutsLine owed sunk answer → Stayed sunk.faults_before sunk.faults_after → Answers owed.status answer
+  line_answers owed (inl p) stayed = inl p.answer_is
+  line_answers owed (inr (inl p)) stayed = absurd (stayed p.put.rose)
+  line_answers owed (inr (inr p)) stayed = inr p.answer_is
 
--- a refusal that is due is the status that is due
-due_refusal : (fetches : Fetches) (f : Files) (ms ss : List ℕ) (due : Status) (pieces : List (List ℕ)) (refusal : Refusal) → Stayed (fetches.before f.for_module) (fetches.after f.for_module) → Stayed (fetches.before f.for_script) (fetches.after f.for_script)
-    → fetches.held f.for_module ≡ Some ms → fetches.held f.for_script ≡ Some ss → Due f ms ss due pieces → Prepares fetches f (Err refusal) → (refusal ≡ refusals.Memory) ⊎ (due ≡ status_of refusal)
-due_refusal fetches f ms ss due pieces (refusals.Unread which.Module) s t hm hs d h = absurd (s h.rose)
-due_refusal fetches f ms ss due pieces (refusals.Unread which.Script) s t hm hs d h = absurd (t h.rose)
-due_refusal fetches f ms ss due pieces (refusals.TooLong w) s t hm hs d h =
-    let m : ms ≡ h.ms = told_same (fetches.held f.for_module) h.ms ms hm h.told_module in
-    let n : ss ≡ h.ss = told_same (fetches.held f.for_script) h.ss ss hs h.told_script in
-    let d' : Due f h.ms h.ss due pieces = subst (λ (x : List ℕ). Due f h.ms x due pieces) n (subst (λ (x : List ℕ). Due f x ss due pieces) m d) in
-    inr (elim h.due_is [ inl x ↦ long_module_only f h.ms h.ss _ pieces due x d' | inr x ↦ long_script_only f h.ms h.ss _ pieces due x d' ])
-due_refusal fetches f ms ss due pieces (refusals.Refused which.Module fault) s t hm hs d h =
-    let m : ms ≡ h.ms = told_same (fetches.held f.for_module) h.ms ms hm h.told_module in
-    let n : ss ≡ h.ss = told_same (fetches.held f.for_script) h.ss ss hs h.told_script in
-    let d' : Due f h.ms h.ss due pieces = subst (λ (x : List ℕ). Due f h.ms x due pieces) n (subst (λ (x : List ℕ). Due f x ss due pieces) m d) in
-    inr (refused_module_only f h.ms h.ss _ pieces due h.due_is d')
-due_refusal fetches f ms ss due pieces (refusals.Refused which.Script fault) s t hm hs d h =
-    let m : ms ≡ h.ms = told_same (fetches.held f.for_module) h.ms ms hm h.told_module in
-    let n : ss ≡ h.ss = told_same (fetches.held f.for_script) h.ss ss hs h.told_script in
-    let d' : Due f h.ms h.ss due pieces = subst (λ (x : List ℕ). Due f h.ms x due pieces) n (subst (λ (x : List ℕ). Due f x ss due pieces) m d) in
-    inr (refused_script_only f h.ms h.ss _ pieces due h.due_is d')
-due_refusal fetches f ms ss due pieces refusals.Memory s t hm hs d h = inl refl
+  put_answers : (owed : Owed) → IsPut owed sunk answer ⊎ IsBroken owed sunk answer ⊎ IsCut owed sunk answer → Stayed sunk.faults_before sunk.faults_after → Answers owed.status answer
+  put_answers owed (inl p) stayed = inl p.answer_is
+  put_answers owed (inr (inl p)) stayed = absurd (stayed p.put.rose)
+  put_answers owed (inr (inr p)) stayed = inr p.answer_is
 
--- what is put for a refusal, where no put failed
-report_answers : (refusal : Refusal) (f : Files) (sunk : Sunk) (answer : Status) → Stayed sunk.faults_before sunk.faults_after → Reports refusal f sunk answer → Answers (status_of refusal) answer
-report_answers (refusals.Unread w) f sunk answer stayed puts = put_answers _ _ sunk answer stayed puts
-report_answers (refusals.TooLong w) f sunk answer stayed puts = put_answers _ _ sunk answer stayed puts
-report_answers (refusals.Refused w fault) f sunk answer stayed puts = put_answers _ _ sunk answer stayed puts
-report_answers refusals.Memory f sunk answer stayed puts = inr puts.answer_is
+  pub completes_usage : files_of asked.words ≡ None → PutsLine (with_line status.Usage usage) sunk answer → Completes asked sunk answer
+  completes_usage none puts = record {
+    misused = λ stayed n. line_answers (with_line status.Usage usage) puts stayed;
+    told = λ f ms ss found stayed s t named hm hs files_are. absurd (no_files asked.words f named none);
+  }
 
-memory_answers : (refusal : Refusal) (f : Files) (sunk : Sunk) (due answer : Status) → refusal ≡ refusals.Memory → Reports refusal f sunk answer → Answers due answer
-memory_answers refusals.Memory f sunk due answer e puts = inr puts.answer_is
-memory_answers (refusals.Unread w) f sunk due answer e puts = absurd cc
-memory_answers (refusals.TooLong w) f sunk due answer e puts = absurd cc
-memory_answers (refusals.Refused w fault) f sunk due answer e puts = absurd cc
+  memory_completes : answer ≡ status.Memory → Completes asked sunk answer
+  memory_completes e = record {
+    misused = λ stayed n. inr e;
+    told = λ f ms ss found stayed s t named hm hs files_are. inr e;
+  }
 
-pub completes_refusal : (asked : Asked) (sunk : Sunk) (answer : Status) (f : Files) (refusal : Refusal) → files_of asked.words ≡ Some f → Prepares asked.fetches f (Err refusal) → Reports refusal f sunk answer → Completes asked sunk answer
-completes_refusal asked sunk answer f refusal named h puts = record {
-  misused = λ stayed n. absurd (no_files asked.words f named n);
-  told = λ g ms ss due pieces stayed s t named' hm hs d.
-      let e : g ≡ f = same_files asked.words g f named' named in
-      let h' : Prepares asked.fetches g (Err refusal) = subst (λ (x : Files). Prepares asked.fetches x (Err refusal)) (sym e) h in
-      elim (due_refusal asked.fetches g ms ss due pieces refusal s t hm hs d h') [
-        | inl m ↦ memory_answers refusal f sunk due answer m puts
-        | inr x ↦ answers_same due (status_of refusal) answer x (report_answers refusal f sunk answer stayed puts)
-      ];
-}
+  -- what is due for what was found is answered
+  found_completes : (f : Files) (x : Found (Found Session)) → files_of asked.words ≡ Some f → Finds asked.fetches f x
+      → (Stayed sunk.faults_before sunk.faults_after → Answers (due f x).status answer) → Completes asked sunk answer
+  found_completes f x named finds answers = record {
+    misused = λ stayed n. absurd (no_files asked.words f named n);
+    told = λ g ms ss y stayed s t named' hm hs files_are.
+        let e : f ≡ g = same_files asked.words f g named named' in
+        let so : Finds asked.fetches g x = subst (λ (z : Files). Finds asked.fetches z x) e finds in
+        let same : x ≡ y = found_same asked.fetches g ms ss hm hs s t x y so files_are in
+        let owed : (due f x).status ≡ (due g y).status = ap (λ (z : Files). (due z x).status) e ∙ ap (λ (z : Found (Found Session)). (due g z).status) same in
+        subst (λ (z : Status). Answers z answer) owed (answers stayed);
+  }
 
--- a session that was played, where no put failed
-run_answers : (play : Session) (sunk : Sunk) (answer : Status) → Stayed sunk.faults_before sunk.faults_after → Runs play sunk answer → Answers (status_at play.end) answer
-run_answers play sunk status.Done stayed r = inl (ap status_at (sym r.0))
-run_answers play sunk status.TurnsUsed stayed r = inl (ap status_at (sym r.0))
-run_answers play sunk status.WriteFault stayed r = absurd (stayed r.rose)
-run_answers play sunk status.Memory stayed r = inr refl
-run_answers play sunk status.Usage stayed r = absurd r
-run_answers play sunk status.ReadFault stayed r = absurd r
-run_answers play sunk status.ModuleRefused stayed r = absurd r
-run_answers play sunk status.ScriptRefused stayed r = absurd r
-run_answers play sunk status.ObjectRefused stayed r = absurd r
-run_answers play sunk status.TooLong stayed r = absurd r
+  pub completes_refusal : (f : Files) (refusal : Refusal) → files_of asked.words ≡ Some f → IfSome (found_of refusal) (Finds asked.fetches f) → Reports refusal f sunk answer → Completes asked sunk answer
+  completes_refusal f refusal named finds reports = by (found_of refusal) finds (reported f sunk answer refusal reports)
+    where
+      by : (o : Option (Found (Found Session))) → IfSome o (Finds asked.fetches f) → MatchOption o (RunsOut sunk answer) (λ found. PutsLine (due f found) sunk answer) → Completes asked sunk answer
+      by None h r = memory_completes r.answer_is
+      by (Some found) h puts = found_completes f found named h (line_answers (due f found) puts)
 
-pub completes_run : (asked : Asked) (sunk : Sunk) (answer : Status) (f : Files) (code : Code) (s : Script) → files_of asked.words ≡ Some f → IsReady asked.fetches f code s → Runs (played code s turns_bound) sunk answer → Completes asked sunk answer
-completes_run asked sunk answer f code s named ready runs = record {
-  misused = λ stayed n. absurd (no_files asked.words f named n);
-  told = λ g ms ss due pieces stayed x y named' hm hs d.
-      let e : g ≡ f = same_files asked.words g f named' named in
-      let m : ms ≡ ready.ms = told_same (asked.fetches.held f.for_module) ready.ms ms (ap (λ (z : Files). asked.fetches.held z.for_module) (sym e) ∙ hm) ready.told_module in
-      let n : ss ≡ ready.ss = told_same (asked.fetches.held f.for_script) ready.ss ss (ap (λ (z : Files). asked.fetches.held z.for_script) (sym e) ∙ hs) ready.told_script in
-      let d' : Due g ready.ms ready.ss due pieces = subst (λ (z : List ℕ). Due g ready.ms z due pieces) n (subst (λ (z : List ℕ). Due g z ss due pieces) m d) in
-      let play = played code s turns_bound in
-      let ends : Ends ready.ms ready.ss play.end play.pieces = record {
-        tree = ready.tree;
-        script = s;
-        is_module = ready.is_module;
-        is_script = ready.is_script;
-        end_is = ap (λ (z : Session). z.end) (sym (ready.stands.plays s turns_bound));
-        pieces_are = ap (λ (z : Session). z.pieces) (ready.stands.plays s turns_bound);
-      } in
-      answers_same due (status_at play.end) answer (ends_only g ready.ms ready.ss play.end play.pieces pieces due ends d') (run_answers play sunk answer stayed runs);
-}
+  pub completes_run : (f : Files) (s : Session) → files_of asked.words ≡ Some f → Finds asked.fetches f (Accepted (Accepted s)) → Runs s sunk answer → Completes asked sunk answer
+  completes_run f s named finds runs = found_completes f (Accepted (Accepted s)) named finds (put_answers (due_for_session s) (ran s sunk answer runs))

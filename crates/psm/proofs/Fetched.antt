@@ -3,7 +3,7 @@ use Rattle.std.proofs.Common.{◌≡◌, ◌≢◌, ℕ, ◌<◌, ◌≤◌, Boo
 use Rattle.std.specs.Prelude.{IfSome, MatchBool, nat_eq, replicate, unwrap_or}
 use Rattle.std.specs.Cmp.Lexicographic.{pointwise, told_text}
 use Rattle.std.proofs.lemmas.List.{length-replicate}
-use Rattle.psm.specs.Contract.{Tells}
+use Rattle.psm.specs.Fetches.{Tells}
 
 -- a count that stays at a name and at all others stays at each
 pub stay_all : (before after : List ℕ → ℕ) (name : List ℕ) → after name ≡ before name → ((n : List ℕ) → n ≢ name → after n ≡ before n) → (n : List ℕ) → after n ≡ before n

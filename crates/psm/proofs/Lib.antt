@@ -1,5 +1,3 @@
-pub mod Puts
-pub mod Sessions
 pub mod Fetched
 pub mod Preparing
 pub mod Answering

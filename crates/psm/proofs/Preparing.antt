@@ -1,112 +1,130 @@
--- The refusals of the two files, put together from their steps.
-use Rattle.std.proofs.Common.{◌≡◌, ℕ, List, [], Option, Ok, Err, refl, ◌∙◌, subst, inl, inr}
+-- What was found of the two files, put together from the steps.
+use Rattle.std.proofs.Common.{◌≡◌, ◌≢◌, ℕ, List, [], Option, Ok, Err, ◌∙◌, subst}
 use Rattle.std.specs.Prelude.{unwrap_or}
 use Rattle.psm_io.specs.Count.{Rose}
-use Rattle.psm_built.specs.declared.tree.Signature.{Signature}
-use Rattle.psm_built.specs.declared.tree.Script.{Script}
-use Rattle.psm_machine.specs.declared.code.Code.{Code}
-use Rattle.psm_build.specs.Source.{IsScriptFile, IsScriptFault}
+use Rattle.psm_build.specs.Program.{StandsFor, Code, ScriptCode}
+use Rattle.psm_build.proofs.Files.{is_module_file}
+use Rattle.psm.specs.Fetches.{Fetches, Tells, NoneFailed, IsUnread}
+use Rattle.psm.specs.Prepared.{IsRead, Gets, GetsCode, GetsScript, Prepares}
 use Rattle.psm.specs.Words.{Files}
-use Rattle.psm.specs.Contract.{Fetches, Tells, NoneFailed}
-use Rattle.psm.specs.Prepared.{IsRead, IsFailed, Gets, IsCodeWithin, GetsCode, GetsScript, IsReady, Prepares}
 use Rattle.psm.specs.declared.prepare.Which.TheVariants as which
 use Rattle.psm.specs.declared.prepare.Refusal.{Refusal}
-use Rattle.psm.specs.declared.prepare.Refusal.TheVariants as refusals
+use Rattle.psm.specs.declared.prepare.Refusal.TheVariants.{Unread, TooLong, Refused, NotBuilt, Memory}
 use Rattle.psm.proofs.Fetched.{told_or}
 
 -- the fetches of one step
-abbrev pub fetches_of : (List ℕ → Option (List ℕ)) → (List ℕ → ℕ) → (List ℕ → ℕ) → Fetches
-fetches_of held before after = record { held = held; before = before; after = after }
+abbrev pub between : (List ℕ → Option (List ℕ)) → (List ℕ → ℕ) → (List ℕ → ℕ) → Fetches
+between held before after = record { held = held; before = before; after = after }
 
 -- ---- the module
 
 pub module_unread : (fetches : Fetches) (f : Files) (e : Refusal) → Gets fetches f.for_module which.Module (Err e) → Prepares fetches f (Err e)
-module_unread fetches f (refusals.Unread which.Module) h = h.1
-module_unread fetches f (refusals.Unread which.Script) h = absurd cc
-module_unread fetches f (refusals.TooLong which.Module) h = record {
+module_unread fetches f (Unread which.Module) h = h.1
+module_unread fetches f (Unread which.Script) h = absurd cc
+module_unread fetches f (TooLong which.Module) h = record {
   ms = h.1.bytes;
   ss = unwrap_or (fetches.held f.for_script) [];
   told_module = h.1.told;
   told_script = told_or (fetches.held f.for_script) [];
-  due_is = inl (record { long = h.1.long; message = refl });
-  fetched = h.1.fetched;
+  files_are = h.1.long;
+  none_failed = h.1.none_failed;
 }
-module_unread fetches f (refusals.TooLong which.Script) h = absurd cc
-module_unread fetches f (refusals.Refused w fault) h = absurd h
-module_unread fetches f refusals.Memory h = tt
+module_unread fetches f (TooLong which.Script) h = absurd cc
+module_unread fetches f (Refused w line column fault) h = absurd h
+module_unread fetches f (NotBuilt w) h = absurd h
+module_unread fetches f Memory h = tt
 
-pub module_refused : (fetches : Fetches) (f : Files) (bytes : List ℕ) (e : Refusal) → IsRead fetches f.for_module bytes → GetsCode bytes (Err e) → Prepares fetches f (Err e)
-module_refused fetches f bytes (refusals.Unread w) read h = absurd h
-module_refused fetches f bytes (refusals.TooLong w) read h = absurd h
-module_refused fetches f bytes (refusals.Refused which.Module fault) read h = record {
-  ms = bytes;
+pub module_refused : (fetches : Fetches) (f : Files) (ms : List ℕ) (e : Refusal) → IsRead fetches f.for_module ms → GetsCode ms (Err e) → Prepares fetches f (Err e)
+module_refused fetches f ms (Unread w) read h = absurd h
+module_refused fetches f ms (TooLong w) read h = absurd h
+module_refused fetches f ms (Refused which.Module line column fault) read h = record {
+  ms = ms;
   ss = unwrap_or (fetches.held f.for_script) [];
   told_module = read.told;
   told_script = told_or (fetches.held f.for_script) [];
-  due_is = record { fault = fault; none = h.1; message = refl };
-  fetched = read.fetched;
+  files_are = (read.short, h.1);
+  none_failed = read.none_failed;
 }
-module_refused fetches f bytes (refusals.Refused which.Script fault) read h = absurd cc
-module_refused fetches f bytes refusals.Memory read h = tt
+module_refused fetches f ms (Refused which.Script line column fault) read h = absurd cc
+module_refused fetches f ms (NotBuilt which.Module) read h = record {
+  ms = ms;
+  ss = unwrap_or (fetches.held f.for_script) [];
+  told_module = read.told;
+  told_script = told_or (fetches.held f.for_script) [];
+  files_are = (read.short, h.1);
+  none_failed = read.none_failed;
+}
+module_refused fetches f ms (NotBuilt which.Script) read h = absurd cc
+module_refused fetches f ms Memory read h = tt
 
 -- ---- the script
 
--- what the second fetch says, seen from the beginning
-failed_from : (held held' : List ℕ → Option (List ℕ)) (before mid after : List ℕ → ℕ) (name : List ℕ) → NoneFailed (fetches_of held before mid) → IsFailed (fetches_of held' mid after) name → IsFailed (fetches_of held before after) name
-failed_from held held' before mid after name first h = record { rose = subst (λ (n : ℕ). Rose n (after name)) (first name) h.rose }
-
 both_stay : (before mid after : List ℕ → ℕ) → ((n : List ℕ) → mid n ≡ before n) → ((n : List ℕ) → after n ≡ mid n) → (n : List ℕ) → after n ≡ before n
 both_stay before mid after first second n = second n ∙ first n
+
+-- what the second fetch says, seen from the beginning
+unread_from : (held held' : List ℕ → Option (List ℕ)) (before mid after : List ℕ → ℕ) (name : List ℕ) → NoneFailed (between held before mid) → IsUnread (between held' mid after) name → IsUnread (between held before after) name
+unread_from held held' before mid after name first h = record {
+  rose = subst (λ (n : ℕ). Rose n (after name)) (first name) h.rose;
+  others = λ other n. h.others other n ∙ first other;
+}
 
 told_from : (held held' : List ℕ → Option (List ℕ)) (name bytes : List ℕ) → ((n : List ℕ) → held' n ≡ held n) → Tells (held' name) bytes → Tells (held name) bytes
 told_from held held' name bytes same h = subst (λ (o : Option (List ℕ)). Tells o bytes) (same name) h
 
 module _ (held held' : List ℕ → Option (List ℕ)) (before mid after : List ℕ → ℕ) (f : Files) (ms : List ℕ) (code : Code)
-    (read : IsRead (fetches_of held before mid) f.for_module ms) (is : IsCodeWithin ms code) (same : (n : List ℕ) → held' n ≡ held n) where
-  pub script_unread : (e : Refusal) → Gets (fetches_of held' mid after) f.for_script which.Script (Err e) → Prepares (fetches_of held before after) f (Err e)
-  script_unread (refusals.Unread which.Script) h = failed_from held held' before mid after f.for_script read.fetched h.1
-  script_unread (refusals.Unread which.Module) h = absurd cc
-  script_unread (refusals.TooLong which.Script) h = record {
+    (read : IsRead (between held before mid) f.for_module ms) (is : StandsFor ms code) (same : (n : List ℕ) → held' n ≡ held n) where
+  pub script_unread : (e : Refusal) → Gets (between held' mid after) f.for_script which.Script (Err e) → Prepares (between held before after) f (Err e)
+  script_unread (Unread which.Script) h = record {
+    ms = ms;
+    told_module = read.told;
+    short = read.short;
+    is_module = is_module_file ms code is;
+    unread = unread_from held held' before mid after f.for_script read.none_failed h.1;
+  }
+  script_unread (Unread which.Module) h = absurd cc
+  script_unread (TooLong which.Script) h = record {
     ms = ms;
     ss = h.1.bytes;
     told_module = read.told;
     told_script = told_from held held' f.for_script h.1.bytes same h.1.told;
-    due_is = inr (record { tree = is.tree; is_module = is.is_module; long = h.1.long; message = refl });
-    fetched = both_stay before mid after read.fetched h.1.fetched;
+    files_are = (read.short, (is_module_file ms code is, h.1.long));
+    none_failed = both_stay before mid after read.none_failed h.1.none_failed;
   }
-  script_unread (refusals.TooLong which.Module) h = absurd cc
-  script_unread (refusals.Refused w fault) h = absurd h
-  script_unread refusals.Memory h = tt
+  script_unread (TooLong which.Module) h = absurd cc
+  script_unread (Refused w line column fault) h = absurd h
+  script_unread (NotBuilt w) h = absurd h
+  script_unread Memory h = tt
 
-  pub script_refused : (ss : List ℕ) (e : Refusal) → IsRead (fetches_of held' mid after) f.for_script ss → GetsScript code.signature ss (Err e) → Prepares (fetches_of held before after) f (Err e)
-  script_refused ss (refusals.Unread w) second h = absurd h
-  script_refused ss (refusals.TooLong w) second h = absurd h
-  script_refused ss (refusals.Refused which.Module fault) second h = absurd cc
-  script_refused ss (refusals.Refused which.Script fault) second h = record {
+  pub script_refused : (ss : List ℕ) (e : Refusal) → IsRead (between held' mid after) f.for_script ss → GetsScript ms code ss (Err e) → Prepares (between held before after) f (Err e)
+  script_refused ss (Unread w) second h = absurd h
+  script_refused ss (TooLong w) second h = absurd h
+  script_refused ss (Refused which.Module line column fault) second h = absurd cc
+  script_refused ss (Refused which.Script line column fault) second h = record {
     ms = ms;
     ss = ss;
     told_module = read.told;
     told_script = told_from held held' f.for_script ss same second.told;
-    due_is = record {
-      tree = is.tree;
-      is_module = is.is_module;
-      fault = fault;
-      none = record { short = h.1.short; fault_is = subst (λ (x : Signature). IsScriptFault x ss fault) is.stands.signature h.1.fault_is };
-      message = refl;
-    };
-    fetched = both_stay before mid after read.fetched second.fetched;
+    files_are = (read.short, (is_module_file ms code is, (second.short, h.1)));
+    none_failed = both_stay before mid after read.none_failed second.none_failed;
   }
-  script_refused ss refusals.Memory second h = tt
+  script_refused ss (NotBuilt which.Module) second h = absurd cc
+  script_refused ss (NotBuilt which.Script) second h = record {
+    ms = ms;
+    ss = ss;
+    told_module = read.told;
+    told_script = told_from held held' f.for_script ss same second.told;
+    files_are = (read.short, (is_module_file ms code is, (second.short, h.1)));
+    none_failed = both_stay before mid after read.none_failed second.none_failed;
+  }
+  script_refused ss Memory second h = tt
 
-  pub script_ready : (ss : List ℕ) (s : Script) → IsRead (fetches_of held' mid after) f.for_script ss → GetsScript code.signature ss (Ok s) → IsReady (fetches_of held before after) f code s
+  pub script_ready : (ss : List ℕ) (s : ScriptCode) → IsRead (between held' mid after) f.for_script ss → GetsScript ms code ss (Ok s) → Prepares (between held before after) f (Ok (code, s))
   script_ready ss s second h = record {
     ms = ms;
     ss = ss;
-    tree = is.tree;
     told_module = read.told;
     told_script = told_from held held' f.for_script ss same second.told;
-    is_module = is.is_module;
-    is_script = record { short = h.short; file = subst (λ (x : Signature). IsScriptFile x ss s) is.stands.signature h.file };
-    stands = is.stands;
-    fetched = both_stay before mid after read.fetched second.fetched;
+    files_are = (read.short, (is_module_file ms code is, (second.short, h 1000000)));
+    none_failed = both_stay before mid after read.none_failed second.none_failed;
   }

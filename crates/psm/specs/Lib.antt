@@ -1,9 +1,9 @@
 pub mod Status
 pub mod Words
 pub mod Message
-pub mod Put
-pub mod Script
+pub mod Found
 pub mod Program
+pub mod Fetches
 pub mod Contract
 pub mod Prepared
 pub mod Report

@@ -1,22 +1,19 @@
 -- What is known of the two files, step by step.
-use Rattle.std.specs.Prelude.{◌≡◌, ℕ, ◌<◌, ◌≤◌, List, [], ◌∷◌, length, Result, Ok, Err}
+use Rattle.std.specs.Prelude.{◌≡◌, ℕ, ◌<◌, ◌≤◌, List, length, Option, Some, None, IfSome, Result, Ok, Err}
 use Rattle.std.specs.Global.{Vec}
-use Rattle.psm_io.specs.Count.{Rose}
-use Rattle.psm_built.specs.declared.tree.Module.{Module}
-use Rattle.psm_built.specs.declared.tree.Signature.{Signature}
-use Rattle.psm_built.specs.declared.tree.Script.{Script}
-use Rattle.psm_machine.specs.declared.code.Code.{Code}
-use Rattle.psm_build.specs.Building.{StandsFor}
+use Rattle.psm_build.specs.Program.{IsModuleFault, IsModuleNotBuilt, IsScriptFault, IsScriptNotBuilt, ComesTo, StandsFor, Code, ScriptCode}
+use Rattle.psm_build.specs.declared.fault.BuildFault.{BuildFault}
+use Rattle.psm_build.specs.declared.fault.BuildFault.TheVariants as builds
+use Rattle.psm_script.specs.Session.{Session}
+use Rattle.psm_script.specs.Played.{played}
+use Rattle.psm.specs.Fetches.{Fetches, Tells, NoneFailed, IsUnread, Finds}
+use Rattle.psm.specs.Found.{most_bytes, turns_bound, Found}
+use Rattle.psm.specs.Found as found
 use Rattle.psm.specs.Words.{Files}
-use Rattle.psm.specs.Message.{too_long, cannot_read, refusal_line}
-use Rattle.psm.specs.Program.{most_bytes, IsModuleOf, IsNoModule, IsScriptOf, IsScriptFor, IsNoScriptFor}
-use Rattle.psm.specs.Contract.{Fetches, Tells, NoneFailed, IsDue}
 use Rattle.psm.specs.declared.prepare.Which.{Which}
 use Rattle.psm.specs.declared.prepare.Which.TheVariants as which
 use Rattle.psm.specs.declared.prepare.Refusal.{Refusal}
-use Rattle.psm.specs.declared.prepare.Refusal.TheVariants as refusals
-use Rattle.psm.specs.declared.status.Status.{Status}
-use Rattle.psm.specs.declared.status.Status.TheVariants as status
+use Rattle.psm.specs.declared.prepare.Refusal.TheVariants.{Unread, TooLong, Refused, NotBuilt, Memory}
 
 -- ---- a file's bytes
 
@@ -24,94 +21,64 @@ use Rattle.psm.specs.declared.status.Status.TheVariants as status
 pub record IsRead (fetches : Fetches) (name bytes : List ℕ) : Type 0 where
   pub told : Tells (fetches.held name) bytes
   pub short : length bytes ≤ most_bytes
-  pub fetched : NoneFailed fetches
+  pub none_failed : NoneFailed fetches
 
 -- a file that is too long
 pub record IsTooLong (fetches : Fetches) (name : List ℕ) : Type 0 where
   pub bytes : List ℕ
   pub told : Tells (fetches.held name) bytes
   pub long : most_bytes < length bytes
-  pub fetched : NoneFailed fetches
-
--- a file that could not be read
-pub record IsFailed (fetches : Fetches) (name : List ℕ) : Type 0 where
-  pub rose : Rose (fetches.before name) (fetches.after name)
+  pub none_failed : NoneFailed fetches
 
 abbrev pub Gets : Fetches → List ℕ → Which → Result (Vec ℕ) Refusal → Type 0
 Gets fetches name w (Ok bytes) = IsRead fetches name bytes.items
-Gets fetches name w (Err (refusals.Unread x)) = (x ≡ w) × IsFailed fetches name
-Gets fetches name w (Err (refusals.TooLong x)) = (x ≡ w) × IsTooLong fetches name
-Gets fetches name w (Err (refusals.Refused x fault)) = ⊥
-Gets fetches name w (Err refusals.Memory) = Unit {0}
+Gets fetches name w (Err (Unread x)) = (x ≡ w) × IsUnread fetches name
+Gets fetches name w (Err (TooLong x)) = (x ≡ w) × IsTooLong fetches name
+Gets fetches name w (Err (Refused x line column fault)) = ⊥
+Gets fetches name w (Err (NotBuilt x)) = ⊥
+Gets fetches name w (Err Memory) = Unit {0}
+
+-- why nothing is run, where one of the files is not built
+abbrev pub refusal_of : Which → BuildFault → Refusal
+refusal_of w (builds.Refused line column fault) = Refused w line column fault
+refusal_of w builds.NotBuilt = NotBuilt w
+refusal_of w builds.Memory = Memory
 
 -- ---- the module
 
--- the bytes are within the bound, and the module file of a module, for which the code stands
-pub record IsCodeWithin (bytes : List ℕ) (code : Code) : Type 0 where
-  pub tree : Module
-  pub is_module : IsModuleOf bytes tree
-  pub stands : StandsFor code tree
-
 abbrev pub GetsCode : List ℕ → Result Code Refusal → Type 0
-GetsCode bytes (Ok code) = IsCodeWithin bytes code
-GetsCode bytes (Err (refusals.Refused x fault)) = (x ≡ which.Module) × IsNoModule bytes fault
-GetsCode bytes (Err refusals.Memory) = Unit {0}
-GetsCode bytes (Err (refusals.Unread x)) = ⊥
-GetsCode bytes (Err (refusals.TooLong x)) = ⊥
+GetsCode ms (Ok code) = StandsFor ms code
+GetsCode ms (Err (Refused x line column fault)) = (x ≡ which.Module) × IsModuleFault ms line column fault
+GetsCode ms (Err (NotBuilt x)) = (x ≡ which.Module) × IsModuleNotBuilt ms
+GetsCode ms (Err Memory) = Unit {0}
+GetsCode ms (Err (Unread x)) = ⊥
+GetsCode ms (Err (TooLong x)) = ⊥
 
 -- ---- the script
 
-abbrev pub GetsScript : Signature → List ℕ → Result Script Refusal → Type 0
-GetsScript signature bytes (Ok s) = IsScriptFor signature bytes s
-GetsScript signature bytes (Err (refusals.Refused x fault)) = (x ≡ which.Script) × IsNoScriptFor signature bytes fault
-GetsScript signature bytes (Err refusals.Memory) = Unit {0}
-GetsScript signature bytes (Err (refusals.Unread x)) = ⊥
-GetsScript signature bytes (Err (refusals.TooLong x)) = ⊥
+abbrev pub GetsScript : List ℕ → Code → List ℕ → Result ScriptCode Refusal → Type 0
+GetsScript ms code ss (Ok commands) = (turns : ℕ) → ComesTo ms ss turns (played code commands turns)
+GetsScript ms code ss (Err (Refused x line column fault)) = (x ≡ which.Script) × IsScriptFault ms ss line column fault
+GetsScript ms code ss (Err (NotBuilt x)) = (x ≡ which.Script) × IsScriptNotBuilt ms ss
+GetsScript ms code ss (Err Memory) = Unit {0}
+GetsScript ms code ss (Err (Unread x)) = ⊥
+GetsScript ms code ss (Err (TooLong x)) = ⊥
 
 -- ---- both
 
-abbrev pub name_of : Files → Which → List ℕ
-name_of f which.Module = f.for_module
-name_of f which.Script = f.for_script
+-- what was found of the two files, as a refusal tells it
+abbrev pub found_of : Refusal → Option (Found (Found Session))
+found_of (Unread which.Module) = Some found.Unread
+found_of (Unread which.Script) = Some (found.Accepted found.Unread)
+found_of (TooLong which.Module) = Some found.Long
+found_of (TooLong which.Script) = Some (found.Accepted found.Long)
+found_of (Refused which.Module line column fault) = Some (found.Refused line column fault)
+found_of (Refused which.Script line column fault) = Some (found.Accepted (found.Refused line column fault))
+found_of (NotBuilt which.Module) = Some found.NotBuilt
+found_of (NotBuilt which.Script) = Some (found.Accepted found.NotBuilt)
+found_of Memory = None
 
--- the status and the line of a file that is not accepted
-abbrev pub status_of_refused : Which → Status
-status_of_refused which.Module = status.ModuleRefused
-status_of_refused which.Script = status.ScriptRefused
-
--- the status of a refusal
-abbrev pub status_of : Refusal → Status
-status_of (refusals.Unread w) = status.ReadFault
-status_of (refusals.TooLong w) = status.TooLong
-status_of (refusals.Refused w fault) = status_of_refused w
-status_of refusals.Memory = status.Memory
-
--- the line of a refusal
-abbrev pub line_of : Files → Refusal → List ℕ
-line_of f (refusals.Unread w) = cannot_read (name_of f w)
-line_of f (refusals.TooLong w) = too_long (name_of f w)
-line_of f (refusals.Refused w fault) = refusal_line w fault
-line_of f refusals.Memory = []
-
--- code and script of the two files
-pub record IsReady (fetches : Fetches) (f : Files) (code : Code) (s : Script) : Type 0 where
-  pub ms : List ℕ
-  pub ss : List ℕ
-  pub tree : Module
-  pub told_module : Tells (fetches.held f.for_module) ms
-  pub told_script : Tells (fetches.held f.for_script) ss
-  pub is_module : IsModuleOf ms tree
-  pub is_script : IsScriptOf tree ss s
-  pub stands : StandsFor code tree
-  pub fetched : NoneFailed fetches
-
--- a refusal is the one that is due
-abbrev pub IsDueRefusal : Fetches → Files → Refusal → Type 0
-IsDueRefusal fetches f refusal = IsDue fetches f (status_of refusal) (line_of f refusal ∷ [])
-
-abbrev pub Prepares : Fetches → Files → Result (Code × Script) Refusal → Type 0
-Prepares fetches f (Ok r) = IsReady fetches f r.0 r.1
-Prepares fetches f (Err (refusals.Unread w)) = IsFailed fetches (name_of f w)
-Prepares fetches f (Err (refusals.TooLong w)) = IsDueRefusal fetches f (refusals.TooLong w)
-Prepares fetches f (Err (refusals.Refused w fault)) = IsDueRefusal fetches f (refusals.Refused w fault)
-Prepares fetches f (Err refusals.Memory) = Unit {0}
+-- both files are accepted, and come to what the code and the commands play; or a refusal tells what was found
+abbrev pub Prepares : Fetches → Files → Result (Code × ScriptCode) Refusal → Type 0
+Prepares fetches f (Ok r) = Finds fetches f (found.Accepted (found.Accepted (played r.0 r.1 turns_bound)))
+Prepares fetches f (Err refusal) = IfSome (found_of refusal) (Finds fetches f)

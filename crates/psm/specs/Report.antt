@@ -1,35 +1,32 @@
--- What is put for a status.
-use Rattle.std.specs.Prelude.{◌≡◌, ℕ, ◌⊎◌, List, [], ◌∷◌}
-use Rattle.psm_built.specs.Session.{Session, Done, Stopped}
+-- What is put for a refusal, and for a session.
+use Rattle.std.specs.Prelude.{◌≡◌, ℕ, ◌⊎◌, List, []}
+use Rattle.psm_script.specs.Put.{Sunk, PutAll, PutSome, PutFirst}
+use Rattle.psm_script.specs.Session.{Session, Done, Stopped}
+use Rattle.psm.specs.Contract.{IsPut, IsBroken, RunsOut}
+use Rattle.psm.specs.Message.{cannot_read, too_long, refusal_line, not_built_line}
+use Rattle.psm.specs.Program.{Owed, with_line, status_of_refused}
 use Rattle.psm.specs.Words.{Files}
-use Rattle.psm.specs.Put.{Sunk, PutAll, PutSome, PutFirst}
-use Rattle.psm.specs.Prepared.{status_of, line_of}
+use Rattle.psm.specs.declared.prepare.Which.{Which}
+use Rattle.psm.specs.declared.prepare.Which.TheVariants as which
 use Rattle.psm.specs.declared.prepare.Refusal.{Refusal}
-use Rattle.psm.specs.declared.prepare.Refusal.TheVariants as refusals
+use Rattle.psm.specs.declared.prepare.Refusal.TheVariants.{Unread, TooLong, Refused, NotBuilt, Memory}
 use Rattle.psm.specs.declared.status.Status.{Status}
 use Rattle.psm.specs.declared.status.Status.TheVariants as status
 
--- the line is put for the status, or a put failed, or memory ran out
-pub record IsPut (line : List ℕ) (due : Status) (sunk : Sunk) (answer : Status) : Type 0 where
-  pub answer_is : answer ≡ due
-  pub put : PutAll sunk (line ∷ [])
+-- the line is put for its status, or a put failed, or memory ran out
+abbrev pub PutsLine : Owed → Sunk → Status → Type 0
+PutsLine owed sunk answer = IsPut owed sunk answer ⊎ IsBroken owed sunk answer ⊎ RunsOut sunk answer
 
-pub record IsBroken (line : List ℕ) (sunk : Sunk) (answer : Status) : Type 0 where
-  pub answer_is : answer ≡ status.WriteFault
-  pub put : PutSome sunk (line ∷ [])
-
-pub record IsOut (sunk : Sunk) (answer : Status) : Type 0 where
-  pub answer_is : answer ≡ status.Memory
-  pub put : PutAll sunk []
-
-abbrev pub Puts : List ℕ → Status → Sunk → Status → Type 0
-Puts line due sunk answer = IsPut line due sunk answer ⊎ IsBroken line sunk answer ⊎ IsOut sunk answer
+abbrev pub name_of : Files → Which → List ℕ
+name_of f which.Module = f.for_module
+name_of f which.Script = f.for_script
 
 abbrev pub Reports : Refusal → Files → Sunk → Status → Type 0
-Reports refusals.Memory f sunk answer = IsOut sunk answer
-Reports (refusals.Unread w) f sunk answer = Puts (line_of f (refusals.Unread w)) (status_of (refusals.Unread w)) sunk answer
-Reports (refusals.TooLong w) f sunk answer = Puts (line_of f (refusals.TooLong w)) (status_of (refusals.TooLong w)) sunk answer
-Reports (refusals.Refused w fault) f sunk answer = Puts (line_of f (refusals.Refused w fault)) (status_of (refusals.Refused w fault)) sunk answer
+Reports (Unread w) f sunk answer = PutsLine (with_line status.ReadFault (cannot_read (name_of f w))) sunk answer
+Reports (TooLong w) f sunk answer = PutsLine (with_line status.TooLong (too_long (name_of f w))) sunk answer
+Reports (Refused w line column fault) f sunk answer = PutsLine (with_line (status_of_refused w) (refusal_line w line column fault)) sunk answer
+Reports (NotBuilt w) f sunk answer = PutsLine (with_line (status_of_refused w) (not_built_line w)) sunk answer
+Reports Memory f sunk answer = RunsOut sunk answer
 
 -- the status of a session's end, with what is written
 abbrev pub Runs : Session → Sunk → Status → Type 0

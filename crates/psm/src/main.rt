@@ -1,11 +1,9 @@
 //! `psm`: compiles an SQL server module and runs it over a script.
 #![tactic(auto)]
 
-mod fault;
-mod piece;
+mod line;
 mod prepare;
 mod report;
-mod script;
 mod status;
 mod top;
 mod words;

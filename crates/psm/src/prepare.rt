@@ -1,14 +1,14 @@
 //! From two file names to code and script, or the first thing that fails.
 ghost use Rattle.std.specs.Prelude.{◌≡◌, ◌≤◌, ℕ, List as Seq, length};
-ghost use Rattle.psm.specs.Program.{most_bytes};
-ghost use Rattle.psm.specs.Prepared.{Prepares, GetsCode, GetsScript, Gets};
-ghost use Rattle.psm.specs.declared.prepare.Which.TheVariants as which;
+ghost use Rattle.psm_build.specs.Program.{StandsFor};
+ghost use Rattle.psm.specs.Fetches.{fetches_of};
+ghost use Rattle.psm.specs.Found.{most_bytes};
+ghost use Rattle.psm.specs.Prepared.{Prepares, GetsCode, GetsScript, Gets, refusal_of};
+ghost use Rattle.psm.specs.Words.{named};
 
 use crate::words::Files;
-use psm_build::{BuildFault, Fault, build, build_script};
-use psm_built::Script;
+use psm_build::{BuildFault, Code, Fault, ScriptCode, build, build_script};
 use psm_io::{Shelf, ShelfFault};
-use psm_machine::Code;
 use std::alloc::Global;
 
 /// The most bytes of a file.
@@ -28,8 +28,15 @@ pub enum Refusal {
     Unread(Which),
     /// The file is too long.
     TooLong(Which),
-    /// The file is refused for that reason.
-    Refused(Which, Fault),
+    /// The file has this first fault, at that line and column.
+    Refused {
+        which: Which,
+        line: u32,
+        column: u32,
+        fault: Fault,
+    },
+    /// The file is not of the forms that run.
+    NotBuilt(Which),
     Memory,
 }
 
@@ -39,9 +46,8 @@ pub fn prepare<F: Shelf>(
     alloc: Global,
     files: &Files<'_>,
     shelf: &mut F,
-) -> Result<(Code, Script), Refusal>
-    ensures { Prepares (record { held = F.held shelf.old; before = F.faults shelf.old; after = F.faults shelf.new })
-        (record { for_module = files.now.for_module.now; for_script = files.now.for_script.now }) result }
+) -> Result<(Code, ScriptCode), Refusal>
+    ensures { Prepares (fetches_of F.held F.faults shelf.old shelf.new) (named files.now.for_module.now files.now.for_script.now) result }
 {
     let bytes = fetch(alloc, files.for_module, Which::Module, shelf)?;
     let code = code_of(alloc, &bytes)?;
@@ -57,7 +63,7 @@ fn fetch<F: Shelf>(
     which: Which,
     shelf: &mut F,
 ) -> Result<Vec<u8>, Refusal>
-    ensures gets { Gets (record { held = F.held shelf.old; before = F.faults shelf.old; after = F.faults shelf.new }) name.now which result }
+    ensures gets { Gets (fetches_of F.held F.faults shelf.old shelf.new) name.now which result }
     ensures told { (n : Seq ℕ) → F.held shelf.new n ≡ F.held shelf.old n }
 {
     match shelf.fetch(alloc, name, MOST_BYTES) {
@@ -75,19 +81,37 @@ fn code_of(alloc: Global, bytes: &[u8]) -> Result<Code, Refusal>
 {
     match build(alloc, bytes) {
         Ok(code) => Ok(code),
-        Err(BuildFault::Refused(fault)) => Err(Refusal::Refused(Which::Module, fault)),
-        Err(BuildFault::Memory) => Err(Refusal::Memory),
+        Err(fault) => Err(refused_by(Which::Module, fault)),
     }
 }
 
 // A script over the code.
-fn script_over(alloc: Global, code: &Code, bytes: &[u8]) -> Result<Script, Refusal>
+fn script_over(alloc: Global, code: &Code, bytes: &[u8]) -> Result<ScriptCode, Refusal>
     requires { length bytes.now ≤ most_bytes }
-    ensures { GetsScript code.now.signature bytes.now result }
+    ensures { (ms : Seq ℕ) → StandsFor ms code.now → GetsScript ms code.now bytes.now result }
 {
     match build_script(alloc, code, bytes) {
         Ok(script) => Ok(script),
-        Err(BuildFault::Refused(fault)) => Err(Refusal::Refused(Which::Script, fault)),
-        Err(BuildFault::Memory) => Err(Refusal::Memory),
+        Err(fault) => Err(refused_by(Which::Script, fault)),
+    }
+}
+
+// Why nothing is run, where one of the files is not built.
+fn refused_by(which: Which, fault: BuildFault) -> Refusal
+    ensures { result ≡ refusal_of which fault }
+{
+    match fault {
+        BuildFault::Refused {
+            line,
+            column,
+            fault,
+        } => Refusal::Refused {
+            which,
+            line,
+            column,
+            fault,
+        },
+        BuildFault::NotBuilt => Refusal::NotBuilt(which),
+        BuildFault::Memory => Refusal::Memory,
     }
 }

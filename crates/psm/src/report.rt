@@ -1,29 +1,29 @@
 //! What is put for a refusal, and for a script that is run.
 ghost use Rattle.std.specs.Prelude.{◌≡◌, ◌++◌, IfOk};
-ghost use Rattle.psm_machine.specs.Played.{played};
-ghost use Rattle.psm.specs.Program.{turns_bound};
+ghost use Rattle.psm_script.specs.Played.{played};
+ghost use Rattle.psm_script.specs.Put.{sunk_of};
+ghost use Rattle.psm.specs.Found.{turns_bound};
 ghost use Rattle.psm.specs.Message.{refusal_line, usage};
-ghost use Rattle.psm.specs.Prepared.{name_of, status_of_refused};
-ghost use Rattle.psm.specs.Report.{Puts, Reports, Runs};
+ghost use Rattle.psm.specs.Program.{with_line, status_of_refused};
+ghost use Rattle.psm.specs.Report.{PutsLine, Reports, Runs, name_of};
+ghost use Rattle.psm.specs.Words.{named};
 ghost use Rattle.psm.specs.declared.status.Status.TheVariants as status;
 
-use crate::fault::line_of;
+use crate::line::{fault_line, unbuilt_line};
 use crate::prepare::{Refusal, Which};
-use crate::script::{ScriptEnd, run_script};
 use crate::status::Status;
 use crate::words::Files;
-use psm_build::Fault;
-use psm_built::Script;
+use psm_build::{Code, Fault, ScriptCode};
 use psm_io::{Sink, SinkFault};
-use psm_machine::Code;
+use psm_script::{ScriptEnd, run_script};
 use std::alloc::{AllocError, Global};
 
 /// The turns of a session.
 const TURNS: u64 = 1_000_000;
 
 /// Runs the script over the code, and puts the piece of each command.
-pub fn play<K: Sink>(alloc: Global, code: &Code, script: &Script, out: &mut K) -> Status
-    ensures { Runs (played code.now script.now turns_bound) (record { before = K.written out.old; after = K.written out.new; faults_before = K.faults out.old; faults_after = K.faults out.new }) result }
+pub fn play<K: Sink>(alloc: Global, code: &Code, script: &ScriptCode, out: &mut K) -> Status
+    ensures { Runs (played code.now script.now turns_bound) (sunk_of K.written K.faults out.old out.new) result }
 {
     let mut turns = TURNS;
     match run_script(alloc, code, script, out, &mut turns) {
@@ -36,15 +36,14 @@ pub fn play<K: Sink>(alloc: Global, code: &Code, script: &Script, out: &mut K) -
 
 /// Puts the line that shows the form of the words.
 pub fn report_usage<K: Sink>(out: &mut K) -> Status
-    ensures { Puts usage status.Usage (record { before = K.written out.old; after = K.written out.new; faults_before = K.faults out.old; faults_after = K.faults out.new }) result }
+    ensures { PutsLine (with_line status.Usage usage) (sunk_of K.written K.faults out.old out.new) result }
 {
     put_line(b"usage: psm run M S\n", Status::Usage, out)
 }
 
 /// Puts the line of a refusal.
 pub fn report<K: Sink>(alloc: Global, files: &Files<'_>, refusal: Refusal, out: &mut K) -> Status
-    ensures { Reports refusal (record { for_module = files.now.for_module.now; for_script = files.now.for_script.now })
-        (record { before = K.written out.old; after = K.written out.new; faults_before = K.faults out.old; faults_after = K.faults out.new }) result }
+    ensures { Reports refusal (named files.now.for_module.now files.now.for_script.now) (sunk_of K.written K.faults out.old out.new) result }
 {
     match refusal {
         Refusal::Unread(which) => {
@@ -60,16 +59,31 @@ pub fn report<K: Sink>(alloc: Global, files: &Files<'_>, refusal: Refusal, out: 
             };
             put_line(&line, Status::TooLong, out)
         }
-        Refusal::Refused(which, fault) => report_refused(alloc, which, fault, out),
+        Refusal::Refused {
+            which,
+            line,
+            column,
+            fault,
+        } => report_fault(alloc, which, line, column, fault, out),
+        Refusal::NotBuilt(which) => {
+            put_line(unbuilt_line(which).as_bytes(), refused_status(which), out)
+        }
         Refusal::Memory => Status::Memory,
     }
 }
 
-// Puts the line of a file that is refused.
-fn report_refused<K: Sink>(alloc: Global, which: Which, fault: Fault, out: &mut K) -> Status
-    ensures { Puts (refusal_line which fault) (status_of_refused which) (record { before = K.written out.old; after = K.written out.new; faults_before = K.faults out.old; faults_after = K.faults out.new }) result }
+// Puts the line of a file that has a fault.
+fn report_fault<K: Sink>(
+    alloc: Global,
+    which: Which,
+    line: u32,
+    column: u32,
+    fault: Fault,
+    out: &mut K,
+) -> Status
+    ensures { PutsLine (with_line (status_of_refused which) (refusal_line which line column fault)) (sunk_of K.written K.faults out.old out.new) result }
 {
-    match line_of(alloc, which, fault) {
+    match fault_line(alloc, which, line, column, fault) {
         Ok(line) => put_line(&line, refused_status(which), out),
         Err(_) => Status::Memory,
     }
@@ -86,7 +100,7 @@ fn refused_status(which: Which) -> Status
 
 // The name of one of the files.
 fn name<'a>(files: &Files<'a>, which: Which) -> &'a str
-    ensures { result.now ≡ name_of (record { for_module = files.now.for_module.now; for_script = files.now.for_script.now }) which }
+    ensures { result.now ≡ name_of (named files.now.for_module.now files.now.for_script.now) which }
 {
     match which {
         Which::Module => files.for_module,
@@ -106,7 +120,7 @@ fn line_about(alloc: Global, before: &str, name: &str, after: &str) -> Result<Ve
 
 // Puts a line for a status.
 fn put_line<K: Sink>(line: &[u8], status: Status, out: &mut K) -> Status
-    ensures { Puts line.now status (record { before = K.written out.old; after = K.written out.new; faults_before = K.faults out.old; faults_after = K.faults out.new }) result }
+    ensures { PutsLine (with_line status line.now) (sunk_of K.written K.faults out.old out.new) result }
 {
     match out.put(line) {
         Ok(()) => status,

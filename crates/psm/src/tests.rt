@@ -1,3 +1,4 @@
+//! The top call over a shelf and a sink in memory.
 use crate::status::Status;
 use crate::top::psm;
 use psm_io::{MemShelf, MemSink};
@@ -14,13 +15,12 @@ const FIVE_SEVEN: &str = "CALL P ( 5 , 7 , ? ) ;\n";
 
 const THREE_LINES: &str = "1 CALL P\nB = 3\nC = NULL\nOK\n";
 
-// The outside of a call: the files M and S where they are there, the numbers of the fetches that fail,
-// and the number of bytes that a failing put keeps.
+// The outside of a call: the files M and S where they are there, the number of the fetch that fails, and
+// the number of bytes that a failing put keeps.
 #[derive(Drop)]
 struct Outside<'a> {
-    module_file: Option<&'a str>,
-    script: Option<&'a str>,
-    fails: &'a [u32],
+    files: (Option<&'a str>, Option<&'a str>),
+    fails: Option<u32>,
     keeps: Option<usize>,
 }
 
@@ -31,13 +31,16 @@ fn file(alloc: Global, name: &str, text: &str) -> Result<(String, Vec<u8>), Fail
 
 fn shelf(alloc: Global, outside: &Outside) -> Result<MemShelf, Fail> {
     let mut files = Vec::new(alloc);
-    if let Some(text) = outside.module_file {
+    if let Some(text) = outside.files.0 {
         files.push(file(alloc, "M", text)?)?;
     }
-    if let Some(text) = outside.script {
+    if let Some(text) = outside.files.1 {
         files.push(file(alloc, "S", text)?)?;
     }
-    let fails = Vec::from_slice(alloc, outside.fails)?;
+    let mut fails = Vec::new(alloc);
+    if let Some(number) = outside.fails {
+        fails.push(number)?;
+    }
     Ok(MemShelf::new(alloc, files, fails))
 }
 
@@ -69,9 +72,8 @@ fn call(alloc: Global, given: &str, outside: &Outside) -> Result<(Status, String
 
 fn files<'a>(module_file: &'a str, script: &'a str) -> Outside<'a> {
     Outside {
-        module_file: Some(module_file),
-        script: Some(script),
-        fails: &[],
+        files: (Some(module_file), Some(script)),
+        fails: None,
         keeps: None,
     }
 }
@@ -272,109 +274,64 @@ fn other_words_show_the_usage(rt: HostRuntime) -> Result<(), Fail> {
 
 #[test]
 fn faults_outside_have_their_statuses(rt: HostRuntime) -> Result<(), Fail> {
-    let module_file = Some(THREE_MODES);
-    let script = Some(FIVE_SEVEN);
-    for (shows, outside, status, written) in [
-        (
-            "fetch 1",
-            Outside {
-                module_file,
-                script,
-                fails: &[1],
-                keeps: None,
-            },
-            Status::ReadFault,
-            "cannot read M\n",
-        ),
-        (
-            "fetch 2",
-            Outside {
-                module_file,
-                script,
-                fails: &[2],
-                keeps: None,
-            },
-            Status::ReadFault,
-            "cannot read S\n",
-        ),
-        (
-            "fetch 3",
-            Outside {
-                module_file,
-                script,
-                fails: &[3],
-                keeps: None,
-            },
-            Status::Done,
-            THREE_LINES,
-        ),
+    let no_module = "cannot read M\n";
+    let no_script = "cannot read S\n";
+    let syntax = "module 1:1 syntax fault\n";
+    let both = (Some(THREE_MODES), Some(FIVE_SEVEN));
+    let module_alone = (Some(THREE_MODES), None);
+    for (shows, files, fails, keeps, status, written) in [
+        ("fetch 1", both, Some(1), None, Status::ReadFault, no_module),
+        ("fetch 2", both, Some(2), None, Status::ReadFault, no_script),
+        ("fetch 3", both, Some(3), None, Status::Done, THREE_LINES),
         (
             "no module",
-            Outside {
-                module_file: None,
-                script,
-                fails: &[],
-                keeps: None,
-            },
+            (None, both.1),
+            None,
+            None,
             Status::ReadFault,
-            "cannot read M\n",
+            no_module,
         ),
         (
             "no script",
-            Outside {
-                module_file,
-                script: None,
-                fails: &[],
-                keeps: None,
-            },
+            module_alone,
+            None,
+            None,
             Status::ReadFault,
-            "cannot read S\n",
+            no_script,
         ),
         (
-            "keeps 0",
-            Outside {
-                module_file,
-                script,
-                fails: &[],
-                keeps: Some(0),
-            },
-            Status::WriteFault,
-            "",
+            "no module, no script",
+            (None, None),
+            None,
+            None,
+            Status::ReadFault,
+            no_module,
         ),
         (
-            "keeps 1",
-            Outside {
-                module_file,
-                script,
-                fails: &[],
-                keeps: Some(1),
-            },
-            Status::WriteFault,
-            "1",
+            "module refused, no script",
+            (Some(""), None),
+            None,
+            None,
+            Status::ModuleRefused,
+            syntax,
         ),
+        ("keeps 0", both, None, Some(0), Status::WriteFault, ""),
+        ("keeps 1", both, None, Some(1), Status::WriteFault, "1"),
         (
             "keeps all",
-            Outside {
-                module_file,
-                script,
-                fails: &[],
-                keeps: Some(1000),
-            },
+            both,
+            None,
+            Some(1000),
             Status::WriteFault,
             THREE_LINES,
         ),
-        (
-            "both",
-            Outside {
-                module_file,
-                script,
-                fails: &[1],
-                keeps: Some(6),
-            },
-            Status::WriteFault,
-            "cannot",
-        ),
+        ("both", both, Some(1), Some(6), Status::WriteFault, "cannot"),
     ] {
+        let outside = Outside {
+            files,
+            fails,
+            keeps,
+        };
         let (answer, text) = call(rt.alloc(), "run M S", &outside)?;
         assert_eq!(rt; answer, status, "at {shows}");
         assert_eq!(rt; text.as_str(), written, "at {shows}");

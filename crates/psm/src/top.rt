@@ -1,5 +1,7 @@
-ghost use Rattle.std.specs.Prelude.{map, string_bytes};
-ghost use Rattle.psm.specs.Contract.{Says, Completes};
+//! The program's one call.
+ghost use Rattle.psm_script.specs.Put.{sunk_of};
+ghost use Rattle.psm.specs.Fetches.{fetches_of};
+ghost use Rattle.psm.specs.Contract.{asked_of, Says, Completes};
 
 use crate::prepare::prepare;
 use crate::report::{play, report, report_usage};
@@ -10,10 +12,12 @@ use std::alloc::Global;
 
 /// Does what the words after the program's name say, and tells how it ended.
 pub fn psm<F: Shelf, K: Sink>(alloc: Global, words: &[String], shelf: &mut F, out: &mut K) -> Status
-    ensures says { Says (record { words = map string_bytes words.now; fetches = record { held = F.held shelf.old; before = F.faults shelf.old; after = F.faults shelf.new } })
-        (record { before = K.written out.old; after = K.written out.new; faults_before = K.faults out.old; faults_after = K.faults out.new }) result }
-    ensures completes { Completes (record { words = map string_bytes words.now; fetches = record { held = F.held shelf.old; before = F.faults shelf.old; after = F.faults shelf.new } })
-        (record { before = K.written out.old; after = K.written out.new; faults_before = K.faults out.old; faults_after = K.faults out.new }) result }
+    // Each status comes only for its cause, and what is written is what is due.
+    ensures says { Says (asked_of words.now (fetches_of F.held F.faults shelf.old shelf.new))
+        (sunk_of K.written K.faults out.old out.new) result }
+    // What is due is answered where nothing outside fails, unless memory runs out.
+    ensures completes { Completes (asked_of words.now (fetches_of F.held F.faults shelf.old shelf.new))
+        (sunk_of K.written K.faults out.old out.new) result }
 {
     match files_in(words) {
         None => report_usage(out),

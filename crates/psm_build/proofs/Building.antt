@@ -1,41 +1,45 @@
 -- What is answered for a file, from the answers of its steps.
-use Rattle.std.proofs.Common.{ℕ, List, Result, Ok, Err, subst}
-use Rattle.psm_token.specs.declared.token.Placed.{Placed}
-use Rattle.psm_grammar.specs.Language.{Lang}
-use Rattle.psm_built.specs.declared.tree.Module.{Module}
+use Rattle.std.proofs.Common.{◌≡◌, ℕ, List, Result, Ok, Err, refl}
+use Rattle.std.specs.Prelude.{IsOkUnless}
 use Rattle.psm_built.specs.declared.tree.Signature.{Signature}
 use Rattle.psm_built.specs.declared.tree.Script.{Script}
-use Rattle.psm_machine.specs.declared.code.Code.{Code}
-use Rattle.psm_build.specs.Source.{module_files, scripts, HasModule, HasScript, HasNoTree, IsFaultOf, IsModuleFile, IsScriptFile}
-use Rattle.psm_build.specs.Building.{ReadsTree, StandsFor, Builds, GivesCodeOf, BuildsScript, GivesScript}
-use Rattle.psm_build.specs.declared.fault.Fault.{Fault}
-use Rattle.psm_build.specs.declared.fault.Fault.TheVariants as faults
-use Rattle.psm_build.specs.declared.code.BuildFault.{BuildFault}
-use Rattle.psm_build.specs.declared.code.BuildFault.TheVariants as refusals
-use Rattle.psm_build.proofs.Sources.{module_once, module_not_refused, script_once, script_not_refused}
-
-fault_of_no_tree : {Y : Type 0} (L : Lang Placed Y) (IsBuilt : Y → Type 0) (bytes : List ℕ) (fault : Fault) → HasNoTree L bytes fault → IsFaultOf L IsBuilt bytes fault
-fault_of_no_tree L IsBuilt bytes (faults.Token f) h = h
-fault_of_no_tree L IsBuilt bytes (faults.Syntax place) h = h
-fault_of_no_tree L IsBuilt bytes (faults.Deep place) h = h
-fault_of_no_tree L IsBuilt bytes faults.NotBuilt h = absurd h
+use Rattle.psm_straight.specs.declared.code.Code.{Code}
+use Rattle.psm_tree.proofs.FileFits.{script_fit}
+use Rattle.psm_build.specs.Source.{module_files, scripts, IsScript, HasScript}
+use Rattle.psm_build.specs.Program.{IsModuleFile, StandsFor, IsScriptOf}
+use Rattle.psm_build.specs.Building.{ReadsTree, Builds, BuildsScript, BuildsOver, GivesScript}
+use Rattle.psm_build.specs.declared.fault.BuildFault.{BuildFault}
+use Rattle.psm_build.specs.declared.fault.BuildFault.TheVariants.{Refused, NotBuilt, Memory}
+use Rattle.psm_build.proofs.Sources.{tree_excludes, built_excludes}
+use Rattle.psm_build.proofs.Files.{module_exclusive, script_once, plays, fault_over, not_built_over}
 
 -- a file without a tree
 pub module_without_tree : (bytes : List ℕ) (e : BuildFault) → ReadsTree module_files bytes (Err e) → Builds bytes (Err e)
-module_without_tree bytes (refusals.Refused fault) h = fault_of_no_tree module_files HasModule bytes fault h
-module_without_tree bytes refusals.Memory h = tt
+module_without_tree bytes (Refused line column fault) h = h
+module_without_tree bytes NotBuilt h = absurd h
+module_without_tree bytes Memory h = tt
 
 pub script_without_tree : (signature : Signature) (bytes : List ℕ) (e : BuildFault) → ReadsTree scripts bytes (Err e) → BuildsScript signature bytes (Err e)
-script_without_tree signature bytes (refusals.Refused fault) h = fault_of_no_tree scripts (HasScript signature) bytes fault h
-script_without_tree signature bytes refusals.Memory h = tt
+script_without_tree signature bytes (Refused line column fault) h = h
+script_without_tree signature bytes NotBuilt h = absurd h
+script_without_tree signature bytes Memory h = tt
 
 -- the answer for a file that is one of those that run
-pub code_given : (bytes : List ℕ) (answer : Result Code BuildFault) → Builds bytes answer → (m : Module) → IsModuleFile bytes m → GivesCodeOf m answer
-code_given bytes (Ok code) h m is = subst (λ (x : Module). StandsFor code x) (module_once bytes h.tree m h.file is) h.stands
-code_given bytes (Err (refusals.Refused fault)) h m is = module_not_refused bytes m fault is h
-code_given bytes (Err refusals.Memory) h m is = tt
+pub module_given : (bytes : List ℕ) (answer : Result Code BuildFault) → Builds bytes answer → IsModuleFile bytes → IsOkUnless answer Memory
+module_given bytes (Ok code) h is = tt
+module_given bytes (Err (Refused line column fault)) h is = absurd ((module_exclusive bytes).file_or_fault line column fault is h)
+module_given bytes (Err NotBuilt) h is = absurd ((module_exclusive bytes).file_or_not_built is h)
+module_given bytes (Err Memory) h is = refl
 
-pub script_given : (signature : Signature) (bytes : List ℕ) (answer : Result Script BuildFault) → BuildsScript signature bytes answer → (s : Script) → IsScriptFile signature bytes s → GivesScript s answer
-script_given signature bytes (Ok t) h s is = script_once signature bytes t s h is
-script_given signature bytes (Err (refusals.Refused fault)) h s is = script_not_refused signature bytes s fault is h
-script_given signature bytes (Err refusals.Memory) h s is = tt
+pub script_given : (code : Code) (bytes : List ℕ) (answer : Result Script BuildFault) → BuildsScript code.signature bytes answer → (s : Script) → IsScriptOf code bytes s → GivesScript s answer
+script_given code bytes (Ok t) h s is = script_once code.signature bytes t s h is
+script_given code bytes (Err (Refused line column fault)) h s is = tree_excludes script_fit bytes line column fault is.tree is.tree_is h
+script_given code bytes (Err NotBuilt) h s is = built_excludes script_fit bytes (HasScript code.signature) is.tree is.tree_is (s, is.built) h
+script_given code bytes (Err Memory) h s is = tt
+
+-- the answer over the module file for which the code stands
+pub built_over : (code : Code) (ss : List ℕ) (answer : Result Script BuildFault) → BuildsScript code.signature ss answer → (ms : List ℕ) → StandsFor ms code → BuildsOver ms code ss answer
+built_over code ss (Ok s) h ms stands = λ turns. plays ms ss code s stands h turns
+built_over code ss (Err (Refused line column fault)) h ms stands = fault_over ms ss code line column fault stands h
+built_over code ss (Err NotBuilt) h ms stands = not_built_over ms ss code stands h
+built_over code ss (Err Memory) h ms stands = tt

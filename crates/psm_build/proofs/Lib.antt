@@ -1,2 +1,4 @@
+pub mod Reading
 pub mod Sources
+pub mod Files
 pub mod Building

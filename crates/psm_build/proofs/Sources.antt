@@ -1,30 +1,27 @@
--- A file stands for at most one tree, and one that stands for a tree is refused for no reason.
+-- The bytes of a file have at most one tree, or one fault, and not both.
 use Rattle.std.proofs.Common.{◌≡◌, ◌≢◌, ℕ, List, [], Ok, Err, refl, sym, ap, ◌∙◌, subst, inl, inr}
+use Rattle.psm_token.specs.declared.place.Place.{Place}
 use Rattle.psm_token.specs.declared.token.Placed.{Placed}
 use Rattle.psm_token.specs.Listed.{Tokens}
 use Rattle.psm_token.specs.Spells.{Spells}
-use Rattle.psm_token.proofs.Once.{spells_once, fault_excludes}
+use Rattle.psm_token.proofs.Once.{spells_once, first_fault_once, fault_excludes}
 use Rattle.psm_grammar.specs.Grammar.{Spells as Derives}
 use Rattle.psm_grammar.specs.Readers.{Out, Wrong, TooDeep, reads}
 use Rattle.psm_grammar.specs.Exact.{AtEnd, Holds}
 use Rattle.psm_grammar.proofs.Fitting.{Fit}
+use Rattle.psm_grammar.proofs.Whole.{only_answer}
 use Rattle.psm_tree.specs.ExprGrammar.{Gram}
 use Rattle.psm_tree.specs.Productions.{productions}
-use Rattle.psm_tree.specs.Reading.{most_levels}
+use Rattle.psm_tree.specs.Reading.{most_levels, place_of_rest, ReadsAll}
 use Rattle.psm_tree.specs.declared.fault.ParseFault.{ParseFault}
 use Rattle.psm_tree.specs.declared.fault.ParseFault.TheVariants as parse
 use Rattle.psm_tree.proofs.ExprFits.{after}
-use Rattle.psm_tree.proofs.FileFits.{file_fit, script_fit}
-use Rattle.psm_grammar.proofs.Whole.{only_answer}
 use Rattle.psm_tree.proofs.Readable.{height, readable}
-use Rattle.psm_built.proofs.Once as built
-use Rattle.psm_built.specs.declared.tree.Module.{Module}
-use Rattle.psm_built.specs.declared.tree.Signature.{Signature}
-use Rattle.psm_built.specs.declared.tree.Script.{Script}
-use Rattle.psm_built.specs.Built.{IsBuiltModule, IsBuiltScript}
-use Rattle.psm_build.specs.Source.{IsTreeOf, IsTreeFault, IsFaultOf, IsModuleFile, IsModuleFault, HasModule, IsScriptFile, IsScriptFault, HasScript}
+use Rattle.psm_build.specs.Told.{told_of_tokens, told_of_tree}
+use Rattle.psm_build.specs.Source.{IsTreeOf, IsTokenFault, IsTreeFault, IsFaultAt, IsUnbuilt}
 use Rattle.psm_build.specs.declared.fault.Fault.{Fault}
-use Rattle.psm_build.specs.declared.fault.Fault.TheVariants as faults
+use Rattle.psm_build.specs.declared.fault.BuildFault.{BuildFault}
+use Rattle.psm_build.specs.declared.fault.BuildFault.TheVariants.{Refused, Memory}
 
 value_or : {T Y : Type 0} → Y → Out T Y → Y
 value_or y (Ok r) = r.0
@@ -33,6 +30,15 @@ value_or y (Err e) = y
 rest_or : {T Y : Type 0} → List T → Out T Y → List T
 rest_or ts (Ok r) = r.1
 rest_or ts (Err e) = ts
+
+-- the fault of an answer for tokens with that end
+abbrev pub fault_from : {Y : Type 0} → Place → Out Placed Y → ParseFault
+fault_from end (Ok r) = parse.Syntax (place_of_rest end r.1)
+fault_from end (Err (Wrong rest)) = parse.Syntax (place_of_rest end rest)
+fault_from end (Err (TooDeep rest)) = parse.Deep (place_of_rest end rest)
+
+refused_not_memory : (line column : ℕ) (fault : Fault) → Memory ≡ Refused line column fault → ⊥
+refused_not_memory line column fault e = cc
 
 module _ {Y : Type 0} {g : Gram Y} {follow : List ℕ} (fit : Fit after follow g) (bytes : List ℕ) where
   -- an exact answer is the reader's
@@ -45,9 +51,39 @@ module _ {Y : Type 0} {g : Gram Y} {follow : List ℕ} (fit : Fit after follow g
       let e : us ≡ ts = spells_once bytes us ts s' s in
       read_so ts.tokens o h ∙ sym (read_so ts.tokens p (subst (λ (x : Tokens). Holds (Derives productions 0 g) AtEnd most_levels x.tokens p) e k))
 
+  -- two trees are one
   pub tree_once : (y z : Y) → IsTreeOf (Derives productions 0 g) bytes y → IsTreeOf (Derives productions 0 g) bytes z → y ≡ z
   unfolding value_or
   tree_once y z p q = ap (value_or y) (same_answer p.tokens q.tokens p.spelled q.spelled (Ok (y, [])) (Ok (z, [])) p.tree_is q.tree_is)
+
+  -- ---- faults of the tree
+
+  -- the exact answer that a fault comes from
+  record Answered (tokens : Tokens) (fault : ParseFault) : Type 0 where
+    answer : Out Placed Y
+    holds : Holds (Derives productions 0 g) AtEnd most_levels tokens.tokens answer
+    fault_is : fault ≡ fault_from tokens.end answer
+
+  answered : (tokens : Tokens) (fault : ParseFault) → fault ≢ parse.Memory → ReadsAll {X = Y} (Derives productions 0 g) (λ y. y) tokens (Err fault) → Answered tokens fault
+  answered tokens parse.Memory n h = absurd (n refl)
+  answered tokens (parse.Syntax place) n h = elim h.1.stop [
+    | inl s ↦ record { answer = Ok (s.0, h.0); holds = s.1; fault_is = ap parse.Syntax h.2 }
+    | inr b ↦ record { answer = Err (Wrong h.0); holds = b; fault_is = ap parse.Syntax h.2 }
+  ]
+  answered tokens (parse.Deep place) n h = record { answer = Err (TooDeep h.0); holds = h.1; fault_is = ap parse.Deep h.2 }
+
+  told_not_memory : (fault : ParseFault) (line column : ℕ) (f : Fault) → told_of_tree fault ≡ Refused line column f → fault ≢ parse.Memory
+  told_not_memory fault line column f e m = refused_not_memory line column f (sym (ap told_of_tree m) ∙ e)
+
+  -- two faults of the tree are one
+  tree_faults_once : (l c l' c' : ℕ) (f f' : Fault) → IsTreeFault (Derives productions 0 g) bytes (Refused l c f) → IsTreeFault (Derives productions 0 g) bytes (Refused l' c' f') → Refused l c f ≡ Refused l' c' f'
+  tree_faults_once l c l' c' f f' h k =
+      let a = answered h.tokens h.fault (told_not_memory h.fault l c f h.told_is) h.fault_is in
+      let b = answered k.tokens k.fault (told_not_memory k.fault l' c' f' k.told_is) k.fault_is in
+      let e : a.answer ≡ b.answer = same_answer h.tokens k.tokens h.spelled k.spelled a.answer b.answer a.holds b.holds in
+      let t : h.tokens ≡ k.tokens = spells_once bytes h.tokens k.tokens h.spelled k.spelled in
+      let faults : h.fault ≡ k.fault = a.fault_is ∙ ap (λ (o : Out Placed Y). fault_from h.tokens.end o) e ∙ ap (λ (x : Tokens). fault_from x.end b.answer) t ∙ sym b.fault_is in
+      sym h.told_is ∙ ap told_of_tree faults ∙ k.told_is
 
   ok_wrong : (y : Y) (rest : List Placed) → ◌≡◌ {A = Out Placed Y} (Ok (y, [])) (Err (Wrong rest)) → ⊥
   ok_wrong y rest e = cc
@@ -55,38 +91,30 @@ module _ {Y : Type 0} {g : Gram Y} {follow : List ℕ} (fit : Fit after follow g
   ok_deep : (y : Y) (rest : List Placed) → ◌≡◌ {A = Out Placed Y} (Ok (y, [])) (Err (TooDeep rest)) → ⊥
   ok_deep y rest e = cc
 
-  no_tree_fault : (y : Y) (fault : ParseFault) → fault ≢ parse.Memory → IsTreeOf (Derives productions 0 g) bytes y → IsTreeFault (Derives productions 0 g) bytes fault → ⊥
+  -- a tree excludes a fault of the tree
+  no_tree_fault : (y : Y) (tokens : Tokens) (fault : ParseFault) → fault ≢ parse.Memory → IsTreeOf (Derives productions 0 g) bytes y → Spells bytes tokens → ReadsAll {X = Y} (Derives productions 0 g) (λ y. y) tokens (Err fault) → ⊥
   unfolding rest_or
-  no_tree_fault y parse.Memory n p q = n refl
-  no_tree_fault y (parse.Syntax place) n p q = elim q.fault_is.1.stop [
-    | inl s ↦ s.2 (sym (ap (rest_or []) (same_answer p.tokens q.tokens p.spelled q.spelled (Ok (y, [])) (Ok (s.0, q.fault_is.0)) p.tree_is s.1)))
-    | inr b ↦ ok_wrong y q.fault_is.0 (same_answer p.tokens q.tokens p.spelled q.spelled (Ok (y, [])) (Err (Wrong q.fault_is.0)) p.tree_is b)
+  no_tree_fault y tokens parse.Memory n p s h = n refl
+  no_tree_fault y tokens (parse.Syntax place) n p s h = elim h.1.stop [
+    | inl r ↦ r.2 (sym (ap (rest_or []) (same_answer p.tokens tokens p.spelled s (Ok (y, [])) (Ok (r.0, h.0)) p.tree_is r.1)))
+    | inr b ↦ ok_wrong y h.0 (same_answer p.tokens tokens p.spelled s (Ok (y, [])) (Err (Wrong h.0)) p.tree_is b)
   ]
-  no_tree_fault y (parse.Deep place) n p q = ok_deep y q.fault_is.0 (same_answer p.tokens q.tokens p.spelled q.spelled (Ok (y, [])) (Err (TooDeep q.fault_is.0)) p.tree_is q.fault_is.1)
+  no_tree_fault y tokens (parse.Deep place) n p s h = ok_deep y h.0 (same_answer p.tokens tokens p.spelled s (Ok (y, [])) (Err (TooDeep h.0)) p.tree_is h.1)
 
-  syntax_told : (place : _) → parse.Syntax place ≢ parse.Memory
-  syntax_told place e = cc
+  -- ---- faults of the file
 
-  deep_told : (place : _) → parse.Deep place ≢ parse.Memory
-  deep_told place e = cc
+  -- a file with a tree has no fault
+  pub tree_excludes : (l c : ℕ) (f : Fault) (y : Y) → IsTreeOf (Derives productions 0 g) bytes y → IsFaultAt (Derives productions 0 g) bytes l c f → ⊥
+  tree_excludes l c f y p (inl h) = fault_excludes bytes h.fault p.tokens h.first p.spelled
+  tree_excludes l c f y p (inr h) = no_tree_fault y h.tokens h.fault (told_not_memory h.fault l c f h.told_is) p h.spelled h.fault_is
 
-  -- a file with a tree that is built has no fault
-  pub no_fault : (IsBuilt : Y → Type 0) (fault : Fault) (y : Y) → IsTreeOf (Derives productions 0 g) bytes y → IsBuilt y → IsFaultOf (Derives productions 0 g) IsBuilt bytes fault → ⊥
-  no_fault IsBuilt (faults.Token f) y p b h = fault_excludes bytes f p.tokens h p.spelled
-  no_fault IsBuilt (faults.Syntax place) y p b h = no_tree_fault y (parse.Syntax place) (syntax_told place) p h
-  no_fault IsBuilt (faults.Deep place) y p b h = no_tree_fault y (parse.Deep place) (deep_told place) p h
-  no_fault IsBuilt faults.NotBuilt y p b h = h.none (subst IsBuilt (tree_once y h.tree p h.tree_is) b)
+  -- two faults are one
+  pub fault_once : (l c l' c' : ℕ) (f f' : Fault) → IsFaultAt (Derives productions 0 g) bytes l c f → IsFaultAt (Derives productions 0 g) bytes l' c' f' → Refused l c f ≡ Refused l' c' f'
+  fault_once l c l' c' f f' (inl h) (inl k) = sym h.told_is ∙ ap told_of_tokens (first_fault_once bytes h.fault k.fault h.first k.first) ∙ k.told_is
+  fault_once l c l' c' f f' (inl h) (inr k) = absurd (fault_excludes bytes h.fault k.tokens h.first k.spelled)
+  fault_once l c l' c' f f' (inr h) (inl k) = absurd (fault_excludes bytes k.fault h.tokens k.first h.spelled)
+  fault_once l c l' c' f f' (inr h) (inr k) = tree_faults_once l c l' c' f f' h k
 
--- ---- module files and scripts
-
-pub module_once : (bytes : List ℕ) (m n : Module) → IsModuleFile bytes m → IsModuleFile bytes n → m ≡ n
-module_once bytes m n p q = built.module_once q.tree m n (subst (λ t. IsBuiltModule t m) (tree_once file_fit bytes p.tree q.tree p.tree_is q.tree_is) p.built) q.built
-
-pub module_not_refused : (bytes : List ℕ) (m : Module) (fault : Fault) → IsModuleFile bytes m → IsModuleFault bytes fault → ⊥
-module_not_refused bytes m fault p h = no_fault file_fit bytes HasModule fault p.tree p.tree_is (m, p.built) h
-
-pub script_once : (signature : Signature) (bytes : List ℕ) (s t : Script) → IsScriptFile signature bytes s → IsScriptFile signature bytes t → s ≡ t
-script_once signature bytes s t p q = built.script_once signature q.tree s t (subst (λ u. IsBuiltScript signature u s) (tree_once script_fit bytes p.tree q.tree p.tree_is q.tree_is) p.built) q.built
-
-pub script_not_refused : (signature : Signature) (bytes : List ℕ) (s : Script) (fault : Fault) → IsScriptFile signature bytes s → IsScriptFault signature bytes fault → ⊥
-script_not_refused signature bytes s fault p h = no_fault script_fit bytes (HasScript signature) fault p.tree p.tree_is (s, p.built) h
+  -- a file whose tree is built is not one whose tree isn't
+  pub built_excludes : (IsBuilt : Y → Type 0) (y : Y) → IsTreeOf (Derives productions 0 g) bytes y → IsBuilt y → IsUnbuilt (Derives productions 0 g) IsBuilt bytes → ⊥
+  built_excludes IsBuilt y p b h = h.none (subst IsBuilt (tree_once y h.tree p h.tree_is) b)

@@ -1,20 +1,25 @@
--- Where a fault of a file is, and what is said of it.
-use Rattle.std.specs.Prelude.{ℕ, List, codes, Option, Some, None}
-use Rattle.psm_token.specs.declared.place.Place.{Place}
-use Rattle.psm_token.specs.FaultTexts.{fault_text, fault_place}
+-- What is said of a file that is refused.
+use Rattle.std.specs.Prelude.{ℕ, List, [], codes}
 use Rattle.psm_build.specs.declared.fault.Fault.{Fault}
-use Rattle.psm_build.specs.declared.fault.Fault.TheVariants as faults
-
--- where a file has its fault
-abbrev pub place_of : Fault → Option Place
-place_of (faults.Token f) = fault_place f
-place_of (faults.Syntax place) = Some place
-place_of (faults.Deep place) = Some place
-place_of faults.NotBuilt = None
+use Rattle.psm_build.specs.declared.fault.Fault.TheVariants.{BadUtf8, BadChar, OpenText, OpenName, LongText, LongNumber, LongName, ManyTokens, Syntax, Deep}
+use Rattle.psm_build.specs.declared.fault.BuildFault.{BuildFault}
+use Rattle.psm_build.specs.declared.fault.BuildFault.TheVariants.{Refused, NotBuilt, Memory}
 
 -- what its fault is
 abbrev pub text_of : Fault → List ℕ
-text_of (faults.Token f) = fault_text f
-text_of (faults.Syntax place) = codes "syntax fault"
-text_of (faults.Deep place) = codes "nested too deep"
-text_of faults.NotBuilt = codes "not built"
+text_of BadUtf8 = codes "not UTF-8"
+text_of BadChar = codes "bad character"
+text_of OpenText = codes "text without end"
+text_of OpenName = codes "name without end"
+text_of LongText = codes "text too long"
+text_of LongNumber = codes "number too long"
+text_of LongName = codes "name too long"
+text_of ManyTokens = codes "too many tokens"
+text_of Syntax = codes "syntax fault"
+text_of Deep = codes "nested too deep"
+
+-- the same of a refusal for a fault
+abbrev pub refusal_text : BuildFault → List ℕ
+refusal_text (Refused line column fault) = text_of fault
+refusal_text NotBuilt = []
+refusal_text Memory = []

@@ -1,3 +1,5 @@
-pub mod Source
+pub mod Told
 pub mod FaultTexts
+pub mod Source
+pub mod Program
 pub mod Building

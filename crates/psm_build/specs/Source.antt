@@ -1,5 +1,6 @@
--- The trees of a file's bytes, and why a file is refused.
-use Rattle.std.specs.Prelude.{ℕ, List, Ok, Err}
+-- The trees of a file's bytes, and why the bytes have none.
+use Rattle.std.specs.Prelude.{◌≡◌, ℕ, ◌⊎◌, List, Ok, Err}
+use Rattle.psm_token.specs.declared.fault.LexFault.{LexFault}
 use Rattle.psm_token.specs.declared.token.Placed.{Placed}
 use Rattle.psm_token.specs.Listed.{Tokens}
 use Rattle.psm_token.specs.Spells.{Spells, IsFirstFault}
@@ -9,15 +10,16 @@ use Rattle.psm_tree.specs.Productions.{productions}
 use Rattle.psm_tree.specs.FileGrammar.{file, script}
 use Rattle.psm_tree.specs.Reading.{ReadsAll}
 use Rattle.psm_tree.specs.declared.fault.ParseFault.{ParseFault}
-use Rattle.psm_tree.specs.declared.fault.ParseFault.TheVariants as parse
 use Rattle.psm_tree.specs.declared.file.FileTree.{FileTree}
 use Rattle.psm_tree.specs.declared.script.ScriptTree.{ScriptTree}
 use Rattle.psm_built.specs.Built.{IsBuiltModule, IsBuiltScript}
 use Rattle.psm_built.specs.declared.tree.Module.{Module}
 use Rattle.psm_built.specs.declared.tree.Signature.{Signature}
 use Rattle.psm_built.specs.declared.tree.Script.{Script}
+use Rattle.psm_build.specs.Told.{told_of_tokens, told_of_tree}
 use Rattle.psm_build.specs.declared.fault.Fault.{Fault}
-use Rattle.psm_build.specs.declared.fault.Fault.TheVariants as faults
+use Rattle.psm_build.specs.declared.fault.BuildFault.{BuildFault}
+use Rattle.psm_build.specs.declared.fault.BuildFault.TheVariants.{Refused}
 
 -- the tokens of module files, and of scripts, with their trees
 abbrev pub module_files : Lang Placed FileTree
@@ -32,34 +34,34 @@ pub record IsTreeOf {Y : Type 0} (L : Lang Placed Y) (bytes : List ℕ) (tree : 
   pub spelled : Spells bytes tokens
   pub tree_is : ReadsAll L (λ y. y) tokens (Ok tree)
 
--- the bytes spell tokens that have that fault
-pub record IsTreeFault {Y : Type 0} (L : Lang Placed Y) (bytes : List ℕ) (fault : ParseFault) : Type 0 where
+-- the first fault of the tokens is told so
+pub record IsTokenFault (bytes : List ℕ) (told : BuildFault) : Type 0 where
+  pub fault : LexFault
+  pub first : IsFirstFault bytes fault
+  pub told_is : told_of_tokens fault ≡ told
+
+-- the bytes spell tokens, whose fault is told so
+pub record IsTreeFault {Y : Type 0} (L : Lang Placed Y) (bytes : List ℕ) (told : BuildFault) : Type 0 where
   pub tokens : Tokens
   pub spelled : Spells bytes tokens
+  pub fault : ParseFault
   pub fault_is : ReadsAll {X = Y} L (λ y. y) tokens (Err fault)
+  pub told_is : told_of_tree fault ≡ told
 
--- why the bytes have no tree
-abbrev pub HasNoTree : {Y : Type 0} → Lang Placed Y → List ℕ → Fault → Type 0
-HasNoTree L bytes (faults.Token f) = IsFirstFault bytes f
-HasNoTree L bytes (faults.Syntax place) = IsTreeFault L bytes (parse.Syntax place)
-HasNoTree L bytes (faults.Deep place) = IsTreeFault L bytes (parse.Deep place)
-HasNoTree L bytes faults.NotBuilt = ⊥
+-- the bytes have no tree, and their first fault is that one, at that line and column
+abbrev pub IsFaultAt : {Y : Type 0} → Lang Placed Y → List ℕ → ℕ → ℕ → Fault → Type 0
+IsFaultAt L bytes line column fault = IsTokenFault bytes (Refused line column fault) ⊎ IsTreeFault L bytes (Refused line column fault)
 
 -- the bytes have a tree that isn't of the forms that run
-pub record IsNotBuilt {Y : Type 0} (L : Lang Placed Y) (IsBuilt : Y → Type 0) (bytes : List ℕ) : Type 0 where
+pub record IsUnbuilt {Y : Type 0} (L : Lang Placed Y) (IsBuilt : Y → Type 0) (bytes : List ℕ) : Type 0 where
   pub tree : Y
   pub tree_is : IsTreeOf L bytes tree
   pub none : IsBuilt tree → ⊥
 
--- why a file whose trees are spelled by L, and some of which are built, is refused
-abbrev pub IsFaultOf : {Y : Type 0} → Lang Placed Y → (Y → Type 0) → List ℕ → Fault → Type 0
-IsFaultOf L IsBuilt bytes faults.NotBuilt = IsNotBuilt L IsBuilt bytes
-IsFaultOf L IsBuilt bytes fault = HasNoTree L bytes fault
+-- ---- the forms that run
 
--- ---- module files
-
--- the bytes are the module file of that module
-pub record IsModuleFile (bytes : List ℕ) (m : Module) : Type 0 where
+-- the bytes are the file of that module
+pub record IsModule (bytes : List ℕ) (m : Module) : Type 0 where
   pub tree : FileTree
   pub tree_is : IsTreeOf module_files bytes tree
   pub built : IsBuiltModule tree m
@@ -67,21 +69,11 @@ pub record IsModuleFile (bytes : List ℕ) (m : Module) : Type 0 where
 abbrev pub HasModule : FileTree → Type 0
 HasModule tree = (m : Module) × IsBuiltModule tree m
 
--- the bytes are no module file, for that reason
-abbrev pub IsModuleFault : List ℕ → Fault → Type 0
-IsModuleFault bytes fault = IsFaultOf module_files HasModule bytes fault
-
--- ---- scripts
-
 -- the bytes are that script, over the procedure with that signature
-pub record IsScriptFile (signature : Signature) (bytes : List ℕ) (s : Script) : Type 0 where
+pub record IsScript (signature : Signature) (bytes : List ℕ) (s : Script) : Type 0 where
   pub tree : ScriptTree
   pub tree_is : IsTreeOf scripts bytes tree
   pub built : IsBuiltScript signature tree s
 
 abbrev pub HasScript : Signature → ScriptTree → Type 0
 HasScript signature tree = (s : Script) × IsBuiltScript signature tree s
-
--- the bytes are no script over the signature, for that reason
-abbrev pub IsScriptFault : Signature → List ℕ → Fault → Type 0
-IsScriptFault signature bytes fault = IsFaultOf scripts (HasScript signature) bytes fault

@@ -3,26 +3,26 @@ ghost use Rattle.std.specs.Prelude.{◌<◌, length};
 ghost use Rattle.psm_build.specs.Source.{module_files, scripts};
 ghost use Rattle.psm_build.specs.Building.{ReadsTokens, ReadsTree};
 
-use crate::code::BuildFault;
-use crate::fault::Fault;
+use crate::fault::{BuildFault, refused_tokens, refused_tree};
 use psm_parse_file::{parse_file, parse_script};
-use psm_token::{LexFault, TokenList, tokens};
-use psm_tree::{FileTree, ParseFault, ScriptTree};
+use psm_token::{TokenList, tokens};
+use psm_tree::{FileTree, ScriptTree};
 use std::alloc::Global;
 
 /// The tokens of a file.
+#[tactic(auto, using(crate::proofs::Reading::tokens_refused))]
 fn tokens_of(alloc: Global, bytes: &[u8]) -> Result<TokenList, BuildFault>
     requires { length bytes.now < 4294967295 }
     ensures { ReadsTokens bytes.now result }
 {
     match tokens(alloc, bytes) {
         Ok(tokens) => Ok(tokens),
-        Err(LexFault::Memory) => Err(BuildFault::Memory),
-        Err(fault) => Err(BuildFault::Refused(Fault::Token(fault))),
+        Err(fault) => Err(refused_tokens(fault)),
     }
 }
 
 /// The tree of a module file.
+#[tactic(auto, using(crate::proofs::Reading::tree_refused))]
 pub(crate) fn module_tree(alloc: Global, bytes: &[u8]) -> Result<FileTree, BuildFault>
     requires { length bytes.now < 4294967295 }
     ensures { ReadsTree module_files bytes.now result }
@@ -30,13 +30,12 @@ pub(crate) fn module_tree(alloc: Global, bytes: &[u8]) -> Result<FileTree, Build
     let tokens = tokens_of(alloc, bytes)?;
     match parse_file(alloc, &tokens) {
         Ok(tree) => Ok(tree),
-        Err(ParseFault::Syntax(place)) => Err(BuildFault::Refused(Fault::Syntax(place))),
-        Err(ParseFault::Deep(place)) => Err(BuildFault::Refused(Fault::Deep(place))),
-        Err(ParseFault::Memory) => Err(BuildFault::Memory),
+        Err(fault) => Err(refused_tree(fault)),
     }
 }
 
 /// The tree of a script.
+#[tactic(auto, using(crate::proofs::Reading::tree_refused))]
 pub(crate) fn script_tree(alloc: Global, bytes: &[u8]) -> Result<ScriptTree, BuildFault>
     requires { length bytes.now < 4294967295 }
     ensures { ReadsTree scripts bytes.now result }
@@ -44,8 +43,6 @@ pub(crate) fn script_tree(alloc: Global, bytes: &[u8]) -> Result<ScriptTree, Bui
     let tokens = tokens_of(alloc, bytes)?;
     match parse_script(alloc, &tokens) {
         Ok(tree) => Ok(tree),
-        Err(ParseFault::Syntax(place)) => Err(BuildFault::Refused(Fault::Syntax(place))),
-        Err(ParseFault::Deep(place)) => Err(BuildFault::Refused(Fault::Deep(place))),
-        Err(ParseFault::Memory) => Err(BuildFault::Memory),
+        Err(fault) => Err(refused_tree(fault)),
     }
 }

@@ -30,9 +30,14 @@ abbrev pub value_lines : List Parameter → List Datum → List ℕ
 value_lines [] values = []
 value_lines (p ∷ ps) values = next_value p.mode p.name values (value_lines ps)
 
+-- a message behind a blank, or nothing where it is empty
+abbrev pub behind_blank : List ℕ → List ℕ
+behind_blank [] = []
+behind_blank (c ∷ message) = codes " " ++ c ∷ message
+
 -- `SQLSTATE sssss message`
 abbrev pub condition_line : SqlState → List ℕ
-condition_line state = codes "SQLSTATE " ++ state ++ codes " " ++ message_of state ++ 10 ∷ []
+condition_line state = codes "SQLSTATE " ++ state ++ behind_blank (message_of state) ++ 10 ∷ []
 
 abbrev pub last_lines : List Parameter → Ending → List ℕ
 last_lines parameters (Ended values) = value_lines parameters values ++ codes "OK\n"

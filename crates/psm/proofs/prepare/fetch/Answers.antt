@@ -11,6 +11,6 @@ returns-in-Err-TooLong-clause-gets g c =
         bytes = file.0;
         told = file.1;
         long = file.2;
-        fetched = stay_all (g.F.Shelf.faults c.args.shelf.now) (g.F.Shelf.faults c.fetch.new.self) c.args.name.now answer.2 c.in-Err-TooLong.ensures.others;
+        none_failed = stay_all (g.F.Shelf.faults c.args.shelf.now) (g.F.Shelf.faults c.fetch.new.self) c.args.name.now answer.2 c.in-Err-TooLong.ensures.others;
       },
     )
