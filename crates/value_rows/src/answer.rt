@@ -32,7 +32,7 @@ fn operated(alloc: Global, operation: &str, operands: &mut Operands<'_>) -> Resu
         "make" | "concat" | "substring" | "position" | "trim" | "upper" | "lower" | "like" => {
             text::operated(alloc, operation, operands)
         }
-        "fit" | "cut" | "type" | "store" | "fetch" | "cast" => {
+        "fit" | "cut" | "type" | "store" | "stored" | "fetch" | "cast" => {
             storing::operated(alloc, operation, operands)
         }
         "name" | "same" => name::operated(alloc, operation, operands),

@@ -3,7 +3,7 @@
 use crate::fault::Fault;
 use crate::operands::Operands;
 use crate::shown;
-use psm_value::{Datum, SqlType, cast, fetch_into, store_into};
+use psm_value::{Datum, SqlType, cast, fetch_into, is_stored, store_into};
 use std::alloc::Global;
 
 const MOST_CHARACTERS: u32 = 4000;
@@ -59,6 +59,7 @@ fn into_type(alloc: Global, operation: &str, operands: &mut Operands<'_>) -> Res
     match operation {
         "store" => shown::value(alloc, &store_into(alloc, to, &value)?),
         "cast" => shown::value(alloc, &cast(alloc, to, &value)?),
+        "stored" => shown::yes_or_no(alloc, is_stored(to, &value), "yes", "no"),
         _ => {
             let (fetched, lost) = fetch_into(alloc, to, &value)?;
             with_loss(alloc, &fetched, lost)
