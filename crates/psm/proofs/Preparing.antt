@@ -1,11 +1,14 @@
 -- What was found of the two files, put together from the steps.
-use Rattle.std.proofs.Common.{◌≡◌, ◌≢◌, ℕ, List, [], Option, Ok, Err, ◌∙◌, subst}
+use Rattle.std.proofs.Common.{◌≡◌, ℕ, List, [], Option, Ok, Err, refl, ◌∙◌, subst}
 use Rattle.std.specs.Prelude.{unwrap_or}
 use Rattle.psm_io.specs.Count.{Rose}
 use Rattle.psm_build.specs.Program.{StandsFor, Code, ScriptCode}
+use Rattle.psm_build.specs.Building.{Builds}
+use Rattle.psm_build.specs.declared.fault.BuildFault.{BuildFault}
+use Rattle.psm_build.specs.declared.fault.BuildFault.TheVariants as builds
 use Rattle.psm_build.proofs.Files.{is_module_file}
 use Rattle.psm.specs.Fetches.{Fetches, Tells, NoneFailed, IsUnread}
-use Rattle.psm.specs.Prepared.{IsRead, Gets, GetsCode, GetsScript, Prepares}
+use Rattle.psm.specs.Prepared.{IsRead, Gets, GetsCode, GetsScript, Prepares, refusal_of}
 use Rattle.psm.specs.Words.{Files}
 use Rattle.psm.specs.declared.prepare.Which.TheVariants as which
 use Rattle.psm.specs.declared.prepare.Refusal.{Refusal}
@@ -17,6 +20,12 @@ abbrev pub between : (List ℕ → Option (List ℕ)) → (List ℕ → ℕ) →
 between held before after = record { held = held; before = before; after = after }
 
 -- ---- the module
+
+-- what the build refuses is refused so
+pub module_told : (ms : List ℕ) (fault : BuildFault) → Builds ms (Err fault) → GetsCode ms (Err (refusal_of which.Module fault))
+module_told ms (builds.Refused line column fault) h = (refl, h)
+module_told ms builds.NotBuilt h = (refl, h)
+module_told ms builds.Memory h = tt
 
 pub module_unread : (fetches : Fetches) (f : Files) (e : Refusal) → Gets fetches f.for_module which.Module (Err e) → Prepares fetches f (Err e)
 module_unread fetches f (Unread which.Module) h = h.1

@@ -1,5 +1,5 @@
 -- What is put for a refusal, and for a session.
-use Rattle.std.specs.Prelude.{◌≡◌, ℕ, ◌⊎◌, List, []}
+use Rattle.std.specs.Prelude.{◌≡◌, ℕ, ◌⊎◌, List}
 use Rattle.psm_script.specs.Put.{Sunk, PutAll, PutSome, PutFirst}
 use Rattle.psm_script.specs.Session.{Session, Done, Stopped}
 use Rattle.psm.specs.Contract.{IsPut, IsBroken, RunsOut}
