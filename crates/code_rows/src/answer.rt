@@ -15,11 +15,7 @@ use std::alloc::{AllocError, Global};
 pub fn answer(alloc: Global, text: &str) -> Result<String, AllocError> {
     match answered(alloc, text) {
         Ok(answer) => Ok(answer),
-        Err(Fault::Memory) => Err(AllocError),
-        Err(Fault::Row) => String::from_str(alloc, "no row"),
-        Err(Fault::IllFormed) => String::from_str(alloc, "ill-formed"),
-        Err(Fault::Unfit) => String::from_str(alloc, "unfit"),
-        Err(Fault::Condition(state)) => String::from_str(alloc, state.text()),
+        Err(fault) => fault.told(alloc),
     }
 }
 

@@ -1,12 +1,13 @@
 //! Why a row has no other answer.
 
 use psm_num::NumFault;
+use psm_sqlstate::SqlState;
 use psm_text::TextFault;
-use psm_value::{SqlState, ValueFault};
-use std::alloc::{AllocError, AllocFailed};
+use psm_value::ValueFault;
+use std::alloc::{AllocError, AllocFailed, Global};
 
 /// What is wrong with a row.
-#[derive(Clone, Copy, Debug, PartialEq, Eq)]
+#[derive(Drop)]
 pub enum Fault {
     /// It isn't lines of code.
     Row,
@@ -18,6 +19,19 @@ pub enum Fault {
     Condition(SqlState),
     /// There is no memory.
     Memory,
+}
+
+impl Fault {
+    /// What is wrong.
+    pub fn told(self, alloc: Global) -> Result<String, AllocError> {
+        match self {
+            Fault::Row => String::from_str(alloc, "no row"),
+            Fault::IllFormed => String::from_str(alloc, "ill-formed"),
+            Fault::Unfit => String::from_str(alloc, "unfit"),
+            Fault::Condition(state) => String::from_str(alloc, state.text()),
+            Fault::Memory => Err(AllocError),
+        }
+    }
 }
 
 impl From<AllocError> for Fault {
