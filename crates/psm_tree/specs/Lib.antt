@@ -1,4 +1,5 @@
-pub mod Kinds
+pub mod FirstWords
+pub mod Names
 pub mod Tests
 pub mod Parts
 pub mod ExprValues

@@ -1,7 +1,7 @@
 //! Expressions and queries. A chain of operators of one level is one list.
 use crate::name::{Identifier, Target};
 use crate::types::{DataType, Sign};
-use psm_list::{Boxed, List};
+use psm_list::{Boxed, List, OneOrMore};
 use psm_num::Dec;
 use psm_text::Text;
 use psm_token::Place;
@@ -70,8 +70,7 @@ pub enum Expr {
     /// Conditions with AND, or with OR, between them: two or more.
     Junction {
         junction: Junction,
-        first: Boxed<Expr>,
-        rest: List<Expr>,
+        operands: OneOrMore<Boxed<Expr>>,
     },
     Not {
         place: Place,
@@ -96,8 +95,7 @@ pub enum Expr {
     In {
         negated: bool,
         value: Boxed<Expr>,
-        first: Boxed<Expr>,
-        rest: List<Expr>,
+        list: OneOrMore<Boxed<Expr>>,
     },
     Like {
         negated: bool,
@@ -108,7 +106,7 @@ pub enum Expr {
     /// Operands with operators of one level between them: two or more operands.
     Chain {
         first: Boxed<Expr>,
-        rest: List<Link>,
+        links: List<Link>,
     },
     Signed {
         place: Place,
@@ -117,7 +115,7 @@ pub enum Expr {
     },
     Call {
         function: Identifier,
-        arguments: List<Expr>,
+        arguments: List<Boxed<Expr>>,
     },
     Parenthesized {
         place: Place,
@@ -135,8 +133,7 @@ pub enum Expr {
     Case {
         place: Place,
         operand: Option<Boxed<Expr>>,
-        first: Boxed<When>,
-        rest: List<When>,
+        whens: OneOrMore<Boxed<When>>,
         otherwise: Option<Boxed<Expr>>,
     },
     Cast {
@@ -146,8 +143,7 @@ pub enum Expr {
     },
     Coalesce {
         place: Place,
-        first: Boxed<Expr>,
-        rest: List<Expr>,
+        values: OneOrMore<Boxed<Expr>>,
     },
     NullIf {
         place: Place,
@@ -182,15 +178,15 @@ pub enum Expr {
 #[derive(Drop)]
 pub struct Link {
     pub operator: Operator,
-    pub operand: Expr,
+    pub operand: Boxed<Expr>,
 }
 
 /// `WHEN test THEN result`.
 #[cycle(expression)]
 #[derive(Drop)]
 pub struct When {
-    pub test: Expr,
-    pub result: Expr,
+    pub test: Boxed<Expr>,
+    pub result: Boxed<Expr>,
 }
 
 /// A query over one table (ISO/IEC 9075:1992, 7.9).
@@ -198,7 +194,7 @@ pub struct When {
 #[derive(Drop)]
 pub struct Select {
     pub place: Place,
-    pub picks: List<Pick>,
+    pub picks: OneOrMore<Boxed<Pick>>,
     pub table: Identifier,
     pub alias: Option<Identifier>,
     pub condition: Option<Boxed<Expr>>,
@@ -223,7 +219,7 @@ pub enum Pick {
         place: Place,
     },
     Expr {
-        expr: Expr,
+        expr: Boxed<Expr>,
         alias: Option<Identifier>,
     },
     /// `COUNT(*)`.
@@ -234,7 +230,7 @@ pub enum Pick {
     Aggregate {
         place: Place,
         function: SetFunction,
-        argument: Expr,
+        argument: Boxed<Expr>,
         alias: Option<Identifier>,
     },
 }

@@ -1,5 +1,5 @@
 //! Names where the grammar has them.
-use psm_list::List;
+use psm_list::OneOrMore;
 use psm_text::Name;
 use psm_token::Place;
 
@@ -18,15 +18,7 @@ pub struct Target {
 }
 
 /// One name or more, with a comma between two of them.
-#[derive(Debug, Drop)]
-pub struct Names {
-    pub first: Identifier,
-    pub rest: List<Identifier>,
-}
+pub type Names = OneOrMore<Identifier>;
 
 /// One target or more, with a comma between two of them.
-#[derive(Debug, Drop)]
-pub struct Targets {
-    pub first: Target,
-    pub rest: List<Target>,
-}
+pub type Targets = OneOrMore<Target>;

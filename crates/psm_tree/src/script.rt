@@ -2,7 +2,7 @@
 use crate::name::{Identifier, Names};
 use crate::statement::OrderedQuery;
 use crate::types::Constant;
-use psm_list::List;
+use psm_list::{Boxed, List, OneOrMore};
 use psm_token::Place;
 
 /// A script.
@@ -22,8 +22,7 @@ pub enum Argument {
 #[derive(Debug, Drop)]
 pub struct ConstantRow {
     pub place: Place,
-    pub first: Constant,
-    pub rest: List<Constant>,
+    pub values: OneOrMore<Constant>,
 }
 
 /// A command of a script.
@@ -37,9 +36,8 @@ pub enum Command {
     Insert {
         place: Place,
         table: Identifier,
-        columns: Option<Names>,
-        first: ConstantRow,
-        rest: List<ConstantRow>,
+        columns: Option<Boxed<Names>>,
+        rows: OneOrMore<ConstantRow>,
     },
     Select(OrderedQuery),
     Commit {
