@@ -1,5 +1,6 @@
 pub mod FirstWords
 pub mod Names
+pub mod Places
 pub mod Tests
 pub mod Parts
 pub mod ExprValues

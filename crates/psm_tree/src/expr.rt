@@ -1,4 +1,7 @@
 //! Expressions and queries. A chain of operators of one level is one list.
+ghost use Rattle.std.specs.Prelude.{◌≡◌};
+ghost use Rattle.psm_tree.specs.Places.{expr_place, pick_place};
+
 use crate::name::{Identifier, Target};
 use crate::types::{DataType, Sign};
 use psm_list::{Boxed, List, OneOrMore};
@@ -173,6 +176,42 @@ pub enum Expr {
     },
 }
 
+impl Expr {
+    /// The place of its first token.
+    #[tactic(auto, using(crate::proofs::Places::expr_places))]
+    pub fn place(&self) -> Place
+        ensures { result ≡ expr_place self.now }
+    {
+        match self {
+            Expr::Name(target) => target.place(),
+            Expr::Junction { operands, .. } => operands.first.get().place(),
+            Expr::Compare { left, .. } => left.get().place(),
+            Expr::IsNull { value, .. }
+            | Expr::Between { value, .. }
+            | Expr::In { value, .. }
+            | Expr::Like { value, .. } => value.get().place(),
+            Expr::Chain { first, .. } => first.get().place(),
+            Expr::Call { function, .. } => function.place,
+            Expr::Null { place }
+            | Expr::Number { place, .. }
+            | Expr::Text { place, .. }
+            | Expr::Not { place, .. }
+            | Expr::Signed { place, .. }
+            | Expr::Parenthesized { place, .. }
+            | Expr::Subquery { place, .. }
+            | Expr::Exists { place, .. }
+            | Expr::Case { place, .. }
+            | Expr::Cast { place, .. }
+            | Expr::Coalesce { place, .. }
+            | Expr::NullIf { place, .. }
+            | Expr::Function { place, .. }
+            | Expr::Position { place, .. }
+            | Expr::Substring { place, .. }
+            | Expr::Trim { place, .. } => *place,
+        }
+    }
+}
+
 /// An operator and the operand behind it.
 #[cycle(expression)]
 #[derive(Drop)]
@@ -233,4 +272,19 @@ pub enum Pick {
         argument: Boxed<Expr>,
         alias: Option<Identifier>,
     },
+}
+
+impl Pick {
+    /// The place of its first token.
+    #[tactic(auto, using(crate::proofs::Places::pick_places))]
+    pub fn place(&self) -> Place
+        ensures { result ≡ pick_place self.now }
+    {
+        match self {
+            Pick::Expr { expr, .. } => expr.get().place(),
+            Pick::All { place } | Pick::CountRows { place, .. } | Pick::Aggregate { place, .. } => {
+                *place
+            }
+        }
+    }
 }

@@ -1,4 +1,7 @@
 //! Names where the grammar has them.
+ghost use Rattle.std.specs.Prelude.{◌≡◌};
+ghost use Rattle.psm_tree.specs.Places.{target_place};
+
 use psm_list::OneOrMore;
 use psm_text::Name;
 use psm_token::Place;
@@ -15,6 +18,15 @@ pub struct Identifier {
 pub struct Target {
     pub first: Identifier,
     pub second: Option<Identifier>,
+}
+
+impl Target {
+    /// The place of its first name.
+    pub fn place(&self) -> Place
+        ensures { result ≡ target_place self.now }
+    {
+        self.first.place
+    }
 }
 
 /// One name or more, with a comma between two of them.

@@ -1,4 +1,7 @@
 //! Scripts.
+ghost use Rattle.std.specs.Prelude.{◌≡◌};
+ghost use Rattle.psm_tree.specs.Places.{argument_place, command_place};
+
 use crate::name::{Identifier, Names};
 use crate::statement::OrderedQuery;
 use crate::types::Constant;
@@ -16,6 +19,18 @@ pub struct ScriptTree {
 pub enum Argument {
     Constant(Constant),
     Placeholder { place: Place },
+}
+
+impl Argument {
+    /// The place of its first token.
+    pub fn place(&self) -> Place
+        ensures { result ≡ argument_place self.now }
+    {
+        match self {
+            Argument::Constant(constant) => constant.place,
+            Argument::Placeholder { place } => *place,
+        }
+    }
 }
 
 /// A row of a script's INSERT.
@@ -46,4 +61,19 @@ pub enum Command {
     Rollback {
         place: Place,
     },
+}
+
+impl Command {
+    /// The place of its first token.
+    pub fn place(&self) -> Place
+        ensures { result ≡ command_place self.now }
+    {
+        match self {
+            Command::Select(query) => query.place(),
+            Command::Call { place, .. }
+            | Command::Insert { place, .. }
+            | Command::Commit { place }
+            | Command::Rollback { place } => *place,
+        }
+    }
 }

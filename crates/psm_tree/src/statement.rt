@@ -1,4 +1,7 @@
 //! Statements, blocks and declarations (ISO/IEC 9075-4:1996).
+ghost use Rattle.std.specs.Prelude.{◌≡◌};
+ghost use Rattle.psm_tree.specs.Places.{ordered_query_place, simple_place, block_place, statement_place, declaration_place, handler_value_place, condition_place, condition_number_place};
+
 use crate::expr::{Expr, Select};
 use crate::name::{Identifier, Names, Target, Targets};
 use crate::types::{DataType, State};
@@ -40,7 +43,7 @@ pub enum Block {
         atomic: bool,
         declarations: List<Boxed<Declaration>>,
         cursors: List<Boxed<CursorDeclaration>>,
-        handlers: List<Handler>,
+        handlers: List<Boxed<Handler>>,
         statements: List<Boxed<Statement>>,
     },
     Loop {
@@ -62,6 +65,40 @@ pub enum Block {
         head: Boxed<ForHead>,
         statements: OneOrMore<Boxed<Statement>>,
     },
+}
+
+impl Statement {
+    /// The place of its first token, which is its label where it has one.
+    #[tactic(auto, using(crate::proofs::Places::statement_places))]
+    pub fn place(&self) -> Place
+        ensures { result ≡ statement_place self.now }
+    {
+        match self {
+            Statement::Block {
+                label: Some(label),
+                ..
+            } => label.start.place,
+            Statement::Block { label: None, block } => block.get().place(),
+            Statement::If { place, .. } | Statement::Case { place, .. } => *place,
+            Statement::Simple(simple) => simple.get().place(),
+        }
+    }
+}
+
+impl Block {
+    /// The place of its first token.
+    #[tactic(auto, using(crate::proofs::Places::block_places))]
+    pub fn place(&self) -> Place
+        ensures { result ≡ block_place self.now }
+    {
+        match self {
+            Block::Compound { place, .. }
+            | Block::Loop { place, .. }
+            | Block::While { place, .. }
+            | Block::Repeat { place, .. }
+            | Block::For { place, .. } => *place,
+        }
+    }
 }
 
 /// The label before a block, and the one behind its end where there is one.
@@ -101,6 +138,15 @@ pub struct OrderedQuery {
     pub order: Option<Order>,
 }
 
+impl OrderedQuery {
+    /// The place of its first token.
+    pub fn place(&self) -> Place
+        ensures { result ≡ ordered_query_place self.now }
+    {
+        self.query.get().place
+    }
+}
+
 /// `ORDER BY` columns.
 #[derive(Debug, Drop)]
 pub struct Order {
@@ -129,6 +175,17 @@ pub enum Declaration {
         name: Identifier,
         state: Option<State>,
     },
+}
+
+impl Declaration {
+    /// The place of its first token.
+    pub fn place(&self) -> Place
+        ensures { result ≡ declaration_place self.now }
+    {
+        match self {
+            Declaration::Variables { place, .. } | Declaration::Condition { place, .. } => *place,
+        }
+    }
 }
 
 /// What a cursor says of updates behind its query.
@@ -178,11 +235,38 @@ pub enum HandlerValue {
     NotFound { place: Place },
 }
 
+impl HandlerValue {
+    /// The place of its first token.
+    pub fn place(&self) -> Place
+        ensures { result ≡ handler_value_place self.now }
+    {
+        match self {
+            HandlerValue::State(state) => state.place,
+            HandlerValue::Name(name) => name.place,
+            HandlerValue::SqlException { place }
+            | HandlerValue::SqlWarning { place }
+            | HandlerValue::NotFound { place } => *place,
+        }
+    }
+}
+
 /// The condition of SIGNAL and RESIGNAL.
 #[derive(Debug, Drop)]
 pub enum Condition {
     Name(Identifier),
     State(State),
+}
+
+impl Condition {
+    /// The place of its first token.
+    pub fn place(&self) -> Place
+        ensures { result ≡ condition_place self.now }
+    {
+        match self {
+            Condition::Name(name) => name.place,
+            Condition::State(state) => state.place,
+        }
+    }
 }
 
 /// A condition, with its message where one is set.
@@ -233,6 +317,18 @@ pub struct ConditionInformation {
 pub enum ConditionNumber {
     Number { place: Place, number: Dec },
     Target(Target),
+}
+
+impl ConditionNumber {
+    /// The place of its first token.
+    pub fn place(&self) -> Place
+        ensures { result ≡ condition_number_place self.now }
+    {
+        match self {
+            ConditionNumber::Number { place, .. } => *place,
+            ConditionNumber::Target(target) => target.place(),
+        }
+    }
 }
 
 /// Which diagnostics area GET DIAGNOSTICS looks at.
@@ -353,4 +449,29 @@ pub enum Simple {
         place: Place,
         cursor: Identifier,
     },
+}
+
+impl Simple {
+    /// The place of its first token.
+    pub fn place(&self) -> Place
+        ensures { result ≡ simple_place self.now }
+    {
+        match self {
+            Simple::SelectInto { query, .. } => query.get().place,
+            Simple::Set { place, .. }
+            | Simple::Call { place, .. }
+            | Simple::Return { place, .. }
+            | Simple::Leave { place, .. }
+            | Simple::Iterate { place, .. }
+            | Simple::Signal { place, .. }
+            | Simple::Resignal { place, .. }
+            | Simple::GetDiagnostics { place, .. }
+            | Simple::Insert { place, .. }
+            | Simple::Update { place, .. }
+            | Simple::Delete { place, .. }
+            | Simple::Open { place, .. }
+            | Simple::Fetch { place, .. }
+            | Simple::Close { place, .. } => *place,
+        }
+    }
 }
