@@ -9,12 +9,14 @@ use crate::word::Word;
 use psm_num::Dec;
 use psm_text::{Name, Text};
 
-/// The kinds of tokens that are no words and no signs.
-const NAME_KIND: u8 = 0;
+/// The number of the kind of tokens that are names and no words.
+pub const NAME_KIND: u8 = 0;
 
-const NUMBER_KIND: u8 = 1;
+/// The number of the kind of tokens that are numeric literals.
+pub const NUMBER_KIND: u8 = 1;
 
-const TEXT_KIND: u8 = 2;
+/// The number of the kind of tokens that are character string literals.
+pub const TEXT_KIND: u8 = 2;
 
 /// A token (ISO/IEC 9075:1992, 5.2).
 #[derive(Debug, Drop)]
