@@ -2,7 +2,7 @@
 ghost use Rattle.std.specs.Prelude.{ℕ, ◌≡◌, ◌<◌, length, IfOk};
 ghost use Rattle.psm_grammar.specs.Gives.{Gives};
 ghost use Rattle.psm_grammar.specs.Readers.{one};
-ghost use Rattle.psm_tree.specs.Kinds.{kind};
+ghost use Rattle.psm_token.specs.Kinds.{kind};
 ghost use Rattle.psm_tree.specs.Tests.{plus_minus};
 ghost use Rattle.psm_parse_token.specs.TokenReaders.{signed_constant_read, constant_read};
 

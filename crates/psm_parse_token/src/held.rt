@@ -3,7 +3,7 @@
 ghost use Rattle.std.specs.Prelude.{ℕ, ◌≡◌, ◌<◌, length, IfOk};
 ghost use Rattle.psm_grammar.specs.Gives.{Gives};
 ghost use Rattle.psm_grammar.specs.Readers.{one, made};
-ghost use Rattle.psm_tree.specs.Kinds.{kind};
+ghost use Rattle.psm_token.specs.Kinds.{kind};
 ghost use Rattle.psm_tree.specs.Tests.{sign as sign_test, word as word_test};
 ghost use Rattle.psm_parse_token.specs.Beside.{Beside, InFront, always};
 

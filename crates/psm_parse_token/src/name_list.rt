@@ -5,7 +5,7 @@ ghost use Rattle.psm_parse_token.specs.TokenReaders.{second_name_read, target_re
 
 use crate::token::{at_sign, expect_name, expect_sign};
 use psm_grammar::Halt;
-use psm_list::List;
+use psm_list::{List, OneOrMore};
 use psm_token::{Placed, Sign};
 use psm_tree::{Identifier, Names, Target, Targets};
 use std::alloc::Global;
@@ -72,7 +72,7 @@ pub fn names(alloc: Global, tokens: &[Placed]) -> Result<(Names, &[Placed]), Hal
     let (first, rest) = expect_name(alloc, tokens)?;
     let (others, rest) = next_names(alloc, rest)?;
     Ok((
-        Names {
+        OneOrMore {
             first,
             rest: others,
         },
@@ -127,7 +127,7 @@ pub fn targets(alloc: Global, tokens: &[Placed]) -> Result<(Targets, &[Placed]),
     let (first, rest) = target(alloc, tokens)?;
     let (others, rest) = next_targets(alloc, rest)?;
     Ok((
-        Targets {
+        OneOrMore {
             first,
             rest: others,
         },

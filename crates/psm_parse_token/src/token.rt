@@ -4,120 +4,76 @@ ghost use Rattle.psm_grammar.specs.Gives.{Gives};
 ghost use Rattle.psm_grammar.specs.Language.{has};
 ghost use Rattle.psm_grammar.specs.Readers.{starts, one};
 ghost use Rattle.psm_token.specs.Words.{text_of};
-ghost use Rattle.psm_tree.specs.Kinds.{code, sign_code, codes_of, name_kind, number_kind, text_kind, token_kind, kind};
+ghost use Rattle.psm_token.specs.Words.{word_kind};
+ghost use Rattle.psm_token.specs.Signs.{sign_kind};
+ghost use Rattle.psm_token.specs.Kinds.{kinds_of, name_kind, number_kind, text_kind, token_kind, kind};
 ghost use Rattle.psm_tree.specs.Tests.{name_kinds, spelled, word as word_test, sign as sign_test, name as name_test, number as number_test, text as text_test};
 ghost use Rattle.psm_parse_token.specs.Among.{among};
 
 use psm_grammar::Halt;
 use psm_num::Dec;
 use psm_text::{Name, NameFault, Text};
-use psm_token::{Place, Placed, Sign, Token, Word};
+use psm_token::{NUMBER_KIND, Place, Placed, Sign, TEXT_KIND, Token, Word};
 use psm_tree::Identifier;
 use std::alloc::{AllocError, Global};
 
-/// The number of a word.
-fn word_number(word: Word) -> u8
-    ensures { result ≡ code word }
-{
-    word as u8
-}
-
-/// The number of a sign.
-fn sign_number(sign: Sign) -> u8
-    ensures { result ≡ sign_code sign }
-{
-    match sign {
-        Sign::LeftParen => 142,
-        Sign::RightParen => 143,
-        Sign::Comma => 144,
-        Sign::Semicolon => 145,
-        Sign::Colon => 146,
-        Sign::Period => 147,
-        Sign::Equal => 148,
-        Sign::NotEqual => 149,
-        Sign::Less => 150,
-        Sign::LessEqual => 151,
-        Sign::Greater => 152,
-        Sign::GreaterEqual => 153,
-        Sign::Plus => 154,
-        Sign::Minus => 155,
-        Sign::Asterisk => 156,
-        Sign::Solidus => 157,
-        Sign::Concatenation => 158,
-        Sign::QuestionMark => 159,
-    }
-}
-
-/// The number of a token's kind.
-fn kind_number(token: &Token) -> u8
-    ensures { result ≡ token_kind token.now }
-{
-    match token {
-        Token::Word(word) => word_number(*word),
-        Token::Name(_) => 139,
-        Token::Number(_) => 140,
-        Token::Text(_) => 141,
-        Token::Sign(sign) => sign_number(*sign),
-    }
-}
-
 /// Whether the kind is that of one of the words.
 fn is_word_of(number: u8, words: &[Word]) -> bool
-    ensures { result ≡ has number (codes_of words.now) }
+    ensures { result ≡ has number (kinds_of words.now) }
 {
     match words {
         [] => false,
-        [word, words @ ..] => number == word_number(*word) || is_word_of(number, words),
+        [word, words @ ..] => number == word.kind() || is_word_of(number, words),
     }
 }
 
 /// Whether the kind is that of one of the signs.
 fn is_sign_of(number: u8, signs: &[Sign]) -> bool
-    ensures { result ≡ has number (map sign_code signs.now) }
+    ensures { result ≡ has number (map sign_kind signs.now) }
 {
     match signs {
         [] => false,
-        [sign, signs @ ..] => number == sign_number(*sign) || is_sign_of(number, signs),
+        [sign, signs @ ..] => number == sign.kind() || is_sign_of(number, signs),
     }
 }
 
 /// Whether the word stands at the front.
 pub fn at_word(tokens: &[Placed], word: Word) -> bool
-    ensures { result ≡ starts kind (code word ∷ []) tokens.now }
+    ensures { result ≡ starts kind (word_kind word ∷ []) tokens.now }
 {
     match tokens {
         [] => false,
-        [first, ..] => kind_number(&first.token) == word_number(word),
+        [first, ..] => first.token.kind() == word.kind(),
     }
 }
 
 /// Whether the sign stands at the front.
 pub fn at_sign(tokens: &[Placed], sign: Sign) -> bool
-    ensures { result ≡ starts kind (sign_code sign ∷ []) tokens.now }
+    ensures { result ≡ starts kind (sign_kind sign ∷ []) tokens.now }
 {
     match tokens {
         [] => false,
-        [first, ..] => kind_number(&first.token) == sign_number(sign),
+        [first, ..] => first.token.kind() == sign.kind(),
     }
 }
 
 /// Whether one of the words stands at the front.
 pub fn at_one_of(tokens: &[Placed], words: &[Word]) -> bool
-    ensures { result ≡ starts kind (codes_of words.now) tokens.now }
+    ensures { result ≡ starts kind (kinds_of words.now) tokens.now }
 {
     match tokens {
         [] => false,
-        [first, ..] => is_word_of(kind_number(&first.token), words),
+        [first, ..] => is_word_of(first.token.kind(), words),
     }
 }
 
 /// Whether one of the signs stands at the front.
 pub fn at_one_sign_of(tokens: &[Placed], signs: &[Sign]) -> bool
-    ensures { result ≡ starts kind (map sign_code signs.now) tokens.now }
+    ensures { result ≡ starts kind (map sign_kind signs.now) tokens.now }
 {
     match tokens {
         [] => false,
-        [first, ..] => is_sign_of(kind_number(&first.token), signs),
+        [first, ..] => is_sign_of(first.token.kind(), signs),
     }
 }
 
@@ -151,7 +107,7 @@ pub fn at_number(tokens: &[Placed]) -> bool
 {
     match tokens {
         [] => false,
-        [first, ..] => kind_number(&first.token) == 140,
+        [first, ..] => first.token.kind() == NUMBER_KIND,
     }
 }
 
@@ -161,7 +117,7 @@ pub fn at_text(tokens: &[Placed]) -> bool
 {
     match tokens {
         [] => false,
-        [first, ..] => kind_number(&first.token) == 141,
+        [first, ..] => first.token.kind() == TEXT_KIND,
     }
 }
 
@@ -173,7 +129,7 @@ pub fn expect_word(tokens: &[Placed], word: Word) -> Result<(Place, &[Placed]), 
     match tokens {
         [] => Err(Halt::Syntax(0)),
         [first, rest @ ..] => {
-            if kind_number(&first.token) == word_number(word) {
+            if first.token.kind() == word.kind() {
                 Ok((first.place, rest))
             } else {
                 Err(Halt::Syntax(tokens.len()))
@@ -193,7 +149,7 @@ pub fn expect_one_of<'a>(
     match tokens {
         [] => Err(Halt::Syntax(0)),
         [first, rest @ ..] => {
-            if is_word_of(kind_number(&first.token), words) {
+            if is_word_of(first.token.kind(), words) {
                 Ok((first.place, rest))
             } else {
                 Err(Halt::Syntax(tokens.len()))
@@ -210,7 +166,7 @@ pub fn expect_sign(tokens: &[Placed], sign: Sign) -> Result<(Place, &[Placed]), 
     match tokens {
         [] => Err(Halt::Syntax(0)),
         [first, rest @ ..] => {
-            if kind_number(&first.token) == sign_number(sign) {
+            if first.token.kind() == sign.kind() {
                 Ok((first.place, rest))
             } else {
                 Err(Halt::Syntax(tokens.len()))

@@ -2,7 +2,7 @@
 ghost use Rattle.std.specs.Prelude.{ℕ, ◌≡◌, ◌<◌, ◌≤◌, length, Option, IfOk};
 ghost use Rattle.psm_grammar.specs.Gives.{Gives};
 ghost use Rattle.psm_grammar.specs.Readers.{one};
-ghost use Rattle.psm_tree.specs.Kinds.{kind};
+ghost use Rattle.psm_token.specs.Kinds.{kind};
 ghost use Rattle.psm_tree.specs.Tests.{integer_word, numeric_word, char_word};
 ghost use Rattle.psm_parse_token.specs.TokenReaders.{type_length_read, scale_read, precision_numbers_read, precision_read, numeric_type_read, varchar_type_read, plain_type_read, varying_read, char_length_read, char_rest_read, char_type_read, data_type_read};
 

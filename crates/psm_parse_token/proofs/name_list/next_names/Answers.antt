@@ -3,7 +3,8 @@ use Rattle.std.proofs.lemmas.Result.{err_from_is_err_and}
 use Rattle.psm_token.specs.declared.sign.Sign.TheVariants as s
 use Rattle.psm_grammar.specs.Readers.{starts}
 use Rattle.psm_grammar.proofs.Loops.{goes_on}
-use Rattle.psm_tree.specs.Kinds.{sign_code, kind}
+use Rattle.psm_token.specs.Signs.{sign_kind}
+use Rattle.psm_token.specs.Kinds.{kind}
 use Rattle.psm_parse_token.specs.TokenReaders.{next_name_read, next_names_read}
 use Rattle.psm_parse_token.proofs.Repeating.{loop_halts}
 use Rattle.psm_parse_token.proofs.name_list.next_names.Goals as goal
@@ -12,13 +13,13 @@ pub returns-in_err-name-clause-exact : goal.returns-in_err-name-clause-exact
 unfolding next_names_read
 returns-in_err-name-clause-exact c =
     let p = err_from_is_err_and c.from_residual.result c.from_residual.ensures.1 in
-    let starts_so : starts kind (sign_code s.Comma ∷ []) c.loop-alloc.rest.now ≡ true = search rules in
-    rw (p.1, p.2) (loop_halts kind (sign_code s.Comma ∷ []) next_name_read c.args.tokens.now c.loop-alloc.names.items c.loop-alloc.rest.now c.in_err-name.field-0.0 c.loop-alloc.invariant starts_so c.in_err-name.ensures.exact)
+    let starts_so : starts kind (sign_kind s.Comma ∷ []) c.loop-alloc.rest.now ≡ true = search rules in
+    rw (p.1, p.2) (loop_halts kind (sign_kind s.Comma ∷ []) next_name_read c.args.tokens.now c.loop-alloc.names.items c.loop-alloc.rest.now c.in_err-name.field-0.0 c.loop-alloc.invariant starts_so c.in_err-name.ensures.exact)
 
 pub loop-alloc-preserved : goal.loop-alloc-preserved
 loop-alloc-preserved c =
-    let starts_so : starts kind (sign_code s.Comma ∷ []) c.loop-alloc.rest.now ≡ true = search rules in
+    let starts_so : starts kind (sign_kind s.Comma ∷ []) c.loop-alloc.rest.now ≡ true = search rules in
     let read_so : next_name_read c.loop-alloc.rest.now ≡ Ok (c.in_ok-name.name, c.in_ok-name.next.now) = search rules in
     let shorter : length c.in_ok-name.next.now < length c.loop-alloc.rest.now = search rules in
     let pushed : c.push.new.self.items ≡ c.loop-alloc.names.items ++ c.in_ok-name.name ∷ [] = search rules in
-    rw pushed (goes_on kind (sign_code s.Comma ∷ []) next_name_read c.args.tokens.now c.loop-alloc.names.items c.loop-alloc.rest.now c.in_ok-name.name c.in_ok-name.next.now c.loop-alloc.invariant starts_so read_so shorter)
+    rw pushed (goes_on kind (sign_kind s.Comma ∷ []) next_name_read c.args.tokens.now c.loop-alloc.names.items c.loop-alloc.rest.now c.in_ok-name.name c.in_ok-name.next.now c.loop-alloc.invariant starts_so read_so shorter)

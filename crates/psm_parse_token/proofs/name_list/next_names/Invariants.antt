@@ -1,12 +1,13 @@
 use Rattle.std.proofs.Common.{[], ◌∷◌, length}
 use Rattle.psm_token.specs.declared.sign.Sign.TheVariants as s
 use Rattle.psm_grammar.specs.Loop.{Looping}
-use Rattle.psm_tree.specs.Kinds.{sign_code, kind}
+use Rattle.psm_token.specs.Signs.{sign_kind}
+use Rattle.psm_token.specs.Kinds.{kind}
 use Rattle.psm_parse_token.specs.TokenReaders.{next_name_read}
 use Rattle.psm_parse_token.proofs.name_list.next_names.Given as goal
 
 abbrev pub invariant-loop-alloc : goal.invariant-loop-alloc
-invariant-loop-alloc l = Looping kind (sign_code s.Comma ∷ []) next_name_read l.tokens l.names.items l.rest
+invariant-loop-alloc l = Looping kind (sign_kind s.Comma ∷ []) next_name_read l.tokens l.names.items l.rest
 
 abbrev pub decreases-loop-alloc : goal.decreases-loop-alloc
 decreases-loop-alloc l = length l.rest

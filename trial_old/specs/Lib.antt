@@ -1,0 +1,3 @@
+pub mod Stubs
+pub mod DataReaders
+pub mod BranchReaders
