@@ -1,5 +1,9 @@
 pub mod Definition
+pub mod Held
+pub mod Index
 pub mod Key
+pub mod Map
+pub mod Mapped
 pub mod Parts
 pub mod Place
 pub mod Rows

@@ -1,6 +1,6 @@
 -- What a table keeps beside its contents, so that rows which were taken out can be put back without memory.
-use Rattle.std.specs.Prelude.{◌≡◌, Bool, true, false, ℕ, ◌+◌, ◌<◌, ◌++◌, List, length, All, Some, None, IsSome, Result, Ok, Err}
-use Rattle.std.specs.List.{list_any, zip}
+use Rattle.std.specs.Prelude.{◌≡◌, Bool, true, false, ℕ, ◌+◌, ◌<◌, ◌++◌, List, length, Some, None, IsSome, Result, Ok, Err}
+use Rattle.std.specs.List.{list_any, AllZip}
 use Rattle.std.specs.Ordering.{is_eq}
 use Rattle.psm_value.specs.declared.datum.Datum.{Datum}
 use Rattle.psm_table.specs.declared.definition.TableDef.{TableDef}
@@ -32,7 +32,7 @@ HasEntry def row columns entries = has_null (values_at columns row) ≡ false �
 -- the table keeps the row: its key has a place, and its UNIQUE entries are there
 pub record KeepsRow (s : State) (row : List Datum) : Type 0 where
   pub place : has_key s.places (values_at s.contents.def.key row) ≡ true
-  pub entries : All (λ p. HasEntry s.contents.def row p.0 p.1) (zip s.contents.def.unique s.entries)
+  pub entries : AllZip (HasEntry s.contents.def row) s.contents.def.unique s.entries
 
 -- each row that was kept is kept
 abbrev pub StillKeeps : State → State → Type 0

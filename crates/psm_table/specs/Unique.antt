@@ -4,6 +4,7 @@ use Rattle.std.specs.List.{list_any}
 use Rattle.std.specs.Ordering.{is_eq, is_ne}
 use Rattle.psm_value.specs.declared.datum.Datum.{Datum}
 use Rattle.psm_value.specs.declared.datum.Datum.TheVariants.{Null, Num, Text}
+use Rattle.psm_value.specs.Order.{data_order}
 use Rattle.psm_table.specs.declared.definition.TableDef.{TableDef}
 use Rattle.psm_table.specs.Key.{values_at, key_order, row_order}
 
@@ -36,6 +37,10 @@ is_rival def row other = is_ne (row_order def.key (values_at def.key row) other)
 -- whether one of the rows has another key and agrees with the row in a UNIQUE list
 abbrev pub clashes : TableDef → List Datum → List (List Datum) → Bool
 clashes def row rows = list_any (is_rival def row) rows
+
+-- whether neither of two values is null, and they are equal
+abbrev pub equal_value : Datum → Datum → Bool
+equal_value a b = not (is_null a) && (not (is_null b) && is_eq (data_order a b))
 
 -- no two rows agree in the columns
 abbrev pub IsUnique : List (List Datum) → List ℕ → Type 0

@@ -4,10 +4,12 @@
 mod definition;
 mod fault;
 mod key;
-mod place;
+mod index;
+mod map;
+mod probe;
 mod row;
 mod table;
-mod unique;
+
 
 pub use definition::{Column, TableDef};
 pub use fault::RowFault;
@@ -18,5 +20,3 @@ pub use psm_value::{Datum, SqlType, Steps};
 pub use row::Row;
 pub use table::Table;
 
-#[cfg(test)]
-mod tests;

@@ -1,17 +1,19 @@
-ghost use Rattle.std.specs.Prelude.{◌≡◌, ◌+◌, ◌≤◌, [], length, is_some, true, false, IfSome, IfNone, IfOk, if◌then◌else◌};
+ghost use Rattle.std.specs.Prelude.{◌≡◌, ◌+◌, ◌≤◌, ◌<◌, ◌↔◌, [], length, None, IsTrue, is_some, true, false, IfSome, IfNone, IfOk, if◌then◌else◌};
 ghost use Rattle.std.specs.Option.{option_copied, ForSome};
 ghost use Rattle.psm_table.specs.Definition.{IsDefinition, IsRow, IsKey, HasColumns};
+ghost use Rattle.psm_table.specs.Held.{entries_of};
 ghost use Rattle.psm_table.specs.Key.{values_at};
 ghost use Rattle.psm_table.specs.Rows.{row_after, row_before};
-ghost use Rattle.psm_table.specs.State.{Inserts, Changes, KeepsRow, StillKeeps};
-ghost use Rattle.psm_table.specs.Table.{IsTable, empty_table, keyed, most_rows, with_row, without_row};
+ghost use Rattle.psm_table.specs.State.{has_key, Inserts, Changes, KeepsRow, StillKeeps};
+ghost use Rattle.psm_table.specs.Table.{IsTable, empty_table, keyed, most_rows, namesake, with_row, without_row};
 ghost use Rattle.psm_table.specs.Unique.{clashes};
 
 use crate::definition::TableDef;
 use crate::fault::RowFault;
-use crate::index::{enter, has_rival, leave, settle_entries};
+use crate::index::{enter, has_rival, settle_entries};
 use crate::key::Key;
-use crate::map::{OrderedMap, Probe};
+use crate::map::{HasRow, OrderedMap};
+use crate::probe::Probe;
 use crate::row::Row;
 use psm_value::Steps;
 use std::alloc::{AllocError, Global};
@@ -19,6 +21,9 @@ use std::marker::Model;
 use std::sync::ledger::Ledger;
 
 const MOST_ROWS: u32 = 200_000;
+
+/// So many rows more than the table has may be kept after `settle`.
+const FEW_LEFT: u64 = 64;
 
 /// A table: its definition, which no call changes, and its rows in ascending order of their keys.
 ///
@@ -34,6 +39,8 @@ pub struct Table {
     live: u32,
     /// For each UNIQUE list the values of rows in it, each followed by the row's key.
     indexes: Vec<OrderedMap<()>>,
+    /// How many rows were taken out, or put out by others, since these were last let go.
+    left: u64,
 }
 
 impl Model for Table {
@@ -63,6 +70,7 @@ impl Table {
             rows: OrderedMap::new(alloc),
             live: 0,
             indexes,
+            left: 0,
         })
     }
 
@@ -89,6 +97,20 @@ impl Table {
         ensures answer { Inserts self.old self.new row steps.old steps.new result }
         ensures def { self.new.contents.def ≡ self.old.contents.def }
         ensures keeps { StillKeeps self.old self.new }
+    {
+        if self.live == MOST_ROWS {
+            return Err(RowFault::Full);
+        }
+        let place = self.rows.get(Probe::In {
+            columns: self.def.key.items(),
+            row: row.values(),
+        });
+        match place {
+            Some(Some(_)) => Err(RowFault::Duplicate),
+            Some(None) => self.insert_again(row, steps),
+            None => self.insert_first(row, steps),
+        }
+    }
 
     /// Takes the row that has the key out, which is one row step. `None` comes exactly where no row has it.
     pub fn erase<L: Ledger>(&mut self, key: &Key, steps: &mut Steps<L>) -> Option<Row>
@@ -97,6 +119,11 @@ impl Table {
         ensures fits { IfSome result (λ row. IsRow self.old.contents.def row) }
         ensures rows { self.new.contents ≡ without_row key.now self.old.contents }
         ensures steps { steps.new ≡ steps.old + (if is_some result then 1 else 0) }
+    {
+        let row = self.hide(key, steps);
+        self.settle();
+        row
+    }
 
     /// Puts a row in the place of the row that has its key, and gives that one; this is one row step.
     /// `Absent` comes exactly where no row has the key. `Memory` may come at any time. A refusal changes nothing.
@@ -105,6 +132,11 @@ impl Table {
         ensures answer { Changes self.old self.new row steps.old steps.new result }
         ensures def { self.new.contents.def ≡ self.old.contents.def }
         ensures fits { IfOk result (λ was. IsRow self.old.contents.def was) }
+    {
+        let was = self.swap(row, steps)?;
+        self.settle();
+        Ok(was)
+    }
 
     /// Takes the row that has the key out as `erase` does, and keeps it: `revive` can put it back. It takes no
     /// memory. `None` comes exactly where no row has the key, and then nothing changes.
@@ -117,6 +149,13 @@ impl Table {
         ensures none { IfNone result (self.new ≡ self.old) }
         ensures kept { IfSome result (λ row. KeepsRow self.new row) }
         ensures keeps { StillKeeps self.old self.new }
+    {
+        let row = self.rows.take_row(Probe::Of(key.values()))?;
+        self.live -= 1;
+        self.left = self.left.saturating_add(1);
+        steps.tick();
+        Some(row)
+    }
 
     /// Puts a row in the place of the row that has its key, as `change` does, and keeps that one: `revive` can
     /// put it back. `Absent` comes exactly where no row has the key. `Memory` may come at any time. A refusal
@@ -128,6 +167,24 @@ impl Table {
         ensures fits { IfOk result (λ was. IsRow self.old.contents.def was) }
         ensures kept { IfOk result (λ was. KeepsRow self.new was) }
         ensures keeps { StillKeeps self.old self.new }
+    {
+        let probe = Probe::In {
+            columns: self.def.key.items(),
+            row: row.values(),
+        };
+        if self.rows.row_at(probe).is_none() {
+            return Err(RowFault::Absent);
+        }
+        enter(self.alloc, &mut self.indexes, &self.def, row.values())?;
+        match self.rows.replace_row(self.def.key.items(), row) {
+            Some(was) => {
+                self.left = self.left.saturating_add(1);
+                steps.tick();
+                Ok(was)
+            }
+            None => Err(RowFault::Absent),
+        }
+    }
 
     /// Makes a row that the table keeps the row of its key. A row that had the key is dropped, and else the
     /// table has room for one more. This is one row step, and takes no memory.
@@ -138,39 +195,99 @@ impl Table {
         ensures rows { self.new.contents ≡ with_row self.old.contents row }
         ensures steps { steps.new ≡ steps.old + 1 }
         ensures keeps { StillKeeps self.old self.new }
+    {
+        steps.tick();
+        if self.rows.replace_row(self.def.key.items(), row).is_none() {
+            self.live += 1;
+        }
+    }
 
     /// Lets the rows go that were taken out: their places and entries may be used again. No row of the table
     /// changes. It takes no memory.
     pub fn settle(&mut self)
         ensures { self.new.contents ≡ self.old.contents }
+    {
+        if self.left > u64::from(self.live) + FEW_LEFT {
+            settle_entries(&self.def, &self.rows, &mut self.indexes);
+            self.rows.retain(HasRow);
+            self.left = 0;
+        }
+    }
 
     /// The row that has the key.
     pub fn get(&self, key: &Key) -> Option<&Row>
         requires { IsKey self.now.contents.def key.now }
         ensures row { option_copied result ≡ keyed self.now.contents key.now }
         ensures fits { IfSome result (λ row. IsRow self.now.contents.def row.now) }
+    {
+        self.rows.row_at(Probe::Of(key.values()))
+    }
+
+    /// The row that has the key of a row. It takes no memory.
+    pub fn namesake(&self, row: &Row) -> Option<&Row>
+        requires { HasColumns self.now.contents.def row.now }
+        ensures row { option_copied result ≡ namesake self.now.contents row.now }
+        ensures fits { IfSome result (λ row. IsRow self.now.contents.def row.now) }
+    {
+        self.rows.row_at(Probe::In {
+            columns: self.def.key.items(),
+            row: row.values(),
+        })
+    }
+
+    /// Whether there are 200,000 rows, so that no further one can be put in.
+    pub fn is_full(&self) -> bool
+        ensures { IsTrue result ↔ (length self.now.contents.rows ≡ most_rows) }
+    {
+        self.live == MOST_ROWS
+    }
 
     /// The first row with a greater key; without a key the first row.
     pub fn next_after(&self, key: Option<&Key>) -> Option<&Row>
         requires { ForSome key (λ k. IsKey self.now.contents.def k.now) }
         ensures row { option_copied result ≡ row_after self.now.contents.def.key (option_copied key.entry) self.now.contents.rows }
         ensures fits { IfSome result (λ row. IsRow self.now.contents.def row.now) }
+    {
+        match key {
+            Some(key) => self.rows.row_after(Some(Probe::Of(key.values()))),
+            None => self.rows.row_after(None),
+        }
+    }
 
     /// The last row with a smaller key; without a key the last row.
     pub fn prev_before(&self, key: Option<&Key>) -> Option<&Row>
         requires { ForSome key (λ k. IsKey self.now.contents.def k.now) }
         ensures row { option_copied result ≡ row_before self.now.contents.def.key (option_copied key.entry) self.now.contents.rows }
         ensures fits { IfSome result (λ row. IsRow self.now.contents.def row.now) }
+    {
+        match key {
+            Some(key) => self.rows.row_before(Some(Probe::Of(key.values()))),
+            None => self.rows.row_before(None),
+        }
+    }
 
     /// Whether a row with another key agrees with the row in a UNIQUE list in which neither has a null
     /// (ISO/IEC 9075:1992, 8.9). It takes no memory and copies nothing.
     pub fn clash(&self, row: &Row) -> bool
         requires { HasColumns self.now.contents.def row.now }
         ensures { result ≡ clashes self.now.contents.def row.now self.now.contents.rows }
+    {
+        has_rival(&self.def, &self.rows, self.indexes.as_slice(), row.values())
+    }
 
     /// The same table in memory of its own.
     pub fn copy(&self, alloc: Global) -> Result<Table, AllocError>
         ensures { IfOk result (λ t. t ≡ self.now) }
+    {
+        Ok(Table {
+            def: self.def.copy(alloc)?,
+            alloc,
+            rows: self.rows.copy(alloc)?,
+            live: self.live,
+            indexes: copied_indexes(alloc, self.indexes.as_slice())?,
+            left: self.left,
+        })
+    }
 
     /// The key of a row. A key of one number takes no memory.
     pub fn key_of(&self, alloc: Global, row: &Row) -> Result<Key, AllocError>
@@ -180,4 +297,52 @@ impl Table {
     {
         Key::of_row(alloc, self.def.key.items(), row)
     }
+
+    /// Puts a row in whose key has a place, but no row.
+    fn insert_again<L: Ledger>(&mut self, row: Row, steps: &mut Steps<L>) -> Result<(), RowFault>
+        requires fits { IsRow self.old.contents.def row }
+        requires room { length self.old.contents.rows < most_rows }
+        requires place { has_key self.old.places (values_at self.old.contents.def.key row) ≡ true }
+        requires absent { namesake self.old.contents row ≡ None }
+        ensures answer { Inserts self.old self.new row steps.old steps.new result }
+        ensures def { self.new.contents.def ≡ self.old.contents.def }
+        ensures keeps { StillKeeps self.old self.new }
+    {
+        enter(self.alloc, &mut self.indexes, &self.def, row.values())?;
+        let _none = self.rows.replace_row(self.def.key.items(), row);
+        self.live += 1;
+        steps.tick();
+        Ok(())
+    }
+
+    /// Puts a row in whose key has no place.
+    fn insert_first<L: Ledger>(&mut self, row: Row, steps: &mut Steps<L>) -> Result<(), RowFault>
+        requires fits { IsRow self.old.contents.def row }
+        requires room { length self.old.contents.rows < most_rows }
+        requires absent { has_key self.old.places (values_at self.old.contents.def.key row) ≡ false }
+        ensures answer { Inserts self.old self.new row steps.old steps.new result }
+        ensures def { self.new.contents.def ≡ self.old.contents.def }
+        ensures keeps { StillKeeps self.old self.new }
+    {
+        let key = Key::of_row(self.alloc, self.def.key.items(), &row)?;
+        self.rows.reserve()?;
+        enter(self.alloc, &mut self.indexes, &self.def, row.values())?;
+        self.rows.insert(key, Some(row));
+        self.live += 1;
+        steps.tick();
+        Ok(())
+    }
+}
+
+fn copied_indexes(
+    alloc: Global,
+    indexes: &[OrderedMap<()>],
+) -> Result<Vec<OrderedMap<()>>, AllocError>
+    ensures { IfOk result (λ copy. entries_of copy.items ≡ entries_of indexes.now) }
+{
+    let mut copy = Vec::new(alloc);
+    for index in indexes {
+        copy.push(index.copy(alloc)?)?;
+    }
+    Ok(copy)
 }
