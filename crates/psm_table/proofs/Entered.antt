@@ -1,5 +1,6 @@
 -- The entries of a row in the sets of UNIQUE lists.
-use Rattle.std.proofs.Common.{◌≡◌, ℕ, zero, suc, ◌+◌, ◌<◌, ◌≤◌, List, [], ◌∷◌, length, get_or, set, take, Bool, true, false, refl, ap, sym, subst, ◌∙◌, add-one, arith, inl, inr}
+use Rattle.std.proofs.Common.{◌≡◌, ℕ, zero, suc, ◌+◌, ◌<◌, ◌≤◌, List, [], ◌∷◌, length, get_or, set, take, Bool, true, false, refl, ap, sym, subst, ◌∙◌, add-one, arith, inl, inr, Some, None}
+use Rattle.std.specs.Prelude.{is_some, Option, Result, Ok, Err, OnOk, OnErr}
 use Rattle.std.specs.List.{AllZip}
 use Rattle.std.proofs.lemmas.Bool.{cases_eq, cases_lt}
 use Rattle.std.proofs.lemmas.List.{length-map, length-set, get_or-map, get_or_default, get_or-take}
@@ -8,12 +9,12 @@ use Rattle.psm_table.specs.declared.definition.TableDef.{TableDef}
 use Rattle.psm_table.specs.declared.map.Pair.{Pair}
 use Rattle.psm_table.specs.Held.{entries_of, IsEntered}
 use Rattle.psm_table.specs.Index.{Grow, IsEnteredFrom}
-use Rattle.psm_table.specs.Map.{keys_of, with_pair}
+use Rattle.psm_table.specs.Map.{keys_of, value_of, with_pair}
 use Rattle.psm_table.specs.Mapped.{Mapped}
 use Rattle.psm_table.specs.State.{entry_of, has_key, HasEntry}
 use Rattle.psm_table.specs.Unique.{has_null}
 use Rattle.psm_table.specs.Key.{values_at}
-use Rattle.psm_table.proofs.Keys.{has-grown, has-new}
+use Rattle.psm_table.proofs.Keys.{has-grown, has-new, has_value}
 
 abbrev pub Sets : Type 0
 Sets = List (Mapped (Unit {0}))
@@ -173,3 +174,18 @@ module _ (def : TableDef) (row : List Datum) (i : ℕ) (columns : List ℕ) (lon
               subst (λ (s : List (List Datum)). HasEntry def row (get_or def.unique k d) s)
               (sym (get-entries (set between i last) k last e (omega (arith, inside_k, length-set between i last)) ∙ ap (λ (m : Mapped (Unit {0})). keys_of m.pairs) (get-set_other between i k last last (λ f. absurd (omega (arith, f, from)))) ∙ sym (get-entries between k last e inside_k)))
               (later k d e from (omega (arith, inside_k, length-entries between))))
+
+pub on_ok : {E : Type 0} (r : Result (Unit {0}) E) (P Q : Type 0) → (P → Q) → OnOk r P → OnOk r Q
+on_ok (Ok u) P Q f p = f p
+on_ok (Err e) P Q f p = tt
+
+pub on_err : {E : Type 0} (r : Result (Unit {0}) E) (P : Type 0) → P → OnErr r P
+on_err (Ok u) P p = tt
+on_err (Err e) P p = p
+
+no_value : {V : Type 0} (o : Option V) → is_some o ≡ false → o ≡ None
+no_value None e = refl
+no_value (Some u) e = cc
+
+pub none_there : {V : Type 0} (key : List Datum) (pairs : List (Pair V)) → has_key (keys_of pairs) key ≡ false → value_of key pairs ≡ None
+none_there key pairs e = no_value (value_of key pairs) (has_value key pairs ∙ e)

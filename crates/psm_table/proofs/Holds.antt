@@ -1,7 +1,9 @@
 -- What the calls of a table leave of it: a row taken out, put in, or put in the place of another.
-use Rattle.std.proofs.Common.{◌≡◌, ℕ, zero, suc, ◌+◌, ◌-◌, ◌<◌, ◌≤◌, List, [], ◌∷◌, ◌++◌, length, length-append, get_or, Bool, true, false, refl, ap, sym, subst, ◌∙◌, arith, Some, None, inl, inr}
-use Rattle.std.specs.Prelude.{All, cond, filter, is_some, IsSome, Option, option_map, if◌then◌else◌}
+use Rattle.std.proofs.Common.{◌≡◌, Bor, ℕ, zero, suc, ◌+◌, ◌-◌, ◌<◌, ◌≤◌, List, [], ◌∷◌, ◌++◌, length, length-append, get_or, Bool, true, false, refl, ap, sym, subst, ◌∙◌, arith, Some, None, inl, inr}
+use Rattle.std.specs.Prelude.{All, cond, filter, is_some, IfNone, IfSome, IsSome, slice_get, Option, option_map, if◌then◌else◌}
 use Rattle.std.specs.List.{cons_option}
+use Rattle.std.specs.Option.{option_copied}
+use Rattle.std.proofs.lemmas.Option.{get_or_from_slice_get, slice_get_within}
 use Rattle.std.proofs.lemmas.List.Elements.{All-filter, All-nil, filter_map-append}
 use Rattle.std.proofs.lemmas.List.{get_or_default}
 use Rattle.std.specs.declared.cmp.Ordering.{Ordering}
@@ -73,6 +75,7 @@ with_value-none key (p ∷ ps) up s = none-step key p ps (key_order p.key key) u
 -- a table whose map has the same pairs
 pub held-same : (def : TableDef) (rows new : Slots) (live : ℕ) (sets more : Sets) → new.pairs ≡ rows.pairs → entries_of more ≡ entries_of sets → length more ≡ length sets → IsHeld def rows live sets → IsHeld def new live more
 held-same def rows new live sets more e f long h = record {
+  order = subst AreAscending (sym e) h.order;
   table = subst (λ ps. IsTable (record { def = def; rows = live_rows ps })) (sym e) h.table;
   count = subst (λ ps. live ≡ length (live_rows ps)) (sym e) h.count;
   keyed = subst (λ ps. All (HasItsKey def.key) ps) (sym e) h.keyed;
@@ -91,21 +94,24 @@ length-with_pair key row pairs absent =
     omega (arith, ap length split, length-append (live_rows (pairs_below key pairs)) (row ∷ live_rows (pairs_above key pairs)), length-around key pairs absent)
 
 -- a row that the table has
-module _ (def : TableDef) (rows : Slots) (live : ℕ) (sets : Sets) (h : IsHeld def rows live sets) (up : AreAscending rows.pairs) where
+module _ (def : TableDef) (rows : Slots) (live : ℕ) (sets : Sets) (h : IsHeld def rows live sets) where
+  up : AreAscending rows.pairs
+  up = h.order
+
   pub its_row : (key row : List Datum) → row_of key rows.pairs ≡ Some row → IsRow def row
-  its_row key row s = found-all (λ r. is_eq (row_order def.key key r)) (IsRow def) (live_rows rows.pairs) row (sym (held-find def rows live sets h key up) ∙ s) h.table.fit
+  its_row key row s = found-all (λ r. is_eq (row_order def.key key r)) (IsRow def) (live_rows rows.pairs) row (sym (held-find def rows live sets h key) ∙ s) h.table.fit
 
   its_place : (key row : List Datum) → row_of key rows.pairs ≡ Some row → has_key (keys_of rows.pairs) (values_at def.key row) ≡ true
   its_place key row s =
       found-all (λ r. is_eq (row_order def.key key r)) (λ r. has_key (keys_of rows.pairs) (values_at def.key r) ≡ true) (live_rows rows.pairs) row
-      (sym (held-find def rows live sets h key up) ∙ s) (have_places def.key rows.pairs h.keyed)
+      (sym (held-find def rows live sets h key) ∙ s) (have_places def.key rows.pairs h.keyed)
 
   its_entries : (key row : List Datum) → row_of key rows.pairs ≡ Some row → IsEntered def (entries_of sets) row
   its_entries key row s =
-      found-all (λ r. is_eq (row_order def.key key r)) (IsEntered def (entries_of sets)) (live_rows rows.pairs) row (sym (held-find def rows live sets h key up) ∙ s) h.entered
+      found-all (λ r. is_eq (row_order def.key key r)) (IsEntered def (entries_of sets)) (live_rows rows.pairs) row (sym (held-find def rows live sets h key) ∙ s) h.entered
 
   -- it is taken out
-  module _ (key row : List Datum) (new : Slots) (s : row_of key rows.pairs ≡ Some row) (e : new.pairs ≡ with_value key None rows.pairs) where
+  module _ (key row : List Datum) (new : Slots) (s : row_of key rows.pairs ≡ Some row) (e : new.pairs ≡ with_value key None rows.pairs) (order : AreAscending new.pairs) where
     fewer : suc (length (live_rows new.pairs)) ≡ length (live_rows rows.pairs)
     fewer = ap (λ ps. suc (length (live_rows ps))) e ∙ length-hidden key rows.pairs row up (some_row (value_of key rows.pairs) row s)
 
@@ -117,7 +123,7 @@ module _ (def : TableDef) (rows : Slots) (live : ℕ) (sets : Sets) (h : IsHeld 
 
     pub held-hidden : IsHeld def new (live - 1) sets
     held-hidden = held-without def rows live sets h key new (live - 1) rows_hidden (subst (All (HasItsKey def.key)) (sym e) (keyed-with_value def.key key None rows.pairs tt h.keyed))
-        (omega (arith, h.count, fewer)) (omega (arith, fewer))
+        (omega (arith, h.count, fewer)) (omega (arith, fewer)) order
 
     pub contents-hidden : contents_of def new ≡ without_row key (contents_of def rows)
     contents-hidden = ap (λ r. record { def = def; rows = r }) rows_hidden
@@ -133,7 +139,7 @@ module _ (def : TableDef) (rows : Slots) (live : ℕ) (sets : Sets) (h : IsHeld 
 
   -- a row is put where its key has a place
   module _ (row : List Datum) (new : Slots) (more : Sets) (fits : IsRow def row) (place : IsSome (value_of (values_at def.key row) rows.pairs))
-      (e : new.pairs ≡ with_value (values_at def.key row) (Some row) rows.pairs) (long : length more ≡ length sets) (grow : Grow (entries_of sets) (entries_of more)) (entered : IsEntered def (entries_of more) row) where
+      (e : new.pairs ≡ with_value (values_at def.key row) (Some row) rows.pairs) (long : length more ≡ length sets) (grow : Grow (entries_of sets) (entries_of more)) (entered : IsEntered def (entries_of more) row) (order : AreAscending new.pairs) where
     rows_put : live_rows new.pairs ≡ put def.key row (live_rows rows.pairs)
     rows_put = ap live_rows e ∙ live-replaced def.key row rows.pairs up h.keyed (pair_some (values_at def.key row) rows.pairs place)
 
@@ -154,7 +160,7 @@ module _ (def : TableDef) (rows : Slots) (live : ℕ) (sets : Sets) (h : IsHeld 
     held-over was s =
         let same : length (live_rows new.pairs) ≡ length (live_rows rows.pairs) =
             ap (λ ps. length (live_rows ps)) e ∙ length-over (values_at def.key row) rows.pairs row was up (some_row (value_of (values_at def.key row) rows.pairs) was s) in
-        held-put def rows live sets h row new live more fits rows_put keyed_put (h.count ∙ sym same) (omega (arith, same, h.table.bound)) long grow entered
+        held-put def rows live sets h row new live more fits rows_put keyed_put (h.count ∙ sym same) (omega (arith, same, h.table.bound)) long grow entered order
 
     pub kept-over : (was : List Datum) → row_of (values_at def.key row) rows.pairs ≡ Some was → KeepsRow (state_of def new more) was
     kept-over was s =
@@ -166,7 +172,7 @@ module _ (def : TableDef) (rows : Slots) (live : ℕ) (sets : Sets) (h : IsHeld 
     held-again none bound =
         let flagged : value_of (values_at def.key row) rows.pairs ≡ Some None = no_row_there (value_of (values_at def.key row) rows.pairs) place none in
         let one : length (live_rows new.pairs) ≡ suc (length (live_rows rows.pairs)) = ap (λ ps. length (live_rows ps)) e ∙ length-put (values_at def.key row) rows.pairs row up flagged in
-        held-put def rows live sets h row new (live + 1) more fits rows_put keyed_put (omega (arith, h.count, one)) (subst (λ r. length r ≤ most_rows) (sym rows_put) bound) long grow entered
+        held-put def rows live sets h row new (live + 1) more fits rows_put keyed_put (omega (arith, h.count, one)) (subst (λ r. length r ≤ most_rows) (sym rows_put) bound) long grow entered order
 
     pub room-again : row_of (values_at def.key row) rows.pairs ≡ None → length (live_rows rows.pairs) < most_rows → length (put def.key row (live_rows rows.pairs)) ≤ most_rows
     room-again none room =
@@ -176,7 +182,7 @@ module _ (def : TableDef) (rows : Slots) (live : ℕ) (sets : Sets) (h : IsHeld 
 
   -- a row is put in whose key has no place
   module _ (row : List Datum) (new : Slots) (more : Sets) (fits : IsRow def row) (absent : value_of (values_at def.key row) rows.pairs ≡ None)
-      (e : new.pairs ≡ with_pair (record { key = values_at def.key row; value = Some row }) rows.pairs) (long : length more ≡ length sets) (grow : Grow (entries_of sets) (entries_of more)) (entered : IsEntered def (entries_of more) row) where
+      (e : new.pairs ≡ with_pair (record { key = values_at def.key row; value = Some row }) rows.pairs) (long : length more ≡ length sets) (grow : Grow (entries_of sets) (entries_of more)) (entered : IsEntered def (entries_of more) row) (order : AreAscending new.pairs) where
     rows_first : live_rows new.pairs ≡ put def.key row (live_rows rows.pairs)
     rows_first = ap live_rows e ∙ live-inserted def.key row rows.pairs h.keyed
 
@@ -192,7 +198,7 @@ module _ (def : TableDef) (rows : Slots) (live : ℕ) (sets : Sets) (h : IsHeld 
         let key = values_at def.key row in
         let one : length (live_rows new.pairs) ≡ suc (length (live_rows rows.pairs)) = ap (λ ps. length (live_rows ps)) e ∙ length-with_pair key row rows.pairs absent in
         held-put def rows live sets h row new (live + 1) more fits rows_first
-        (subst (All (HasItsKey def.key)) (sym e) (keyed-with_pair def.key row rows.pairs h.keyed)) (omega (arith, h.count, one)) (omega (arith, one, room)) long grow entered
+        (subst (All (HasItsKey def.key)) (sym e) (keyed-with_pair def.key row rows.pairs h.keyed)) (omega (arith, h.count, one)) (omega (arith, one, room)) long grow entered order
 
 -- the rows are those of the keys that have one
 settled-first : (p : Slot) (o : Option (List Datum)) (ps : List Slot) → p.value ≡ o → live_rows (cond (is_some o) (p ∷ ps) ps) ≡ cons_option o (live_rows ps)
@@ -208,10 +214,11 @@ pub contents-settled : (def : TableDef) (rows new : Slots) → new.pairs ≡ fil
 contents-settled def rows new e = ap (λ r. record { def = def; rows = r }) (ap live_rows e ∙ live-settled rows.pairs)
 
 pub held-settled : (def : TableDef) (rows new : Slots) (live : ℕ) (sets more : Sets) → IsHeld def rows live sets → new.pairs ≡ filter (λ p. is_some p.value) rows.pairs
-    → length more ≡ length sets → AreEntered def (live_rows rows.pairs) (entries_of more) → IsHeld def new live more
-held-settled def rows new live sets more h e long entered =
+    → length more ≡ length sets → AreEntered def (live_rows rows.pairs) (entries_of more) → AreAscending new.pairs → IsHeld def new live more
+held-settled def rows new live sets more h e long entered order =
     let same : live_rows new.pairs ≡ live_rows rows.pairs = ap live_rows e ∙ live-settled rows.pairs in
     record {
+      order = order;
       table = subst (λ r. IsTable (record { def = def; rows = r })) (sym same) h.table;
       count = h.count ∙ ap length (sym same);
       keyed = subst (All (HasItsKey def.key)) (sym e) (All-filter (λ (p : Slot). is_some p.value) (HasItsKey def.key) rows.pairs h.keyed);
@@ -221,6 +228,7 @@ held-settled def rows new live sets more h e long entered =
 
 pub held-new : (def : TableDef) (rows : Slots) (sets : Sets) → IsDefinition def → rows.pairs ≡ [] → length sets ≡ length def.unique → IsHeld def rows 0 sets
 held-new def rows sets defined e long = record {
+  order = subst AreAscending (sym e) (λ i j d l m. absurd (omega arith));
   table = subst (λ ps. IsTable (record { def = def; rows = live_rows ps })) (sym e)
       (record { defined = defined; fit = All-nil (IsRow def); ascend = λ i j d l m. absurd (omega arith); bound = omega arith });
   count = subst (λ ps. 0 ≡ length (live_rows ps)) (sym e) refl;
@@ -228,3 +236,26 @@ held-new def rows sets defined e long = record {
   lists = long;
   entered = subst (λ ps. AreEntered def (live_rows ps) (entries_of sets)) (sym e) (All-nil (IsEntered def (entries_of sets)));
 }
+
+-- what a read lends fits
+pub found_fits : (def : TableDef) (rows : Slots) (live : ℕ) (sets : Sets) → IsHeld def rows live sets → (key : List Datum) (r : Option (Bor (List Datum))) → option_copied r ≡ row_of key rows.pairs → IfSome r (λ x. IsRow def x.now)
+found_fits def rows live sets h key None e = tt
+found_fits def rows live sets h key (Some x) e = its_row def rows live sets h key x.now (sym e)
+
+pub listed_fits : (P : List Datum → Type 0) (xs : List (List Datum)) (i : ℕ) (r : Option (Bor (List Datum))) → All P xs → option_copied r ≡ slice_get xs i → IfSome r (λ x. P x.now)
+listed_fits P xs i None a e = tt
+listed_fits P xs i (Some x) a e = subst P (get_or_from_slice_get xs i x.now [] (sym e)) (a i [] (slice_get_within xs i x.now (sym e)))
+
+pub if_none : {X : Type 0} (r : Option X) (P : Type 0) → P → IfNone r P
+if_none None P p = p
+if_none (Some x) P p = tt
+
+pub some_from : {X : Type 0} (o : Option X) → is_some o ≡ true → IsSome o
+some_from None e = cc
+some_from (Some x) e = refl
+
+pub contents-taken : (def : TableDef) (rows new : Slots) (live : ℕ) (sets : Sets) → IsHeld def rows live sets → (key : List Datum) → new.pairs ≡ with_value key None rows.pairs → contents_of def new ≡ without_row key (contents_of def rows)
+contents-taken def rows new live sets h key e = ap (λ r. record { def = def; rows = r }) (ap live_rows e ∙ live-hidden def.key key rows.pairs h.order h.keyed)
+
+pub keeps-same : (old new : State) → new ≡ old → StillKeeps old new
+keeps-same old new e row k = subst (λ s. KeepsRow s row) (sym e) k

@@ -232,9 +232,10 @@ have_keys t h = rows_exist t h
 -- a table with a row put in
 module _ (def : TableDef) (rows : Slots) (live : ℕ) (sets : Sets) (h : IsHeld def rows live sets) where
   pub held-put : (row : List Datum) (new : Slots) (count : ℕ) (more : Sets) → IsRow def row → live_rows new.pairs ≡ put def.key row (live_rows rows.pairs) → All (HasItsKey def.key) new.pairs
-      → count ≡ length (live_rows new.pairs) → length (live_rows new.pairs) ≤ most_rows → length more ≡ length sets → Grow (entries_of sets) (entries_of more) → IsEntered def (entries_of more) row
+      → count ≡ length (live_rows new.pairs) → length (live_rows new.pairs) ≤ most_rows → length more ≡ length sets → Grow (entries_of sets) (entries_of more) → IsEntered def (entries_of more) row → AreAscending new.pairs
       → IsHeld def new count more
-  held-put row new count more fits e keyed counted bound long grow entered = record {
+  held-put row new count more fits e keyed counted bound long grow entered order = record {
+    order = order;
     table = subst (λ r. IsTable (record { def = def; rows = r })) (sym e)
         (IsTable-with_row (contents_of def rows) row h.table fits (subst (λ r. length r ≤ most_rows) e bound));
     count = counted;
@@ -253,8 +254,9 @@ module _ (def : TableDef) (rows : Slots) (live : ℕ) (sets : Sets) (h : IsHeld 
 
   -- a table with the row of a key taken out
   pub held-without : (key : List Datum) (new : Slots) (count : ℕ) → live_rows new.pairs ≡ without def.key key (live_rows rows.pairs) → All (HasItsKey def.key) new.pairs
-      → count ≡ length (live_rows new.pairs) → length (live_rows new.pairs) ≤ length (live_rows rows.pairs) → IsHeld def new count sets
-  held-without key new count e keyed counted bound = record {
+      → count ≡ length (live_rows new.pairs) → length (live_rows new.pairs) ≤ length (live_rows rows.pairs) → AreAscending new.pairs → IsHeld def new count sets
+  held-without key new count e keyed counted bound order = record {
+    order = order;
     table = subst (λ r. IsTable (record { def = def; rows = r })) (sym e)
         (IsTable-without (contents_of def rows) key h.table (subst (λ r. length r ≤ most_rows) e (omega (arith, bound, h.table.bound))));
     count = counted;
@@ -267,5 +269,5 @@ module _ (def : TableDef) (rows : Slots) (live : ℕ) (sets : Sets) (h : IsHeld 
   }
 
   -- the row that a key has
-  pub held-find : (key : List Datum) → AreAscending rows.pairs → row_of key rows.pairs ≡ keyed (contents_of def rows) key
-  held-find key up = rows-find def.key key rows.pairs up h.keyed
+  pub held-find : (key : List Datum) → row_of key rows.pairs ≡ keyed (contents_of def rows) key
+  held-find key = rows-find def.key key rows.pairs h.order h.keyed

@@ -6,7 +6,7 @@ use Rattle.psm_value.specs.declared.datum.Datum.{Datum}
 use Rattle.psm_table.specs.declared.definition.TableDef.{TableDef}
 use Rattle.psm_table.specs.declared.map.Pair.{Pair}
 use Rattle.psm_table.specs.Key.{row_order}
-use Rattle.psm_table.specs.Map.{keys_of, value_of}
+use Rattle.psm_table.specs.Map.{keys_of, value_of, AreAscending}
 use Rattle.psm_table.specs.Mapped.{Mapped}
 use Rattle.psm_table.specs.State.{State, HasEntry}
 use Rattle.psm_table.specs.Table.{Contents, IsTable}
@@ -44,8 +44,9 @@ HasItsKey columns p = IfSome p.value (λ row. row_order columns p.key row ≡ Eq
 abbrev pub IsEntered : TableDef → List (List (List Datum)) → List Datum → Type 0
 IsEntered def entries row = AllZip (HasEntry def row) def.unique entries
 
--- the rows are a table, so many as are counted, each at its key, and each with its entries
+-- the keys ascend, and the rows are a table, so many as are counted, each at its key, and each with its entries
 pub record IsHeld (def : TableDef) (rows : Mapped (Option (List Datum))) (live : ℕ) (indexes : List (Mapped (Unit {0}))) : Type 0 where
+  pub order : AreAscending rows.pairs
   pub table : IsTable (contents_of def rows)
   pub count : live ≡ length (live_rows rows.pairs)
   pub keyed : All (HasItsKey def.key) rows.pairs

@@ -6,7 +6,7 @@ ghost use Rattle.psm_value.specs.declared.datum.Datum.TheVariants.{Null};
 ghost use Rattle.psm_table.specs.Held.{entries_of, live_rows, row_of, HasItsKey, IsEntered};
 ghost use Rattle.psm_table.specs.Index.{is_current, is_entry, rival_at, AreEntered, AreHarmless, Grow, HaveKeys, IsEnteredFrom};
 ghost use Rattle.psm_table.specs.Key.{values_at, AreColumnsOf};
-ghost use Rattle.psm_table.specs.Map.{keys_of, prefix_order};
+ghost use Rattle.psm_table.specs.Map.{keys_of, prefix_order, AreAscending};
 ghost use Rattle.psm_table.specs.Rows.{IsAscending};
 ghost use Rattle.psm_table.specs.State.{has_key};
 ghost use Rattle.psm_table.specs.Unique.{agree, clashes, conflict, equal_value, has_null, is_null, is_rival};
@@ -112,12 +112,12 @@ pub(crate) fn has_rival(
     requires lists { length indexes.now ≡ length def.now.unique }
     requires row { AreColumnsOf row.now def.now.key }
     requires rows { HaveKeys def.now (live_rows rows.now.pairs) }
+    requires order { AreAscending rows.now.pairs }
     requires at_keys { All (HasItsKey def.now.key) rows.now.pairs }
     requires ascend { IsAscending def.now.key (live_rows rows.now.pairs) }
     requires entered { AreEntered def.now (live_rows rows.now.pairs) (entries_of indexes.now) }
     ensures { result ≡ clashes def.now row.now (live_rows rows.now.pairs) }
 {
-    rows.ascends();
     for i in 0..indexes.len() {
         let columns = def.unique.items()[i].items();
         if !is_null_in(row, columns) && has_rival_in(def, columns, rows, &indexes[i], row) {
@@ -272,13 +272,13 @@ pub(crate) fn settle_entries(
 )
     requires lists { length indexes.old.items ≡ length def.now.unique }
     requires rows { HaveKeys def.now (live_rows rows.now.pairs) }
+    requires order { AreAscending rows.now.pairs }
     requires at_keys { All (HasItsKey def.now.key) rows.now.pairs }
     requires ascend { IsAscending def.now.key (live_rows rows.now.pairs) }
     requires entered { AreEntered def.now (live_rows rows.now.pairs) (entries_of indexes.old.items) }
     ensures lists { length indexes.new.items ≡ length indexes.old.items }
     ensures entered { AreEntered def.now (live_rows rows.now.pairs) (entries_of indexes.new.items) }
 {
-    rows.ascends();
     for i in 0..indexes.len() {
         let columns = def.unique.items()[i].items();
         indexes[i].retain(IsCurrent { def, columns, rows });

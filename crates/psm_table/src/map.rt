@@ -46,7 +46,8 @@ impl<V> Model for OrderedMap<V> {
 impl<V: Drop> OrderedMap<V> {
     /// A map without pairs.
     pub(crate) fn new(alloc: Global) -> OrderedMap<V>
-        ensures { result.pairs ≡ [] }
+        ensures pairs { result.pairs ≡ [] }
+        ensures ordered { AreAscending result.pairs }
     {
         OrderedMap {
             pairs: Vec::new(alloc),
@@ -65,13 +66,6 @@ impl<V: Drop> OrderedMap<V> {
         }
     }
 
-    /// The keys ascend.
-    pub(crate) fn ascends(&self)
-        ensures { AreAscending self.now.pairs }
-    {
-        let _pairs = self.pairs.as_slice();
-    }
-
     /// Takes the memory that one insertion needs.
     pub(crate) fn reserve(&mut self) -> Result<(), AllocError>
         ensures pairs { self.new.pairs ≡ self.old.pairs }
@@ -87,7 +81,7 @@ impl<V: Drop> OrderedMap<V> {
         requires ready { self.old.ready ≡ true }
         requires absent { value_of key self.old.pairs ≡ None }
         ensures pairs { self.new.pairs ≡ with_pair (record { key = key; value = value }) self.old.pairs }
-        ensures ordered { AreAscending self.old.pairs }
+        ensures ordered { AreAscending self.new.pairs }
     {
         self.ready = false;
         match self.find(Probe::Of(key.values())) {
@@ -180,7 +174,8 @@ impl<V: Drop> OrderedMap<V> {
     /// Keeps the pairs that pass a test.
     pub(crate) fn retain<T: Test<V>>(&mut self, test: T)
         requires { T.applies test }
-        ensures { self.new.pairs ≡ filter (T.passes test) self.old.pairs }
+        ensures pairs { self.new.pairs ≡ filter (T.passes test) self.old.pairs }
+        ensures ordered { AreAscending self.new.pairs }
     {
         self.ready = false;
         let mut left = self.pairs.len();
@@ -275,7 +270,7 @@ impl OrderedMap<Option<Row>> {
         requires { FitsProbe probe }
         ensures row { result ≡ row_of (probe_key probe.entry) self.old.pairs }
         ensures pairs { self.new.pairs ≡ with_value (probe_key probe.entry) None self.old.pairs }
-        ensures ordered { AreAscending self.old.pairs }
+        ensures ordered { AreAscending self.new.pairs }
     {
         match self.find(probe) {
             Ok(at) => mem::replace(&mut self.pairs[at].value, None),
@@ -289,7 +284,7 @@ impl OrderedMap<Option<Row>> {
         requires place { IsSome (value_of (values_at columns.now row) self.old.pairs) }
         ensures row { result ≡ row_of (values_at columns.now row) self.old.pairs }
         ensures pairs { self.new.pairs ≡ with_value (values_at columns.now row) (Some row) self.old.pairs }
-        ensures ordered { AreAscending self.old.pairs }
+        ensures ordered { AreAscending self.new.pairs }
     {
         let place = self.find(Probe::In {
             columns,
