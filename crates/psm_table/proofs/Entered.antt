@@ -1,9 +1,9 @@
 -- The entries of a row in the sets of UNIQUE lists.
-use Rattle.std.proofs.Common.{◌≡◌, ℕ, zero, suc, ◌+◌, ◌<◌, ◌≤◌, List, [], ◌∷◌, length, get_or, set, take, Bool, true, false, refl, ap, sym, subst, ◌∙◌, add-one, arith, inl, inr, Some, None}
+use Rattle.std.proofs.Common.{◌≡◌, ℕ, zero, suc, ◌+◌, ◌<◌, ◌≤◌, List, [], ◌∷◌, ◌++◌, length, get_or, set, take, Bool, true, false, refl, ap, sym, subst, ◌∙◌, add-one, arith, inl, inr, Some, None}
 use Rattle.std.specs.Prelude.{is_some, Option, Result, Ok, Err, OnOk, OnErr}
 use Rattle.std.specs.List.{AllZip}
 use Rattle.std.proofs.lemmas.Bool.{cases_eq, cases_lt}
-use Rattle.std.proofs.lemmas.List.{length-map, length-set, get_or-map, get_or_default, get_or-take}
+use Rattle.std.proofs.lemmas.List.{map-append, length-map, length-set, get_or-map, get_or_default, get_or-take}
 use Rattle.psm_value.specs.declared.datum.Datum.{Datum}
 use Rattle.psm_table.specs.declared.definition.TableDef.{TableDef}
 use Rattle.psm_table.specs.declared.map.Pair.{Pair}
@@ -183,9 +183,23 @@ pub on_err : {E : Type 0} (r : Result (Unit {0}) E) (P : Type 0) → P → OnErr
 on_err (Ok u) P p = tt
 on_err (Err e) P p = p
 
-no_value : {V : Type 0} (o : Option V) → is_some o ≡ false → o ≡ None
+pub no_value : {V : Type 0} (o : Option V) → is_some o ≡ false → o ≡ None
 no_value None e = refl
 no_value (Some u) e = cc
 
 pub none_there : {V : Type 0} (key : List Datum) (pairs : List (Pair V)) → has_key (keys_of pairs) key ≡ false → value_of key pairs ≡ None
 none_there key pairs e = no_value (value_of key pairs) (has_value key pairs ∙ e)
+
+-- copies of some first sets, and of one more
+take-more : {X : Type 0} (xs : List X) (i : ℕ) (d : X) → i < length xs → take (suc i) xs ≡ take i xs ++ get_or xs i d ∷ []
+take-more [] i d l = absurd (omega arith)
+take-more (x ∷ xs) zero d l = refl
+take-more (x ∷ xs) (suc i) d l = ap (λ r. x ∷ r) (take-more xs i d (omega arith))
+
+pub entries-more : (copies sets : Sets) (i : ℕ) (m x : Mapped (Unit {0})) → entries_of copies ≡ take i (entries_of sets) → i < length sets → x ≡ get_or sets i x → m.pairs ≡ x.pairs
+    → entries_of (copies ++ m ∷ []) ≡ take (i + 1) (entries_of sets)
+entries-more copies sets i m x e l at same =
+    map-append (λ (y : Mapped (Unit {0})). keys_of y.pairs) copies (m ∷ [])
+    ∙ ap (λ es. es ++ keys_of m.pairs ∷ []) e
+    ∙ ap (λ ks. take i (entries_of sets) ++ ks ∷ []) (ap (λ (ps : List (Pair (Unit {0}))). keys_of ps) (same ∙ ap (λ (y : Mapped (Unit {0})). y.pairs) at) ∙ sym (get-entries sets i x [] l))
+    ∙ rw add-one (sym (take-more (entries_of sets) i [] (omega (arith, l, length-entries sets))))

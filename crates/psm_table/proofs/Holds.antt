@@ -36,7 +36,7 @@ some_row (Some (Some r)) row e = ap (λ (x : Option (List Datum)). Some x) e
 some_place : (o : Option (Option (List Datum))) (row : List Datum) → o ≡ Some (Some row) → the_row o ≡ Some row
 some_place o row e = ap the_row e
 
-has_place : (o : Option (Option (List Datum))) (row : List Datum) → the_row o ≡ Some row → IsSome o
+pub has_place : (o : Option (Option (List Datum))) (row : List Datum) → the_row o ≡ Some row → IsSome o
 has_place None row e = cc
 has_place (Some x) row e = refl
 
@@ -259,3 +259,12 @@ contents-taken def rows new live sets h key e = ap (λ r. record { def = def; ro
 
 pub keeps-same : (old new : State) → new ≡ old → StillKeeps old new
 keeps-same old new e row k = subst (λ s. KeepsRow s row) (sym e) k
+
+pub some_is : {X : Type 0} (o : Option X) → is_some o ≡ true → (x : X) × (o ≡ Some x)
+some_is None e = cc
+some_is (Some x) e = (x, refl)
+
+-- a copy of a table
+pub held-copy : (def other : TableDef) (rows new : Slots) (live : ℕ) (sets more : Sets) → other ≡ def → new.pairs ≡ rows.pairs → entries_of more ≡ entries_of sets → IsHeld def rows live sets → IsHeld other new live more
+held-copy def other rows new live sets more d e f h =
+    subst (λ x. IsHeld x new live more) (sym d) (held-same def rows new live sets more e f (omega (arith, ap length f, length-entries sets, length-entries more)) h)

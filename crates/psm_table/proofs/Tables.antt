@@ -36,28 +36,28 @@ module _ (columns : List ℕ) (key : List Datum) (rows : List (List Datum)) wher
   above = filtered (λ r. is_gt (row_order columns key r)) (λ r. key_order key (values_at columns r) ≡ Less)
       (λ r e. key_order-total.antisymm key (values_at columns r) ∙ ap ordering_reverse (greater_is (row_order columns key r) e)) rows
 
-  abbrev Rises : List Datum → List Datum → Type 0
-  Rises a b = key_order (values_at columns a) (values_at columns b) ≡ Less
+  abbrev Ascends : List Datum → List Datum → Type 0
+  Ascends a b = key_order (values_at columns a) (values_at columns b) ≡ Less
 
   -- each row before the key is before each one after it
-  across : All (λ a. All (Rises a) (rows_above columns key rows)) (rows_below columns key rows)
+  across : All (λ a. All (Ascends a) (rows_above columns key rows)) (rows_below columns key rows)
   across k d l k' d' l' =
       key_order-total.trans (values_at columns (get_or (rows_below columns key rows) k d)) key (values_at columns (get_or (rows_above columns key rows) k' d')) (below k d l) (above k' d' l')
 
   pub ascending-without : IsAscending columns rows → IsAscending columns (without columns key rows)
   ascending-without up =
-      AllPairs-append Rises (rows_below columns key rows) (rows_above columns key rows) (AllPairs-filter Rises (λ r. is_lt (row_order columns key r)) rows up)
-      (AllPairs-filter Rises (λ r. is_gt (row_order columns key r)) rows up) across
+      AllPairs-append Ascends (rows_below columns key rows) (rows_above columns key rows) (AllPairs-filter Ascends (λ r. is_lt (row_order columns key r)) rows up)
+      (AllPairs-filter Ascends (λ r. is_gt (row_order columns key r)) rows up) across
 
 pub ascending-put : (columns : List ℕ) (row : List Datum) (rows : List (List Datum)) → IsAscending columns rows → IsAscending columns (put columns row rows)
 ascending-put columns row rows up =
     let key = values_at columns row in
-    let rises = λ (a b : List Datum). key_order (values_at columns a) (values_at columns b) ≡ Less in
+    let ascends = λ (a b : List Datum). key_order (values_at columns a) (values_at columns b) ≡ Less in
     let low = rows_below columns key rows in
     let high = rows_above columns key rows in
-    AllPairs-append rises low (row ∷ high) (AllPairs-filter rises (λ r. is_lt (row_order columns key r)) rows up)
-    (AllPairs-cons rises row high (above columns key rows) (AllPairs-filter rises (λ r. is_gt (row_order columns key r)) rows up))
-    (λ k d l. All-cons (rises (get_or low k d)) row high (below columns key rows k d l) (across columns key rows k d l))
+    AllPairs-append ascends low (row ∷ high) (AllPairs-filter ascends (λ r. is_lt (row_order columns key r)) rows up)
+    (AllPairs-cons ascends row high (above columns key rows) (AllPairs-filter ascends (λ r. is_gt (row_order columns key r)) rows up))
+    (λ k d l. All-cons (ascends (get_or low k d)) row high (below columns key rows k d l) (across columns key rows k d l))
 
 -- a column of the key is one of the row's
 pub key_exists : (def : TableDef) (row : List Datum) → IsDefinition def → IsRow def row → AreColumnsOf row def.key
