@@ -14,5 +14,6 @@ pub mod RowOrders
 pub mod Searches
 pub mod Tables
 pub mod Undo
+pub mod UniqueLaws
 pub mod Uniques
 pub mod Walks

@@ -28,7 +28,7 @@ returns-in_err-enter-clause-keeps g c =
 
 pub invariant_of-self-in-Some : goal.invariant_of-self-in-Some
 invariant_of-self-in-Some g c =
-    let fits : IsRow c.self.inside.def c.args.row = subst (λ (s : State). IsRow s.contents.def c.args.row) (sym c.self.view_is) c.requires.fits in
+    let fits : IsRow c.self.inside.def c.args.row = subst (λ (s : State). IsRow s.contents.def c.args.row) (sym c.self.view_is) c.requires in
     let some : row_of (values_at c.self.inside.def.key c.args.row) c.self.inside.rows.pairs ≡ Some c.in-Some.was = sym (c.in-Some.ensures.row ∙ ap (λ (k : List ℕ). row_of (values_at k c.args.row) c.self.inside.rows.pairs) c.items.ensures) in
     let place : IsSome (value_of (values_at c.self.inside.def.key c.args.row) c.self.inside.rows.pairs) = has_place (value_of (values_at c.self.inside.def.key c.args.row) c.self.inside.rows.pairs) c.in-Some.was some in
     let e : c.replace_row.new.self.pairs ≡ with_value (values_at c.self.inside.def.key c.args.row) (Some c.args.row) c.self.inside.rows.pairs =
@@ -46,7 +46,7 @@ invariant_of-self-in-None g c =
 
 pub returns-in-Some-clause-answer : goal.returns-in-Some-clause-answer
 returns-in-Some-clause-answer g c =
-    let fits : IsRow c.self.inside.def c.args.row = subst (λ (s : State). IsRow s.contents.def c.args.row) (sym c.self.view_is) c.requires.fits in
+    let fits : IsRow c.self.inside.def c.args.row = subst (λ (s : State). IsRow s.contents.def c.args.row) (sym c.self.view_is) c.requires in
     let some : row_of (values_at c.self.inside.def.key c.args.row) c.self.inside.rows.pairs ≡ Some c.in-Some.was = sym (c.in-Some.ensures.row ∙ ap (λ (k : List ℕ). row_of (values_at k c.args.row) c.self.inside.rows.pairs) c.items.ensures) in
     let place : IsSome (value_of (values_at c.self.inside.def.key c.args.row) c.self.inside.rows.pairs) = has_place (value_of (values_at c.self.inside.def.key c.args.row) c.self.inside.rows.pairs) c.in-Some.was some in
     let e : c.replace_row.new.self.pairs ≡ with_value (values_at c.self.inside.def.key c.args.row) (Some c.args.row) c.self.inside.rows.pairs =
@@ -62,7 +62,7 @@ returns-in-Some-clause-fits g c =
 
 pub returns-in-Some-clause-kept : goal.returns-in-Some-clause-kept
 returns-in-Some-clause-kept g c =
-    let fits : IsRow c.self.inside.def c.args.row = subst (λ (s : State). IsRow s.contents.def c.args.row) (sym c.self.view_is) c.requires.fits in
+    let fits : IsRow c.self.inside.def c.args.row = subst (λ (s : State). IsRow s.contents.def c.args.row) (sym c.self.view_is) c.requires in
     let some : row_of (values_at c.self.inside.def.key c.args.row) c.self.inside.rows.pairs ≡ Some c.in-Some.was = sym (c.in-Some.ensures.row ∙ ap (λ (k : List ℕ). row_of (values_at k c.args.row) c.self.inside.rows.pairs) c.items.ensures) in
     let place : IsSome (value_of (values_at c.self.inside.def.key c.args.row) c.self.inside.rows.pairs) = has_place (value_of (values_at c.self.inside.def.key c.args.row) c.self.inside.rows.pairs) c.in-Some.was some in
     let e : c.replace_row.new.self.pairs ≡ with_value (values_at c.self.inside.def.key c.args.row) (Some c.args.row) c.self.inside.rows.pairs =
@@ -72,7 +72,7 @@ returns-in-Some-clause-kept g c =
 
 pub returns-in-Some-clause-keeps : goal.returns-in-Some-clause-keeps
 returns-in-Some-clause-keeps g c =
-    let fits : IsRow c.self.inside.def c.args.row = subst (λ (s : State). IsRow s.contents.def c.args.row) (sym c.self.view_is) c.requires.fits in
+    let fits : IsRow c.self.inside.def c.args.row = subst (λ (s : State). IsRow s.contents.def c.args.row) (sym c.self.view_is) c.requires in
     let some : row_of (values_at c.self.inside.def.key c.args.row) c.self.inside.rows.pairs ≡ Some c.in-Some.was = sym (c.in-Some.ensures.row ∙ ap (λ (k : List ℕ). row_of (values_at k c.args.row) c.self.inside.rows.pairs) c.items.ensures) in
     let place : IsSome (value_of (values_at c.self.inside.def.key c.args.row) c.self.inside.rows.pairs) = has_place (value_of (values_at c.self.inside.def.key c.args.row) c.self.inside.rows.pairs) c.in-Some.was some in
     let e : c.replace_row.new.self.pairs ≡ with_value (values_at c.self.inside.def.key c.args.row) (Some c.args.row) c.self.inside.rows.pairs =
