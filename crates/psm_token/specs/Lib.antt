@@ -4,6 +4,7 @@ pub mod FaultTexts
 pub mod Faults
 pub mod Forms
 pub mod Fronts
+pub mod Kinds
 pub mod Listed
 pub mod Lookup
 pub mod Numbers

@@ -1,28 +1,34 @@
--- The signs (ISO/IEC 9075:1992, 5.1 and 5.2).
+-- The signs (ISO/IEC 9075:1992, 5.1 and 5.2): the one table of their kinds and texts.
 use Rattle.std.specs.Prelude.{ℕ, ◌&&◌, List, [], ◌∷◌, codes, nat_eq, Option, Some, None, if◌then◌else◌}
 use Rattle.psm_token.specs.declared.sign.Sign.{Sign}
 use Rattle.psm_token.specs.declared.sign.Sign.TheVariants.{LeftParen, RightParen, Comma, Semicolon, Colon, Period, Equal, NotEqual, Less, LessEqual, Greater, GreaterEqual, Plus, Minus, Asterisk, Solidus, Concatenation, QuestionMark}
 
--- how a sign is written
+-- the number of a sign's kind of tokens, and how the sign is written
+abbrev pub sign_entry : Sign → ℕ × List ℕ
+sign_entry LeftParen = (3, codes "(")
+sign_entry RightParen = (4, codes ")")
+sign_entry Comma = (5, codes ",")
+sign_entry Semicolon = (6, codes ";")
+sign_entry Colon = (7, codes ":")
+sign_entry Period = (8, codes ".")
+sign_entry Equal = (9, codes "=")
+sign_entry NotEqual = (10, codes "<>")
+sign_entry Less = (11, codes "<")
+sign_entry LessEqual = (12, codes "<=")
+sign_entry Greater = (13, codes ">")
+sign_entry GreaterEqual = (14, codes ">=")
+sign_entry Plus = (15, codes "+")
+sign_entry Minus = (16, codes "-")
+sign_entry Asterisk = (17, codes "*")
+sign_entry Solidus = (18, codes "/")
+sign_entry Concatenation = (19, codes "||")
+sign_entry QuestionMark = (20, codes "?")
+
+abbrev pub sign_kind : Sign → ℕ
+sign_kind s = (sign_entry s).0
+
 abbrev pub sign_text : Sign → List ℕ
-sign_text LeftParen = codes "("
-sign_text RightParen = codes ")"
-sign_text Comma = codes ","
-sign_text Semicolon = codes ";"
-sign_text Colon = codes ":"
-sign_text Period = codes "."
-sign_text Equal = codes "="
-sign_text NotEqual = codes "<>"
-sign_text Less = codes "<"
-sign_text LessEqual = codes "<="
-sign_text Greater = codes ">"
-sign_text GreaterEqual = codes ">="
-sign_text Plus = codes "+"
-sign_text Minus = codes "-"
-sign_text Asterisk = codes "*"
-sign_text Solidus = codes "/"
-sign_text Concatenation = codes "||"
-sign_text QuestionMark = codes "?"
+sign_text s = (sign_entry s).1
 
 -- the sign of one character
 abbrev pub lone_sign : ℕ → Option Sign

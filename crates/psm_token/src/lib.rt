@@ -20,5 +20,5 @@ pub use lexer::tokens;
 pub use list::TokenList;
 pub use place::Place;
 pub use sign::Sign;
-pub use token::{Placed, Token};
+pub use token::{NAME_KIND, NUMBER_KIND, Placed, TEXT_KIND, Token};
 pub use word::Word;

@@ -1,5 +1,6 @@
 //! A list of tokens.
-ghost use Rattle.std.specs.Prelude.{◌≡◌};
+ghost use Rattle.std.specs.Prelude.{◌≡◌, ◌≤◌, length};
+ghost use Rattle.psm_token.specs.Spells.{most_tokens};
 
 use crate::place::Place;
 use crate::token::Placed;
@@ -21,7 +22,9 @@ impl Model for TokenList {
 }
 
 impl TokenList {
-    pub(crate) fn of(items: Vec<Placed>, end: Place) -> TokenList
+    /// The list of these tokens, of which there are 2,000,000 at most, before that end.
+    pub fn of(items: Vec<Placed>, end: Place) -> TokenList
+        requires { length items.items ≤ most_tokens }
         ensures { result ≡ record { tokens = items.items; end = end } }
     {
         TokenList { items, end }

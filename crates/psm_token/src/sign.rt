@@ -1,11 +1,11 @@
 //! The signs: the special characters that are tokens of their own (ISO/IEC 9075:1992, 5.1 and 5.2).
 ghost use Rattle.std.specs.Prelude.{◌≡◌};
-ghost use Rattle.psm_token.specs.Signs.{sign_text, lone_sign as lone_sign_of, pair_sign as pair_sign_of};
+ghost use Rattle.psm_token.specs.Signs.{sign_text, sign_kind, lone_sign as lone_sign_of, pair_sign as pair_sign_of};
 
-/// A sign of one character or two.
+/// A sign of one character or two. Its number is that of its kind of tokens.
 #[derive(Clone, Copy, Debug, PartialEq, Eq)]
 pub enum Sign {
-    LeftParen,
+    LeftParen = 3,
     RightParen,
     Comma,
     Semicolon,
@@ -26,6 +26,13 @@ pub enum Sign {
 }
 
 impl Sign {
+    /// The number of the sign's kind of tokens.
+    pub fn kind(self) -> u8
+        ensures { result ≡ sign_kind self }
+    {
+        self as u8
+    }
+
     /// The sign as it is written.
     pub fn text(self) -> &'static str
         ensures { result.now ≡ sign_text self }

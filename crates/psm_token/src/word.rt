@@ -1,12 +1,13 @@
-//! The words of the language (ISO/IEC 9075:1992, 5.2, and 9075-4:1996), in alphabetical order.
+//! The words of the language (ISO/IEC 9075:1992, 5.2, and 9075-4:1996).
 ghost use Rattle.std.specs.Prelude.{◌≡◌};
-ghost use Rattle.psm_token.specs.Words.{text_of, is_reserved as is_reserved_word};
+ghost use Rattle.psm_token.specs.Words.{text_of, word_kind, is_reserved as is_reserved_word};
 ghost use Rattle.psm_token.specs.Lookup.{among as among_words, shelf_of, lookup};
 
 /// A word of the language: one that is reserved, or one that is a name where the grammar has a name.
+/// Its number is that of its kind of tokens; a new word comes last.
 #[derive(Clone, Copy, Debug, PartialEq, Eq)]
 pub enum Word {
-    And,
+    And = 21,
     As,
     Asc,
     Atomic,
@@ -148,6 +149,13 @@ pub enum Word {
 }
 
 impl Word {
+    /// The number of the word's kind of tokens.
+    pub fn kind(self) -> u8
+        ensures { result ≡ word_kind self }
+    {
+        self as u8
+    }
+
     /// Whether the word is reserved: it is a name only between quotation marks (ISO/IEC 9075:1992, 5.2).
     pub fn is_reserved(self) -> bool
         ensures { result ≡ is_reserved_word self }

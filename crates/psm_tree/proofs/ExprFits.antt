@@ -4,14 +4,16 @@ use Rattle.psm_token.specs.declared.word.Word.TheVariants as w
 use Rattle.psm_token.specs.declared.sign.Sign.TheVariants as s
 use Rattle.psm_grammar.specs.Grammar.{Grammar}
 use Rattle.psm_grammar.proofs.Fitting.{Fit, fit_fewer, fit_token, fit_nothing, fit_seq, fit_or, fit_ahead, fit_many, fit_image}
-use Rattle.psm_tree.specs.Kinds.{code, codes_of, sign_code, kind}
+use Rattle.psm_token.specs.Words.{word_kind}
+use Rattle.psm_token.specs.Signs.{sign_kind}
+use Rattle.psm_token.specs.Kinds.{kinds_of, kind}
 use Rattle.psm_tree.specs.Tests.{name_kinds, comparison, sum_operator, term_operator}
 use Rattle.psm_tree.specs.Parts.{Part, V, HandlerRest}
 use Rattle.psm_tree.specs.ExprGrammar
 
 -- what may follow each part: anything, where it ends in a token of its own; a semicolon behind a handler
 abbrev pub after : Part → Option (List ℕ)
-after HandlerRest = Some (sign_code s.Semicolon ∷ [])
+after HandlerRest = Some (sign_kind s.Semicolon ∷ [])
 after _ = None
 
 abbrev Fits : {X : Type 0} → List ℕ → Grammar kind V X → Type 0
@@ -20,17 +22,17 @@ Fits follow g = Fit after follow g
 -- ---- what may stand behind the parts of an expression
 
 abbrev pub behind_expr : List ℕ
-behind_expr = sign_code s.RightParen ∷ sign_code s.Comma ∷ sign_code s.Semicolon
-    ∷ codes_of (w.As ∷ w.From ∷ w.For ∷ w.Into ∷ w.Then ∷ w.Do ∷ w.End ∷ w.When ∷ w.Else ∷ w.Where ∷ w.Order ∷ []) ++ name_kinds
+behind_expr = sign_kind s.RightParen ∷ sign_kind s.Comma ∷ sign_kind s.Semicolon
+    ∷ kinds_of (w.As ∷ w.From ∷ w.For ∷ w.Into ∷ w.Then ∷ w.Do ∷ w.End ∷ w.When ∷ w.Else ∷ w.Where ∷ w.Order ∷ []) ++ name_kinds
 
 abbrev behind_conjunction : List ℕ
-behind_conjunction = code w.Or ∷ behind_expr
+behind_conjunction = word_kind w.Or ∷ behind_expr
 
 abbrev behind_negation : List ℕ
-behind_negation = code w.And ∷ behind_conjunction
+behind_negation = word_kind w.And ∷ behind_conjunction
 
 abbrev pub behind_sum : List ℕ
-behind_sum = comparison.kinds ++ codes_of (w.Is ∷ w.Not ∷ w.Between ∷ w.In ∷ w.Like ∷ w.Escape ∷ []) ++ behind_negation
+behind_sum = comparison.kinds ++ kinds_of (w.Is ∷ w.Not ∷ w.Between ∷ w.In ∷ w.Like ∷ w.Escape ∷ []) ++ behind_negation
 
 abbrev behind_term : List ℕ
 behind_term = sum_operator.kinds ++ behind_sum
@@ -40,13 +42,13 @@ behind_factor = term_operator.kinds ++ behind_term
 
 -- what may stand behind an item of a query, and behind a query
 abbrev behind_item : List ℕ
-behind_item = sign_code s.Comma ∷ codes_of (w.As ∷ w.From ∷ w.Into ∷ []) ++ name_kinds
+behind_item = sign_kind s.Comma ∷ kinds_of (w.As ∷ w.From ∷ w.Into ∷ []) ++ name_kinds
 
 abbrev pub behind_picks : List ℕ
-behind_picks = codes_of (w.From ∷ w.Into ∷ [])
+behind_picks = kinds_of (w.From ∷ w.Into ∷ [])
 
 abbrev pub behind_select : List ℕ
-behind_select = sign_code s.RightParen ∷ sign_code s.Semicolon ∷ codes_of (w.Order ∷ w.For ∷ w.Do ∷ [])
+behind_select = sign_kind s.RightParen ∷ sign_kind s.Semicolon ∷ kinds_of (w.Order ∷ w.For ∷ w.Do ∷ [])
 
 -- ---- values
 
@@ -73,7 +75,7 @@ sum_fit = fit_seq term_fit next_terms_fit
 between_fit : Fits behind_negation ExprGrammar.between
 between_fit = fit_seq (fit_token refl) (fit_seq (fit_fewer refl sum_fit) (fit_seq (fit_token refl) (fit_fewer refl sum_fit)))
 
-next_sums_fit : Fits (sign_code s.RightParen ∷ []) ExprGrammar.next_sums
+next_sums_fit : Fits (sign_kind s.RightParen ∷ []) ExprGrammar.next_sums
 next_sums_fit = fit_many refl refl (fit_seq (fit_token refl) (fit_fewer refl sum_fit))
 
 in_list_fit : Fits behind_negation ExprGrammar.in_list
@@ -119,19 +121,19 @@ expr_fit = fit_seq conjunction_fit next_conjunctions_fit
 pub source_fit : Fits behind_expr ExprGrammar.source
 source_fit = fit_or refl refl (fit_image (fit_token refl)) expr_fit
 
-next_sources_fit : Fits (sign_code s.RightParen ∷ []) ExprGrammar.next_sources
+next_sources_fit : Fits (sign_kind s.RightParen ∷ []) ExprGrammar.next_sources
 next_sources_fit = fit_many refl refl (fit_seq (fit_token refl) (fit_fewer refl source_fit))
 
-pub sources_fit : Fits (sign_code s.RightParen ∷ []) ExprGrammar.sources
+pub sources_fit : Fits (sign_kind s.RightParen ∷ []) ExprGrammar.sources
 sources_fit = fit_seq (fit_fewer refl source_fit) next_sources_fit
 
 -- ---- queries
 
-counted_fit : Fits (sign_code s.RightParen ∷ []) ExprGrammar.counted
+counted_fit : Fits (sign_kind s.RightParen ∷ []) ExprGrammar.counted
 counted_fit = fit_or refl refl (fit_image (fit_token refl)) (fit_image (fit_fewer refl expr_fit))
 
 -- what stands in parentheses, whatever follows them
-pub parens_fit : {X : Type 0} {p : Grammar kind V X} (follow : List ℕ) → Fits (sign_code s.RightParen ∷ []) p → Fits follow (ExprGrammar.within_parens p)
+pub parens_fit : {X : Type 0} {p : Grammar kind V X} (follow : List ℕ) → Fits (sign_kind s.RightParen ∷ []) p → Fits follow (ExprGrammar.within_parens p)
 parens_fit follow p = fit_seq (fit_token refl) (fit_seq p (fit_token refl))
 
 item_fit : Fits behind_item ExprGrammar.item
@@ -139,7 +141,7 @@ item_fit = fit_or refl refl (fit_seq (fit_token refl) (parens_fit behind_item co
     (fit_or refl refl (fit_seq (fit_token refl) (parens_fit behind_item (fit_fewer refl expr_fit)))
     (fit_image (fit_fewer refl expr_fit)))
 
-pick_fit : Fits (sign_code s.Comma ∷ behind_picks) ExprGrammar.pick
+pick_fit : Fits (sign_kind s.Comma ∷ behind_picks) ExprGrammar.pick
 pick_fit = fit_seq (fit_fewer refl item_fit) (record { holds = refl })
 
 pub picks_fit : Fits behind_picks ExprGrammar.picks
@@ -162,14 +164,14 @@ arguments_fit follow = fit_or refl refl (fit_image (fit_token refl)) (fit_seq (f
 pub exists_fit : (follow : List ℕ) → Fits follow ExprGrammar.exists_rest
 exists_fit follow = parens_fit follow (fit_fewer refl select_fit)
 
-when_fit : Fits (codes_of (w.When ∷ w.Else ∷ w.End ∷ [])) ExprGrammar.when
+when_fit : Fits (kinds_of (w.When ∷ w.Else ∷ w.End ∷ [])) ExprGrammar.when
 when_fit = fit_seq (fit_token refl) (fit_seq (fit_fewer refl expr_fit) (fit_seq (fit_token refl) (fit_fewer refl source_fit)))
 
-otherwise_fit : Fits (code w.End ∷ []) ExprGrammar.otherwise
+otherwise_fit : Fits (word_kind w.End ∷ []) ExprGrammar.otherwise
 otherwise_fit = fit_seq (fit_token refl) (fit_fewer refl source_fit)
 
 whens_fit : (follow : List ℕ) → Fits follow ExprGrammar.whens
-whens_fit follow = fit_seq when_fit (fit_seq (fit_many refl refl when_fit) (fit_seq (fit_or refl refl (fit_image otherwise_fit) fit_nothing) (fit_token refl)))
+whens_fit follow = fit_seq (fit_seq when_fit (fit_many refl refl when_fit)) (fit_seq (fit_or refl refl (fit_image otherwise_fit) fit_nothing) (fit_token refl))
 
 pub case_fit : (follow : List ℕ) → Fits follow ExprGrammar.case_rest
 case_fit follow = fit_or refl refl (fit_image (whens_fit follow)) (fit_seq (fit_fewer refl expr_fit) (whens_fit follow))
@@ -189,13 +191,13 @@ function_fit follow = parens_fit follow (fit_fewer refl expr_fit)
 pub position_fit : (follow : List ℕ) → Fits follow ExprGrammar.position_rest
 position_fit follow = parens_fit follow (fit_seq (fit_fewer refl sum_fit) (fit_seq (fit_token refl) (fit_fewer refl sum_fit)))
 
-for_length_fit : Fits (sign_code s.RightParen ∷ []) ExprGrammar.for_length
+for_length_fit : Fits (sign_kind s.RightParen ∷ []) ExprGrammar.for_length
 for_length_fit = fit_seq (fit_token refl) (fit_fewer refl expr_fit)
 
 pub substring_fit : (follow : List ℕ) → Fits follow ExprGrammar.substring_rest
 substring_fit follow = parens_fit follow (fit_seq (fit_fewer refl expr_fit) (fit_seq (fit_token refl) (fit_seq (fit_fewer refl expr_fit) (fit_or refl refl (fit_image for_length_fit) fit_nothing))))
 
-sided_fit : Fits (sign_code s.RightParen ∷ []) ExprGrammar.sided
+sided_fit : Fits (sign_kind s.RightParen ∷ []) ExprGrammar.sided
 sided_fit = fit_seq (fit_token refl) (fit_seq (fit_token refl) (fit_fewer refl expr_fit))
 
 pub trim_fit : (follow : List ℕ) → Fits follow ExprGrammar.trim_rest

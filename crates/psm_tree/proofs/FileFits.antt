@@ -4,7 +4,9 @@ use Rattle.psm_token.specs.declared.word.Word.TheVariants as w
 use Rattle.psm_token.specs.declared.sign.Sign.TheVariants as s
 use Rattle.psm_grammar.specs.Grammar.{Grammar}
 use Rattle.psm_grammar.proofs.Fitting.{Fit, fit_fewer, fit_token, fit_seq, fit_or, fit_ahead, fit_many, fit_image}
-use Rattle.psm_tree.specs.Kinds.{codes_of, sign_code, kind, column_rule_words}
+use Rattle.psm_token.specs.Signs.{sign_kind}
+use Rattle.psm_token.specs.Kinds.{kinds_of, kind}
+use Rattle.psm_tree.specs.FirstWords.{column_rule_words}
 use Rattle.psm_tree.specs.Parts.{V}
 use Rattle.psm_tree.specs.FileGrammar
 use Rattle.psm_tree.proofs.ExprFits.{after, expr_fit, parens_fit}
@@ -16,7 +18,7 @@ Fits follow g = Fit after follow g
 -- ---- tables
 
 abbrev behind_element : List ℕ
-behind_element = sign_code s.Comma ∷ sign_code s.RightParen ∷ []
+behind_element = sign_kind s.Comma ∷ sign_kind s.RightParen ∷ []
 
 plain_column_rule_fit : (follow : List ℕ) → Fits follow FileGrammar.plain_column_rule
 plain_column_rule_fit follow = fit_or refl refl (fit_seq (fit_token refl) (fit_token refl))
@@ -28,7 +30,7 @@ column_rule_fit : (follow : List ℕ) → Fits follow FileGrammar.column_rule
 column_rule_fit follow = fit_or refl refl (fit_seq (fit_token refl) (fit_seq (fit_token refl) (plain_column_rule_fit follow))) (plain_column_rule_fit follow)
 
 column_fit : Fits behind_element FileGrammar.column
-column_fit = fit_seq (fit_token refl) (fit_seq (record { holds = refl }) (fit_seq (record { holds = refl }) (fit_many refl refl (column_rule_fit (codes_of column_rule_words ++ behind_element)))))
+column_fit = fit_seq (fit_token refl) (fit_seq (record { holds = refl }) (fit_seq (record { holds = refl }) (fit_many refl refl (column_rule_fit (kinds_of column_rule_words ++ behind_element)))))
 
 plain_table_rule_fit : (follow : List ℕ) → Fits follow FileGrammar.plain_table_rule
 plain_table_rule_fit follow = fit_or refl refl (fit_seq (fit_token refl) (fit_seq (fit_token refl) (parens_fit follow (record { holds = refl }))))
@@ -72,7 +74,7 @@ created_table_fit : (follow : List ℕ) → Fits follow FileGrammar.created_tabl
 created_table_fit follow = fit_seq (fit_token refl) (fit_seq (table_fit semicolon) (fit_seq (fit_token refl) (fit_token refl)))
 
 pub file_fit : Fits [] FileGrammar.file
-file_fit = fit_seq (fit_token refl) (fit_seq (fit_many refl refl (created_table_fit (codes_of (w.Table ∷ w.Module ∷ [])))) (fit_seq module_fit (record { holds = refl })))
+file_fit = fit_seq (fit_token refl) (fit_seq (fit_many refl refl (created_table_fit (kinds_of (w.Table ∷ w.Module ∷ [])))) (fit_seq module_fit (record { holds = refl })))
 
 -- ---- scripts
 

@@ -2,3 +2,4 @@ pub mod ExprFits
 pub mod StatementFits
 pub mod FileFits
 pub mod Readable
+pub mod Places

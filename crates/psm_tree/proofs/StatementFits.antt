@@ -5,7 +5,10 @@ use Rattle.psm_token.specs.declared.sign.Sign.TheVariants as s
 use Rattle.psm_grammar.specs.Grammar.{Grammar}
 use Rattle.psm_grammar.specs.Follow.{apart}
 use Rattle.psm_grammar.proofs.Fitting.{Fit, fit_fewer, fit_token, fit_level, fit_next, fit_nothing, fit_seq, fit_or, fit_many, fit_image}
-use Rattle.psm_tree.specs.Kinds.{code, codes_of, sign_code, kind, statement_words}
+use Rattle.psm_token.specs.Words.{word_kind}
+use Rattle.psm_token.specs.Signs.{sign_kind}
+use Rattle.psm_token.specs.Kinds.{kinds_of, kind}
+use Rattle.psm_tree.specs.FirstWords.{statement_words}
 use Rattle.psm_tree.specs.Tests.{name_kinds}
 use Rattle.psm_tree.specs.Parts.{V, Phase, Declarations, Cursors, Handlers}
 use Rattle.psm_tree.specs.StatementGrammar
@@ -16,13 +19,13 @@ Fits follow g = Fit after follow g
 
 -- what stands behind a statement
 abbrev pub semicolon : List ℕ
-semicolon = sign_code s.Semicolon ∷ []
+semicolon = sign_kind s.Semicolon ∷ []
 
 -- ---- simple statements
 
 -- what may stand behind a query with its order
 abbrev pub behind_ordered : List ℕ
-behind_ordered = sign_code s.Semicolon ∷ codes_of (w.For ∷ w.Do ∷ [])
+behind_ordered = sign_kind s.Semicolon ∷ kinds_of (w.For ∷ w.Do ∷ [])
 
 pub ordered_fit : Fits behind_ordered StatementGrammar.ordered_select
 ordered_fit = fit_seq (fit_fewer refl select_fit) (record { holds = refl })
@@ -63,14 +66,14 @@ diagnostics_fit = record { holds = refl }
 select_into_fit : Fits semicolon StatementGrammar.select_statement
 select_into_fit = fit_seq (fit_token refl) (fit_seq (fit_fewer refl picks_fit) (fit_seq (record { holds = refl }) (fit_seq (fit_token refl) (fit_fewer refl from_fit))))
 
-values_fit : Fits (sign_code s.Comma ∷ semicolon) StatementGrammar.values
+values_fit : Fits (sign_kind s.Comma ∷ semicolon) StatementGrammar.values
 values_fit = fit_seq (fit_token refl) (fit_seq sources_fit (fit_token refl))
 
 more_values_fit : Fits semicolon StatementGrammar.more_values
 more_values_fit = fit_many refl refl (fit_seq (fit_token refl) values_fit)
 
 insert_source_fit : Fits semicolon StatementGrammar.insert_source
-insert_source_fit = fit_or refl refl (fit_seq (fit_token refl) (fit_seq values_fit more_values_fit)) (fit_image (fit_fewer refl select_fit))
+insert_source_fit = fit_or refl refl (fit_seq (fit_token refl) (fit_image (fit_seq values_fit more_values_fit))) (fit_image (fit_fewer refl select_fit))
 
 insert_fit : Fits semicolon StatementGrammar.insert_statement
 insert_fit = fit_seq (fit_token refl) (fit_seq (fit_token refl) (fit_seq (fit_token refl) (fit_seq (record { holds = refl }) insert_source_fit)))
@@ -78,10 +81,10 @@ insert_fit = fit_seq (fit_token refl) (fit_seq (fit_token refl) (fit_seq (fit_to
 where_fit : Fits semicolon StatementGrammar.where_part
 where_fit = fit_seq (fit_token refl) (fit_or refl refl (record { holds = refl }) (fit_image (fit_fewer refl expr_fit)))
 
-assignment_fit : Fits (sign_code s.Comma ∷ sign_code s.Semicolon ∷ code w.Where ∷ []) StatementGrammar.assignment
+assignment_fit : Fits (sign_kind s.Comma ∷ sign_kind s.Semicolon ∷ word_kind w.Where ∷ []) StatementGrammar.assignment
 assignment_fit = fit_seq (fit_token refl) (fit_seq (fit_token refl) (fit_fewer refl source_fit))
 
-assignments_fit : Fits (sign_code s.Semicolon ∷ code w.Where ∷ []) StatementGrammar.assignments
+assignments_fit : Fits (sign_kind s.Semicolon ∷ word_kind w.Where ∷ []) StatementGrammar.assignments
 assignments_fit = fit_seq (fit_token refl) (fit_seq assignment_fit (fit_many refl refl (fit_seq (fit_token refl) assignment_fit)))
 
 update_fit : Fits semicolon StatementGrammar.update_statement
@@ -138,16 +141,16 @@ ended_statement_fit : (follow : List ℕ) → Fits follow StatementGrammar.ended
 ended_statement_fit follow = fit_seq statement_fit (fit_token refl)
 
 -- statements before what no statement begins with
-statements_fit : (follow : List ℕ) → apart (name_kinds ++ codes_of statement_words) follow ≡ true → Fits follow StatementGrammar.statements
-statements_fit follow a = fit_seq (ended_statement_fit ((name_kinds ++ codes_of statement_words) ++ follow)) (fit_many refl a (ended_statement_fit ((name_kinds ++ codes_of statement_words) ++ follow)))
+statements_fit : (follow : List ℕ) → apart (name_kinds ++ kinds_of statement_words) follow ≡ true → Fits follow StatementGrammar.statements
+statements_fit follow a = fit_seq (ended_statement_fit ((name_kinds ++ kinds_of statement_words) ++ follow)) (fit_many refl a (ended_statement_fit ((name_kinds ++ kinds_of statement_words) ++ follow)))
 
 -- ---- IF and CASE
 
-otherwise_fit : Fits (code w.End ∷ []) StatementGrammar.otherwise_statements
-otherwise_fit = fit_seq (fit_token refl) (statements_fit (code w.End ∷ []) refl)
+otherwise_fit : Fits (word_kind w.End ∷ []) StatementGrammar.otherwise_statements
+otherwise_fit = fit_seq (fit_token refl) (statements_fit (word_kind w.End ∷ []) refl)
 
-branch_fit : Fits (codes_of (w.ElseIf ∷ w.When ∷ w.Else ∷ w.End ∷ [])) StatementGrammar.branch
-branch_fit = fit_seq (fit_fewer refl expr_fit) (fit_seq (fit_token refl) (statements_fit (codes_of (w.ElseIf ∷ w.When ∷ w.Else ∷ w.End ∷ [])) refl))
+branch_fit : Fits (kinds_of (w.ElseIf ∷ w.When ∷ w.Else ∷ w.End ∷ [])) StatementGrammar.branch
+branch_fit = fit_seq (fit_fewer refl expr_fit) (fit_seq (fit_token refl) (statements_fit (kinds_of (w.ElseIf ∷ w.When ∷ w.Else ∷ w.End ∷ [])) refl))
 
 if_end_fit : (follow : List ℕ) → Fits follow StatementGrammar.if_end
 if_end_fit follow = fit_seq (fit_seq (fit_or refl refl (fit_image otherwise_fit) fit_nothing) (fit_token refl)) (fit_token refl)
@@ -156,10 +159,10 @@ case_end_fit : (follow : List ℕ) → Fits follow StatementGrammar.case_end
 case_end_fit follow = fit_seq (fit_seq (fit_or refl refl (fit_image otherwise_fit) fit_nothing) (fit_token refl)) (fit_token refl)
 
 pub if_fit : (follow : List ℕ) → Fits follow StatementGrammar.if_rest
-if_fit follow = fit_seq (fit_fewer refl branch_fit) (fit_seq (fit_many refl refl (fit_seq (fit_token refl) (fit_fewer refl branch_fit))) (if_end_fit follow))
+if_fit follow = fit_seq (fit_seq (fit_fewer refl branch_fit) (fit_many refl refl (fit_seq (fit_token refl) (fit_fewer refl branch_fit)))) (if_end_fit follow)
 
 case_branches_fit : (follow : List ℕ) → Fits follow StatementGrammar.case_branches
-case_branches_fit follow = fit_seq (fit_seq (fit_token refl) (fit_fewer refl branch_fit)) (fit_seq (fit_many refl refl (fit_seq (fit_token refl) (fit_fewer refl branch_fit))) (case_end_fit follow))
+case_branches_fit follow = fit_seq (fit_seq (fit_seq (fit_token refl) (fit_fewer refl branch_fit)) (fit_many refl refl (fit_seq (fit_token refl) (fit_fewer refl branch_fit)))) (case_end_fit follow)
 
 pub case_fit : (follow : List ℕ) → Fits follow StatementGrammar.case_statement_rest
 case_fit follow = fit_or refl refl (fit_image (case_branches_fit follow)) (fit_seq (fit_fewer refl expr_fit) (case_branches_fit follow))
@@ -167,16 +170,16 @@ case_fit follow = fit_or refl refl (fit_image (case_branches_fit follow)) (fit_s
 -- ---- loops
 
 pub loop_fit : (follow : List ℕ) → Fits follow StatementGrammar.loop_rest
-loop_fit follow = fit_seq (fit_seq (statements_fit (code w.End ∷ []) refl) (fit_token refl)) (fit_token refl)
+loop_fit follow = fit_seq (fit_seq (statements_fit (word_kind w.End ∷ []) refl) (fit_token refl)) (fit_token refl)
 
 pub while_fit : (follow : List ℕ) → Fits follow StatementGrammar.while_rest
-while_fit follow = fit_seq (fit_fewer refl expr_fit) (fit_seq (fit_token refl) (fit_seq (fit_seq (statements_fit (code w.End ∷ []) refl) (fit_token refl)) (fit_token refl)))
+while_fit follow = fit_seq (fit_fewer refl expr_fit) (fit_seq (fit_token refl) (fit_seq (fit_seq (statements_fit (word_kind w.End ∷ []) refl) (fit_token refl)) (fit_token refl)))
 
 pub repeat_fit : (follow : List ℕ) → Fits follow StatementGrammar.repeat_rest
-repeat_fit follow = fit_seq (statements_fit (code w.Until ∷ []) refl) (fit_seq (fit_token refl) (fit_seq (fit_seq (fit_fewer refl expr_fit) (fit_token refl)) (fit_token refl)))
+repeat_fit follow = fit_seq (statements_fit (word_kind w.Until ∷ []) refl) (fit_seq (fit_token refl) (fit_seq (fit_seq (fit_fewer refl expr_fit) (fit_token refl)) (fit_token refl)))
 
 for_body_fit : (follow : List ℕ) → Fits follow StatementGrammar.for_body
-for_body_fit follow = fit_seq (fit_token refl) (fit_seq (fit_seq (statements_fit (code w.End ∷ []) refl) (fit_token refl)) (fit_token refl))
+for_body_fit follow = fit_seq (fit_token refl) (fit_seq (fit_seq (statements_fit (word_kind w.End ∷ []) refl) (fit_token refl)) (fit_token refl))
 
 pub for_fit : (follow : List ℕ) → Fits follow StatementGrammar.for_rest
 for_fit follow = fit_seq (fit_token refl) (fit_seq (fit_token refl) (fit_seq (record { holds = refl }) (fit_seq (fit_fewer refl ordered_fit) (for_body_fit follow))))
@@ -203,7 +206,7 @@ handler_fit = fit_seq (fit_token refl) (fit_seq (fit_token refl) (fit_seq (recor
 -- ---- blocks
 
 ending_fit : (follow : List ℕ) → Fits follow StatementGrammar.ending
-ending_fit follow = fit_image (fit_seq (fit_many refl refl (ended_statement_fit ((name_kinds ++ codes_of statement_words) ++ code w.End ∷ []))) (fit_token refl))
+ending_fit follow = fit_image (fit_seq (fit_many refl refl (ended_statement_fit ((name_kinds ++ kinds_of statement_words) ++ word_kind w.End ∷ []))) (fit_token refl))
 
 pub body_fit : (phase : Phase) (follow : List ℕ) → Fits follow (StatementGrammar.body_rest phase)
 body_fit phase follow = fit_or refl refl (fit_next refl refl) (ending_fit follow)

@@ -3,16 +3,17 @@ use Rattle.std.specs.Prelude.{true, false, List, [], ◌∷◌, Option, Some, No
 use Rattle.psm_num.specs.Num.{Num}
 use Rattle.psm_token.specs.declared.word.Word.TheVariants as w
 use Rattle.psm_token.specs.declared.sign.Sign.TheVariants as s
+use Rattle.psm_list.specs.Several.{Several}
 use Rattle.psm_grammar.specs.Grammar.{Grammar, token, level, nothing, seq, or, ahead, many, image}
 use Rattle.psm_grammar.specs.Forms.{optional, behind_token, before_token}
-use Rattle.psm_tree.specs.Kinds.{code, kind}
+use Rattle.psm_token.specs.Words.{word_kind}
+use Rattle.psm_token.specs.Kinds.{kind}
 use Rattle.psm_tree.specs.Tests.{At, word, sign, name, number, text, plus_minus, comparison, sum_operator, term_operator, text_function, set_function, trim_side, integer_word, numeric_word, char_word}
 use Rattle.psm_tree.specs.Parts.{Cases, Enclosed, Arguments, ExistsRest, CaseRest, CastRest, CoalesceRest, NullIfRest, FunctionRest, PositionRest, SubstringRest, TrimRest, V, Inside, Value, Query}
-use Rattle.psm_tree.specs.ExprValues.{pair, cons, none, target_of, names_of, targets_of, type_of, formed, precision_of, numeric_of, varchar_form, char_form, char_alone, number_constant, signed_constant, text_constant, null_constant, expr_of, conjunction_of, negated, Test, Nothing, predicate_of, compare_of, null_of, between_of, in_of, like_of, chain_of, link_of, signed, NameRest, Bare, Dotted, number_primary, text_primary, named, called, enclosed_of, exists_of, case_of, cast_of, coalesce_of, nullif_of, function_of, position_of, substring_of, trim_of, substring_parts, both_sides, Whens, whens_of, case_alone, case_over, when_of, null_source, From, from_of, select_of, all_picks, Item, pick_of, expr_item, count_of, all_rows, aggregate_of}
+use Rattle.psm_tree.specs.ExprValues.{pair, triple, several, cons, none, target_of, type_of, formed, precision_of, numeric_of, varchar_form, char_form, char_alone, number_constant, signed_constant, text_constant, null_constant, expr_of, conjunction_of, negated, Test, Nothing, predicate_of, compare_of, null_of, between_of, in_of, like_of, chain_of, link_of, signed, NameRest, Bare, Dotted, number_primary, text_primary, named, called, enclosed_of, exists_of, case_of, cast_of, coalesce_of, nullif_of, function_of, position_of, substring_of, trim_of, both_sides, Whens, whens_of, case_alone, case_over, when_of, null_source, From, from_of, select_of, all_picks, Item, pick_of, expr_item, count_of, all_rows, aggregate_of}
 use Rattle.psm_tree.specs.declared.name.Identifier.{Identifier}
 use Rattle.psm_tree.specs.declared.name.Target.{Target}
-use Rattle.psm_tree.specs.declared.name.Names.{Names}
-use Rattle.psm_tree.specs.declared.name.Targets.{Targets}
+use Rattle.psm_tree.specs.Names.{Names, Targets}
 use Rattle.psm_tree.specs.declared.types.Precision.{Precision}
 use Rattle.psm_tree.specs.declared.types.TypeForm.{TypeForm}
 use Rattle.psm_tree.specs.declared.types.TypeForm.TheVariants as forms
@@ -54,7 +55,7 @@ abbrev pub next_names : Gram (List Identifier)
 next_names = many next_name
 
 abbrev pub names : Gram Names
-names = seq names_of (token name) next_names
+names = seq several (token name) next_names
 
 abbrev pub names_in_parens : Gram Names
 names_in_parens = within_parens names
@@ -67,7 +68,7 @@ abbrev pub next_targets : Gram (List Target)
 next_targets = many next_target
 
 abbrev pub targets : Gram Targets
-targets = seq targets_of target next_targets
+targets = seq several target next_targets
 
 -- ---- types and constants
 
@@ -188,10 +189,10 @@ next_sum = behind_token (sign s.Comma) sum
 abbrev pub next_sums : Gram (List Expr)
 next_sums = many next_sum
 
-abbrev pub sums_in_parens : Gram (Expr × List Expr)
-sums_in_parens = within_parens (seq pair sum next_sums)
+abbrev pub sums_in_parens : Gram (Several Expr)
+sums_in_parens = within_parens (seq several sum next_sums)
 
-abbrev pub in_list : Gram (Expr × List Expr)
+abbrev pub in_list : Gram (Several Expr)
 in_list = behind_token (word w.In) sums_in_parens
 
 -- like = LIKE sum [ESCAPE sum]
@@ -267,8 +268,8 @@ next_source = behind_token (sign s.Comma) source
 abbrev pub next_sources : Gram (List Expr)
 next_sources = many next_source
 
-abbrev pub sources : Gram (Expr × List Expr)
-sources = seq pair source next_sources
+abbrev pub sources : Gram (Several Expr)
+sources = seq several source next_sources
 
 -- ---- queries
 
@@ -303,8 +304,8 @@ next_pick = behind_token (sign s.Comma) pick
 abbrev pub next_picks : Gram (List Pick)
 next_picks = many next_pick
 
-abbrev pub picks : Gram (List Pick)
-picks = or (image all_picks (token (sign s.Asterisk))) (seq cons pick next_picks)
+abbrev pub picks : Gram (Several Pick)
+picks = or (image all_picks (token (sign s.Asterisk))) (seq several pick next_picks)
 
 -- from = name [alias] [WHERE expr]
 abbrev pub where_condition : Gram Expr
@@ -343,8 +344,11 @@ next_whens = many when
 abbrev pub otherwise : Gram Expr
 otherwise = behind_token (word w.Else) source
 
+abbrev pub all_whens : Gram (Several When)
+all_whens = seq several when next_whens
+
 abbrev pub whens : Gram Whens
-whens = seq whens_of when (seq pair next_whens (before_token (optional otherwise) (word w.End)))
+whens = seq whens_of all_whens (before_token (optional otherwise) (word w.End))
 
 abbrev pub case_rest : Gram Cases
 case_rest = or (image case_alone whens) (seq case_over expr whens)
@@ -353,7 +357,7 @@ case_rest = or (image case_alone whens) (seq case_over expr whens)
 abbrev pub cast_rest : Gram (Expr × DataType)
 cast_rest = within_parens (seq pair source (behind_token (word w.As) data_type))
 
-abbrev pub coalesce_rest : Gram (Expr × List Expr)
+abbrev pub coalesce_rest : Gram (Several Expr)
 coalesce_rest = within_parens sources
 
 -- nullif_rest = "(" expr "," expr ")"
@@ -372,14 +376,14 @@ abbrev pub for_length : Gram Expr
 for_length = behind_token (word w.For) expr
 
 abbrev pub substring_rest : Gram (Expr × Expr × Option Expr)
-substring_rest = within_parens (seq substring_parts expr (behind_token (word w.From) (seq pair expr (optional for_length))))
+substring_rest = within_parens (seq triple expr (behind_token (word w.From) (seq pair expr (optional for_length))))
 
 -- trim_rest = "(" [(LEADING|TRAILING|BOTH) FROM] expr ")"
 abbrev pub sided : Gram (TrimSide × Expr)
 sided = seq pair (token trim_side) (behind_token (word w.From) expr)
 
 abbrev pub trimmed : Gram (TrimSide × Expr)
-trimmed = ahead (code w.Leading ∷ code w.Trailing ∷ code w.Both ∷ []) (code w.From ∷ [])
+trimmed = ahead (word_kind w.Leading ∷ word_kind w.Trailing ∷ word_kind w.Both ∷ []) (word_kind w.From ∷ [])
     (closed sided) (closed (image both_sides expr))
 
 abbrev pub trim_rest : Gram (TrimSide × Expr)

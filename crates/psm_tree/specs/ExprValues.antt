@@ -2,12 +2,11 @@
 use Rattle.std.specs.Prelude.{ℕ, Bool, true, false, List, [], ◌∷◌, Option, Some, None}
 use Rattle.psm_num.specs.Num.{Num}
 use Rattle.psm_token.specs.declared.place.Place.{Place}
+use Rattle.psm_list.specs.Several.{Several}
 use Rattle.psm_tree.specs.Tests.{At}
 use Rattle.psm_tree.specs.Parts.{Inside, Value, Query, Cases}
 use Rattle.psm_tree.specs.declared.name.Identifier.{Identifier}
 use Rattle.psm_tree.specs.declared.name.Target.{Target}
-use Rattle.psm_tree.specs.declared.name.Names.{Names}
-use Rattle.psm_tree.specs.declared.name.Targets.{Targets}
 use Rattle.psm_tree.specs.declared.types.Sign.{Sign}
 use Rattle.psm_tree.specs.declared.types.Precision.{Precision}
 use Rattle.psm_tree.specs.declared.types.TypeForm.{TypeForm}
@@ -35,6 +34,12 @@ use Rattle.psm_tree.specs.declared.expr.SetFunction.TheVariants as sets
 abbrev pub pair : {A B : Type 0} → A → B → A × B
 pair a b = (a, b)
 
+abbrev pub triple : {A B C : Type 0} → A → B × C → A × B × C
+triple a p = (a, p.0, p.1)
+
+abbrev pub several : {A : Type 0} → A → List A → Several A
+several first rest = record { first = first; rest = rest }
+
 abbrev pub cons : {A : Type 0} → A → List A → List A
 cons x xs = x ∷ xs
 
@@ -45,12 +50,6 @@ none a = []
 
 abbrev pub target_of : Identifier → Option Identifier → Target
 target_of first second = record { first = first; second = second }
-
-abbrev pub names_of : Identifier → List Identifier → Names
-names_of first rest = record { first = first; rest = rest }
-
-abbrev pub targets_of : Target → List Target → Targets
-targets_of first rest = record { first = first; rest = rest }
 
 abbrev pub type_of : TypeForm → Place → DataType
 type_of form place = record { place = place; form = form }
@@ -91,7 +90,7 @@ null_constant place = record { place = place; form = constants.Null }
 -- conditions with AND or OR between them; a lone one is itself
 abbrev pub joined : Junction → Expr → List Expr → Expr
 joined junction first [] = first
-joined junction first (next ∷ rest) = exprs.Junction junction first (next ∷ rest)
+joined junction first (next ∷ rest) = exprs.Junction junction (several first (next ∷ rest))
 
 abbrev pub expr_of : Expr → List Expr → Expr
 expr_of first rest = joined junctions.Or first rest
@@ -108,7 +107,7 @@ pub data Test : Type 0 where
   Compare : Comparison → Expr → Test
   IsNull : Bool → Test
   Between : Bool → Expr → Expr → Test
-  In : Bool → Expr → List Expr → Test
+  In : Bool → Several Expr → Test
   Like : Bool → Expr → Option Expr → Test
 
 abbrev pub predicate_of : Expr → Test → Expr
@@ -116,7 +115,7 @@ predicate_of value Nothing = value
 predicate_of value (Compare operator right) = exprs.Compare operator value right
 predicate_of value (IsNull negated) = exprs.IsNull negated value
 predicate_of value (Between negated low high) = exprs.Between negated value low high
-predicate_of value (In negated first rest) = exprs.In negated value first rest
+predicate_of value (In negated list) = exprs.In negated value list
 predicate_of value (Like negated pattern escape) = exprs.Like negated value pattern escape
 
 abbrev pub compare_of : Comparison → Expr → Test
@@ -129,8 +128,8 @@ null_of (Some negation) place = IsNull true
 abbrev pub between_of : Bool → Expr × Expr → Test
 between_of negated p = Between negated p.0 p.1
 
-abbrev pub in_of : Bool → Expr × List Expr → Test
-in_of negated p = In negated p.0 p.1
+abbrev pub in_of : Bool → Several Expr → Test
+in_of negated list = In negated list
 
 abbrev pub like_of : Bool → Expr × Option Expr → Test
 like_of negated p = Like negated p.0 p.1
@@ -178,13 +177,13 @@ abbrev pub exists_of : Place → Select → Expr
 exists_of place query = exprs.Exists place query
 
 abbrev pub case_of : Place → Cases → Expr
-case_of place c = exprs.Case place c.operand c.first c.rest c.otherwise
+case_of place c = exprs.Case place c.operand c.whens c.otherwise
 
 abbrev pub cast_of : Place → Expr × DataType → Expr
 cast_of place p = exprs.Cast place p.0 p.1
 
-abbrev pub coalesce_of : Place → Expr × List Expr → Expr
-coalesce_of place p = exprs.Coalesce place p.0 p.1
+abbrev pub coalesce_of : Place → Several Expr → Expr
+coalesce_of place values = exprs.Coalesce place values
 
 abbrev pub nullif_of : Place → Expr × Expr → Expr
 nullif_of place p = exprs.NullIf place p.0 p.1
@@ -201,9 +200,6 @@ substring_of place p = exprs.Substring place p.0 p.1 p.2
 abbrev pub trim_of : Place → TrimSide × Expr → Expr
 trim_of place p = exprs.Trim place p.0 p.1
 
-abbrev pub substring_parts : Expr → Expr × Option Expr → Expr × Expr × Option Expr
-substring_parts text p = (text, p.0, p.1)
-
 abbrev pub both_sides : Expr → TrimSide × Expr
 both_sides text = (sides.Both, text)
 
@@ -211,18 +207,17 @@ both_sides text = (sides.Both, text)
 
 -- the branches of a CASE expression behind its operand
 pub record Whens : Type 0 where
-  pub first : When
-  pub rest : List When
+  pub whens : Several When
   pub otherwise : Option Expr
 
-abbrev pub whens_of : When → List When × Option Expr → Whens
-whens_of first p = record { first = first; rest = p.0; otherwise = p.1 }
+abbrev pub whens_of : Several When → Option Expr → Whens
+whens_of whens otherwise = record { whens = whens; otherwise = otherwise }
 
 abbrev pub case_alone : Whens → Cases
-case_alone whens = record { operand = None; first = whens.first; rest = whens.rest; otherwise = whens.otherwise }
+case_alone whens = record { operand = None; whens = whens.whens; otherwise = whens.otherwise }
 
 abbrev pub case_over : Expr → Whens → Cases
-case_over operand whens = record { operand = Some operand; first = whens.first; rest = whens.rest; otherwise = whens.otherwise }
+case_over operand whens = record { operand = Some operand; whens = whens.whens; otherwise = whens.otherwise }
 
 abbrev pub when_of : Expr → Expr → When
 when_of test result = roll-When (record { test = test; result = result })
@@ -241,11 +236,11 @@ pub record From : Type 0 where
 abbrev pub from_of : Identifier → Option Identifier × Option Expr → From
 from_of table p = record { table = table; alias = p.0; condition = p.1 }
 
-abbrev pub select_of : Place → List Pick × From → Select
+abbrev pub select_of : Place → Several Pick × From → Select
 select_of place p = roll-Select (record { place = place; picks = p.0; table = p.1.table; alias = p.1.alias; condition = p.1.condition })
 
-abbrev pub all_picks : Place → List Pick
-all_picks place = picked.All place ∷ []
+abbrev pub all_picks : Place → Several Pick
+all_picks place = several (picked.All place) []
 
 -- an item of a query without its own name
 pub data Item : Type 0 where

@@ -3,12 +3,14 @@ use Rattle.std.specs.Prelude.{List, [], ◌∷◌}
 use Rattle.psm_token.specs.declared.place.Place.{Place}
 use Rattle.psm_token.specs.declared.word.Word.TheVariants as w
 use Rattle.psm_token.specs.declared.sign.Sign.TheVariants as s
+use Rattle.psm_list.specs.Several.{Several}
 use Rattle.psm_grammar.specs.Grammar.{token, seq, or, ahead, many, image}
 use Rattle.psm_grammar.specs.Forms.{earlier, optional, behind_token, before_token}
-use Rattle.psm_tree.specs.Kinds.{code, sign_code}
+use Rattle.psm_token.specs.Words.{word_kind}
+use Rattle.psm_token.specs.Signs.{sign_kind}
 use Rattle.psm_tree.specs.Tests.{word, sign, name, char_word, mode}
-use Rattle.psm_tree.specs.ExprValues.{pair, cons, none}
-use Rattle.psm_tree.specs.FileValues.{column_rule_at, column_rule_by, column_check, primary_key, unique, table_check, column_of, column_parts, rule_element, TableRest, table_rest, moded, unmoded, note_at, note_by, returned_char, procedure_rest, procedure_of, function_rest, function_of, ModuleRest, module_rest, file_of, placeholder, constant_argument, constant_row, call_command, inserting, insert_command, select_command, commit_command, rollback_command, script_of}
+use Rattle.psm_tree.specs.ExprValues.{pair, triple, several, cons, none}
+use Rattle.psm_tree.specs.FileValues.{column_rule_at, column_rule_by, column_check, primary_key, unique, table_check, column_of, rule_element, TableRest, table_rest, moded, unmoded, note_at, note_by, returned_char, procedure_rest, procedure_of, function_rest, function_of, ModuleRest, module_rest, file_of, placeholder, constant_argument, constant_row, call_command, insert_command, select_command, commit_command, rollback_command, script_of}
 use Rattle.psm_tree.specs.ExprGrammar.{Gram, closed, within_parens, names_in_parens, varying, char_length, plain_type, data_type, constant, expr}
 use Rattle.psm_tree.specs.StatementGrammar.{statement, ordered_select}
 use Rattle.psm_tree.specs.declared.name.Identifier.{Identifier}
@@ -50,7 +52,7 @@ abbrev pub default_constant : Gram Constant
 default_constant = behind_token (word w.Default) constant
 
 abbrev pub column : Gram Element
-column = seq column_of (token name) (seq column_parts data_type (seq pair (optional default_constant) column_rule_list))
+column = seq column_of (token name) (seq triple data_type (seq pair (optional default_constant) column_rule_list))
 
 -- table_rule = [CONSTRAINT name] (PRIMARY KEY names | UNIQUE names | CHECK "(" expr ")")
 abbrev pub plain_table_rule : Gram TableRule
@@ -71,8 +73,11 @@ next_element = behind_token (sign s.Comma) element
 abbrev pub next_elements : Gram (List Element)
 next_elements = many next_element
 
+abbrev pub elements : Gram (Several Element)
+elements = seq several element next_elements
+
 abbrev pub table : Gram TableRest
-table = seq table_rest (token name) (within_parens (seq pair element next_elements))
+table = seq table_rest (token name) (within_parens elements)
 
 -- ---- routines
 
@@ -123,7 +128,7 @@ procedure = seq procedure_of (token (word w.Procedure)) (seq procedure_rest (tok
 
 -- returned = type {note} statement, where VARYING may also be the label of the statement
 abbrev pub char_returned : Gram (TypeForm × (List Note × Statement))
-char_returned = ahead (code w.Varying ∷ []) (sign_code s.LeftParen ∷ []) (seq pair varying noted_statement) (seq pair char_length noted_statement)
+char_returned = ahead (word_kind w.Varying ∷ []) (sign_kind s.LeftParen ∷ []) (seq pair varying noted_statement) (seq pair char_length noted_statement)
 
 abbrev pub returned : Gram (DataType × (List Note × Statement))
 returned = or (seq returned_char (token char_word) char_returned) (seq pair plain_type noted_statement)
@@ -198,8 +203,11 @@ next_constant = behind_token (sign s.Comma) constant
 abbrev pub next_constants : Gram (List Constant)
 next_constants = many next_constant
 
+abbrev pub constants : Gram (Several Constant)
+constants = seq several constant next_constants
+
 abbrev pub row : Gram ConstantRow
-row = seq constant_row (token (sign s.LeftParen)) (closed (seq pair constant next_constants))
+row = seq constant_row (token (sign s.LeftParen)) (closed constants)
 
 abbrev pub next_row : Gram ConstantRow
 next_row = behind_token (sign s.Comma) row
@@ -207,12 +215,15 @@ next_row = behind_token (sign s.Comma) row
 abbrev pub next_rows : Gram (List ConstantRow)
 next_rows = many next_row
 
-abbrev pub script_values : Gram (ConstantRow × List ConstantRow)
-script_values = behind_token (word w.Values) (seq pair row next_rows)
+abbrev pub rows : Gram (Several ConstantRow)
+rows = seq several row next_rows
+
+abbrev pub script_values : Gram (Several ConstantRow)
+script_values = behind_token (word w.Values) rows
 
 -- INSERT INTO name [names] VALUES row {"," row}
 abbrev pub script_insert : Gram Command
-script_insert = seq insert_command (token (word w.Insert)) (behind_token (word w.Into) (seq inserting (token name) (seq pair (optional names_in_parens) script_values)))
+script_insert = seq insert_command (token (word w.Insert)) (behind_token (word w.Into) (seq triple (token name) (seq pair (optional names_in_parens) script_values)))
 
 -- command = CALL .. | INSERT .. | select [order] | COMMIT [WORK] | ROLLBACK [WORK]
 abbrev pub command : Gram Command

@@ -1,10 +1,11 @@
 -- What the parts of a module file and of a script make.
 use Rattle.std.specs.Prelude.{List, [], ◌∷◌, Option, Some, None}
 use Rattle.psm_token.specs.declared.place.Place.{Place}
+use Rattle.psm_list.specs.Several.{Several}
 use Rattle.psm_tree.specs.Tests.{At}
 use Rattle.psm_tree.specs.ExprValues.{formed}
 use Rattle.psm_tree.specs.declared.name.Identifier.{Identifier}
-use Rattle.psm_tree.specs.declared.name.Names.{Names}
+use Rattle.psm_tree.specs.Names.{Names}
 use Rattle.psm_tree.specs.declared.types.TypeForm.{TypeForm}
 use Rattle.psm_tree.specs.declared.types.DataType.{DataType}
 use Rattle.psm_tree.specs.declared.types.Constant.{Constant}
@@ -61,23 +62,19 @@ table_check place expr = table_rule_at (table_rules.Check expr) place
 abbrev pub column_of : Identifier → DataType × Option Constant × List ColumnRule → Element
 column_of name p = elements.Column name p.0 p.1 p.2
 
-abbrev pub column_parts : DataType → Option Constant × List ColumnRule → DataType × Option Constant × List ColumnRule
-column_parts kind p = (kind, p.0, p.1)
-
 abbrev pub rule_element : TableRule → Element
 rule_element rule = elements.Rule rule
 
 -- a table behind TABLE
 pub record TableRest : Type 0 where
   pub name : Identifier
-  pub first : Element
-  pub rest : List Element
+  pub elements : Several Element
 
-abbrev pub table_rest : Identifier → Element × List Element → TableRest
-table_rest name p = record { name = name; first = p.0; rest = p.1 }
+abbrev pub table_rest : Identifier → Several Element → TableRest
+table_rest name elements = record { name = name; elements = elements }
 
 abbrev pub table_of : Place → TableRest → TableTree
-table_of place t = record { place = place; name = t.name; first = t.first; rest = t.rest }
+table_of place t = record { place = place; name = t.name; elements = t.elements }
 
 -- ---- routines
 
@@ -155,24 +152,14 @@ placeholder place = arguments.Placeholder place
 abbrev pub constant_argument : Constant → Argument
 constant_argument constant = arguments.Constant constant
 
-abbrev pub constant_row : Place → Constant × List Constant → ConstantRow
-constant_row place p = record { place = place; first = p.0; rest = p.1 }
+abbrev pub constant_row : Place → Several Constant → ConstantRow
+constant_row place values = record { place = place; values = values }
 
 abbrev pub call_command : Place → Identifier × List Argument → Command
 call_command place p = commands.Call place p.0 p.1
 
--- what INSERT says
-pub record Inserting : Type 0 where
-  pub table : Identifier
-  pub columns : Option Names
-  pub first : ConstantRow
-  pub rest : List ConstantRow
-
-abbrev pub inserting : Identifier → Option Names × (ConstantRow × List ConstantRow) → Inserting
-inserting table p = record { table = table; columns = p.0; first = p.1.0; rest = p.1.1 }
-
-abbrev pub insert_command : Place → Inserting → Command
-insert_command place i = commands.Insert place i.table i.columns i.first i.rest
+abbrev pub insert_command : Place → Identifier × Option Names × Several ConstantRow → Command
+insert_command place p = commands.Insert place p.0 p.1 p.2
 
 abbrev pub select_command : OrderedQuery → Command
 select_command query = commands.Select query

@@ -1,4 +1,6 @@
-pub mod Kinds
+pub mod FirstWords
+pub mod Names
+pub mod Places
 pub mod Tests
 pub mod Parts
 pub mod ExprValues

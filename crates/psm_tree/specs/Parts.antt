@@ -1,5 +1,6 @@
 -- The parts of the grammar that stand behind a token of their own, and what the words of each say.
 use Rattle.std.specs.Prelude.{Bool, List, Option}
+use Rattle.psm_list.specs.Several.{Several}
 use Rattle.psm_tree.specs.Tests.{At}
 use Rattle.psm_tree.specs.declared.name.Identifier.{Identifier}
 use Rattle.psm_tree.specs.declared.types.DataType.{DataType}
@@ -13,7 +14,7 @@ use Rattle.psm_tree.specs.declared.statement.Branch.{Branch}
 use Rattle.psm_tree.specs.declared.statement.Declaration.{Declaration}
 use Rattle.psm_tree.specs.declared.statement.CursorDeclaration.{CursorDeclaration}
 use Rattle.psm_tree.specs.declared.statement.Handler.{Handler}
-use Rattle.psm_tree.specs.declared.statement.ForCursor.{ForCursor}
+use Rattle.psm_tree.specs.declared.statement.ForHead.{ForHead}
 use Rattle.psm_tree.specs.declared.statement.OrderedQuery.{OrderedQuery}
 use Rattle.psm_tree.specs.declared.statement.Updatability.{Updatability}
 use Rattle.psm_tree.specs.declared.statement.HandlerKind.{HandlerKind}
@@ -40,32 +41,26 @@ pub data Inside : Type 0 where
 -- the branches of a CASE expression, behind its operand where it has one
 pub record Cases : Type 0 where
   pub operand : Option Expr
-  pub first : When
-  pub rest : List When
+  pub whens : Several When
   pub otherwise : Option Expr
 
 -- one statement or more
-pub record Statements : Type 0 where
-  pub first : Statement
-  pub rest : List Statement
+abbrev pub Statements : Type 0
+Statements = Several Statement
 
 -- the branches of IF or CASE, and the statements behind ELSE
 pub record Branches : Type 0 where
-  pub first : Branch
-  pub rest : List Branch
+  pub branches : Several Branch
   pub otherwise : List Statement
 
 -- what stands behind FOR
 pub record ForParts : Type 0 where
-  pub name : Identifier
-  pub cursor : Option ForCursor
-  pub query : OrderedQuery
-  pub body : Statements
+  pub head : ForHead
+  pub statements : Statements
 
 -- what stands behind the kind of a handler
 pub record HandlerParts : Type 0 where
-  pub first : HandlerValue
-  pub rest : List HandlerValue
+  pub values : Several HandlerValue
   pub action : Statement
 
 -- a declaration of variables, of a condition or of a cursor behind its first name
@@ -93,7 +88,7 @@ V Arguments = List Expr
 V ExistsRest = Select
 V CaseRest = Cases
 V CastRest = Expr × DataType
-V CoalesceRest = Expr × List Expr
+V CoalesceRest = Several Expr
 V NullIfRest = Expr × Expr
 V FunctionRest = Expr
 V PositionRest = Expr × Expr

@@ -1,6 +1,6 @@
 -- What each part of the grammar that stands behind a token of its own is.
 use Rattle.psm_grammar.specs.Grammar.{Productions}
-use Rattle.psm_tree.specs.Kinds.{kind}
+use Rattle.psm_token.specs.Kinds.{kind}
 use Rattle.psm_tree.specs.Parts.{Enclosed, Arguments, ExistsRest, CaseRest, CastRest, CoalesceRest, NullIfRest, FunctionRest, PositionRest, SubstringRest, TrimRest, BeginRest, LoopRest, WhileRest, RepeatRest, ForRest, IfRest, CaseStatementRest, HandlerRest, BodyRest, DeclareRest, V}
 use Rattle.psm_tree.specs.ExprGrammar.{enclosed, arguments, exists_rest, case_rest, cast_rest, coalesce_rest, nullif_rest, function_rest, position_rest, substring_rest, trim_rest}
 use Rattle.psm_tree.specs.StatementGrammar.{begin_rest, loop_rest, while_rest, repeat_rest, for_rest, if_rest, case_statement_rest, handler_rest, body_rest, declare_rest}

@@ -2,20 +2,22 @@
 use Rattle.std.specs.Prelude.{ℕ, Bool, false, List, [], ◌∷◌, Option, Some, None}
 use Rattle.psm_token.specs.declared.word.Word.TheVariants as w
 use Rattle.psm_token.specs.declared.sign.Sign.TheVariants as s
+use Rattle.psm_list.specs.Several.{Several}
 use Rattle.psm_grammar.specs.Grammar.{token, level, next, nothing, seq, or, ahead, many, image}
 use Rattle.psm_grammar.specs.Forms.{later, optional, behind_token, before_token}
-use Rattle.psm_tree.specs.Kinds.{code}
+use Rattle.psm_token.specs.Words.{word_kind}
 use Rattle.psm_tree.specs.Tests.{At, word, sign, name, number, text, handler_kind, statement_item, condition_item, exception_word}
 use Rattle.psm_tree.specs.Parts.{Statements, Branches, Phase, Declarations, Cursors, Handlers, BeginRest, LoopRest, WhileRest, RepeatRest, ForRest, IfRest, CaseStatementRest, HandlerRest, BodyRest, DeclareRest, ForParts, HandlerParts, NamedRest, Declared, Handled, Body}
-use Rattle.psm_tree.specs.ExprValues.{pair, cons}
-use Rattle.psm_tree.specs.StatementValues.{state_of, ordered_query, order_of, order_column, yes, «no», named_condition, state_condition, signalled_of, statement_information, condition_information, number_of_condition, target_of_condition, statement_diagnostics, condition_diagnostics, values_of, inserted_values, inserted_query, assignment_of, where_true, where_current, set_of, call_of, return_of, leave_of, iterate_of, signal_of, resignal_of, diagnostics_of, select_into, selected, insert_of, into_table, updating, update_of, delete_of, open_of, fetch_of, close_of, simple_statement, unlabelled, labelled, if_of, case_statement_of, statements_of, branch_of, branches_of, case_alone_statement, case_over_statement, Block, Compound, Loop, While, Repeat, For, for_cursor, for_parts, for_query, undeclared, variables_of, one_variable, condition_of, cursor_of, read_only, updatable, named_rest, handler_parts, state_value, name_value, exception_value, warning_value, not_found_value, declared}
+use Rattle.psm_tree.specs.ExprValues.{pair, triple, several, cons}
+use Rattle.psm_tree.specs.StatementValues.{state_of, ordered_query, order_of, order_column, yes, «no», named_condition, state_condition, signalled_of, statement_information, condition_information, number_of_condition, target_of_condition, statement_diagnostics, condition_diagnostics, values_of, inserted_values, inserted_query, assignment_of, where_true, where_current, set_of, call_of, return_of, leave_of, iterate_of, signal_of, resignal_of, diagnostics_of, select_into, insert_of, update_of, delete_of, open_of, fetch_of, close_of, simple_statement, unlabelled, labelled, if_of, case_statement_of, branch_of, branches_of, case_alone_statement, case_over_statement, compound_of, loop_of, while_of, repeat_of, for_of, for_cursor, for_parts, undeclared, variables_of, one_variable, condition_of, cursor_of, read_only, updatable, named_rest, handler_parts, state_value, name_value, exception_value, warning_value, not_found_value, declared}
 use Rattle.psm_tree.specs.ExprGrammar.{Gram, closed, target, names_in_parens, targets, next_names, data_type, arguments, expr, source, sources, picks, from_table, select}
 use Rattle.psm_tree.specs.declared.name.Identifier.{Identifier}
-use Rattle.psm_tree.specs.declared.name.Targets.{Targets}
+use Rattle.psm_tree.specs.Names.{Targets}
 use Rattle.psm_tree.specs.declared.types.DataType.{DataType}
 use Rattle.psm_tree.specs.declared.types.State.{State}
 use Rattle.psm_tree.specs.declared.expr.Expr.{Expr}
 use Rattle.psm_tree.specs.declared.statement.Statement.{Statement}
+use Rattle.psm_tree.specs.declared.statement.Block.{Block}
 use Rattle.psm_tree.specs.declared.statement.Branch.{Branch}
 use Rattle.psm_tree.specs.declared.statement.ForCursor.{ForCursor}
 use Rattle.psm_tree.specs.declared.statement.OrderedQuery.{OrderedQuery}
@@ -58,8 +60,11 @@ next_column_order = behind_token (sign s.Comma) column_order
 abbrev pub next_column_orders : Gram (List OrderColumn)
 next_column_orders = many next_column_order
 
+abbrev pub column_orders : Gram (Several OrderColumn)
+column_orders = seq several column_order next_column_orders
+
 abbrev pub order : Gram Order
-order = seq order_of (token (word w.Order)) (behind_token (word w.By) (seq pair column_order next_column_orders))
+order = seq order_of (token (word w.Order)) (behind_token (word w.By) column_orders)
 
 -- ordered_select = select [order]
 abbrev pub ordered_select : Gram OrderedQuery
@@ -99,8 +104,11 @@ abbrev pub more_values : Gram (List Values)
 more_values = many next_values
 
 -- insert_source = VALUES values {"," values} | select
+abbrev pub all_values : Gram (Several Values)
+all_values = seq several values more_values
+
 abbrev pub insert_values : Gram InsertSource
-insert_values = behind_token (word w.Values) (seq inserted_values values more_values)
+insert_values = behind_token (word w.Values) (image inserted_values all_values)
 
 abbrev pub insert_source : Gram InsertSource
 insert_source = or insert_values (image inserted_query select)
@@ -127,6 +135,9 @@ next_statement_info = behind_token (sign s.Comma) statement_info
 abbrev pub next_statement_infos : Gram (List StatementInformation)
 next_statement_infos = many next_statement_info
 
+abbrev pub statement_infos : Gram (Several StatementInformation)
+statement_infos = seq several statement_info next_statement_infos
+
 -- condition_information = target "=" (CONDITION_NUMBER|..|CURSOR_NAME)
 abbrev pub condition_info : Gram ConditionInformation
 condition_info = seq condition_information target (behind_token (sign s.Equal) (token condition_item))
@@ -137,15 +148,18 @@ next_condition_info = behind_token (sign s.Comma) condition_info
 abbrev pub next_condition_infos : Gram (List ConditionInformation)
 next_condition_infos = many next_condition_info
 
--- diagnostics = statement_info {"," statement_info} | (EXCEPTION|CONDITION) (num|target) condition_info {"," condition_info}
+abbrev pub condition_infos : Gram (Several ConditionInformation)
+condition_infos = seq several condition_info next_condition_infos
+
+-- diagnostics = statement_infos | (EXCEPTION|CONDITION) (num|target) condition_infos
 abbrev pub condition_number : Gram ConditionNumber
 condition_number = or (image number_of_condition (token number)) (image target_of_condition target)
 
 abbrev pub exception_diagnostics : Gram Diagnostics
-exception_diagnostics = behind_token exception_word (seq condition_diagnostics condition_number (seq pair condition_info next_condition_infos))
+exception_diagnostics = behind_token exception_word (seq condition_diagnostics condition_number condition_infos)
 
 abbrev pub diagnostics : Gram Diagnostics
-diagnostics = or exception_diagnostics (seq statement_diagnostics statement_info next_statement_infos)
+diagnostics = or exception_diagnostics (image statement_diagnostics statement_infos)
 
 -- ---- simple statements
 
@@ -185,18 +199,18 @@ abbrev pub into_targets : Gram Targets
 into_targets = behind_token (word w.Into) targets
 
 abbrev pub select_statement : Gram Simple
-select_statement = seq select_into (token (word w.Select)) (seq selected picks (seq pair into_targets (behind_token (word w.From) from_table)))
+select_statement = seq select_into (token (word w.Select)) (seq triple picks (seq pair into_targets (behind_token (word w.From) from_table)))
 
 -- INSERT INTO name [names] insert_source
 abbrev pub insert_statement : Gram Simple
-insert_statement = seq insert_of (token (word w.Insert)) (behind_token (word w.Into) (seq into_table (token name) (seq pair (optional names_in_parens) insert_source)))
+insert_statement = seq insert_of (token (word w.Insert)) (behind_token (word w.Into) (seq triple (token name) (seq pair (optional names_in_parens) insert_source)))
 
 -- UPDATE name SET assignment {"," assignment} [where]
-abbrev pub assignments : Gram (Assignment × List Assignment)
-assignments = behind_token (word w.Set) (seq pair assignment next_assignments)
+abbrev pub assignments : Gram (Several Assignment)
+assignments = behind_token (word w.Set) (seq several assignment next_assignments)
 
 abbrev pub update_statement : Gram Simple
-update_statement = seq update_of (token (word w.Update)) (seq updating (token name) (seq pair assignments (optional where_part)))
+update_statement = seq update_of (token (word w.Update)) (seq triple (token name) (seq pair assignments (optional where_part)))
 
 abbrev pub delete_statement : Gram Simple
 delete_statement = seq delete_of (token (word w.Delete)) (behind_token (word w.From) (seq pair (token name) (optional where_part)))
@@ -213,7 +227,7 @@ fetch_from = behind_token (word w.From) fetched
 
 abbrev pub fetch_rest : Gram (Identifier × Targets)
 fetch_rest = or fetch_from
-    (ahead (code w.Next ∷ []) (code w.From ∷ []) (behind_token (word w.Next) fetch_from) fetched)
+    (ahead (word_kind w.Next ∷ []) (word_kind w.From ∷ []) (behind_token (word w.Next) fetch_from) fetched)
 
 abbrev pub fetch_statement : Gram Simple
 fetch_statement = seq fetch_of (token (word w.Fetch)) fetch_rest
@@ -246,11 +260,11 @@ simple = or set_statement
 
 -- block = BEGIN .. | LOOP .. | WHILE .. | REPEAT .. | FOR ..
 abbrev pub block : Gram Block
-block = or (level BeginRest (word w.Begin) Compound)
-    (or (level LoopRest (word w.Loop) Loop)
-    (or (level WhileRest (word w.While) While)
-    (or (level RepeatRest (word w.Repeat) Repeat)
-    (level ForRest (word w.For) For))))
+block = or (level BeginRest (word w.Begin) compound_of)
+    (or (level LoopRest (word w.Loop) loop_of)
+    (or (level WhileRest (word w.While) while_of)
+    (or (level RepeatRest (word w.Repeat) repeat_of)
+    (level ForRest (word w.For) for_of))))
 
 -- labelled = name ":" block [name]
 abbrev pub labelled_block : Gram (Block × Option Identifier)
@@ -281,7 +295,7 @@ abbrev pub ended_statements : Gram (List Statement)
 ended_statements = many ended_statement
 
 abbrev pub statements : Gram Statements
-statements = seq statements_of ended_statement ended_statements
+statements = seq several ended_statement ended_statements
 
 -- ---- IF and CASE
 
@@ -302,8 +316,11 @@ elseif_branches = many elseif_branch
 abbrev pub if_end : Gram (Option Statements)
 if_end = before_token (before_token (optional otherwise_statements) (word w.End)) (word w.If)
 
+abbrev pub if_branches : Gram (Several Branch)
+if_branches = seq several branch elseif_branches
+
 abbrev pub if_rest : Gram Branches
-if_rest = seq branches_of branch (seq pair elseif_branches if_end)
+if_rest = seq branches_of if_branches if_end
 
 -- case_statement_rest = [expr] WHEN branch {WHEN branch} [ELSE statements] END CASE
 abbrev pub when_branch : Gram Branch
@@ -315,8 +332,11 @@ when_branches = many when_branch
 abbrev pub case_end : Gram (Option Statements)
 case_end = before_token (before_token (optional otherwise_statements) (word w.End)) (word w.Case)
 
+abbrev pub all_when_branches : Gram (Several Branch)
+all_when_branches = seq several when_branch when_branches
+
 abbrev pub case_branches : Gram Branches
-case_branches = seq branches_of when_branch (seq pair when_branches case_end)
+case_branches = seq branches_of all_when_branches case_end
 
 abbrev pub case_statement_rest : Gram (Option Expr × Branches)
 case_statement_rest = or (image case_alone_statement case_branches) (seq case_over_statement expr case_branches)
@@ -353,7 +373,7 @@ for_body = behind_token (word w.Do) (before_token (before_token statements (word
 
 abbrev pub for_rest : Gram ForParts
 for_rest = seq for_parts (token name) (behind_token (word w.As)
-    (seq for_query (optional for_cursor_part) (seq pair ordered_select for_body)))
+    (seq triple (optional for_cursor_part) (seq pair ordered_select for_body)))
 
 -- ---- declarations
 
@@ -403,9 +423,12 @@ next_handler_value = behind_token (sign s.Comma) handler_value
 abbrev pub next_handler_values : Gram (List HandlerValue)
 next_handler_values = many next_handler_value
 
+abbrev pub handler_values : Gram (Several HandlerValue)
+handler_values = seq several handler_value next_handler_values
+
 abbrev pub handler_rest : Gram HandlerParts
 handler_rest = behind_token (word w.Handler) (behind_token (word w.For)
-    (seq handler_parts (seq pair handler_value next_handler_values) statement))
+    (seq handler_parts handler_values statement))
 
 -- ---- blocks
 

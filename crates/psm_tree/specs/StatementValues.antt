@@ -2,21 +2,22 @@
 use Rattle.std.specs.Prelude.{ℕ, Bool, true, false, List, [], ◌∷◌, Option, Some, None}
 use Rattle.psm_num.specs.Num.{Num}
 use Rattle.psm_token.specs.declared.place.Place.{Place}
+use Rattle.psm_list.specs.Several.{Several}
 use Rattle.psm_tree.specs.Tests.{At}
 use Rattle.psm_tree.specs.Parts.{Statements, Branches, ForParts, HandlerParts, NamedRest, Variables, Condition, Cursor, Declared, Named, Handled, Body}
 use Rattle.psm_tree.specs.declared.name.Identifier.{Identifier}
 use Rattle.psm_tree.specs.declared.name.Target.{Target}
-use Rattle.psm_tree.specs.declared.name.Names.{Names}
-use Rattle.psm_tree.specs.declared.name.Targets.{Targets}
+use Rattle.psm_tree.specs.Names.{Names, Targets}
 use Rattle.psm_tree.specs.declared.types.DataType.{DataType}
 use Rattle.psm_tree.specs.declared.types.State.{State}
 use Rattle.psm_tree.specs.declared.expr.Expr.{Expr}
 use Rattle.psm_tree.specs.declared.expr.Select.{Select}
 use Rattle.psm_tree.specs.declared.expr.Pick.{Pick}
-use Rattle.psm_tree.specs.ExprValues.{From}
+use Rattle.psm_tree.specs.ExprValues.{several, From, select_of}
 use Rattle.psm_tree.specs.declared.statement.Statement.{Statement}
 use Rattle.psm_tree.specs.declared.statement.Statement.TheVariants as statements
-use Rattle.psm_tree.specs.declared.statement.Label.{Label}
+use Rattle.psm_tree.specs.declared.statement.Block.{Block}
+use Rattle.psm_tree.specs.declared.statement.Block.TheVariants as blocks
 use Rattle.psm_tree.specs.declared.statement.Branch.{Branch, roll-Branch}
 use Rattle.psm_tree.specs.declared.statement.ForCursor.{ForCursor}
 use Rattle.psm_tree.specs.declared.statement.OrderedQuery.{OrderedQuery}
@@ -32,6 +33,7 @@ use Rattle.psm_tree.specs.declared.statement.Condition.{Condition as SignalCondi
 use Rattle.psm_tree.specs.declared.statement.Condition.TheVariants as signals
 use Rattle.psm_tree.specs.declared.statement.Signalled.{Signalled}
 use Rattle.psm_tree.specs.declared.statement.StatementItem.{StatementItem}
+use Rattle.psm_tree.specs.declared.statement.DiagnosticsArea.TheVariants as areas
 use Rattle.psm_tree.specs.declared.statement.ConditionItem.{ConditionItem}
 use Rattle.psm_tree.specs.declared.statement.StatementInformation.{StatementInformation}
 use Rattle.psm_tree.specs.declared.statement.ConditionInformation.{ConditionInformation}
@@ -56,8 +58,8 @@ state_of place text = record { place = place; «at» = text.place; text = text.v
 abbrev pub ordered_query : Select → Option Order → OrderedQuery
 ordered_query query order = record { query = query; order = order }
 
-abbrev pub order_of : Place → OrderColumn × List OrderColumn → Order
-order_of place p = record { place = place; first = p.0; rest = p.1 }
+abbrev pub order_of : Place → Several OrderColumn → Order
+order_of place columns = record { place = place; columns = columns }
 
 abbrev pub order_column : Identifier → Bool → OrderColumn
 order_column column descending = record { column = column; descending = descending }
@@ -89,17 +91,17 @@ number_of_condition n = numbers.Number n.place n.value
 abbrev pub target_of_condition : Target → ConditionNumber
 target_of_condition target = numbers.Target target
 
-abbrev pub statement_diagnostics : StatementInformation → List StatementInformation → Diagnostics
-statement_diagnostics first rest = diagnostics.Statement first rest
+abbrev pub statement_diagnostics : Several StatementInformation → Diagnostics
+statement_diagnostics items = diagnostics.Statement items
 
-abbrev pub condition_diagnostics : ConditionNumber → ConditionInformation × List ConditionInformation → Diagnostics
-condition_diagnostics number p = diagnostics.Condition number p.0 p.1
+abbrev pub condition_diagnostics : ConditionNumber → Several ConditionInformation → Diagnostics
+condition_diagnostics number items = diagnostics.Condition number items
 
-abbrev pub values_of : Place → Expr × List Expr → Values
-values_of place p = record { place = place; first = p.0; rest = p.1 }
+abbrev pub values_of : Place → Several Expr → Values
+values_of place values = record { place = place; values = values }
 
-abbrev pub inserted_values : Values → List Values → InsertSource
-inserted_values first rest = inserted.Values first rest
+abbrev pub inserted_values : Several Values → InsertSource
+inserted_values rows = inserted.Values rows
 
 abbrev pub inserted_query : Select → InsertSource
 inserted_query query = inserted.Query query
@@ -137,32 +139,16 @@ abbrev pub resignal_of : Place → Option Signalled → Simple
 resignal_of place signalled = simples.Resignal place signalled
 
 abbrev pub diagnostics_of : Place → Diagnostics → Simple
-diagnostics_of place d = simples.GetDiagnostics place d
+diagnostics_of place d = simples.GetDiagnostics place areas.Current d
 
-abbrev pub select_into : Place → List Pick × Targets × From → Simple
-select_into place p = simples.SelectInto place p.0 p.1 p.2.table p.2.alias p.2.condition
-
-abbrev pub selected : List Pick → Targets × From → List Pick × Targets × From
-selected picks p = (picks, p.0, p.1)
+abbrev pub select_into : Place → Several Pick × Targets × From → Simple
+select_into place p = simples.SelectInto (select_of place (p.0, p.2)) p.1
 
 abbrev pub insert_of : Place → Identifier × Option Names × InsertSource → Simple
 insert_of place p = simples.Insert place p.0 p.1 p.2
 
-abbrev pub into_table : Identifier → Option Names × InsertSource → Identifier × Option Names × InsertSource
-into_table table p = (table, p.0, p.1)
-
--- what UPDATE says
-pub record Updating : Type 0 where
-  pub table : Identifier
-  pub first : Assignment
-  pub rest : List Assignment
-  pub which : Option Where
-
-abbrev pub updating : Identifier → (Assignment × List Assignment) × Option Where → Updating
-updating table p = record { table = table; first = p.0.0; rest = p.0.1; which = p.1 }
-
-abbrev pub update_of : Place → Updating → Simple
-update_of place u = simples.Update place u.table u.first u.rest u.which
+abbrev pub update_of : Place → Identifier × Several Assignment × Option Where → Simple
+update_of place p = simples.Update place p.0 p.1 p.2
 
 abbrev pub delete_of : Place → Identifier × Option Where → Simple
 delete_of place p = simples.Delete place p.0 p.1
@@ -181,47 +167,44 @@ close_of place cursor = simples.Close place cursor
 abbrev pub simple_statement : Simple → Statement
 simple_statement simple = statements.Simple simple
 
--- a block without its label
-pub data Block : Type 0 where
-  Compound : Place → Bool × Body → Block
-  Loop : Place → Statements → Block
-  While : Place → Expr × Statements → Block
-  Repeat : Place → Statements × Expr → Block
-  For : Place → ForParts → Block
+abbrev pub compound_of : Place → Bool × Body → Block
+compound_of place p = blocks.Compound place p.0 p.1.declarations p.1.cursors p.1.handlers p.1.statements
 
-abbrev pub block_with : Option Label → Block → Statement
-block_with label (Compound place p) = statements.Compound label place p.0 p.1.declarations p.1.cursors p.1.handlers p.1.statements
-block_with label (Loop place p) = statements.Loop label place p.first p.rest
-block_with label (While place p) = statements.While label place p.0 p.1.first p.1.rest
-block_with label (Repeat place p) = statements.Repeat label place p.0.first p.0.rest p.1
-block_with label (For place p) = statements.For label place p.name p.cursor p.query p.body.first p.body.rest
+abbrev pub loop_of : Place → Statements → Block
+loop_of place statements = blocks.Loop place statements
+
+abbrev pub while_of : Place → Expr × Statements → Block
+while_of place p = blocks.While place p.0 p.1
+
+abbrev pub repeat_of : Place → Statements × Expr → Block
+repeat_of place p = blocks.Repeat place p.0 p.1
+
+abbrev pub for_of : Place → ForParts → Block
+for_of place p = blocks.For place p.head p.statements
 
 abbrev pub unlabelled : Block → Statement
-unlabelled block = block_with None block
+unlabelled block = statements.Block None block
 
 -- a block behind its label, and the label behind its end
 abbrev pub labelled : Identifier → Block × Option Identifier → Statement
-labelled start p = block_with (Some (record { start = start; end = p.1 })) p.0
+labelled start p = statements.Block (Some (record { start = start; end = p.1 })) p.0
 
 abbrev pub if_of : Place → Branches → Statement
-if_of place b = statements.If place b.first b.rest b.otherwise
+if_of place b = statements.If place b.branches b.otherwise
 
 abbrev pub case_statement_of : Place → Option Expr × Branches → Statement
-case_statement_of place p = statements.Case place p.0 p.1.first p.1.rest p.1.otherwise
-
-abbrev pub statements_of : Statement → List Statement → Statements
-statements_of first rest = record { first = first; rest = rest }
+case_statement_of place p = statements.Case place p.0 p.1.branches p.1.otherwise
 
 abbrev pub branch_of : Expr → Statements → Branch
-branch_of test s = roll-Branch (record { test = test; first = s.first; rest = s.rest })
+branch_of test s = roll-Branch (record { test = test; statements = s })
 
 -- the statements behind ELSE, or none
 abbrev pub listed : Option Statements → List Statement
 listed None = []
 listed (Some s) = s.first ∷ s.rest
 
-abbrev pub branches_of : Branch → List Branch × Option Statements → Branches
-branches_of first p = record { first = first; rest = p.0; otherwise = listed p.1 }
+abbrev pub branches_of : Several Branch → Option Statements → Branches
+branches_of branches otherwise = record { branches = branches; otherwise = listed otherwise }
 
 abbrev pub case_alone_statement : Branches → Option Expr × Branches
 case_alone_statement branches = (None, branches)
@@ -235,10 +218,7 @@ abbrev pub for_cursor : Identifier → Bool → ForCursor
 for_cursor name insensitive = record { name = name; insensitive = insensitive }
 
 abbrev pub for_parts : Identifier → Option ForCursor × OrderedQuery × Statements → ForParts
-for_parts name p = record { name = name; cursor = p.0; query = p.1; body = p.2 }
-
-abbrev pub for_query : Option ForCursor → OrderedQuery × Statements → Option ForCursor × OrderedQuery × Statements
-for_query cursor p = (cursor, p.0, p.1)
+for_parts name p = record { head = record { name = name; cursor = p.0; query = p.1 }; statements = p.2 }
 
 -- ---- declarations
 
@@ -267,8 +247,8 @@ updatable place = updatabilities.Update
 abbrev pub named_rest : Identifier → NamedRest × Body → Declared × Body
 named_rest name p = (Named name p.0, p.1)
 
-abbrev pub handler_parts : HandlerValue × List HandlerValue → Statement → HandlerParts
-handler_parts p action = record { first = p.0; rest = p.1; action = action }
+abbrev pub handler_parts : Several HandlerValue → Statement → HandlerParts
+handler_parts values action = record { values = values; action = action }
 
 abbrev pub state_value : State → HandlerValue
 state_value state = handled.State state
@@ -287,14 +267,14 @@ not_found_value place found = handled.NotFound place
 
 -- a declaration of that name before the others
 abbrev pub with_named : Place → Identifier → NamedRest → Body → Body
-with_named place name (Variables others kind default) body = record body { declarations = declarations.Variables place (record { first = name; rest = others }) kind default ∷ body.declarations }
+with_named place name (Variables others kind default) body = record body { declarations = declarations.Variables place (several name others) kind default ∷ body.declarations }
 with_named place name (Condition state) body = record body { declarations = declarations.Condition place name state ∷ body.declarations }
 with_named place name (Cursor insensitive query updatability) body = record body { cursors = record { place = place; name = name; insensitive = insensitive; query = query; updatability = updatability } ∷ body.cursors }
 
 -- a declaration behind its DECLARE before the others
 abbrev pub with_declared : Place → Declared → Body → Body
 with_declared place (Named name rest) body = with_named place name rest body
-with_declared place (Handled kind p) body = record body { handlers = roll-Handler (record { place = place; «at» = kind.place; kind = kind.value; first = p.first; rest = p.rest; action = p.action }) ∷ body.handlers }
+with_declared place (Handled kind p) body = record body { handlers = roll-Handler (record { place = place; «at» = kind.place; kind = kind.value; values = p.values; action = p.action }) ∷ body.handlers }
 
 abbrev pub declared : Place → Declared × Body → Body
 declared place p = with_declared place p.0 p.1

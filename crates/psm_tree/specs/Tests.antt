@@ -9,9 +9,11 @@ use Rattle.psm_token.specs.declared.sign.Sign.TheVariants as s
 use Rattle.psm_token.specs.declared.token.Token.{Token}
 use Rattle.psm_token.specs.declared.token.Token.TheVariants as t
 use Rattle.psm_token.specs.declared.token.Placed.{Placed}
-use Rattle.psm_token.specs.Words.{text_of}
+use Rattle.psm_token.specs.Words.{word_kind, text_of}
+use Rattle.psm_token.specs.Signs.{sign_kind}
+use Rattle.psm_token.specs.Kinds.{name_kind, number_kind, text_kind, kinds_of}
 use Rattle.psm_grammar.specs.Language.{Test}
-use Rattle.psm_tree.specs.Kinds.{code, name_kind, number_kind, text_kind, sign_code}
+use Rattle.psm_tree.specs.FirstWords.{name_words}
 use Rattle.psm_tree.specs.declared.name.Identifier.{Identifier}
 use Rattle.psm_tree.specs.declared.types.Sign.{Sign as PlusMinus}
 use Rattle.psm_tree.specs.declared.types.Sign.TheVariants as signs
@@ -52,11 +54,11 @@ one_sign sign kinds value = record { kinds = kinds; value = value; example = pla
 
 -- a word, with its place
 abbrev pub word : Word → Test Placed Place
-word x = one_word x (code x ∷ []) place_of
+word x = one_word x (word_kind x ∷ []) place_of
 
 -- a sign, with its place
 abbrev pub sign : Sign → Test Placed Place
-sign x = one_sign x (sign_code x ∷ []) place_of
+sign x = one_sign x (sign_kind x ∷ []) place_of
 
 -- ---- names
 
@@ -68,7 +70,7 @@ spelled _ = []
 
 -- the kinds of tokens that are names
 abbrev pub name_kinds : List ℕ
-name_kinds = name_kind ∷ code w.Both ∷ code w.ConditionIdentifier ∷ code w.ConditionNumber ∷ code w.CursorName ∷ code w.Data ∷ code w.Found ∷ code w.Leading ∷ code w.MessageLength ∷ code w.MessageText ∷ code w.More ∷ code w.Next ∷ code w.Number ∷ code w.Only ∷ code w.Read ∷ code w.ReturnedSqlState ∷ code w.RowCount ∷ code w.TableName ∷ code w.Trailing ∷ code w.Value ∷ code w.Varying ∷ code w.Work ∷ []
+name_kinds = name_kind ∷ kinds_of name_words
 
 abbrev pub name : Test Placed Identifier
 name = record { kinds = name_kinds; value = λ p. record { place = p.place; name = spelled p.token }; example = placed (t.Name (120 ∷ [])) }
@@ -105,7 +107,7 @@ sign_of _ = signs.Plus
 
 -- `+` or `-`, with its place
 abbrev pub plus_minus : Test Placed (At PlusMinus)
-plus_minus = one_sign s.Plus (sign_code s.Plus ∷ sign_code s.Minus ∷ []) (at sign_of)
+plus_minus = one_sign s.Plus (sign_kind s.Plus ∷ sign_kind s.Minus ∷ []) (at sign_of)
 
 abbrev pub comparison_of : Token → Comparison
 comparison_of (t.Sign s.NotEqual) = comparisons.NotEqual
@@ -116,7 +118,7 @@ comparison_of (t.Sign s.GreaterEqual) = comparisons.GreaterEqual
 comparison_of _ = comparisons.Equal
 
 abbrev pub comparison : Test Placed Comparison
-comparison = one_sign s.Equal (sign_code s.Equal ∷ sign_code s.NotEqual ∷ sign_code s.Less ∷ sign_code s.LessEqual ∷ sign_code s.Greater ∷ sign_code s.GreaterEqual ∷ []) (λ p. comparison_of p.token)
+comparison = one_sign s.Equal (sign_kind s.Equal ∷ sign_kind s.NotEqual ∷ sign_kind s.Less ∷ sign_kind s.LessEqual ∷ sign_kind s.Greater ∷ sign_kind s.GreaterEqual ∷ []) (λ p. comparison_of p.token)
 
 abbrev pub sum_operator_of : Token → Operator
 sum_operator_of (t.Sign s.Minus) = operators.Subtract
@@ -124,14 +126,14 @@ sum_operator_of (t.Sign s.Concatenation) = operators.Concatenate
 sum_operator_of _ = operators.Add
 
 abbrev pub sum_operator : Test Placed Operator
-sum_operator = one_sign s.Plus (sign_code s.Plus ∷ sign_code s.Minus ∷ sign_code s.Concatenation ∷ []) (λ p. sum_operator_of p.token)
+sum_operator = one_sign s.Plus (sign_kind s.Plus ∷ sign_kind s.Minus ∷ sign_kind s.Concatenation ∷ []) (λ p. sum_operator_of p.token)
 
 abbrev pub term_operator_of : Token → Operator
 term_operator_of (t.Sign s.Solidus) = operators.Divide
 term_operator_of _ = operators.Multiply
 
 abbrev pub term_operator : Test Placed Operator
-term_operator = one_sign s.Asterisk (sign_code s.Asterisk ∷ sign_code s.Solidus ∷ []) (λ p. term_operator_of p.token)
+term_operator = one_sign s.Asterisk (sign_kind s.Asterisk ∷ sign_kind s.Solidus ∷ []) (λ p. term_operator_of p.token)
 
 -- ---- words that choose
 
@@ -141,7 +143,7 @@ text_function_of (t.Word w.Lower) = functions.Lower
 text_function_of _ = functions.CharLength
 
 abbrev pub text_function : Test Placed (At TextFunction)
-text_function = one_word w.CharLength (code w.CharLength ∷ code w.CharacterLength ∷ code w.Upper ∷ code w.Lower ∷ []) (at text_function_of)
+text_function = one_word w.CharLength (word_kind w.CharLength ∷ word_kind w.CharacterLength ∷ word_kind w.Upper ∷ word_kind w.Lower ∷ []) (at text_function_of)
 
 abbrev pub set_function_of : Token → SetFunction
 set_function_of (t.Word w.Avg) = sets.Avg
@@ -151,7 +153,7 @@ set_function_of _ = sets.Sum
 
 -- SUM, AVG, MIN or MAX; COUNT stands apart, since it also counts rows
 abbrev pub set_function : Test Placed (At SetFunction)
-set_function = one_word w.Sum (code w.Sum ∷ code w.Avg ∷ code w.Min ∷ code w.Max ∷ []) (at set_function_of)
+set_function = one_word w.Sum (word_kind w.Sum ∷ word_kind w.Avg ∷ word_kind w.Min ∷ word_kind w.Max ∷ []) (at set_function_of)
 
 abbrev pub trim_side_of : Token → TrimSide
 trim_side_of (t.Word w.Leading) = sides.Leading
@@ -159,16 +161,16 @@ trim_side_of (t.Word w.Trailing) = sides.Trailing
 trim_side_of _ = sides.Both
 
 abbrev pub trim_side : Test Placed TrimSide
-trim_side = one_word w.Both (code w.Leading ∷ code w.Trailing ∷ code w.Both ∷ []) (λ p. trim_side_of p.token)
+trim_side = one_word w.Both (word_kind w.Leading ∷ word_kind w.Trailing ∷ word_kind w.Both ∷ []) (λ p. trim_side_of p.token)
 
 abbrev pub integer_word : Test Placed Place
-integer_word = one_word w.Integer (code w.Integer ∷ code w.Int ∷ []) place_of
+integer_word = one_word w.Integer (word_kind w.Integer ∷ word_kind w.Int ∷ []) place_of
 
 abbrev pub numeric_word : Test Placed Place
-numeric_word = one_word w.Numeric (code w.Numeric ∷ code w.Decimal ∷ code w.Dec ∷ []) place_of
+numeric_word = one_word w.Numeric (word_kind w.Numeric ∷ word_kind w.Decimal ∷ word_kind w.Dec ∷ []) place_of
 
 abbrev pub char_word : Test Placed Place
-char_word = one_word w.Char (code w.Char ∷ code w.Character ∷ []) place_of
+char_word = one_word w.Char (word_kind w.Char ∷ word_kind w.Character ∷ []) place_of
 
 abbrev pub handler_kind_of : Token → HandlerKind
 handler_kind_of (t.Word w.Exit) = handlers.Exit
@@ -176,7 +178,7 @@ handler_kind_of (t.Word w.Undo) = handlers.Undo
 handler_kind_of _ = handlers.Continue
 
 abbrev pub handler_kind : Test Placed (At HandlerKind)
-handler_kind = one_word w.Continue (code w.Continue ∷ code w.Exit ∷ code w.Undo ∷ []) (at handler_kind_of)
+handler_kind = one_word w.Continue (word_kind w.Continue ∷ word_kind w.Exit ∷ word_kind w.Undo ∷ []) (at handler_kind_of)
 
 abbrev pub statement_item_of : Token → StatementItem
 statement_item_of (t.Word w.More) = items.More
@@ -184,7 +186,7 @@ statement_item_of (t.Word w.RowCount) = items.RowCount
 statement_item_of _ = items.Number
 
 abbrev pub statement_item : Test Placed (At StatementItem)
-statement_item = one_word w.Number (code w.Number ∷ code w.More ∷ code w.RowCount ∷ []) (at statement_item_of)
+statement_item = one_word w.Number (word_kind w.Number ∷ word_kind w.More ∷ word_kind w.RowCount ∷ []) (at statement_item_of)
 
 abbrev pub condition_item_of : Token → ConditionItem
 condition_item_of (t.Word w.ReturnedSqlState) = conditions.ReturnedSqlState
@@ -196,11 +198,11 @@ condition_item_of (t.Word w.CursorName) = conditions.CursorName
 condition_item_of _ = conditions.ConditionNumber
 
 abbrev pub condition_item : Test Placed (At ConditionItem)
-condition_item = one_word w.ConditionNumber (code w.ConditionNumber ∷ code w.ReturnedSqlState ∷ code w.ConditionIdentifier ∷ code w.MessageText ∷ code w.MessageLength ∷ code w.TableName ∷ code w.CursorName ∷ []) (at condition_item_of)
+condition_item = one_word w.ConditionNumber (word_kind w.ConditionNumber ∷ word_kind w.ReturnedSqlState ∷ word_kind w.ConditionIdentifier ∷ word_kind w.MessageText ∷ word_kind w.MessageLength ∷ word_kind w.TableName ∷ word_kind w.CursorName ∷ []) (at condition_item_of)
 
 -- EXCEPTION or CONDITION, which mean the same
 abbrev pub exception_word : Test Placed Place
-exception_word = one_word w.Exception (code w.Exception ∷ code w.Condition ∷ []) place_of
+exception_word = one_word w.Exception (word_kind w.Exception ∷ word_kind w.Condition ∷ []) place_of
 
 abbrev pub mode_of : Token → Mode
 mode_of (t.Word w.Out) = modes.Out
@@ -208,4 +210,4 @@ mode_of (t.Word w.InOut) = modes.InOut
 mode_of _ = modes.In
 
 abbrev pub mode : Test Placed (At Mode)
-mode = one_word w.In (code w.In ∷ code w.Out ∷ code w.InOut ∷ []) (at mode_of)
+mode = one_word w.In (word_kind w.In ∷ word_kind w.Out ∷ word_kind w.InOut ∷ []) (at mode_of)

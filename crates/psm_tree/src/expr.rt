@@ -1,7 +1,10 @@
 //! Expressions and queries. A chain of operators of one level is one list.
+ghost use Rattle.std.specs.Prelude.{◌≡◌};
+ghost use Rattle.psm_tree.specs.Places.{expr_place, pick_place};
+
 use crate::name::{Identifier, Target};
 use crate::types::{DataType, Sign};
-use psm_list::{Boxed, List};
+use psm_list::{Boxed, List, OneOrMore};
 use psm_num::Dec;
 use psm_text::Text;
 use psm_token::Place;
@@ -70,8 +73,7 @@ pub enum Expr {
     /// Conditions with AND, or with OR, between them: two or more.
     Junction {
         junction: Junction,
-        first: Boxed<Expr>,
-        rest: List<Expr>,
+        operands: OneOrMore<Boxed<Expr>>,
     },
     Not {
         place: Place,
@@ -96,8 +98,7 @@ pub enum Expr {
     In {
         negated: bool,
         value: Boxed<Expr>,
-        first: Boxed<Expr>,
-        rest: List<Expr>,
+        list: OneOrMore<Boxed<Expr>>,
     },
     Like {
         negated: bool,
@@ -108,7 +109,7 @@ pub enum Expr {
     /// Operands with operators of one level between them: two or more operands.
     Chain {
         first: Boxed<Expr>,
-        rest: List<Link>,
+        links: List<Link>,
     },
     Signed {
         place: Place,
@@ -117,7 +118,7 @@ pub enum Expr {
     },
     Call {
         function: Identifier,
-        arguments: List<Expr>,
+        arguments: List<Boxed<Expr>>,
     },
     Parenthesized {
         place: Place,
@@ -135,8 +136,7 @@ pub enum Expr {
     Case {
         place: Place,
         operand: Option<Boxed<Expr>>,
-        first: Boxed<When>,
-        rest: List<When>,
+        whens: OneOrMore<Boxed<When>>,
         otherwise: Option<Boxed<Expr>>,
     },
     Cast {
@@ -146,8 +146,7 @@ pub enum Expr {
     },
     Coalesce {
         place: Place,
-        first: Boxed<Expr>,
-        rest: List<Expr>,
+        values: OneOrMore<Boxed<Expr>>,
     },
     NullIf {
         place: Place,
@@ -177,20 +176,56 @@ pub enum Expr {
     },
 }
 
+impl Expr {
+    /// The place of its first token.
+    #[tactic(auto, using(crate::proofs::Places::expr_places))]
+    pub fn place(&self) -> Place
+        ensures { result ≡ expr_place self.now }
+    {
+        match self {
+            Expr::Name(target) => target.place(),
+            Expr::Junction { operands, .. } => operands.first.get().place(),
+            Expr::Compare { left, .. } => left.get().place(),
+            Expr::IsNull { value, .. }
+            | Expr::Between { value, .. }
+            | Expr::In { value, .. }
+            | Expr::Like { value, .. } => value.get().place(),
+            Expr::Chain { first, .. } => first.get().place(),
+            Expr::Call { function, .. } => function.place,
+            Expr::Null { place }
+            | Expr::Number { place, .. }
+            | Expr::Text { place, .. }
+            | Expr::Not { place, .. }
+            | Expr::Signed { place, .. }
+            | Expr::Parenthesized { place, .. }
+            | Expr::Subquery { place, .. }
+            | Expr::Exists { place, .. }
+            | Expr::Case { place, .. }
+            | Expr::Cast { place, .. }
+            | Expr::Coalesce { place, .. }
+            | Expr::NullIf { place, .. }
+            | Expr::Function { place, .. }
+            | Expr::Position { place, .. }
+            | Expr::Substring { place, .. }
+            | Expr::Trim { place, .. } => *place,
+        }
+    }
+}
+
 /// An operator and the operand behind it.
 #[cycle(expression)]
 #[derive(Drop)]
 pub struct Link {
     pub operator: Operator,
-    pub operand: Expr,
+    pub operand: Boxed<Expr>,
 }
 
 /// `WHEN test THEN result`.
 #[cycle(expression)]
 #[derive(Drop)]
 pub struct When {
-    pub test: Expr,
-    pub result: Expr,
+    pub test: Boxed<Expr>,
+    pub result: Boxed<Expr>,
 }
 
 /// A query over one table (ISO/IEC 9075:1992, 7.9).
@@ -198,7 +233,7 @@ pub struct When {
 #[derive(Drop)]
 pub struct Select {
     pub place: Place,
-    pub picks: List<Pick>,
+    pub picks: OneOrMore<Boxed<Pick>>,
     pub table: Identifier,
     pub alias: Option<Identifier>,
     pub condition: Option<Boxed<Expr>>,
@@ -223,7 +258,7 @@ pub enum Pick {
         place: Place,
     },
     Expr {
-        expr: Expr,
+        expr: Boxed<Expr>,
         alias: Option<Identifier>,
     },
     /// `COUNT(*)`.
@@ -234,7 +269,22 @@ pub enum Pick {
     Aggregate {
         place: Place,
         function: SetFunction,
-        argument: Expr,
+        argument: Boxed<Expr>,
         alias: Option<Identifier>,
     },
+}
+
+impl Pick {
+    /// The place of its first token.
+    #[tactic(auto, using(crate::proofs::Places::pick_places))]
+    pub fn place(&self) -> Place
+        ensures { result ≡ pick_place self.now }
+    {
+        match self {
+            Pick::Expr { expr, .. } => expr.get().place(),
+            Pick::All { place } | Pick::CountRows { place, .. } | Pick::Aggregate { place, .. } => {
+                *place
+            }
+        }
+    }
 }

@@ -3,7 +3,7 @@ use crate::expr::Expr;
 use crate::name::{Identifier, Names};
 use crate::statement::Statement;
 use crate::types::{Constant, DataType};
-use psm_list::List;
+use psm_list::{Boxed, List, OneOrMore};
 use psm_token::Place;
 
 /// A module file.
@@ -18,8 +18,7 @@ pub struct FileTree {
 pub struct TableTree {
     pub place: Place,
     pub name: Identifier,
-    pub first: Element,
-    pub rest: List<Element>,
+    pub elements: OneOrMore<Element>,
 }
 
 /// An element of a table: a column or a rule.
@@ -47,7 +46,7 @@ pub enum ColumnRuleForm {
     NotNull,
     PrimaryKey,
     Unique,
-    Check(Expr),
+    Check(Boxed<Expr>),
 }
 
 /// A rule of a table (ISO/IEC 9075:1992, 11.6).
@@ -62,7 +61,7 @@ pub struct TableRule {
 pub enum TableRuleForm {
     PrimaryKey(Names),
     Unique(Names),
-    Check(Expr),
+    Check(Boxed<Expr>),
 }
 
 /// An SQL server module (ISO/IEC 9075-4:1996, module definitions).
@@ -116,5 +115,5 @@ pub struct Routine {
     pub parameters: List<Parameter>,
     pub returns: Option<DataType>,
     pub notes: List<Note>,
-    pub body: Statement,
+    pub body: Boxed<Statement>,
 }

@@ -23,9 +23,9 @@ pub use laws::one_tree;
 pub use name::{Identifier, Names, Target, Targets};
 pub use script::{Argument, Command, ConstantRow, ScriptTree};
 pub use statement::{
-    Assignment, Branch, Condition, ConditionInformation, ConditionItem, ConditionNumber,
-    CursorDeclaration, Declaration, Diagnostics, ForCursor, Handler, HandlerKind, HandlerValue,
-    InsertSource, Label, Order, OrderColumn, OrderedQuery, Signalled, Simple, Statement,
-    StatementInformation, StatementItem, Updatability, Values, Where,
+    Assignment, Block, Branch, Condition, ConditionInformation, ConditionItem, ConditionNumber,
+    CursorDeclaration, Declaration, Diagnostics, DiagnosticsArea, ForCursor, ForHead, Handler,
+    HandlerKind, HandlerValue, InsertSource, Label, Order, OrderColumn, OrderedQuery, Signalled,
+    Simple, Statement, StatementInformation, StatementItem, Updatability, Values, Where,
 };
 pub use types::{Constant, ConstantForm, DataType, Precision, Sign, State, TypeForm};

@@ -1,5 +1,8 @@
 //! Names where the grammar has them.
-use psm_list::List;
+ghost use Rattle.std.specs.Prelude.{◌≡◌};
+ghost use Rattle.psm_tree.specs.Places.{target_place};
+
+use psm_list::OneOrMore;
 use psm_text::Name;
 use psm_token::Place;
 
@@ -17,16 +20,17 @@ pub struct Target {
     pub second: Option<Identifier>,
 }
 
-/// One name or more, with a comma between two of them.
-#[derive(Debug, Drop)]
-pub struct Names {
-    pub first: Identifier,
-    pub rest: List<Identifier>,
+impl Target {
+    /// The place of its first name.
+    pub fn place(&self) -> Place
+        ensures { result ≡ target_place self.now }
+    {
+        self.first.place
+    }
 }
 
+/// One name or more, with a comma between two of them.
+pub type Names = OneOrMore<Identifier>;
+
 /// One target or more, with a comma between two of them.
-#[derive(Debug, Drop)]
-pub struct Targets {
-    pub first: Target,
-    pub rest: List<Target>,
-}
+pub type Targets = OneOrMore<Target>;

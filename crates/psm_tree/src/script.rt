@@ -1,8 +1,11 @@
 //! Scripts.
+ghost use Rattle.std.specs.Prelude.{◌≡◌};
+ghost use Rattle.psm_tree.specs.Places.{argument_place, command_place};
+
 use crate::name::{Identifier, Names};
 use crate::statement::OrderedQuery;
 use crate::types::Constant;
-use psm_list::List;
+use psm_list::{Boxed, List, OneOrMore};
 use psm_token::Place;
 
 /// A script.
@@ -18,12 +21,23 @@ pub enum Argument {
     Placeholder { place: Place },
 }
 
+impl Argument {
+    /// The place of its first token.
+    pub fn place(&self) -> Place
+        ensures { result ≡ argument_place self.now }
+    {
+        match self {
+            Argument::Constant(constant) => constant.place,
+            Argument::Placeholder { place } => *place,
+        }
+    }
+}
+
 /// A row of a script's INSERT.
 #[derive(Debug, Drop)]
 pub struct ConstantRow {
     pub place: Place,
-    pub first: Constant,
-    pub rest: List<Constant>,
+    pub values: OneOrMore<Constant>,
 }
 
 /// A command of a script.
@@ -37,9 +51,8 @@ pub enum Command {
     Insert {
         place: Place,
         table: Identifier,
-        columns: Option<Names>,
-        first: ConstantRow,
-        rest: List<ConstantRow>,
+        columns: Option<Boxed<Names>>,
+        rows: OneOrMore<ConstantRow>,
     },
     Select(OrderedQuery),
     Commit {
@@ -48,4 +61,19 @@ pub enum Command {
     Rollback {
         place: Place,
     },
+}
+
+impl Command {
+    /// The place of its first token.
+    pub fn place(&self) -> Place
+        ensures { result ≡ command_place self.now }
+    {
+        match self {
+            Command::Select(query) => query.place(),
+            Command::Call { place, .. }
+            | Command::Insert { place, .. }
+            | Command::Commit { place }
+            | Command::Rollback { place } => *place,
+        }
+    }
 }

@@ -1,8 +1,11 @@
 //! Statements, blocks and declarations (ISO/IEC 9075-4:1996).
-use crate::expr::{Expr, Pick, Select};
+ghost use Rattle.std.specs.Prelude.{◌≡◌};
+ghost use Rattle.psm_tree.specs.Places.{ordered_query_place, simple_place, block_place, statement_place, declaration_place, handler_value_place, condition_place, condition_number_place};
+
+use crate::expr::{Expr, Select};
 use crate::name::{Identifier, Names, Target, Targets};
 use crate::types::{DataType, State};
-use psm_list::{Boxed, List};
+use psm_list::{Boxed, List, OneOrMore};
 use psm_num::Dec;
 use psm_token::Place;
 
@@ -10,60 +13,92 @@ use psm_token::Place;
 #[cycle(statement)]
 #[derive(Drop)]
 pub enum Statement {
-    Compound {
+    /// A block, with its label where it has one.
+    Block {
         label: Option<Label>,
-        place: Place,
-        atomic: bool,
-        declarations: List<Declaration>,
-        cursors: List<CursorDeclaration>,
-        handlers: List<Handler>,
-        statements: List<Statement>,
-    },
-    Loop {
-        label: Option<Label>,
-        place: Place,
-        first: Boxed<Statement>,
-        rest: List<Statement>,
-    },
-    While {
-        label: Option<Label>,
-        place: Place,
-        test: Expr,
-        first: Boxed<Statement>,
-        rest: List<Statement>,
-    },
-    Repeat {
-        label: Option<Label>,
-        place: Place,
-        first: Boxed<Statement>,
-        rest: List<Statement>,
-        until: Expr,
-    },
-    For {
-        label: Option<Label>,
-        place: Place,
-        name: Identifier,
-        cursor: Option<ForCursor>,
-        query: OrderedQuery,
-        first: Boxed<Statement>,
-        rest: List<Statement>,
+        block: Boxed<Block>,
     },
     /// IF, with the statements behind ELSE, of which there are none where there is no ELSE.
     If {
         place: Place,
-        first: Boxed<Branch>,
-        rest: List<Branch>,
-        otherwise: List<Statement>,
+        branches: OneOrMore<Boxed<Branch>>,
+        otherwise: List<Boxed<Statement>>,
     },
-    /// CASE, with its operand where it has one.
+    /// CASE, with its operand where it has one, and the statements behind ELSE.
     Case {
         place: Place,
-        operand: Option<Expr>,
-        first: Boxed<Branch>,
-        rest: List<Branch>,
-        otherwise: List<Statement>,
+        operand: Option<Boxed<Expr>>,
+        branches: OneOrMore<Boxed<Branch>>,
+        otherwise: List<Boxed<Statement>>,
     },
-    Simple(Simple),
+    Simple(Boxed<Simple>),
+}
+
+/// A statement that may have a label.
+#[cycle(statement)]
+#[derive(Drop)]
+pub enum Block {
+    Compound {
+        place: Place,
+        atomic: bool,
+        declarations: List<Boxed<Declaration>>,
+        cursors: List<Boxed<CursorDeclaration>>,
+        handlers: List<Boxed<Handler>>,
+        statements: List<Boxed<Statement>>,
+    },
+    Loop {
+        place: Place,
+        statements: OneOrMore<Boxed<Statement>>,
+    },
+    While {
+        place: Place,
+        test: Boxed<Expr>,
+        statements: OneOrMore<Boxed<Statement>>,
+    },
+    Repeat {
+        place: Place,
+        statements: OneOrMore<Boxed<Statement>>,
+        until: Boxed<Expr>,
+    },
+    For {
+        place: Place,
+        head: Boxed<ForHead>,
+        statements: OneOrMore<Boxed<Statement>>,
+    },
+}
+
+impl Statement {
+    /// The place of its first token, which is its label where it has one.
+    #[tactic(auto, using(crate::proofs::Places::statement_places))]
+    pub fn place(&self) -> Place
+        ensures { result ≡ statement_place self.now }
+    {
+        match self {
+            Statement::Block {
+                label: Some(label),
+                ..
+            } => label.start.place,
+            Statement::Block { label: None, block } => block.get().place(),
+            Statement::If { place, .. } | Statement::Case { place, .. } => *place,
+            Statement::Simple(simple) => simple.get().place(),
+        }
+    }
+}
+
+impl Block {
+    /// The place of its first token.
+    #[tactic(auto, using(crate::proofs::Places::block_places))]
+    pub fn place(&self) -> Place
+        ensures { result ≡ block_place self.now }
+    {
+        match self {
+            Block::Compound { place, .. }
+            | Block::Loop { place, .. }
+            | Block::While { place, .. }
+            | Block::Repeat { place, .. }
+            | Block::For { place, .. } => *place,
+        }
+    }
 }
 
 /// The label before a block, and the one behind its end where there is one.
@@ -77,9 +112,8 @@ pub struct Label {
 #[cycle(statement)]
 #[derive(Drop)]
 pub struct Branch {
-    pub test: Expr,
-    pub first: Statement,
-    pub rest: List<Statement>,
+    pub test: Boxed<Expr>,
+    pub statements: OneOrMore<Boxed<Statement>>,
 }
 
 /// The cursor of a FOR statement.
@@ -89,19 +123,35 @@ pub struct ForCursor {
     pub insensitive: bool,
 }
 
+/// What a FOR statement goes over: its name, and its cursor where that has a name.
+#[derive(Drop)]
+pub struct ForHead {
+    pub name: Identifier,
+    pub cursor: Option<ForCursor>,
+    pub query: OrderedQuery,
+}
+
 /// A query with its ORDER BY.
 #[derive(Drop)]
 pub struct OrderedQuery {
-    pub query: Select,
+    pub query: Boxed<Select>,
     pub order: Option<Order>,
+}
+
+impl OrderedQuery {
+    /// The place of its first token.
+    pub fn place(&self) -> Place
+        ensures { result ≡ ordered_query_place self.now }
+    {
+        self.query.get().place
+    }
 }
 
 /// `ORDER BY` columns.
 #[derive(Debug, Drop)]
 pub struct Order {
     pub place: Place,
-    pub first: OrderColumn,
-    pub rest: List<OrderColumn>,
+    pub columns: OneOrMore<OrderColumn>,
 }
 
 /// A column of ORDER BY.
@@ -118,13 +168,24 @@ pub enum Declaration {
         place: Place,
         names: Names,
         kind: DataType,
-        default: Option<Expr>,
+        default: Option<Boxed<Expr>>,
     },
     Condition {
         place: Place,
         name: Identifier,
         state: Option<State>,
     },
+}
+
+impl Declaration {
+    /// The place of its first token.
+    pub fn place(&self) -> Place
+        ensures { result ≡ declaration_place self.now }
+    {
+        match self {
+            Declaration::Variables { place, .. } | Declaration::Condition { place, .. } => *place,
+        }
+    }
 }
 
 /// What a cursor says of updates behind its query.
@@ -160,8 +221,7 @@ pub struct Handler {
     /// The place of CONTINUE, EXIT or UNDO.
     pub at: Place,
     pub kind: HandlerKind,
-    pub first: HandlerValue,
-    pub rest: List<HandlerValue>,
+    pub values: OneOrMore<HandlerValue>,
     pub action: Boxed<Statement>,
 }
 
@@ -175,6 +235,21 @@ pub enum HandlerValue {
     NotFound { place: Place },
 }
 
+impl HandlerValue {
+    /// The place of its first token.
+    pub fn place(&self) -> Place
+        ensures { result ≡ handler_value_place self.now }
+    {
+        match self {
+            HandlerValue::State(state) => state.place,
+            HandlerValue::Name(name) => name.place,
+            HandlerValue::SqlException { place }
+            | HandlerValue::SqlWarning { place }
+            | HandlerValue::NotFound { place } => *place,
+        }
+    }
+}
+
 /// The condition of SIGNAL and RESIGNAL.
 #[derive(Debug, Drop)]
 pub enum Condition {
@@ -182,11 +257,23 @@ pub enum Condition {
     State(State),
 }
 
+impl Condition {
+    /// The place of its first token.
+    pub fn place(&self) -> Place
+        ensures { result ≡ condition_place self.now }
+    {
+        match self {
+            Condition::Name(name) => name.place,
+            Condition::State(state) => state.place,
+        }
+    }
+}
+
 /// A condition, with its message where one is set.
 #[derive(Drop)]
 pub struct Signalled {
     pub condition: Condition,
-    pub message: Option<Expr>,
+    pub message: Option<Boxed<Expr>>,
 }
 
 /// An item of a statement in the diagnostics area.
@@ -232,17 +319,33 @@ pub enum ConditionNumber {
     Target(Target),
 }
 
+impl ConditionNumber {
+    /// The place of its first token.
+    pub fn place(&self) -> Place
+        ensures { result ≡ condition_number_place self.now }
+    {
+        match self {
+            ConditionNumber::Number { place, .. } => *place,
+            ConditionNumber::Target(target) => target.place(),
+        }
+    }
+}
+
+/// Which diagnostics area GET DIAGNOSTICS looks at.
+#[derive(Clone, Copy, Debug, PartialEq, Eq)]
+pub enum DiagnosticsArea {
+    Current,
+}
+
 /// What GET DIAGNOSTICS gets.
 #[derive(Debug, Drop)]
 pub enum Diagnostics {
     Statement {
-        first: StatementInformation,
-        rest: List<StatementInformation>,
+        items: OneOrMore<StatementInformation>,
     },
     Condition {
         number: ConditionNumber,
-        first: ConditionInformation,
-        rest: List<ConditionInformation>,
+        items: OneOrMore<ConditionInformation>,
     },
 }
 
@@ -250,28 +353,27 @@ pub enum Diagnostics {
 #[derive(Drop)]
 pub struct Values {
     pub place: Place,
-    pub first: Expr,
-    pub rest: List<Expr>,
+    pub values: OneOrMore<Boxed<Expr>>,
 }
 
 /// The rows of an INSERT.
 #[derive(Drop)]
 pub enum InsertSource {
-    Values { first: Values, rest: List<Values> },
-    Query(Select),
+    Values { rows: OneOrMore<Values> },
+    Query(Boxed<Select>),
 }
 
 /// A column of UPDATE and its new value.
 #[derive(Drop)]
 pub struct Assignment {
     pub column: Identifier,
-    pub source: Expr,
+    pub source: Boxed<Expr>,
 }
 
 /// Which rows an UPDATE or a DELETE changes.
 #[derive(Drop)]
 pub enum Where {
-    Condition(Expr),
+    Condition(Boxed<Expr>),
     Current { cursor: Identifier },
 }
 
@@ -281,16 +383,16 @@ pub enum Simple {
     Set {
         place: Place,
         target: Target,
-        source: Expr,
+        source: Boxed<Expr>,
     },
     Call {
         place: Place,
         procedure: Identifier,
-        arguments: List<Expr>,
+        arguments: List<Boxed<Expr>>,
     },
     Return {
         place: Place,
-        source: Expr,
+        source: Boxed<Expr>,
     },
     Leave {
         place: Place,
@@ -302,35 +404,31 @@ pub enum Simple {
     },
     Signal {
         place: Place,
-        signalled: Signalled,
+        signalled: Boxed<Signalled>,
     },
     Resignal {
         place: Place,
-        signalled: Option<Signalled>,
+        signalled: Option<Boxed<Signalled>>,
     },
     GetDiagnostics {
         place: Place,
-        diagnostics: Diagnostics,
+        which: DiagnosticsArea,
+        diagnostics: Boxed<Diagnostics>,
     },
     SelectInto {
-        place: Place,
-        picks: List<Pick>,
-        targets: Targets,
-        table: Identifier,
-        alias: Option<Identifier>,
-        condition: Option<Boxed<Expr>>,
+        query: Boxed<Select>,
+        targets: Boxed<Targets>,
     },
     Insert {
         place: Place,
         table: Identifier,
-        columns: Option<Names>,
-        source: InsertSource,
+        columns: Option<Boxed<Names>>,
+        source: Boxed<InsertSource>,
     },
     Update {
         place: Place,
         table: Identifier,
-        first: Assignment,
-        rest: List<Assignment>,
+        assignments: OneOrMore<Assignment>,
         which: Option<Where>,
     },
     Delete {
@@ -345,10 +443,35 @@ pub enum Simple {
     Fetch {
         place: Place,
         cursor: Identifier,
-        targets: Targets,
+        targets: Boxed<Targets>,
     },
     Close {
         place: Place,
         cursor: Identifier,
     },
+}
+
+impl Simple {
+    /// The place of its first token.
+    pub fn place(&self) -> Place
+        ensures { result ≡ simple_place self.now }
+    {
+        match self {
+            Simple::SelectInto { query, .. } => query.get().place,
+            Simple::Set { place, .. }
+            | Simple::Call { place, .. }
+            | Simple::Return { place, .. }
+            | Simple::Leave { place, .. }
+            | Simple::Iterate { place, .. }
+            | Simple::Signal { place, .. }
+            | Simple::Resignal { place, .. }
+            | Simple::GetDiagnostics { place, .. }
+            | Simple::Insert { place, .. }
+            | Simple::Update { place, .. }
+            | Simple::Delete { place, .. }
+            | Simple::Open { place, .. }
+            | Simple::Fetch { place, .. }
+            | Simple::Close { place, .. } => *place,
+        }
+    }
 }

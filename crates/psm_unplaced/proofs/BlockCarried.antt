@@ -9,9 +9,9 @@ use Rattle.psm_tree.specs.declared.statement.HandlerKind.{HandlerKind}
 use Rattle.psm_unplaced.specs.Unplaced.{origin}
 use Rattle.psm_unplaced.specs.ExprUnplaced.{type_unplaced, expr_unplaced, name_unplaced}
 use Rattle.psm_unplaced.specs.StatementUnplaced.{ordered_query_unplaced, for_cursor_unplaced, handler_value_unplaced, handler_unplaced}
-use Rattle.psm_unplaced.proofs.ValuesUnplaced.{same, both, all_three, at_unplaced, statements_unplaced, for_parts_unplaced, handler_parts_unplaced, named_rest_unplaced, declared_unplaced, body_unplaced}
+use Rattle.psm_unplaced.proofs.ValuesUnplaced.{same, both, at_unplaced, statements_unplaced, for_parts_unplaced, handler_parts_unplaced, named_rest_unplaced, declared_unplaced, body_unplaced}
 use Rattle.psm_unplaced.proofs.Equations.{handler_rolled}
-use Rattle.psm_unplaced.proofs.Carried.{Carried, carried_place, carried_name, carried_level_at, carried_next, carried_nothing, carried_seq, carried_or, carried_many, carried_image, carried_pair, carried_cons, carried_optional, carried_behind, carried_before}
+use Rattle.psm_unplaced.proofs.Carried.{Carried, carried_place, carried_name, carried_level_at, carried_next, carried_nothing, carried_seq, carried_or, carried_image, carried_pair, carried_triple, carried_several, carried_cons, carried_optional, carried_behind, carried_before}
 use Rattle.psm_unplaced.proofs.ExprCarried.{next_names_carried, data_type_carried, expr_carried, source_carried}
 use Rattle.psm_unplaced.proofs.StatementCarried.{state_carried, ordered_select_carried, statement_carried, ended_statements_carried, statements_carried}
 
@@ -36,7 +36,7 @@ for_body_carried : Carried statements_unplaced StatementGrammar.for_body
 for_body_carried = carried_behind (carried_before (carried_before statements_carried))
 
 pub for_carried : Carried for_parts_unplaced StatementGrammar.for_rest
-for_carried = carried_seq carried_name (carried_behind (carried_seq {h = all_three (option_map for_cursor_unplaced) ordered_query_unplaced statements_unplaced} (carried_optional for_cursor_carried) (carried_pair ordered_select_carried for_body_carried) (λ x y. refl))) (λ x y. refl)
+for_carried = carried_seq carried_name (carried_behind (carried_triple (carried_optional for_cursor_carried) (carried_pair ordered_select_carried for_body_carried))) (λ x y. refl)
 
 -- ---- declarations
 
@@ -70,13 +70,13 @@ handler_value_carried = carried_or (carried_image state_carried (λ x. refl))
     (carried_image carried_name (λ x. refl)))))
 
 pub handler_carried : Carried handler_parts_unplaced StatementGrammar.handler_rest
-handler_carried = carried_behind (carried_behind (carried_seq (carried_pair handler_value_carried (carried_many (carried_behind handler_value_carried))) statement_carried (λ x y. refl)))
+handler_carried = carried_behind (carried_behind (carried_seq (carried_several handler_value_carried (carried_behind handler_value_carried)) statement_carried (λ x y. refl)))
 
 -- ---- blocks
 
 handler_made : (place : Place) (kind : At HandlerKind) (p : HandlerParts) (body : Body) → with_declared origin (Handled (at_unplaced kind) (handler_parts_unplaced p)) (body_unplaced body) ≡ body_unplaced (with_declared place (Handled kind p) body)
 handler_made place kind p body = ap (λ h. record { declarations = (body_unplaced body).declarations; cursors = (body_unplaced body).cursors; handlers = h ∷ map handler_unplaced body.handlers; statements = (body_unplaced body).statements })
-    (sym (handler_rolled (record { place = place; «at» = kind.place; kind = kind.value; first = p.first; rest = p.rest; action = p.action })))
+    (sym (handler_rolled (record { place = place; «at» = kind.place; kind = kind.value; values = p.values; action = p.action })))
 
 declared_made : (place : Place) (d : Declared) (body : Body) → with_declared origin (declared_unplaced d) (body_unplaced body) ≡ body_unplaced (with_declared place d body)
 declared_made place (Named name (Variables others kind default)) body = refl

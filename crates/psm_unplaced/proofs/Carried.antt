@@ -1,5 +1,6 @@
 -- Grammars whose values forget their places where their tokens do, and the ways to make them of one another.
 use Rattle.std.proofs.Common.{◌≡◌, ℕ, List, map, option_map, refl}
+use Rattle.psm_list.specs.Several.{several_map}
 use Rattle.psm_token.specs.declared.place.Place.{Place}
 use Rattle.psm_token.specs.declared.token.Token.{Token}
 use Rattle.psm_token.specs.declared.token.Placed.{Placed}
@@ -9,7 +10,7 @@ use Rattle.psm_grammar.specs.Forms.{optional, behind_token, before_token}
 use Rattle.psm_grammar.specs.Places.{Carries}
 use Rattle.psm_tree.specs.Tests.{At, at, place_of, name}
 use Rattle.psm_tree.specs.Parts.{Part, V}
-use Rattle.psm_tree.specs.ExprValues.{pair, cons}
+use Rattle.psm_tree.specs.ExprValues.{pair, triple, several, cons}
 use Rattle.psm_tree.specs.ExprGrammar.{Gram, within_parens}
 use Rattle.psm_unplaced.specs.Unplaced.{origin, unplaced}
 use Rattle.psm_unplaced.specs.ExprUnplaced.{name_unplaced}
@@ -66,6 +67,12 @@ carried_image {a} c e = record { holds = (a, c.holds, e) }
 
 pub carried_pair : {X Y : Type 0} {p : Gram X} {q : Gram Y} {a : X → X} {b : Y → Y} → Carried a p → Carried b q → Carried (both a b) (seq pair p q)
 carried_pair {a} {b} c d = record { holds = (a, b, c.holds, d.holds, λ x y. refl) }
+
+pub carried_triple : {X Y Z : Type 0} {p : Gram X} {q : Gram (Y × Z)} {a : X → X} {h : Y × Z → Y × Z} → Carried a p → Carried h q → Carried (λ x. (a x.0, (h (x.1, x.2)).0, (h (x.1, x.2)).1)) (seq triple p q)
+carried_triple {a} {h} c d = record { holds = (a, h, c.holds, d.holds, λ x y. refl) }
+
+pub carried_several : {X : Type 0} {p q : Gram X} {a : X → X} → Carried a p → Carried a q → Carried (several_map a) (seq several p (many q))
+carried_several {a} c d = record { holds = (a, map a, c.holds, (a, d.holds, λ xs. refl), λ x y. refl) }
 
 pub carried_cons : {X : Type 0} {p : Gram X} {q : Gram (List X)} {a : X → X} → Carried a p → Carried (map a) q → Carried (map a) (seq cons p q)
 carried_cons {a} c d = record { holds = (a, map a, c.holds, d.holds, λ x y. refl) }

@@ -3,11 +3,12 @@
 use Rattle.std.proofs.Common.{◌≡◌, ℕ, List, [], ◌∷◌, Option, Some, None, map, option_map, refl, sym, ap}
 use denote.Hole.Carrier
 use Rattle.psm_num.specs.Num.{Num}
+use Rattle.psm_list.specs.Several.{Several, several_map}
 use Rattle.psm_token.specs.declared.place.Place.{Place}
 use Rattle.psm_grammar.specs.Grammar.{token}
 use Rattle.psm_tree.specs.Tests.{At, number_of, characters_of, sign_of, text_function_of, set_function_of, comparison, sum_operator, term_operator, trim_side}
 use Rattle.psm_tree.specs.Parts.{Inside, Value, Query, Cases}
-use Rattle.psm_tree.specs.ExprValues.{Test, Nothing, Compare, IsNull, Between, In, Like, NameRest, Bare, Dotted, Called, Item, Plain, Rows, Aggregate, joined, predicate_of, chain_of, named, enclosed_of, precision_of, numeric_of, null_of, count_of, pick_of, case_of, substring_of, number_primary, text_primary, signed, link_of, negated, null_source, select_of, all_picks, when_of}
+use Rattle.psm_tree.specs.ExprValues.{several, Test, Nothing, Compare, IsNull, Between, In, Like, NameRest, Bare, Dotted, Called, Item, Plain, Rows, Aggregate, joined, predicate_of, chain_of, named, enclosed_of, precision_of, numeric_of, null_of, count_of, pick_of, case_of, substring_of, number_primary, text_primary, signed, link_of, negated, null_source, select_of, all_picks, when_of}
 use Rattle.psm_tree.specs.ExprGrammar
 use Rattle.psm_tree.specs.declared.name.Identifier.{Identifier}
 use Rattle.psm_tree.specs.declared.types.Precision.{Precision}
@@ -25,7 +26,7 @@ use Rattle.psm_unplaced.specs.Unplaced.{origin}
 use Rattle.psm_unplaced.specs.ExprUnplaced.{name_unplaced, target_unplaced, names_unplaced, targets_unplaced, type_unplaced, constant_unplaced, alias_unplaced, expr_unplaced, link_unplaced, when_unplaced, select_unplaced, pick_unplaced}
 use Rattle.psm_unplaced.proofs.ValuesUnplaced.{same, both, all_three, place_unplaced, at_unplaced, test_unplaced, name_rest_unplaced, inside_unplaced, whens_unplaced, cases_unplaced, from_unplaced, item_unplaced}
 use Rattle.psm_unplaced.proofs.Equations.{expr_rolled, link_rolled, when_rolled, select_rolled, pick_rolled}
-use Rattle.psm_unplaced.proofs.Carried.{Carried, carried_token, carried_place, carried_at, carried_name, carried_level, carried_level_at, carried_nothing, carried_seq, carried_or, carried_ahead, carried_many, carried_image, carried_pair, carried_cons, carried_optional, carried_behind, carried_before, carried_within}
+use Rattle.psm_unplaced.proofs.Carried.{Carried, carried_token, carried_place, carried_at, carried_name, carried_level, carried_level_at, carried_nothing, carried_seq, carried_or, carried_ahead, carried_many, carried_image, carried_pair, carried_triple, carried_several, carried_cons, carried_optional, carried_behind, carried_before, carried_within}
 
 -- ---- names
 
@@ -39,13 +40,13 @@ pub next_names_carried : Carried (map name_unplaced) ExprGrammar.next_names
 next_names_carried = carried_many (carried_behind carried_name)
 
 names_carried : Carried names_unplaced ExprGrammar.names
-names_carried = carried_seq carried_name next_names_carried (λ x y. refl)
+names_carried = carried_several carried_name (carried_behind carried_name)
 
 pub names_in_parens_carried : Carried names_unplaced ExprGrammar.names_in_parens
 names_in_parens_carried = carried_within names_carried
 
 pub targets_carried : Carried targets_unplaced ExprGrammar.targets
-targets_carried = carried_seq target_carried (carried_many (carried_behind target_carried)) (λ x y. refl)
+targets_carried = carried_several target_carried (carried_behind target_carried)
 
 -- ---- types and constants
 
@@ -97,15 +98,15 @@ named_made name Bare = sym (expr_rolled (layers.Name (record { first = name; sec
 named_made name (Dotted second) = sym (expr_rolled (layers.Name (record { first = name; second = Some second })))
 named_made name (Called arguments) = sym (expr_rolled (layers.Call name arguments))
 
-case_by_parts : (place : Place) (operand : Option Expr) (first : When) (rest : List When) (otherwise : Option Expr) → exprs.Case origin (option_map expr_unplaced operand) (when_unplaced first) (map when_unplaced rest) (option_map expr_unplaced otherwise) ≡ expr_unplaced (exprs.Case place operand first rest otherwise)
+case_by_parts : (place : Place) (operand : Option Expr) (whens : Several When) (otherwise : Option Expr) → exprs.Case origin (option_map expr_unplaced operand) (several_map when_unplaced whens) (option_map expr_unplaced otherwise) ≡ expr_unplaced (exprs.Case place operand whens otherwise)
 unfolding roll-Expr Carrier.roll
-case_by_parts place None first rest None = sym (expr_rolled (layers.Case place None first rest None))
-case_by_parts place None first rest (Some otherwise) = sym (expr_rolled (layers.Case place None first rest (Some otherwise)))
-case_by_parts place (Some operand) first rest None = sym (expr_rolled (layers.Case place (Some operand) first rest None))
-case_by_parts place (Some operand) first rest (Some otherwise) = sym (expr_rolled (layers.Case place (Some operand) first rest (Some otherwise)))
+case_by_parts place None whens None = sym (expr_rolled (layers.Case place None whens None))
+case_by_parts place None whens (Some otherwise) = sym (expr_rolled (layers.Case place None whens (Some otherwise)))
+case_by_parts place (Some operand) whens None = sym (expr_rolled (layers.Case place (Some operand) whens None))
+case_by_parts place (Some operand) whens (Some otherwise) = sym (expr_rolled (layers.Case place (Some operand) whens (Some otherwise)))
 
 case_made : (place : Place) (c : Cases) → case_of origin (cases_unplaced c) ≡ expr_unplaced (case_of place c)
-case_made place c = case_by_parts place c.operand c.first c.rest c.otherwise
+case_made place c = case_by_parts place c.operand c.whens c.otherwise
 
 substring_by_parts : (place : Place) (text from : Expr) (length : Option Expr) → exprs.Substring origin (expr_unplaced text) (expr_unplaced from) (option_map expr_unplaced length) ≡ expr_unplaced (exprs.Substring place text from length)
 unfolding roll-Expr Carrier.roll
@@ -120,7 +121,7 @@ unfolding roll-Expr Carrier.roll
 worded_carried = carried_or (carried_level (λ x y. sym (expr_rolled (layers.Exists x y))))
     (carried_or (carried_level case_made)
     (carried_or (carried_level (λ x y. sym (expr_rolled (layers.Cast x y.0 y.1))))
-    (carried_or (carried_level (λ x y. sym (expr_rolled (layers.Coalesce x y.0 y.1))))
+    (carried_or (carried_level (λ x y. sym (expr_rolled (layers.Coalesce x y))))
     (carried_or (carried_level (λ x y. sym (expr_rolled (layers.NullIf x y.0 y.1))))
     (carried_or (carried_level (λ x y. sym (expr_rolled (layers.Position x y.0 y.1))))
     (carried_or (carried_level substring_made)
@@ -181,8 +182,8 @@ sum_carried = carried_seq term_carried (carried_many (carried_seq sum_operator_c
 between_carried : Carried (both expr_unplaced expr_unplaced) ExprGrammar.between
 between_carried = carried_behind (carried_pair sum_carried (carried_behind sum_carried))
 
-in_list_carried : Carried (both expr_unplaced (map expr_unplaced)) ExprGrammar.in_list
-in_list_carried = carried_behind (carried_within (carried_pair sum_carried (carried_many (carried_behind sum_carried))))
+in_list_carried : Carried (several_map expr_unplaced) ExprGrammar.in_list
+in_list_carried = carried_behind (carried_within (carried_several sum_carried (carried_behind sum_carried)))
 
 like_carried : Carried (both expr_unplaced (option_map expr_unplaced)) ExprGrammar.like
 like_carried = carried_behind (carried_pair sum_carried (carried_optional (carried_behind sum_carried)))
@@ -220,7 +221,7 @@ predicate_made value Nothing = refl
 predicate_made value (Compare operator right) = sym (expr_rolled (layers.Compare operator value right))
 predicate_made value (IsNull negated) = sym (expr_rolled (layers.IsNull negated value))
 predicate_made value (Between negated low high) = sym (expr_rolled (layers.Between negated value low high))
-predicate_made value (In negated first rest) = sym (expr_rolled (layers.In negated value first rest))
+predicate_made value (In negated list) = sym (expr_rolled (layers.In negated value list))
 predicate_made value (Like negated pattern None) = sym (expr_rolled (layers.Like negated value pattern None))
 predicate_made value (Like negated pattern (Some escape)) = sym (expr_rolled (layers.Like negated value pattern (Some escape)))
 
@@ -237,7 +238,7 @@ negation_carried = carried_or (carried_seq carried_place predicate_carried negat
 joined_made : (junction : Junction) (first : Expr) (rest : List Expr) → joined junction (expr_unplaced first) (map expr_unplaced rest) ≡ expr_unplaced (joined junction first rest)
 unfolding roll-Expr Carrier.roll
 joined_made junction first [] = refl
-joined_made junction first (next ∷ rest) = sym (expr_rolled (layers.Junction junction first (next ∷ rest)))
+joined_made junction first (next ∷ rest) = sym (expr_rolled (layers.Junction junction (several first (next ∷ rest))))
 
 conjunction_carried : Carried expr_unplaced ExprGrammar.conjunction
 conjunction_carried = carried_seq negation_carried (carried_many (carried_behind negation_carried)) (joined_made junctions.And)
@@ -252,8 +253,8 @@ null_source_made place = sym (expr_rolled (layers.Null place))
 pub source_carried : Carried expr_unplaced ExprGrammar.source
 source_carried = carried_or (carried_image carried_place null_source_made) expr_carried
 
-pub sources_carried : Carried (both expr_unplaced (map expr_unplaced)) ExprGrammar.sources
-sources_carried = carried_pair source_carried (carried_many (carried_behind source_carried))
+pub sources_carried : Carried (several_map expr_unplaced) ExprGrammar.sources
+sources_carried = carried_several source_carried (carried_behind source_carried)
 
 -- ---- queries
 
@@ -280,17 +281,17 @@ pick_made (Aggregate place function argument) alias = sym (pick_rolled (layers.A
 pick_carried : Carried pick_unplaced ExprGrammar.pick
 pick_carried = carried_seq item_carried alias_carried pick_made
 
-all_picks_made : (place : Place) → all_picks origin ≡ map pick_unplaced (all_picks place)
+all_picks_made : (place : Place) → all_picks origin ≡ several_map pick_unplaced (all_picks place)
 unfolding roll-Pick Carrier.roll
-all_picks_made place = ap (λ p. p ∷ []) (sym (pick_rolled (layers.All place)))
+all_picks_made place = ap (λ p. several p []) (sym (pick_rolled (layers.All place)))
 
-pub picks_carried : Carried (map pick_unplaced) ExprGrammar.picks
-picks_carried = carried_or (carried_image carried_place all_picks_made) (carried_cons pick_carried (carried_many (carried_behind pick_carried)))
+pub picks_carried : Carried (several_map pick_unplaced) ExprGrammar.picks
+picks_carried = carried_or (carried_image carried_place all_picks_made) (carried_several pick_carried (carried_behind pick_carried))
 
 pub from_table_carried : Carried from_unplaced ExprGrammar.from_table
 from_table_carried = carried_seq carried_name (carried_pair alias_carried (carried_optional (carried_behind expr_carried))) (λ x y. refl)
 
-select_made : (place : Place) (picks : List Pick) (table : Identifier) (alias : Option Identifier) (condition : Option Expr) → select_of origin (map pick_unplaced picks, from_unplaced (record { table = table; alias = alias; condition = condition })) ≡ select_unplaced (select_of place (picks, record { table = table; alias = alias; condition = condition }))
+pub select_made : (place : Place) (picks : Several Pick) (table : Identifier) (alias : Option Identifier) (condition : Option Expr) → select_of origin (several_map pick_unplaced picks, from_unplaced (record { table = table; alias = alias; condition = condition })) ≡ select_unplaced (select_of place (picks, record { table = table; alias = alias; condition = condition }))
 select_made place picks table alias None = sym (select_rolled (record { place = place; picks = picks; table = table; alias = alias; condition = None }))
 select_made place picks table alias (Some condition) = sym (select_rolled (record { place = place; picks = picks; table = table; alias = alias; condition = Some condition }))
 
@@ -315,7 +316,7 @@ when_carried : Carried when_unplaced ExprGrammar.when
 when_carried = carried_behind (carried_seq expr_carried (carried_behind source_carried) when_made)
 
 whens_carried : Carried whens_unplaced ExprGrammar.whens
-whens_carried = carried_seq when_carried (carried_pair (carried_many when_carried) (carried_before (carried_optional (carried_behind source_carried)))) (λ x y. refl)
+whens_carried = carried_seq (carried_several when_carried when_carried) (carried_before (carried_optional (carried_behind source_carried))) (λ x y. refl)
 
 pub case_carried : Carried cases_unplaced ExprGrammar.case_rest
 case_carried = carried_or (carried_image whens_carried (λ x. refl)) (carried_seq expr_carried whens_carried (λ x y. refl))
@@ -323,7 +324,7 @@ case_carried = carried_or (carried_image whens_carried (λ x. refl)) (carried_se
 pub cast_carried : Carried (both expr_unplaced type_unplaced) ExprGrammar.cast_rest
 cast_carried = carried_within (carried_pair source_carried (carried_behind data_type_carried))
 
-pub coalesce_carried : Carried (both expr_unplaced (map expr_unplaced)) ExprGrammar.coalesce_rest
+pub coalesce_carried : Carried (several_map expr_unplaced) ExprGrammar.coalesce_rest
 coalesce_carried = carried_within sources_carried
 
 pub nullif_carried : Carried (both expr_unplaced expr_unplaced) ExprGrammar.nullif_rest
@@ -336,7 +337,7 @@ pub position_carried : Carried (both expr_unplaced expr_unplaced) ExprGrammar.po
 position_carried = carried_within (carried_pair sum_carried (carried_behind sum_carried))
 
 pub substring_carried : Carried (all_three expr_unplaced expr_unplaced (option_map expr_unplaced)) ExprGrammar.substring_rest
-substring_carried = carried_within (carried_seq expr_carried (carried_behind (carried_pair expr_carried (carried_optional (carried_behind expr_carried)))) (λ x y. refl))
+substring_carried = carried_within (carried_triple expr_carried (carried_behind (carried_pair expr_carried (carried_optional (carried_behind expr_carried)))))
 
 trim_side_carried : Carried same (token trim_side)
 trim_side_carried = carried_token (λ t. refl)

@@ -1,17 +1,18 @@
 -- Module files and scripts forget their places where their tokens do, part by part.
-use Rattle.std.proofs.Common.{◌≡◌, List, [], ◌∷◌, map, option_map, refl, ap}
+use Rattle.std.proofs.Common.{◌≡◌, List, [], ◌∷◌, map, refl, ap}
+use Rattle.psm_list.specs.Several.{several_map}
 use Rattle.psm_token.specs.declared.place.Place.{Place}
 use Rattle.psm_tree.specs.Tests.{mode_of}
-use Rattle.psm_tree.specs.FileValues.{TableRest, tables_from, table_of, last_place, ProcedureRest, FunctionRest, ModuleRest, file_of, Inserting}
+use Rattle.psm_tree.specs.FileValues.{TableRest, tables_from, table_of, last_place, ProcedureRest, FunctionRest, ModuleRest, file_of}
 use Rattle.psm_tree.specs.FileGrammar
 use Rattle.psm_tree.specs.declared.statement.Statement.{Statement}
 use Rattle.psm_tree.specs.declared.file.Note.{Note}
 use Rattle.psm_unplaced.specs.Unplaced.{origin}
-use Rattle.psm_unplaced.specs.ExprUnplaced.{name_unplaced, names_unplaced, type_unplaced, constant_unplaced}
+use Rattle.psm_unplaced.specs.ExprUnplaced.{name_unplaced, type_unplaced}
 use Rattle.psm_unplaced.specs.StatementUnplaced.{statement_unplaced}
 use Rattle.psm_unplaced.specs.FileUnplaced.{column_rule_unplaced, table_rule_unplaced, element_unplaced, table_unplaced, parameter_unplaced, note_unplaced, routine_unplaced, file_unplaced, argument_unplaced, row_unplaced, command_unplaced, script_unplaced}
-use Rattle.psm_unplaced.proofs.ValuesUnplaced.{same, both, all_three, place_unplaced}
-use Rattle.psm_unplaced.proofs.Carried.{Carried, carried_place, carried_at, carried_name, carried_seq, carried_or, carried_ahead, carried_many, carried_image, carried_pair, carried_cons, carried_optional, carried_behind, carried_before, carried_within}
+use Rattle.psm_unplaced.proofs.ValuesUnplaced.{same, both, place_unplaced}
+use Rattle.psm_unplaced.proofs.Carried.{Carried, carried_place, carried_at, carried_name, carried_seq, carried_or, carried_ahead, carried_many, carried_image, carried_pair, carried_triple, carried_several, carried_cons, carried_optional, carried_behind, carried_before, carried_within}
 use Rattle.psm_unplaced.proofs.ExprCarried.{names_in_parens_carried, varying_carried, char_length_carried, plain_type_carried, data_type_carried, constant_carried, expr_carried}
 use Rattle.psm_unplaced.proofs.StatementCarried.{ordered_select_carried, statement_carried}
 
@@ -27,8 +28,8 @@ column_rule_carried : Carried column_rule_unplaced FileGrammar.column_rule
 column_rule_carried = carried_or (carried_behind (carried_seq carried_name plain_column_rule_carried (λ x y. refl))) plain_column_rule_carried
 
 column_carried : Carried element_unplaced FileGrammar.column
-column_carried = carried_seq carried_name (carried_seq {h = all_three type_unplaced (option_map constant_unplaced) (map column_rule_unplaced)} data_type_carried
-    (carried_pair (carried_optional (carried_behind constant_carried)) (carried_many column_rule_carried)) (λ x y. refl)) (λ x y. refl)
+column_carried = carried_seq carried_name (carried_triple data_type_carried
+    (carried_pair (carried_optional (carried_behind constant_carried)) (carried_many column_rule_carried))) (λ x y. refl)
 
 plain_table_rule_carried : Carried table_rule_unplaced FileGrammar.plain_table_rule
 plain_table_rule_carried = carried_or (carried_seq carried_place (carried_behind names_in_parens_carried) (λ x y. refl))
@@ -42,10 +43,10 @@ element_carried : Carried element_unplaced FileGrammar.element
 element_carried = carried_or column_carried (carried_image table_rule_carried (λ x. refl))
 
 abbrev table_rest_unplaced : TableRest → TableRest
-table_rest_unplaced t = record { name = name_unplaced t.name; first = element_unplaced t.first; rest = map element_unplaced t.rest }
+table_rest_unplaced t = record { name = name_unplaced t.name; elements = several_map element_unplaced t.elements }
 
 table_carried : Carried table_rest_unplaced FileGrammar.table
-table_carried = carried_seq carried_name (carried_within (carried_pair element_carried (carried_many (carried_behind element_carried)))) (λ x y. refl)
+table_carried = carried_seq carried_name (carried_within (carried_several element_carried (carried_behind element_carried))) (λ x y. refl)
 
 -- ---- routines
 
@@ -131,14 +132,11 @@ script_arguments_carried : Carried (map argument_unplaced) FileGrammar.script_ar
 script_arguments_carried = carried_or (carried_image carried_place (λ x. refl)) (carried_before (carried_cons argument_carried (carried_many (carried_behind argument_carried))))
 
 row_carried : Carried row_unplaced FileGrammar.row
-row_carried = carried_seq carried_place (carried_before (carried_pair constant_carried (carried_many (carried_behind constant_carried)))) (λ x y. refl)
-
-abbrev inserting_unplaced : Inserting → Inserting
-inserting_unplaced i = record { table = name_unplaced i.table; columns = option_map names_unplaced i.columns; first = row_unplaced i.first; rest = map row_unplaced i.rest }
+row_carried = carried_seq carried_place (carried_before (carried_several constant_carried (carried_behind constant_carried))) (λ x y. refl)
 
 inserting_carried : Carried command_unplaced FileGrammar.script_insert
-inserting_carried = carried_seq carried_place (carried_behind (carried_seq {h = inserting_unplaced} carried_name
-    (carried_pair (carried_optional names_in_parens_carried) (carried_behind (carried_pair row_carried (carried_many (carried_behind row_carried))))) (λ x y. refl))) (λ x y. refl)
+inserting_carried = carried_seq carried_place (carried_behind (carried_triple carried_name
+    (carried_pair (carried_optional names_in_parens_carried) (carried_behind (carried_several row_carried (carried_behind row_carried)))))) (λ x y. refl)
 
 command_carried : Carried command_unplaced FileGrammar.command
 command_carried = carried_or (carried_seq carried_place (carried_pair carried_name (carried_behind script_arguments_carried)) (λ x y. refl))

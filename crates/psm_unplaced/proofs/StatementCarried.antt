@@ -1,27 +1,29 @@
 -- Statements forget their places where their tokens do, part by part.
-use Rattle.std.proofs.Common.{◌≡◌, List, Option, Some, None, map, option_map, refl, sym}
+use Rattle.std.proofs.Common.{◌≡◌, Option, Some, None, map, option_map, refl, sym, ap}
 use denote.Hole.Carrier
+use Rattle.psm_list.specs.Several.{Several, several_map}
 use Rattle.psm_token.specs.declared.place.Place.{Place}
 use Rattle.psm_grammar.specs.Forms.{optional}
 use Rattle.psm_tree.specs.Tests.{number_of, characters_of, statement_item_of, condition_item_of}
 use Rattle.psm_tree.specs.Parts.{Statements, Branches}
-use Rattle.psm_tree.specs.StatementValues.{Block, Compound, Loop, While, Repeat, For, block_with, labelled, simple_statement, if_of, case_statement_of, branches_of, branch_of}
+use Rattle.psm_tree.specs.StatementValues.{labelled, unlabelled, simple_statement, if_of, case_statement_of, branches_of, branch_of}
 use Rattle.psm_tree.specs.StatementGrammar
 use Rattle.psm_tree.specs.declared.name.Identifier.{Identifier}
 use Rattle.psm_tree.specs.declared.expr.Expr.{Expr}
 use Rattle.psm_tree.specs.declared.statement.Statement.{roll-Statement}
-use Rattle.psm_tree.specs.declared.statement.Statement.TheOpen as layers
-use Rattle.psm_tree.specs.declared.statement.Label.{Label}
+use Rattle.psm_tree.specs.declared.statement.Block.{Block, roll-Block}
+use Rattle.psm_tree.specs.declared.statement.Block.TheOpen as layers
 use Rattle.psm_tree.specs.declared.statement.Branch.{Branch}
 use Rattle.psm_tree.specs.declared.statement.Simple.{Simple}
+use Rattle.psm_tree.specs.declared.statement.Simple.TheVariants as simples
 use Rattle.psm_unplaced.specs.Unplaced.{origin}
-use Rattle.psm_unplaced.specs.ExprUnplaced.{state_unplaced, expr_unplaced, pick_unplaced, name_unplaced, names_unplaced, targets_unplaced}
+use Rattle.psm_unplaced.specs.ExprUnplaced.{state_unplaced, expr_unplaced, name_unplaced, targets_unplaced}
 use Rattle.psm_unplaced.specs.StatementUnplaced
-use Rattle.psm_unplaced.specs.StatementUnplaced.{ordered_query_unplaced, order_unplaced, order_column_unplaced, signalled_unplaced, where_unplaced, values_unplaced, insert_source_unplaced, assignment_unplaced, statement_info_unplaced, condition_info_unplaced, diagnostics_unplaced, simple_unplaced, label_unplaced, statement_unplaced, branch_unplaced}
-use Rattle.psm_unplaced.proofs.ValuesUnplaced.{same, both, all_three, from_unplaced, updating_unplaced, statements_unplaced, branches_unplaced, block_unplaced}
-use Rattle.psm_unplaced.proofs.Equations.{statement_rolled, branch_rolled}
-use Rattle.psm_unplaced.proofs.Carried.{Carried, carried_place, carried_at, carried_name, carried_level, carried_nothing, carried_seq, carried_or, carried_ahead, carried_many, carried_image, carried_pair, carried_optional, carried_behind, carried_before}
-use Rattle.psm_unplaced.proofs.ExprCarried.{target_carried, names_in_parens_carried, targets_carried, expr_carried, source_carried, sources_carried, picks_carried, from_table_carried, select_carried, arguments_carried}
+use Rattle.psm_unplaced.specs.StatementUnplaced.{ordered_query_unplaced, order_unplaced, order_column_unplaced, signalled_unplaced, where_unplaced, values_unplaced, insert_source_unplaced, assignment_unplaced, statement_info_unplaced, condition_info_unplaced, diagnostics_unplaced, simple_unplaced, block_unplaced, statement_unplaced, branch_unplaced}
+use Rattle.psm_unplaced.proofs.ValuesUnplaced.{same, both, statements_unplaced, branches_unplaced}
+use Rattle.psm_unplaced.proofs.Equations.{block_rolled, statement_rolled, branch_rolled}
+use Rattle.psm_unplaced.proofs.Carried.{Carried, carried_place, carried_at, carried_name, carried_level, carried_nothing, carried_seq, carried_or, carried_ahead, carried_many, carried_image, carried_pair, carried_triple, carried_several, carried_optional, carried_behind, carried_before}
+use Rattle.psm_unplaced.proofs.ExprCarried.{target_carried, names_in_parens_carried, targets_carried, expr_carried, source_carried, sources_carried, picks_carried, from_table_carried, select_carried, select_made, arguments_carried}
 
 -- ---- parts of statements
 
@@ -37,7 +39,7 @@ column_order_carried : Carried order_column_unplaced StatementGrammar.column_ord
 column_order_carried = carried_seq carried_name direction_carried (λ x y. refl)
 
 order_carried : Carried order_unplaced StatementGrammar.order
-order_carried = carried_seq carried_place (carried_behind (carried_pair column_order_carried (carried_many (carried_behind column_order_carried)))) (λ x y. refl)
+order_carried = carried_seq carried_place (carried_behind (carried_several column_order_carried (carried_behind column_order_carried))) (λ x y. refl)
 
 pub ordered_select_carried : Carried ordered_query_unplaced StatementGrammar.ordered_select
 ordered_select_carried = carried_seq select_carried (carried_optional order_carried) (λ x y. refl)
@@ -58,7 +60,7 @@ values_carried : Carried values_unplaced StatementGrammar.values
 values_carried = carried_seq carried_place (carried_before sources_carried) (λ x y. refl)
 
 insert_source_carried : Carried insert_source_unplaced StatementGrammar.insert_source
-insert_source_carried = carried_or (carried_behind (carried_seq values_carried (carried_many (carried_behind values_carried)) (λ x y. refl))) (carried_image select_carried (λ x. refl))
+insert_source_carried = carried_or (carried_behind (carried_image (carried_several values_carried (carried_behind values_carried)) (λ x. refl))) (carried_image select_carried (λ x. refl))
 
 assignment_carried : Carried assignment_unplaced StatementGrammar.assignment
 assignment_carried = carried_seq carried_name (carried_behind source_carried) (λ x y. refl)
@@ -75,8 +77,8 @@ condition_number_carried : Carried StatementUnplaced.condition_number_unplaced S
 condition_number_carried = carried_or (carried_image (carried_at number_of) (λ x. refl)) (carried_image target_carried (λ x. refl))
 
 diagnostics_carried : Carried diagnostics_unplaced StatementGrammar.diagnostics
-diagnostics_carried = carried_or (carried_behind (carried_seq condition_number_carried (carried_pair condition_info_carried (carried_many (carried_behind condition_info_carried))) (λ x y. refl)))
-    (carried_seq statement_info_carried (carried_many (carried_behind statement_info_carried)) (λ x y. refl))
+diagnostics_carried = carried_or (carried_behind (carried_seq condition_number_carried (carried_several condition_info_carried (carried_behind condition_info_carried)) (λ x y. refl)))
+    (carried_image (carried_several statement_info_carried (carried_behind statement_info_carried)) (λ x. refl))
 
 -- ---- simple statements
 
@@ -89,13 +91,14 @@ into_targets_carried : Carried targets_unplaced StatementGrammar.into_targets
 into_targets_carried = carried_behind targets_carried
 
 select_statement_carried : Carried simple_unplaced StatementGrammar.select_statement
-select_statement_carried = carried_seq carried_place (carried_seq {h = all_three (map pick_unplaced) targets_unplaced from_unplaced} picks_carried (carried_pair into_targets_carried (carried_behind from_table_carried)) (λ x y. refl)) (λ x y. refl)
+select_statement_carried = carried_seq carried_place (carried_triple picks_carried (carried_pair into_targets_carried (carried_behind from_table_carried)))
+    (λ x y. ap (λ query. simples.SelectInto query (targets_unplaced y.1)) (select_made x y.0 y.2.table y.2.alias y.2.condition))
 
 insert_statement_carried : Carried simple_unplaced StatementGrammar.insert_statement
-insert_statement_carried = carried_seq carried_place (carried_behind (carried_seq {h = all_three name_unplaced (option_map names_unplaced) insert_source_unplaced} carried_name (carried_pair (carried_optional names_in_parens_carried) insert_source_carried) (λ x y. refl))) (λ x y. refl)
+insert_statement_carried = carried_seq carried_place (carried_behind (carried_triple carried_name (carried_pair (carried_optional names_in_parens_carried) insert_source_carried))) (λ x y. refl)
 
 update_statement_carried : Carried simple_unplaced StatementGrammar.update_statement
-update_statement_carried = carried_seq carried_place (carried_seq {h = updating_unplaced} carried_name (carried_pair (carried_behind (carried_pair assignment_carried (carried_many (carried_behind assignment_carried)))) (carried_optional where_carried)) (λ x y. refl)) (λ x y. refl)
+update_statement_carried = carried_seq carried_place (carried_triple carried_name (carried_pair (carried_behind (carried_several assignment_carried (carried_behind assignment_carried))) (carried_optional where_carried))) (λ x y. refl)
 
 delete_statement_carried : Carried simple_unplaced StatementGrammar.delete_statement
 delete_statement_carried = carried_seq carried_place (carried_behind (carried_pair carried_name (carried_optional where_carried))) (λ x y. refl)
@@ -129,33 +132,31 @@ simple_carried = carried_or (carried_seq carried_place (carried_pair target_carr
 -- ---- statements
 
 block_carried : Carried block_unplaced StatementGrammar.block
-block_carried = carried_or (carried_level (λ x y. refl))
-    (carried_or (carried_level (λ x y. refl))
-    (carried_or (carried_level (λ x y. refl))
-    (carried_or (carried_level (λ x y. refl))
-    (carried_level (λ x y. refl)))))
-
-block_made : (label : Option Label) (block : Block) → block_with (option_map label_unplaced label) (block_unplaced block) ≡ statement_unplaced (block_with label block)
-unfolding roll-Statement Carrier.roll
-block_made label (Compound place p) = sym (statement_rolled (layers.Compound label place p.0 p.1.declarations p.1.cursors p.1.handlers p.1.statements))
-block_made label (Loop place p) = sym (statement_rolled (layers.Loop label place p.first p.rest))
-block_made label (While place p) = sym (statement_rolled (layers.While label place p.0 p.1.first p.1.rest))
-block_made label (Repeat place p) = sym (statement_rolled (layers.Repeat label place p.0.first p.0.rest p.1))
-block_made label (For place p) = sym (statement_rolled (layers.For label place p.name p.cursor p.query p.body.first p.body.rest))
+unfolding roll-Block Carrier.roll
+block_carried = carried_or (carried_level (λ x y. sym (block_rolled (layers.Compound x y.0 y.1.declarations y.1.cursors y.1.handlers y.1.statements))))
+    (carried_or (carried_level (λ x y. sym (block_rolled (layers.Loop x y))))
+    (carried_or (carried_level (λ x y. sym (block_rolled (layers.While x y.0 y.1))))
+    (carried_or (carried_level (λ x y. sym (block_rolled (layers.Repeat x y.0 y.1))))
+    (carried_level (λ x y. sym (block_rolled (layers.For x y.head y.statements)))))))
 
 labelled_made : (start : Identifier) (p : Block × Option Identifier) → labelled (name_unplaced start) (both block_unplaced (option_map name_unplaced) p) ≡ statement_unplaced (labelled start p)
-labelled_made start p = block_made (Some (record { start = start; end = p.1 })) p.0
+unfolding roll-Statement Carrier.roll
+labelled_made start p = sym (statement_rolled (layers.Block (Some (record { start = start; end = p.1 })) p.0))
+
+unlabelled_made : (block : Block) → unlabelled (block_unplaced block) ≡ statement_unplaced (unlabelled block)
+unfolding roll-Statement Carrier.roll
+unlabelled_made block = sym (statement_rolled (layers.Block None block))
 
 labelled_carried : Carried statement_unplaced StatementGrammar.labelled_statement
 labelled_carried = carried_seq carried_name (carried_behind (carried_pair block_carried (carried_optional carried_name))) labelled_made
 
 if_made : (place : Place) (b : Branches) → if_of origin (branches_unplaced b) ≡ statement_unplaced (if_of place b)
 unfolding roll-Statement Carrier.roll
-if_made place b = sym (statement_rolled (layers.If place b.first b.rest b.otherwise))
+if_made place b = sym (statement_rolled (layers.If place b.branches b.otherwise))
 
 case_made : (place : Place) (p : Option Expr × Branches) → case_statement_of origin (both (option_map expr_unplaced) branches_unplaced p) ≡ statement_unplaced (case_statement_of place p)
 unfolding roll-Statement Carrier.roll
-case_made place p = sym (statement_rolled (layers.Case place p.0 p.1.first p.1.rest p.1.otherwise))
+case_made place p = sym (statement_rolled (layers.Case place p.0 p.1.branches p.1.otherwise))
 
 simple_made : (simple : Simple) → simple_statement (simple_unplaced simple) ≡ statement_unplaced (simple_statement simple)
 unfolding roll-Statement Carrier.roll
@@ -165,19 +166,19 @@ pub statement_carried : Carried statement_unplaced StatementGrammar.statement
 statement_carried = carried_or labelled_carried
     (carried_or (carried_level if_made)
     (carried_or (carried_level case_made)
-    (carried_or (carried_image block_carried (block_made None))
+    (carried_or (carried_image block_carried unlabelled_made)
     (carried_image simple_carried simple_made))))
 
 pub ended_statements_carried : Carried (map statement_unplaced) StatementGrammar.ended_statements
 ended_statements_carried = carried_many (carried_before statement_carried)
 
 pub statements_carried : Carried statements_unplaced StatementGrammar.statements
-statements_carried = carried_seq (carried_before statement_carried) ended_statements_carried (λ x y. refl)
+statements_carried = carried_several (carried_before statement_carried) (carried_before statement_carried)
 
 -- ---- IF and CASE
 
 branch_made : (test : Expr) (s : Statements) → branch_of (expr_unplaced test) (statements_unplaced s) ≡ branch_unplaced (branch_of test s)
-branch_made test s = sym (branch_rolled (record { test = test; first = s.first; rest = s.rest }))
+branch_made test s = sym (branch_rolled (record { test = test; statements = s }))
 
 branch_carried : Carried branch_unplaced StatementGrammar.branch
 branch_carried = carried_seq expr_carried (carried_behind statements_carried) branch_made
@@ -185,15 +186,15 @@ branch_carried = carried_seq expr_carried (carried_behind statements_carried) br
 otherwise_carried : Carried (option_map statements_unplaced) (optional StatementGrammar.otherwise_statements)
 otherwise_carried = carried_optional (carried_behind statements_carried)
 
-branches_made : (first : Branch) (p : List Branch × Option Statements) → branches_of (branch_unplaced first) (both (map branch_unplaced) (option_map statements_unplaced) p) ≡ branches_unplaced (branches_of first p)
-branches_made first (rest, None) = refl
-branches_made first (rest, Some s) = refl
+branches_made : (branches : Several Branch) (otherwise : Option Statements) → branches_of (several_map branch_unplaced branches) (option_map statements_unplaced otherwise) ≡ branches_unplaced (branches_of branches otherwise)
+branches_made branches None = refl
+branches_made branches (Some s) = refl
 
 pub if_carried : Carried branches_unplaced StatementGrammar.if_rest
-if_carried = carried_seq branch_carried (carried_pair (carried_many (carried_behind branch_carried)) (carried_before (carried_before otherwise_carried))) branches_made
+if_carried = carried_seq (carried_several branch_carried (carried_behind branch_carried)) (carried_before (carried_before otherwise_carried)) branches_made
 
 case_branches_carried : Carried branches_unplaced StatementGrammar.case_branches
-case_branches_carried = carried_seq (carried_behind branch_carried) (carried_pair (carried_many (carried_behind branch_carried)) (carried_before (carried_before otherwise_carried))) branches_made
+case_branches_carried = carried_seq (carried_several (carried_behind branch_carried) (carried_behind branch_carried)) (carried_before (carried_before otherwise_carried)) branches_made
 
 pub case_carried : Carried (both (option_map expr_unplaced) branches_unplaced) StatementGrammar.case_statement_rest
 case_carried = carried_or (carried_image case_branches_carried (λ x. refl)) (carried_seq expr_carried case_branches_carried (λ x y. refl))

@@ -1,15 +1,14 @@
 -- What the parts of expressions, statements and blocks make, with its places forgotten.
 use Rattle.std.proofs.Common.{map, option_map}
+use Rattle.psm_list.specs.Several.{several_map}
 use Rattle.psm_token.specs.declared.place.Place.{Place}
 use Rattle.psm_tree.specs.Tests.{At}
 use Rattle.psm_tree.specs.Parts.{Part, Enclosed, Arguments, ExistsRest, CaseRest, CastRest, CoalesceRest, NullIfRest, FunctionRest, PositionRest, SubstringRest, TrimRest, BeginRest, LoopRest, WhileRest, RepeatRest, ForRest, IfRest, CaseStatementRest, HandlerRest, BodyRest, DeclareRest, Inside, Value, Query, Cases, Statements, Branches, ForParts, HandlerParts, NamedRest, Variables, Condition, Cursor, Declared, Named, Handled, Body, V}
 use Rattle.psm_tree.specs.ExprValues as exprs
 use Rattle.psm_tree.specs.ExprValues.{Whens, From, Item, NameRest}
-use Rattle.psm_tree.specs.StatementValues as statements
-use Rattle.psm_tree.specs.StatementValues.{Block, Updating}
 use Rattle.psm_unplaced.specs.Unplaced.{origin}
 use Rattle.psm_unplaced.specs.ExprUnplaced.{name_unplaced, type_unplaced, state_unplaced, alias_unplaced, expr_unplaced, when_unplaced, select_unplaced}
-use Rattle.psm_unplaced.specs.StatementUnplaced.{ordered_query_unplaced, assignment_unplaced, where_unplaced, declaration_unplaced, cursor_unplaced, for_cursor_unplaced, handler_value_unplaced, statement_unplaced, branch_unplaced, handler_unplaced}
+use Rattle.psm_unplaced.specs.StatementUnplaced.{ordered_query_unplaced, declaration_unplaced, cursor_unplaced, for_head_unplaced, handler_value_unplaced, statement_unplaced, branch_unplaced, handler_unplaced}
 
 abbrev pub same : {A : Type 0} → A → A
 same a = a
@@ -33,7 +32,7 @@ test_unplaced exprs.Nothing = exprs.Nothing
 test_unplaced (exprs.Compare operator right) = exprs.Compare operator (expr_unplaced right)
 test_unplaced (exprs.IsNull negated) = exprs.IsNull negated
 test_unplaced (exprs.Between negated low high) = exprs.Between negated (expr_unplaced low) (expr_unplaced high)
-test_unplaced (exprs.In negated first rest) = exprs.In negated (expr_unplaced first) (map expr_unplaced rest)
+test_unplaced (exprs.In negated list) = exprs.In negated (several_map expr_unplaced list)
 test_unplaced (exprs.Like negated pattern escape) = exprs.Like negated (expr_unplaced pattern) (option_map expr_unplaced escape)
 
 abbrev pub name_rest_unplaced : NameRest → NameRest
@@ -46,10 +45,10 @@ inside_unplaced (Value expr) = Value (expr_unplaced expr)
 inside_unplaced (Query query) = Query (select_unplaced query)
 
 abbrev pub whens_unplaced : Whens → Whens
-whens_unplaced w = record { first = when_unplaced w.first; rest = map when_unplaced w.rest; otherwise = option_map expr_unplaced w.otherwise }
+whens_unplaced w = record { whens = several_map when_unplaced w.whens; otherwise = option_map expr_unplaced w.otherwise }
 
 abbrev pub cases_unplaced : Cases → Cases
-cases_unplaced c = record { operand = option_map expr_unplaced c.operand; first = when_unplaced c.first; rest = map when_unplaced c.rest; otherwise = option_map expr_unplaced c.otherwise }
+cases_unplaced c = record { operand = option_map expr_unplaced c.operand; whens = several_map when_unplaced c.whens; otherwise = option_map expr_unplaced c.otherwise }
 
 abbrev pub from_unplaced : From → From
 from_unplaced f = record { table = name_unplaced f.table; alias = alias_unplaced f.alias; condition = option_map expr_unplaced f.condition }
@@ -61,22 +60,19 @@ item_unplaced (exprs.Aggregate place function argument) = exprs.Aggregate origin
 
 -- ---- statements
 
-abbrev pub updating_unplaced : Updating → Updating
-updating_unplaced u = record { table = name_unplaced u.table; first = assignment_unplaced u.first; rest = map assignment_unplaced u.rest; which = option_map where_unplaced u.which }
-
 abbrev pub statements_unplaced : Statements → Statements
-statements_unplaced s = record { first = statement_unplaced s.first; rest = map statement_unplaced s.rest }
+statements_unplaced = several_map statement_unplaced
 
 abbrev pub branches_unplaced : Branches → Branches
-branches_unplaced b = record { first = branch_unplaced b.first; rest = map branch_unplaced b.rest; otherwise = map statement_unplaced b.otherwise }
+branches_unplaced b = record { branches = several_map branch_unplaced b.branches; otherwise = map statement_unplaced b.otherwise }
 
 abbrev pub for_parts_unplaced : ForParts → ForParts
-for_parts_unplaced p = record { name = name_unplaced p.name; cursor = option_map for_cursor_unplaced p.cursor; query = ordered_query_unplaced p.query; body = statements_unplaced p.body }
+for_parts_unplaced p = record { head = for_head_unplaced p.head; statements = statements_unplaced p.statements }
 
 -- ---- declarations and blocks
 
 abbrev pub handler_parts_unplaced : HandlerParts → HandlerParts
-handler_parts_unplaced p = record { first = handler_value_unplaced p.first; rest = map handler_value_unplaced p.rest; action = statement_unplaced p.action }
+handler_parts_unplaced p = record { values = several_map handler_value_unplaced p.values; action = statement_unplaced p.action }
 
 abbrev pub named_rest_unplaced : NamedRest → NamedRest
 named_rest_unplaced (Variables others kind default) = Variables (map name_unplaced others) (type_unplaced kind) (option_map expr_unplaced default)
@@ -90,13 +86,6 @@ declared_unplaced (Handled kind p) = Handled (at_unplaced kind) (handler_parts_u
 abbrev pub body_unplaced : Body → Body
 body_unplaced b = record { declarations = map declaration_unplaced b.declarations; cursors = map cursor_unplaced b.cursors; handlers = map handler_unplaced b.handlers; statements = map statement_unplaced b.statements }
 
-abbrev pub block_unplaced : Block → Block
-block_unplaced (statements.Compound place p) = statements.Compound origin (both same body_unplaced p)
-block_unplaced (statements.Loop place p) = statements.Loop origin (statements_unplaced p)
-block_unplaced (statements.While place p) = statements.While origin (both expr_unplaced statements_unplaced p)
-block_unplaced (statements.Repeat place p) = statements.Repeat origin (both statements_unplaced expr_unplaced p)
-block_unplaced (statements.For place p) = statements.For origin (for_parts_unplaced p)
-
 -- what the words of each part say
 abbrev pub part_unplaced : (n : Part) → V n → V n
 part_unplaced Enclosed = inside_unplaced
@@ -104,7 +93,7 @@ part_unplaced Arguments = map expr_unplaced
 part_unplaced ExistsRest = select_unplaced
 part_unplaced CaseRest = cases_unplaced
 part_unplaced CastRest = both expr_unplaced type_unplaced
-part_unplaced CoalesceRest = both expr_unplaced (map expr_unplaced)
+part_unplaced CoalesceRest = several_map expr_unplaced
 part_unplaced NullIfRest = both expr_unplaced expr_unplaced
 part_unplaced FunctionRest = expr_unplaced
 part_unplaced PositionRest = both expr_unplaced expr_unplaced

@@ -1,10 +1,10 @@
 -- Names, types, constants, expressions and queries whose places are forgotten: every place becomes one
 -- place, and all else stays as it is.
-use Rattle.std.specs.Prelude.{Option, map, option_map}
+use Rattle.std.specs.Prelude.{Option, option_map}
+use Rattle.psm_list.specs.Several.{several_map}
 use Rattle.psm_tree.specs.declared.name.Identifier.{Identifier}
 use Rattle.psm_tree.specs.declared.name.Target.{Target}
-use Rattle.psm_tree.specs.declared.name.Names.{Names}
-use Rattle.psm_tree.specs.declared.name.Targets.{Targets}
+use Rattle.psm_tree.specs.Names.{Names, Targets}
 use Rattle.psm_tree.specs.declared.types.DataType.{DataType}
 use Rattle.psm_tree.specs.declared.types.Constant.{Constant}
 use Rattle.psm_tree.specs.declared.types.State.{State}
@@ -28,10 +28,10 @@ abbrev pub target_unplaced : Target → Target
 target_unplaced target = record { first = name_unplaced target.first; second = option_map name_unplaced target.second }
 
 abbrev pub names_unplaced : Names → Names
-names_unplaced names = record { first = name_unplaced names.first; rest = map name_unplaced names.rest }
+names_unplaced = several_map name_unplaced
 
 abbrev pub targets_unplaced : Targets → Targets
-targets_unplaced targets = record { first = target_unplaced targets.first; rest = map target_unplaced targets.rest }
+targets_unplaced = several_map target_unplaced
 
 abbrev pub type_unplaced : DataType → DataType
 type_unplaced kind = record { place = origin; form = kind.form }
@@ -56,22 +56,22 @@ layer_unplaced (layers.Null place) = layers.Null origin
 layer_unplaced (layers.Number place value) = layers.Number origin value
 layer_unplaced (layers.Text place value) = layers.Text origin value
 layer_unplaced (layers.Name target) = layers.Name (target_unplaced target)
-layer_unplaced (layers.Junction junction first rest) = layers.Junction junction first rest
+layer_unplaced (layers.Junction junction operands) = layers.Junction junction operands
 layer_unplaced (layers.Not place condition) = layers.Not origin condition
 layer_unplaced (layers.Compare operator left right) = layers.Compare operator left right
 layer_unplaced (layers.IsNull negated value) = layers.IsNull negated value
 layer_unplaced (layers.Between negated value low high) = layers.Between negated value low high
-layer_unplaced (layers.In negated value first rest) = layers.In negated value first rest
+layer_unplaced (layers.In negated value list) = layers.In negated value list
 layer_unplaced (layers.Like negated value pattern escape) = layers.Like negated value pattern escape
-layer_unplaced (layers.Chain first rest) = layers.Chain first rest
+layer_unplaced (layers.Chain first links) = layers.Chain first links
 layer_unplaced (layers.Signed place sign operand) = layers.Signed origin sign operand
 layer_unplaced (layers.Call function arguments) = layers.Call (name_unplaced function) arguments
 layer_unplaced (layers.Parenthesized place expr) = layers.Parenthesized origin expr
 layer_unplaced (layers.Subquery place query) = layers.Subquery origin query
 layer_unplaced (layers.Exists place query) = layers.Exists origin query
-layer_unplaced (layers.Case place operand first rest otherwise) = layers.Case origin operand first rest otherwise
+layer_unplaced (layers.Case place operand whens otherwise) = layers.Case origin operand whens otherwise
 layer_unplaced (layers.Cast place source to) = layers.Cast origin source (type_unplaced to)
-layer_unplaced (layers.Coalesce place first rest) = layers.Coalesce origin first rest
+layer_unplaced (layers.Coalesce place values) = layers.Coalesce origin values
 layer_unplaced (layers.NullIf place left right) = layers.NullIf origin left right
 layer_unplaced (layers.Function place function argument) = layers.Function origin function argument
 layer_unplaced (layers.Position place part whole) = layers.Position origin part whole

@@ -1,5 +1,6 @@
 -- Module files and scripts whose places are forgotten.
 use Rattle.std.specs.Prelude.{map, option_map}
+use Rattle.psm_list.specs.Several.{several_map}
 use Rattle.psm_tree.specs.declared.file.FileTree.{FileTree}
 use Rattle.psm_tree.specs.declared.file.TableTree.{TableTree}
 use Rattle.psm_tree.specs.declared.file.Element.{Element}
@@ -48,7 +49,7 @@ element_unplaced (elements.Column name kind default rules) = elements.Column (na
 element_unplaced (elements.Rule rule) = elements.Rule (table_rule_unplaced rule)
 
 abbrev pub table_unplaced : TableTree → TableTree
-table_unplaced table = record { place = origin; name = name_unplaced table.name; first = element_unplaced table.first; rest = map element_unplaced table.rest }
+table_unplaced table = record { place = origin; name = name_unplaced table.name; elements = several_map element_unplaced table.elements }
 
 -- ---- routines
 
@@ -76,11 +77,11 @@ argument_unplaced (arguments.Constant constant) = arguments.Constant (constant_u
 argument_unplaced (arguments.Placeholder place) = arguments.Placeholder origin
 
 abbrev pub row_unplaced : ConstantRow → ConstantRow
-row_unplaced row = record { place = origin; first = constant_unplaced row.first; rest = map constant_unplaced row.rest }
+row_unplaced row = record { place = origin; values = several_map constant_unplaced row.values }
 
 abbrev pub command_unplaced : Command → Command
 command_unplaced (commands.Call place procedure arguments) = commands.Call origin (name_unplaced procedure) (map argument_unplaced arguments)
-command_unplaced (commands.Insert place table columns first rest) = commands.Insert origin (name_unplaced table) (option_map names_unplaced columns) (row_unplaced first) (map row_unplaced rest)
+command_unplaced (commands.Insert place table columns rows) = commands.Insert origin (name_unplaced table) (option_map names_unplaced columns) (several_map row_unplaced rows)
 command_unplaced (commands.Select query) = commands.Select (ordered_query_unplaced query)
 command_unplaced (commands.Commit place) = commands.Commit origin
 command_unplaced (commands.Rollback place) = commands.Rollback origin

@@ -1,12 +1,15 @@
 -- Statements, blocks and declarations whose places are forgotten.
 use Rattle.std.specs.Prelude.{map, option_map}
+use Rattle.psm_list.specs.Several.{several_map}
 use Rattle.psm_tree.specs.declared.statement.Statement.{Statement, roll-Statement}
-use Rattle.psm_tree.specs.declared.statement.Statement.TheOpen.{Statement-F, Branch-F, Handler-F}
-use Rattle.psm_tree.specs.declared.statement.Statement.TheOpen as layers
-use Rattle.psm_tree.specs.declared.statement.Statement.TheFolds.{fold-Statement, fold-Branch, fold-Handler}
+use Rattle.psm_tree.specs.declared.statement.Block.{Block, roll-Block}
+use Rattle.psm_tree.specs.declared.statement.Block.TheOpen.{Block-F, Statement-F, Branch-F, Handler-F}
+use Rattle.psm_tree.specs.declared.statement.Block.TheOpen as layers
+use Rattle.psm_tree.specs.declared.statement.Block.TheFolds.{fold-Block, fold-Statement, fold-Branch, fold-Handler}
 use Rattle.psm_tree.specs.declared.statement.Label.{Label}
 use Rattle.psm_tree.specs.declared.statement.Branch.{Branch, roll-Branch}
 use Rattle.psm_tree.specs.declared.statement.ForCursor.{ForCursor}
+use Rattle.psm_tree.specs.declared.statement.ForHead.{ForHead}
 use Rattle.psm_tree.specs.declared.statement.OrderedQuery.{OrderedQuery}
 use Rattle.psm_tree.specs.declared.statement.Order.{Order}
 use Rattle.psm_tree.specs.declared.statement.OrderColumn.{OrderColumn}
@@ -34,7 +37,7 @@ use Rattle.psm_tree.specs.declared.statement.Where.TheVariants as wheres
 use Rattle.psm_tree.specs.declared.statement.Simple.{Simple}
 use Rattle.psm_tree.specs.declared.statement.Simple.TheVariants as simples
 use Rattle.psm_unplaced.specs.Unplaced.{origin}
-use Rattle.psm_unplaced.specs.ExprUnplaced.{name_unplaced, target_unplaced, names_unplaced, targets_unplaced, type_unplaced, state_unplaced, alias_unplaced, expr_unplaced, pick_unplaced, select_unplaced}
+use Rattle.psm_unplaced.specs.ExprUnplaced.{name_unplaced, target_unplaced, names_unplaced, targets_unplaced, type_unplaced, state_unplaced, expr_unplaced, select_unplaced}
 
 -- ---- parts of statements
 
@@ -42,7 +45,7 @@ abbrev pub order_column_unplaced : OrderColumn → OrderColumn
 order_column_unplaced c = record { column = name_unplaced c.column; descending = c.descending }
 
 abbrev pub order_unplaced : Order → Order
-order_unplaced order = record { place = origin; first = order_column_unplaced order.first; rest = map order_column_unplaced order.rest }
+order_unplaced order = record { place = origin; columns = several_map order_column_unplaced order.columns }
 
 abbrev pub ordered_query_unplaced : OrderedQuery → OrderedQuery
 ordered_query_unplaced q = record { query = select_unplaced q.query; order = option_map order_unplaced q.order }
@@ -59,10 +62,10 @@ where_unplaced (wheres.Condition condition) = wheres.Condition (expr_unplaced co
 where_unplaced (wheres.Current cursor) = wheres.Current (name_unplaced cursor)
 
 abbrev pub values_unplaced : Values → Values
-values_unplaced values = record { place = origin; first = expr_unplaced values.first; rest = map expr_unplaced values.rest }
+values_unplaced values = record { place = origin; values = several_map expr_unplaced values.values }
 
 abbrev pub insert_source_unplaced : InsertSource → InsertSource
-insert_source_unplaced (inserted.Values first rest) = inserted.Values (values_unplaced first) (map values_unplaced rest)
+insert_source_unplaced (inserted.Values rows) = inserted.Values (several_map values_unplaced rows)
 insert_source_unplaced (inserted.Query query) = inserted.Query (select_unplaced query)
 
 abbrev pub assignment_unplaced : Assignment → Assignment
@@ -81,8 +84,8 @@ condition_number_unplaced (numbers.Number place number) = numbers.Number origin 
 condition_number_unplaced (numbers.Target target) = numbers.Target (target_unplaced target)
 
 abbrev pub diagnostics_unplaced : Diagnostics → Diagnostics
-diagnostics_unplaced (diagnostics.Statement first rest) = diagnostics.Statement (statement_info_unplaced first) (map statement_info_unplaced rest)
-diagnostics_unplaced (diagnostics.Condition number first rest) = diagnostics.Condition (condition_number_unplaced number) (condition_info_unplaced first) (map condition_info_unplaced rest)
+diagnostics_unplaced (diagnostics.Statement items) = diagnostics.Statement (several_map statement_info_unplaced items)
+diagnostics_unplaced (diagnostics.Condition number items) = diagnostics.Condition (condition_number_unplaced number) (several_map condition_info_unplaced items)
 
 -- ---- simple statements
 
@@ -94,10 +97,10 @@ simple_unplaced (simples.Leave place label) = simples.Leave origin (name_unplace
 simple_unplaced (simples.Iterate place label) = simples.Iterate origin (name_unplaced label)
 simple_unplaced (simples.Signal place signalled) = simples.Signal origin (signalled_unplaced signalled)
 simple_unplaced (simples.Resignal place signalled) = simples.Resignal origin (option_map signalled_unplaced signalled)
-simple_unplaced (simples.GetDiagnostics place diagnostics) = simples.GetDiagnostics origin (diagnostics_unplaced diagnostics)
-simple_unplaced (simples.SelectInto place picks targets table alias condition) = simples.SelectInto origin (map pick_unplaced picks) (targets_unplaced targets) (name_unplaced table) (alias_unplaced alias) (option_map expr_unplaced condition)
+simple_unplaced (simples.GetDiagnostics place which diagnostics) = simples.GetDiagnostics origin which (diagnostics_unplaced diagnostics)
+simple_unplaced (simples.SelectInto query targets) = simples.SelectInto (select_unplaced query) (targets_unplaced targets)
 simple_unplaced (simples.Insert place table columns source) = simples.Insert origin (name_unplaced table) (option_map names_unplaced columns) (insert_source_unplaced source)
-simple_unplaced (simples.Update place table first rest which) = simples.Update origin (name_unplaced table) (assignment_unplaced first) (map assignment_unplaced rest) (option_map where_unplaced which)
+simple_unplaced (simples.Update place table assignments which) = simples.Update origin (name_unplaced table) (several_map assignment_unplaced assignments) (option_map where_unplaced which)
 simple_unplaced (simples.Delete place table which) = simples.Delete origin (name_unplaced table) (option_map where_unplaced which)
 simple_unplaced (simples.Open place cursor) = simples.Open origin (name_unplaced cursor)
 simple_unplaced (simples.Fetch place cursor targets) = simples.Fetch origin (name_unplaced cursor) (targets_unplaced targets)
@@ -127,34 +130,49 @@ handler_value_unplaced (handled.NotFound place) = handled.NotFound origin
 abbrev pub label_unplaced : Label → Label
 label_unplaced label = record { start = name_unplaced label.start; end = option_map name_unplaced label.end }
 
--- one layer of a statement; the statements in it have forgotten their places before it does
+abbrev pub for_head_unplaced : ForHead → ForHead
+for_head_unplaced h = record { name = name_unplaced h.name; cursor = option_map for_cursor_unplaced h.cursor; query = ordered_query_unplaced h.query }
+
+-- one layer of a block and of a statement; the statements in it have forgotten their places before it does
+abbrev pub BlockLayer : Type 0
+BlockLayer = Block-F Block Statement Branch Handler
+
+abbrev pub block_layer_unplaced : BlockLayer → BlockLayer
+block_layer_unplaced (layers.Compound place atomic declarations cursors handlers statements) = layers.Compound origin atomic (map declaration_unplaced declarations) (map cursor_unplaced cursors) handlers statements
+block_layer_unplaced (layers.Loop place statements) = layers.Loop origin statements
+block_layer_unplaced (layers.While place test statements) = layers.While origin (expr_unplaced test) statements
+block_layer_unplaced (layers.Repeat place statements until) = layers.Repeat origin statements (expr_unplaced until)
+block_layer_unplaced (layers.For place head statements) = layers.For origin (for_head_unplaced head) statements
+
 abbrev pub Layer : Type 0
-Layer = Statement-F Statement Branch Handler
+Layer = Statement-F Block Statement Branch Handler
 
 abbrev pub layer_unplaced : Layer → Layer
-layer_unplaced (layers.Compound label place atomic declarations cursors handlers body) = layers.Compound (option_map label_unplaced label) origin atomic (map declaration_unplaced declarations) (map cursor_unplaced cursors) handlers body
-layer_unplaced (layers.Loop label place first rest) = layers.Loop (option_map label_unplaced label) origin first rest
-layer_unplaced (layers.While label place test first rest) = layers.While (option_map label_unplaced label) origin (expr_unplaced test) first rest
-layer_unplaced (layers.Repeat label place first rest until) = layers.Repeat (option_map label_unplaced label) origin first rest (expr_unplaced until)
-layer_unplaced (layers.For label place name cursor query first rest) = layers.For (option_map label_unplaced label) origin (name_unplaced name) (option_map for_cursor_unplaced cursor) (ordered_query_unplaced query) first rest
-layer_unplaced (layers.If place first rest otherwise) = layers.If origin first rest otherwise
-layer_unplaced (layers.Case place operand first rest otherwise) = layers.Case origin (option_map expr_unplaced operand) first rest otherwise
+layer_unplaced (layers.Block label block) = layers.Block (option_map label_unplaced label) block
+layer_unplaced (layers.If place branches otherwise) = layers.If origin branches otherwise
+layer_unplaced (layers.Case place operand branches otherwise) = layers.Case origin (option_map expr_unplaced operand) branches otherwise
 layer_unplaced (layers.Simple simple) = layers.Simple (simple_unplaced simple)
+
+abbrev pub block_step : BlockLayer → Block
+block_step layer = roll-Block (block_layer_unplaced layer)
 
 abbrev pub statement_step : Layer → Statement
 statement_step layer = roll-Statement (layer_unplaced layer)
 
-abbrev pub branch_step : Branch-F Statement Branch Handler → Branch
-branch_step b = roll-Branch (record { test = expr_unplaced b.test; first = b.first; rest = b.rest })
+abbrev pub branch_step : Branch-F Block Statement Branch Handler → Branch
+branch_step b = roll-Branch (record { test = expr_unplaced b.test; statements = b.statements })
 
-abbrev pub handler_step : Handler-F Statement Branch Handler → Handler
-handler_step h = roll-Handler (record { place = origin; «at» = origin; kind = h.kind; first = handler_value_unplaced h.first; rest = map handler_value_unplaced h.rest; action = h.action })
+abbrev pub handler_step : Handler-F Block Statement Branch Handler → Handler
+handler_step h = roll-Handler (record { place = origin; «at» = origin; kind = h.kind; values = several_map handler_value_unplaced h.values; action = h.action })
+
+abbrev pub block_unplaced : Block → Block
+block_unplaced = fold-Block Block Statement Branch Handler block_step statement_step branch_step handler_step
 
 abbrev pub statement_unplaced : Statement → Statement
-statement_unplaced = fold-Statement Statement Branch Handler statement_step branch_step handler_step
+statement_unplaced = fold-Statement Block Statement Branch Handler block_step statement_step branch_step handler_step
 
 abbrev pub branch_unplaced : Branch → Branch
-branch_unplaced = fold-Branch Statement Branch Handler statement_step branch_step handler_step
+branch_unplaced = fold-Branch Block Statement Branch Handler block_step statement_step branch_step handler_step
 
 abbrev pub handler_unplaced : Handler → Handler
-handler_unplaced = fold-Handler Statement Branch Handler statement_step branch_step handler_step
+handler_unplaced = fold-Handler Block Statement Branch Handler block_step statement_step branch_step handler_step
