@@ -21,71 +21,89 @@ abbrev behind_element : List ℕ
 behind_element = sign_kind s.Comma ∷ sign_kind s.RightParen ∷ []
 
 plain_column_rule_fit : (follow : List ℕ) → Fits follow FileGrammar.plain_column_rule
+unfolding FileGrammar.all_files
 plain_column_rule_fit follow = fit_or refl refl (fit_seq (fit_token refl) (fit_token refl))
     (fit_or refl refl (fit_seq (fit_token refl) (fit_token refl))
     (fit_or refl refl (fit_image (fit_token refl))
     (fit_seq (fit_token refl) (parens_fit follow (fit_fewer refl expr_fit)))))
 
 column_rule_fit : (follow : List ℕ) → Fits follow FileGrammar.column_rule
+unfolding FileGrammar.all_files
 column_rule_fit follow = fit_or refl refl (fit_seq (fit_token refl) (fit_seq (fit_token refl) (plain_column_rule_fit follow))) (plain_column_rule_fit follow)
 
 column_fit : Fits behind_element FileGrammar.column
+unfolding FileGrammar.all_files
 column_fit = fit_seq (fit_token refl) (fit_seq (record { holds = refl }) (fit_seq (record { holds = refl }) (fit_many refl refl (column_rule_fit (kinds_of column_rule_words ++ behind_element)))))
 
 plain_table_rule_fit : (follow : List ℕ) → Fits follow FileGrammar.plain_table_rule
+unfolding FileGrammar.all_files
 plain_table_rule_fit follow = fit_or refl refl (fit_seq (fit_token refl) (fit_seq (fit_token refl) (parens_fit follow (record { holds = refl }))))
     (fit_or refl refl (fit_seq (fit_token refl) (parens_fit follow (record { holds = refl })))
     (fit_seq (fit_token refl) (parens_fit follow (fit_fewer refl expr_fit))))
 
 table_rule_fit : (follow : List ℕ) → Fits follow FileGrammar.table_rule
+unfolding FileGrammar.all_files
 table_rule_fit follow = fit_or refl refl (fit_seq (fit_token refl) (fit_seq (fit_token refl) (plain_table_rule_fit follow))) (plain_table_rule_fit follow)
 
 element_fit : Fits behind_element FileGrammar.element
+unfolding FileGrammar.all_files
 element_fit = fit_or refl refl column_fit (fit_image (table_rule_fit behind_element))
 
 table_fit : (follow : List ℕ) → Fits follow FileGrammar.table
+unfolding FileGrammar.all_files
 table_fit follow = fit_seq (fit_token refl) (parens_fit follow (fit_seq element_fit (fit_many refl refl (fit_seq (fit_token refl) element_fit))))
 
 -- ---- routines
 
 noted_fit : Fits semicolon FileGrammar.noted_statement
+unfolding FileGrammar.all_files
 noted_fit = fit_seq (record { holds = refl }) statement_fit
 
 procedure_fit : Fits semicolon FileGrammar.procedure
+unfolding FileGrammar.all_files
 procedure_fit = fit_seq (fit_token refl) (fit_seq (fit_token refl) (fit_seq (record { holds = refl }) noted_fit))
 
 returned_fit : Fits semicolon FileGrammar.returned
+unfolding FileGrammar.all_files
 returned_fit = fit_or refl refl (fit_seq (fit_token refl) (fit_ahead refl (fit_seq (record { holds = refl }) noted_fit) (fit_seq (record { holds = refl }) noted_fit)))
     (fit_seq (record { holds = refl }) noted_fit)
 
 function_fit : Fits semicolon FileGrammar.function
+unfolding FileGrammar.all_files
 function_fit = fit_seq (fit_token refl) (fit_seq (fit_token refl) (fit_seq (record { holds = refl }) (fit_seq (fit_token refl) returned_fit)))
 
 routine_fit : Fits semicolon FileGrammar.routine
+unfolding FileGrammar.all_files
 routine_fit = fit_or refl refl (fit_seq (fit_token refl) (fit_or refl refl procedure_fit function_fit)) (fit_or refl refl procedure_fit function_fit)
 
 -- ---- files
 
 module_fit : Fits semicolon FileGrammar.module_part
+unfolding FileGrammar.all_files
 module_fit = fit_seq (fit_token refl) (fit_seq (fit_token refl) (fit_seq (record { holds = refl })
     (fit_seq (fit_seq (fit_many refl refl (fit_seq routine_fit (fit_token refl))) (fit_token refl)) (fit_token refl))))
 
 created_table_fit : (follow : List ℕ) → Fits follow FileGrammar.created_table
+unfolding FileGrammar.all_files
 created_table_fit follow = fit_seq (fit_token refl) (fit_seq (table_fit semicolon) (fit_seq (fit_token refl) (fit_token refl)))
 
 pub file_fit : Fits [] FileGrammar.file
+unfolding FileGrammar.all_files
 file_fit = fit_seq (fit_token refl) (fit_seq (fit_many refl refl (created_table_fit (kinds_of (w.Table ∷ w.Module ∷ [])))) (fit_seq module_fit (record { holds = refl })))
 
 -- ---- scripts
 
 insert_fit : Fits semicolon FileGrammar.script_insert
+unfolding FileGrammar.all_files
 insert_fit = record { holds = refl }
 
 command_fit : Fits semicolon FileGrammar.command
+unfolding FileGrammar.all_files
 command_fit = fit_or refl refl (record { holds = refl })
     (fit_or refl refl insert_fit
     (fit_or refl refl (fit_image (fit_fewer refl ordered_fit))
     (fit_or refl refl (record { holds = refl }) (record { holds = refl }))))
 
 pub script_fit : Fits [] FileGrammar.script
+unfolding FileGrammar.all_files
 script_fit = fit_image (fit_many refl refl (fit_seq command_fit (fit_token refl)))

@@ -12,10 +12,12 @@ use Rattle.psm_grammar.proofs.Unique.{one_tree}
 use Rattle.psm_tree.specs.Parts.{Part, Enclosed, Arguments, ExistsRest, CaseRest, CastRest, CoalesceRest, NullIfRest, FunctionRest, PositionRest, SubstringRest, TrimRest, BeginRest, LoopRest, WhileRest, RepeatRest, ForRest, IfRest, CaseStatementRest, HandlerRest, BodyRest, DeclareRest, Declarations, Cursors, Handlers}
 use Rattle.psm_tree.specs.ExprGrammar.{Gram}
 use Rattle.psm_tree.specs.Productions.{productions}
+use Rattle.psm_tree.specs.StatementGrammar
 use Rattle.psm_tree.proofs.ExprFits.{after, enclosed_fit, arguments_fit, exists_fit, case_fit, cast_fit, coalesce_fit, nullif_fit, function_fit, position_fit, substring_fit, trim_fit}
 use Rattle.psm_tree.proofs.StatementFits.{begin_fit, loop_fit, while_fit, repeat_fit, for_fit, if_fit, case_fit as case_statement_fit, handler_fit, body_fit, declare_fit}
 
 part_fit : (n : Part) → FitsAt after (after n) (productions n)
+unfolding StatementGrammar.all_statements
 part_fit Enclosed = enclosed_fit
 part_fit Arguments = arguments_fit
 part_fit ExistsRest = exists_fit
@@ -43,6 +45,7 @@ abbrev pub height : ℕ
 height = 3
 
 alive : (n : Part) → lives_in productions height n ≡ true
+unfolding StatementGrammar.all_statements
 alive Enclosed = refl
 alive Arguments = refl
 alive ExistsRest = refl

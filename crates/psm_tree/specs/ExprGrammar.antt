@@ -41,79 +41,79 @@ within_parens p = behind_token (sign s.LeftParen) (closed p)
 -- ---- names
 
 -- target = name ["." name]
-abbrev pub second_name : Gram Identifier
+unfoldable pub second_name : Gram Identifier
 second_name = behind_token (sign s.Period) (token name)
 
-abbrev pub target : Gram Target
+unfoldable pub target : Gram Target
 target = seq target_of (token name) (optional second_name)
 
 -- names = name {"," name}
-abbrev pub next_name : Gram Identifier
+unfoldable pub next_name : Gram Identifier
 next_name = behind_token (sign s.Comma) (token name)
 
-abbrev pub next_names : Gram (List Identifier)
+unfoldable pub next_names : Gram (List Identifier)
 next_names = many next_name
 
-abbrev pub names : Gram Names
+unfoldable pub names : Gram Names
 names = seq several (token name) next_names
 
-abbrev pub names_in_parens : Gram Names
+unfoldable pub names_in_parens : Gram Names
 names_in_parens = within_parens names
 
 -- targets = target {"," target}
-abbrev pub next_target : Gram Target
+unfoldable pub next_target : Gram Target
 next_target = behind_token (sign s.Comma) target
 
-abbrev pub next_targets : Gram (List Target)
+unfoldable pub next_targets : Gram (List Target)
 next_targets = many next_target
 
-abbrev pub targets : Gram Targets
+unfoldable pub targets : Gram Targets
 targets = seq several target next_targets
 
 -- ---- types and constants
 
 -- type_length = "(" num ")"
-abbrev pub type_length : Gram (At Num)
+unfoldable pub type_length : Gram (At Num)
 type_length = within_parens (token number)
 
 -- precision = "(" num ["," num] ")"
-abbrev pub scale : Gram (At Num)
+unfoldable pub scale : Gram (At Num)
 scale = behind_token (sign s.Comma) (token number)
 
-abbrev pub precision : Gram Precision
+unfoldable pub precision : Gram Precision
 precision = within_parens (seq precision_of (token number) (optional scale))
 
 -- plain_type = SMALLINT | INTEGER | INT | (NUMERIC|DECIMAL|DEC) [precision] | VARCHAR type_length
-abbrev pub numeric_type : Gram DataType
+unfoldable pub numeric_type : Gram DataType
 numeric_type = seq numeric_of (token numeric_word) (optional precision)
 
-abbrev pub varchar_type : Gram DataType
+unfoldable pub varchar_type : Gram DataType
 varchar_type = seq formed (token (word w.VarChar)) (image varchar_form type_length)
 
-abbrev pub plain_type : Gram DataType
+unfoldable pub plain_type : Gram DataType
 plain_type = or (image (type_of forms.SmallInt) (token (word w.SmallInt)))
     (or (image (type_of forms.Integer) (token integer_word))
     (or numeric_type varchar_type))
 
 -- char_rest = VARYING type_length | [type_length]
-abbrev pub varying : Gram TypeForm
+unfoldable pub varying : Gram TypeForm
 varying = behind_token (word w.Varying) (image varchar_form type_length)
 
-abbrev pub char_length : Gram TypeForm
+unfoldable pub char_length : Gram TypeForm
 char_length = or (image char_form type_length) (nothing char_alone)
 
-abbrev pub char_rest : Gram TypeForm
+unfoldable pub char_rest : Gram TypeForm
 char_rest = or varying char_length
 
 -- type = plain_type | (CHAR|CHARACTER) char_rest
-abbrev pub char_type : Gram DataType
+unfoldable pub char_type : Gram DataType
 char_type = seq formed (token char_word) char_rest
 
-abbrev pub data_type : Gram DataType
+unfoldable pub data_type : Gram DataType
 data_type = or char_type plain_type
 
 -- const = ["+"|"-"] num | text | NULL
-abbrev pub constant : Gram Constant
+unfoldable pub constant : Gram Constant
 constant = or (image number_constant (token number))
     (or (image text_constant (token text))
     (or (image null_constant (token (word w.Null)))
@@ -122,16 +122,16 @@ constant = or (image number_constant (token number))
 -- ---- primaries
 
 -- named = name ["." name | "(" [source {"," source}] ")"]
-abbrev pub name_rest : Gram NameRest
+unfoldable pub name_rest : Gram NameRest
 name_rest = or (image Dotted second_name)
     (or (level Arguments (sign s.LeftParen) called)
     (nothing Bare))
 
-abbrev pub named_primary : Gram Expr
+unfoldable pub named_primary : Gram Expr
 named_primary = seq named (token name) name_rest
 
 -- what begins with a word of its own
-abbrev pub worded_primary : Gram Expr
+unfoldable pub worded_primary : Gram Expr
 worded_primary = or (level ExistsRest (word w.Exists) exists_of)
     (or (level CaseRest (word w.Case) case_of)
     (or (level CastRest (word w.Cast) cast_of)
@@ -143,7 +143,7 @@ worded_primary = or (level ExistsRest (word w.Exists) exists_of)
     (level FunctionRest text_function function_of))))))))
 
 -- primary = num | text | named | "(" inside ")" | ..
-abbrev pub primary : Gram Expr
+unfoldable pub primary : Gram Expr
 primary = or (image number_primary (token number))
     (or (image text_primary (token text))
     (or named_primary
@@ -153,74 +153,74 @@ primary = or (image number_primary (token number))
 -- ---- values
 
 -- factor = ["+"|"-"] primary
-abbrev pub factor : Gram Expr
+unfoldable pub factor : Gram Expr
 factor = or (seq signed (token plus_minus) primary) primary
 
 -- term = factor {("*"|"/") factor}
-abbrev pub next_factor : Gram Link
+unfoldable pub next_factor : Gram Link
 next_factor = seq link_of (token term_operator) factor
 
-abbrev pub next_factors : Gram (List Link)
+unfoldable pub next_factors : Gram (List Link)
 next_factors = many next_factor
 
-abbrev pub term : Gram Expr
+unfoldable pub term : Gram Expr
 term = seq chain_of factor next_factors
 
 -- sum = term {("+"|"-"|"||") term}
-abbrev pub next_term : Gram Link
+unfoldable pub next_term : Gram Link
 next_term = seq link_of (token sum_operator) term
 
-abbrev pub next_terms : Gram (List Link)
+unfoldable pub next_terms : Gram (List Link)
 next_terms = many next_term
 
-abbrev pub sum : Gram Expr
+unfoldable pub sum : Gram Expr
 sum = seq chain_of term next_terms
 
 -- ---- conditions
 
 -- between = BETWEEN sum AND sum
-abbrev pub between : Gram (Expr × Expr)
+unfoldable pub between : Gram (Expr × Expr)
 between = behind_token (word w.Between) (seq pair sum (behind_token (word w.And) sum))
 
 -- in_list = IN "(" sum {"," sum} ")"
-abbrev pub next_sum : Gram Expr
+unfoldable pub next_sum : Gram Expr
 next_sum = behind_token (sign s.Comma) sum
 
-abbrev pub next_sums : Gram (List Expr)
+unfoldable pub next_sums : Gram (List Expr)
 next_sums = many next_sum
 
-abbrev pub sums_in_parens : Gram (Several Expr)
+unfoldable pub sums_in_parens : Gram (Several Expr)
 sums_in_parens = within_parens (seq several sum next_sums)
 
-abbrev pub in_list : Gram (Several Expr)
+unfoldable pub in_list : Gram (Several Expr)
 in_list = behind_token (word w.In) sums_in_parens
 
 -- like = LIKE sum [ESCAPE sum]
-abbrev pub escape : Gram Expr
+unfoldable pub escape : Gram Expr
 escape = behind_token (word w.Escape) sum
 
-abbrev pub like : Gram (Expr × Option Expr)
+unfoldable pub like : Gram (Expr × Option Expr)
 like = behind_token (word w.Like) (seq pair sum (optional escape))
 
 -- is_null = IS [NOT] NULL
-abbrev pub is_null : Gram Test
+unfoldable pub is_null : Gram Test
 is_null = behind_token (word w.Is) (seq null_of (optional (token (word w.Not))) (token (word w.Null)))
 
 -- compare = ("="|"<>"|"<"|"<="|">"|">=") sum
-abbrev pub compare : Gram Test
+unfoldable pub compare : Gram Test
 compare = seq compare_of (token comparison) sum
 
 -- negated_test = NOT (between | in_list | like)
-abbrev pub negatable : Gram Test
+unfoldable pub negatable : Gram Test
 negatable = or (image (between_of true) between)
     (or (image (in_of true) in_list)
     (image (like_of true) like))
 
-abbrev pub negated_test : Gram Test
+unfoldable pub negated_test : Gram Test
 negated_test = behind_token (word w.Not) negatable
 
 -- test = [compare | is_null | negated_test | between | in_list | like]
-abbrev pub test : Gram Test
+unfoldable pub test : Gram Test
 test = or compare
     (or is_null
     (or negated_test
@@ -230,161 +230,167 @@ test = or compare
     (nothing Nothing))))))
 
 -- predicate = sum test
-abbrev pub predicate : Gram Expr
+unfoldable pub predicate : Gram Expr
 predicate = seq predicate_of sum test
 
 -- negation = [NOT] predicate
-abbrev pub negation : Gram Expr
+unfoldable pub negation : Gram Expr
 negation = or (seq negated (token (word w.Not)) predicate) predicate
 
 -- conjunction = negation {AND negation}
-abbrev pub next_negation : Gram Expr
+unfoldable pub next_negation : Gram Expr
 next_negation = behind_token (word w.And) negation
 
-abbrev pub next_negations : Gram (List Expr)
+unfoldable pub next_negations : Gram (List Expr)
 next_negations = many next_negation
 
-abbrev pub conjunction : Gram Expr
+unfoldable pub conjunction : Gram Expr
 conjunction = seq conjunction_of negation next_negations
 
 -- expr = conjunction {OR conjunction}
-abbrev pub next_conjunction : Gram Expr
+unfoldable pub next_conjunction : Gram Expr
 next_conjunction = behind_token (word w.Or) conjunction
 
-abbrev pub next_conjunctions : Gram (List Expr)
+unfoldable pub next_conjunctions : Gram (List Expr)
 next_conjunctions = many next_conjunction
 
-abbrev pub expr : Gram Expr
+unfoldable pub expr : Gram Expr
 expr = seq expr_of conjunction next_conjunctions
 
 -- source = NULL | expr
-abbrev pub source : Gram Expr
+unfoldable pub source : Gram Expr
 source = or (image null_source (token (word w.Null))) expr
 
 -- sources = source {"," source}
-abbrev pub next_source : Gram Expr
+unfoldable pub next_source : Gram Expr
 next_source = behind_token (sign s.Comma) source
 
-abbrev pub next_sources : Gram (List Expr)
+unfoldable pub next_sources : Gram (List Expr)
 next_sources = many next_source
 
-abbrev pub sources : Gram (Several Expr)
+unfoldable pub sources : Gram (Several Expr)
 sources = seq several source next_sources
 
 -- ---- queries
 
 -- item = COUNT "(" ("*" | expr) ")" | (SUM|AVG|MIN|MAX) "(" expr ")" | expr
-abbrev pub counted : Gram (Option Expr)
+unfoldable pub counted : Gram (Option Expr)
 counted = or (image all_rows (token (sign s.Asterisk))) (image Some expr)
 
-abbrev pub count : Gram Item
+unfoldable pub count : Gram Item
 count = seq count_of (token (word w.Count)) (within_parens counted)
 
-abbrev pub aggregate : Gram Item
+unfoldable pub aggregate : Gram Item
 aggregate = seq aggregate_of (token set_function) (within_parens expr)
 
-abbrev pub item : Gram Item
+unfoldable pub item : Gram Item
 item = or count
     (or aggregate
     (image expr_item expr))
 
 -- alias = [[AS] name]
-abbrev pub alias : Gram (Option Identifier)
+unfoldable pub alias : Gram (Option Identifier)
 alias = or (image Some (behind_token (word w.As) (token name)))
     (or (image Some (token name))
     (nothing None))
 
 -- picks = "*" | item [alias] {"," item [alias]}
-abbrev pub pick : Gram Pick
+unfoldable pub pick : Gram Pick
 pick = seq pick_of item alias
 
-abbrev pub next_pick : Gram Pick
+unfoldable pub next_pick : Gram Pick
 next_pick = behind_token (sign s.Comma) pick
 
-abbrev pub next_picks : Gram (List Pick)
+unfoldable pub next_picks : Gram (List Pick)
 next_picks = many next_pick
 
-abbrev pub picks : Gram (Several Pick)
+unfoldable pub picks : Gram (Several Pick)
 picks = or (image all_picks (token (sign s.Asterisk))) (seq several pick next_picks)
 
 -- from = name [alias] [WHERE expr]
-abbrev pub where_condition : Gram Expr
+unfoldable pub where_condition : Gram Expr
 where_condition = behind_token (word w.Where) expr
 
-abbrev pub from_table : Gram From
+unfoldable pub from_table : Gram From
 from_table = seq from_of (token name) (seq pair alias (optional where_condition))
 
 -- select = SELECT picks FROM from
-abbrev pub select : Gram Select
+unfoldable pub select : Gram Select
 select = seq select_of (token (word w.Select)) (seq pair picks (behind_token (word w.From) from_table))
 
 -- ---- what stands behind a token that opens a level
 
 -- inside = (select | expr) ")"
-abbrev pub enclosed : Gram Inside
+unfoldable pub enclosed : Gram Inside
 enclosed = or (closed (image Query select)) (closed (image Value expr))
 
 -- arguments = [source {"," source}] ")"
-abbrev pub argument_list : Gram (List Expr)
+unfoldable pub argument_list : Gram (List Expr)
 argument_list = closed (seq cons source next_sources)
 
-abbrev pub arguments : Gram (List Expr)
+unfoldable pub arguments : Gram (List Expr)
 arguments = or (image none (token (sign s.RightParen))) argument_list
 
-abbrev pub exists_rest : Gram Select
+unfoldable pub exists_rest : Gram Select
 exists_rest = within_parens select
 
 -- case_rest = [expr] WHEN expr THEN source {WHEN expr THEN source} [ELSE source] END
-abbrev pub when : Gram When
+unfoldable pub when : Gram When
 when = behind_token (word w.When) (seq when_of expr (behind_token (word w.Then) source))
 
-abbrev pub next_whens : Gram (List When)
+unfoldable pub next_whens : Gram (List When)
 next_whens = many when
 
-abbrev pub otherwise : Gram Expr
+unfoldable pub otherwise : Gram Expr
 otherwise = behind_token (word w.Else) source
 
-abbrev pub all_whens : Gram (Several When)
+unfoldable pub all_whens : Gram (Several When)
 all_whens = seq several when next_whens
 
-abbrev pub whens : Gram Whens
+unfoldable pub whens : Gram Whens
 whens = seq whens_of all_whens (before_token (optional otherwise) (word w.End))
 
-abbrev pub case_rest : Gram Cases
+unfoldable pub case_rest : Gram Cases
 case_rest = or (image case_alone whens) (seq case_over expr whens)
 
 -- cast_rest = "(" source AS type ")"
-abbrev pub cast_rest : Gram (Expr × DataType)
+unfoldable pub cast_rest : Gram (Expr × DataType)
 cast_rest = within_parens (seq pair source (behind_token (word w.As) data_type))
 
-abbrev pub coalesce_rest : Gram (Several Expr)
+unfoldable pub coalesce_rest : Gram (Several Expr)
 coalesce_rest = within_parens sources
 
 -- nullif_rest = "(" expr "," expr ")"
-abbrev pub nullif_rest : Gram (Expr × Expr)
+unfoldable pub nullif_rest : Gram (Expr × Expr)
 nullif_rest = within_parens (seq pair expr (behind_token (sign s.Comma) expr))
 
-abbrev pub function_rest : Gram Expr
+unfoldable pub function_rest : Gram Expr
 function_rest = within_parens expr
 
 -- position_rest = "(" sum IN sum ")"
-abbrev pub position_rest : Gram (Expr × Expr)
+unfoldable pub position_rest : Gram (Expr × Expr)
 position_rest = within_parens (seq pair sum (behind_token (word w.In) sum))
 
 -- substring_rest = "(" expr FROM expr [FOR expr] ")"
-abbrev pub for_length : Gram Expr
+unfoldable pub for_length : Gram Expr
 for_length = behind_token (word w.For) expr
 
-abbrev pub substring_rest : Gram (Expr × Expr × Option Expr)
+unfoldable pub substring_rest : Gram (Expr × Expr × Option Expr)
 substring_rest = within_parens (seq triple expr (behind_token (word w.From) (seq pair expr (optional for_length))))
 
 -- trim_rest = "(" [(LEADING|TRAILING|BOTH) FROM] expr ")"
-abbrev pub sided : Gram (TrimSide × Expr)
+unfoldable pub sided : Gram (TrimSide × Expr)
 sided = seq pair (token trim_side) (behind_token (word w.From) expr)
 
-abbrev pub trimmed : Gram (TrimSide × Expr)
+unfoldable pub trimmed : Gram (TrimSide × Expr)
 trimmed = ahead (word_kind w.Leading ∷ word_kind w.Trailing ∷ word_kind w.Both ∷ []) (word_kind w.From ∷ [])
     (closed sided) (closed (image both_sides expr))
 
-abbrev pub trim_rest : Gram (TrimSide × Expr)
+unfoldable pub trim_rest : Gram (TrimSide × Expr)
 trim_rest = behind_token (sign s.LeftParen) trimmed
+
+-- ---- a name that opens every production of names, types, constants, expressions and queries
+
+unfoldable pub all_expressions : Unit {0}
+unfolding second_name target next_name next_names names names_in_parens next_target next_targets targets type_length scale precision numeric_type varchar_type plain_type varying char_length char_rest char_type data_type constant name_rest named_primary worded_primary primary factor next_factor next_factors term next_term next_terms sum between next_sum next_sums sums_in_parens in_list escape like is_null compare negatable negated_test test predicate negation next_negation next_negations conjunction next_conjunction next_conjunctions expr source next_source next_sources sources counted count aggregate item alias pick next_pick next_picks picks where_condition from_table select enclosed argument_list arguments exists_rest when next_whens otherwise all_whens whens case_rest cast_rest coalesce_rest nullif_rest function_rest position_rest for_length substring_rest sided trimmed trim_rest
+all_expressions = tt

@@ -12,7 +12,7 @@ use Rattle.psm_tree.specs.Tests.{word, sign, name, char_word, mode}
 use Rattle.psm_tree.specs.ExprValues.{pair, triple, several, cons, none}
 use Rattle.psm_tree.specs.FileValues.{column_rule_at, column_rule_by, column_check, primary_key, unique, table_check, column_of, rule_element, TableRest, table_rest, moded, unmoded, note_at, note_by, returned_char, procedure_rest, procedure_of, function_rest, function_of, ModuleRest, module_rest, file_of, placeholder, constant_argument, constant_row, call_command, insert_command, select_command, commit_command, rollback_command, script_of}
 use Rattle.psm_tree.specs.ExprGrammar.{Gram, closed, within_parens, names_in_parens, varying, char_length, plain_type, data_type, constant, expr}
-use Rattle.psm_tree.specs.StatementGrammar.{statement, ordered_select}
+use Rattle.psm_tree.specs.StatementGrammar.{all_statements, statement, ordered_select}
 use Rattle.psm_tree.specs.declared.name.Identifier.{Identifier}
 use Rattle.psm_tree.specs.declared.types.TypeForm.{TypeForm}
 use Rattle.psm_tree.specs.declared.types.DataType.{DataType}
@@ -35,80 +35,80 @@ use Rattle.psm_tree.specs.declared.script.Command.{Command}
 -- ---- tables
 
 -- column_rule = [CONSTRAINT name] (NOT NULL | PRIMARY KEY | UNIQUE | CHECK "(" expr ")")
-abbrev pub plain_column_rule : Gram ColumnRule
+unfoldable pub plain_column_rule : Gram ColumnRule
 plain_column_rule = or (seq (column_rule_by column_rules.NotNull) (token (word w.Not)) (token (word w.Null)))
     (or (seq (column_rule_by column_rules.PrimaryKey) (token (word w.Primary)) (token (word w.Key)))
     (or (image (column_rule_at column_rules.Unique) (token (word w.Unique)))
     (seq column_check (token (word w.Check)) (within_parens expr))))
 
-abbrev pub column_rule : Gram ColumnRule
+unfoldable pub column_rule : Gram ColumnRule
 column_rule = or (behind_token (word w.Constraint) (behind_token name plain_column_rule)) plain_column_rule
 
-abbrev pub column_rule_list : Gram (List ColumnRule)
+unfoldable pub column_rule_list : Gram (List ColumnRule)
 column_rule_list = many column_rule
 
 -- column = name type [DEFAULT const] {column_rule}
-abbrev pub default_constant : Gram Constant
+unfoldable pub default_constant : Gram Constant
 default_constant = behind_token (word w.Default) constant
 
-abbrev pub column : Gram Element
+unfoldable pub column : Gram Element
 column = seq column_of (token name) (seq triple data_type (seq pair (optional default_constant) column_rule_list))
 
 -- table_rule = [CONSTRAINT name] (PRIMARY KEY names | UNIQUE names | CHECK "(" expr ")")
-abbrev pub plain_table_rule : Gram TableRule
+unfoldable pub plain_table_rule : Gram TableRule
 plain_table_rule = or (seq primary_key (token (word w.Primary)) (behind_token (word w.Key) names_in_parens))
     (or (seq unique (token (word w.Unique)) names_in_parens)
     (seq table_check (token (word w.Check)) (within_parens expr)))
 
-abbrev pub table_rule : Gram TableRule
+unfoldable pub table_rule : Gram TableRule
 table_rule = or (behind_token (word w.Constraint) (behind_token name plain_table_rule)) plain_table_rule
 
 -- table = name "(" element {"," element} ")"
-abbrev pub element : Gram Element
+unfoldable pub element : Gram Element
 element = or column (image rule_element table_rule)
 
-abbrev pub next_element : Gram Element
+unfoldable pub next_element : Gram Element
 next_element = behind_token (sign s.Comma) element
 
-abbrev pub next_elements : Gram (List Element)
+unfoldable pub next_elements : Gram (List Element)
 next_elements = many next_element
 
-abbrev pub elements : Gram (Several Element)
+unfoldable pub elements : Gram (Several Element)
 elements = seq several element next_elements
 
-abbrev pub table : Gram TableRest
+unfoldable pub table : Gram TableRest
 table = seq table_rest (token name) (within_parens elements)
 
 -- ---- routines
 
 -- param = [IN|OUT|INOUT] name type
-abbrev pub named_type : Gram (Identifier × DataType)
+unfoldable pub named_type : Gram (Identifier × DataType)
 named_type = seq pair (token name) data_type
 
-abbrev pub param : Gram Parameter
+unfoldable pub param : Gram Parameter
 param = or (seq moded (token mode) named_type) (image unmoded named_type)
 
-abbrev pub next_param : Gram Parameter
+unfoldable pub next_param : Gram Parameter
 next_param = behind_token (sign s.Comma) param
 
-abbrev pub next_params : Gram (List Parameter)
+unfoldable pub next_params : Gram (List Parameter)
 next_params = many next_param
 
 -- params = "(" [param {"," param}] ")"
-abbrev pub param_list : Gram (List Parameter)
+unfoldable pub param_list : Gram (List Parameter)
 param_list = closed (seq cons param next_params)
 
-abbrev pub param_rest : Gram (List Parameter)
+unfoldable pub param_rest : Gram (List Parameter)
 param_rest = or (image none (token (sign s.RightParen))) param_list
 
-abbrev pub params : Gram (List Parameter)
+unfoldable pub params : Gram (List Parameter)
 params = behind_token (sign s.LeftParen) param_rest
 
 -- note = LANGUAGE SQL | DETERMINISTIC | NOT DETERMINISTIC | CONTAINS SQL | READS SQL DATA | MODIFIES SQL DATA
-abbrev pub sql_data : Gram Place
+unfoldable pub sql_data : Gram Place
 sql_data = behind_token (word w.Sql) (token (word w.Data))
 
-abbrev pub note : Gram Note
+unfoldable pub note : Gram Note
 note = or (seq (note_by notes.Language) (token (word w.Language)) (token (word w.Sql)))
     (or (image (note_at notes.Deterministic) (token (word w.Deterministic)))
     (or (seq (note_by notes.NotDeterministic) (token (word w.Not)) (token (word w.Deterministic)))
@@ -116,129 +116,135 @@ note = or (seq (note_by notes.Language) (token (word w.Language)) (token (word w
     (or (seq (note_by notes.ReadsSqlData) (token (word w.Reads)) sql_data)
     (seq (note_by notes.ModifiesSqlData) (token (word w.Modifies)) sql_data)))))
 
-abbrev pub note_list : Gram (List Note)
+unfoldable pub note_list : Gram (List Note)
 note_list = many note
 
-abbrev pub noted_statement : Gram (List Note × Statement)
+unfoldable pub noted_statement : Gram (List Note × Statement)
 noted_statement = seq pair note_list statement
 
 -- procedure = PROCEDURE name params {note} statement
-abbrev pub procedure : Gram Routine
+unfoldable pub procedure : Gram Routine
 procedure = seq procedure_of (token (word w.Procedure)) (seq procedure_rest (token name) (seq pair params noted_statement))
 
 -- returned = type {note} statement, where VARYING may also be the label of the statement
-abbrev pub char_returned : Gram (TypeForm × (List Note × Statement))
+unfoldable pub char_returned : Gram (TypeForm × (List Note × Statement))
 char_returned = ahead (word_kind w.Varying ∷ []) (sign_kind s.LeftParen ∷ []) (seq pair varying noted_statement) (seq pair char_length noted_statement)
 
-abbrev pub returned : Gram (DataType × (List Note × Statement))
+unfoldable pub returned : Gram (DataType × (List Note × Statement))
 returned = or (seq returned_char (token char_word) char_returned) (seq pair plain_type noted_statement)
 
 -- function = FUNCTION name params RETURNS returned
-abbrev pub function : Gram Routine
+unfoldable pub function : Gram Routine
 function = seq function_of (token (word w.Function)) (seq function_rest (token name) (seq pair params (behind_token (word w.Returns) returned)))
 
 -- routine = [DECLARE] (procedure | function)
-abbrev pub plain_routine : Gram Routine
+unfoldable pub plain_routine : Gram Routine
 plain_routine = or procedure function
 
-abbrev pub routine : Gram Routine
+unfoldable pub routine : Gram Routine
 routine = or (behind_token (word w.Declare) plain_routine) plain_routine
 
-abbrev pub ended_routine : Gram Routine
+unfoldable pub ended_routine : Gram Routine
 ended_routine = before_token routine (sign s.Semicolon)
 
-abbrev pub ended_routines : Gram (List Routine)
+unfoldable pub ended_routines : Gram (List Routine)
 ended_routines = many ended_routine
 
 -- ---- files
 
 -- module_part = MODULE name [LANGUAGE SQL] {routine ";"} END MODULE
-abbrev pub language : Gram Place
+unfoldable pub language : Gram Place
 language = behind_token (word w.Language) (token (word w.Sql))
 
-abbrev pub module_body : Gram (List Routine)
+unfoldable pub module_body : Gram (List Routine)
 module_body = before_token (before_token ended_routines (word w.End)) (word w.Module)
 
-abbrev pub module_part : Gram ModuleRest
+unfoldable pub module_part : Gram ModuleRest
 module_part = behind_token (word w.Module) (seq module_rest (token name) (seq pair (optional language) module_body))
 
 -- file = CREATE {TABLE table ";" CREATE} module_part [";"]
-abbrev pub created_table : Gram (TableRest × Place)
+unfoldable pub created_table : Gram (TableRest × Place)
 created_table = behind_token (word w.Table) (seq pair table (behind_token (sign s.Semicolon) (token (word w.Create))))
 
-abbrev pub created_tables : Gram (List (TableRest × Place))
+unfoldable pub created_tables : Gram (List (TableRest × Place))
 created_tables = many created_table
 
-abbrev pub last_module : Gram ModuleRest
+unfoldable pub last_module : Gram ModuleRest
 last_module = seq earlier module_part (optional (token (sign s.Semicolon)))
 
-abbrev pub file : Gram FileTree
+unfoldable pub file : Gram FileTree
 file = seq file_of (token (word w.Create)) (seq pair created_tables last_module)
 
 -- ---- scripts
 
 -- argument = const | "?"
-abbrev pub argument : Gram Argument
+unfoldable pub argument : Gram Argument
 argument = or (image placeholder (token (sign s.QuestionMark))) (image constant_argument constant)
 
-abbrev pub next_argument : Gram Argument
+unfoldable pub next_argument : Gram Argument
 next_argument = behind_token (sign s.Comma) argument
 
-abbrev pub next_arguments : Gram (List Argument)
+unfoldable pub next_arguments : Gram (List Argument)
 next_arguments = many next_argument
 
-abbrev pub script_argument_list : Gram (List Argument)
+unfoldable pub script_argument_list : Gram (List Argument)
 script_argument_list = closed (seq cons argument next_arguments)
 
-abbrev pub script_arguments : Gram (List Argument)
+unfoldable pub script_arguments : Gram (List Argument)
 script_arguments = or (image none (token (sign s.RightParen))) script_argument_list
 
-abbrev pub script_call : Gram Command
+unfoldable pub script_call : Gram Command
 script_call = seq call_command (token (word w.Call)) (seq pair (token name) (behind_token (sign s.LeftParen) script_arguments))
 
 -- row = "(" const {"," const} ")"
-abbrev pub next_constant : Gram Constant
+unfoldable pub next_constant : Gram Constant
 next_constant = behind_token (sign s.Comma) constant
 
-abbrev pub next_constants : Gram (List Constant)
+unfoldable pub next_constants : Gram (List Constant)
 next_constants = many next_constant
 
-abbrev pub constants : Gram (Several Constant)
+unfoldable pub constants : Gram (Several Constant)
 constants = seq several constant next_constants
 
-abbrev pub row : Gram ConstantRow
+unfoldable pub row : Gram ConstantRow
 row = seq constant_row (token (sign s.LeftParen)) (closed constants)
 
-abbrev pub next_row : Gram ConstantRow
+unfoldable pub next_row : Gram ConstantRow
 next_row = behind_token (sign s.Comma) row
 
-abbrev pub next_rows : Gram (List ConstantRow)
+unfoldable pub next_rows : Gram (List ConstantRow)
 next_rows = many next_row
 
-abbrev pub rows : Gram (Several ConstantRow)
+unfoldable pub rows : Gram (Several ConstantRow)
 rows = seq several row next_rows
 
-abbrev pub script_values : Gram (Several ConstantRow)
+unfoldable pub script_values : Gram (Several ConstantRow)
 script_values = behind_token (word w.Values) rows
 
 -- INSERT INTO name [names] VALUES row {"," row}
-abbrev pub script_insert : Gram Command
+unfoldable pub script_insert : Gram Command
 script_insert = seq insert_command (token (word w.Insert)) (behind_token (word w.Into) (seq triple (token name) (seq pair (optional names_in_parens) script_values)))
 
 -- command = CALL .. | INSERT .. | select [order] | COMMIT [WORK] | ROLLBACK [WORK]
-abbrev pub command : Gram Command
+unfoldable pub command : Gram Command
 command = or script_call
     (or script_insert
     (or (image select_command ordered_select)
     (or (seq commit_command (token (word w.Commit)) (optional (token (word w.Work))))
     (seq rollback_command (token (word w.Rollback)) (optional (token (word w.Work)))))))
 
-abbrev pub ended_command : Gram Command
+unfoldable pub ended_command : Gram Command
 ended_command = before_token command (sign s.Semicolon)
 
-abbrev pub ended_commands : Gram (List Command)
+unfoldable pub ended_commands : Gram (List Command)
 ended_commands = many ended_command
 
 -- script = {command ";"}
-abbrev pub script : Gram ScriptTree
+unfoldable pub script : Gram ScriptTree
 script = image script_of ended_commands
+
+-- ---- a name that opens every production of module files and scripts
+
+unfoldable pub all_files : Unit {0}
+unfolding all_statements plain_column_rule column_rule column_rule_list default_constant column plain_table_rule table_rule element next_element next_elements elements table named_type param next_param next_params param_list param_rest params sql_data note note_list noted_statement procedure char_returned returned function plain_routine routine ended_routine ended_routines language module_body module_part created_table created_tables last_module file argument next_argument next_arguments script_argument_list script_arguments script_call next_constant next_constants constants row next_row next_rows rows script_values script_insert command ended_command ended_commands script
+all_files = tt

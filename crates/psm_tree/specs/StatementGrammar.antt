@@ -10,7 +10,7 @@ use Rattle.psm_tree.specs.Tests.{At, word, sign, name, number, text, handler_kin
 use Rattle.psm_tree.specs.Parts.{Statements, Branches, Phase, Declarations, Cursors, Handlers, BeginRest, LoopRest, WhileRest, RepeatRest, ForRest, IfRest, CaseStatementRest, HandlerRest, BodyRest, DeclareRest, ForParts, HandlerParts, NamedRest, Declared, Handled, Body}
 use Rattle.psm_tree.specs.ExprValues.{pair, triple, several, cons}
 use Rattle.psm_tree.specs.StatementValues.{state_of, ordered_query, order_of, order_column, yes, «no», named_condition, state_condition, signalled_of, statement_information, condition_information, number_of_condition, target_of_condition, statement_diagnostics, condition_diagnostics, values_of, inserted_values, inserted_query, assignment_of, where_true, where_current, set_of, call_of, return_of, leave_of, iterate_of, signal_of, resignal_of, diagnostics_of, select_into, insert_of, update_of, delete_of, open_of, fetch_of, close_of, simple_statement, unlabelled, labelled, if_of, case_statement_of, branch_of, branches_of, case_alone_statement, case_over_statement, compound_of, loop_of, while_of, repeat_of, for_of, for_cursor, for_parts, undeclared, variables_of, one_variable, condition_of, cursor_of, read_only, updatable, named_rest, handler_parts, state_value, name_value, exception_value, warning_value, not_found_value, declared}
-use Rattle.psm_tree.specs.ExprGrammar.{Gram, closed, target, names_in_parens, targets, next_names, data_type, arguments, expr, source, sources, picks, from_table, select}
+use Rattle.psm_tree.specs.ExprGrammar.{Gram, all_expressions, closed, target, names_in_parens, targets, next_names, data_type, arguments, expr, source, sources, picks, from_table, select}
 use Rattle.psm_tree.specs.declared.name.Identifier.{Identifier}
 use Rattle.psm_tree.specs.Names.{Targets}
 use Rattle.psm_tree.specs.declared.types.DataType.{DataType}
@@ -39,204 +39,204 @@ use Rattle.psm_tree.specs.declared.statement.Simple.{Simple}
 -- ---- parts of statements
 
 -- state = SQLSTATE [VALUE] text
-abbrev pub state_text : Gram (At (List ℕ))
+unfoldable pub state_text : Gram (At (List ℕ))
 state_text = or (behind_token (word w.Value) (token text)) (token text)
 
-abbrev pub state : Gram State
+unfoldable pub state : Gram State
 state = seq state_of (token (word w.SqlState)) state_text
 
 -- order = ORDER BY name [ASC|DESC] {"," name [ASC|DESC]}
-abbrev pub direction : Gram Bool
+unfoldable pub direction : Gram Bool
 direction = or (image yes (token (word w.Desc)))
     (or (image «no» (token (word w.Asc)))
     (nothing false))
 
-abbrev pub column_order : Gram OrderColumn
+unfoldable pub column_order : Gram OrderColumn
 column_order = seq order_column (token name) direction
 
-abbrev pub next_column_order : Gram OrderColumn
+unfoldable pub next_column_order : Gram OrderColumn
 next_column_order = behind_token (sign s.Comma) column_order
 
-abbrev pub next_column_orders : Gram (List OrderColumn)
+unfoldable pub next_column_orders : Gram (List OrderColumn)
 next_column_orders = many next_column_order
 
-abbrev pub column_orders : Gram (Several OrderColumn)
+unfoldable pub column_orders : Gram (Several OrderColumn)
 column_orders = seq several column_order next_column_orders
 
-abbrev pub order : Gram Order
+unfoldable pub order : Gram Order
 order = seq order_of (token (word w.Order)) (behind_token (word w.By) column_orders)
 
 -- ordered_select = select [order]
-abbrev pub ordered_select : Gram OrderedQuery
+unfoldable pub ordered_select : Gram OrderedQuery
 ordered_select = seq ordered_query select (optional order)
 
 -- signalled = (state | name) [SET MESSAGE_TEXT "=" expr]
-abbrev pub message : Gram Expr
+unfoldable pub message : Gram Expr
 message = behind_token (word w.Set) (behind_token (word w.MessageText) (behind_token (sign s.Equal) expr))
 
-abbrev pub state_signalled : Gram Signalled
+unfoldable pub state_signalled : Gram Signalled
 state_signalled = seq signalled_of (image state_condition state) (optional message)
 
-abbrev pub name_signalled : Gram Signalled
+unfoldable pub name_signalled : Gram Signalled
 name_signalled = seq signalled_of (image named_condition (token name)) (optional message)
 
-abbrev pub signalled : Gram Signalled
+unfoldable pub signalled : Gram Signalled
 signalled = or state_signalled name_signalled
 
 -- where = WHERE (CURRENT OF name | expr)
-abbrev pub current : Gram Where
+unfoldable pub current : Gram Where
 current = behind_token (word w.Current) (behind_token (word w.Of) (image where_current (token name)))
 
-abbrev pub which_rows : Gram Where
+unfoldable pub which_rows : Gram Where
 which_rows = or current (image where_true expr)
 
-abbrev pub where_part : Gram Where
+unfoldable pub where_part : Gram Where
 where_part = behind_token (word w.Where) which_rows
 
 -- values = "(" source {"," source} ")"
-abbrev pub values : Gram Values
+unfoldable pub values : Gram Values
 values = seq values_of (token (sign s.LeftParen)) (closed sources)
 
-abbrev pub next_values : Gram Values
+unfoldable pub next_values : Gram Values
 next_values = behind_token (sign s.Comma) values
 
-abbrev pub more_values : Gram (List Values)
+unfoldable pub more_values : Gram (List Values)
 more_values = many next_values
 
 -- insert_source = VALUES values {"," values} | select
-abbrev pub all_values : Gram (Several Values)
+unfoldable pub all_values : Gram (Several Values)
 all_values = seq several values more_values
 
-abbrev pub insert_values : Gram InsertSource
+unfoldable pub insert_values : Gram InsertSource
 insert_values = behind_token (word w.Values) (image inserted_values all_values)
 
-abbrev pub insert_source : Gram InsertSource
+unfoldable pub insert_source : Gram InsertSource
 insert_source = or insert_values (image inserted_query select)
 
 -- assignment = name "=" source
-abbrev pub assignment : Gram Assignment
+unfoldable pub assignment : Gram Assignment
 assignment = seq assignment_of (token name) (behind_token (sign s.Equal) source)
 
-abbrev pub next_assignment : Gram Assignment
+unfoldable pub next_assignment : Gram Assignment
 next_assignment = behind_token (sign s.Comma) assignment
 
-abbrev pub next_assignments : Gram (List Assignment)
+unfoldable pub next_assignments : Gram (List Assignment)
 next_assignments = many next_assignment
 
 -- ---- GET DIAGNOSTICS
 
 -- statement_information = target "=" (NUMBER|MORE|ROW_COUNT)
-abbrev pub statement_info : Gram StatementInformation
+unfoldable pub statement_info : Gram StatementInformation
 statement_info = seq statement_information target (behind_token (sign s.Equal) (token statement_item))
 
-abbrev pub next_statement_info : Gram StatementInformation
+unfoldable pub next_statement_info : Gram StatementInformation
 next_statement_info = behind_token (sign s.Comma) statement_info
 
-abbrev pub next_statement_infos : Gram (List StatementInformation)
+unfoldable pub next_statement_infos : Gram (List StatementInformation)
 next_statement_infos = many next_statement_info
 
-abbrev pub statement_infos : Gram (Several StatementInformation)
+unfoldable pub statement_infos : Gram (Several StatementInformation)
 statement_infos = seq several statement_info next_statement_infos
 
 -- condition_information = target "=" (CONDITION_NUMBER|..|CURSOR_NAME)
-abbrev pub condition_info : Gram ConditionInformation
+unfoldable pub condition_info : Gram ConditionInformation
 condition_info = seq condition_information target (behind_token (sign s.Equal) (token condition_item))
 
-abbrev pub next_condition_info : Gram ConditionInformation
+unfoldable pub next_condition_info : Gram ConditionInformation
 next_condition_info = behind_token (sign s.Comma) condition_info
 
-abbrev pub next_condition_infos : Gram (List ConditionInformation)
+unfoldable pub next_condition_infos : Gram (List ConditionInformation)
 next_condition_infos = many next_condition_info
 
-abbrev pub condition_infos : Gram (Several ConditionInformation)
+unfoldable pub condition_infos : Gram (Several ConditionInformation)
 condition_infos = seq several condition_info next_condition_infos
 
 -- diagnostics = statement_infos | (EXCEPTION|CONDITION) (num|target) condition_infos
-abbrev pub condition_number : Gram ConditionNumber
+unfoldable pub condition_number : Gram ConditionNumber
 condition_number = or (image number_of_condition (token number)) (image target_of_condition target)
 
-abbrev pub exception_diagnostics : Gram Diagnostics
+unfoldable pub exception_diagnostics : Gram Diagnostics
 exception_diagnostics = behind_token exception_word (seq condition_diagnostics condition_number condition_infos)
 
-abbrev pub diagnostics : Gram Diagnostics
+unfoldable pub diagnostics : Gram Diagnostics
 diagnostics = or exception_diagnostics (image statement_diagnostics statement_infos)
 
 -- ---- simple statements
 
-abbrev pub set_statement : Gram Simple
+unfoldable pub set_statement : Gram Simple
 set_statement = seq set_of (token (word w.Set)) (seq pair target (behind_token (sign s.Equal) source))
 
 -- CALL name "(" [source {"," source}] ")"
-abbrev pub call_statement : Gram Simple
+unfoldable pub call_statement : Gram Simple
 call_statement = seq call_of (token (word w.Call)) (seq pair (token name) (behind_token (sign s.LeftParen) arguments))
 
-abbrev pub return_statement : Gram Simple
+unfoldable pub return_statement : Gram Simple
 return_statement = seq return_of (token (word w.Return)) source
 
-abbrev pub leave_statement : Gram Simple
+unfoldable pub leave_statement : Gram Simple
 leave_statement = seq leave_of (token (word w.Leave)) (token name)
 
-abbrev pub iterate_statement : Gram Simple
+unfoldable pub iterate_statement : Gram Simple
 iterate_statement = seq iterate_of (token (word w.Iterate)) (token name)
 
-abbrev pub signal_statement : Gram Simple
+unfoldable pub signal_statement : Gram Simple
 signal_statement = seq signal_of (token (word w.Signal)) signalled
 
 -- RESIGNAL [signalled]
-abbrev pub resignalled : Gram (Option Signalled)
+unfoldable pub resignalled : Gram (Option Signalled)
 resignalled = or (image Some state_signalled)
     (or (image Some name_signalled)
     (nothing None))
 
-abbrev pub resignal_statement : Gram Simple
+unfoldable pub resignal_statement : Gram Simple
 resignal_statement = seq resignal_of (token (word w.Resignal)) resignalled
 
-abbrev pub diagnostics_statement : Gram Simple
+unfoldable pub diagnostics_statement : Gram Simple
 diagnostics_statement = seq diagnostics_of (token (word w.Get)) (behind_token (word w.Diagnostics) diagnostics)
 
 -- SELECT picks INTO targets FROM from
-abbrev pub into_targets : Gram Targets
+unfoldable pub into_targets : Gram Targets
 into_targets = behind_token (word w.Into) targets
 
-abbrev pub select_statement : Gram Simple
+unfoldable pub select_statement : Gram Simple
 select_statement = seq select_into (token (word w.Select)) (seq triple picks (seq pair into_targets (behind_token (word w.From) from_table)))
 
 -- INSERT INTO name [names] insert_source
-abbrev pub insert_statement : Gram Simple
+unfoldable pub insert_statement : Gram Simple
 insert_statement = seq insert_of (token (word w.Insert)) (behind_token (word w.Into) (seq triple (token name) (seq pair (optional names_in_parens) insert_source)))
 
 -- UPDATE name SET assignment {"," assignment} [where]
-abbrev pub assignments : Gram (Several Assignment)
+unfoldable pub assignments : Gram (Several Assignment)
 assignments = behind_token (word w.Set) (seq several assignment next_assignments)
 
-abbrev pub update_statement : Gram Simple
+unfoldable pub update_statement : Gram Simple
 update_statement = seq update_of (token (word w.Update)) (seq triple (token name) (seq pair assignments (optional where_part)))
 
-abbrev pub delete_statement : Gram Simple
+unfoldable pub delete_statement : Gram Simple
 delete_statement = seq delete_of (token (word w.Delete)) (behind_token (word w.From) (seq pair (token name) (optional where_part)))
 
-abbrev pub open_statement : Gram Simple
+unfoldable pub open_statement : Gram Simple
 open_statement = seq open_of (token (word w.Open)) (token name)
 
 -- FETCH [[NEXT] FROM] name INTO targets
-abbrev pub fetched : Gram (Identifier × Targets)
+unfoldable pub fetched : Gram (Identifier × Targets)
 fetched = seq pair (token name) into_targets
 
-abbrev pub fetch_from : Gram (Identifier × Targets)
+unfoldable pub fetch_from : Gram (Identifier × Targets)
 fetch_from = behind_token (word w.From) fetched
 
-abbrev pub fetch_rest : Gram (Identifier × Targets)
+unfoldable pub fetch_rest : Gram (Identifier × Targets)
 fetch_rest = or fetch_from
     (ahead (word_kind w.Next ∷ []) (word_kind w.From ∷ []) (behind_token (word w.Next) fetch_from) fetched)
 
-abbrev pub fetch_statement : Gram Simple
+unfoldable pub fetch_statement : Gram Simple
 fetch_statement = seq fetch_of (token (word w.Fetch)) fetch_rest
 
-abbrev pub close_statement : Gram Simple
+unfoldable pub close_statement : Gram Simple
 close_statement = seq close_of (token (word w.Close)) (token name)
 
 -- the statements about cursors and tables
-abbrev pub data_statement : Gram Simple
+unfoldable pub data_statement : Gram Simple
 data_statement = or select_statement
     (or insert_statement
     (or update_statement
@@ -245,7 +245,7 @@ data_statement = or select_statement
     (or fetch_statement
     close_statement)))))
 
-abbrev pub simple : Gram Simple
+unfoldable pub simple : Gram Simple
 simple = or set_statement
     (or call_statement
     (or return_statement
@@ -259,7 +259,7 @@ simple = or set_statement
 -- ---- statements
 
 -- block = BEGIN .. | LOOP .. | WHILE .. | REPEAT .. | FOR ..
-abbrev pub block : Gram Block
+unfoldable pub block : Gram Block
 block = or (level BeginRest (word w.Begin) compound_of)
     (or (level LoopRest (word w.Loop) loop_of)
     (or (level WhileRest (word w.While) while_of)
@@ -267,20 +267,20 @@ block = or (level BeginRest (word w.Begin) compound_of)
     (level ForRest (word w.For) for_of))))
 
 -- labelled = name ":" block [name]
-abbrev pub labelled_block : Gram (Block × Option Identifier)
+unfoldable pub labelled_block : Gram (Block × Option Identifier)
 labelled_block = behind_token (sign s.Colon) (seq pair block (optional (token name)))
 
-abbrev pub labelled_statement : Gram Statement
+unfoldable pub labelled_statement : Gram Statement
 labelled_statement = seq labelled (token name) labelled_block
 
-abbrev pub if_statement : Gram Statement
+unfoldable pub if_statement : Gram Statement
 if_statement = level IfRest (word w.If) if_of
 
-abbrev pub case_statement : Gram Statement
+unfoldable pub case_statement : Gram Statement
 case_statement = level CaseStatementRest (word w.Case) case_statement_of
 
 -- statement = labelled | IF .. | CASE .. | simple | block
-abbrev pub statement : Gram Statement
+unfoldable pub statement : Gram Statement
 statement = or labelled_statement
     (or if_statement
     (or case_statement
@@ -288,179 +288,185 @@ statement = or labelled_statement
     (image simple_statement simple))))
 
 -- statements = statement ";" {statement ";"}
-abbrev pub ended_statement : Gram Statement
+unfoldable pub ended_statement : Gram Statement
 ended_statement = before_token statement (sign s.Semicolon)
 
-abbrev pub ended_statements : Gram (List Statement)
+unfoldable pub ended_statements : Gram (List Statement)
 ended_statements = many ended_statement
 
-abbrev pub statements : Gram Statements
+unfoldable pub statements : Gram Statements
 statements = seq several ended_statement ended_statements
 
 -- ---- IF and CASE
 
 -- branch = expr THEN statements
-abbrev pub branch : Gram Branch
+unfoldable pub branch : Gram Branch
 branch = seq branch_of expr (behind_token (word w.Then) statements)
 
-abbrev pub otherwise_statements : Gram Statements
+unfoldable pub otherwise_statements : Gram Statements
 otherwise_statements = behind_token (word w.Else) statements
 
 -- if_rest = branch {ELSEIF branch} [ELSE statements] END IF
-abbrev pub elseif_branch : Gram Branch
+unfoldable pub elseif_branch : Gram Branch
 elseif_branch = behind_token (word w.ElseIf) branch
 
-abbrev pub elseif_branches : Gram (List Branch)
+unfoldable pub elseif_branches : Gram (List Branch)
 elseif_branches = many elseif_branch
 
-abbrev pub if_end : Gram (Option Statements)
+unfoldable pub if_end : Gram (Option Statements)
 if_end = before_token (before_token (optional otherwise_statements) (word w.End)) (word w.If)
 
-abbrev pub if_branches : Gram (Several Branch)
+unfoldable pub if_branches : Gram (Several Branch)
 if_branches = seq several branch elseif_branches
 
-abbrev pub if_rest : Gram Branches
+unfoldable pub if_rest : Gram Branches
 if_rest = seq branches_of if_branches if_end
 
 -- case_statement_rest = [expr] WHEN branch {WHEN branch} [ELSE statements] END CASE
-abbrev pub when_branch : Gram Branch
+unfoldable pub when_branch : Gram Branch
 when_branch = behind_token (word w.When) branch
 
-abbrev pub when_branches : Gram (List Branch)
+unfoldable pub when_branches : Gram (List Branch)
 when_branches = many when_branch
 
-abbrev pub case_end : Gram (Option Statements)
+unfoldable pub case_end : Gram (Option Statements)
 case_end = before_token (before_token (optional otherwise_statements) (word w.End)) (word w.Case)
 
-abbrev pub all_when_branches : Gram (Several Branch)
+unfoldable pub all_when_branches : Gram (Several Branch)
 all_when_branches = seq several when_branch when_branches
 
-abbrev pub case_branches : Gram Branches
+unfoldable pub case_branches : Gram Branches
 case_branches = seq branches_of all_when_branches case_end
 
-abbrev pub case_statement_rest : Gram (Option Expr × Branches)
+unfoldable pub case_statement_rest : Gram (Option Expr × Branches)
 case_statement_rest = or (image case_alone_statement case_branches) (seq case_over_statement expr case_branches)
 
 -- ---- loops
 
 -- loop_rest = statements END LOOP
-abbrev pub loop_rest : Gram Statements
+unfoldable pub loop_rest : Gram Statements
 loop_rest = before_token (before_token statements (word w.End)) (word w.Loop)
 
 -- while_rest = expr DO statements END WHILE
-abbrev pub while_body : Gram Statements
+unfoldable pub while_body : Gram Statements
 while_body = behind_token (word w.Do) (before_token (before_token statements (word w.End)) (word w.While))
 
-abbrev pub while_rest : Gram (Expr × Statements)
+unfoldable pub while_rest : Gram (Expr × Statements)
 while_rest = seq pair expr while_body
 
 -- repeat_rest = statements UNTIL expr END REPEAT
-abbrev pub until : Gram Expr
+unfoldable pub until : Gram Expr
 until = behind_token (word w.Until) (before_token (before_token expr (word w.End)) (word w.Repeat))
 
-abbrev pub repeat_rest : Gram (Statements × Expr)
+unfoldable pub repeat_rest : Gram (Statements × Expr)
 repeat_rest = seq pair statements until
 
 -- for_rest = name AS [name [INSENSITIVE] CURSOR FOR] select [order] DO statements END FOR
-abbrev pub insensitive : Gram Bool
+unfoldable pub insensitive : Gram Bool
 insensitive = or (image yes (token (word w.Insensitive))) (nothing false)
 
-abbrev pub for_cursor_part : Gram ForCursor
+unfoldable pub for_cursor_part : Gram ForCursor
 for_cursor_part = seq for_cursor (token name) (before_token (before_token insensitive (word w.Cursor)) (word w.For))
 
-abbrev pub for_body : Gram Statements
+unfoldable pub for_body : Gram Statements
 for_body = behind_token (word w.Do) (before_token (before_token statements (word w.End)) (word w.For))
 
-abbrev pub for_rest : Gram ForParts
+unfoldable pub for_rest : Gram ForParts
 for_rest = seq for_parts (token name) (behind_token (word w.As)
     (seq triple (optional for_cursor_part) (seq pair ordered_select for_body)))
 
 -- ---- declarations
 
 -- behind its first name: {"," name} type [DEFAULT source]
-abbrev pub default_source : Gram Expr
+unfoldable pub default_source : Gram Expr
 default_source = behind_token (word w.Default) source
 
-abbrev pub typed : Gram (DataType × Option Expr)
+unfoldable pub typed : Gram (DataType × Option Expr)
 typed = seq pair data_type (optional default_source)
 
-abbrev pub other_variables : Gram (List Identifier)
+unfoldable pub other_variables : Gram (List Identifier)
 other_variables = behind_token (sign s.Comma) (seq cons (token name) next_names)
 
 -- behind the name: CONDITION [FOR state], or what declares variables
-abbrev pub for_state : Gram State
+unfoldable pub for_state : Gram State
 for_state = behind_token (word w.For) state
 
-abbrev pub declaration_rest : Gram NamedRest
+unfoldable pub declaration_rest : Gram NamedRest
 declaration_rest = or (seq condition_of (token (word w.Condition)) (optional for_state))
     (or (seq variables_of other_variables typed)
     (seq one_variable data_type (optional default_source)))
 
 -- behind the name: [INSENSITIVE] CURSOR FOR select [order] [FOR (READ ONLY | UPDATE)]
-abbrev pub read_only_part : Gram Updatability
+unfoldable pub read_only_part : Gram Updatability
 read_only_part = behind_token (word w.Read) (image read_only (token (word w.Only)))
 
-abbrev pub updatability : Gram Updatability
+unfoldable pub updatability : Gram Updatability
 updatability = behind_token (word w.For) (or read_only_part (image updatable (token (word w.Update))))
 
-abbrev pub cursor_query : Gram (OrderedQuery × Option Updatability)
+unfoldable pub cursor_query : Gram (OrderedQuery × Option Updatability)
 cursor_query = behind_token (word w.For) (seq pair ordered_select (optional updatability))
 
-abbrev pub cursor_rest : Gram NamedRest
+unfoldable pub cursor_rest : Gram NamedRest
 cursor_rest = seq cursor_of (before_token insensitive (word w.Cursor)) cursor_query
 
 -- handler_rest = HANDLER FOR value {"," value} statement
-abbrev pub handler_value : Gram HandlerValue
+unfoldable pub handler_value : Gram HandlerValue
 handler_value = or (image state_value state)
     (or (image exception_value (token (word w.SqlException)))
     (or (image warning_value (token (word w.SqlWarning)))
     (or (seq not_found_value (token (word w.Not)) (token (word w.Found)))
     (image name_value (token name)))))
 
-abbrev pub next_handler_value : Gram HandlerValue
+unfoldable pub next_handler_value : Gram HandlerValue
 next_handler_value = behind_token (sign s.Comma) handler_value
 
-abbrev pub next_handler_values : Gram (List HandlerValue)
+unfoldable pub next_handler_values : Gram (List HandlerValue)
 next_handler_values = many next_handler_value
 
-abbrev pub handler_values : Gram (Several HandlerValue)
+unfoldable pub handler_values : Gram (Several HandlerValue)
 handler_values = seq several handler_value next_handler_values
 
-abbrev pub handler_rest : Gram HandlerParts
+unfoldable pub handler_rest : Gram HandlerParts
 handler_rest = behind_token (word w.Handler) (behind_token (word w.For)
     (seq handler_parts handler_values statement))
 
 -- ---- blocks
 
 -- body = {declaration ";"} {cursor ";"} {handler ";"} {statement ";"} END: each declaration says which may follow
-abbrev pub ending : Gram Body
+unfoldable pub ending : Gram Body
 ending = image undeclared (before_token ended_statements (word w.End))
 
-abbrev pub body_rest : Phase → Gram Body
+unfoldable pub body_rest : Phase → Gram Body
 body_rest phase = or (next (DeclareRest phase) (word w.Declare) declared) ending
 
-abbrev pub declared_handler : Gram (Declared × Body)
+unfoldable pub declared_handler : Gram (Declared × Body)
 declared_handler = seq pair (level HandlerRest handler_kind Handled) (next (BodyRest Handlers) (sign s.Semicolon) later)
 
-abbrev pub declared_cursor : Gram (NamedRest × Body)
+unfoldable pub declared_cursor : Gram (NamedRest × Body)
 declared_cursor = seq pair cursor_rest (next (BodyRest Cursors) (sign s.Semicolon) later)
 
-abbrev pub declared_variables : Gram (NamedRest × Body)
+unfoldable pub declared_variables : Gram (NamedRest × Body)
 declared_variables = seq pair declaration_rest (next (BodyRest Declarations) (sign s.Semicolon) later)
 
-abbrev pub declare_rest : Phase → Gram (Declared × Body)
+unfoldable pub declare_rest : Phase → Gram (Declared × Body)
 declare_rest Declarations = or declared_handler (seq named_rest (token name) (or declared_cursor declared_variables))
 declare_rest Cursors = or declared_handler (seq named_rest (token name) declared_cursor)
 declare_rest Handlers = declared_handler
 
 -- begin_rest = [[NOT] ATOMIC] body
-abbrev pub not_atomic : Gram Bool
+unfoldable pub not_atomic : Gram Bool
 not_atomic = behind_token (word w.Not) (image «no» (token (word w.Atomic)))
 
-abbrev pub atomic : Gram Bool
+unfoldable pub atomic : Gram Bool
 atomic = or (image yes (token (word w.Atomic)))
     (or not_atomic
     (nothing false))
 
-abbrev pub begin_rest : Gram (Bool × Body)
+unfoldable pub begin_rest : Gram (Bool × Body)
 begin_rest = seq pair atomic (body_rest Declarations)
+
+-- ---- a name that opens every production of statements, blocks and declarations
+
+unfoldable pub all_statements : Unit {0}
+unfolding all_expressions state_text state direction column_order next_column_order next_column_orders column_orders order ordered_select message state_signalled name_signalled signalled current which_rows where_part values next_values more_values all_values insert_values insert_source assignment next_assignment next_assignments statement_info next_statement_info next_statement_infos statement_infos condition_info next_condition_info next_condition_infos condition_infos condition_number exception_diagnostics diagnostics set_statement call_statement return_statement leave_statement iterate_statement signal_statement resignalled resignal_statement diagnostics_statement into_targets select_statement insert_statement assignments update_statement delete_statement open_statement fetched fetch_from fetch_rest fetch_statement close_statement data_statement simple block labelled_block labelled_statement if_statement case_statement statement ended_statement ended_statements statements branch otherwise_statements elseif_branch elseif_branches if_end if_branches if_rest when_branch when_branches case_end all_when_branches case_branches case_statement_rest loop_rest while_body while_rest until repeat_rest insensitive for_cursor_part for_body for_rest default_source typed other_variables for_state declaration_rest read_only_part updatability cursor_query cursor_rest handler_value next_handler_value next_handler_values handler_values handler_rest ending body_rest declared_handler declared_cursor declared_variables declare_rest not_atomic atomic begin_rest
+all_statements = tt
