@@ -13,3 +13,4 @@ pub mod Whole
 pub mod Moved
 pub mod Loops
 pub mod Answered
+pub mod Shorter

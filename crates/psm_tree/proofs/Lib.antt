@@ -3,3 +3,4 @@ pub mod StatementFits
 pub mod FileFits
 pub mod Readable
 pub mod Places
+pub mod Reading

@@ -9,6 +9,7 @@ pub mod StatementValues
 pub mod StatementGrammar
 pub mod Productions
 pub mod Reading
+pub mod Readers
 pub mod FileValues
 pub mod FileGrammar
 pub mod FaultTexts

@@ -18,40 +18,51 @@ use Rattle.psm_unplaced.proofs.StatementCarried.{state_carried, ordered_select_c
 -- ---- loops
 
 pub loop_carried : Carried statements_unplaced StatementGrammar.loop_rest
+unfolding StatementGrammar.all_statements
 loop_carried = carried_before (carried_before statements_carried)
 
 pub while_carried : Carried (both expr_unplaced statements_unplaced) StatementGrammar.while_rest
+unfolding StatementGrammar.all_statements
 while_carried = carried_pair expr_carried (carried_behind (carried_before (carried_before statements_carried)))
 
 pub repeat_carried : Carried (both statements_unplaced expr_unplaced) StatementGrammar.repeat_rest
+unfolding StatementGrammar.all_statements
 repeat_carried = carried_pair statements_carried (carried_behind (carried_before (carried_before expr_carried)))
 
 insensitive_carried : Carried same StatementGrammar.insensitive
+unfolding StatementGrammar.all_statements
 insensitive_carried = carried_or (carried_image carried_place (λ x. refl)) (carried_nothing refl)
 
 for_cursor_carried : Carried for_cursor_unplaced StatementGrammar.for_cursor_part
+unfolding StatementGrammar.all_statements
 for_cursor_carried = carried_seq carried_name (carried_before (carried_before insensitive_carried)) (λ x y. refl)
 
 for_body_carried : Carried statements_unplaced StatementGrammar.for_body
+unfolding StatementGrammar.all_statements
 for_body_carried = carried_behind (carried_before (carried_before statements_carried))
 
 pub for_carried : Carried for_parts_unplaced StatementGrammar.for_rest
+unfolding StatementGrammar.all_statements
 for_carried = carried_seq carried_name (carried_behind (carried_triple (carried_optional for_cursor_carried) (carried_pair ordered_select_carried for_body_carried))) (λ x y. refl)
 
 -- ---- declarations
 
 typed_carried : Carried (both type_unplaced (option_map expr_unplaced)) StatementGrammar.typed
+unfolding StatementGrammar.all_statements
 typed_carried = carried_pair data_type_carried (carried_optional (carried_behind source_carried))
 
 other_variables_carried : Carried (map name_unplaced) StatementGrammar.other_variables
+unfolding StatementGrammar.all_statements
 other_variables_carried = carried_behind (carried_cons carried_name next_names_carried)
 
 declaration_carried : Carried named_rest_unplaced StatementGrammar.declaration_rest
+unfolding StatementGrammar.all_statements
 declaration_carried = carried_or (carried_seq carried_place (carried_optional (carried_behind state_carried)) (λ x y. refl))
     (carried_or (carried_seq other_variables_carried typed_carried (λ x y. refl))
     (carried_seq data_type_carried (carried_optional (carried_behind source_carried)) (λ x y. refl)))
 
 updatability_carried : Carried same StatementGrammar.updatability
+unfolding StatementGrammar.all_statements
 updatability_carried = carried_behind (carried_or (carried_behind (carried_image carried_place (λ x. refl))) (carried_image carried_place (λ x. refl)))
 
 unchanged : {A : Type 0} (x : Option A) → option_map same x ≡ x
@@ -59,10 +70,12 @@ unchanged None = refl
 unchanged (Some x) = refl
 
 cursor_carried : Carried named_rest_unplaced StatementGrammar.cursor_rest
+unfolding StatementGrammar.all_statements
 cursor_carried = carried_seq (carried_before insensitive_carried) (carried_behind (carried_pair ordered_select_carried (carried_optional updatability_carried)))
     (λ x y. ap (Cursor x (ordered_query_unplaced y.0)) (unchanged y.1))
 
 handler_value_carried : Carried handler_value_unplaced StatementGrammar.handler_value
+unfolding StatementGrammar.all_statements
 handler_value_carried = carried_or (carried_image state_carried (λ x. refl))
     (carried_or (carried_image carried_place (λ x. refl))
     (carried_or (carried_image carried_place (λ x. refl))
@@ -70,6 +83,7 @@ handler_value_carried = carried_or (carried_image state_carried (λ x. refl))
     (carried_image carried_name (λ x. refl)))))
 
 pub handler_carried : Carried handler_parts_unplaced StatementGrammar.handler_rest
+unfolding StatementGrammar.all_statements
 handler_carried = carried_behind (carried_behind (carried_seq (carried_several handler_value_carried (carried_behind handler_value_carried)) statement_carried (λ x y. refl)))
 
 -- ---- blocks
@@ -85,26 +99,33 @@ declared_made place (Named name (Cursor insensitive query updatability)) body = 
 declared_made place (Handled kind p) body = handler_made place kind p body
 
 pub body_carried : (phase : Phase) → Carried body_unplaced (StatementGrammar.body_rest phase)
+unfolding StatementGrammar.all_statements
 body_carried phase = carried_or (carried_next (λ x y. declared_made x y.0 y.1)) (carried_image (carried_before ended_statements_carried) (λ x. refl))
 
 declared_handler_carried : Carried (both declared_unplaced body_unplaced) StatementGrammar.declared_handler
+unfolding StatementGrammar.all_statements
 declared_handler_carried = carried_pair (carried_level_at handler_kind_of (λ x y. refl)) (carried_next (λ x y. refl))
 
 declared_cursor_carried : Carried (both named_rest_unplaced body_unplaced) StatementGrammar.declared_cursor
+unfolding StatementGrammar.all_statements
 declared_cursor_carried = carried_pair cursor_carried (carried_next (λ x y. refl))
 
 declared_variables_carried : Carried (both named_rest_unplaced body_unplaced) StatementGrammar.declared_variables
+unfolding StatementGrammar.all_statements
 declared_variables_carried = carried_pair declaration_carried (carried_next (λ x y. refl))
 
 pub declare_carried : (phase : Phase) → Carried (both declared_unplaced body_unplaced) (StatementGrammar.declare_rest phase)
+unfolding StatementGrammar.all_statements
 declare_carried Declarations = carried_or declared_handler_carried (carried_seq carried_name (carried_or declared_cursor_carried declared_variables_carried) (λ x y. refl))
 declare_carried Cursors = carried_or declared_handler_carried (carried_seq carried_name declared_cursor_carried (λ x y. refl))
 declare_carried Handlers = declared_handler_carried
 
 atomic_carried : Carried same StatementGrammar.atomic
+unfolding StatementGrammar.all_statements
 atomic_carried = carried_or (carried_image carried_place (λ x. refl))
     (carried_or (carried_behind (carried_image carried_place (λ x. refl)))
     (carried_nothing refl))
 
 pub begin_carried : Carried (both same body_unplaced) StatementGrammar.begin_rest
+unfolding StatementGrammar.all_statements
 begin_carried = carried_pair atomic_carried (body_carried Declarations)

@@ -31,26 +31,33 @@ use Rattle.psm_unplaced.proofs.Carried.{Carried, carried_token, carried_place, c
 -- ---- names
 
 second_name_carried : Carried name_unplaced ExprGrammar.second_name
+unfolding ExprGrammar.all_expressions
 second_name_carried = carried_behind carried_name
 
 pub target_carried : Carried target_unplaced ExprGrammar.target
+unfolding ExprGrammar.all_expressions
 target_carried = carried_seq carried_name (carried_optional second_name_carried) (λ x y. refl)
 
 pub next_names_carried : Carried (map name_unplaced) ExprGrammar.next_names
+unfolding ExprGrammar.all_expressions
 next_names_carried = carried_many (carried_behind carried_name)
 
 names_carried : Carried names_unplaced ExprGrammar.names
+unfolding ExprGrammar.all_expressions
 names_carried = carried_several carried_name (carried_behind carried_name)
 
 pub names_in_parens_carried : Carried names_unplaced ExprGrammar.names_in_parens
+unfolding ExprGrammar.all_expressions
 names_in_parens_carried = carried_within names_carried
 
 pub targets_carried : Carried targets_unplaced ExprGrammar.targets
+unfolding ExprGrammar.all_expressions
 targets_carried = carried_several target_carried (carried_behind target_carried)
 
 -- ---- types and constants
 
 type_length_carried : Carried at_unplaced ExprGrammar.type_length
+unfolding ExprGrammar.all_expressions
 type_length_carried = carried_within (carried_at number_of)
 
 precision_made : (precision : At Num) (scale : Option (At Num)) → precision_of (at_unplaced precision) (option_map at_unplaced scale) ≡ precision_of precision scale
@@ -58,6 +65,7 @@ precision_made precision None = refl
 precision_made precision (Some scale) = refl
 
 precision_carried : Carried same ExprGrammar.precision
+unfolding ExprGrammar.all_expressions
 precision_carried = carried_within (carried_seq (carried_at number_of) (carried_optional (carried_behind (carried_at number_of))) precision_made)
 
 numeric_made : (place : Place) (precision : Option Precision) → numeric_of origin (option_map same precision) ≡ type_unplaced (numeric_of place precision)
@@ -65,21 +73,26 @@ numeric_made place None = refl
 numeric_made place (Some precision) = refl
 
 pub plain_type_carried : Carried type_unplaced ExprGrammar.plain_type
+unfolding ExprGrammar.all_expressions
 plain_type_carried = carried_or (carried_image carried_place (λ x. refl))
     (carried_or (carried_image carried_place (λ x. refl))
     (carried_or (carried_seq carried_place (carried_optional precision_carried) numeric_made)
     (carried_seq carried_place (carried_image {h = same} type_length_carried (λ x. refl)) (λ x y. refl))))
 
 pub varying_carried : Carried same ExprGrammar.varying
+unfolding ExprGrammar.all_expressions
 varying_carried = carried_behind (carried_image type_length_carried (λ x. refl))
 
 pub char_length_carried : Carried same ExprGrammar.char_length
+unfolding ExprGrammar.all_expressions
 char_length_carried = carried_or (carried_image type_length_carried (λ x. refl)) (carried_nothing refl)
 
 pub data_type_carried : Carried type_unplaced ExprGrammar.data_type
+unfolding ExprGrammar.all_expressions
 data_type_carried = carried_or (carried_seq carried_place (carried_or varying_carried char_length_carried) (λ x y. refl)) plain_type_carried
 
 pub constant_carried : Carried constant_unplaced ExprGrammar.constant
+unfolding ExprGrammar.all_expressions
 constant_carried = carried_or (carried_image (carried_at number_of) (λ x. refl))
     (carried_or (carried_image (carried_at characters_of) (λ x. refl))
     (carried_or (carried_image carried_place (λ x. refl))
@@ -88,6 +101,7 @@ constant_carried = carried_or (carried_image (carried_at number_of) (λ x. refl)
 -- ---- primaries
 
 name_rest_carried : Carried name_rest_unplaced ExprGrammar.name_rest
+unfolding ExprGrammar.all_expressions
 name_rest_carried = carried_or (carried_image second_name_carried (λ x. refl))
     (carried_or (carried_level (λ x y. refl))
     (carried_nothing refl))
@@ -117,7 +131,7 @@ substring_made : (place : Place) (p : Expr × Expr × Option Expr) → substring
 substring_made place p = substring_by_parts place p.0 p.1 p.2
 
 worded_carried : Carried expr_unplaced ExprGrammar.worded_primary
-unfolding roll-Expr Carrier.roll
+unfolding roll-Expr Carrier.roll ExprGrammar.all_expressions
 worded_carried = carried_or (carried_level (λ x y. sym (expr_rolled (layers.Exists x y))))
     (carried_or (carried_level case_made)
     (carried_or (carried_level (λ x y. sym (expr_rolled (layers.Cast x y.0 y.1))))
@@ -142,6 +156,7 @@ unfolding roll-Expr Carrier.roll
 text_made text = sym (expr_rolled (layers.Text text.place text.value))
 
 primary_carried : Carried expr_unplaced ExprGrammar.primary
+unfolding ExprGrammar.all_expressions
 primary_carried = carried_or (carried_image (carried_at number_of) number_made)
     (carried_or (carried_image (carried_at characters_of) text_made)
     (carried_or (carried_seq carried_name name_rest_carried named_made)
@@ -163,29 +178,37 @@ chain_made first [] = refl
 chain_made first (link ∷ rest) = sym (expr_rolled (layers.Chain first (link ∷ rest)))
 
 factor_carried : Carried expr_unplaced ExprGrammar.factor
+unfolding ExprGrammar.all_expressions
 factor_carried = carried_or (carried_seq (carried_at sign_of) primary_carried signed_made) primary_carried
 
 term_operator_carried : Carried same (token term_operator)
+unfolding ExprGrammar.all_expressions
 term_operator_carried = carried_token (λ t. refl)
 
 term_carried : Carried expr_unplaced ExprGrammar.term
+unfolding ExprGrammar.all_expressions
 term_carried = carried_seq factor_carried (carried_many (carried_seq term_operator_carried factor_carried link_made)) chain_made
 
 sum_operator_carried : Carried same (token sum_operator)
+unfolding ExprGrammar.all_expressions
 sum_operator_carried = carried_token (λ t. refl)
 
 sum_carried : Carried expr_unplaced ExprGrammar.sum
+unfolding ExprGrammar.all_expressions
 sum_carried = carried_seq term_carried (carried_many (carried_seq sum_operator_carried term_carried link_made)) chain_made
 
 -- ---- conditions
 
 between_carried : Carried (both expr_unplaced expr_unplaced) ExprGrammar.between
+unfolding ExprGrammar.all_expressions
 between_carried = carried_behind (carried_pair sum_carried (carried_behind sum_carried))
 
 in_list_carried : Carried (several_map expr_unplaced) ExprGrammar.in_list
+unfolding ExprGrammar.all_expressions
 in_list_carried = carried_behind (carried_within (carried_several sum_carried (carried_behind sum_carried)))
 
 like_carried : Carried (both expr_unplaced (option_map expr_unplaced)) ExprGrammar.like
+unfolding ExprGrammar.all_expressions
 like_carried = carried_behind (carried_pair sum_carried (carried_optional (carried_behind sum_carried)))
 
 null_made : (negation : Option Place) (place : Place) → null_of (option_map place_unplaced negation) origin ≡ test_unplaced (null_of negation place)
@@ -193,20 +216,25 @@ null_made None place = refl
 null_made (Some negation) place = refl
 
 is_null_carried : Carried test_unplaced ExprGrammar.is_null
+unfolding ExprGrammar.all_expressions
 is_null_carried = carried_behind (carried_seq (carried_optional carried_place) carried_place null_made)
 
 comparison_carried : Carried same (token comparison)
+unfolding ExprGrammar.all_expressions
 comparison_carried = carried_token (λ t. refl)
 
 compare_carried : Carried test_unplaced ExprGrammar.compare
+unfolding ExprGrammar.all_expressions
 compare_carried = carried_seq comparison_carried sum_carried (λ x y. refl)
 
 negated_test_carried : Carried test_unplaced ExprGrammar.negated_test
+unfolding ExprGrammar.all_expressions
 negated_test_carried = carried_behind (carried_or (carried_image between_carried (λ x. refl))
     (carried_or (carried_image in_list_carried (λ x. refl))
     (carried_image like_carried (λ x. refl))))
 
 test_carried : Carried test_unplaced ExprGrammar.test
+unfolding ExprGrammar.all_expressions
 test_carried = carried_or compare_carried
     (carried_or is_null_carried
     (carried_or negated_test_carried
@@ -230,9 +258,11 @@ unfolding roll-Expr Carrier.roll
 negated_made place condition = sym (expr_rolled (layers.Not place condition))
 
 predicate_carried : Carried expr_unplaced ExprGrammar.predicate
+unfolding ExprGrammar.all_expressions
 predicate_carried = carried_seq sum_carried test_carried predicate_made
 
 negation_carried : Carried expr_unplaced ExprGrammar.negation
+unfolding ExprGrammar.all_expressions
 negation_carried = carried_or (carried_seq carried_place predicate_carried negated_made) predicate_carried
 
 joined_made : (junction : Junction) (first : Expr) (rest : List Expr) → joined junction (expr_unplaced first) (map expr_unplaced rest) ≡ expr_unplaced (joined junction first rest)
@@ -241,9 +271,11 @@ joined_made junction first [] = refl
 joined_made junction first (next ∷ rest) = sym (expr_rolled (layers.Junction junction (several first (next ∷ rest))))
 
 conjunction_carried : Carried expr_unplaced ExprGrammar.conjunction
+unfolding ExprGrammar.all_expressions
 conjunction_carried = carried_seq negation_carried (carried_many (carried_behind negation_carried)) (joined_made junctions.And)
 
 pub expr_carried : Carried expr_unplaced ExprGrammar.expr
+unfolding ExprGrammar.all_expressions
 expr_carried = carried_seq conjunction_carried (carried_many (carried_behind conjunction_carried)) (joined_made junctions.Or)
 
 null_source_made : (place : Place) → null_source origin ≡ expr_unplaced (null_source place)
@@ -251,9 +283,11 @@ unfolding roll-Expr Carrier.roll
 null_source_made place = sym (expr_rolled (layers.Null place))
 
 pub source_carried : Carried expr_unplaced ExprGrammar.source
+unfolding ExprGrammar.all_expressions
 source_carried = carried_or (carried_image carried_place null_source_made) expr_carried
 
 pub sources_carried : Carried (several_map expr_unplaced) ExprGrammar.sources
+unfolding ExprGrammar.all_expressions
 sources_carried = carried_several source_carried (carried_behind source_carried)
 
 -- ---- queries
@@ -263,11 +297,13 @@ count_made place None = refl
 count_made place (Some argument) = refl
 
 item_carried : Carried item_unplaced ExprGrammar.item
+unfolding ExprGrammar.all_expressions
 item_carried = carried_or (carried_seq carried_place (carried_within (carried_or (carried_image carried_place (λ x. refl)) (carried_image expr_carried (λ x. refl)))) count_made)
     (carried_or (carried_seq (carried_at set_function_of) (carried_within expr_carried) (λ x y. refl))
     (carried_image expr_carried (λ x. refl)))
 
 alias_carried : Carried alias_unplaced ExprGrammar.alias
+unfolding ExprGrammar.all_expressions
 alias_carried = carried_or (carried_image (carried_behind carried_name) (λ x. refl))
     (carried_or (carried_image carried_name (λ x. refl))
     (carried_nothing refl))
@@ -279,6 +315,7 @@ pick_made (Rows place) alias = sym (pick_rolled (layers.CountRows place alias))
 pick_made (Aggregate place function argument) alias = sym (pick_rolled (layers.Aggregate place function argument alias))
 
 pick_carried : Carried pick_unplaced ExprGrammar.pick
+unfolding ExprGrammar.all_expressions
 pick_carried = carried_seq item_carried alias_carried pick_made
 
 all_picks_made : (place : Place) → all_picks origin ≡ several_map pick_unplaced (all_picks place)
@@ -286,9 +323,11 @@ unfolding roll-Pick Carrier.roll
 all_picks_made place = ap (λ p. several p []) (sym (pick_rolled (layers.All place)))
 
 pub picks_carried : Carried (several_map pick_unplaced) ExprGrammar.picks
+unfolding ExprGrammar.all_expressions
 picks_carried = carried_or (carried_image carried_place all_picks_made) (carried_several pick_carried (carried_behind pick_carried))
 
 pub from_table_carried : Carried from_unplaced ExprGrammar.from_table
+unfolding ExprGrammar.all_expressions
 from_table_carried = carried_seq carried_name (carried_pair alias_carried (carried_optional (carried_behind expr_carried))) (λ x y. refl)
 
 pub select_made : (place : Place) (picks : Several Pick) (table : Identifier) (alias : Option Identifier) (condition : Option Expr) → select_of origin (several_map pick_unplaced picks, from_unplaced (record { table = table; alias = alias; condition = condition })) ≡ select_unplaced (select_of place (picks, record { table = table; alias = alias; condition = condition }))
@@ -296,51 +335,66 @@ select_made place picks table alias None = sym (select_rolled (record { place = 
 select_made place picks table alias (Some condition) = sym (select_rolled (record { place = place; picks = picks; table = table; alias = alias; condition = Some condition }))
 
 pub select_carried : Carried select_unplaced ExprGrammar.select
+unfolding ExprGrammar.all_expressions
 select_carried = carried_seq carried_place (carried_pair picks_carried (carried_behind from_table_carried)) (λ x y. select_made x y.0 y.1.table y.1.alias y.1.condition)
 
 -- ---- what stands behind a token that opens a level
 
 pub enclosed_carried : Carried inside_unplaced ExprGrammar.enclosed
+unfolding ExprGrammar.all_expressions
 enclosed_carried = carried_or (carried_before (carried_image select_carried (λ x. refl))) (carried_before (carried_image expr_carried (λ x. refl)))
 
 pub arguments_carried : Carried (map expr_unplaced) ExprGrammar.arguments
+unfolding ExprGrammar.all_expressions
 arguments_carried = carried_or (carried_image carried_place (λ x. refl)) (carried_before (carried_cons source_carried (carried_many (carried_behind source_carried))))
 
 pub exists_carried : Carried select_unplaced ExprGrammar.exists_rest
+unfolding ExprGrammar.all_expressions
 exists_carried = carried_within select_carried
 
 when_made : (test result : Expr) → when_of (expr_unplaced test) (expr_unplaced result) ≡ when_unplaced (when_of test result)
 when_made test result = sym (when_rolled (record { test = test; result = result }))
 
 when_carried : Carried when_unplaced ExprGrammar.when
+unfolding ExprGrammar.all_expressions
 when_carried = carried_behind (carried_seq expr_carried (carried_behind source_carried) when_made)
 
 whens_carried : Carried whens_unplaced ExprGrammar.whens
+unfolding ExprGrammar.all_expressions
 whens_carried = carried_seq (carried_several when_carried when_carried) (carried_before (carried_optional (carried_behind source_carried))) (λ x y. refl)
 
 pub case_carried : Carried cases_unplaced ExprGrammar.case_rest
+unfolding ExprGrammar.all_expressions
 case_carried = carried_or (carried_image whens_carried (λ x. refl)) (carried_seq expr_carried whens_carried (λ x y. refl))
 
 pub cast_carried : Carried (both expr_unplaced type_unplaced) ExprGrammar.cast_rest
+unfolding ExprGrammar.all_expressions
 cast_carried = carried_within (carried_pair source_carried (carried_behind data_type_carried))
 
 pub coalesce_carried : Carried (several_map expr_unplaced) ExprGrammar.coalesce_rest
+unfolding ExprGrammar.all_expressions
 coalesce_carried = carried_within sources_carried
 
 pub nullif_carried : Carried (both expr_unplaced expr_unplaced) ExprGrammar.nullif_rest
+unfolding ExprGrammar.all_expressions
 nullif_carried = carried_within (carried_pair expr_carried (carried_behind expr_carried))
 
 pub function_carried : Carried expr_unplaced ExprGrammar.function_rest
+unfolding ExprGrammar.all_expressions
 function_carried = carried_within expr_carried
 
 pub position_carried : Carried (both expr_unplaced expr_unplaced) ExprGrammar.position_rest
+unfolding ExprGrammar.all_expressions
 position_carried = carried_within (carried_pair sum_carried (carried_behind sum_carried))
 
 pub substring_carried : Carried (all_three expr_unplaced expr_unplaced (option_map expr_unplaced)) ExprGrammar.substring_rest
+unfolding ExprGrammar.all_expressions
 substring_carried = carried_within (carried_triple expr_carried (carried_behind (carried_pair expr_carried (carried_optional (carried_behind expr_carried)))))
 
 trim_side_carried : Carried same (token trim_side)
+unfolding ExprGrammar.all_expressions
 trim_side_carried = carried_token (λ t. refl)
 
 pub trim_carried : Carried (both same expr_unplaced) ExprGrammar.trim_rest
+unfolding ExprGrammar.all_expressions
 trim_carried = carried_behind (carried_ahead (carried_before (carried_pair trim_side_carried (carried_behind expr_carried))) (carried_before (carried_image expr_carried (λ x. refl))))

@@ -19,50 +19,62 @@ use Rattle.psm_unplaced.proofs.StatementCarried.{ordered_select_carried, stateme
 -- ---- tables
 
 plain_column_rule_carried : Carried column_rule_unplaced FileGrammar.plain_column_rule
+unfolding FileGrammar.all_files
 plain_column_rule_carried = carried_or (carried_seq carried_place carried_place (λ x y. refl))
     (carried_or (carried_seq carried_place carried_place (λ x y. refl))
     (carried_or (carried_image carried_place (λ x. refl))
     (carried_seq carried_place (carried_within expr_carried) (λ x y. refl))))
 
 column_rule_carried : Carried column_rule_unplaced FileGrammar.column_rule
+unfolding FileGrammar.all_files
 column_rule_carried = carried_or (carried_behind (carried_seq carried_name plain_column_rule_carried (λ x y. refl))) plain_column_rule_carried
 
 column_carried : Carried element_unplaced FileGrammar.column
+unfolding FileGrammar.all_files
 column_carried = carried_seq carried_name (carried_triple data_type_carried
     (carried_pair (carried_optional (carried_behind constant_carried)) (carried_many column_rule_carried))) (λ x y. refl)
 
 plain_table_rule_carried : Carried table_rule_unplaced FileGrammar.plain_table_rule
+unfolding FileGrammar.all_files
 plain_table_rule_carried = carried_or (carried_seq carried_place (carried_behind names_in_parens_carried) (λ x y. refl))
     (carried_or (carried_seq carried_place names_in_parens_carried (λ x y. refl))
     (carried_seq carried_place (carried_within expr_carried) (λ x y. refl)))
 
 table_rule_carried : Carried table_rule_unplaced FileGrammar.table_rule
+unfolding FileGrammar.all_files
 table_rule_carried = carried_or (carried_behind (carried_seq carried_name plain_table_rule_carried (λ x y. refl))) plain_table_rule_carried
 
 element_carried : Carried element_unplaced FileGrammar.element
+unfolding FileGrammar.all_files
 element_carried = carried_or column_carried (carried_image table_rule_carried (λ x. refl))
 
 abbrev table_rest_unplaced : TableRest → TableRest
 table_rest_unplaced t = record { name = name_unplaced t.name; elements = several_map element_unplaced t.elements }
 
 table_carried : Carried table_rest_unplaced FileGrammar.table
+unfolding FileGrammar.all_files
 table_carried = carried_seq carried_name (carried_within (carried_several element_carried (carried_behind element_carried))) (λ x y. refl)
 
 -- ---- routines
 
 named_type_carried : Carried (both name_unplaced type_unplaced) FileGrammar.named_type
+unfolding FileGrammar.all_files
 named_type_carried = carried_pair carried_name data_type_carried
 
 param_carried : Carried parameter_unplaced FileGrammar.param
+unfolding FileGrammar.all_files
 param_carried = carried_or (carried_seq (carried_at mode_of) named_type_carried (λ x y. refl)) (carried_image named_type_carried (λ x. refl))
 
 params_carried : Carried (map parameter_unplaced) FileGrammar.params
+unfolding FileGrammar.all_files
 params_carried = carried_behind (carried_or (carried_image carried_place (λ x. refl)) (carried_before (carried_cons param_carried (carried_many (carried_behind param_carried)))))
 
 sql_data_carried : Carried place_unplaced FileGrammar.sql_data
+unfolding FileGrammar.all_files
 sql_data_carried = carried_behind carried_place
 
 note_carried : Carried note_unplaced FileGrammar.note
+unfolding FileGrammar.all_files
 note_carried = carried_or (carried_seq carried_place carried_place (λ x y. refl))
     (carried_or (carried_image carried_place (λ x. refl))
     (carried_or (carried_seq carried_place carried_place (λ x y. refl))
@@ -74,15 +86,18 @@ abbrev noted_unplaced : List Note × Statement → List Note × Statement
 noted_unplaced = both (map note_unplaced) statement_unplaced
 
 noted_carried : Carried noted_unplaced FileGrammar.noted_statement
+unfolding FileGrammar.all_files
 noted_carried = carried_pair (carried_many note_carried) statement_carried
 
 abbrev procedure_rest_unplaced : ProcedureRest → ProcedureRest
 procedure_rest_unplaced r = record { name = name_unplaced r.name; parameters = map parameter_unplaced r.parameters; notes = map note_unplaced r.notes; body = statement_unplaced r.body }
 
 procedure_carried : Carried routine_unplaced FileGrammar.procedure
+unfolding FileGrammar.all_files
 procedure_carried = carried_seq carried_place (carried_seq {h = procedure_rest_unplaced} carried_name (carried_pair params_carried noted_carried) (λ x y. refl)) (λ x y. refl)
 
 returned_carried : Carried (both type_unplaced noted_unplaced) FileGrammar.returned
+unfolding FileGrammar.all_files
 returned_carried = carried_or (carried_seq carried_place (carried_ahead {h = both same noted_unplaced} (carried_pair varying_carried noted_carried) (carried_pair char_length_carried noted_carried)) (λ x y. refl))
     (carried_pair plain_type_carried noted_carried)
 
@@ -90,9 +105,11 @@ abbrev function_rest_unplaced : FunctionRest → FunctionRest
 function_rest_unplaced r = record { name = name_unplaced r.name; parameters = map parameter_unplaced r.parameters; returns = type_unplaced r.returns; notes = map note_unplaced r.notes; body = statement_unplaced r.body }
 
 function_carried : Carried routine_unplaced FileGrammar.function
+unfolding FileGrammar.all_files
 function_carried = carried_seq carried_place (carried_seq {h = function_rest_unplaced} carried_name (carried_pair params_carried (carried_behind returned_carried)) (λ x y. refl)) (λ x y. refl)
 
 routine_carried : Carried routine_unplaced FileGrammar.routine
+unfolding FileGrammar.all_files
 routine_carried = carried_or (carried_behind (carried_or procedure_carried function_carried)) (carried_or procedure_carried function_carried)
 
 -- ---- files
@@ -101,9 +118,11 @@ abbrev module_rest_unplaced : ModuleRest → ModuleRest
 module_rest_unplaced m = record { name = name_unplaced m.name; routines = map routine_unplaced m.routines }
 
 module_carried : Carried module_rest_unplaced FileGrammar.module_part
+unfolding FileGrammar.all_files
 module_carried = carried_behind (carried_seq carried_name (carried_pair (carried_optional (carried_behind carried_place)) (carried_before (carried_before (carried_many (carried_before routine_carried))))) (λ x y. refl))
 
 created_tables_carried : Carried (map (both table_rest_unplaced place_unplaced)) FileGrammar.created_tables
+unfolding FileGrammar.all_files
 created_tables_carried = carried_many (carried_behind (carried_pair table_carried (carried_behind carried_place)))
 
 tables_made : (place : Place) (ts : List (TableRest × Place)) → tables_from origin (map (both table_rest_unplaced place_unplaced) ts) ≡ map table_unplaced (tables_from place ts)
@@ -121,24 +140,30 @@ file_made place p = λ i. record {
 }
 
 pub file_carried : Carried file_unplaced FileGrammar.file
+unfolding FileGrammar.all_files
 file_carried = carried_seq carried_place (carried_pair created_tables_carried (carried_seq module_carried (carried_optional carried_place) (λ x y. refl))) file_made
 
 -- ---- scripts
 
 argument_carried : Carried argument_unplaced FileGrammar.argument
+unfolding FileGrammar.all_files
 argument_carried = carried_or (carried_image carried_place (λ x. refl)) (carried_image constant_carried (λ x. refl))
 
 script_arguments_carried : Carried (map argument_unplaced) FileGrammar.script_arguments
+unfolding FileGrammar.all_files
 script_arguments_carried = carried_or (carried_image carried_place (λ x. refl)) (carried_before (carried_cons argument_carried (carried_many (carried_behind argument_carried))))
 
 row_carried : Carried row_unplaced FileGrammar.row
+unfolding FileGrammar.all_files
 row_carried = carried_seq carried_place (carried_before (carried_several constant_carried (carried_behind constant_carried))) (λ x y. refl)
 
 inserting_carried : Carried command_unplaced FileGrammar.script_insert
+unfolding FileGrammar.all_files
 inserting_carried = carried_seq carried_place (carried_behind (carried_triple carried_name
     (carried_pair (carried_optional names_in_parens_carried) (carried_behind (carried_several row_carried (carried_behind row_carried)))))) (λ x y. refl)
 
 command_carried : Carried command_unplaced FileGrammar.command
+unfolding FileGrammar.all_files
 command_carried = carried_or (carried_seq carried_place (carried_pair carried_name (carried_behind script_arguments_carried)) (λ x y. refl))
     (carried_or inserting_carried
     (carried_or (carried_image ordered_select_carried (λ x. refl))
@@ -146,4 +171,5 @@ command_carried = carried_or (carried_seq carried_place (carried_pair carried_na
     (carried_seq carried_place (carried_optional carried_place) (λ x y. refl)))))
 
 pub script_carried : Carried script_unplaced FileGrammar.script
+unfolding FileGrammar.all_files
 script_carried = carried_image (carried_many (carried_before command_carried)) (λ x. refl)

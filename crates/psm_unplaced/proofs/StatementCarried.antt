@@ -28,88 +28,113 @@ use Rattle.psm_unplaced.proofs.ExprCarried.{target_carried, names_in_parens_carr
 -- ---- parts of statements
 
 pub state_carried : Carried state_unplaced StatementGrammar.state
+unfolding StatementGrammar.all_statements
 state_carried = carried_seq carried_place (carried_or (carried_behind (carried_at characters_of)) (carried_at characters_of)) (λ x y. refl)
 
 direction_carried : Carried same StatementGrammar.direction
+unfolding StatementGrammar.all_statements
 direction_carried = carried_or (carried_image carried_place (λ x. refl))
     (carried_or (carried_image carried_place (λ x. refl))
     (carried_nothing refl))
 
 column_order_carried : Carried order_column_unplaced StatementGrammar.column_order
+unfolding StatementGrammar.all_statements
 column_order_carried = carried_seq carried_name direction_carried (λ x y. refl)
 
 order_carried : Carried order_unplaced StatementGrammar.order
+unfolding StatementGrammar.all_statements
 order_carried = carried_seq carried_place (carried_behind (carried_several column_order_carried (carried_behind column_order_carried))) (λ x y. refl)
 
 pub ordered_select_carried : Carried ordered_query_unplaced StatementGrammar.ordered_select
+unfolding StatementGrammar.all_statements
 ordered_select_carried = carried_seq select_carried (carried_optional order_carried) (λ x y. refl)
 
 message_carried : Carried expr_unplaced StatementGrammar.message
+unfolding StatementGrammar.all_statements
 message_carried = carried_behind (carried_behind (carried_behind expr_carried))
 
 state_signalled_carried : Carried signalled_unplaced StatementGrammar.state_signalled
+unfolding StatementGrammar.all_statements
 state_signalled_carried = carried_seq (carried_image {h = StatementUnplaced.condition_unplaced} state_carried (λ x. refl)) (carried_optional message_carried) (λ x y. refl)
 
 name_signalled_carried : Carried signalled_unplaced StatementGrammar.name_signalled
+unfolding StatementGrammar.all_statements
 name_signalled_carried = carried_seq (carried_image {h = StatementUnplaced.condition_unplaced} carried_name (λ x. refl)) (carried_optional message_carried) (λ x y. refl)
 
 where_carried : Carried where_unplaced StatementGrammar.where_part
+unfolding StatementGrammar.all_statements
 where_carried = carried_behind (carried_or (carried_behind (carried_behind (carried_image carried_name (λ x. refl)))) (carried_image expr_carried (λ x. refl)))
 
 values_carried : Carried values_unplaced StatementGrammar.values
+unfolding StatementGrammar.all_statements
 values_carried = carried_seq carried_place (carried_before sources_carried) (λ x y. refl)
 
 insert_source_carried : Carried insert_source_unplaced StatementGrammar.insert_source
+unfolding StatementGrammar.all_statements
 insert_source_carried = carried_or (carried_behind (carried_image (carried_several values_carried (carried_behind values_carried)) (λ x. refl))) (carried_image select_carried (λ x. refl))
 
 assignment_carried : Carried assignment_unplaced StatementGrammar.assignment
+unfolding StatementGrammar.all_statements
 assignment_carried = carried_seq carried_name (carried_behind source_carried) (λ x y. refl)
 
 -- ---- GET DIAGNOSTICS
 
 statement_info_carried : Carried statement_info_unplaced StatementGrammar.statement_info
+unfolding StatementGrammar.all_statements
 statement_info_carried = carried_seq target_carried (carried_behind (carried_at statement_item_of)) (λ x y. refl)
 
 condition_info_carried : Carried condition_info_unplaced StatementGrammar.condition_info
+unfolding StatementGrammar.all_statements
 condition_info_carried = carried_seq target_carried (carried_behind (carried_at condition_item_of)) (λ x y. refl)
 
 condition_number_carried : Carried StatementUnplaced.condition_number_unplaced StatementGrammar.condition_number
+unfolding StatementGrammar.all_statements
 condition_number_carried = carried_or (carried_image (carried_at number_of) (λ x. refl)) (carried_image target_carried (λ x. refl))
 
 diagnostics_carried : Carried diagnostics_unplaced StatementGrammar.diagnostics
+unfolding StatementGrammar.all_statements
 diagnostics_carried = carried_or (carried_behind (carried_seq condition_number_carried (carried_several condition_info_carried (carried_behind condition_info_carried)) (λ x y. refl)))
     (carried_image (carried_several statement_info_carried (carried_behind statement_info_carried)) (λ x. refl))
 
 -- ---- simple statements
 
 resignalled_carried : Carried (option_map signalled_unplaced) StatementGrammar.resignalled
+unfolding StatementGrammar.all_statements
 resignalled_carried = carried_or (carried_image state_signalled_carried (λ x. refl))
     (carried_or (carried_image name_signalled_carried (λ x. refl))
     (carried_nothing refl))
 
 into_targets_carried : Carried targets_unplaced StatementGrammar.into_targets
+unfolding StatementGrammar.all_statements
 into_targets_carried = carried_behind targets_carried
 
 select_statement_carried : Carried simple_unplaced StatementGrammar.select_statement
+unfolding StatementGrammar.all_statements
 select_statement_carried = carried_seq carried_place (carried_triple picks_carried (carried_pair into_targets_carried (carried_behind from_table_carried)))
     (λ x y. ap (λ query. simples.SelectInto query (targets_unplaced y.1)) (select_made x y.0 y.2.table y.2.alias y.2.condition))
 
 insert_statement_carried : Carried simple_unplaced StatementGrammar.insert_statement
+unfolding StatementGrammar.all_statements
 insert_statement_carried = carried_seq carried_place (carried_behind (carried_triple carried_name (carried_pair (carried_optional names_in_parens_carried) insert_source_carried))) (λ x y. refl)
 
 update_statement_carried : Carried simple_unplaced StatementGrammar.update_statement
+unfolding StatementGrammar.all_statements
 update_statement_carried = carried_seq carried_place (carried_triple carried_name (carried_pair (carried_behind (carried_several assignment_carried (carried_behind assignment_carried))) (carried_optional where_carried))) (λ x y. refl)
 
 delete_statement_carried : Carried simple_unplaced StatementGrammar.delete_statement
+unfolding StatementGrammar.all_statements
 delete_statement_carried = carried_seq carried_place (carried_behind (carried_pair carried_name (carried_optional where_carried))) (λ x y. refl)
 
 fetched_carried : Carried (both name_unplaced targets_unplaced) StatementGrammar.fetched
+unfolding StatementGrammar.all_statements
 fetched_carried = carried_pair carried_name into_targets_carried
 
 fetch_statement_carried : Carried simple_unplaced StatementGrammar.fetch_statement
+unfolding StatementGrammar.all_statements
 fetch_statement_carried = carried_seq carried_place (carried_or (carried_behind fetched_carried) (carried_ahead (carried_behind (carried_behind fetched_carried)) fetched_carried)) (λ x y. refl)
 
 data_statement_carried : Carried simple_unplaced StatementGrammar.data_statement
+unfolding StatementGrammar.all_statements
 data_statement_carried = carried_or select_statement_carried
     (carried_or insert_statement_carried
     (carried_or update_statement_carried
@@ -119,6 +144,7 @@ data_statement_carried = carried_or select_statement_carried
     (carried_seq carried_place carried_name (λ x y. refl)))))))
 
 simple_carried : Carried simple_unplaced StatementGrammar.simple
+unfolding StatementGrammar.all_statements
 simple_carried = carried_or (carried_seq carried_place (carried_pair target_carried (carried_behind source_carried)) (λ x y. refl))
     (carried_or (carried_seq carried_place (carried_pair carried_name (carried_behind arguments_carried)) (λ x y. refl))
     (carried_or (carried_seq carried_place source_carried (λ x y. refl))
@@ -132,7 +158,7 @@ simple_carried = carried_or (carried_seq carried_place (carried_pair target_carr
 -- ---- statements
 
 block_carried : Carried block_unplaced StatementGrammar.block
-unfolding roll-Block Carrier.roll
+unfolding roll-Block Carrier.roll StatementGrammar.all_statements
 block_carried = carried_or (carried_level (λ x y. sym (block_rolled (layers.Compound x y.0 y.1.declarations y.1.cursors y.1.handlers y.1.statements))))
     (carried_or (carried_level (λ x y. sym (block_rolled (layers.Loop x y))))
     (carried_or (carried_level (λ x y. sym (block_rolled (layers.While x y.0 y.1))))
@@ -148,6 +174,7 @@ unfolding roll-Statement Carrier.roll
 unlabelled_made block = sym (statement_rolled (layers.Block None block))
 
 labelled_carried : Carried statement_unplaced StatementGrammar.labelled_statement
+unfolding StatementGrammar.all_statements
 labelled_carried = carried_seq carried_name (carried_behind (carried_pair block_carried (carried_optional carried_name))) labelled_made
 
 if_made : (place : Place) (b : Branches) → if_of origin (branches_unplaced b) ≡ statement_unplaced (if_of place b)
@@ -163,6 +190,7 @@ unfolding roll-Statement Carrier.roll
 simple_made simple = sym (statement_rolled (layers.Simple simple))
 
 pub statement_carried : Carried statement_unplaced StatementGrammar.statement
+unfolding StatementGrammar.all_statements
 statement_carried = carried_or labelled_carried
     (carried_or (carried_level if_made)
     (carried_or (carried_level case_made)
@@ -170,9 +198,11 @@ statement_carried = carried_or labelled_carried
     (carried_image simple_carried simple_made))))
 
 pub ended_statements_carried : Carried (map statement_unplaced) StatementGrammar.ended_statements
+unfolding StatementGrammar.all_statements
 ended_statements_carried = carried_many (carried_before statement_carried)
 
 pub statements_carried : Carried statements_unplaced StatementGrammar.statements
+unfolding StatementGrammar.all_statements
 statements_carried = carried_several (carried_before statement_carried) (carried_before statement_carried)
 
 -- ---- IF and CASE
@@ -181,9 +211,11 @@ branch_made : (test : Expr) (s : Statements) → branch_of (expr_unplaced test) 
 branch_made test s = sym (branch_rolled (record { test = test; statements = s }))
 
 branch_carried : Carried branch_unplaced StatementGrammar.branch
+unfolding StatementGrammar.all_statements
 branch_carried = carried_seq expr_carried (carried_behind statements_carried) branch_made
 
 otherwise_carried : Carried (option_map statements_unplaced) (optional StatementGrammar.otherwise_statements)
+unfolding StatementGrammar.all_statements
 otherwise_carried = carried_optional (carried_behind statements_carried)
 
 branches_made : (branches : Several Branch) (otherwise : Option Statements) → branches_of (several_map branch_unplaced branches) (option_map statements_unplaced otherwise) ≡ branches_unplaced (branches_of branches otherwise)
@@ -191,10 +223,13 @@ branches_made branches None = refl
 branches_made branches (Some s) = refl
 
 pub if_carried : Carried branches_unplaced StatementGrammar.if_rest
+unfolding StatementGrammar.all_statements
 if_carried = carried_seq (carried_several branch_carried (carried_behind branch_carried)) (carried_before (carried_before otherwise_carried)) branches_made
 
 case_branches_carried : Carried branches_unplaced StatementGrammar.case_branches
+unfolding StatementGrammar.all_statements
 case_branches_carried = carried_seq (carried_several (carried_behind branch_carried) (carried_behind branch_carried)) (carried_before (carried_before otherwise_carried)) branches_made
 
 pub case_carried : Carried (both (option_map expr_unplaced) branches_unplaced) StatementGrammar.case_statement_rest
+unfolding StatementGrammar.all_statements
 case_carried = carried_or (carried_image case_branches_carried (λ x. refl)) (carried_seq expr_carried case_branches_carried (λ x y. refl))
