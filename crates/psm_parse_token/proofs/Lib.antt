@@ -1,4 +1,2 @@
 pub mod Answering
 pub mod NameKinds
-pub mod Repeating
-pub mod TokenSame

@@ -11,11 +11,12 @@ use Rattle.psm_token.specs.declared.sign.Sign.{Sign}
 use Rattle.psm_token.specs.declared.sign.Sign.TheVariants as s
 use Rattle.psm_token.specs.Words.{text_of, is_reserved}
 use Rattle.psm_grammar.specs.Language.{has}
-use Rattle.psm_tree.specs.Kinds.{code, sign_code}
+use Rattle.psm_token.specs.Words.{word_kind}
+use Rattle.psm_token.specs.Signs.{sign_kind}
 use Rattle.psm_tree.specs.Tests.{name_kinds}
 
 -- a word is of the kinds of names where it is not reserved
-pub words_are : (word : Word) → has (code word) name_kinds ≡ not (is_reserved word)
+pub words_are : (word : Word) → has (word_kind word) name_kinds ≡ not (is_reserved word)
 words_are w.And = refl
 words_are _ = refl
 
@@ -49,6 +50,6 @@ pub word_named : (word : Word) → named (text_of word) ≡ Ok (text_of word)
 word_named word = ap name_of (chars-IsAscii (text_of word) (IsAscii-from_all (text_of word) (small_ascii (text_of word) (word_small word)))) ∙ word_fits word
 
 -- no sign is of the kinds of names
-pub signs_are : (sign : Sign) → has (sign_code sign) name_kinds ≡ false
+pub signs_are : (sign : Sign) → has (sign_kind sign) name_kinds ≡ false
 signs_are s.LeftParen = refl
 signs_are _ = refl

@@ -1,4 +1,2 @@
 pub mod Among
-pub mod Beside
 pub mod Fault
-pub mod TokenReaders

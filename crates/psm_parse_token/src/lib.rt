@@ -1,24 +1,18 @@
-//! Reading single tokens, and what is made of few: names, types and constants.
+//! A cursor over tokens, and the parsers of names, types and constants, in which no level is opened.
 //!
-//! Each function answers what the reader of its production answers (`Gives`, psm_grammar), and takes a
-//! token where it answers a value. A `Halt` holds the number of tokens that are left at the fault.
+//! Each function takes what the reader of its production takes (`Takes`, psm_tree). A `Halt` holds the
+//! number of tokens that are left at the fault.
 #![tactic(auto)]
 
 mod constants;
+mod cursor;
 mod fault;
-mod held;
-mod name_list;
+mod names;
 mod token;
 mod types;
 
-pub use constants::{constant, expect_plus_minus};
+pub use constants::{constant, plus_minus};
+pub use cursor::Tokens;
 pub use fault::fault_of;
-pub use held::{before_sign, before_word, beside, in_front};
-pub use name_list::{
-    names, names_in_parens, next_names, next_targets, second_name, target, targets,
-};
-pub use token::{
-    at_name, at_number, at_one_of, at_one_sign_of, at_sign, at_text, at_word, expect_name,
-    expect_number, expect_one_of, expect_sign, expect_text, expect_word,
-};
+pub use names::{names_in_parens, next_names, perhaps_names, second_name, target, targets};
 pub use types::{char_length, char_rest, data_type, plain_type, type_length, varying};

@@ -1,17 +1,13 @@
 //! Data types (ISO/IEC 9075:1992, 6.1).
-ghost use Rattle.std.specs.Prelude.{ℕ, ◌≡◌, ◌<◌, ◌≤◌, length, Option, IfOk};
-ghost use Rattle.psm_grammar.specs.Gives.{Gives};
-ghost use Rattle.psm_grammar.specs.Readers.{one};
-ghost use Rattle.psm_tree.specs.Kinds.{kind};
-ghost use Rattle.psm_tree.specs.Tests.{integer_word, numeric_word, char_word};
-ghost use Rattle.psm_parse_token.specs.TokenReaders.{type_length_read, scale_read, precision_numbers_read, precision_read, numeric_type_read, varchar_type_read, plain_type_read, varying_read, char_length_read, char_rest_read, char_type_read, data_type_read};
+ghost use Rattle.std.specs.Prelude.{option_map};
+ghost use Rattle.psm_grammar.specs.Forms.{optional};
+ghost use Rattle.psm_tree.specs.ExprGrammar.{type_length as type_length_part, scale as scale_part, precision as precision_part, numeric_type as numeric_type_part, varchar_type as varchar_type_part, plain_type as plain_type_part, varying as varying_part, char_length as char_length_part, char_rest as char_rest_part, char_type as char_type_part, data_type as data_type_part};
+ghost use Rattle.psm_tree.specs.Readers.{Takes, TakesAs, reading};
 
-use crate::token::{
-    at_one_of, at_sign, at_word, expect_number, expect_one_of, expect_sign, expect_word,
-};
+use crate::cursor::Tokens;
 use psm_grammar::Halt;
 use psm_num::Dec;
-use psm_token::{Place, Placed, Sign, Word};
+use psm_token::{Place, Sign, Word};
 use psm_tree::{DataType, Precision, TypeForm};
 
 const INTEGER_WORDS: [Word; 2] = [Word::Integer, Word::Int];
@@ -20,195 +16,150 @@ const NUMERIC_WORDS: [Word; 3] = [Word::Numeric, Word::Decimal, Word::Dec];
 
 const CHAR_WORDS: [Word; 2] = [Word::Char, Word::Character];
 
-/// `"(" num ")"`: the number and its place.
-#[tactic(auto, unfolding(crate::specs::TokenReaders::type_length_read))]
-pub fn type_length(tokens: &[Placed]) -> Result<(Place, Dec, &[Placed]), Halt>
-    ensures exact { Gives (λ x. (record { place = x.0; value = x.1 }, x.2.now)) result (type_length_read tokens.now) }
-    ensures takes { IfOk result (λ x. length x.2.now < length tokens.now) }
+/// `"(" num ")"`: the place of the number, and the number.
+#[tactic(auto, using(psm_tree::proofs::Reading::steps), unfolding(psm_tree::specs::ExprGrammar::type_length))]
+pub fn type_length(tokens: &mut Tokens, levels: u32) -> Result<(Place, Dec), Halt>
+    ensures { TakesAs (λ x. record { place = x.0; value = x.1 }) (reading levels type_length_part tokens.old.rest.now) result tokens.new.rest.now }
 {
-    let (_, rest) = expect_sign(tokens, Sign::LeftParen)?;
-    match expect_number(rest) {
-        Ok((place, number, rest)) => {
-            let (_, rest) = expect_sign(rest, Sign::RightParen)?;
-            Ok((place, number, rest))
-        }
-        Err(halt) => Err(halt),
-    }
+    tokens.sign(Sign::LeftParen)?;
+    let number = tokens.number()?;
+    tokens.sign(Sign::RightParen)?;
+    Ok(number)
 }
 
-/// `"," num`.
-#[tactic(auto, unfolding(crate::specs::TokenReaders::scale_read))]
-fn scale(tokens: &[Placed]) -> Result<(Place, Dec, &[Placed]), Halt>
-    ensures exact { Gives (λ x. (record { place = x.0; value = x.1 }, x.2.now)) result (scale_read tokens.now) }
-    ensures takes { IfOk result (λ x. length x.2.now < length tokens.now) }
+/// `["," num]`
+#[tactic(auto, using(psm_tree::proofs::Reading::steps, psm_tree::proofs::Firsts::first_scale), unfolding(psm_tree::specs::ExprGrammar::scale))]
+fn perhaps_scale(tokens: &mut Tokens, levels: u32) -> Result<Option<(Place, Dec)>, Halt>
+    ensures { TakesAs (option_map (λ x. record { place = x.0; value = x.1 })) (reading levels (optional scale_part) tokens.old.rest.now) result tokens.new.rest.now }
 {
-    let (_, rest) = expect_sign(tokens, Sign::Comma)?;
-    expect_number(rest)
+    if !tokens.at_sign(Sign::Comma) {
+        return Ok(None);
+    }
+    tokens.sign(Sign::Comma)?;
+    Ok(Some(tokens.number()?))
 }
 
-/// `num ["," num]`.
-#[tactic(auto, unfolding(crate::specs::TokenReaders::precision_numbers_read))]
-fn precision_numbers(tokens: &[Placed]) -> Result<(Precision, &[Placed]), Halt>
-    ensures exact { Gives (λ x. (x.0, x.1.now)) result (precision_numbers_read tokens.now) }
-    ensures takes { IfOk result (λ x. length x.1.now < length tokens.now) }
+/// `"(" num ["," num] ")"`
+#[tactic(auto, using(psm_tree::proofs::Reading::steps), unfolding(psm_tree::specs::ExprGrammar::precision))]
+fn precision(tokens: &mut Tokens, levels: u32) -> Result<Precision, Halt>
+    ensures { Takes (reading levels precision_part tokens.old.rest.now) result tokens.new.rest.now }
 {
-    match expect_number(tokens) {
-        Ok((_, precision, rest)) => {
-            if !at_sign(rest, Sign::Comma) {
-                let scale = None;
-                return Ok((Precision { precision, scale }, rest));
-            }
-            match scale(rest) {
-                Ok((_, scale, rest)) => {
-                    let scale = Some(scale);
-                    Ok((Precision { precision, scale }, rest))
-                }
-                Err(halt) => Err(halt),
-            }
-        }
-        Err(halt) => Err(halt),
-    }
+    tokens.sign(Sign::LeftParen)?;
+    let (_, precision) = tokens.number()?;
+    let scale = perhaps_scale(tokens, levels)?;
+    tokens.sign(Sign::RightParen)?;
+    let scale = match scale {
+        Some((_, scale)) => Some(scale),
+        None => None,
+    };
+    Ok(Precision { precision, scale })
 }
 
-/// `"(" num ["," num] ")"`.
-#[tactic(auto, unfolding(crate::specs::TokenReaders::precision_read))]
-fn precision(tokens: &[Placed]) -> Result<(Precision, &[Placed]), Halt>
-    ensures exact { Gives (λ x. (x.0, x.1.now)) result (precision_read tokens.now) }
-    ensures takes { IfOk result (λ x. length x.1.now < length tokens.now) }
+/// `["(" num ["," num] ")"]`
+#[tactic(auto, using(psm_tree::proofs::Reading::steps, psm_tree::proofs::Firsts::first_precision))]
+fn perhaps_precision(tokens: &mut Tokens, levels: u32) -> Result<Option<Precision>, Halt>
+    ensures { Takes (reading levels (optional precision_part) tokens.old.rest.now) result tokens.new.rest.now }
 {
-    let (_, rest) = expect_sign(tokens, Sign::LeftParen)?;
-    match precision_numbers(rest) {
-        Ok((precision, rest)) => {
-            let (_, rest) = expect_sign(rest, Sign::RightParen)?;
-            Ok((precision, rest))
-        }
-        Err(halt) => Err(halt),
+    if !tokens.at_sign(Sign::LeftParen) {
+        return Ok(None);
     }
+    Ok(Some(precision(tokens, levels)?))
 }
 
-/// `(NUMERIC | DECIMAL | DEC) ["(" num ["," num] ")"]`.
-#[tactic(auto, unfolding(crate::specs::TokenReaders::numeric_type_read))]
-fn numeric_type(tokens: &[Placed]) -> Result<(DataType, &[Placed]), Halt>
-    ensures exact { Gives (λ x. (x.0, x.1.now)) result (numeric_type_read tokens.now) }
-    ensures takes { IfOk result (λ x. length x.1.now < length tokens.now) }
+/// `(NUMERIC | DECIMAL | DEC) ["(" num ["," num] ")"]`
+#[tactic(auto, using(psm_tree::proofs::Reading::steps), unfolding(psm_tree::specs::ExprGrammar::numeric_type))]
+fn numeric_type(tokens: &mut Tokens, levels: u32) -> Result<DataType, Halt>
+    ensures { Takes (reading levels numeric_type_part tokens.old.rest.now) result tokens.new.rest.now }
 {
-    let (place, rest) = expect_one_of(tokens, &NUMERIC_WORDS)?;
-    if at_sign(rest, Sign::LeftParen) {
-        match precision(rest) {
-            Ok((precision, rest)) => {
-                let form = TypeForm::Numeric(Some(precision));
-                Ok((DataType { place, form }, rest))
-            }
-            Err(halt) => Err(halt),
-        }
-    } else {
-        let form = TypeForm::Numeric(None);
-        Ok((DataType { place, form }, rest))
-    }
+    let place = tokens.one_of(&NUMERIC_WORDS)?;
+    let precision = perhaps_precision(tokens, levels)?;
+    let form = TypeForm::Numeric(precision);
+    Ok(DataType { place, form })
 }
 
-/// `VARCHAR "(" num ")"`.
-#[tactic(auto, unfolding(crate::specs::TokenReaders::varchar_type_read))]
-fn varchar_type(tokens: &[Placed]) -> Result<(DataType, &[Placed]), Halt>
-    ensures exact { Gives (λ x. (x.0, x.1.now)) result (varchar_type_read tokens.now) }
-    ensures takes { IfOk result (λ x. length x.1.now < length tokens.now) }
+/// `VARCHAR "(" num ")"`
+#[tactic(auto, using(psm_tree::proofs::Reading::steps), unfolding(psm_tree::specs::ExprGrammar::varchar_type))]
+fn varchar_type(tokens: &mut Tokens, levels: u32) -> Result<DataType, Halt>
+    ensures { Takes (reading levels varchar_type_part tokens.old.rest.now) result tokens.new.rest.now }
 {
-    let (place, rest) = expect_word(tokens, Word::VarChar)?;
-    match type_length(rest) {
-        Ok((_, most, rest)) => {
-            let form = TypeForm::VarChar(most);
-            Ok((DataType { place, form }, rest))
-        }
-        Err(halt) => Err(halt),
-    }
+    let place = tokens.word(Word::VarChar)?;
+    let (_, most) = type_length(tokens, levels)?;
+    let form = TypeForm::VarChar(most);
+    Ok(DataType { place, form })
 }
 
 /// `SMALLINT | INTEGER | INT | (NUMERIC | DECIMAL | DEC) [..] | VARCHAR "(" num ")"`: a type that does not
 /// begin with `CHAR`.
-#[tactic(auto, unfolding(crate::specs::TokenReaders::plain_type_read))]
-pub fn plain_type(tokens: &[Placed]) -> Result<(DataType, &[Placed]), Halt>
-    ensures exact { Gives (λ x. (x.0, x.1.now)) result (plain_type_read tokens.now) }
-    ensures takes { IfOk result (λ x. length x.1.now < length tokens.now) }
+#[tactic(auto, using(psm_tree::proofs::Reading::steps, psm_tree::proofs::Firsts::first_numeric_type), unfolding(psm_tree::specs::ExprGrammar::plain_type))]
+pub fn plain_type(tokens: &mut Tokens, levels: u32) -> Result<DataType, Halt>
+    ensures { Takes (reading levels plain_type_part tokens.old.rest.now) result tokens.new.rest.now }
 {
-    if at_word(tokens, Word::SmallInt) {
-        let (place, rest) = expect_word(tokens, Word::SmallInt)?;
+    if tokens.at(Word::SmallInt) {
+        let place = tokens.word(Word::SmallInt)?;
         let form = TypeForm::SmallInt;
-        Ok((DataType { place, form }, rest))
-    } else if at_one_of(tokens, &INTEGER_WORDS) {
-        let (place, rest) = expect_one_of(tokens, &INTEGER_WORDS)?;
-        let form = TypeForm::Integer;
-        Ok((DataType { place, form }, rest))
-    } else if at_one_of(tokens, &NUMERIC_WORDS) {
-        numeric_type(tokens)
-    } else {
-        varchar_type(tokens)
+        return Ok(DataType { place, form });
     }
+    if tokens.at_one_of(&INTEGER_WORDS) {
+        let place = tokens.one_of(&INTEGER_WORDS)?;
+        let form = TypeForm::Integer;
+        return Ok(DataType { place, form });
+    }
+    if tokens.at_one_of(&NUMERIC_WORDS) {
+        return numeric_type(tokens, levels);
+    }
+    varchar_type(tokens, levels)
 }
 
 /// `VARYING "(" num ")"`, behind `CHAR`.
-#[tactic(auto, unfolding(crate::specs::TokenReaders::varying_read))]
-pub fn varying(tokens: &[Placed]) -> Result<(TypeForm, &[Placed]), Halt>
-    ensures exact { Gives (λ x. (x.0, x.1.now)) result (varying_read tokens.now) }
-    ensures takes { IfOk result (λ x. length x.1.now < length tokens.now) }
+#[tactic(auto, using(psm_tree::proofs::Reading::steps), unfolding(psm_tree::specs::ExprGrammar::varying))]
+pub fn varying(tokens: &mut Tokens, levels: u32) -> Result<TypeForm, Halt>
+    ensures { Takes (reading levels varying_part tokens.old.rest.now) result tokens.new.rest.now }
 {
-    let (_, rest) = expect_word(tokens, Word::Varying)?;
-    match type_length(rest) {
-        Ok((_, most, rest)) => Ok((TypeForm::VarChar(most), rest)),
-        Err(halt) => Err(halt),
-    }
+    tokens.word(Word::Varying)?;
+    let (_, most) = type_length(tokens, levels)?;
+    Ok(TypeForm::VarChar(most))
 }
 
 /// `["(" num ")"]`, behind `CHAR`.
-#[tactic(auto, unfolding(crate::specs::TokenReaders::char_length_read))]
-pub fn char_length(tokens: &[Placed]) -> Result<(TypeForm, &[Placed]), Halt>
-    ensures exact { Gives (λ x. (x.0, x.1.now)) result (char_length_read tokens.now) }
-    ensures takes { IfOk result (λ x. length x.1.now ≤ length tokens.now) }
+#[tactic(auto, using(psm_tree::proofs::Reading::steps, psm_tree::proofs::Firsts::first_type_length), unfolding(psm_tree::specs::ExprGrammar::char_length))]
+pub fn char_length(tokens: &mut Tokens, levels: u32) -> Result<TypeForm, Halt>
+    ensures { Takes (reading levels char_length_part tokens.old.rest.now) result tokens.new.rest.now }
 {
-    if at_sign(tokens, Sign::LeftParen) {
-        match type_length(tokens) {
-            Ok((_, most, rest)) => Ok((TypeForm::Char(Some(most)), rest)),
-            Err(halt) => Err(halt),
-        }
-    } else {
-        Ok((TypeForm::Char(None), tokens))
+    if !tokens.at_sign(Sign::LeftParen) {
+        return Ok(TypeForm::Char(None));
     }
+    let (_, most) = type_length(tokens, levels)?;
+    Ok(TypeForm::Char(Some(most)))
 }
 
 /// `VARYING "(" num ")" | ["(" num ")"]`, behind `CHAR`.
-#[tactic(auto, unfolding(crate::specs::TokenReaders::char_rest_read))]
-pub fn char_rest(tokens: &[Placed]) -> Result<(TypeForm, &[Placed]), Halt>
-    ensures exact { Gives (λ x. (x.0, x.1.now)) result (char_rest_read tokens.now) }
-    ensures takes { IfOk result (λ x. length x.1.now ≤ length tokens.now) }
+#[tactic(auto, using(psm_tree::proofs::Reading::steps, psm_tree::proofs::Firsts::first_varying), unfolding(psm_tree::specs::ExprGrammar::char_rest))]
+pub fn char_rest(tokens: &mut Tokens, levels: u32) -> Result<TypeForm, Halt>
+    ensures { Takes (reading levels char_rest_part tokens.old.rest.now) result tokens.new.rest.now }
 {
-    if at_word(tokens, Word::Varying) {
-        varying(tokens)
-    } else {
-        char_length(tokens)
+    if tokens.at(Word::Varying) {
+        return varying(tokens, levels);
     }
+    char_length(tokens, levels)
 }
 
-/// `(CHAR | CHARACTER) char_rest`.
-#[tactic(auto, unfolding(crate::specs::TokenReaders::char_type_read))]
-fn char_type(tokens: &[Placed]) -> Result<(DataType, &[Placed]), Halt>
-    ensures exact { Gives (λ x. (x.0, x.1.now)) result (char_type_read tokens.now) }
-    ensures takes { IfOk result (λ x. length x.1.now < length tokens.now) }
+/// `(CHAR | CHARACTER) char_rest`
+#[tactic(auto, using(psm_tree::proofs::Reading::steps), unfolding(psm_tree::specs::ExprGrammar::char_type))]
+fn char_type(tokens: &mut Tokens, levels: u32) -> Result<DataType, Halt>
+    ensures { Takes (reading levels char_type_part tokens.old.rest.now) result tokens.new.rest.now }
 {
-    let (place, rest) = expect_one_of(tokens, &CHAR_WORDS)?;
-    match char_rest(rest) {
-        Ok((form, rest)) => Ok((DataType { place, form }, rest)),
-        Err(halt) => Err(halt),
-    }
+    let place = tokens.one_of(&CHAR_WORDS)?;
+    let form = char_rest(tokens, levels)?;
+    Ok(DataType { place, form })
 }
 
 /// A data type.
-#[tactic(auto, unfolding(crate::specs::TokenReaders::data_type_read))]
-pub fn data_type(tokens: &[Placed]) -> Result<(DataType, &[Placed]), Halt>
-    ensures exact { Gives (λ x. (x.0, x.1.now)) result (data_type_read tokens.now) }
-    ensures takes { IfOk result (λ x. length x.1.now < length tokens.now) }
+#[tactic(auto, using(psm_tree::proofs::Reading::steps, psm_tree::proofs::Firsts::first_char_type), unfolding(psm_tree::specs::ExprGrammar::data_type))]
+pub fn data_type(tokens: &mut Tokens, levels: u32) -> Result<DataType, Halt>
+    ensures { Takes (reading levels data_type_part tokens.old.rest.now) result tokens.new.rest.now }
 {
-    if at_one_of(tokens, &CHAR_WORDS) {
-        char_type(tokens)
-    } else {
-        plain_type(tokens)
+    if tokens.at_one_of(&CHAR_WORDS) {
+        return char_type(tokens, levels);
     }
+    plain_type(tokens, levels)
 }

@@ -4,3 +4,5 @@ pub mod FileFits
 pub mod Readable
 pub mod Places
 pub mod Reading
+pub mod Firsts
+pub mod Repeating

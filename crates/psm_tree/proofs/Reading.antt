@@ -1,5 +1,5 @@
 -- What the reader of a part is, by the way the part is made; and that it is the reader of the grammar.
-use Rattle.std.proofs.Common.{◌≡◌, ℕ, zero, suc, Bool, cond, true, false, List, [], ◌∷◌, length, Ok, Err, refl, sym, ◌∙◌}
+use Rattle.std.proofs.Common.{◌≡◌, ◌≢◌, ◌-◌, ap, arith, ℕ, zero, suc, Bool, cond, true, false, List, [], ◌∷◌, length, Ok, Err, refl, sym, ◌∙◌}
 use Rattle.psm_token.specs.Kinds.{kind}
 use Rattle.psm_token.specs.declared.token.Placed.{Placed}
 use Rattle.psm_grammar.specs.Language.{has, Test}
@@ -76,5 +76,17 @@ reading_level {A} {Z} (suc levels) n test f ts = sym (entered_same kind test n f
         ≡ and_then (and_then o (λ a rest. Ok ((a, levels), rest))) (λ (o : A × ℕ) rest. and_then (part o.1 n rest) (λ y end. Ok (f o.0 y, end)))
     by (Ok r) = refl
     by (Err e) = refl
+
+-- no level is left
+pub opening_none : {A : Type 0} (levels : ℕ) (test : Test Placed A) (ts : List Placed) → levels ≡ 0 → opening levels test ts ≡ and_then (one kind test ts) (λ a rest. Err (TooDeep ts))
+unfolding opening
+opening_none zero test ts e = refl
+opening_none (suc n) test ts e = absurd (cc e)
+
+-- a level is left
+pub opening_some : {A : Type 0} (levels : ℕ) (test : Test Placed A) (ts : List Placed) → levels ≢ 0 → opening levels test ts ≡ and_then (one kind test ts) (λ a rest. Ok ((a, levels - 1), rest))
+unfolding opening
+opening_some zero test ts h = absurd (h refl)
+opening_some (suc n) test ts h = let e : n ≡ suc n - 1 = omega arith in ap (λ m. and_then (one kind test ts) (λ a rest. Ok ((a, m), rest))) e
 
 pub ruleset steps = (reading_token, reading_nothing, reading_seq, reading_image, reading_or, reading_ahead, reading_next, reading_level, reading_part)

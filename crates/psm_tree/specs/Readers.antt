@@ -4,7 +4,9 @@ use Rattle.psm_token.specs.Kinds.{kind}
 use Rattle.psm_token.specs.declared.token.Placed.{Placed}
 use Rattle.psm_grammar.specs.Gives.{Halts}
 use Rattle.psm_grammar.specs.Language.{Test}
-use Rattle.psm_grammar.specs.Readers.{Out, Reader, TooDeep, and_then, one, read, deeper, reads}
+use Rattle.psm_grammar.specs.Grammar.{many}
+use Rattle.psm_grammar.specs.Loop.{behind}
+use Rattle.psm_grammar.specs.Readers.{Out, Reader, TooDeep, and_then, one, first, repeat, read, deeper, reads}
 use Rattle.psm_grammar.specs.declared.halt.Halt.{Halt}
 use Rattle.psm_tree.specs.Parts.{Part, V}
 use Rattle.psm_tree.specs.ExprGrammar.{Gram}
@@ -32,3 +34,8 @@ TakesAs view o (Err e) rest = Halts e o
 abbrev pub Takes : {T X : Type 0} → Out T X → Result X Halt → List T → Type 0
 Takes o (Ok x) rest = o ≡ Ok (x, rest)
 Takes o (Err e) rest = Halts e o
+
+-- With what is left to read in so many turns, a part that was read again and again up to `rest` is what it is from
+-- the start on.
+pub record Repeating {X : Type 0} (levels : ℕ) (p : Gram X) (start : List Placed) (items : List X) (turns : ℕ) (rest : List Placed) : Type 0 where
+  pub same : behind items (repeat kind (first p) (reading levels p) turns rest) ≡ reading levels (many p) start
