@@ -15,7 +15,7 @@ fn body(alloc: Global, statement: &FullStatement) -> Result<Option<Statement>, A
     ensures { IfOk result (λ s. s ≡ forms.body_of statement.now) }
 {
     match statement {
-        FullStatement::Simple(simple) => set(alloc, simple),
+        FullStatement::Simple(simple) => set(alloc, simple.get()),
         _ => Ok(None),
     }
 }
@@ -30,7 +30,7 @@ fn set(alloc: Global, statement: &Simple) -> Result<Option<Statement>, AllocErro
             source,
         } => match unqualified(alloc, target)? {
             None => Ok(None),
-            Some(target) => match sum(alloc, source)? {
+            Some(target) => match sum(alloc, source.get())? {
                 None => Ok(None),
                 Some(source) => Ok(Some(Statement::Set { target, source })),
             },
@@ -101,7 +101,7 @@ fn plain_procedure(alloc: Global, routine: &Routine) -> Result<Option<Procedure>
 {
     match signature(alloc, routine)? {
         None => Ok(None),
-        Some(signature) => match body(alloc, &routine.body)? {
+        Some(signature) => match body(alloc, routine.body.get())? {
             None => Ok(None),
             Some(body) => Ok(Some(Procedure { signature, body })),
         },

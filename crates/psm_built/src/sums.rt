@@ -75,7 +75,7 @@ fn term(alloc: Global, link: &Link) -> Result<Option<Term>, AllocError>
 {
     match sign(link.operator) {
         None => Ok(None),
-        Some(sign) => match operand(alloc, &link.operand)? {
+        Some(sign) => match operand(alloc, link.operand.get())? {
             None => Ok(None),
             Some(operand) => Ok(Some(Term { sign, operand })),
         },
@@ -112,7 +112,7 @@ pub(crate) fn sum(alloc: Global, expr: &Expr) -> Result<Option<Sum>, AllocError>
     ensures { IfOk result (λ s. s ≡ forms.sum_of expr.now) }
 {
     match expr {
-        Expr::Chain { first, rest } => chain(alloc, first.get(), rest.items()),
+        Expr::Chain { first, links } => chain(alloc, first.get(), links.items()),
         _ => chain(alloc, expr, &[]),
     }
 }
