@@ -1,3 +1,2 @@
 pub mod Built
-pub mod ExprExact
-pub mod ExprSame
+pub mod EnclosedFirst
