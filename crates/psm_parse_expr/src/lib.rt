@@ -16,7 +16,9 @@ mod predicate;
 mod primary;
 mod query;
 mod value;
+mod whole;
 
 pub use argument::{arguments, source, sources};
 pub use condition::expr;
 pub use query::{from_table, picks, select};
+pub use whole::{parse_expr, parse_picks, parse_target, parse_type};

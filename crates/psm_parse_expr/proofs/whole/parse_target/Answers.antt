@@ -1,0 +1,8 @@
+use Rattle.std.proofs.Common.{◌-◌, arith}
+use Rattle.psm_parse_expr.proofs.RunAnswered.{run_answered, target_fit}
+use Rattle.psm_parse_expr.proofs.whole.parse_target.Goals as goal
+
+pub returns : goal.returns
+returns c = run_answered target_fit (100 - c.args.depth) c.args.depth (omega (arith, c.requires.shallow)) c.args.tokens.now c.args.at
+    c.items.result.now c.of-cursor.result.rest.now c.items.ensures c.of-cursor.ensures
+    c.target-read.result c.target-read.new.tokens.rest.now c.target-read.ensures c.numbered.result c.numbered.ensures
