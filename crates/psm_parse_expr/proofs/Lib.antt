@@ -1,3 +1,3 @@
 pub mod Built
-pub mod ExprExact
-pub mod ExprSame
+pub mod EnclosedFirst
+pub mod RunAnswered

@@ -1,2 +1,2 @@
-pub mod ExprReaders
 pub mod Numbered
+pub mod Views

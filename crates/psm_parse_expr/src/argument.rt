@@ -1,127 +1,100 @@
-//! Sources, and the arguments of calls.
-ghost use Rattle.std.specs.Prelude.{ℕ, ◌≡◌, ◌<◌, ◌≤◌, length, IfOk};
-ghost use Rattle.psm_grammar.specs.Gives.{Gives};
-ghost use Rattle.psm_parse_expr.specs.ExprReaders.{source_read, source_behind_read, next_source_read, next_sources_read, sources_read, arguments_read};
+//! Sources, and the arguments of calls (ISO/IEC 9075-4:1996, routine invocation).
+ghost use Rattle.std.specs.Prelude.{◌≡◌, ◌∷◌, IfOk};
+ghost use Rattle.psm_tree.specs.ExprGrammar.{source as source_part, next_source as next_source_part, next_sources as next_sources_part, sources as sources_part, arguments as arguments_part};
+ghost use Rattle.psm_tree.specs.Readers.{Takes, reading};
 
 use crate::condition::expr;
 use psm_grammar::Halt;
-use psm_list::{Boxed, List};
-use psm_parse_token::{at_sign, at_word, before_sign, beside, expect_sign, expect_word, in_front};
-use psm_token::{Placed, Sign, Word};
+use psm_list::{Boxed, List, OneOrMore};
+use psm_parse_token::Tokens;
+use psm_token::{Sign, Word};
 use psm_tree::Expr;
-use std::alloc::Global;
+use std::alloc::{AllocError, Global};
 
-/// An expression, or NULL. The fault is at the first token that goes on with none.
-#[cycle(expression)]
-#[tactic(auto, unfolding(crate::specs::ExprReaders::source_read))]
-pub fn source(alloc: Global, tokens: &[Placed], levels: u32) -> Result<(Expr, &[Placed]), Halt>
-    ensures exact { Gives (λ x. (x.0, x.1.now)) result (source_read levels tokens.now) }
-    ensures takes { IfOk result (λ x. length x.1.now < length tokens.now) }
+/// `NULL | expr`
+#[cycle(expressions)]
+#[tactic(auto, using(psm_tree::proofs::Reading::steps), unfolding(psm_tree::specs::ExprGrammar::source))]
+pub fn source(alloc: Global, tokens: &mut Tokens, levels: u32) -> Result<Boxed<Expr>, Halt>
+    ensures { Takes (reading levels source_part tokens.old.rest.now) result tokens.new.rest.now }
 {
-    if at_word(tokens, Word::Null) {
-        let (place, rest) = expect_word(tokens, Word::Null)?;
-        return Ok((Expr::Null { place }, rest));
+    if !tokens.at(Word::Null) {
+        return expr(alloc, tokens, levels);
     }
-    expr(alloc, tokens, levels)
+    let place = tokens.word(Word::Null)?;
+    Ok(Boxed::new(alloc, Expr::Null { place })?)
 }
 
-/// A source on the heap.
-#[cycle(expression)]
-pub(crate) fn boxed_source(
-    alloc: Global,
-    tokens: &[Placed],
-    levels: u32,
-) -> Result<(Boxed<Expr>, &[Placed]), Halt>
-    ensures exact { Gives (λ x. (x.0, x.1.now)) result (source_read levels tokens.now) }
-    ensures takes { IfOk result (λ x. length x.1.now < length tokens.now) }
-{
-    let (value, rest) = source(alloc, tokens, levels)?;
-    Ok((Boxed::new(alloc, value)?, rest))
-}
-
-/// A word, and a source behind it.
-#[cycle(expression)]
-#[tactic(auto, unfolding(crate::specs::ExprReaders::source_behind_read))]
-pub(crate) fn source_behind(
-    alloc: Global,
-    tokens: &[Placed],
-    levels: u32,
-    word: Word,
-) -> Result<(Expr, &[Placed]), Halt>
-    ensures exact { Gives (λ x. (x.0, x.1.now)) result (source_behind_read word levels tokens.now) }
-    ensures takes { IfOk result (λ x. length x.1.now < length tokens.now) }
-{
-    let (_, rest) = expect_word(tokens, word)?;
-    source(alloc, rest, levels)
-}
-
-/// A comma and the source behind it.
-#[cycle(expression)]
-#[tactic(auto, unfolding(crate::specs::ExprReaders::next_source_read))]
+/// `"," source`
+#[cycle(expressions)]
+#[tactic(auto, using(psm_tree::proofs::Reading::steps), unfolding(psm_tree::specs::ExprGrammar::next_source))]
 pub(crate) fn next_source(
     alloc: Global,
-    tokens: &[Placed],
+    tokens: &mut Tokens,
     levels: u32,
-) -> Result<(Expr, &[Placed]), Halt>
-    ensures exact { Gives (λ x. (x.0, x.1.now)) result (next_source_read levels tokens.now) }
-    ensures takes { IfOk result (λ x. length x.1.now < length tokens.now) }
+) -> Result<Boxed<Expr>, Halt>
+    ensures { Takes (reading levels next_source_part tokens.old.rest.now) result tokens.new.rest.now }
 {
-    let (_, rest) = expect_sign(tokens, Sign::Comma)?;
-    source(alloc, rest, levels)
+    tokens.sign(Sign::Comma)?;
+    source(alloc, tokens, levels)
 }
 
-/// The sources behind commas.
-#[cycle(expression)]
-#[tactic(auto, unfolding(crate::specs::ExprReaders::next_sources_read))]
+/// `{"," source}`
+#[cycle(expressions)]
+#[tactic(auto, using(psm_tree::proofs::Repeating::turns, psm_tree::proofs::Firsts::first_next_source), unfolding(psm_tree::specs::ExprGrammar::next_sources))]
 pub(crate) fn next_sources(
     alloc: Global,
-    tokens: &[Placed],
+    tokens: &mut Tokens,
     levels: u32,
-) -> Result<(List<Expr>, &[Placed]), Halt>
-    ensures exact { Gives (λ x. (x.0, x.1.now)) result (next_sources_read levels tokens.now) }
-    ensures takes { IfOk result (λ x. length x.1.now ≤ length tokens.now) }
+) -> Result<List<Boxed<Expr>>, Halt>
+    ensures { Takes (reading levels next_sources_part tokens.old.rest.now) result tokens.new.rest.now }
 {
-    let mut items = Vec::new(alloc);
-    let mut rest = tokens;
-    while at_sign(rest, Sign::Comma) {
-        let (item, next) = next_source(alloc, rest, levels)?;
-        items.push(item)?;
-        rest = next;
+    let mut sources = Vec::new(alloc);
+    for _turn in 0..tokens.left() {
+        if !tokens.at_sign(Sign::Comma) {
+            break;
+        }
+        let source = next_source(alloc, tokens, levels)?;
+        sources.push(source)?;
     }
-    Ok((List::of(items), rest))
+    Ok(List::of(sources))
 }
 
-/// One source or more, with a comma between two of them: the first, and the others.
-#[tactic(auto, unfolding(crate::specs::ExprReaders::sources_read))]
+/// `source {"," source}`
+#[cycle(expressions)]
+#[tactic(auto, using(psm_tree::proofs::Reading::steps), unfolding(psm_tree::specs::ExprGrammar::sources))]
 pub fn sources(
     alloc: Global,
-    tokens: &[Placed],
+    tokens: &mut Tokens,
     levels: u32,
-) -> Result<((Expr, List<Expr>), &[Placed]), Halt>
-    ensures exact { Gives (λ x. (x.0, x.1.now)) result (sources_read levels tokens.now) }
-    ensures takes { IfOk result (λ x. length x.1.now < length tokens.now) }
+) -> Result<OneOrMore<Boxed<Expr>>, Halt>
+    ensures { Takes (reading levels sources_part tokens.old.rest.now) result tokens.new.rest.now }
 {
-    let (first, rest) = source(alloc, tokens, levels)?;
-    beside(first, next_sources(alloc, rest, levels))
+    let first = source(alloc, tokens, levels)?;
+    let rest = next_sources(alloc, tokens, levels)?;
+    Ok(OneOrMore::of(first, rest))
 }
 
-/// The arguments of a call behind their opening parenthesis, at their own level, and the closing one.
-#[cycle(expression)]
-#[tactic(auto, unfolding(crate::specs::ExprReaders::arguments_read))]
-pub fn arguments(
-    alloc: Global,
-    tokens: &[Placed],
-    levels: u32,
-) -> Result<(List<Expr>, &[Placed]), Halt>
-    ensures exact { Gives (λ x. (x.0, x.1.now)) result (arguments_read levels tokens.now) }
-    ensures takes { IfOk result (λ x. length x.1.now < length tokens.now) }
+/// `[source {"," source}] ")"`: the arguments of a call behind their opening parenthesis, at their own level.
+#[cycle(expressions)]
+#[tactic(auto, using(psm_tree::proofs::Reading::steps), unfolding(psm_tree::specs::ExprGrammar::arguments, psm_tree::specs::ExprGrammar::argument_list))]
+pub fn arguments(alloc: Global, tokens: &mut Tokens, levels: u32) -> Result<List<Boxed<Expr>>, Halt>
+    ensures { Takes (reading levels arguments_part tokens.old.rest.now) result tokens.new.rest.now }
 {
-    if at_sign(tokens, Sign::RightParen) {
-        let (_, rest) = expect_sign(tokens, Sign::RightParen)?;
-        return Ok((List::of(Vec::new(alloc)), rest));
+    if tokens.at_sign(Sign::RightParen) {
+        tokens.sign(Sign::RightParen)?;
+        return Ok(List::of(Vec::new(alloc)));
     }
-    let (first, rest) = source(alloc, tokens, levels)?;
-    let ((first, others), rest) = beside(first, next_sources(alloc, rest, levels))?;
-    let ((first, others), rest) = before_sign((first, others), rest, Sign::RightParen)?;
-    Ok((in_front(first, others)?, rest))
+    let first = source(alloc, tokens, levels)?;
+    let rest = next_sources(alloc, tokens, levels)?;
+    tokens.sign(Sign::RightParen)?;
+    Ok(in_front(first, rest)?)
+}
+
+/// The list of an item and those behind it.
+fn in_front(first: Boxed<Expr>, rest: List<Boxed<Expr>>) -> Result<List<Boxed<Expr>>, AllocError>
+    ensures { IfOk result (λ l. l ≡ first ∷ rest) }
+{
+    let mut items = rest.into_vec();
+    items.insert(0, first)?;
+    Ok(List::of(items))
 }

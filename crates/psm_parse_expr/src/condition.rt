@@ -1,149 +1,125 @@
 //! Conditions with NOT, AND and OR (ISO/IEC 9075:1992, 8.12).
-ghost use Rattle.std.specs.Prelude.{ℕ, ◌≡◌, ◌<◌, ◌≤◌, length, IfOk};
-ghost use Rattle.psm_grammar.specs.Gives.{Gives};
+ghost use Rattle.std.specs.Prelude.{◌≡◌, IfOk};
+ghost use Rattle.psm_tree.specs.ExprGrammar.{negation as negation_part, next_negation as next_negation_part, next_negations as next_negations_part, conjunction as conjunction_part, next_conjunction as next_conjunction_part, next_conjunctions as next_conjunctions_part, expr as expr_part};
 ghost use Rattle.psm_tree.specs.ExprValues.{joined as joined_by};
-ghost use Rattle.psm_parse_expr.specs.ExprReaders.{expr_read, next_conjunctions_read, next_conjunction_read, conjunction_read, next_negations_read, next_negation_read, negation_read};
+ghost use Rattle.psm_tree.specs.Readers.{Takes, reading};
 
 use crate::predicate::predicate;
 use psm_grammar::Halt;
-use psm_list::{Boxed, List};
-use psm_parse_token::{at_word, beside, expect_word};
-use psm_token::{Placed, Word};
+use psm_list::{Boxed, List, OneOrMore};
+use psm_parse_token::Tokens;
+use psm_token::Word;
 use psm_tree::{Expr, Junction};
 use std::alloc::{AllocError, Global};
 
-/// Conditions with OR between them, or a lone one (ISO/IEC 9075:1992, 8.12).
-#[cycle(expression)]
-#[tactic(auto, unfolding(crate::specs::ExprReaders::expr_read))]
-pub fn expr(alloc: Global, tokens: &[Placed], levels: u32) -> Result<(Expr, &[Placed]), Halt>
-    ensures exact { Gives (λ x. (x.0, x.1.now)) result (expr_read levels tokens.now) }
-    ensures takes { IfOk result (λ x. length x.1.now < length tokens.now) }
+/// `[NOT] predicate`
+#[cycle(expressions)]
+#[tactic(auto, using(psm_tree::proofs::Reading::steps), unfolding(psm_tree::specs::ExprGrammar::negation))]
+pub(crate) fn negation(alloc: Global, tokens: &mut Tokens, levels: u32) -> Result<Boxed<Expr>, Halt>
+    ensures { Takes (reading levels negation_part tokens.old.rest.now) result tokens.new.rest.now }
 {
-    let (first, rest) = conjunction(alloc, tokens, levels)?;
-    let ((first, others), rest) = beside(first, next_conjunctions(alloc, rest, levels))?;
-    Ok((joined(alloc, Junction::Or, first, others)?, rest))
-}
-
-/// An expression on the heap.
-#[cycle(expression)]
-pub(crate) fn boxed_expr(
-    alloc: Global,
-    tokens: &[Placed],
-    levels: u32,
-) -> Result<(Boxed<Expr>, &[Placed]), Halt>
-    ensures exact { Gives (λ x. (x.0, x.1.now)) result (expr_read levels tokens.now) }
-    ensures takes { IfOk result (λ x. length x.1.now < length tokens.now) }
-{
-    let (value, rest) = expr(alloc, tokens, levels)?;
-    Ok((Boxed::new(alloc, value)?, rest))
-}
-
-/// The conditions behind OR.
-#[cycle(expression)]
-#[tactic(auto, unfolding(crate::specs::ExprReaders::next_conjunctions_read))]
-pub(crate) fn next_conjunctions(
-    alloc: Global,
-    tokens: &[Placed],
-    levels: u32,
-) -> Result<(List<Expr>, &[Placed]), Halt>
-    ensures exact { Gives (λ x. (x.0, x.1.now)) result (next_conjunctions_read levels tokens.now) }
-    ensures takes { IfOk result (λ x. length x.1.now ≤ length tokens.now) }
-{
-    let mut items = Vec::new(alloc);
-    let mut rest = tokens;
-    while at_word(rest, Word::Or) {
-        let (item, next) = next_conjunction(alloc, rest, levels)?;
-        items.push(item)?;
-        rest = next;
+    if !tokens.at(Word::Not) {
+        return predicate(alloc, tokens, levels);
     }
-    Ok((List::of(items), rest))
+    let place = tokens.word(Word::Not)?;
+    let condition = predicate(alloc, tokens, levels)?;
+    Ok(Boxed::new(alloc, Expr::Not { place, condition })?)
 }
 
-/// OR and the condition behind it.
-#[cycle(expression)]
-#[tactic(auto, unfolding(crate::specs::ExprReaders::next_conjunction_read))]
-pub(crate) fn next_conjunction(
-    alloc: Global,
-    tokens: &[Placed],
-    levels: u32,
-) -> Result<(Expr, &[Placed]), Halt>
-    ensures exact { Gives (λ x. (x.0, x.1.now)) result (next_conjunction_read levels tokens.now) }
-    ensures takes { IfOk result (λ x. length x.1.now < length tokens.now) }
-{
-    let (_, rest) = expect_word(tokens, Word::Or)?;
-    conjunction(alloc, rest, levels)
-}
-
-/// Conditions with AND between them, or a lone one.
-#[cycle(expression)]
-#[tactic(auto, unfolding(crate::specs::ExprReaders::conjunction_read))]
-pub(crate) fn conjunction(
-    alloc: Global,
-    tokens: &[Placed],
-    levels: u32,
-) -> Result<(Expr, &[Placed]), Halt>
-    ensures exact { Gives (λ x. (x.0, x.1.now)) result (conjunction_read levels tokens.now) }
-    ensures takes { IfOk result (λ x. length x.1.now < length tokens.now) }
-{
-    let (first, rest) = negation(alloc, tokens, levels)?;
-    let ((first, others), rest) = beside(first, next_negations(alloc, rest, levels))?;
-    Ok((joined(alloc, Junction::And, first, others)?, rest))
-}
-
-/// The conditions behind AND.
-#[cycle(expression)]
-#[tactic(auto, unfolding(crate::specs::ExprReaders::next_negations_read))]
-pub(crate) fn next_negations(
-    alloc: Global,
-    tokens: &[Placed],
-    levels: u32,
-) -> Result<(List<Expr>, &[Placed]), Halt>
-    ensures exact { Gives (λ x. (x.0, x.1.now)) result (next_negations_read levels tokens.now) }
-    ensures takes { IfOk result (λ x. length x.1.now ≤ length tokens.now) }
-{
-    let mut items = Vec::new(alloc);
-    let mut rest = tokens;
-    while at_word(rest, Word::And) {
-        let (item, next) = next_negation(alloc, rest, levels)?;
-        items.push(item)?;
-        rest = next;
-    }
-    Ok((List::of(items), rest))
-}
-
-/// AND and the condition behind it.
-#[cycle(expression)]
-#[tactic(auto, unfolding(crate::specs::ExprReaders::next_negation_read))]
+/// `AND negation`
+#[cycle(expressions)]
+#[tactic(auto, using(psm_tree::proofs::Reading::steps), unfolding(psm_tree::specs::ExprGrammar::next_negation))]
 pub(crate) fn next_negation(
     alloc: Global,
-    tokens: &[Placed],
+    tokens: &mut Tokens,
     levels: u32,
-) -> Result<(Expr, &[Placed]), Halt>
-    ensures exact { Gives (λ x. (x.0, x.1.now)) result (next_negation_read levels tokens.now) }
-    ensures takes { IfOk result (λ x. length x.1.now < length tokens.now) }
+) -> Result<Boxed<Expr>, Halt>
+    ensures { Takes (reading levels next_negation_part tokens.old.rest.now) result tokens.new.rest.now }
 {
-    let (_, rest) = expect_word(tokens, Word::And)?;
-    negation(alloc, rest, levels)
+    tokens.word(Word::And)?;
+    negation(alloc, tokens, levels)
 }
 
-/// A predicate, with a NOT before it where there is one.
-#[cycle(expression)]
-#[tactic(auto, unfolding(crate::specs::ExprReaders::negation_read))]
-pub(crate) fn negation(
+/// `{AND negation}`
+#[cycle(expressions)]
+#[tactic(auto, using(psm_tree::proofs::Repeating::turns, psm_tree::proofs::Firsts::first_next_negation), unfolding(psm_tree::specs::ExprGrammar::next_negations))]
+pub(crate) fn next_negations(
     alloc: Global,
-    tokens: &[Placed],
+    tokens: &mut Tokens,
     levels: u32,
-) -> Result<(Expr, &[Placed]), Halt>
-    ensures exact { Gives (λ x. (x.0, x.1.now)) result (negation_read levels tokens.now) }
-    ensures takes { IfOk result (λ x. length x.1.now < length tokens.now) }
+) -> Result<List<Boxed<Expr>>, Halt>
+    ensures { Takes (reading levels next_negations_part tokens.old.rest.now) result tokens.new.rest.now }
 {
-    if at_word(tokens, Word::Not) {
-        let (place, rest) = expect_word(tokens, Word::Not)?;
-        let (condition, rest) = predicate(alloc, rest, levels)?;
-        let condition = Boxed::new(alloc, condition)?;
-        return Ok((Expr::Not { place, condition }, rest));
+    let mut operands = Vec::new(alloc);
+    for _turn in 0..tokens.left() {
+        if !tokens.at(Word::And) {
+            break;
+        }
+        let operand = next_negation(alloc, tokens, levels)?;
+        operands.push(operand)?;
     }
-    predicate(alloc, tokens, levels)
+    Ok(List::of(operands))
+}
+
+/// `negation {AND negation}`
+#[cycle(expressions)]
+#[tactic(auto, using(psm_tree::proofs::Reading::steps), unfolding(psm_tree::specs::ExprGrammar::conjunction))]
+pub(crate) fn conjunction(
+    alloc: Global,
+    tokens: &mut Tokens,
+    levels: u32,
+) -> Result<Boxed<Expr>, Halt>
+    ensures { Takes (reading levels conjunction_part tokens.old.rest.now) result tokens.new.rest.now }
+{
+    let first = negation(alloc, tokens, levels)?;
+    let rest = next_negations(alloc, tokens, levels)?;
+    Ok(joined(alloc, Junction::And, first, rest)?)
+}
+
+/// `OR conjunction`
+#[cycle(expressions)]
+#[tactic(auto, using(psm_tree::proofs::Reading::steps), unfolding(psm_tree::specs::ExprGrammar::next_conjunction))]
+pub(crate) fn next_conjunction(
+    alloc: Global,
+    tokens: &mut Tokens,
+    levels: u32,
+) -> Result<Boxed<Expr>, Halt>
+    ensures { Takes (reading levels next_conjunction_part tokens.old.rest.now) result tokens.new.rest.now }
+{
+    tokens.word(Word::Or)?;
+    conjunction(alloc, tokens, levels)
+}
+
+/// `{OR conjunction}`
+#[cycle(expressions)]
+#[tactic(auto, using(psm_tree::proofs::Repeating::turns, psm_tree::proofs::Firsts::first_next_conjunction), unfolding(psm_tree::specs::ExprGrammar::next_conjunctions))]
+pub(crate) fn next_conjunctions(
+    alloc: Global,
+    tokens: &mut Tokens,
+    levels: u32,
+) -> Result<List<Boxed<Expr>>, Halt>
+    ensures { Takes (reading levels next_conjunctions_part tokens.old.rest.now) result tokens.new.rest.now }
+{
+    let mut operands = Vec::new(alloc);
+    for _turn in 0..tokens.left() {
+        if !tokens.at(Word::Or) {
+            break;
+        }
+        let operand = next_conjunction(alloc, tokens, levels)?;
+        operands.push(operand)?;
+    }
+    Ok(List::of(operands))
+}
+
+/// `conjunction {OR conjunction}`: an expression (ISO/IEC 9075:1992, 8.12).
+#[cycle(expressions)]
+#[tactic(auto, using(psm_tree::proofs::Reading::steps), unfolding(psm_tree::specs::ExprGrammar::expr))]
+pub fn expr(alloc: Global, tokens: &mut Tokens, levels: u32) -> Result<Boxed<Expr>, Halt>
+    ensures { Takes (reading levels expr_part tokens.old.rest.now) result tokens.new.rest.now }
+{
+    let first = conjunction(alloc, tokens, levels)?;
+    let rest = next_conjunctions(alloc, tokens, levels)?;
+    Ok(joined(alloc, Junction::Or, first, rest)?)
 }
 
 /// Conditions with AND, or with OR, between them; a lone one is itself.
@@ -151,18 +127,14 @@ pub(crate) fn negation(
 fn joined(
     alloc: Global,
     junction: Junction,
-    first: Expr,
-    rest: List<Expr>,
-) -> Result<Expr, AllocError>
+    first: Boxed<Expr>,
+    rest: List<Boxed<Expr>>,
+) -> Result<Boxed<Expr>, AllocError>
     ensures { IfOk result (λ e. e ≡ joined_by junction first rest) }
 {
     if rest.items().is_empty() {
         return Ok(first);
     }
-    let first = Boxed::new(alloc, first)?;
-    Ok(Expr::Junction {
-        junction,
-        first,
-        rest,
-    })
+    let operands = OneOrMore::of(first, rest);
+    Boxed::new(alloc, Expr::Junction { junction, operands })
 }

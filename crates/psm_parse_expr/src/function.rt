@@ -1,306 +1,232 @@
-//! What begins with a word of its own, but for CASE.
-ghost use Rattle.std.specs.Prelude.{ℕ, ◌≡◌, ◌<◌, ◌≤◌, length, IfOk};
-ghost use Rattle.psm_grammar.specs.Gives.{Gives};
-ghost use Rattle.psm_parse_expr.specs.ExprReaders.{cast_type_read, worded_primary_read, exists_read, cast_read, coalesce_read, nullif_read, next_expr_read, position_read, substring_read, substring_range_read, for_length_read, trim_read, trimmed_read, function_read};
+//! What begins with a word of its own, but for CASE (ISO/IEC 9075:1992, 6.6 to 6.10 and 8.8).
+ghost use Rattle.psm_grammar.specs.Forms.{optional};
+ghost use Rattle.psm_grammar.specs.Grammar.{level};
+ghost use Rattle.psm_token.specs.declared.word.Word.TheVariants.{Exists as ExistsWord, Cast as CastWord, Coalesce as CoalesceWord, NullIf as NullIfWord, Position as PositionWord, Substring as SubstringWord, Trim as TrimWord};
+ghost use Rattle.psm_tree.specs.ExprGrammar.{for_length as for_length_part, trimmed as trimmed_part, worded_primary as worded_primary_part};
+ghost use Rattle.psm_tree.specs.ExprValues.{exists_of, cast_of, coalesce_of, nullif_of, function_of, position_of, substring_of, trim_of};
+ghost use Rattle.psm_tree.specs.Parts.{ExistsRest, CastRest, CoalesceRest, NullIfRest, FunctionRest, PositionRest, SubstringRest, TrimRest};
+ghost use Rattle.psm_tree.specs.Readers.{Takes, reading};
+ghost use Rattle.psm_tree.specs.Tests.{word as word_test, text_function as text_function_test};
 
-use crate::argument::{boxed_source, next_sources};
+use crate::argument::{source, sources};
 use crate::case::case;
-use crate::condition::boxed_expr;
-use crate::operator::{at_trim_side_from, level_below, text_function, trim_side};
-use crate::query::boxed_select;
-use crate::value::{boxed_sum, sum_behind};
+use crate::condition::expr;
+use crate::operator::{open_text_function, trim_side};
+use crate::query::select;
+use crate::value::sum;
 use psm_grammar::Halt;
 use psm_list::Boxed;
-use psm_parse_token::{at_word, before_sign, beside, data_type, expect_sign, expect_word};
-use psm_token::{Placed, Sign, Word};
-use psm_tree::{DataType, Expr, TrimSide};
+use psm_parse_token::{Tokens, data_type};
+use psm_token::{Sign, Word};
+use psm_tree::{Expr, TrimSide};
 use std::alloc::Global;
 
-/// What begins with a word of its own.
-#[cycle(expression)]
-#[tactic(auto, unfolding(crate::specs::ExprReaders::worded_primary_read))]
-pub(crate) fn worded_primary(
-    alloc: Global,
-    tokens: &[Placed],
-    levels: u32,
-) -> Result<(Expr, &[Placed]), Halt>
-    ensures exact { Gives (λ x. (x.0, x.1.now)) result (worded_primary_read levels tokens.now) }
-    ensures takes { IfOk result (λ x. length x.1.now < length tokens.now) }
+const TRIM_SIDES: [Word; 3] = [Word::Leading, Word::Trailing, Word::Both];
+
+/// `EXISTS "(" select ")"` (ISO/IEC 9075:1992, 8.8).
+#[cycle(expressions)]
+#[tactic(auto, using(psm_tree::proofs::Reading::steps), unfolding(psm_tree::specs::ExprGrammar::exists_rest))]
+pub(crate) fn exists(alloc: Global, tokens: &mut Tokens, levels: u32) -> Result<Boxed<Expr>, Halt>
+    ensures { Takes (reading levels (level ExistsRest (word_test ExistsWord) exists_of) tokens.old.rest.now) result tokens.new.rest.now }
 {
-    if at_word(tokens, Word::Exists) {
-        exists(alloc, tokens, levels)
-    } else if at_word(tokens, Word::Case) {
-        case(alloc, tokens, levels)
-    } else if at_word(tokens, Word::Cast) {
-        cast(alloc, tokens, levels)
-    } else if at_word(tokens, Word::Coalesce) {
-        coalesce(alloc, tokens, levels)
-    } else if at_word(tokens, Word::NullIf) {
-        nullif(alloc, tokens, levels)
-    } else if at_word(tokens, Word::Position) {
-        position(alloc, tokens, levels)
-    } else if at_word(tokens, Word::Substring) {
-        substring(alloc, tokens, levels)
-    } else if at_word(tokens, Word::Trim) {
-        trim(alloc, tokens, levels)
-    } else {
-        function(alloc, tokens, levels)
+    let (place, levels) = tokens.open(Word::Exists, levels)?;
+    tokens.sign(Sign::LeftParen)?;
+    let query = select(alloc, tokens, levels)?;
+    tokens.sign(Sign::RightParen)?;
+    Ok(Boxed::new(alloc, Expr::Exists { place, query })?)
+}
+
+/// `CAST "(" source AS type ")"` (ISO/IEC 9075:1992, 6.10).
+#[cycle(expressions)]
+#[tactic(auto, using(psm_tree::proofs::Reading::steps), unfolding(psm_tree::specs::ExprGrammar::cast_rest))]
+pub(crate) fn cast(alloc: Global, tokens: &mut Tokens, levels: u32) -> Result<Boxed<Expr>, Halt>
+    ensures { Takes (reading levels (level CastRest (word_test CastWord) cast_of) tokens.old.rest.now) result tokens.new.rest.now }
+{
+    let (place, levels) = tokens.open(Word::Cast, levels)?;
+    tokens.sign(Sign::LeftParen)?;
+    let source = source(alloc, tokens, levels)?;
+    tokens.word(Word::As)?;
+    let to = data_type(tokens, levels)?;
+    tokens.sign(Sign::RightParen)?;
+    Ok(Boxed::new(alloc, Expr::Cast { place, source, to })?)
+}
+
+/// `COALESCE "(" source {"," source} ")"` (ISO/IEC 9075:1992, 6.9).
+#[cycle(expressions)]
+#[tactic(auto, using(psm_tree::proofs::Reading::steps), unfolding(psm_tree::specs::ExprGrammar::coalesce_rest))]
+pub(crate) fn coalesce(alloc: Global, tokens: &mut Tokens, levels: u32) -> Result<Boxed<Expr>, Halt>
+    ensures { Takes (reading levels (level CoalesceRest (word_test CoalesceWord) coalesce_of) tokens.old.rest.now) result tokens.new.rest.now }
+{
+    let (place, levels) = tokens.open(Word::Coalesce, levels)?;
+    tokens.sign(Sign::LeftParen)?;
+    let values = sources(alloc, tokens, levels)?;
+    tokens.sign(Sign::RightParen)?;
+    Ok(Boxed::new(alloc, Expr::Coalesce { place, values })?)
+}
+
+/// `NULLIF "(" expr "," expr ")"` (ISO/IEC 9075:1992, 6.9).
+#[cycle(expressions)]
+#[tactic(auto, using(psm_tree::proofs::Reading::steps), unfolding(psm_tree::specs::ExprGrammar::nullif_rest))]
+pub(crate) fn nullif(alloc: Global, tokens: &mut Tokens, levels: u32) -> Result<Boxed<Expr>, Halt>
+    ensures { Takes (reading levels (level NullIfRest (word_test NullIfWord) nullif_of) tokens.old.rest.now) result tokens.new.rest.now }
+{
+    let (place, levels) = tokens.open(Word::NullIf, levels)?;
+    tokens.sign(Sign::LeftParen)?;
+    let left = expr(alloc, tokens, levels)?;
+    tokens.sign(Sign::Comma)?;
+    let right = expr(alloc, tokens, levels)?;
+    tokens.sign(Sign::RightParen)?;
+    Ok(Boxed::new(alloc, Expr::NullIf { place, left, right })?)
+}
+
+/// `POSITION "(" sum IN sum ")"` (ISO/IEC 9075:1992, 6.6).
+#[cycle(expressions)]
+#[tactic(auto, using(psm_tree::proofs::Reading::steps), unfolding(psm_tree::specs::ExprGrammar::position_rest))]
+pub(crate) fn position(alloc: Global, tokens: &mut Tokens, levels: u32) -> Result<Boxed<Expr>, Halt>
+    ensures { Takes (reading levels (level PositionRest (word_test PositionWord) position_of) tokens.old.rest.now) result tokens.new.rest.now }
+{
+    let (place, levels) = tokens.open(Word::Position, levels)?;
+    tokens.sign(Sign::LeftParen)?;
+    let part = sum(alloc, tokens, levels)?;
+    tokens.word(Word::In)?;
+    let whole = sum(alloc, tokens, levels)?;
+    tokens.sign(Sign::RightParen)?;
+    Ok(Boxed::new(alloc, Expr::Position { place, part, whole })?)
+}
+
+/// `[FOR expr]`
+#[cycle(expressions)]
+#[tactic(auto, using(psm_tree::proofs::Reading::steps, psm_tree::proofs::Firsts::first_for_length), unfolding(psm_tree::specs::ExprGrammar::for_length))]
+pub(crate) fn perhaps_length(
+    alloc: Global,
+    tokens: &mut Tokens,
+    levels: u32,
+) -> Result<Option<Boxed<Expr>>, Halt>
+    ensures { Takes (reading levels (optional for_length_part) tokens.old.rest.now) result tokens.new.rest.now }
+{
+    if !tokens.at(Word::For) {
+        return Ok(None);
     }
+    tokens.word(Word::For)?;
+    Ok(Some(expr(alloc, tokens, levels)?))
 }
 
-/// `EXISTS (query)` (ISO/IEC 9075:1992, 8.8).
-#[cycle(expression)]
-#[tactic(auto, unfolding(crate::specs::ExprReaders::exists_read, crate::specs::ExprReaders::exists_rest_read))]
-pub(crate) fn exists(
-    alloc: Global,
-    tokens: &[Placed],
-    levels: u32,
-) -> Result<(Expr, &[Placed]), Halt>
-    ensures exact { Gives (λ x. (x.0, x.1.now)) result (exists_read levels tokens.now) }
-    ensures takes { IfOk result (λ x. length x.1.now < length tokens.now) }
-{
-    let (place, rest) = expect_word(tokens, Word::Exists)?;
-    let left = level_below(tokens, levels)?;
-    let (_, rest) = expect_sign(rest, Sign::LeftParen)?;
-    let (query, rest) = boxed_select(alloc, rest, left)?;
-    let (query, rest) = before_sign(query, rest, Sign::RightParen)?;
-    Ok((Expr::Exists { place, query }, rest))
-}
-
-/// `CAST (source AS type)` (ISO/IEC 9075:1992, 6.10).
-#[cycle(expression)]
-#[tactic(auto, unfolding(crate::specs::ExprReaders::cast_read, crate::specs::ExprReaders::cast_rest_read))]
-pub(crate) fn cast(alloc: Global, tokens: &[Placed], levels: u32) -> Result<(Expr, &[Placed]), Halt>
-    ensures exact { Gives (λ x. (x.0, x.1.now)) result (cast_read levels tokens.now) }
-    ensures takes { IfOk result (λ x. length x.1.now < length tokens.now) }
-{
-    let (place, rest) = expect_word(tokens, Word::Cast)?;
-    let left = level_below(tokens, levels)?;
-    let (_, rest) = expect_sign(rest, Sign::LeftParen)?;
-    let (source, rest) = boxed_source(alloc, rest, left)?;
-    match cast_type(rest) {
-        Ok((to, rest)) => {
-            let (source, rest) = before_sign(source, rest, Sign::RightParen)?;
-            Ok((Expr::Cast { place, source, to }, rest))
-        }
-        Err(halt) => Err(halt),
-    }
-}
-
-/// `COALESCE (source, ..)` (ISO/IEC 9075:1992, 6.9).
-#[cycle(expression)]
-#[tactic(auto, unfolding(crate::specs::ExprReaders::coalesce_read, crate::specs::ExprReaders::coalesce_rest_read))]
-pub(crate) fn coalesce(
-    alloc: Global,
-    tokens: &[Placed],
-    levels: u32,
-) -> Result<(Expr, &[Placed]), Halt>
-    ensures exact { Gives (λ x. (x.0, x.1.now)) result (coalesce_read levels tokens.now) }
-    ensures takes { IfOk result (λ x. length x.1.now < length tokens.now) }
-{
-    let (place, rest) = expect_word(tokens, Word::Coalesce)?;
-    let left = level_below(tokens, levels)?;
-    let (_, rest) = expect_sign(rest, Sign::LeftParen)?;
-    let (first, rest) = boxed_source(alloc, rest, left)?;
-    let ((first, others), rest) = beside(first, next_sources(alloc, rest, left))?;
-    let ((first, others), rest) = before_sign((first, others), rest, Sign::RightParen)?;
-    Ok((
-        Expr::Coalesce {
-            place,
-            first,
-            rest: others,
-        },
-        rest,
-    ))
-}
-
-/// `NULLIF (left, right)` (ISO/IEC 9075:1992, 6.9).
-#[cycle(expression)]
-#[tactic(auto, unfolding(crate::specs::ExprReaders::nullif_read, crate::specs::ExprReaders::nullif_rest_read))]
-pub(crate) fn nullif(
-    alloc: Global,
-    tokens: &[Placed],
-    levels: u32,
-) -> Result<(Expr, &[Placed]), Halt>
-    ensures exact { Gives (λ x. (x.0, x.1.now)) result (nullif_read levels tokens.now) }
-    ensures takes { IfOk result (λ x. length x.1.now < length tokens.now) }
-{
-    let (place, rest) = expect_word(tokens, Word::NullIf)?;
-    let left = level_below(tokens, levels)?;
-    let (_, rest) = expect_sign(rest, Sign::LeftParen)?;
-    let (first, rest) = boxed_expr(alloc, rest, left)?;
-    let ((first, second), rest) = beside(first, next_expr(alloc, rest, left))?;
-    let ((left, right), rest) = before_sign((first, second), rest, Sign::RightParen)?;
-    Ok((Expr::NullIf { place, left, right }, rest))
-}
-
-/// A comma and the expression behind it.
-#[cycle(expression)]
-#[tactic(auto, unfolding(crate::specs::ExprReaders::next_expr_read))]
-pub(crate) fn next_expr(
-    alloc: Global,
-    tokens: &[Placed],
-    levels: u32,
-) -> Result<(Boxed<Expr>, &[Placed]), Halt>
-    ensures exact { Gives (λ x. (x.0, x.1.now)) result (next_expr_read levels tokens.now) }
-    ensures takes { IfOk result (λ x. length x.1.now < length tokens.now) }
-{
-    let (_, rest) = expect_sign(tokens, Sign::Comma)?;
-    boxed_expr(alloc, rest, levels)
-}
-
-/// `POSITION (part IN whole)` (ISO/IEC 9075:1992, 6.6).
-#[cycle(expression)]
-#[tactic(auto, unfolding(crate::specs::ExprReaders::position_read, crate::specs::ExprReaders::position_rest_read))]
-pub(crate) fn position(
-    alloc: Global,
-    tokens: &[Placed],
-    levels: u32,
-) -> Result<(Expr, &[Placed]), Halt>
-    ensures exact { Gives (λ x. (x.0, x.1.now)) result (position_read levels tokens.now) }
-    ensures takes { IfOk result (λ x. length x.1.now < length tokens.now) }
-{
-    let (place, rest) = expect_word(tokens, Word::Position)?;
-    let left = level_below(tokens, levels)?;
-    let (_, rest) = expect_sign(rest, Sign::LeftParen)?;
-    let (part, rest) = boxed_sum(alloc, rest, left)?;
-    let ((part, whole), rest) = beside(part, sum_behind(alloc, rest, left, Word::In))?;
-    let ((part, whole), rest) = before_sign((part, whole), rest, Sign::RightParen)?;
-    Ok((Expr::Position { place, part, whole }, rest))
-}
-
-/// `SUBSTRING (text FROM from [FOR length])` (ISO/IEC 9075:1992, 6.7).
-#[cycle(expression)]
-#[tactic(auto, unfolding(crate::specs::ExprReaders::substring_read, crate::specs::ExprReaders::substring_rest_read))]
+/// `SUBSTRING "(" expr FROM expr [FOR expr] ")"` (ISO/IEC 9075:1992, 6.7).
+#[cycle(expressions)]
+#[tactic(auto, using(psm_tree::proofs::Reading::steps), unfolding(psm_tree::specs::ExprGrammar::substring_rest))]
 pub(crate) fn substring(
     alloc: Global,
-    tokens: &[Placed],
+    tokens: &mut Tokens,
     levels: u32,
-) -> Result<(Expr, &[Placed]), Halt>
-    ensures exact { Gives (λ x. (x.0, x.1.now)) result (substring_read levels tokens.now) }
-    ensures takes { IfOk result (λ x. length x.1.now < length tokens.now) }
+) -> Result<Boxed<Expr>, Halt>
+    ensures { Takes (reading levels (level SubstringRest (word_test SubstringWord) substring_of) tokens.old.rest.now) result tokens.new.rest.now }
 {
-    let (place, rest) = expect_word(tokens, Word::Substring)?;
-    let left = level_below(tokens, levels)?;
-    let (_, rest) = expect_sign(rest, Sign::LeftParen)?;
-    let (text, rest) = boxed_expr(alloc, rest, left)?;
-    let ((text, range), rest) = beside(text, substring_range(alloc, rest, left))?;
-    let ((text, (from, length)), rest) = before_sign((text, range), rest, Sign::RightParen)?;
-    Ok((
+    let (place, levels) = tokens.open(Word::Substring, levels)?;
+    tokens.sign(Sign::LeftParen)?;
+    let text = expr(alloc, tokens, levels)?;
+    tokens.word(Word::From)?;
+    let from = expr(alloc, tokens, levels)?;
+    let length = perhaps_length(alloc, tokens, levels)?;
+    tokens.sign(Sign::RightParen)?;
+    Ok(Boxed::new(
+        alloc,
         Expr::Substring {
             place,
             text,
             from,
             length,
         },
-        rest,
-    ))
+    )?)
 }
 
-/// `FROM from [FOR length]`.
-#[cycle(expression)]
-#[tactic(auto, unfolding(crate::specs::ExprReaders::substring_range_read))]
-pub(crate) fn substring_range(
-    alloc: Global,
-    tokens: &[Placed],
-    levels: u32,
-) -> Result<((Boxed<Expr>, Option<Boxed<Expr>>), &[Placed]), Halt>
-    ensures exact { Gives (λ x. (x.0, x.1.now)) result (substring_range_read levels tokens.now) }
-    ensures takes { IfOk result (λ x. length x.1.now < length tokens.now) }
-{
-    let (_, rest) = expect_word(tokens, Word::From)?;
-    let (from, rest) = boxed_expr(alloc, rest, levels)?;
-    beside(from, for_length(alloc, rest, levels))
-}
-
-/// `[FOR length]`.
-#[cycle(expression)]
-#[tactic(auto, unfolding(crate::specs::ExprReaders::for_length_read))]
-pub(crate) fn for_length(
-    alloc: Global,
-    tokens: &[Placed],
-    levels: u32,
-) -> Result<(Option<Boxed<Expr>>, &[Placed]), Halt>
-    ensures exact { Gives (λ x. (x.0, x.1.now)) result (for_length_read levels tokens.now) }
-    ensures takes { IfOk result (λ x. length x.1.now ≤ length tokens.now) }
-{
-    if at_word(tokens, Word::For) {
-        let (_, rest) = expect_word(tokens, Word::For)?;
-        let (length, rest) = boxed_expr(alloc, rest, levels)?;
-        return Ok((Some(length), rest));
-    }
-    Ok((None, tokens))
-}
-
-/// `TRIM ([side FROM] text)` (ISO/IEC 9075:1992, 6.7).
-#[cycle(expression)]
-#[tactic(auto, unfolding(crate::specs::ExprReaders::trim_read, crate::specs::ExprReaders::trim_rest_read))]
-pub(crate) fn trim(alloc: Global, tokens: &[Placed], levels: u32) -> Result<(Expr, &[Placed]), Halt>
-    ensures exact { Gives (λ x. (x.0, x.1.now)) result (trim_read levels tokens.now) }
-    ensures takes { IfOk result (λ x. length x.1.now < length tokens.now) }
-{
-    let (place, rest) = expect_word(tokens, Word::Trim)?;
-    let left = level_below(tokens, levels)?;
-    let (_, rest) = expect_sign(rest, Sign::LeftParen)?;
-    let ((side, text), rest) = trimmed(alloc, rest, left)?;
-    Ok((Expr::Trim { place, side, text }, rest))
-}
-
-/// `[side FROM] text )`.
-#[cycle(expression)]
-#[tactic(auto, unfolding(crate::specs::ExprReaders::trimmed_read))]
+/// `(LEADING | TRAILING | BOTH) FROM expr ")" | expr ")"`
+#[cycle(expressions)]
+#[tactic(auto, using(psm_tree::proofs::Reading::steps), unfolding(psm_tree::specs::ExprGrammar::trimmed, psm_tree::specs::ExprGrammar::sided))]
 pub(crate) fn trimmed(
     alloc: Global,
-    tokens: &[Placed],
+    tokens: &mut Tokens,
     levels: u32,
-) -> Result<((TrimSide, Boxed<Expr>), &[Placed]), Halt>
-    ensures exact { Gives (λ x. (x.0, x.1.now)) result (trimmed_read levels tokens.now) }
-    ensures takes { IfOk result (λ x. length x.1.now < length tokens.now) }
+) -> Result<(TrimSide, Boxed<Expr>), Halt>
+    ensures { Takes (reading levels trimmed_part tokens.old.rest.now) result tokens.new.rest.now }
 {
-    if at_trim_side_from(tokens) {
-        let (side, rest) = trim_side(tokens)?;
-        let (_, rest) = expect_word(rest, Word::From)?;
-        let (text, rest) = boxed_expr(alloc, rest, levels)?;
-        let (text, rest) = before_sign(text, rest, Sign::RightParen)?;
-        return Ok(((side, text), rest));
+    if tokens.at_two(&TRIM_SIDES, Word::From) {
+        let side = trim_side(tokens)?;
+        tokens.word(Word::From)?;
+        let text = expr(alloc, tokens, levels)?;
+        tokens.sign(Sign::RightParen)?;
+        return Ok((side, text));
     }
-    let (text, rest) = boxed_expr(alloc, tokens, levels)?;
-    let (text, rest) = before_sign(text, rest, Sign::RightParen)?;
-    Ok(((TrimSide::Both, text), rest))
+    let text = expr(alloc, tokens, levels)?;
+    tokens.sign(Sign::RightParen)?;
+    Ok((TrimSide::Both, text))
 }
 
-/// A function of one text, with its argument in parentheses.
-#[cycle(expression)]
-#[tactic(auto, unfolding(crate::specs::ExprReaders::function_read, crate::specs::ExprReaders::function_rest_read))]
-pub(crate) fn function(
-    alloc: Global,
-    tokens: &[Placed],
-    levels: u32,
-) -> Result<(Expr, &[Placed]), Halt>
-    ensures exact { Gives (λ x. (x.0, x.1.now)) result (function_read levels tokens.now) }
-    ensures takes { IfOk result (λ x. length x.1.now < length tokens.now) }
+/// `TRIM "(" trimmed` (ISO/IEC 9075:1992, 6.7).
+#[cycle(expressions)]
+#[tactic(auto, using(psm_tree::proofs::Reading::steps), unfolding(psm_tree::specs::ExprGrammar::trim_rest))]
+pub(crate) fn trim(alloc: Global, tokens: &mut Tokens, levels: u32) -> Result<Boxed<Expr>, Halt>
+    ensures { Takes (reading levels (level TrimRest (word_test TrimWord) trim_of) tokens.old.rest.now) result tokens.new.rest.now }
 {
-    let ((place, function), rest) = text_function(tokens)?;
-    let left = level_below(tokens, levels)?;
-    let (_, rest) = expect_sign(rest, Sign::LeftParen)?;
-    let (argument, rest) = boxed_expr(alloc, rest, left)?;
-    let (argument, rest) = before_sign(argument, rest, Sign::RightParen)?;
-    Ok((
+    let (place, levels) = tokens.open(Word::Trim, levels)?;
+    tokens.sign(Sign::LeftParen)?;
+    let (side, text) = trimmed(alloc, tokens, levels)?;
+    Ok(Boxed::new(alloc, Expr::Trim { place, side, text })?)
+}
+
+/// `(CHAR_LENGTH | CHARACTER_LENGTH | UPPER | LOWER) "(" expr ")"`: a function of one text (ISO/IEC 9075:1992, 6.6
+/// and 6.7).
+#[cycle(expressions)]
+#[tactic(auto, using(psm_tree::proofs::Reading::steps), unfolding(psm_tree::specs::ExprGrammar::function_rest))]
+pub(crate) fn function(alloc: Global, tokens: &mut Tokens, levels: u32) -> Result<Boxed<Expr>, Halt>
+    ensures { Takes (reading levels (level FunctionRest text_function_test function_of) tokens.old.rest.now) result tokens.new.rest.now }
+{
+    let (place, function, levels) = open_text_function(tokens, levels)?;
+    tokens.sign(Sign::LeftParen)?;
+    let argument = expr(alloc, tokens, levels)?;
+    tokens.sign(Sign::RightParen)?;
+    Ok(Boxed::new(
+        alloc,
         Expr::Function {
             place,
             function,
             argument,
         },
-        rest,
-    ))
+    )?)
 }
 
-/// `AS type`.
-#[tactic(auto, unfolding(crate::specs::ExprReaders::cast_type_read))]
-fn cast_type(tokens: &[Placed]) -> Result<(DataType, &[Placed]), Halt>
-    ensures exact { Gives (λ x. (x.0, x.1.now)) result (cast_type_read tokens.now) }
-    ensures takes { IfOk result (λ x. length x.1.now < length tokens.now) }
+/// What begins with a word of its own.
+#[cycle(expressions)]
+#[tactic(auto, using(psm_tree::proofs::Reading::steps), unfolding(psm_tree::specs::ExprGrammar::worded_primary))]
+pub(crate) fn worded_primary(
+    alloc: Global,
+    tokens: &mut Tokens,
+    levels: u32,
+) -> Result<Boxed<Expr>, Halt>
+    ensures { Takes (reading levels worded_primary_part tokens.old.rest.now) result tokens.new.rest.now }
 {
-    let (_, rest) = expect_word(tokens, Word::As)?;
-    data_type(rest)
+    if tokens.at(Word::Exists) {
+        return exists(alloc, tokens, levels);
+    }
+    if tokens.at(Word::Case) {
+        return case(alloc, tokens, levels);
+    }
+    if tokens.at(Word::Cast) {
+        return cast(alloc, tokens, levels);
+    }
+    if tokens.at(Word::Coalesce) {
+        return coalesce(alloc, tokens, levels);
+    }
+    if tokens.at(Word::NullIf) {
+        return nullif(alloc, tokens, levels);
+    }
+    if tokens.at(Word::Position) {
+        return position(alloc, tokens, levels);
+    }
+    if tokens.at(Word::Substring) {
+        return substring(alloc, tokens, levels);
+    }
+    if tokens.at(Word::Trim) {
+        return trim(alloc, tokens, levels);
+    }
+    function(alloc, tokens, levels)
 }

@@ -1,7 +1,7 @@
 //! Expressions and queries (ISO/IEC 9075:1992, 6.1 to 8.12): what tokens spell one, and the tree of it.
 //!
-//! Each level of an expression has a function that answers what the reader of its production answers
-//! (`Gives`, psm_grammar). An operand without an operator around it is itself at the levels above.
+//! Each function takes what the reader of its production takes (`Takes`, psm_tree). An operand without an
+//! operator around it is itself at the levels above.
 //!
 //! Each answers `Syntax` at the first token that no spelling goes on with, `Deep` at a token that opens a level
 //! where none is left, and `Memory`. A `Halt` holds the number of tokens that are left at the fault.
@@ -20,5 +20,5 @@ mod whole;
 
 pub use argument::{arguments, source, sources};
 pub use condition::expr;
-pub use query::{TableExpression, from_table, picks, select};
+pub use query::{from_table, picks, select};
 pub use whole::{parse_expr, parse_picks, parse_target, parse_type};

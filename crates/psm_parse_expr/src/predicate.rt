@@ -1,17 +1,28 @@
 //! Predicates: a value, and what is asked of it (ISO/IEC 9075:1992, 8.1 to 8.6).
-ghost use Rattle.std.specs.Prelude.{ℕ, ◌≡◌, ◌<◌, ◌≤◌, length, IfOk};
-ghost use Rattle.psm_grammar.specs.Gives.{Gives};
+ghost use Rattle.std.specs.Prelude.{◌≡◌, IfOk};
+ghost use Rattle.psm_grammar.specs.Forms.{optional};
+ghost use Rattle.psm_tree.specs.ExprGrammar.{between as between_part, next_sum as next_sum_part, next_sums as next_sums_part, sums_in_parens as sums_in_parens_part, in_list as in_list_part, escape as escape_part, like as like_part, is_null as is_null_part, compare as compare_part, negatable as negatable_part, negated_test as negated_test_part, test as test_part, predicate as predicate_part};
 ghost use Rattle.psm_tree.specs.ExprValues.{predicate_of};
-ghost use Rattle.psm_parse_expr.specs.ExprReaders.{test_of, is_null_read, predicate_read, test_read, compare_read, negated_test_read, between_read, in_list_read, next_sums_read, next_sum_read, like_read, escape_read};
+ghost use Rattle.psm_tree.specs.Readers.{Takes, TakesAs, reading};
+ghost use Rattle.psm_parse_expr.specs.Views.{test_of};
 
-use crate::operator::{at_comparison, comparison};
-use crate::value::{boxed_sum, sum, sum_behind};
+use crate::operator::comparison;
+use crate::value::sum;
 use psm_grammar::Halt;
-use psm_list::{Boxed, List};
-use psm_parse_token::{at_sign, at_word, before_sign, beside, expect_sign, expect_word};
-use psm_token::{Placed, Sign, Word};
+use psm_list::{Boxed, List, OneOrMore};
+use psm_parse_token::Tokens;
+use psm_token::{Sign, Word};
 use psm_tree::{Comparison, Expr};
 use std::alloc::{AllocError, Global};
+
+const COMPARISONS: [Sign; 6] = [
+    Sign::Equal,
+    Sign::NotEqual,
+    Sign::Less,
+    Sign::LessEqual,
+    Sign::Greater,
+    Sign::GreaterEqual,
+];
 
 /// What a predicate asks of its value.
 #[derive(Drop)]
@@ -31,8 +42,7 @@ pub(crate) enum Test {
     },
     In {
         negated: bool,
-        first: Boxed<Expr>,
-        rest: List<Expr>,
+        list: OneOrMore<Boxed<Expr>>,
     },
     Like {
         negated: bool,
@@ -41,237 +51,219 @@ pub(crate) enum Test {
     },
 }
 
-/// A value and what is asked of it (ISO/IEC 9075:1992, 8.1 to 8.6).
-#[cycle(expression)]
-#[tactic(auto, unfolding(crate::specs::ExprReaders::predicate_read))]
-pub(crate) fn predicate(
-    alloc: Global,
-    tokens: &[Placed],
-    levels: u32,
-) -> Result<(Expr, &[Placed]), Halt>
-    ensures exact { Gives (λ x. (x.0, x.1.now)) result (predicate_read levels tokens.now) }
-    ensures takes { IfOk result (λ x. length x.1.now < length tokens.now) }
-{
-    let (left, rest) = sum(alloc, tokens, levels)?;
-    let ((left, test), rest) = beside(left, predicate_test(alloc, rest, levels))?;
-    Ok((asked(alloc, left, test)?, rest))
-}
-
-/// What a predicate asks of its value.
-#[cycle(expression)]
-#[tactic(auto, unfolding(crate::specs::ExprReaders::test_read))]
-pub(crate) fn predicate_test(
-    alloc: Global,
-    tokens: &[Placed],
-    levels: u32,
-) -> Result<(Test, &[Placed]), Halt>
-    ensures exact { Gives (λ x. (test_of x.0, x.1.now)) result (test_read levels tokens.now) }
-    ensures takes { IfOk result (λ x. length x.1.now ≤ length tokens.now) }
-{
-    if at_comparison(tokens) {
-        compare(alloc, tokens, levels)
-    } else if at_word(tokens, Word::Is) {
-        is_null(tokens)
-    } else if at_word(tokens, Word::Not) {
-        negated_test(alloc, tokens, levels)
-    } else if at_word(tokens, Word::Between) {
-        between(alloc, tokens, levels, false)
-    } else if at_word(tokens, Word::In) {
-        in_list(alloc, tokens, levels, false)
-    } else if at_word(tokens, Word::Like) {
-        like(alloc, tokens, levels, false)
-    } else {
-        Ok((Test::Nothing, tokens))
-    }
-}
-
-/// A comparison (ISO/IEC 9075:1992, 8.2).
-#[cycle(expression)]
-#[tactic(auto, unfolding(crate::specs::ExprReaders::compare_read))]
-pub(crate) fn compare(
-    alloc: Global,
-    tokens: &[Placed],
-    levels: u32,
-) -> Result<(Test, &[Placed]), Halt>
-    ensures exact { Gives (λ x. (test_of x.0, x.1.now)) result (compare_read levels tokens.now) }
-    ensures takes { IfOk result (λ x. length x.1.now < length tokens.now) }
-{
-    let (operator, rest) = comparison(tokens)?;
-    let (right, rest) = boxed_sum(alloc, rest, levels)?;
-    Ok((Test::Compare { operator, right }, rest))
-}
-
-/// NOT before BETWEEN, IN or LIKE.
-#[cycle(expression)]
-#[tactic(auto, unfolding(crate::specs::ExprReaders::negated_test_read))]
-pub(crate) fn negated_test(
-    alloc: Global,
-    tokens: &[Placed],
-    levels: u32,
-) -> Result<(Test, &[Placed]), Halt>
-    ensures exact { Gives (λ x. (test_of x.0, x.1.now)) result (negated_test_read levels tokens.now) }
-    ensures takes { IfOk result (λ x. length x.1.now < length tokens.now) }
-{
-    let (_, rest) = expect_word(tokens, Word::Not)?;
-    if at_word(rest, Word::Between) {
-        between(alloc, rest, levels, true)
-    } else if at_word(rest, Word::In) {
-        in_list(alloc, rest, levels, true)
-    } else {
-        like(alloc, rest, levels, true)
-    }
-}
-
-/// `BETWEEN low AND high` (ISO/IEC 9075:1992, 8.3).
-#[cycle(expression)]
-#[tactic(auto, unfolding(crate::specs::ExprReaders::between_read))]
+/// `BETWEEN sum AND sum` (ISO/IEC 9075:1992, 8.3).
+#[cycle(expressions)]
+#[tactic(auto, using(psm_tree::proofs::Reading::steps), unfolding(psm_tree::specs::ExprGrammar::between))]
 pub(crate) fn between(
     alloc: Global,
-    tokens: &[Placed],
+    tokens: &mut Tokens,
     levels: u32,
-    negated: bool,
-) -> Result<(Test, &[Placed]), Halt>
-    ensures exact { Gives (λ x. (test_of x.0, x.1.now)) result (between_read negated levels tokens.now) }
-    ensures takes { IfOk result (λ x. length x.1.now < length tokens.now) }
+) -> Result<(Boxed<Expr>, Boxed<Expr>), Halt>
+    ensures { Takes (reading levels between_part tokens.old.rest.now) result tokens.new.rest.now }
 {
-    let (_, rest) = expect_word(tokens, Word::Between)?;
-    let (low, rest) = boxed_sum(alloc, rest, levels)?;
-    let ((low, high), rest) = beside(low, sum_behind(alloc, rest, levels, Word::And))?;
-    Ok((Test::Between { negated, low, high }, rest))
+    tokens.word(Word::Between)?;
+    let low = sum(alloc, tokens, levels)?;
+    tokens.word(Word::And)?;
+    let high = sum(alloc, tokens, levels)?;
+    Ok((low, high))
 }
 
-/// `IN (sum, ..)` (ISO/IEC 9075:1992, 8.4).
-#[cycle(expression)]
-#[tactic(auto, unfolding(crate::specs::ExprReaders::in_list_read))]
-pub(crate) fn in_list(
-    alloc: Global,
-    tokens: &[Placed],
-    levels: u32,
-    negated: bool,
-) -> Result<(Test, &[Placed]), Halt>
-    ensures exact { Gives (λ x. (test_of x.0, x.1.now)) result (in_list_read negated levels tokens.now) }
-    ensures takes { IfOk result (λ x. length x.1.now < length tokens.now) }
+/// `"," sum`
+#[cycle(expressions)]
+#[tactic(auto, using(psm_tree::proofs::Reading::steps), unfolding(psm_tree::specs::ExprGrammar::next_sum))]
+pub(crate) fn next_sum(alloc: Global, tokens: &mut Tokens, levels: u32) -> Result<Boxed<Expr>, Halt>
+    ensures { Takes (reading levels next_sum_part tokens.old.rest.now) result tokens.new.rest.now }
 {
-    let (_, rest) = expect_word(tokens, Word::In)?;
-    let (_, rest) = expect_sign(rest, Sign::LeftParen)?;
-    let (first, rest) = boxed_sum(alloc, rest, levels)?;
-    let ((first, others), rest) = beside(first, next_sums(alloc, rest, levels))?;
-    let ((first, others), rest) = before_sign((first, others), rest, Sign::RightParen)?;
-    Ok((
-        Test::In {
-            negated,
-            first,
-            rest: others,
-        },
-        rest,
-    ))
+    tokens.sign(Sign::Comma)?;
+    sum(alloc, tokens, levels)
 }
 
-/// The values behind commas.
-#[cycle(expression)]
-#[tactic(auto, unfolding(crate::specs::ExprReaders::next_sums_read))]
+/// `{"," sum}`
+#[cycle(expressions)]
+#[tactic(auto, using(psm_tree::proofs::Repeating::turns, psm_tree::proofs::Firsts::first_next_sum), unfolding(psm_tree::specs::ExprGrammar::next_sums))]
 pub(crate) fn next_sums(
     alloc: Global,
-    tokens: &[Placed],
+    tokens: &mut Tokens,
     levels: u32,
-) -> Result<(List<Expr>, &[Placed]), Halt>
-    ensures exact { Gives (λ x. (x.0, x.1.now)) result (next_sums_read levels tokens.now) }
-    ensures takes { IfOk result (λ x. length x.1.now ≤ length tokens.now) }
+) -> Result<List<Boxed<Expr>>, Halt>
+    ensures { Takes (reading levels next_sums_part tokens.old.rest.now) result tokens.new.rest.now }
 {
-    let mut items = Vec::new(alloc);
-    let mut rest = tokens;
-    while at_sign(rest, Sign::Comma) {
-        let (item, next) = next_sum(alloc, rest, levels)?;
-        items.push(item)?;
-        rest = next;
+    let mut sums = Vec::new(alloc);
+    for _turn in 0..tokens.left() {
+        if !tokens.at_sign(Sign::Comma) {
+            break;
+        }
+        let sum = next_sum(alloc, tokens, levels)?;
+        sums.push(sum)?;
     }
-    Ok((List::of(items), rest))
+    Ok(List::of(sums))
 }
 
-/// A comma and the value behind it.
-#[cycle(expression)]
-#[tactic(auto, unfolding(crate::specs::ExprReaders::next_sum_read))]
-pub(crate) fn next_sum(
+/// `IN "(" sum {"," sum} ")"` (ISO/IEC 9075:1992, 8.4).
+#[cycle(expressions)]
+#[tactic(auto, using(psm_tree::proofs::Reading::steps), unfolding(psm_tree::specs::ExprGrammar::in_list, psm_tree::specs::ExprGrammar::sums_in_parens))]
+pub(crate) fn in_list(
     alloc: Global,
-    tokens: &[Placed],
+    tokens: &mut Tokens,
     levels: u32,
-) -> Result<(Expr, &[Placed]), Halt>
-    ensures exact { Gives (λ x. (x.0, x.1.now)) result (next_sum_read levels tokens.now) }
-    ensures takes { IfOk result (λ x. length x.1.now < length tokens.now) }
+) -> Result<OneOrMore<Boxed<Expr>>, Halt>
+    ensures { Takes (reading levels in_list_part tokens.old.rest.now) result tokens.new.rest.now }
 {
-    let (_, rest) = expect_sign(tokens, Sign::Comma)?;
-    sum(alloc, rest, levels)
+    tokens.word(Word::In)?;
+    tokens.sign(Sign::LeftParen)?;
+    let first = sum(alloc, tokens, levels)?;
+    let rest = next_sums(alloc, tokens, levels)?;
+    tokens.sign(Sign::RightParen)?;
+    Ok(OneOrMore::of(first, rest))
 }
 
-/// `LIKE pattern [ESCAPE escape]` (ISO/IEC 9075:1992, 8.5).
-#[cycle(expression)]
-#[tactic(auto, unfolding(crate::specs::ExprReaders::like_read))]
+/// `[ESCAPE sum]`
+#[cycle(expressions)]
+#[tactic(auto, using(psm_tree::proofs::Reading::steps, psm_tree::proofs::Firsts::first_escape), unfolding(psm_tree::specs::ExprGrammar::escape))]
+pub(crate) fn perhaps_escape(
+    alloc: Global,
+    tokens: &mut Tokens,
+    levels: u32,
+) -> Result<Option<Boxed<Expr>>, Halt>
+    ensures { Takes (reading levels (optional escape_part) tokens.old.rest.now) result tokens.new.rest.now }
+{
+    if !tokens.at(Word::Escape) {
+        return Ok(None);
+    }
+    tokens.word(Word::Escape)?;
+    Ok(Some(sum(alloc, tokens, levels)?))
+}
+
+/// `LIKE sum [ESCAPE sum]` (ISO/IEC 9075:1992, 8.5).
+#[cycle(expressions)]
+#[tactic(auto, using(psm_tree::proofs::Reading::steps), unfolding(psm_tree::specs::ExprGrammar::like))]
 pub(crate) fn like(
     alloc: Global,
-    tokens: &[Placed],
+    tokens: &mut Tokens,
     levels: u32,
-    negated: bool,
-) -> Result<(Test, &[Placed]), Halt>
-    ensures exact { Gives (λ x. (test_of x.0, x.1.now)) result (like_read negated levels tokens.now) }
-    ensures takes { IfOk result (λ x. length x.1.now < length tokens.now) }
+) -> Result<(Boxed<Expr>, Option<Boxed<Expr>>), Halt>
+    ensures { Takes (reading levels like_part tokens.old.rest.now) result tokens.new.rest.now }
 {
-    let (_, rest) = expect_word(tokens, Word::Like)?;
-    let (pattern, rest) = boxed_sum(alloc, rest, levels)?;
-    let ((pattern, escape), rest) = beside(pattern, escape(alloc, rest, levels))?;
-    Ok((
-        Test::Like {
-            negated,
-            pattern,
-            escape,
-        },
-        rest,
-    ))
-}
-
-/// `[ESCAPE escape]`.
-#[cycle(expression)]
-#[tactic(auto, unfolding(crate::specs::ExprReaders::escape_read))]
-pub(crate) fn escape(
-    alloc: Global,
-    tokens: &[Placed],
-    levels: u32,
-) -> Result<(Option<Boxed<Expr>>, &[Placed]), Halt>
-    ensures exact { Gives (λ x. (x.0, x.1.now)) result (escape_read levels tokens.now) }
-    ensures takes { IfOk result (λ x. length x.1.now ≤ length tokens.now) }
-{
-    if at_word(tokens, Word::Escape) {
-        let (escape, rest) = sum_behind(alloc, tokens, levels, Word::Escape)?;
-        return Ok((Some(escape), rest));
-    }
-    Ok((None, tokens))
+    tokens.word(Word::Like)?;
+    let pattern = sum(alloc, tokens, levels)?;
+    let escape = perhaps_escape(alloc, tokens, levels)?;
+    Ok((pattern, escape))
 }
 
 /// `IS [NOT] NULL` (ISO/IEC 9075:1992, 8.6).
-#[tactic(auto, unfolding(crate::specs::ExprReaders::is_null_read))]
-fn is_null(tokens: &[Placed]) -> Result<(Test, &[Placed]), Halt>
-    ensures exact { Gives (λ x. (test_of x.0, x.1.now)) result (is_null_read tokens.now) }
-    ensures takes { IfOk result (λ x. length x.1.now < length tokens.now) }
+#[tactic(auto, using(psm_tree::proofs::Reading::steps), unfolding(psm_tree::specs::ExprGrammar::is_null))]
+fn is_null(tokens: &mut Tokens, levels: u32) -> Result<Test, Halt>
+    ensures { TakesAs test_of (reading levels is_null_part tokens.old.rest.now) result tokens.new.rest.now }
 {
-    let (_, rest) = expect_word(tokens, Word::Is)?;
-    if at_word(rest, Word::Not) {
-        let (_, rest) = expect_word(rest, Word::Not)?;
-        let (_, rest) = expect_word(rest, Word::Null)?;
-        return Ok((Test::IsNull { negated: true }, rest));
+    tokens.word(Word::Is)?;
+    let negated = tokens.at(Word::Not);
+    if negated {
+        tokens.word(Word::Not)?;
     }
-    let (_, rest) = expect_word(rest, Word::Null)?;
-    Ok((Test::IsNull { negated: false }, rest))
+    tokens.word(Word::Null)?;
+    Ok(Test::IsNull { negated })
+}
+
+/// `("=" | "<>" | "<" | "<=" | ">" | ">=") sum` (ISO/IEC 9075:1992, 8.2).
+#[cycle(expressions)]
+#[tactic(auto, using(psm_tree::proofs::Reading::steps), unfolding(psm_tree::specs::ExprGrammar::compare))]
+pub(crate) fn compare(alloc: Global, tokens: &mut Tokens, levels: u32) -> Result<Test, Halt>
+    ensures { TakesAs test_of (reading levels compare_part tokens.old.rest.now) result tokens.new.rest.now }
+{
+    let operator = comparison(tokens)?;
+    let right = sum(alloc, tokens, levels)?;
+    Ok(Test::Compare { operator, right })
+}
+
+/// `between | in_list | like`, behind NOT.
+#[cycle(expressions)]
+#[tactic(auto, using(psm_tree::proofs::Reading::steps, psm_tree::proofs::Firsts::first_between, psm_tree::proofs::Firsts::first_in_list), unfolding(psm_tree::specs::ExprGrammar::negatable))]
+pub(crate) fn negatable(alloc: Global, tokens: &mut Tokens, levels: u32) -> Result<Test, Halt>
+    ensures { TakesAs test_of (reading levels negatable_part tokens.old.rest.now) result tokens.new.rest.now }
+{
+    let negated = true;
+    if tokens.at(Word::Between) {
+        let (low, high) = between(alloc, tokens, levels)?;
+        return Ok(Test::Between { negated, low, high });
+    }
+    if tokens.at(Word::In) {
+        let list = in_list(alloc, tokens, levels)?;
+        return Ok(Test::In { negated, list });
+    }
+    let (pattern, escape) = like(alloc, tokens, levels)?;
+    Ok(Test::Like {
+        negated,
+        pattern,
+        escape,
+    })
+}
+
+/// `NOT (between | in_list | like)`
+#[cycle(expressions)]
+#[tactic(auto, using(psm_tree::proofs::Reading::steps), unfolding(psm_tree::specs::ExprGrammar::negated_test))]
+pub(crate) fn negated_test(alloc: Global, tokens: &mut Tokens, levels: u32) -> Result<Test, Halt>
+    ensures { TakesAs test_of (reading levels negated_test_part tokens.old.rest.now) result tokens.new.rest.now }
+{
+    tokens.word(Word::Not)?;
+    negatable(alloc, tokens, levels)
+}
+
+/// `[compare | is_null | negated_test | between | in_list | like]`
+#[cycle(expressions)]
+#[tactic(auto, using(psm_tree::proofs::Reading::steps, psm_tree::proofs::Firsts::first_compare, psm_tree::proofs::Firsts::first_is_null, psm_tree::proofs::Firsts::first_negated_test, psm_tree::proofs::Firsts::first_between, psm_tree::proofs::Firsts::first_in_list, psm_tree::proofs::Firsts::first_like), unfolding(psm_tree::specs::ExprGrammar::test))]
+pub(crate) fn perhaps_test(alloc: Global, tokens: &mut Tokens, levels: u32) -> Result<Test, Halt>
+    ensures { TakesAs test_of (reading levels test_part tokens.old.rest.now) result tokens.new.rest.now }
+{
+    if tokens.at_one_sign_of(&COMPARISONS) {
+        return compare(alloc, tokens, levels);
+    }
+    if tokens.at(Word::Is) {
+        return is_null(tokens, levels);
+    }
+    if tokens.at(Word::Not) {
+        return negated_test(alloc, tokens, levels);
+    }
+    let negated = false;
+    if tokens.at(Word::Between) {
+        let (low, high) = between(alloc, tokens, levels)?;
+        return Ok(Test::Between { negated, low, high });
+    }
+    if tokens.at(Word::In) {
+        let list = in_list(alloc, tokens, levels)?;
+        return Ok(Test::In { negated, list });
+    }
+    if tokens.at(Word::Like) {
+        let (pattern, escape) = like(alloc, tokens, levels)?;
+        return Ok(Test::Like {
+            negated,
+            pattern,
+            escape,
+        });
+    }
+    Ok(Test::Nothing)
+}
+
+/// `sum test` (ISO/IEC 9075:1992, 8.1).
+#[cycle(expressions)]
+#[tactic(auto, using(psm_tree::proofs::Reading::steps), unfolding(psm_tree::specs::ExprGrammar::predicate))]
+pub(crate) fn predicate(
+    alloc: Global,
+    tokens: &mut Tokens,
+    levels: u32,
+) -> Result<Boxed<Expr>, Halt>
+    ensures { Takes (reading levels predicate_part tokens.old.rest.now) result tokens.new.rest.now }
+{
+    let value = sum(alloc, tokens, levels)?;
+    let test = perhaps_test(alloc, tokens, levels)?;
+    Ok(asked(alloc, value, test)?)
 }
 
 /// A value of which that is asked; a value of which nothing is asked is itself.
-fn asked(alloc: Global, value: Expr, test: Test) -> Result<Expr, AllocError>
+fn asked(alloc: Global, value: Boxed<Expr>, test: Test) -> Result<Boxed<Expr>, AllocError>
     ensures { IfOk result (λ e. e ≡ predicate_of value (test_of test)) }
 {
-    if let Test::Nothing = test {
-        return Ok(value);
-    }
-    let value = Boxed::new(alloc, value)?;
-    Ok(match test {
-        Test::Nothing => value.into_inner(),
+    let asked = match test {
+        Test::Nothing => return Ok(value),
         Test::Compare { operator, right } => Expr::Compare {
             operator,
             left: value,
@@ -284,15 +276,10 @@ fn asked(alloc: Global, value: Expr, test: Test) -> Result<Expr, AllocError>
             low,
             high,
         },
-        Test::In {
-            negated,
-            first,
-            rest,
-        } => Expr::In {
+        Test::In { negated, list } => Expr::In {
             negated,
             value,
-            first,
-            rest,
+            list,
         },
         Test::Like {
             negated,
@@ -304,5 +291,6 @@ fn asked(alloc: Global, value: Expr, test: Test) -> Result<Expr, AllocError>
             pattern,
             escape,
         },
-    })
+    };
+    Boxed::new(alloc, asked)
 }

@@ -1,143 +1,90 @@
-//! What stands in an expression without an operator around it.
-ghost use Rattle.std.specs.Prelude.{ℕ, ◌≡◌, ◌<◌, ◌≤◌, length, IfOk};
-ghost use Rattle.psm_grammar.specs.Gives.{Gives};
-ghost use Rattle.psm_grammar.specs.Readers.{one, made};
-ghost use Rattle.psm_tree.specs.Kinds.{kind};
-ghost use Rattle.psm_tree.specs.Tests.{number as number_test, text as text_test};
-ghost use Rattle.psm_tree.specs.ExprValues.{number_primary as number_value, text_primary as text_value};
-ghost use Rattle.psm_parse_expr.specs.ExprReaders.{primary_read, named_primary_read, call_read, enclosed_primary_read};
+//! What stands in an expression without an operator around it (ISO/IEC 9075:1992, 6.2 to 6.11).
+ghost use Rattle.psm_grammar.specs.Grammar.{level};
+ghost use Rattle.psm_token.specs.declared.sign.Sign.TheVariants.{LeftParen};
+ghost use Rattle.psm_tree.specs.ExprGrammar.{named_primary as named_primary_part, primary as primary_part};
+ghost use Rattle.psm_tree.specs.ExprValues.{enclosed_of};
+ghost use Rattle.psm_tree.specs.Parts.{Enclosed};
+ghost use Rattle.psm_tree.specs.Readers.{Takes, reading};
+ghost use Rattle.psm_tree.specs.Tests.{sign as sign_test};
 
 use crate::argument::arguments;
-use crate::condition::boxed_expr;
+use crate::condition::expr;
 use crate::function::worded_primary;
-use crate::operator::level_below;
-use crate::query::boxed_select;
+use crate::query::select;
 use psm_grammar::Halt;
-use psm_list::List;
-use psm_parse_token::{
-    at_name, at_number, at_sign, at_text, at_word, before_sign, beside, expect_name, expect_number,
-    expect_sign, expect_text, second_name,
-};
-use psm_token::{Placed, Sign, Word};
+use psm_list::Boxed;
+use psm_parse_token::{Tokens, second_name};
+use psm_token::{Sign, Word};
 use psm_tree::{Expr, Target};
 use std::alloc::Global;
 
-/// What stands in an expression without an operator around it.
-#[cycle(expression)]
-#[tactic(auto, unfolding(crate::specs::ExprReaders::primary_read))]
-pub(crate) fn primary(
-    alloc: Global,
-    tokens: &[Placed],
-    levels: u32,
-) -> Result<(Expr, &[Placed]), Halt>
-    ensures exact { Gives (λ x. (x.0, x.1.now)) result (primary_read levels tokens.now) }
-    ensures takes { IfOk result (λ x. length x.1.now < length tokens.now) }
-{
-    if at_number(tokens) {
-        number_primary(tokens)
-    } else if at_text(tokens) {
-        text_primary(alloc, tokens)
-    } else if at_name(tokens) {
-        named_primary(alloc, tokens, levels)
-    } else if at_sign(tokens, Sign::LeftParen) {
-        enclosed(alloc, tokens, levels)
-    } else {
-        worded_primary(alloc, tokens, levels)
-    }
-}
-
-/// A name, a name of a name, or a call.
-#[cycle(expression)]
-#[tactic(auto, unfolding(crate::specs::ExprReaders::named_primary_read))]
+/// `name ["." name | "(" arguments ")"]`: a name, a name of a name, or a call.
+#[cycle(expressions)]
+#[tactic(auto, using(psm_tree::proofs::Reading::steps, psm_tree::proofs::Firsts::first_second_name), unfolding(psm_tree::specs::ExprGrammar::named_primary, psm_tree::specs::ExprGrammar::name_rest))]
 pub(crate) fn named_primary(
     alloc: Global,
-    tokens: &[Placed],
+    tokens: &mut Tokens,
     levels: u32,
-) -> Result<(Expr, &[Placed]), Halt>
-    ensures exact { Gives (λ x. (x.0, x.1.now)) result (named_primary_read levels tokens.now) }
-    ensures takes { IfOk result (λ x. length x.1.now < length tokens.now) }
+) -> Result<Boxed<Expr>, Halt>
+    ensures { Takes (reading levels named_primary_part tokens.old.rest.now) result tokens.new.rest.now }
 {
-    let (name, rest) = expect_name(alloc, tokens)?;
-    if at_sign(rest, Sign::Period) {
-        let ((first, second), rest) = beside(name, second_name(alloc, rest))?;
-        let second = Some(second);
-        return Ok((Expr::Name(Target { first, second }), rest));
+    let first = tokens.name(alloc)?;
+    if tokens.at_sign(Sign::Period) {
+        let second = Some(second_name(alloc, tokens, levels)?);
+        return Ok(Boxed::new(alloc, Expr::Name(Target { first, second }))?);
     }
-    if at_sign(rest, Sign::LeftParen) {
-        let ((function, arguments), rest) = beside(name, call(alloc, rest, levels))?;
-        return Ok((
-            Expr::Call {
-                function,
-                arguments,
-            },
-            rest,
-        ));
+    if !tokens.at_sign(Sign::LeftParen) {
+        let second = None;
+        return Ok(Boxed::new(alloc, Expr::Name(Target { first, second }))?);
     }
-    let second = None;
-    Ok((
-        Expr::Name(Target {
-            first: name,
-            second,
-        }),
-        rest,
-    ))
+    let (_, levels) = tokens.open_sign(Sign::LeftParen, levels)?;
+    let arguments = arguments(alloc, tokens, levels)?;
+    let function = first;
+    Ok(Boxed::new(
+        alloc,
+        Expr::Call {
+            function,
+            arguments,
+        },
+    )?)
 }
 
-/// The arguments of a call, in parentheses.
-#[cycle(expression)]
-#[tactic(auto, unfolding(crate::specs::ExprReaders::call_read))]
-pub(crate) fn call(
-    alloc: Global,
-    tokens: &[Placed],
-    levels: u32,
-) -> Result<(List<Expr>, &[Placed]), Halt>
-    ensures exact { Gives (λ x. (x.0, x.1.now)) result (call_read levels tokens.now) }
-    ensures takes { IfOk result (λ x. length x.1.now < length tokens.now) }
+/// `"(" (select | expr) ")"`
+#[cycle(expressions)]
+#[tactic(auto, using(psm_tree::proofs::Reading::steps, crate::proofs::EnclosedFirst::first_closed_select), unfolding(psm_tree::specs::ExprGrammar::enclosed))]
+pub(crate) fn enclosed(alloc: Global, tokens: &mut Tokens, levels: u32) -> Result<Boxed<Expr>, Halt>
+    ensures { Takes (reading levels (level Enclosed (sign_test LeftParen) enclosed_of) tokens.old.rest.now) result tokens.new.rest.now }
 {
-    let (_, rest) = expect_sign(tokens, Sign::LeftParen)?;
-    let left = level_below(tokens, levels)?;
-    arguments(alloc, rest, left)
-}
-
-/// A query or an expression in parentheses.
-#[cycle(expression)]
-#[tactic(auto, unfolding(crate::specs::ExprReaders::enclosed_primary_read, crate::specs::ExprReaders::enclosed_read))]
-pub(crate) fn enclosed(
-    alloc: Global,
-    tokens: &[Placed],
-    levels: u32,
-) -> Result<(Expr, &[Placed]), Halt>
-    ensures exact { Gives (λ x. (x.0, x.1.now)) result (enclosed_primary_read levels tokens.now) }
-    ensures takes { IfOk result (λ x. length x.1.now < length tokens.now) }
-{
-    let (place, rest) = expect_sign(tokens, Sign::LeftParen)?;
-    let left = level_below(tokens, levels)?;
-    if at_word(rest, Word::Select) {
-        let (query, rest) = boxed_select(alloc, rest, left)?;
-        let (query, rest) = before_sign(query, rest, Sign::RightParen)?;
-        return Ok((Expr::Subquery { place, query }, rest));
+    let (place, levels) = tokens.open_sign(Sign::LeftParen, levels)?;
+    if tokens.at(Word::Select) {
+        let query = select(alloc, tokens, levels)?;
+        tokens.sign(Sign::RightParen)?;
+        return Ok(Boxed::new(alloc, Expr::Subquery { place, query })?);
     }
-    let (expr, rest) = boxed_expr(alloc, rest, left)?;
-    let (expr, rest) = before_sign(expr, rest, Sign::RightParen)?;
-    Ok((Expr::Parenthesized { place, expr }, rest))
+    let expr = expr(alloc, tokens, levels)?;
+    tokens.sign(Sign::RightParen)?;
+    Ok(Boxed::new(alloc, Expr::Parenthesized { place, expr })?)
 }
 
-/// A number.
-fn number_primary(tokens: &[Placed]) -> Result<(Expr, &[Placed]), Halt>
-    ensures exact { Gives (λ x. (x.0, x.1.now)) result (made number_value (one kind number_test) tokens.now) }
-    ensures takes { IfOk result (λ x. length x.1.now < length tokens.now) }
+/// `num | text | named | "(" (select | expr) ")" | worded`
+#[cycle(expressions)]
+#[tactic(auto, using(psm_tree::proofs::Reading::steps, psm_tree::proofs::Firsts::first_named_primary), unfolding(psm_tree::specs::ExprGrammar::primary))]
+pub(crate) fn primary(alloc: Global, tokens: &mut Tokens, levels: u32) -> Result<Boxed<Expr>, Halt>
+    ensures { Takes (reading levels primary_part tokens.old.rest.now) result tokens.new.rest.now }
 {
-    match expect_number(tokens) {
-        Ok((place, value, rest)) => Ok((Expr::Number { place, value }, rest)),
-        Err(halt) => Err(halt),
+    if tokens.at_number() {
+        let (place, value) = tokens.number()?;
+        return Ok(Boxed::new(alloc, Expr::Number { place, value })?);
     }
-}
-
-/// A text.
-fn text_primary(alloc: Global, tokens: &[Placed]) -> Result<(Expr, &[Placed]), Halt>
-    ensures exact { Gives (λ x. (x.0, x.1.now)) result (made text_value (one kind text_test) tokens.now) }
-    ensures takes { IfOk result (λ x. length x.1.now < length tokens.now) }
-{
-    let (place, value, rest) = expect_text(alloc, tokens)?;
-    Ok((Expr::Text { place, value }, rest))
+    if tokens.at_text() {
+        let (place, value) = tokens.text(alloc)?;
+        return Ok(Boxed::new(alloc, Expr::Text { place, value })?);
+    }
+    if tokens.at_name() {
+        return named_primary(alloc, tokens, levels);
+    }
+    if tokens.at_sign(Sign::LeftParen) {
+        return enclosed(alloc, tokens, levels);
+    }
+    worded_primary(alloc, tokens, levels)
 }

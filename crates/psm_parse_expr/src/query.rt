@@ -1,45 +1,263 @@
 //! Queries (ISO/IEC 9075:1992, 7.9).
-ghost use Rattle.std.specs.Prelude.{ℕ, ◌≡◌, ◌<◌, ◌≤◌, length, IfOk};
-ghost use Rattle.psm_grammar.specs.Gives.{Gives};
-ghost use Rattle.psm_grammar.specs.Readers.{both};
+ghost use Rattle.std.specs.Prelude.{◌≡◌, IfOk};
+ghost use Rattle.psm_grammar.specs.Forms.{optional};
+ghost use Rattle.psm_tree.specs.ExprGrammar.{counted as counted_part, count as count_part, aggregate as aggregate_part, item as item_part, alias as alias_part, pick as pick_part, next_pick as next_pick_part, next_picks as next_picks_part, picks as picks_part, where_condition as where_condition_part, from_table as from_table_part, select as select_part};
 ghost use Rattle.psm_tree.specs.ExprValues.{pick_of};
-ghost use Rattle.psm_parse_expr.specs.ExprReaders.{from_of_table, alias_read, select_read, from_clause_read, from_table_read, table_rest_read, where_condition_read, picks_read, next_picks_read, next_pick_read, pick_read, count_read, aggregate_read};
+ghost use Rattle.psm_tree.specs.Readers.{Takes, TakesAs, reading};
+ghost use Rattle.psm_parse_expr.specs.Views.{item_of};
 
-use crate::condition::{boxed_expr, expr};
-use crate::operator::{at_set_function, set_function};
+use crate::condition::expr;
+use crate::operator::set_function;
 use psm_grammar::Halt;
-use psm_list::{Boxed, List};
-use psm_parse_token::{
-    at_name, at_sign, at_word, before_sign, beside, expect_name, expect_sign, expect_word, in_front,
-};
-use psm_token::{Placed, Sign, Word};
+use psm_list::{Boxed, List, OneOrMore};
+use psm_parse_token::Tokens;
+use psm_token::{Place, Sign, Word};
 use psm_tree::{Expr, Identifier, Pick, Select, SetFunction};
-use std::alloc::Global;
+use std::alloc::{AllocError, Global};
 
-/// The table of a query, its alias and its condition.
+const SET_FUNCTIONS: [Word; 4] = [Word::Sum, Word::Avg, Word::Min, Word::Max];
+
+/// An item of a query without its own name.
 #[derive(Drop)]
-pub struct TableExpression {
-    pub table: Identifier,
-    pub alias: Option<Identifier>,
-    pub condition: Option<Boxed<Expr>>,
+pub(crate) enum UnnamedItem {
+    Plain(Boxed<Expr>),
+    /// `COUNT(*)`.
+    Rows(Place),
+    Aggregate {
+        place: Place,
+        function: SetFunction,
+        argument: Boxed<Expr>,
+    },
 }
 
-/// A query over one table (ISO/IEC 9075:1992, 7.9).
-#[cycle(expression)]
-#[tactic(auto, unfolding(crate::specs::ExprReaders::select_read))]
-pub fn select(alloc: Global, tokens: &[Placed], levels: u32) -> Result<(Select, &[Placed]), Halt>
-    ensures exact { Gives (λ x. (x.0, x.1.now)) result (select_read levels tokens.now) }
-    ensures takes { IfOk result (λ x. length x.1.now < length tokens.now) }
+/// `"*" | expr`, behind COUNT.
+#[cycle(expressions)]
+#[tactic(auto, using(psm_tree::proofs::Reading::steps), unfolding(psm_tree::specs::ExprGrammar::counted))]
+pub(crate) fn counted(
+    alloc: Global,
+    tokens: &mut Tokens,
+    levels: u32,
+) -> Result<Option<Boxed<Expr>>, Halt>
+    ensures { Takes (reading levels counted_part tokens.old.rest.now) result tokens.new.rest.now }
 {
-    let (place, rest) = expect_word(tokens, Word::Select)?;
-    let (picks, rest) = picks(alloc, rest, levels)?;
-    let ((picks, from), rest) = beside(picks, from_clause(alloc, rest, levels))?;
-    let TableExpression {
-        table,
-        alias,
-        condition,
-    } = from;
-    Ok((
+    if tokens.at_sign(Sign::Asterisk) {
+        tokens.sign(Sign::Asterisk)?;
+        return Ok(None);
+    }
+    Ok(Some(expr(alloc, tokens, levels)?))
+}
+
+/// `COUNT "(" ("*" | expr) ")"` (ISO/IEC 9075:1992, 6.5).
+#[cycle(expressions)]
+#[tactic(auto, using(psm_tree::proofs::Reading::steps), unfolding(psm_tree::specs::ExprGrammar::count))]
+pub(crate) fn count(alloc: Global, tokens: &mut Tokens, levels: u32) -> Result<UnnamedItem, Halt>
+    ensures { TakesAs item_of (reading levels count_part tokens.old.rest.now) result tokens.new.rest.now }
+{
+    let place = tokens.word(Word::Count)?;
+    tokens.sign(Sign::LeftParen)?;
+    let counted = counted(alloc, tokens, levels)?;
+    tokens.sign(Sign::RightParen)?;
+    match counted {
+        None => Ok(UnnamedItem::Rows(place)),
+        Some(argument) => {
+            let function = SetFunction::Count;
+            Ok(UnnamedItem::Aggregate {
+                place,
+                function,
+                argument,
+            })
+        }
+    }
+}
+
+/// `(SUM | AVG | MIN | MAX) "(" expr ")"` (ISO/IEC 9075:1992, 6.5).
+#[cycle(expressions)]
+#[tactic(auto, using(psm_tree::proofs::Reading::steps), unfolding(psm_tree::specs::ExprGrammar::aggregate))]
+pub(crate) fn aggregate(
+    alloc: Global,
+    tokens: &mut Tokens,
+    levels: u32,
+) -> Result<UnnamedItem, Halt>
+    ensures { TakesAs item_of (reading levels aggregate_part tokens.old.rest.now) result tokens.new.rest.now }
+{
+    let (place, function) = set_function(tokens)?;
+    tokens.sign(Sign::LeftParen)?;
+    let argument = expr(alloc, tokens, levels)?;
+    tokens.sign(Sign::RightParen)?;
+    Ok(UnnamedItem::Aggregate {
+        place,
+        function,
+        argument,
+    })
+}
+
+/// `count | aggregate | expr`
+#[cycle(expressions)]
+#[tactic(auto, using(psm_tree::proofs::Reading::steps, psm_tree::proofs::Firsts::first_count, psm_tree::proofs::Firsts::first_aggregate), unfolding(psm_tree::specs::ExprGrammar::item))]
+pub(crate) fn item(alloc: Global, tokens: &mut Tokens, levels: u32) -> Result<UnnamedItem, Halt>
+    ensures { TakesAs item_of (reading levels item_part tokens.old.rest.now) result tokens.new.rest.now }
+{
+    if tokens.at(Word::Count) {
+        return count(alloc, tokens, levels);
+    }
+    if tokens.at_one_of(&SET_FUNCTIONS) {
+        return aggregate(alloc, tokens, levels);
+    }
+    Ok(UnnamedItem::Plain(expr(alloc, tokens, levels)?))
+}
+
+/// `[[AS] name]`
+#[tactic(auto, using(psm_tree::proofs::Reading::steps), unfolding(psm_tree::specs::ExprGrammar::alias))]
+fn alias(alloc: Global, tokens: &mut Tokens, levels: u32) -> Result<Option<Identifier>, Halt>
+    ensures { Takes (reading levels alias_part tokens.old.rest.now) result tokens.new.rest.now }
+{
+    if tokens.at(Word::As) {
+        tokens.word(Word::As)?;
+        return Ok(Some(tokens.name(alloc)?));
+    }
+    if tokens.at_name() {
+        return Ok(Some(tokens.name(alloc)?));
+    }
+    Ok(None)
+}
+
+/// An item with its own name where it has one.
+fn picked(
+    alloc: Global,
+    item: UnnamedItem,
+    alias: Option<Identifier>,
+) -> Result<Boxed<Pick>, AllocError>
+    ensures { IfOk result (λ p. p ≡ pick_of (item_of item) alias) }
+{
+    let pick = match item {
+        UnnamedItem::Plain(expr) => Pick::Expr { expr, alias },
+        UnnamedItem::Rows(place) => Pick::CountRows { place, alias },
+        UnnamedItem::Aggregate {
+            place,
+            function,
+            argument,
+        } => Pick::Aggregate {
+            place,
+            function,
+            argument,
+            alias,
+        },
+    };
+    Boxed::new(alloc, pick)
+}
+
+/// `item [[AS] name]`
+#[cycle(expressions)]
+#[tactic(auto, using(psm_tree::proofs::Reading::steps), unfolding(psm_tree::specs::ExprGrammar::pick))]
+pub(crate) fn pick(alloc: Global, tokens: &mut Tokens, levels: u32) -> Result<Boxed<Pick>, Halt>
+    ensures { Takes (reading levels pick_part tokens.old.rest.now) result tokens.new.rest.now }
+{
+    let item = item(alloc, tokens, levels)?;
+    let alias = alias(alloc, tokens, levels)?;
+    Ok(picked(alloc, item, alias)?)
+}
+
+/// `"," item [[AS] name]`
+#[cycle(expressions)]
+#[tactic(auto, using(psm_tree::proofs::Reading::steps), unfolding(psm_tree::specs::ExprGrammar::next_pick))]
+pub(crate) fn next_pick(
+    alloc: Global,
+    tokens: &mut Tokens,
+    levels: u32,
+) -> Result<Boxed<Pick>, Halt>
+    ensures { Takes (reading levels next_pick_part tokens.old.rest.now) result tokens.new.rest.now }
+{
+    tokens.sign(Sign::Comma)?;
+    pick(alloc, tokens, levels)
+}
+
+/// `{"," item [[AS] name]}`
+#[cycle(expressions)]
+#[tactic(auto, using(psm_tree::proofs::Repeating::turns, psm_tree::proofs::Firsts::first_next_pick), unfolding(psm_tree::specs::ExprGrammar::next_picks))]
+pub(crate) fn next_picks(
+    alloc: Global,
+    tokens: &mut Tokens,
+    levels: u32,
+) -> Result<List<Boxed<Pick>>, Halt>
+    ensures { Takes (reading levels next_picks_part tokens.old.rest.now) result tokens.new.rest.now }
+{
+    let mut picks = Vec::new(alloc);
+    for _turn in 0..tokens.left() {
+        if !tokens.at_sign(Sign::Comma) {
+            break;
+        }
+        let pick = next_pick(alloc, tokens, levels)?;
+        picks.push(pick)?;
+    }
+    Ok(List::of(picks))
+}
+
+/// `"*" | pick {"," pick}`: the items of a query.
+#[cycle(expressions)]
+#[tactic(auto, using(psm_tree::proofs::Reading::steps), unfolding(psm_tree::specs::ExprGrammar::picks))]
+pub fn picks(
+    alloc: Global,
+    tokens: &mut Tokens,
+    levels: u32,
+) -> Result<OneOrMore<Boxed<Pick>>, Halt>
+    ensures { Takes (reading levels picks_part tokens.old.rest.now) result tokens.new.rest.now }
+{
+    if tokens.at_sign(Sign::Asterisk) {
+        let place = tokens.sign(Sign::Asterisk)?;
+        let all = Boxed::new(alloc, Pick::All { place })?;
+        return Ok(OneOrMore::of(all, List::of(Vec::new(alloc))));
+    }
+    let first = pick(alloc, tokens, levels)?;
+    let rest = next_picks(alloc, tokens, levels)?;
+    Ok(OneOrMore::of(first, rest))
+}
+
+/// `[WHERE expr]` (ISO/IEC 9075:1992, 7.6).
+#[cycle(expressions)]
+#[tactic(auto, using(psm_tree::proofs::Reading::steps, psm_tree::proofs::Firsts::first_where_condition), unfolding(psm_tree::specs::ExprGrammar::where_condition))]
+pub(crate) fn perhaps_condition(
+    alloc: Global,
+    tokens: &mut Tokens,
+    levels: u32,
+) -> Result<Option<Boxed<Expr>>, Halt>
+    ensures { Takes (reading levels (optional where_condition_part) tokens.old.rest.now) result tokens.new.rest.now }
+{
+    if !tokens.at(Word::Where) {
+        return Ok(None);
+    }
+    tokens.word(Word::Where)?;
+    Ok(Some(expr(alloc, tokens, levels)?))
+}
+
+/// `name [[AS] name] [WHERE expr]`: the table of a query, its alias and its condition (ISO/IEC 9075:1992, 7.4
+/// and 7.6).
+#[cycle(expressions)]
+#[tactic(auto, using(psm_tree::proofs::Reading::steps), unfolding(psm_tree::specs::ExprGrammar::from_table))]
+pub fn from_table(
+    alloc: Global,
+    tokens: &mut Tokens,
+    levels: u32,
+) -> Result<(Identifier, Option<Identifier>, Option<Boxed<Expr>>), Halt>
+    ensures { TakesAs (λ x. record { table = x.0; alias = x.1; condition = x.2 }) (reading levels from_table_part tokens.old.rest.now) result tokens.new.rest.now }
+{
+    let table = tokens.name(alloc)?;
+    let alias = alias(alloc, tokens, levels)?;
+    let condition = perhaps_condition(alloc, tokens, levels)?;
+    Ok((table, alias, condition))
+}
+
+/// `SELECT picks FROM from_table`: a query over one table (ISO/IEC 9075:1992, 7.9).
+#[cycle(expressions)]
+#[tactic(auto, using(psm_tree::proofs::Reading::steps), unfolding(psm_tree::specs::ExprGrammar::select))]
+pub fn select(alloc: Global, tokens: &mut Tokens, levels: u32) -> Result<Boxed<Select>, Halt>
+    ensures { Takes (reading levels select_part tokens.old.rest.now) result tokens.new.rest.now }
+{
+    let place = tokens.word(Word::Select)?;
+    let picks = picks(alloc, tokens, levels)?;
+    tokens.word(Word::From)?;
+    let (table, alias, condition) = from_table(alloc, tokens, levels)?;
+    Ok(Boxed::new(
+        alloc,
         Select {
             place,
             picks,
@@ -47,243 +265,5 @@ pub fn select(alloc: Global, tokens: &[Placed], levels: u32) -> Result<(Select, 
             alias,
             condition,
         },
-        rest,
-    ))
-}
-
-/// A query on the heap.
-#[cycle(expression)]
-pub(crate) fn boxed_select(
-    alloc: Global,
-    tokens: &[Placed],
-    levels: u32,
-) -> Result<(Boxed<Select>, &[Placed]), Halt>
-    ensures exact { Gives (λ x. (x.0, x.1.now)) result (select_read levels tokens.now) }
-    ensures takes { IfOk result (λ x. length x.1.now < length tokens.now) }
-{
-    let (value, rest) = select(alloc, tokens, levels)?;
-    Ok((Boxed::new(alloc, value)?, rest))
-}
-
-/// `FROM table`.
-#[cycle(expression)]
-#[tactic(auto, unfolding(crate::specs::ExprReaders::from_clause_read))]
-pub(crate) fn from_clause(
-    alloc: Global,
-    tokens: &[Placed],
-    levels: u32,
-) -> Result<(TableExpression, &[Placed]), Halt>
-    ensures exact { Gives (λ x. (from_of_table x.0, x.1.now)) result (from_clause_read levels tokens.now) }
-    ensures takes { IfOk result (λ x. length x.1.now < length tokens.now) }
-{
-    let (_, rest) = expect_word(tokens, Word::From)?;
-    from_table(alloc, rest, levels)
-}
-
-/// The table of a query, its alias and its condition (ISO/IEC 9075:1992, 7.4 and 7.6).
-#[cycle(expression)]
-#[tactic(auto, unfolding(crate::specs::ExprReaders::from_table_read))]
-pub fn from_table(
-    alloc: Global,
-    tokens: &[Placed],
-    levels: u32,
-) -> Result<(TableExpression, &[Placed]), Halt>
-    ensures exact { Gives (λ x. (from_of_table x.0, x.1.now)) result (from_table_read levels tokens.now) }
-    ensures takes { IfOk result (λ x. length x.1.now < length tokens.now) }
-{
-    let (table, rest) = expect_name(alloc, tokens)?;
-    let ((table, (alias, condition)), rest) = beside(table, table_rest(alloc, rest, levels))?;
-    Ok((
-        TableExpression {
-            table,
-            alias,
-            condition,
-        },
-        rest,
-    ))
-}
-
-/// `[[AS] alias] [WHERE condition]`.
-#[cycle(expression)]
-#[tactic(auto, unfolding(crate::specs::ExprReaders::table_rest_read))]
-pub(crate) fn table_rest(
-    alloc: Global,
-    tokens: &[Placed],
-    levels: u32,
-) -> Result<((Option<Identifier>, Option<Boxed<Expr>>), &[Placed]), Halt>
-    ensures exact { Gives (λ x. (x.0, x.1.now)) result (table_rest_read levels tokens.now) }
-    ensures takes { IfOk result (λ x. length x.1.now ≤ length tokens.now) }
-{
-    let (alias, rest) = alias(alloc, tokens)?;
-    beside(alias, where_condition(alloc, rest, levels))
-}
-
-/// `[WHERE condition]`.
-#[cycle(expression)]
-#[tactic(auto, unfolding(crate::specs::ExprReaders::where_condition_read))]
-pub(crate) fn where_condition(
-    alloc: Global,
-    tokens: &[Placed],
-    levels: u32,
-) -> Result<(Option<Boxed<Expr>>, &[Placed]), Halt>
-    ensures exact { Gives (λ x. (x.0, x.1.now)) result (where_condition_read levels tokens.now) }
-    ensures takes { IfOk result (λ x. length x.1.now ≤ length tokens.now) }
-{
-    if at_word(tokens, Word::Where) {
-        let (_, rest) = expect_word(tokens, Word::Where)?;
-        let (condition, rest) = boxed_expr(alloc, rest, levels)?;
-        return Ok((Some(condition), rest));
-    }
-    Ok((None, tokens))
-}
-
-/// `*`, or one item or more (ISO/IEC 9075:1992, 7.9).
-#[cycle(expression)]
-#[tactic(auto, unfolding(crate::specs::ExprReaders::picks_read))]
-pub fn picks(alloc: Global, tokens: &[Placed], levels: u32) -> Result<(List<Pick>, &[Placed]), Halt>
-    ensures exact { Gives (λ x. (x.0, x.1.now)) result (picks_read levels tokens.now) }
-    ensures takes { IfOk result (λ x. length x.1.now < length tokens.now) }
-{
-    if at_sign(tokens, Sign::Asterisk) {
-        let (place, rest) = expect_sign(tokens, Sign::Asterisk)?;
-        let items = in_front(Pick::All { place }, List::of(Vec::new(alloc)))?;
-        return Ok((items, rest));
-    }
-    let (first, rest) = pick(alloc, tokens, levels)?;
-    let ((first, others), rest) = beside(first, next_picks(alloc, rest, levels))?;
-    Ok((in_front(first, others)?, rest))
-}
-
-/// The items behind commas.
-#[cycle(expression)]
-#[tactic(auto, unfolding(crate::specs::ExprReaders::next_picks_read))]
-pub(crate) fn next_picks(
-    alloc: Global,
-    tokens: &[Placed],
-    levels: u32,
-) -> Result<(List<Pick>, &[Placed]), Halt>
-    ensures exact { Gives (λ x. (x.0, x.1.now)) result (next_picks_read levels tokens.now) }
-    ensures takes { IfOk result (λ x. length x.1.now ≤ length tokens.now) }
-{
-    let mut items = Vec::new(alloc);
-    let mut rest = tokens;
-    while at_sign(rest, Sign::Comma) {
-        let (item, next) = next_pick(alloc, rest, levels)?;
-        items.push(item)?;
-        rest = next;
-    }
-    Ok((List::of(items), rest))
-}
-
-/// A comma and the item behind it.
-#[cycle(expression)]
-#[tactic(auto, unfolding(crate::specs::ExprReaders::next_pick_read))]
-pub(crate) fn next_pick(
-    alloc: Global,
-    tokens: &[Placed],
-    levels: u32,
-) -> Result<(Pick, &[Placed]), Halt>
-    ensures exact { Gives (λ x. (x.0, x.1.now)) result (next_pick_read levels tokens.now) }
-    ensures takes { IfOk result (λ x. length x.1.now < length tokens.now) }
-{
-    let (_, rest) = expect_sign(tokens, Sign::Comma)?;
-    pick(alloc, rest, levels)
-}
-
-/// An item, and its own name where it has one.
-#[cycle(expression)]
-#[tactic(auto, unfolding(crate::specs::ExprReaders::pick_read, crate::specs::ExprReaders::item_read))]
-pub(crate) fn pick(alloc: Global, tokens: &[Placed], levels: u32) -> Result<(Pick, &[Placed]), Halt>
-    ensures exact { Gives (λ x. (x.0, x.1.now)) result (pick_read levels tokens.now) }
-    ensures takes { IfOk result (λ x. length x.1.now < length tokens.now) }
-{
-    if at_word(tokens, Word::Count) {
-        count(alloc, tokens, levels)
-    } else if at_set_function(tokens) {
-        aggregate(alloc, tokens, levels)
-    } else {
-        let (expr, rest) = expr(alloc, tokens, levels)?;
-        let ((expr, alias), rest) = beside(expr, alias(alloc, rest))?;
-        Ok((Pick::Expr { expr, alias }, rest))
-    }
-}
-
-/// `COUNT (*)` or `COUNT (expr)` (ISO/IEC 9075:1992, 6.5), and its own name where it has one.
-#[cycle(expression)]
-#[tactic(auto, unfolding(crate::specs::ExprReaders::count_read))]
-pub(crate) fn count(
-    alloc: Global,
-    tokens: &[Placed],
-    levels: u32,
-) -> Result<(Pick, &[Placed]), Halt>
-    ensures exact { Gives (λ x. (x.0, x.1.now)) result (both pick_of (count_read levels) alias_read tokens.now) }
-    ensures takes { IfOk result (λ x. length x.1.now < length tokens.now) }
-{
-    let (place, rest) = expect_word(tokens, Word::Count)?;
-    let (_, rest) = expect_sign(rest, Sign::LeftParen)?;
-    if at_sign(rest, Sign::Asterisk) {
-        let (_, rest) = expect_sign(rest, Sign::Asterisk)?;
-        let (_, rest) = expect_sign(rest, Sign::RightParen)?;
-        let (alias, rest) = alias(alloc, rest)?;
-        return Ok((Pick::CountRows { place, alias }, rest));
-    }
-    let (argument, rest) = expr(alloc, rest, levels)?;
-    let (argument, rest) = before_sign(argument, rest, Sign::RightParen)?;
-    let ((argument, alias), rest) = beside(argument, alias(alloc, rest))?;
-    let function = SetFunction::Count;
-    Ok((
-        Pick::Aggregate {
-            place,
-            function,
-            argument,
-            alias,
-        },
-        rest,
-    ))
-}
-
-/// A set function and its argument in parentheses (ISO/IEC 9075:1992, 6.5), and its own name where it has
-/// one.
-#[cycle(expression)]
-#[tactic(auto, unfolding(crate::specs::ExprReaders::aggregate_read))]
-pub(crate) fn aggregate(
-    alloc: Global,
-    tokens: &[Placed],
-    levels: u32,
-) -> Result<(Pick, &[Placed]), Halt>
-    ensures exact { Gives (λ x. (x.0, x.1.now)) result (both pick_of (aggregate_read levels) alias_read tokens.now) }
-    ensures takes { IfOk result (λ x. length x.1.now < length tokens.now) }
-{
-    let ((place, function), rest) = set_function(tokens)?;
-    let (_, rest) = expect_sign(rest, Sign::LeftParen)?;
-    let (argument, rest) = expr(alloc, rest, levels)?;
-    let (argument, rest) = before_sign(argument, rest, Sign::RightParen)?;
-    let ((argument, alias), rest) = beside(argument, alias(alloc, rest))?;
-    Ok((
-        Pick::Aggregate {
-            place,
-            function,
-            argument,
-            alias,
-        },
-        rest,
-    ))
-}
-
-/// `[[AS] alias]`.
-#[tactic(auto, unfolding(crate::specs::ExprReaders::alias_read))]
-fn alias(alloc: Global, tokens: &[Placed]) -> Result<(Option<Identifier>, &[Placed]), Halt>
-    ensures exact { Gives (λ x. (x.0, x.1.now)) result (alias_read tokens.now) }
-    ensures takes { IfOk result (λ x. length x.1.now ≤ length tokens.now) }
-{
-    if at_word(tokens, Word::As) {
-        let (_, rest) = expect_word(tokens, Word::As)?;
-        let (name, rest) = expect_name(alloc, rest)?;
-        return Ok((Some(name), rest));
-    }
-    if at_name(tokens) {
-        let (name, rest) = expect_name(alloc, tokens)?;
-        return Ok((Some(name), rest));
-    }
-    Ok((None, tokens))
+    )?)
 }

@@ -1,183 +1,138 @@
 //! Values: sums, terms and factors (ISO/IEC 9075:1992, 6.11 to 6.13).
-ghost use Rattle.std.specs.Prelude.{ℕ, ◌≡◌, ◌<◌, ◌≤◌, length, IfOk};
-ghost use Rattle.psm_grammar.specs.Gives.{Gives};
+ghost use Rattle.std.specs.Prelude.{◌≡◌, IfOk};
+ghost use Rattle.psm_tree.specs.ExprGrammar.{factor as factor_part, next_factor as next_factor_part, next_factors as next_factors_part, term as term_part, next_term as next_term_part, next_terms as next_terms_part, sum as sum_part};
 ghost use Rattle.psm_tree.specs.ExprValues.{chain_of};
-ghost use Rattle.psm_parse_expr.specs.ExprReaders.{sum_read, next_terms_read, next_term_read, term_read, next_factors_read, next_factor_read, factor_read, sum_behind_read};
+ghost use Rattle.psm_tree.specs.Readers.{Takes, reading};
 
-use crate::operator::{
-    at_plus_minus, at_sum_operator, at_term_operator, sum_operator, term_operator,
-};
+use crate::operator::{sum_operator, term_operator};
 use crate::primary::primary;
 use psm_grammar::Halt;
 use psm_list::{Boxed, List};
-use psm_parse_token::{beside, expect_plus_minus, expect_word};
-use psm_token::{Placed, Word};
+use psm_parse_token::{Tokens, plus_minus};
+use psm_token::Sign;
 use psm_tree::{Expr, Link};
 use std::alloc::{AllocError, Global};
 
-/// A sum on the heap.
-#[cycle(expression)]
-pub(crate) fn boxed_sum(
-    alloc: Global,
-    tokens: &[Placed],
-    levels: u32,
-) -> Result<(Boxed<Expr>, &[Placed]), Halt>
-    ensures exact { Gives (λ x. (x.0, x.1.now)) result (sum_read levels tokens.now) }
-    ensures takes { IfOk result (λ x. length x.1.now < length tokens.now) }
-{
-    let (value, rest) = sum(alloc, tokens, levels)?;
-    Ok((Boxed::new(alloc, value)?, rest))
-}
+const PLUS_MINUS: [Sign; 2] = [Sign::Plus, Sign::Minus];
 
-/// Terms with `+`, `-` or `||` between them, or a lone one.
-#[cycle(expression)]
-#[tactic(auto, unfolding(crate::specs::ExprReaders::sum_read))]
-pub(crate) fn sum(alloc: Global, tokens: &[Placed], levels: u32) -> Result<(Expr, &[Placed]), Halt>
-    ensures exact { Gives (λ x. (x.0, x.1.now)) result (sum_read levels tokens.now) }
-    ensures takes { IfOk result (λ x. length x.1.now < length tokens.now) }
-{
-    let (first, rest) = term(alloc, tokens, levels)?;
-    let ((first, others), rest) = beside(first, next_terms(alloc, rest, levels))?;
-    Ok((chained(alloc, first, others)?, rest))
-}
+const TERM_OPERATORS: [Sign; 2] = [Sign::Asterisk, Sign::Solidus];
 
-/// The terms behind operators.
-#[cycle(expression)]
-#[tactic(auto, unfolding(crate::specs::ExprReaders::next_terms_read))]
-pub(crate) fn next_terms(
-    alloc: Global,
-    tokens: &[Placed],
-    levels: u32,
-) -> Result<(List<Link>, &[Placed]), Halt>
-    ensures exact { Gives (λ x. (x.0, x.1.now)) result (next_terms_read levels tokens.now) }
-    ensures takes { IfOk result (λ x. length x.1.now ≤ length tokens.now) }
+const SUM_OPERATORS: [Sign; 3] = [Sign::Plus, Sign::Minus, Sign::Concatenation];
+
+/// `["+" | "-"] primary`
+#[cycle(expressions)]
+#[tactic(auto, using(psm_tree::proofs::Reading::steps), unfolding(psm_tree::specs::ExprGrammar::factor))]
+pub(crate) fn factor(alloc: Global, tokens: &mut Tokens, levels: u32) -> Result<Boxed<Expr>, Halt>
+    ensures { Takes (reading levels factor_part tokens.old.rest.now) result tokens.new.rest.now }
 {
-    let mut items = Vec::new(alloc);
-    let mut rest = tokens;
-    while at_sum_operator(rest) {
-        let (item, next) = next_term(alloc, rest, levels)?;
-        items.push(item)?;
-        rest = next;
+    if !tokens.at_one_sign_of(&PLUS_MINUS) {
+        return primary(alloc, tokens, levels);
     }
-    Ok((List::of(items), rest))
+    let (place, sign) = plus_minus(tokens)?;
+    let operand = primary(alloc, tokens, levels)?;
+    Ok(Boxed::new(
+        alloc,
+        Expr::Signed {
+            place,
+            sign,
+            operand,
+        },
+    )?)
 }
 
-/// An operator and the term behind it.
-#[cycle(expression)]
-#[tactic(auto, unfolding(crate::specs::ExprReaders::next_term_read))]
-pub(crate) fn next_term(
-    alloc: Global,
-    tokens: &[Placed],
-    levels: u32,
-) -> Result<(Link, &[Placed]), Halt>
-    ensures exact { Gives (λ x. (x.0, x.1.now)) result (next_term_read levels tokens.now) }
-    ensures takes { IfOk result (λ x. length x.1.now < length tokens.now) }
+/// `("*" | "/") factor`
+#[cycle(expressions)]
+#[tactic(auto, using(psm_tree::proofs::Reading::steps), unfolding(psm_tree::specs::ExprGrammar::next_factor))]
+pub(crate) fn next_factor(alloc: Global, tokens: &mut Tokens, levels: u32) -> Result<Link, Halt>
+    ensures { Takes (reading levels next_factor_part tokens.old.rest.now) result tokens.new.rest.now }
 {
-    let (operator, rest) = sum_operator(tokens)?;
-    let (operand, rest) = term(alloc, rest, levels)?;
-    Ok((Link { operator, operand }, rest))
+    let operator = term_operator(tokens)?;
+    let operand = factor(alloc, tokens, levels)?;
+    Ok(Link { operator, operand })
 }
 
-/// Factors with `*` or `/` between them, or a lone one.
-#[cycle(expression)]
-#[tactic(auto, unfolding(crate::specs::ExprReaders::term_read))]
-pub(crate) fn term(alloc: Global, tokens: &[Placed], levels: u32) -> Result<(Expr, &[Placed]), Halt>
-    ensures exact { Gives (λ x. (x.0, x.1.now)) result (term_read levels tokens.now) }
-    ensures takes { IfOk result (λ x. length x.1.now < length tokens.now) }
-{
-    let (first, rest) = factor(alloc, tokens, levels)?;
-    let ((first, others), rest) = beside(first, next_factors(alloc, rest, levels))?;
-    Ok((chained(alloc, first, others)?, rest))
-}
-
-/// The factors behind operators.
-#[cycle(expression)]
-#[tactic(auto, unfolding(crate::specs::ExprReaders::next_factors_read))]
+/// `{("*" | "/") factor}`
+#[cycle(expressions)]
+#[tactic(auto, using(psm_tree::proofs::Repeating::turns, psm_tree::proofs::Firsts::first_next_factor), unfolding(psm_tree::specs::ExprGrammar::next_factors))]
 pub(crate) fn next_factors(
     alloc: Global,
-    tokens: &[Placed],
+    tokens: &mut Tokens,
     levels: u32,
-) -> Result<(List<Link>, &[Placed]), Halt>
-    ensures exact { Gives (λ x. (x.0, x.1.now)) result (next_factors_read levels tokens.now) }
-    ensures takes { IfOk result (λ x. length x.1.now ≤ length tokens.now) }
+) -> Result<List<Link>, Halt>
+    ensures { Takes (reading levels next_factors_part tokens.old.rest.now) result tokens.new.rest.now }
 {
-    let mut items = Vec::new(alloc);
-    let mut rest = tokens;
-    while at_term_operator(rest) {
-        let (item, next) = next_factor(alloc, rest, levels)?;
-        items.push(item)?;
-        rest = next;
+    let mut links = Vec::new(alloc);
+    for _turn in 0..tokens.left() {
+        if !tokens.at_one_sign_of(&TERM_OPERATORS) {
+            break;
+        }
+        let link = next_factor(alloc, tokens, levels)?;
+        links.push(link)?;
     }
-    Ok((List::of(items), rest))
+    Ok(List::of(links))
 }
 
-/// An operator and the factor behind it.
-#[cycle(expression)]
-#[tactic(auto, unfolding(crate::specs::ExprReaders::next_factor_read))]
-pub(crate) fn next_factor(
-    alloc: Global,
-    tokens: &[Placed],
-    levels: u32,
-) -> Result<(Link, &[Placed]), Halt>
-    ensures exact { Gives (λ x. (x.0, x.1.now)) result (next_factor_read levels tokens.now) }
-    ensures takes { IfOk result (λ x. length x.1.now < length tokens.now) }
+/// `factor {("*" | "/") factor}`
+#[cycle(expressions)]
+#[tactic(auto, using(psm_tree::proofs::Reading::steps), unfolding(psm_tree::specs::ExprGrammar::term))]
+pub(crate) fn term(alloc: Global, tokens: &mut Tokens, levels: u32) -> Result<Boxed<Expr>, Halt>
+    ensures { Takes (reading levels term_part tokens.old.rest.now) result tokens.new.rest.now }
 {
-    let (operator, rest) = term_operator(tokens)?;
-    let (operand, rest) = factor(alloc, rest, levels)?;
-    Ok((Link { operator, operand }, rest))
+    let first = factor(alloc, tokens, levels)?;
+    let links = next_factors(alloc, tokens, levels)?;
+    Ok(chained(alloc, first, links)?)
 }
 
-/// A primary, with a sign before it where there is one.
-#[cycle(expression)]
-#[tactic(auto, unfolding(crate::specs::ExprReaders::factor_read))]
-pub(crate) fn factor(
-    alloc: Global,
-    tokens: &[Placed],
-    levels: u32,
-) -> Result<(Expr, &[Placed]), Halt>
-    ensures exact { Gives (λ x. (x.0, x.1.now)) result (factor_read levels tokens.now) }
-    ensures takes { IfOk result (λ x. length x.1.now < length tokens.now) }
+/// `("+" | "-" | "||") term`
+#[cycle(expressions)]
+#[tactic(auto, using(psm_tree::proofs::Reading::steps), unfolding(psm_tree::specs::ExprGrammar::next_term))]
+pub(crate) fn next_term(alloc: Global, tokens: &mut Tokens, levels: u32) -> Result<Link, Halt>
+    ensures { Takes (reading levels next_term_part tokens.old.rest.now) result tokens.new.rest.now }
 {
-    if at_plus_minus(tokens) {
-        let ((place, sign), rest) = expect_plus_minus(tokens)?;
-        let (operand, rest) = primary(alloc, rest, levels)?;
-        let operand = Boxed::new(alloc, operand)?;
-        return Ok((
-            Expr::Signed {
-                place,
-                sign,
-                operand,
-            },
-            rest,
-        ));
+    let operator = sum_operator(tokens)?;
+    let operand = term(alloc, tokens, levels)?;
+    Ok(Link { operator, operand })
+}
+
+/// `{("+" | "-" | "||") term}`
+#[cycle(expressions)]
+#[tactic(auto, using(psm_tree::proofs::Repeating::turns, psm_tree::proofs::Firsts::first_next_term), unfolding(psm_tree::specs::ExprGrammar::next_terms))]
+pub(crate) fn next_terms(
+    alloc: Global,
+    tokens: &mut Tokens,
+    levels: u32,
+) -> Result<List<Link>, Halt>
+    ensures { Takes (reading levels next_terms_part tokens.old.rest.now) result tokens.new.rest.now }
+{
+    let mut links = Vec::new(alloc);
+    for _turn in 0..tokens.left() {
+        if !tokens.at_one_sign_of(&SUM_OPERATORS) {
+            break;
+        }
+        let link = next_term(alloc, tokens, levels)?;
+        links.push(link)?;
     }
-    primary(alloc, tokens, levels)
+    Ok(List::of(links))
 }
 
-/// A word, and a sum behind it.
-#[cycle(expression)]
-#[tactic(auto, unfolding(crate::specs::ExprReaders::sum_behind_read))]
-pub(crate) fn sum_behind(
-    alloc: Global,
-    tokens: &[Placed],
-    levels: u32,
-    word: Word,
-) -> Result<(Boxed<Expr>, &[Placed]), Halt>
-    ensures exact { Gives (λ x. (x.0, x.1.now)) result (sum_behind_read word levels tokens.now) }
-    ensures takes { IfOk result (λ x. length x.1.now < length tokens.now) }
+/// `term {("+" | "-" | "||") term}`
+#[cycle(expressions)]
+#[tactic(auto, using(psm_tree::proofs::Reading::steps), unfolding(psm_tree::specs::ExprGrammar::sum))]
+pub(crate) fn sum(alloc: Global, tokens: &mut Tokens, levels: u32) -> Result<Boxed<Expr>, Halt>
+    ensures { Takes (reading levels sum_part tokens.old.rest.now) result tokens.new.rest.now }
 {
-    let (_, rest) = expect_word(tokens, word)?;
-    boxed_sum(alloc, rest, levels)
+    let first = term(alloc, tokens, levels)?;
+    let links = next_terms(alloc, tokens, levels)?;
+    Ok(chained(alloc, first, links)?)
 }
 
 /// Operands with operators of one level between them; a lone one is itself.
 #[tactic(auto, using(crate::proofs::Built::chain_some))]
-fn chained(alloc: Global, first: Expr, rest: List<Link>) -> Result<Expr, AllocError>
-    ensures { IfOk result (λ e. e ≡ chain_of first rest) }
+fn chained(alloc: Global, first: Boxed<Expr>, links: List<Link>) -> Result<Boxed<Expr>, AllocError>
+    ensures { IfOk result (λ e. e ≡ chain_of first links) }
 {
-    if rest.items().is_empty() {
+    if links.items().is_empty() {
         return Ok(first);
     }
-    let first = Boxed::new(alloc, first)?;
-    Ok(Expr::Chain { first, rest })
+    Boxed::new(alloc, Expr::Chain { first, links })
 }

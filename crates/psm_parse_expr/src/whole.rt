@@ -1,17 +1,17 @@
 //! The parsers of expressions, of the items of queries, of targets and of data types in a list of tokens.
-ghost use Rattle.std.specs.Prelude.{ℕ, ◌≡◌, ◌≤◌, length, IfOk};
+ghost use Rattle.std.specs.Prelude.{ℕ, ◌≡◌, ◌≤◌, length};
 ghost use Rattle.psm_grammar.specs.Grammar.{Spells};
-ghost use Rattle.psm_tree.specs.ExprGrammar.{expr as expr_grammar, picks as picks_grammar, target as target_grammar, data_type as type_grammar};
+ghost use Rattle.psm_tree.specs.ExprGrammar.{expr as expr_part, picks as picks_part, target as target_part, data_type as type_part};
 ghost use Rattle.psm_tree.specs.Productions.{productions};
 ghost use Rattle.psm_tree.specs.Reading.{ReadsRun};
-ghost use Rattle.psm_parse_expr.specs.Numbered.{Numbered};
+ghost use Rattle.psm_parse_expr.specs.Numbered.{numbered as numbered_of};
 
 use crate::condition::expr;
 use crate::query::picks;
 use psm_grammar::Halt;
-use psm_list::List;
-use psm_parse_token::{data_type, fault_of, target};
-use psm_token::{Placed, TokenList};
+use psm_list::{Boxed, OneOrMore};
+use psm_parse_token::{Tokens, data_type, fault_of, target};
+use psm_token::TokenList;
 use psm_tree::{DataType, Expr, ParseFault, Pick, Target};
 use std::alloc::Global;
 
@@ -26,12 +26,15 @@ pub fn parse_expr(
     tokens: &TokenList,
     at: usize,
     depth: u32,
-) -> Result<(Expr, usize), ParseFault>
+) -> Result<(Boxed<Expr>, usize), ParseFault>
     requires within { at ≤ length tokens.now.tokens }
     requires shallow { depth ≤ 100 }
-    ensures { ReadsRun (Spells productions depth expr_grammar) (λ x. x) tokens.now at result }
+    ensures { ReadsRun (Spells productions depth expr_part) (λ x. x) tokens.now at result }
 {
-    numbered(tokens, expr(alloc, &tokens.items()[at..], 100 - depth))
+    let mut cursor = Tokens::of(&tokens.items()[at..]);
+    let read = expr(alloc, &mut cursor, 100 - depth);
+    let Tokens { rest } = cursor;
+    numbered(tokens, rest.len(), read)
 }
 
 /// The items of a query that begin at token `at`, where `depth` levels are open, and the number of the token
@@ -45,12 +48,15 @@ pub fn parse_picks(
     tokens: &TokenList,
     at: usize,
     depth: u32,
-) -> Result<(List<Pick>, usize), ParseFault>
+) -> Result<(OneOrMore<Boxed<Pick>>, usize), ParseFault>
     requires within { at ≤ length tokens.now.tokens }
     requires shallow { depth ≤ 100 }
-    ensures { ReadsRun (Spells productions depth picks_grammar) (λ x. x) tokens.now at result }
+    ensures { ReadsRun (Spells productions depth picks_part) (λ x. x) tokens.now at result }
 {
-    numbered(tokens, picks(alloc, &tokens.items()[at..], 100 - depth))
+    let mut cursor = Tokens::of(&tokens.items()[at..]);
+    let read = picks(alloc, &mut cursor, 100 - depth);
+    let Tokens { rest } = cursor;
+    numbered(tokens, rest.len(), read)
 }
 
 /// The target that begins at token `at`, where `depth` levels are open, and the number of the token behind it
@@ -66,9 +72,12 @@ pub fn parse_target(
 ) -> Result<(Target, usize), ParseFault>
     requires within { at ≤ length tokens.now.tokens }
     requires shallow { depth ≤ 100 }
-    ensures { ReadsRun (Spells productions depth target_grammar) (λ x. x) tokens.now at result }
+    ensures { ReadsRun (Spells productions depth target_part) (λ x. x) tokens.now at result }
 {
-    numbered(tokens, target(alloc, &tokens.items()[at..]))
+    let mut cursor = Tokens::of(&tokens.items()[at..]);
+    let read = target(alloc, &mut cursor, 100 - depth);
+    let Tokens { rest } = cursor;
+    numbered(tokens, rest.len(), read)
 }
 
 /// The data type that begins at token `at`, where `depth` levels are open, and the number of the token behind
@@ -84,27 +93,29 @@ pub fn parse_type(
 ) -> Result<(DataType, usize), ParseFault>
     requires within { at ≤ length tokens.now.tokens }
     requires shallow { depth ≤ 100 }
-    ensures { ReadsRun (Spells productions depth type_grammar) (λ x. x) tokens.now at result }
+    ensures { ReadsRun (Spells productions depth type_part) (λ x. x) tokens.now at result }
 {
-    // `numbered` does not do here: the borrow checker has no rule for handing a data type on beside a slice.
+    // `numbered` does not do here: the borrow checker has no rule for handing a data type on.
     let items = tokens.items();
-    match data_type(&items[at..]) {
-        Ok((kind, rest)) => Ok((kind, items.len() - rest.len())),
+    let mut cursor = Tokens::of(&items[at..]);
+    let read = data_type(&mut cursor, 100 - depth);
+    let Tokens { rest } = cursor;
+    match read {
+        Ok(kind) => Ok((kind, items.len().saturating_sub(rest.len()))),
         Err(halt) => Err(fault_of(tokens, halt)),
     }
 }
 
-/// What was read of a list of tokens, with the number of the token behind it in place of the tokens that are
-/// left.
+/// What was read of a list of tokens, with the number of the token behind it, where so many tokens are left.
 fn numbered<X: Drop>(
     tokens: &TokenList,
-    read: Result<(X, &[Placed]), Halt>,
+    left: usize,
+    read: Result<X, Halt>,
 ) -> Result<(X, usize), ParseFault>
-    requires { IfOk read (λ x. length x.1.now ≤ length tokens.now.tokens) }
-    ensures { Numbered (λ x. (x.0, length x.1.now)) tokens.now read.entry result }
+    ensures { result ≡ numbered_of tokens.now left read }
 {
     match read {
-        Ok((value, rest)) => Ok((value, tokens.items().len() - rest.len())),
+        Ok(value) => Ok((value, tokens.items().len().saturating_sub(left))),
         Err(halt) => Err(fault_of(tokens, halt)),
     }
 }
