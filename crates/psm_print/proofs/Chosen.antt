@@ -9,7 +9,9 @@ use Rattle.psm_token.specs.declared.token.Token.{Token}
 use Rattle.psm_token.specs.declared.token.Token.TheVariants as t
 use Rattle.psm_grammar.specs.Language.{has}
 use Rattle.psm_grammar.specs.Grammar.{token}
-use Rattle.psm_tree.specs.Kinds.{code, sign_code, token_kind, number_kind, text_kind}
+use Rattle.psm_token.specs.Words.{word_kind}
+use Rattle.psm_token.specs.Signs.{sign_kind}
+use Rattle.psm_token.specs.Kinds.{token_kind, number_kind, text_kind}
 use Rattle.psm_tree.specs.Tests.{word, name, name_kinds, spelled, number, number_of, text, characters_of, plus_minus, sign_of, comparison, comparison_of, sum_operator, sum_operator_of, term_operator, term_operator_of, text_function, text_function_of, set_function, set_function_of, trim_side, trim_side_of, integer_word, numeric_word, char_word, handler_kind, handler_kind_of, statement_item, statement_item_of, condition_item, condition_item_of, exception_word, mode, mode_of}
 use Rattle.psm_tree.specs.declared.types.Sign.{Sign as PlusMinus}
 use Rattle.psm_tree.specs.declared.types.Sign.TheVariants as signs
@@ -43,23 +45,23 @@ start = record { line = 1; column = 1 }
 
 -- ---- names and literals
 
-sign_no_name : (x : Sign) → has (sign_code x) name_kinds ≡ false
+sign_no_name : (x : Sign) → has (sign_kind x) name_kinds ≡ false
 sign_no_name s.LeftParen = refl
 sign_no_name _ = refl
 
-sign_no_number : (x : Sign) → has (sign_code x) (number_kind ∷ []) ≡ false
+sign_no_number : (x : Sign) → has (sign_kind x) (number_kind ∷ []) ≡ false
 sign_no_number s.LeftParen = refl
 sign_no_number _ = refl
 
-sign_no_text : (x : Sign) → has (sign_code x) (text_kind ∷ []) ≡ false
+sign_no_text : (x : Sign) → has (sign_kind x) (text_kind ∷ []) ≡ false
 sign_no_text s.LeftParen = refl
 sign_no_text _ = refl
 
-word_no_number : (x : Word) → has (code x) (number_kind ∷ []) ≡ false
+word_no_number : (x : Word) → has (word_kind x) (number_kind ∷ []) ≡ false
 word_no_number w.And = refl
 word_no_number _ = refl
 
-word_no_text : (x : Word) → has (code x) (text_kind ∷ []) ≡ false
+word_no_text : (x : Word) → has (word_kind x) (text_kind ∷ []) ≡ false
 word_no_text w.And = refl
 word_no_text _ = refl
 
@@ -105,7 +107,7 @@ abbrev plus_minus_sign : PlusMinus → Sign
 plus_minus_sign signs.Plus = s.Plus
 plus_minus_sign signs.Minus = s.Minus
 
-plus_minus_known : (a : PlusMinus) → has (sign_code (plus_minus_sign a)) plus_minus.kinds ≡ true
+plus_minus_known : (a : PlusMinus) → has (sign_kind (plus_minus_sign a)) plus_minus.kinds ≡ true
 plus_minus_known signs.Plus = refl
 plus_minus_known signs.Minus = refl
 
@@ -129,7 +131,7 @@ comparison_sign comparisons.LessEqual = s.LessEqual
 comparison_sign comparisons.Greater = s.Greater
 comparison_sign comparisons.GreaterEqual = s.GreaterEqual
 
-comparison_known : (a : Comparison) → has (sign_code (comparison_sign a)) comparison.kinds ≡ true
+comparison_known : (a : Comparison) → has (sign_kind (comparison_sign a)) comparison.kinds ≡ true
 comparison_known comparisons.Equal = refl
 comparison_known _ = refl
 
@@ -155,7 +157,7 @@ operator_told : (a : Operator) → t.Sign (operator_sign a) ∷ [] ≡ operator_
 operator_told operators.Add = refl
 operator_told _ = refl
 
-sum_operator_known : (y : Token) → has (sign_code (operator_sign (sum_operator_of y))) sum_operator.kinds ≡ true
+sum_operator_known : (y : Token) → has (sign_kind (operator_sign (sum_operator_of y))) sum_operator.kinds ≡ true
 sum_operator_known (t.Sign s.Minus) = refl
 sum_operator_known (t.Sign s.Concatenation) = refl
 sum_operator_known _ = refl
@@ -168,7 +170,7 @@ sum_operator_again _ = refl
 pub into_sum_operator : {z : Setting} → Into z (token sum_operator) (token sum_operator) operator_tokens
 into_sum_operator {z} = into_told _ operator_told (into_token {tok = λ a. t.Sign (operator_sign a)} (record { place = λ a. start; known = λ y e. sum_operator_known y.token; again = λ y e. sum_operator_again y.token; kept = λ y e g. z.kept.of_sign _ }))
 
-term_operator_known : (y : Token) → has (sign_code (operator_sign (term_operator_of y))) term_operator.kinds ≡ true
+term_operator_known : (y : Token) → has (sign_kind (operator_sign (term_operator_of y))) term_operator.kinds ≡ true
 term_operator_known (t.Sign s.Solidus) = refl
 term_operator_known _ = refl
 
@@ -186,7 +188,7 @@ text_function_word functions.CharLength = w.CharLength
 text_function_word functions.Upper = w.Upper
 text_function_word functions.Lower = w.Lower
 
-text_function_known : (a : TextFunction) → has (code (text_function_word a)) text_function.kinds ≡ true
+text_function_known : (a : TextFunction) → has (word_kind (text_function_word a)) text_function.kinds ≡ true
 text_function_known functions.CharLength = refl
 text_function_known _ = refl
 
@@ -208,7 +210,7 @@ set_function_word sets.Avg = w.Avg
 set_function_word sets.Min = w.Min
 set_function_word sets.Max = w.Max
 
-set_function_known : (y : Token) → has (code (set_function_word (set_function_of y))) set_function.kinds ≡ true
+set_function_known : (y : Token) → has (word_kind (set_function_word (set_function_of y))) set_function.kinds ≡ true
 set_function_known (t.Word w.Avg) = refl
 set_function_known (t.Word w.Min) = refl
 set_function_known (t.Word w.Max) = refl
@@ -237,7 +239,7 @@ side_word sides.Leading = w.Leading
 side_word sides.Trailing = w.Trailing
 side_word sides.Both = w.Both
 
-side_known : (a : TrimSide) → has (code (side_word a)) trim_side.kinds ≡ true
+side_known : (a : TrimSide) → has (word_kind (side_word a)) trim_side.kinds ≡ true
 side_known sides.Leading = refl
 side_known _ = refl
 
@@ -270,7 +272,7 @@ handler_word handlers.Continue = w.Continue
 handler_word handlers.Exit = w.Exit
 handler_word handlers.Undo = w.Undo
 
-handler_known : (a : HandlerKind) → has (code (handler_word a)) handler_kind.kinds ≡ true
+handler_known : (a : HandlerKind) → has (word_kind (handler_word a)) handler_kind.kinds ≡ true
 handler_known handlers.Continue = refl
 handler_known _ = refl
 
@@ -290,7 +292,7 @@ item_word items.Number = w.Number
 item_word items.More = w.More
 item_word items.RowCount = w.RowCount
 
-item_known : (a : StatementItem) → has (code (item_word a)) statement_item.kinds ≡ true
+item_known : (a : StatementItem) → has (word_kind (item_word a)) statement_item.kinds ≡ true
 item_known items.Number = refl
 item_known _ = refl
 
@@ -315,7 +317,7 @@ condition_word conditions.MessageLength = w.MessageLength
 condition_word conditions.TableName = w.TableName
 condition_word conditions.CursorName = w.CursorName
 
-condition_known : (a : ConditionItem) → has (code (condition_word a)) condition_item.kinds ≡ true
+condition_known : (a : ConditionItem) → has (word_kind (condition_word a)) condition_item.kinds ≡ true
 condition_known conditions.ConditionNumber = refl
 condition_known _ = refl
 
@@ -336,7 +338,7 @@ mode_word modes.In = w.In
 mode_word modes.Out = w.Out
 mode_word modes.InOut = w.InOut
 
-mode_known : (a : Mode) → has (code (mode_word a)) mode.kinds ≡ true
+mode_known : (a : Mode) → has (word_kind (mode_word a)) mode.kinds ≡ true
 mode_known modes.In = refl
 mode_known _ = refl
 

@@ -1,126 +1,266 @@
--- The tokens of each kind of expression and statement that is made of boxes and lists.
-use Rattle.std.proofs.Common.{◌≡◌, Bool, List, [], ◌++◌, Option}
+-- The tokens of each kind of expression, block and statement, by its layer.
+use Rattle.std.proofs.Common.{◌≡◌, ℕ, Bool, List, [], ◌∷◌, ◌++◌, Option, Some, None, map, option_map, refl, ◌∙◌}
+use denote.Hole.Carrier
+use Rattle.psm_num.specs.Num.{Num}
+use Rattle.psm_list.specs.Several.{Several, several_map}
 use Rattle.psm_token.specs.declared.place.Place.{Place}
 use Rattle.psm_token.specs.declared.word.Word.TheVariants as w
 use Rattle.psm_token.specs.declared.sign.Sign.TheVariants as s
+use Rattle.psm_token.specs.declared.token.Token.TheVariants as t
 use Rattle.psm_tree.specs.declared.name.Identifier.{Identifier}
+use Rattle.psm_tree.specs.declared.name.Target.{Target}
 use Rattle.psm_tree.specs.declared.types.Sign.{Sign as PlusMinus}
 use Rattle.psm_tree.specs.declared.types.DataType.{DataType}
-use Rattle.psm_tree.specs.declared.expr.Expr.{Expr}
+use Rattle.psm_tree.specs.declared.expr.Expr.{Expr, roll-Expr}
 use Rattle.psm_tree.specs.declared.expr.Expr.TheVariants as exprs
+use Rattle.psm_tree.specs.declared.expr.Expr.TheOpen.{Expr-F, Pick-F, Link-F, Select-F, When-F}
+use Rattle.psm_tree.specs.declared.expr.Expr.TheOpen as layers
+use Rattle.psm_tree.specs.declared.expr.Expr.TheFolds.{map-Expr, map-Pick, map-Link, map-Select, map-When, fold-roll-Expr, fold-roll-Pick, fold-roll-Link, fold-roll-Select, fold-roll-When, fold_out-Link, fold_out-Select, fold_out-When}
 use Rattle.psm_tree.specs.declared.expr.Junction.{Junction}
 use Rattle.psm_tree.specs.declared.expr.Comparison.{Comparison}
 use Rattle.psm_tree.specs.declared.expr.TextFunction.{TextFunction}
+use Rattle.psm_tree.specs.declared.expr.SetFunction.{SetFunction}
 use Rattle.psm_tree.specs.declared.expr.TrimSide.{TrimSide}
-use Rattle.psm_tree.specs.declared.expr.Link.{Link}
-use Rattle.psm_tree.specs.declared.expr.When.{When}
-use Rattle.psm_tree.specs.declared.expr.Select.{Select}
-use Rattle.psm_tree.specs.declared.statement.Statement.{Statement}
+use Rattle.psm_tree.specs.declared.expr.Link.{Link, out-Link, roll-Link}
+use Rattle.psm_tree.specs.declared.expr.When.{When, out-When, roll-When}
+use Rattle.psm_tree.specs.declared.expr.Select.{Select, out-Select, roll-Select}
+use Rattle.psm_tree.specs.declared.expr.Pick.{Pick, roll-Pick}
+use Rattle.psm_tree.specs.declared.expr.Pick.TheVariants as picked
+use Rattle.psm_tree.specs.declared.statement.Statement.{Statement, roll-Statement}
 use Rattle.psm_tree.specs.declared.statement.Statement.TheVariants as statements
+use Rattle.psm_tree.specs.declared.statement.Block.{Block, roll-Block}
+use Rattle.psm_tree.specs.declared.statement.Block.TheVariants as blocks
+use Rattle.psm_tree.specs.declared.statement.Block.TheOpen.{Block-F, Statement-F, Branch-F, Handler-F}
+use Rattle.psm_tree.specs.declared.statement.Block.TheOpen as parts
+use Rattle.psm_tree.specs.declared.statement.Block.TheFolds.{map-Block, map-Statement, map-Branch, map-Handler, fold-roll-Block, fold-roll-Statement, fold-roll-Branch, fold-roll-Handler, fold_out-Branch, fold_out-Handler}
+use Rattle.psm_tree.specs.declared.statement.Branch.{Branch, out-Branch, roll-Branch}
+use Rattle.psm_tree.specs.declared.statement.Handler.{Handler, out-Handler, roll-Handler}
 use Rattle.psm_tree.specs.declared.statement.Label.{Label}
-use Rattle.psm_tree.specs.declared.statement.ForCursor.{ForCursor}
-use Rattle.psm_tree.specs.declared.statement.OrderedQuery.{OrderedQuery}
+use Rattle.psm_tree.specs.declared.statement.ForHead.{ForHead}
 use Rattle.psm_tree.specs.declared.statement.Declaration.{Declaration}
 use Rattle.psm_tree.specs.declared.statement.CursorDeclaration.{CursorDeclaration}
-use Rattle.psm_tree.specs.declared.statement.Handler.{Handler}
-use Rattle.psm_tree.specs.declared.statement.Branch.{Branch}
-use Rattle.psm_token.specs.declared.token.Token.TheVariants as t
-use Rattle.psm_print.specs.ExprTokens.{word, sign, perhaps, each, in_parens, name_tokens, type_tokens, plus_minus_tokens, junction_tokens, comparison_tokens, text_function_tokens, side_tokens, not_tokens, expr_tokens, listed_tokens, select_tokens}
-use Rattle.psm_print.specs.StatementTokens.{ordered_query_tokens, declaration_tokens, cursor_tokens, for_cursor_tokens, start_tokens, end_tokens, atomic_tokens, ended, statement_tokens}
-use Rattle.psm_print.proofs.Rows.{link_tokens, when_tokens, box_tokens, list_tokens, first_tokens, held_tokens, links_tokens, boxed_when_tokens, whens_tokens, boxed_select_tokens}
-use Rattle.psm_print.proofs.StatementRows.{else_tokens, branch_tokens, handler_tokens, statements_tokens, boxed_tokens, otherwise_tokens, boxed_branch_tokens, branches_tokens, handlers_tokens}
+use Rattle.psm_tree.specs.declared.statement.Simple.{Simple}
+use Rattle.psm_print.specs.Spelling.{Spelling, word, sign, perhaps, each, separated, listed, ended, all_of, in_parens}
+use Rattle.psm_print.specs.ExprTokens.{name_tokens, target_tokens, number_tokens, type_tokens, plus_minus_tokens, junction_tokens, comparison_tokens, operator_tokens, text_function_tokens, set_function_tokens, side_tokens, not_tokens, alias_tokens, table_tokens, expr_layer_tokens, pick_layer_tokens, link_layer_tokens, select_layer_tokens, when_layer_tokens, expr_tokens, pick_tokens, link_tokens, select_tokens, when_tokens}
+use Rattle.psm_print.specs.StatementTokens.{declaration_tokens, cursor_tokens, handler_kind_tokens, handled_tokens, for_head_tokens, start_tokens, end_tokens, atomic_tokens, simple_tokens, else_tokens, block_layer_tokens, statement_layer_tokens, branch_layer_tokens, handler_layer_tokens, block_tokens, statement_tokens, branch_tokens, handler_tokens}
+
+pub expr_rolled : (layer : Expr-F Expr Pick Link Select When) → expr_tokens (roll-Expr layer) ≡ expr_layer_tokens (map-Expr Expr Pick Link Select When Spelling Spelling Spelling Spelling Spelling expr_tokens pick_tokens link_tokens select_tokens when_tokens layer)
+expr_rolled layer = fold-roll-Expr Spelling Spelling Spelling Spelling Spelling expr_layer_tokens pick_layer_tokens link_layer_tokens select_layer_tokens when_layer_tokens layer
+
+pub pick_rolled : (layer : Pick-F Expr Pick Link Select When) → pick_tokens (roll-Pick layer) ≡ pick_layer_tokens (map-Pick Expr Pick Link Select When Spelling Spelling Spelling Spelling Spelling expr_tokens pick_tokens link_tokens select_tokens when_tokens layer)
+pick_rolled layer = fold-roll-Pick Spelling Spelling Spelling Spelling Spelling expr_layer_tokens pick_layer_tokens link_layer_tokens select_layer_tokens when_layer_tokens layer
+
+pub link_rolled : (layer : Link-F Expr Pick Link Select When) → link_tokens (roll-Link layer) ≡ link_layer_tokens (map-Link Expr Pick Link Select When Spelling Spelling Spelling Spelling Spelling expr_tokens pick_tokens link_tokens select_tokens when_tokens layer)
+link_rolled layer = fold-roll-Link Spelling Spelling Spelling Spelling Spelling expr_layer_tokens pick_layer_tokens link_layer_tokens select_layer_tokens when_layer_tokens layer
+
+pub select_rolled : (layer : Select-F Expr Pick Link Select When) → select_tokens (roll-Select layer) ≡ select_layer_tokens (map-Select Expr Pick Link Select When Spelling Spelling Spelling Spelling Spelling expr_tokens pick_tokens link_tokens select_tokens when_tokens layer)
+select_rolled layer = fold-roll-Select Spelling Spelling Spelling Spelling Spelling expr_layer_tokens pick_layer_tokens link_layer_tokens select_layer_tokens when_layer_tokens layer
+
+pub when_rolled : (layer : When-F Expr Pick Link Select When) → when_tokens (roll-When layer) ≡ when_layer_tokens (map-When Expr Pick Link Select When Spelling Spelling Spelling Spelling Spelling expr_tokens pick_tokens link_tokens select_tokens when_tokens layer)
+when_rolled layer = fold-roll-When Spelling Spelling Spelling Spelling Spelling expr_layer_tokens pick_layer_tokens link_layer_tokens select_layer_tokens when_layer_tokens layer
+
+pub block_rolled : (layer : Block-F Block Statement Branch Handler) → block_tokens (roll-Block layer) ≡ block_layer_tokens (map-Block Block Statement Branch Handler Spelling Spelling Spelling Spelling block_tokens statement_tokens branch_tokens handler_tokens layer)
+block_rolled layer = fold-roll-Block Spelling Spelling Spelling Spelling block_layer_tokens statement_layer_tokens branch_layer_tokens handler_layer_tokens layer
+
+pub statement_rolled : (layer : Statement-F Block Statement Branch Handler) → statement_tokens (roll-Statement layer) ≡ statement_layer_tokens (map-Statement Block Statement Branch Handler Spelling Spelling Spelling Spelling block_tokens statement_tokens branch_tokens handler_tokens layer)
+statement_rolled layer = fold-roll-Statement Spelling Spelling Spelling Spelling block_layer_tokens statement_layer_tokens branch_layer_tokens handler_layer_tokens layer
+
+pub branch_rolled : (layer : Branch-F Block Statement Branch Handler) → branch_tokens (roll-Branch layer) ≡ branch_layer_tokens (map-Branch Block Statement Branch Handler Spelling Spelling Spelling Spelling block_tokens statement_tokens branch_tokens handler_tokens layer)
+branch_rolled layer = fold-roll-Branch Spelling Spelling Spelling Spelling block_layer_tokens statement_layer_tokens branch_layer_tokens handler_layer_tokens layer
+
+pub handler_rolled : (layer : Handler-F Block Statement Branch Handler) → handler_tokens (roll-Handler layer) ≡ handler_layer_tokens (map-Handler Block Statement Branch Handler Spelling Spelling Spelling Spelling block_tokens statement_tokens branch_tokens handler_tokens layer)
+handler_rolled layer = fold-roll-Handler Spelling Spelling Spelling Spelling block_layer_tokens statement_layer_tokens branch_layer_tokens handler_layer_tokens layer
 
 -- ---- expressions
 
-pub tokens-Junction : (junction : Junction) (first : Expr) (rest : List Expr) → expr_tokens (exprs.Junction junction first rest) ≡ expr_tokens first ++ each (junction_tokens junction) expr_tokens rest
-tokens-Junction junction first rest = λ i. box_tokens [] first i ++ list_tokens (junction_tokens junction) rest i
+pub tokens-Null : (place : Place) → expr_tokens (exprs.Null place) ≡ word w.Null
+unfolding roll-Expr Carrier.roll
+tokens-Null place = expr_rolled (layers.Null place)
+
+pub tokens-Number : (place : Place) (value : Num) → expr_tokens (exprs.Number place value) ≡ number_tokens value
+unfolding roll-Expr Carrier.roll
+tokens-Number place value = expr_rolled (layers.Number place value)
+
+pub tokens-Text : (place : Place) (value : List ℕ) → expr_tokens (exprs.Text place value) ≡ t.Text value ∷ []
+unfolding roll-Expr Carrier.roll
+tokens-Text place value = expr_rolled (layers.Text place value)
+
+pub tokens-Name : (target : Target) → expr_tokens (exprs.Name target) ≡ target_tokens target
+unfolding roll-Expr Carrier.roll
+tokens-Name target = expr_rolled (layers.Name target)
+
+pub tokens-Junction : (junction : Junction) (operands : Several Expr) → expr_tokens (exprs.Junction junction operands) ≡ separated (junction_tokens junction) (several_map expr_tokens operands)
+unfolding roll-Expr Carrier.roll
+tokens-Junction junction operands = expr_rolled (layers.Junction junction operands)
 
 pub tokens-Not : (place : Place) (condition : Expr) → expr_tokens (exprs.Not place condition) ≡ word w.Not ++ expr_tokens condition
-tokens-Not place condition = box_tokens (word w.Not) condition
+unfolding roll-Expr Carrier.roll
+tokens-Not place condition = expr_rolled (layers.Not place condition)
 
-pub tokens-Compare : (operator : Comparison) (left right : Expr) → expr_tokens (exprs.Compare operator left right) ≡ expr_tokens left ++ (comparison_tokens operator ++ expr_tokens right)
-tokens-Compare operator left right = λ i. box_tokens [] left i ++ box_tokens (comparison_tokens operator) right i
+pub tokens-Compare : (operator : Comparison) (left right : Expr) → expr_tokens (exprs.Compare operator left right) ≡ expr_tokens left ++ comparison_tokens operator ++ expr_tokens right
+unfolding roll-Expr Carrier.roll
+tokens-Compare operator left right = expr_rolled (layers.Compare operator left right)
 
-pub tokens-IsNull : (negated : Bool) (value : Expr) → expr_tokens (exprs.IsNull negated value) ≡ expr_tokens value ++ (word w.Is ++ not_tokens negated ++ word w.Null)
-tokens-IsNull negated value = λ i. box_tokens [] value i ++ (word w.Is ++ not_tokens negated ++ word w.Null)
+pub tokens-IsNull : (negated : Bool) (value : Expr) → expr_tokens (exprs.IsNull negated value) ≡ expr_tokens value ++ word w.Is ++ not_tokens negated ++ word w.Null
+unfolding roll-Expr Carrier.roll
+tokens-IsNull negated value = expr_rolled (layers.IsNull negated value)
 
-pub tokens-Between : (negated : Bool) (value low high : Expr) → expr_tokens (exprs.Between negated value low high) ≡ expr_tokens value ++ (not_tokens negated ++ word w.Between ++ expr_tokens low) ++ (word w.And ++ expr_tokens high)
-tokens-Between negated value low high = λ i. box_tokens [] value i ++ box_tokens (not_tokens negated ++ word w.Between) low i ++ box_tokens (word w.And) high i
+pub tokens-Between : (negated : Bool) (value low high : Expr) → expr_tokens (exprs.Between negated value low high) ≡ expr_tokens value ++ not_tokens negated ++ word w.Between ++ expr_tokens low ++ word w.And ++ expr_tokens high
+unfolding roll-Expr Carrier.roll
+tokens-Between negated value low high = expr_rolled (layers.Between negated value low high)
 
-pub tokens-In : (negated : Bool) (value first : Expr) (rest : List Expr) → expr_tokens (exprs.In negated value first rest) ≡ expr_tokens value ++ (not_tokens negated ++ word w.In ++ in_parens (expr_tokens first ++ each (sign s.Comma) expr_tokens rest))
-tokens-In negated value first rest = λ i. box_tokens [] value i ++ (not_tokens negated ++ word w.In ++ in_parens (box_tokens [] first i ++ list_tokens (sign s.Comma) rest i))
+pub tokens-In : (negated : Bool) (value : Expr) (list : Several Expr) → expr_tokens (exprs.In negated value list) ≡ expr_tokens value ++ not_tokens negated ++ word w.In ++ in_parens (separated (sign s.Comma) (several_map expr_tokens list))
+unfolding roll-Expr Carrier.roll
+tokens-In negated value list = expr_rolled (layers.In negated value list)
 
-pub tokens-Like : (negated : Bool) (value pattern : Expr) (escape : Option Expr) → expr_tokens (exprs.Like negated value pattern escape) ≡ expr_tokens value ++ (not_tokens negated ++ word w.Like ++ expr_tokens pattern) ++ perhaps (word w.Escape) expr_tokens escape
-tokens-Like negated value pattern escape = λ i. box_tokens [] value i ++ box_tokens (not_tokens negated ++ word w.Like) pattern i ++ held_tokens (word w.Escape) escape i
+pub tokens-Like : (negated : Bool) (value pattern : Expr) (escape : Option Expr) → expr_tokens (exprs.Like negated value pattern escape) ≡ expr_tokens value ++ not_tokens negated ++ word w.Like ++ expr_tokens pattern ++ perhaps (word w.Escape) (option_map expr_tokens escape)
+unfolding roll-Expr Carrier.roll
+tokens-Like negated value pattern None = expr_rolled (layers.Like negated value pattern None)
+tokens-Like negated value pattern (Some escape) = expr_rolled (layers.Like negated value pattern (Some escape))
 
-pub tokens-Chain : (first : Expr) (rest : List Link) → expr_tokens (exprs.Chain first rest) ≡ expr_tokens first ++ each [] link_tokens rest
-tokens-Chain first rest = λ i. box_tokens [] first i ++ links_tokens rest i
+pub tokens-Chain : (first : Expr) (links : List Link) → expr_tokens (exprs.Chain first links) ≡ expr_tokens first ++ each [] (map link_tokens links)
+unfolding roll-Expr Carrier.roll
+tokens-Chain first links = expr_rolled (layers.Chain first links)
 
 pub tokens-Signed : (place : Place) (plus_minus : PlusMinus) (operand : Expr) → expr_tokens (exprs.Signed place plus_minus operand) ≡ plus_minus_tokens plus_minus ++ expr_tokens operand
-tokens-Signed place plus_minus operand = box_tokens (plus_minus_tokens plus_minus) operand
+unfolding roll-Expr Carrier.roll
+tokens-Signed place plus_minus operand = expr_rolled (layers.Signed place plus_minus operand)
 
-pub tokens-Call : (function : Identifier) (arguments : List Expr) → expr_tokens (exprs.Call function arguments) ≡ name_tokens function ++ in_parens (listed_tokens arguments)
-tokens-Call function arguments = λ i. name_tokens function ++ in_parens (first_tokens arguments i)
+pub tokens-Call : (function : Identifier) (arguments : List Expr) → expr_tokens (exprs.Call function arguments) ≡ name_tokens function ++ in_parens (listed (map expr_tokens arguments))
+unfolding roll-Expr Carrier.roll
+tokens-Call function arguments = expr_rolled (layers.Call function arguments)
 
 pub tokens-Parenthesized : (place : Place) (expr : Expr) → expr_tokens (exprs.Parenthesized place expr) ≡ in_parens (expr_tokens expr)
-tokens-Parenthesized place expr = λ i. in_parens (box_tokens [] expr i)
+unfolding roll-Expr Carrier.roll
+tokens-Parenthesized place expr = expr_rolled (layers.Parenthesized place expr)
 
 pub tokens-Subquery : (place : Place) (query : Select) → expr_tokens (exprs.Subquery place query) ≡ in_parens (select_tokens query)
-tokens-Subquery place query = λ i. in_parens (boxed_select_tokens query i)
+unfolding roll-Expr Carrier.roll
+tokens-Subquery place query = expr_rolled (layers.Subquery place query)
 
 pub tokens-Exists : (place : Place) (query : Select) → expr_tokens (exprs.Exists place query) ≡ word w.Exists ++ in_parens (select_tokens query)
-tokens-Exists place query = λ i. word w.Exists ++ in_parens (boxed_select_tokens query i)
+unfolding roll-Expr Carrier.roll
+tokens-Exists place query = expr_rolled (layers.Exists place query)
 
-pub tokens-Case : (place : Place) (operand : Option Expr) (first : When) (rest : List When) (otherwise : Option Expr) → expr_tokens (exprs.Case place operand first rest otherwise) ≡ word w.Case ++ perhaps [] expr_tokens operand ++ when_tokens first ++ each [] when_tokens rest ++ perhaps (word w.Else) expr_tokens otherwise ++ word w.End
-tokens-Case place operand first rest otherwise = λ i. word w.Case ++ held_tokens [] operand i ++ boxed_when_tokens first i ++ whens_tokens rest i ++ held_tokens (word w.Else) otherwise i ++ word w.End
+pub tokens-Case : (place : Place) (operand : Option Expr) (whens : Several When) (otherwise : Option Expr) → expr_tokens (exprs.Case place operand whens otherwise) ≡ word w.Case ++ perhaps [] (option_map expr_tokens operand) ++ separated [] (several_map when_tokens whens) ++ perhaps (word w.Else) (option_map expr_tokens otherwise) ++ word w.End
+unfolding roll-Expr Carrier.roll
+tokens-Case place None whens None = expr_rolled (layers.Case place None whens None)
+tokens-Case place None whens (Some otherwise) = expr_rolled (layers.Case place None whens (Some otherwise))
+tokens-Case place (Some operand) whens None = expr_rolled (layers.Case place (Some operand) whens None)
+tokens-Case place (Some operand) whens (Some otherwise) = expr_rolled (layers.Case place (Some operand) whens (Some otherwise))
 
 pub tokens-Cast : (place : Place) (source : Expr) (to : DataType) → expr_tokens (exprs.Cast place source to) ≡ word w.Cast ++ in_parens (expr_tokens source ++ word w.As ++ type_tokens to)
-tokens-Cast place source to = λ i. word w.Cast ++ in_parens (box_tokens [] source i ++ word w.As ++ type_tokens to)
+unfolding roll-Expr Carrier.roll
+tokens-Cast place source to = expr_rolled (layers.Cast place source to)
 
-pub tokens-Coalesce : (place : Place) (first : Expr) (rest : List Expr) → expr_tokens (exprs.Coalesce place first rest) ≡ word w.Coalesce ++ in_parens (expr_tokens first ++ each (sign s.Comma) expr_tokens rest)
-tokens-Coalesce place first rest = λ i. word w.Coalesce ++ in_parens (box_tokens [] first i ++ list_tokens (sign s.Comma) rest i)
+pub tokens-Coalesce : (place : Place) (values : Several Expr) → expr_tokens (exprs.Coalesce place values) ≡ word w.Coalesce ++ in_parens (separated (sign s.Comma) (several_map expr_tokens values))
+unfolding roll-Expr Carrier.roll
+tokens-Coalesce place values = expr_rolled (layers.Coalesce place values)
 
-pub tokens-NullIf : (place : Place) (left right : Expr) → expr_tokens (exprs.NullIf place left right) ≡ word w.NullIf ++ in_parens (expr_tokens left ++ (sign s.Comma ++ expr_tokens right))
-tokens-NullIf place left right = λ i. word w.NullIf ++ in_parens (box_tokens [] left i ++ box_tokens (sign s.Comma) right i)
+pub tokens-NullIf : (place : Place) (left right : Expr) → expr_tokens (exprs.NullIf place left right) ≡ word w.NullIf ++ in_parens (expr_tokens left ++ sign s.Comma ++ expr_tokens right)
+unfolding roll-Expr Carrier.roll
+tokens-NullIf place left right = expr_rolled (layers.NullIf place left right)
 
 pub tokens-Function : (place : Place) (function : TextFunction) (argument : Expr) → expr_tokens (exprs.Function place function argument) ≡ text_function_tokens function ++ in_parens (expr_tokens argument)
-tokens-Function place function argument = λ i. text_function_tokens function ++ in_parens (box_tokens [] argument i)
+unfolding roll-Expr Carrier.roll
+tokens-Function place function argument = expr_rolled (layers.Function place function argument)
 
-pub tokens-Position : (place : Place) (part whole : Expr) → expr_tokens (exprs.Position place part whole) ≡ word w.Position ++ in_parens (expr_tokens part ++ (word w.In ++ expr_tokens whole))
-tokens-Position place part whole = λ i. word w.Position ++ in_parens (box_tokens [] part i ++ box_tokens (word w.In) whole i)
+pub tokens-Position : (place : Place) (part whole : Expr) → expr_tokens (exprs.Position place part whole) ≡ word w.Position ++ in_parens (expr_tokens part ++ word w.In ++ expr_tokens whole)
+unfolding roll-Expr Carrier.roll
+tokens-Position place part whole = expr_rolled (layers.Position place part whole)
 
-pub tokens-Substring : (place : Place) (text from : Expr) (length : Option Expr) → expr_tokens (exprs.Substring place text from length) ≡ word w.Substring ++ in_parens (expr_tokens text ++ (word w.From ++ expr_tokens from) ++ perhaps (word w.For) expr_tokens length)
-tokens-Substring place text from length = λ i. word w.Substring ++ in_parens (box_tokens [] text i ++ box_tokens (word w.From) from i ++ held_tokens (word w.For) length i)
+pub tokens-Substring : (place : Place) (text from : Expr) (length : Option Expr) → expr_tokens (exprs.Substring place text from length) ≡ word w.Substring ++ in_parens (expr_tokens text ++ word w.From ++ expr_tokens from ++ perhaps (word w.For) (option_map expr_tokens length))
+unfolding roll-Expr Carrier.roll
+tokens-Substring place text from None = expr_rolled (layers.Substring place text from None)
+tokens-Substring place text from (Some length) = expr_rolled (layers.Substring place text from (Some length))
 
 pub tokens-Trim : (place : Place) (side : TrimSide) (text : Expr) → expr_tokens (exprs.Trim place side text) ≡ word w.Trim ++ in_parens (side_tokens side ++ expr_tokens text)
-tokens-Trim place side text = λ i. word w.Trim ++ in_parens (box_tokens (side_tokens side) text i)
+unfolding roll-Expr Carrier.roll
+tokens-Trim place side text = expr_rolled (layers.Trim place side text)
+
+pub ruleset expr_equations = (tokens-Null, tokens-Number, tokens-Text, tokens-Name, tokens-Junction, tokens-Not, tokens-Compare, tokens-IsNull, tokens-Between, tokens-In, tokens-Like, tokens-Chain, tokens-Signed, tokens-Call, tokens-Parenthesized, tokens-Subquery, tokens-Exists, tokens-Case, tokens-Cast, tokens-Coalesce, tokens-NullIf, tokens-Function, tokens-Position, tokens-Substring, tokens-Trim)
+
+-- ---- queries
+
+pub pick-All : (place : Place) → pick_tokens (picked.All place) ≡ sign s.Asterisk
+unfolding roll-Pick Carrier.roll
+pick-All place = pick_rolled (layers.All place)
+
+pub pick-Expr : (expr : Expr) (alias : Option Identifier) → pick_tokens (picked.Expr expr alias) ≡ expr_tokens expr ++ alias_tokens alias
+unfolding roll-Pick Carrier.roll
+pick-Expr expr alias = pick_rolled (layers.Expr expr alias)
+
+pub pick-CountRows : (place : Place) (alias : Option Identifier) → pick_tokens (picked.CountRows place alias) ≡ word w.Count ++ in_parens (sign s.Asterisk) ++ alias_tokens alias
+unfolding roll-Pick Carrier.roll
+pick-CountRows place alias = pick_rolled (layers.CountRows place alias)
+
+pub pick-Aggregate : (place : Place) (function : SetFunction) (argument : Expr) (alias : Option Identifier) → pick_tokens (picked.Aggregate place function argument alias) ≡ set_function_tokens function ++ in_parens (expr_tokens argument) ++ alias_tokens alias
+unfolding roll-Pick Carrier.roll
+pick-Aggregate place function argument alias = pick_rolled (layers.Aggregate place function argument alias)
+
+pub ruleset pick_equations = (pick-All, pick-Expr, pick-CountRows, pick-Aggregate)
+
+pub tokens_link : (link : Link) → link_tokens link ≡ operator_tokens (out-Link link).operator ++ expr_tokens (out-Link link).operand
+tokens_link link = fold_out-Link Spelling Spelling Spelling Spelling Spelling expr_layer_tokens pick_layer_tokens link_layer_tokens select_layer_tokens when_layer_tokens link
+
+pub tokens_when : (when : When) → when_tokens when ≡ word w.When ++ expr_tokens (out-When when).test ++ word w.Then ++ expr_tokens (out-When when).result
+tokens_when when = fold_out-When Spelling Spelling Spelling Spelling Spelling expr_layer_tokens pick_layer_tokens link_layer_tokens select_layer_tokens when_layer_tokens when
+
+query_tokens : (place : Place) (picks : Several Pick) (table : Identifier) (alias : Option Identifier) (condition : Option Expr) → select_layer_tokens (map-Select Expr Pick Link Select When Spelling Spelling Spelling Spelling Spelling expr_tokens pick_tokens link_tokens select_tokens when_tokens (record { place = place; picks = picks; table = table; alias = alias; condition = condition }))
+    ≡ word w.Select ++ separated (sign s.Comma) (several_map pick_tokens picks) ++ table_tokens table alias (option_map expr_tokens condition)
+query_tokens place picks table alias None = refl
+query_tokens place picks table alias (Some condition) = refl
+
+pub select_told : (q : Select-F Expr Pick Link Select When) → select_tokens (roll-Select q) ≡ word w.Select ++ separated (sign s.Comma) (several_map pick_tokens q.picks) ++ table_tokens q.table q.alias (option_map expr_tokens q.condition)
+select_told q = select_rolled q ∙ query_tokens q.place q.picks q.table q.alias q.condition
+
+pub tokens_select : (q : Select) → select_tokens q ≡ word w.Select ++ separated (sign s.Comma) (several_map pick_tokens (out-Select q).picks) ++ table_tokens (out-Select q).table (out-Select q).alias (option_map expr_tokens (out-Select q).condition)
+tokens_select q = let o = out-Select q in fold_out-Select Spelling Spelling Spelling Spelling Spelling expr_layer_tokens pick_layer_tokens link_layer_tokens select_layer_tokens when_layer_tokens q ∙ query_tokens o.place o.picks o.table o.alias o.condition
 
 -- ---- statements
 
-pub tokens-Compound : (label : Option Label) (place : Place) (atomic : Bool) (declarations : List Declaration) (cursors : List CursorDeclaration) (handlers : List Handler) (body : List Statement) → statement_tokens (statements.Compound label place atomic declarations cursors handlers body)
-    ≡ start_tokens label ++ word w.Begin ++ atomic_tokens atomic ++ ended declaration_tokens declarations ++ ended cursor_tokens cursors ++ ended handler_tokens handlers ++ ended statement_tokens body ++ word w.End ++ end_tokens label
-tokens-Compound label place atomic declarations cursors handlers body = λ i. start_tokens label ++ word w.Begin ++ atomic_tokens atomic ++ ended declaration_tokens declarations ++ ended cursor_tokens cursors ++ handlers_tokens handlers i ++ statements_tokens body i ++ word w.End ++ end_tokens label
+pub block-Compound : (place : Place) (atomic : Bool) (declarations : List Declaration) (cursors : List CursorDeclaration) (handlers : List Handler) (body : List Statement) → block_tokens (blocks.Compound place atomic declarations cursors handlers body) ≡ word w.Begin ++ atomic_tokens atomic ++ ended (map declaration_tokens declarations) ++ ended (map cursor_tokens cursors) ++ ended (map handler_tokens handlers) ++ ended (map statement_tokens body) ++ word w.End
+unfolding roll-Block Carrier.roll
+block-Compound place atomic declarations cursors handlers body = block_rolled (parts.Compound place atomic declarations cursors handlers body)
 
-pub tokens-Loop : (label : Option Label) (place : Place) (first : Statement) (rest : List Statement) → statement_tokens (statements.Loop label place first rest)
-    ≡ start_tokens label ++ word w.Loop ++ (statement_tokens first ++ sign s.Semicolon) ++ ended statement_tokens rest ++ word w.End ++ word w.Loop ++ end_tokens label
-tokens-Loop label place first rest = λ i. start_tokens label ++ word w.Loop ++ boxed_tokens first i ++ statements_tokens rest i ++ word w.End ++ word w.Loop ++ end_tokens label
+pub block-Loop : (place : Place) (body : Several Statement) → block_tokens (blocks.Loop place body) ≡ word w.Loop ++ ended (all_of (several_map statement_tokens body)) ++ word w.End ++ word w.Loop
+unfolding roll-Block Carrier.roll
+block-Loop place body = block_rolled (parts.Loop place body)
 
-pub tokens-While : (label : Option Label) (place : Place) (test : Expr) (first : Statement) (rest : List Statement) → statement_tokens (statements.While label place test first rest)
-    ≡ start_tokens label ++ word w.While ++ expr_tokens test ++ word w.Do ++ (statement_tokens first ++ sign s.Semicolon) ++ ended statement_tokens rest ++ word w.End ++ word w.While ++ end_tokens label
-tokens-While label place test first rest = λ i. start_tokens label ++ word w.While ++ expr_tokens test ++ word w.Do ++ boxed_tokens first i ++ statements_tokens rest i ++ word w.End ++ word w.While ++ end_tokens label
+pub block-While : (place : Place) (test : Expr) (body : Several Statement) → block_tokens (blocks.While place test body) ≡ word w.While ++ expr_tokens test ++ word w.Do ++ ended (all_of (several_map statement_tokens body)) ++ word w.End ++ word w.While
+unfolding roll-Block Carrier.roll
+block-While place test body = block_rolled (parts.While place test body)
 
-pub tokens-Repeat : (label : Option Label) (place : Place) (first : Statement) (rest : List Statement) (until : Expr) → statement_tokens (statements.Repeat label place first rest until)
-    ≡ start_tokens label ++ word w.Repeat ++ (statement_tokens first ++ sign s.Semicolon) ++ ended statement_tokens rest ++ word w.Until ++ expr_tokens until ++ word w.End ++ word w.Repeat ++ end_tokens label
-tokens-Repeat label place first rest until = λ i. start_tokens label ++ word w.Repeat ++ boxed_tokens first i ++ statements_tokens rest i ++ word w.Until ++ expr_tokens until ++ word w.End ++ word w.Repeat ++ end_tokens label
+pub block-Repeat : (place : Place) (body : Several Statement) (until : Expr) → block_tokens (blocks.Repeat place body until) ≡ word w.Repeat ++ ended (all_of (several_map statement_tokens body)) ++ word w.Until ++ expr_tokens until ++ word w.End ++ word w.Repeat
+unfolding roll-Block Carrier.roll
+block-Repeat place body until = block_rolled (parts.Repeat place body until)
 
-pub tokens-For : (label : Option Label) (place : Place) (name : Identifier) (cursor : Option ForCursor) (query : OrderedQuery) (first : Statement) (rest : List Statement) → statement_tokens (statements.For label place name cursor query first rest)
-    ≡ start_tokens label ++ word w.For ++ name_tokens name ++ word w.As ++ perhaps [] for_cursor_tokens cursor ++ ordered_query_tokens query ++ word w.Do ++ (statement_tokens first ++ sign s.Semicolon) ++ ended statement_tokens rest ++ word w.End ++ word w.For ++ end_tokens label
-tokens-For label place name cursor query first rest = λ i. start_tokens label ++ word w.For ++ name_tokens name ++ word w.As ++ perhaps [] for_cursor_tokens cursor ++ ordered_query_tokens query ++ word w.Do ++ boxed_tokens first i ++ statements_tokens rest i ++ word w.End ++ word w.For ++ end_tokens label
+pub block-For : (place : Place) (head : ForHead) (body : Several Statement) → block_tokens (blocks.For place head body) ≡ word w.For ++ for_head_tokens head ++ word w.Do ++ ended (all_of (several_map statement_tokens body)) ++ word w.End ++ word w.For
+unfolding roll-Block Carrier.roll
+block-For place head body = block_rolled (parts.For place head body)
 
-pub tokens-If : (place : Place) (first : Branch) (rest : List Branch) (otherwise : List Statement) → statement_tokens (statements.If place first rest otherwise)
-    ≡ (word w.If ++ branch_tokens first) ++ each (word w.ElseIf) branch_tokens rest ++ else_tokens otherwise ++ word w.End ++ word w.If
-tokens-If place first rest otherwise = λ i. boxed_branch_tokens (t.Word w.If) first i ++ branches_tokens (t.Word w.ElseIf) rest i ++ otherwise_tokens otherwise i ++ word w.End ++ word w.If
+pub ruleset block_equations = (block-Compound, block-Loop, block-While, block-Repeat, block-For)
 
-pub tokens-CaseStatement : (place : Place) (operand : Option Expr) (first : Branch) (rest : List Branch) (otherwise : List Statement) → statement_tokens (statements.Case place operand first rest otherwise)
-    ≡ word w.Case ++ perhaps [] expr_tokens operand ++ (word w.When ++ branch_tokens first) ++ each (word w.When) branch_tokens rest ++ else_tokens otherwise ++ word w.End ++ word w.Case
-tokens-CaseStatement place operand first rest otherwise = λ i. word w.Case ++ perhaps [] expr_tokens operand ++ boxed_branch_tokens (t.Word w.When) first i ++ branches_tokens (t.Word w.When) rest i ++ otherwise_tokens otherwise i ++ word w.End ++ word w.Case
+pub statement-Block : (label : Option Label) (block : Block) → statement_tokens (statements.Block label block) ≡ start_tokens label ++ block_tokens block ++ end_tokens label
+unfolding roll-Statement Carrier.roll
+statement-Block label block = statement_rolled (parts.Block label block)
+
+pub statement-If : (place : Place) (branches : Several Branch) (otherwise : List Statement) → statement_tokens (statements.If place branches otherwise) ≡ word w.If ++ separated (word w.ElseIf) (several_map branch_tokens branches) ++ else_tokens (map statement_tokens otherwise) ++ word w.End ++ word w.If
+unfolding roll-Statement Carrier.roll
+statement-If place branches otherwise = statement_rolled (parts.If place branches otherwise)
+
+pub statement-Case : (place : Place) (operand : Option Expr) (branches : Several Branch) (otherwise : List Statement) → statement_tokens (statements.Case place operand branches otherwise) ≡ word w.Case ++ perhaps [] (option_map expr_tokens operand) ++ each (word w.When) (all_of (several_map branch_tokens branches)) ++ else_tokens (map statement_tokens otherwise) ++ word w.End ++ word w.Case
+unfolding roll-Statement Carrier.roll
+statement-Case place operand branches otherwise = statement_rolled (parts.Case place operand branches otherwise)
+
+pub statement-Simple : (simple : Simple) → statement_tokens (statements.Simple simple) ≡ simple_tokens simple
+unfolding roll-Statement Carrier.roll
+statement-Simple simple = statement_rolled (parts.Simple simple)
+
+pub ruleset statement_equations = (statement-Block, statement-If, statement-Case, statement-Simple)
+
+pub tokens_branch : (branch : Branch) → branch_tokens branch ≡ expr_tokens (out-Branch branch).test ++ word w.Then ++ ended (all_of (several_map statement_tokens (out-Branch branch).statements))
+tokens_branch branch = fold_out-Branch Spelling Spelling Spelling Spelling block_layer_tokens statement_layer_tokens branch_layer_tokens handler_layer_tokens branch
+
+pub tokens_handler : (handler : Handler) → handler_tokens handler ≡ word w.Declare ++ handler_kind_tokens (out-Handler handler).kind ++ word w.Handler ++ word w.For ++ handled_tokens (out-Handler handler).values ++ statement_tokens (out-Handler handler).action
+tokens_handler handler = fold_out-Handler Spelling Spelling Spelling Spelling block_layer_tokens statement_layer_tokens branch_layer_tokens handler_layer_tokens handler

@@ -8,7 +8,7 @@ use Rattle.psm_tree.specs.Productions.{productions}
 use Rattle.psm_tree.specs.FileGrammar.{file}
 use Rattle.psm_tree.specs.declared.file.FileTree.{FileTree}
 use Rattle.psm_print.specs.FileTokens.{file_tokens}
-use Rattle.psm_print.specs.Printed.{AllGood, Kept, Printed}
+use Rattle.psm_print.proofs.Printed.{AllGood, Kept, Printed}
 use Rattle.psm_print.proofs.FileInto.{file_into}
 use Rattle.psm_print.proofs.Whole.{at_level}
 

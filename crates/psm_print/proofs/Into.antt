@@ -1,21 +1,21 @@
 -- Words of a part of the grammar go over into printed words, with the same values and in no more tokens.
-use Rattle.std.proofs.Common.{◌≡◌, inl, inr, ℕ, ◌+◌, ◌≤◌, List, [], ◌∷◌, ◌++◌, length, Option, Some, None, refl, sym, ap, subst, ◌∙◌}
+use Rattle.std.proofs.Common.{◌≡◌, inl, inr, ℕ, ◌+◌, ◌≤◌, List, [], ◌∷◌, ◌++◌, length, map, Option, Some, None, option_map, refl, sym, ap, subst, ◌∙◌}
 use Rattle.std.proofs.lemmas.List.{append_assoc, append-nil, map-append, length-append}
 use Rattle.std.proofs.Math.Nat.{le_trans}
 use native.Mathlib.Omega.{arith}
+use Rattle.psm_list.specs.Several.{several_map}
 use Rattle.psm_token.specs.declared.token.Token.{Token}
 use Rattle.psm_token.specs.declared.token.Placed.{Placed}
 use Rattle.psm_grammar.specs.Language.{Words, Lang, Test, Seq, Many}
 use Rattle.psm_grammar.specs.Grammar.{nothing, seq, or, ahead, many, image, lang}
 use Rattle.psm_grammar.specs.Forms.{earlier, optional, behind_token}
 use Rattle.psm_tree.specs.Parts.{Part, V}
-use Rattle.psm_tree.specs.ExprValues.{pair}
+use Rattle.psm_tree.specs.ExprValues.{pair, several}
 use Rattle.psm_tree.specs.ExprGrammar.{Gram}
 use Rattle.psm_token.specs.declared.sign.Sign.TheVariants as s
-use Rattle.psm_print.specs.ExprTokens.{sign, perhaps, each}
-use Rattle.psm_print.specs.StatementTokens.{ended}
-use Rattle.psm_print.specs.Printed.{AllGood, Kept, Printed}
-use Rattle.psm_print.specs.PartTokens.{part_tokens, Shaped}
+use Rattle.psm_print.specs.Spelling.{sign, perhaps, each, separated, ended}
+use Rattle.psm_print.proofs.Printed.{AllGood, Kept, Printed}
+use Rattle.psm_print.proofs.PartTokens.{part_tokens, Shaped}
 
 -- ---- good tokens
 
@@ -231,13 +231,17 @@ into_many c i e f = record { into = many_into c i e f }
 -- ---- how trees hold what may come or comes often
 
 pub into_perhaps : {z : Setting} {X : Type 0} {p h : Gram X} {b : X → List Token} (before : List Token) (tokens : X → List Token) → Into z p h b → ((x : X) → b x ≡ before ++ tokens x)
-    → Into z (optional p) (optional h) (perhaps before tokens)
-into_perhaps before tokens i e = into_optional (perhaps before tokens) i refl e
+    → Into z (optional p) (optional h) (λ x. perhaps before (option_map tokens x))
+into_perhaps before tokens i e = into_optional (λ x. perhaps before (option_map tokens x)) i refl e
 
 pub into_each : {z : Setting} {X : Type 0} {p h : Gram X} {b : X → List Token} (before : List Token) (tokens : X → List Token) → Into z p h b → ((x : X) → b x ≡ before ++ tokens x)
-    → Into z (many p) (many h) (each before tokens)
-into_each before tokens i e = into_many (each before tokens) i refl (λ x xs. ap (λ ts. ts ++ each before tokens xs) (e x))
+    → Into z (many p) (many h) (λ xs. each before (map tokens xs))
+into_each before tokens i e = into_many (λ xs. each before (map tokens xs)) i refl (λ x xs. ap (λ ts. ts ++ each before (map tokens xs)) (e x))
 
 pub into_ended : {z : Setting} {X : Type 0} {p h : Gram X} {b : X → List Token} (tokens : X → List Token) → Into z p h b → ((x : X) → b x ≡ tokens x ++ sign s.Semicolon)
-    → Into z (many p) (many h) (ended tokens)
-into_ended tokens i e = into_many (ended tokens) i refl (λ x xs. ap (λ ts. ts ++ ended tokens xs) (e x))
+    → Into z (many p) (many h) (λ xs. ended (map tokens xs))
+into_ended tokens i e = into_many (λ xs. ended (map tokens xs)) i refl (λ x xs. ap (λ ts. ts ++ ended (map tokens xs)) (e x))
+
+pub into_separated : {z : Setting} {X : Type 0} {p h q k : Gram X} {b : X → List Token} (between : List Token) (tokens : X → List Token) → Into z p h tokens → Into z q k b → ((x : X) → b x ≡ between ++ tokens x)
+    → Into z (seq several p (many q)) (seq several h (many k)) (λ xs. separated between (several_map tokens xs))
+into_separated between tokens i j e = into_seq (λ xs. separated between (several_map tokens xs)) i (into_each between tokens j e) (λ x xs. refl)

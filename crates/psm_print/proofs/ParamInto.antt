@@ -4,31 +4,33 @@ use Rattle.std.proofs.lemmas.List.{length-append}
 use Rattle.std.proofs.lemmas.Bool.{eqb-true, eq-eqb}
 use native.Mathlib.Omega.{arith}
 use Rattle.psm_token.specs.declared.place.Place.{Place}
-use Rattle.psm_token.specs.declared.token.Token.{Token}
 use Rattle.psm_token.specs.declared.token.Placed.{Placed}
 use Rattle.psm_grammar.specs.Language.{Words}
 use Rattle.psm_grammar.specs.Grammar.{seq, token}
 use Rattle.psm_grammar.proofs.KindLists.{and_true}
 use Rattle.psm_tree.specs.Tests.{mode}
 use Rattle.psm_tree.specs.FileValues.{moded, unmoded}
+use Rattle.psm_tree.specs.FileGrammar
 use Rattle.psm_tree.specs.FileGrammar.{named_type, param}
 use Rattle.psm_tree.specs.declared.name.Identifier.{Identifier}
 use Rattle.psm_tree.specs.declared.types.DataType.{DataType}
 use Rattle.psm_tree.specs.declared.file.Mode.{Mode}
 use Rattle.psm_tree.specs.declared.file.Mode.TheVariants as modes
 use Rattle.psm_tree.specs.declared.file.Parameter.{Parameter}
+use Rattle.psm_print.specs.Spelling.{Spelling}
 use Rattle.psm_print.specs.ExprTokens.{name_tokens, type_tokens}
 use Rattle.psm_print.specs.FileTokens.{same_place, mode_tokens, said_tokens, parameter_tokens}
-use Rattle.psm_print.specs.Printed.{AllGood, Printed}
-use Rattle.psm_print.proofs.Regrouped.{left3}
+use Rattle.psm_print.proofs.Printed.{AllGood, Printed}
+use Rattle.psm_print.proofs.Regrouped.{before2}
 use Rattle.psm_print.proofs.Into.{Setting, Into, said, good_back, retold, shorter, reread, into_seq, or_from, or_left, or_right, into_image}
 use Rattle.psm_print.proofs.Chosen.{into_name, into_mode}
 use Rattle.psm_print.proofs.TypesInto.{data_type_into}
 
-abbrev named_tokens : Identifier × DataType → List Token
+abbrev named_tokens : Identifier × DataType → Spelling
 named_tokens p = name_tokens p.0 ++ type_tokens p.1
 
 named_type_into : {z : Setting} → Into z named_type named_type named_tokens
+unfolding FileGrammar.all_files
 named_type_into = into_seq named_tokens into_name data_type_into (λ x y. refl)
 
 same_true : (p q : Place) → same_place p q ≡ true → p ≡ q
@@ -38,18 +40,20 @@ same_true p q h =
 
 -- with its mode
 moded_into : {z : Setting} → Into z (seq moded (token mode) named_type) param (λ x. mode_tokens x.mode ++ (name_tokens x.name ++ type_tokens x.kind))
+unfolding FileGrammar.all_files
 moded_into = or_left (into_seq (λ x. mode_tokens x.mode ++ (name_tokens x.name ++ type_tokens x.kind)) into_mode named_type_into (λ x y. refl))
 
 module _ (z : Setting) (place : Place) (p : Identifier × DataType) (n : ℕ) (alone : Printed z.good (said z named_type) p (named_tokens p) n) where
   mode_at : (m : Mode) (same : Bool) → same_place place p.0.place ≡ same → Printed z.good (said z param) (moded (record { place = place; value = m }) p) (mode_tokens m ++ named_tokens p) n
       → Printed z.good (said z param) (moded (record { place = place; value = m }) p) (said_tokens m same ++ named_tokens p) n
+  unfolding FileGrammar.all_files
   mode_at modes.In true e q = reread (λ u l. inr (record { one = p; left = l; made = ap (λ v. record { place = v; mode = modes.In; name = p.0; kind = p.1 }) (same_true place p.0.place e) })) alone
   mode_at modes.In false e q = q
   mode_at modes.Out same e q = q
   mode_at modes.InOut same e q = q
 
 said_told : (m : Mode) (same : Bool) (p : Identifier × DataType) → said_tokens m same ++ named_tokens p ≡ said_tokens m same ++ name_tokens p.0 ++ type_tokens p.1
-said_told m same p = left3 (said_tokens m same) (name_tokens p.0) (type_tokens p.1)
+said_told m same p = before2 (said_tokens m same) (name_tokens p.0) (type_tokens p.1)
 
 same_refl : (p : Place) → same_place p p ≡ true
 same_refl p = λ i. eq-eqb p.line p.line refl i && eq-eqb p.column p.column refl i
@@ -58,6 +62,7 @@ unmoded_told : (p : Identifier × DataType) → named_tokens p ≡ parameter_tok
 unmoded_told p = ap (λ b. said_tokens modes.In b ++ name_tokens p.0 ++ type_tokens p.1) (sym (same_refl p.0.place))
 
 said_into : (z : Setting) (u : Words Placed) (x : Parameter) → said z (seq moded (token mode) named_type) u x → AllGood z.good u → Printed z.good (said z param) x (parameter_tokens x) (length u)
+unfolding FileGrammar.all_files
 said_into z u x l a =
     let alone = (named_type_into {z = z}).into l.back l.two l.right (good_back z.good l.front l.back (subst (AllGood z.good) l.whole a)) in
     let n : length l.back ≤ length u = omega (arith, length-append l.front l.back, ap length l.whole) in
@@ -65,4 +70,5 @@ said_into z u x l a =
     subst (λ y. Printed z.good (said z param) y (parameter_tokens y) (length u)) (sym l.made) (retold (said_told l.one.value (same_place l.one.place l.two.0.place) l.two) (mode_at z l.one.place l.two (length u) (shorter n alone) l.one.value (same_place l.one.place l.two.0.place) refl q))
 
 pub param_into : {z : Setting} → Into z param param parameter_tokens
+unfolding FileGrammar.all_files
 param_into {z} = or_from (record { into = said_into z }) (or_right (into_image parameter_tokens named_type_into unmoded_told))

@@ -10,17 +10,21 @@ use Rattle.psm_token.specs.declared.token.Token.{Token}
 use Rattle.psm_token.specs.declared.token.Token.TheVariants as t
 use Rattle.psm_token.specs.declared.token.Placed.{Placed}
 use Rattle.psm_grammar.specs.Language.{Words, Lang, has, Test, Token as OneToken, Seq}
-use Rattle.psm_grammar.specs.Grammar.{token, level, next}
+use Rattle.psm_grammar.specs.Grammar.{token, level, next, seq, many}
 use Rattle.psm_grammar.specs.Forms.{behind_token, before_token}
-use Rattle.psm_tree.specs.Kinds.{code, sign_code, token_kind, kind}
+use Rattle.psm_token.specs.Words.{word_kind}
+use Rattle.psm_token.specs.Signs.{sign_kind}
+use Rattle.psm_token.specs.Kinds.{token_kind, kind}
 use Rattle.psm_tree.specs.Tests.{word, sign}
 use Rattle.psm_tree.specs.Parts.{Part, V}
 use Rattle.psm_token.specs.declared.sign.Sign.TheVariants as s
+use Rattle.psm_list.specs.Several.{several_map}
+use Rattle.psm_tree.specs.ExprValues.{several}
 use Rattle.psm_tree.specs.ExprGrammar.{Gram, closed, within_parens}
-use Rattle.psm_print.specs.ExprTokens.{in_parens}
-use Rattle.psm_print.specs.Printed.{AllGood, Printed}
-use Rattle.psm_print.specs.PartTokens.{part_tokens, Shaped}
-use Rattle.psm_print.proofs.Into.{Setting, Claim, Into, into_seq, joined, good_front, good_back, retold, shorter}
+use Rattle.psm_print.specs.Spelling.{sign as one_sign, separated, in_parens}
+use Rattle.psm_print.proofs.Printed.{AllGood, Printed}
+use Rattle.psm_print.proofs.PartTokens.{part_tokens, Shaped}
+use Rattle.psm_print.proofs.Into.{Setting, Claim, Into, into_seq, into_separated, joined, good_front, good_back, retold, shorter}
 
 abbrev pub placed_at : Place → Token → Placed
 placed_at p t = record { token = t; place = p }
@@ -78,10 +82,10 @@ known_one : (n : ℕ) → has n (n ∷ []) ≡ true
 known_one n = ap (λ b. if b then true else false) (eq-eqb n n refl)
 
 pub says_word : {z : Setting} (x : Word) → Says z (word x) (word x) (λ a. t.Word x)
-says_word {z} x = says_all (λ a. a) (λ a. known_one (code x)) (λ a. refl) (λ y e g. z.kept.of_word x)
+says_word {z} x = says_all (λ a. a) (λ a. known_one (word_kind x)) (λ a. refl) (λ y e g. z.kept.of_word x)
 
 pub says_sign : {z : Setting} (x : Sign) → Says z (sign x) (sign x) (λ a. t.Sign x)
-says_sign {z} x = says_all (λ a. a) (λ a. known_one (sign_code x)) (λ a. refl) (λ y e g. z.kept.of_sign x)
+says_sign {z} x = says_all (λ a. a) (λ a. known_one (sign_kind x)) (λ a. refl) (λ y e g. z.kept.of_sign x)
 
 pub into_word : {z : Setting} (x : Word) → Into z (token (word x)) (token (word x)) (λ a. t.Word x ∷ [])
 into_word x = into_token (says_word x)
@@ -107,3 +111,8 @@ into_closed i = before_sign s.RightParen i
 
 pub into_parens : {z : Setting} {X : Type 0} {p h : Gram X} {b : X → List Token} → Into z p h b → Into z (within_parens p) (within_parens h) (λ y. in_parens (b y))
 into_parens i = behind_sign s.LeftParen (into_closed i)
+
+-- with a comma between two of them
+pub into_commas : {z : Setting} {X : Type 0} {p h : Gram X} (tokens : X → List Token) → Into z p h tokens
+    → Into z (seq several p (many (behind_token (sign s.Comma) p))) (seq several h (many (behind_token (sign s.Comma) h))) (λ xs. separated (one_sign s.Comma) (several_map tokens xs))
+into_commas tokens i = into_separated (one_sign s.Comma) tokens i (behind_sign s.Comma i) (λ x. refl)

@@ -18,7 +18,7 @@ use Rattle.psm_tree.specs.Productions.{productions}
 use Rattle.psm_tree.specs.FileGrammar.{file}
 use Rattle.psm_tree.specs.declared.file.FileTree.{FileTree}
 use Rattle.psm_print.specs.FileTokens.{file_tokens}
-use Rattle.psm_print.specs.Printed.{AllGood, Kept, Printed}
+use Rattle.psm_print.proofs.Printed.{AllGood, Kept, Printed}
 use Rattle.psm_print.specs.Printing.{Derives, IsTreeOfFile, IsFileOfTree}
 use Rattle.psm_print.proofs.FilePrinted.{file_printed}
 

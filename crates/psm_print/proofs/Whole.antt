@@ -4,8 +4,8 @@ use Rattle.psm_token.specs.declared.token.Token.{Token}
 use Rattle.psm_grammar.specs.Grammar.{nested, words}
 use Rattle.psm_tree.specs.Parts.{Part, Enclosed, Arguments, ExistsRest, CaseRest, CastRest, CoalesceRest, NullIfRest, FunctionRest, PositionRest, SubstringRest, TrimRest, BeginRest, LoopRest, WhileRest, RepeatRest, ForRest, IfRest, CaseStatementRest, HandlerRest, BodyRest, DeclareRest}
 use Rattle.psm_tree.specs.Productions.{productions}
-use Rattle.psm_print.specs.Printed.{Kept}
-use Rattle.psm_print.specs.PartTokens.{part_tokens}
+use Rattle.psm_print.proofs.Printed.{Kept}
+use Rattle.psm_print.proofs.PartTokens.{part_tokens}
 use Rattle.psm_print.proofs.Into.{Setting, Claim, Into, reread}
 use Rattle.psm_print.proofs.QueryInto.{enclosed_into, arguments_into, exists_into, case_into, cast_into, coalesce_into, nullif_into, function_into, position_into, substring_into, trim_into}
 use Rattle.psm_print.proofs.StatementInto.{loop_into, while_into, repeat_into, for_into, if_into, case_statement_into, handler_into}

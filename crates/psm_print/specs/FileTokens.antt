@@ -1,9 +1,9 @@
 -- The tokens that are printed for module files: of each tree the shortest of its spellings.
-use Rattle.std.specs.Prelude.{Bool, true, List, [], ◌∷◌, ◌++◌, Option, Some, None, nat_eq, ◌&&◌}
+use Rattle.std.specs.Prelude.{Bool, true, List, [], ◌++◌, Option, Some, None, map, option_map, nat_eq, ◌&&◌}
+use Rattle.psm_list.specs.Several.{several_map}
 use Rattle.psm_token.specs.declared.place.Place.{Place}
 use Rattle.psm_token.specs.declared.word.Word.TheVariants as w
 use Rattle.psm_token.specs.declared.sign.Sign.TheVariants as s
-use Rattle.psm_token.specs.declared.token.Token.{Token}
 use Rattle.psm_tree.specs.declared.types.DataType.{DataType}
 use Rattle.psm_tree.specs.declared.file.FileTree.{FileTree}
 use Rattle.psm_tree.specs.declared.file.TableTree.{TableTree}
@@ -23,60 +23,61 @@ use Rattle.psm_tree.specs.declared.file.NoteForm.{NoteForm}
 use Rattle.psm_tree.specs.declared.file.NoteForm.TheVariants as notes
 use Rattle.psm_tree.specs.declared.file.Note.{Note}
 use Rattle.psm_tree.specs.declared.file.Routine.{Routine}
-use Rattle.psm_print.specs.ExprTokens.{word, sign, perhaps, each, listed, in_parens, name_tokens, names_tokens, type_tokens, constant_tokens, expr_tokens}
-use Rattle.psm_print.specs.StatementTokens.{ended, statement_tokens}
+use Rattle.psm_print.specs.Spelling.{Spelling, word, sign, perhaps, each, separated, listed, ended, in_parens}
+use Rattle.psm_print.specs.ExprTokens.{name_tokens, enclosed_names_tokens, type_tokens, constant_tokens, expr_tokens}
+use Rattle.psm_print.specs.StatementTokens.{statement_tokens}
 
 -- ---- tables
 
-abbrev pub column_rule_form_tokens : ColumnRuleForm → List Token
+abbrev pub column_rule_form_tokens : ColumnRuleForm → Spelling
 column_rule_form_tokens column_rules.NotNull = word w.Not ++ word w.Null
 column_rule_form_tokens column_rules.PrimaryKey = word w.Primary ++ word w.Key
 column_rule_form_tokens column_rules.Unique = word w.Unique
 column_rule_form_tokens (column_rules.Check expr) = word w.Check ++ in_parens (expr_tokens expr)
 
-abbrev pub column_rule_tokens : ColumnRule → List Token
+abbrev pub column_rule_tokens : ColumnRule → Spelling
 column_rule_tokens rule = column_rule_form_tokens rule.form
 
-abbrev pub table_rule_form_tokens : TableRuleForm → List Token
-table_rule_form_tokens (table_rules.PrimaryKey names) = word w.Primary ++ word w.Key ++ in_parens (names_tokens names)
-table_rule_form_tokens (table_rules.Unique names) = word w.Unique ++ in_parens (names_tokens names)
+abbrev pub table_rule_form_tokens : TableRuleForm → Spelling
+table_rule_form_tokens (table_rules.PrimaryKey names) = word w.Primary ++ word w.Key ++ enclosed_names_tokens names
+table_rule_form_tokens (table_rules.Unique names) = word w.Unique ++ enclosed_names_tokens names
 table_rule_form_tokens (table_rules.Check expr) = word w.Check ++ in_parens (expr_tokens expr)
 
-abbrev pub table_rule_tokens : TableRule → List Token
+abbrev pub table_rule_tokens : TableRule → Spelling
 table_rule_tokens rule = table_rule_form_tokens rule.form
 
-abbrev pub element_tokens : Element → List Token
-element_tokens (elements.Column name kind default rules) = name_tokens name ++ type_tokens kind ++ perhaps (word w.Default) constant_tokens default ++ each [] column_rule_tokens rules
+abbrev pub element_tokens : Element → Spelling
+element_tokens (elements.Column name kind default rules) = name_tokens name ++ type_tokens kind ++ perhaps (word w.Default) (option_map constant_tokens default) ++ each [] (map column_rule_tokens rules)
 element_tokens (elements.Rule rule) = table_rule_tokens rule
 
-abbrev pub table_tree_tokens : TableTree → List Token
-table_tree_tokens table = word w.Create ++ word w.Table ++ name_tokens table.name ++ in_parens (element_tokens table.first ++ each (sign s.Comma) element_tokens table.rest)
+abbrev pub table_tree_tokens : TableTree → Spelling
+table_tree_tokens table = word w.Create ++ word w.Table ++ name_tokens table.name ++ in_parens (separated (sign s.Comma) (several_map element_tokens table.elements))
 
 -- ---- routines
 
 abbrev pub same_place : Place → Place → Bool
 same_place p q = nat_eq p.line q.line && nat_eq p.column q.column
 
-abbrev pub mode_tokens : Mode → List Token
+abbrev pub mode_tokens : Mode → Spelling
 mode_tokens modes.In = word w.In
 mode_tokens modes.Out = word w.Out
 mode_tokens modes.InOut = word w.InOut
 
 -- the mode, which is left out where no token of the source said it: IN, at the place of the name
-abbrev pub said_tokens : Mode → Bool → List Token
+abbrev pub said_tokens : Mode → Bool → Spelling
 said_tokens modes.In true = []
 said_tokens mode same = mode_tokens mode
 
-abbrev pub said_mode_tokens : Parameter → List Token
+abbrev pub said_mode_tokens : Parameter → Spelling
 said_mode_tokens p = said_tokens p.mode (same_place p.place p.name.place)
 
-abbrev pub parameter_tokens : Parameter → List Token
+abbrev pub parameter_tokens : Parameter → Spelling
 parameter_tokens p = said_mode_tokens p ++ name_tokens p.name ++ type_tokens p.kind
 
-abbrev pub parameters_tokens : List Parameter → List Token
-parameters_tokens ps = listed parameter_tokens ps
+abbrev pub parameters_tokens : List Parameter → Spelling
+parameters_tokens ps = listed (map parameter_tokens ps)
 
-abbrev pub note_form_tokens : NoteForm → List Token
+abbrev pub note_form_tokens : NoteForm → Spelling
 note_form_tokens notes.Language = word w.Language ++ word w.Sql
 note_form_tokens notes.Deterministic = word w.Deterministic
 note_form_tokens notes.NotDeterministic = word w.Not ++ word w.Deterministic
@@ -84,20 +85,20 @@ note_form_tokens notes.ContainsSql = word w.Contains ++ word w.Sql
 note_form_tokens notes.ReadsSqlData = word w.Reads ++ word w.Sql ++ word w.Data
 note_form_tokens notes.ModifiesSqlData = word w.Modifies ++ word w.Sql ++ word w.Data
 
-abbrev pub note_tokens : Note → List Token
+abbrev pub note_tokens : Note → Spelling
 note_tokens note = note_form_tokens note.form
 
-abbrev pub kind_tokens : Option DataType → List Token
+abbrev pub kind_tokens : Option DataType → Spelling
 kind_tokens None = word w.Procedure
 kind_tokens (Some kind) = word w.Function
 
-abbrev pub routine_tokens : Routine → List Token
-routine_tokens r = kind_tokens r.returns ++ name_tokens r.name ++ in_parens (parameters_tokens r.parameters) ++ perhaps (word w.Returns) type_tokens r.returns ++ each [] note_tokens r.notes ++ statement_tokens r.body
+abbrev pub routine_tokens : Routine → Spelling
+routine_tokens r = kind_tokens r.returns ++ name_tokens r.name ++ in_parens (parameters_tokens r.parameters) ++ perhaps (word w.Returns) (option_map type_tokens r.returns) ++ each [] (map note_tokens r.notes) ++ statement_tokens r.body
 
 -- ---- files
 
-abbrev pub module_tokens : Module → List Token
-module_tokens m = word w.Create ++ word w.Module ++ name_tokens m.name ++ ended routine_tokens m.routines ++ word w.End ++ word w.Module
+abbrev pub module_tokens : Module → Spelling
+module_tokens m = word w.Create ++ word w.Module ++ name_tokens m.name ++ ended (map routine_tokens m.routines) ++ word w.End ++ word w.Module
 
-abbrev pub file_tokens : FileTree → List Token
-file_tokens file = ended table_tree_tokens file.tables ++ module_tokens file.«module»
+abbrev pub file_tokens : FileTree → Spelling
+file_tokens file = ended (map table_tree_tokens file.tables) ++ module_tokens file.«module»

@@ -1,11 +1,12 @@
 //! Declarations: variables, conditions, cursors, and what handlers handle.
-ghost use Rattle.std.specs.Prelude.{◌≡◌, ◌++◌, IfOk};
-ghost use Rattle.psm_print.specs.StatementTokens.{declaration_tokens, insensitive_tokens, updatability_tokens, cursor_tokens, for_cursor_tokens, handler_kind_tokens, handler_value_tokens, handled_tokens, start_tokens, end_tokens, atomic_tokens, ended};
+ghost use Rattle.std.specs.Prelude.{◌≡◌, ◌++◌, IfOk, map};
+ghost use Rattle.psm_print.specs.Spelling.{ended};
+ghost use Rattle.psm_print.specs.StatementTokens.{declaration_tokens, insensitive_tokens, updatability_tokens, cursor_tokens, for_cursor_tokens, handler_kind_tokens, handler_value_tokens, handled_tokens, start_tokens, end_tokens, atomic_tokens};
 
 use crate::exprs::expr;
 use crate::names::{data_type, name, names};
 use crate::parts::{ordered_query, state};
-use psm_list::List;
+use psm_list::{Boxed, List, OneOrMore};
 use psm_spell::Writer;
 use psm_token::{Sign, Word};
 use psm_tree::{
@@ -31,7 +32,7 @@ fn declaration(out: &mut Writer, declaration: &Declaration) -> Result<(), AllocE
                 None => Ok(()),
                 Some(default) => {
                     out.word(Word::Default)?;
-                    expr(out, default)
+                    expr(out, default.get())
                 }
             }
         }
@@ -56,12 +57,12 @@ fn declaration(out: &mut Writer, declaration: &Declaration) -> Result<(), AllocE
 /// Declarations of variables and conditions, each with a semicolon behind it.
 pub(crate) fn declarations(
     out: &mut Writer,
-    declarations: &List<Declaration>,
+    declarations: &List<Boxed<Declaration>>,
 ) -> Result<(), AllocError>
-    ensures { IfOk result (λ _. out.new ≡ out.old ++ ended declaration_tokens declarations.now) }
+    ensures { IfOk result (λ _. out.new ≡ out.old ++ ended (map declaration_tokens declarations.now)) }
 {
     for next in declarations.items() {
-        declaration(out, next)?;
+        declaration(out, next.get())?;
         out.sign(Sign::Semicolon)?;
     }
     Ok(())
@@ -111,11 +112,14 @@ fn cursor(out: &mut Writer, cursor: &CursorDeclaration) -> Result<(), AllocError
 }
 
 /// Declarations of cursors, each with a semicolon behind it.
-pub(crate) fn cursors(out: &mut Writer, cursors: &List<CursorDeclaration>) -> Result<(), AllocError>
-    ensures { IfOk result (λ _. out.new ≡ out.old ++ ended cursor_tokens cursors.now) }
+pub(crate) fn cursors(
+    out: &mut Writer,
+    cursors: &List<Boxed<CursorDeclaration>>,
+) -> Result<(), AllocError>
+    ensures { IfOk result (λ _. out.new ≡ out.old ++ ended (map cursor_tokens cursors.now)) }
 {
     for next in cursors.items() {
-        cursor(out, next)?;
+        cursor(out, next.get())?;
         out.sign(Sign::Semicolon)?;
     }
     Ok(())
@@ -159,15 +163,11 @@ fn handler_value(out: &mut Writer, value: &HandlerValue) -> Result<(), AllocErro
 }
 
 /// What a handler handles, with a comma between two conditions.
-pub(crate) fn handled(
-    out: &mut Writer,
-    first: &HandlerValue,
-    rest: &List<HandlerValue>,
-) -> Result<(), AllocError>
-    ensures { IfOk result (λ _. out.new ≡ out.old ++ handled_tokens first.now rest.now) }
+pub(crate) fn handled(out: &mut Writer, values: &OneOrMore<HandlerValue>) -> Result<(), AllocError>
+    ensures { IfOk result (λ _. out.new ≡ out.old ++ handled_tokens values.now) }
 {
-    handler_value(out, first)?;
-    for next in rest.items() {
+    handler_value(out, &values.first)?;
+    for next in values.rest.items() {
         out.sign(Sign::Comma)?;
         handler_value(out, next)?;
     }

@@ -1,8 +1,12 @@
 //! What GET DIAGNOSTICS gets.
 ghost use Rattle.std.specs.Prelude.{◌≡◌, ◌++◌, IfOk};
+ghost use Rattle.psm_list.specs.Several.{several_map};
+ghost use Rattle.psm_token.specs.declared.sign.Sign.TheVariants as s;
+ghost use Rattle.psm_print.specs.Spelling.{sign, separated};
 ghost use Rattle.psm_print.specs.StatementTokens.{statement_item_tokens, condition_item_tokens, statement_info_tokens, condition_info_tokens, condition_number_tokens, diagnostics_tokens};
 
 use crate::names::target;
+use psm_list::OneOrMore;
 use psm_spell::Writer;
 use psm_token::{Sign, Word};
 use psm_tree::{
@@ -65,32 +69,46 @@ fn condition_number(out: &mut Writer, number: &ConditionNumber) -> Result<(), Al
     }
 }
 
+/// Targets and items of the statement, with a comma between two of them.
+fn statement_infos(
+    out: &mut Writer,
+    items: &OneOrMore<StatementInformation>,
+) -> Result<(), AllocError>
+    ensures { IfOk result (λ _. out.new ≡ out.old ++ separated (sign s.Comma) (several_map statement_info_tokens items.now)) }
+{
+    statement_info(out, &items.first)?;
+    for next in items.rest.items() {
+        out.sign(Sign::Comma)?;
+        statement_info(out, next)?;
+    }
+    Ok(())
+}
+
+/// Targets and items of a condition, with a comma between two of them.
+fn condition_infos(
+    out: &mut Writer,
+    items: &OneOrMore<ConditionInformation>,
+) -> Result<(), AllocError>
+    ensures { IfOk result (λ _. out.new ≡ out.old ++ separated (sign s.Comma) (several_map condition_info_tokens items.now)) }
+{
+    condition_info(out, &items.first)?;
+    for next in items.rest.items() {
+        out.sign(Sign::Comma)?;
+        condition_info(out, next)?;
+    }
+    Ok(())
+}
+
 /// What GET DIAGNOSTICS gets.
 pub(crate) fn diagnostics(out: &mut Writer, gets: &Diagnostics) -> Result<(), AllocError>
     ensures { IfOk result (λ _. out.new ≡ out.old ++ diagnostics_tokens gets.now) }
 {
     match gets {
-        Diagnostics::Statement { first, rest } => {
-            statement_info(out, first)?;
-            for next in rest.items() {
-                out.sign(Sign::Comma)?;
-                statement_info(out, next)?;
-            }
-            Ok(())
-        }
-        Diagnostics::Condition {
-            number,
-            first,
-            rest,
-        } => {
+        Diagnostics::Statement { items } => statement_infos(out, items),
+        Diagnostics::Condition { number, items } => {
             out.word(Word::Exception)?;
             condition_number(out, number)?;
-            condition_info(out, first)?;
-            for next in rest.items() {
-                out.sign(Sign::Comma)?;
-                condition_info(out, next)?;
-            }
-            Ok(())
+            condition_infos(out, items)
         }
     }
 }

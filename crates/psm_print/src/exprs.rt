@@ -1,14 +1,15 @@
 //! Expressions and queries.
-ghost use Rattle.std.specs.Prelude.{◌≡◌, ◌++◌, [], IfOk};
+ghost use Rattle.std.specs.Prelude.{◌≡◌, ◌++◌, [], IfOk, map, option_map};
+ghost use Rattle.psm_list.specs.Several.{several_map};
 ghost use Rattle.psm_token.specs.declared.sign.Sign.TheVariants as s;
-ghost use Rattle.psm_print.specs.PartTokens.{link_tokens, when_tokens};
-ghost use Rattle.psm_print.specs.ExprTokens.{sign, each, expr_tokens, listed_tokens, junction_tokens, alias_tokens, pick_tokens, picks_tokens, select_tokens};
+ghost use Rattle.psm_print.specs.Spelling.{word, sign, perhaps, each, separated, listed as listed_tokens};
+ghost use Rattle.psm_print.specs.ExprTokens.{expr_tokens, junction_tokens, alias_tokens, link_tokens, when_tokens, pick_tokens, select_tokens, table_tokens};
 
 use crate::names::{data_type, name, target};
 use crate::operators::{
-    comparison, junction, not, operator, plus_minus, set_function, side, text_function,
+    comparison, junction, not, opening, operator, plus_minus, set_function, side, text_function,
 };
-use psm_list::List;
+use psm_list::{Boxed, List, OneOrMore};
 use psm_spell::Writer;
 use psm_token::{Sign, Word};
 use psm_tree::{Expr, Identifier, Junction, Link, Pick, Select, When};
@@ -16,6 +17,7 @@ use std::alloc::AllocError;
 
 /// An expression.
 #[cycle(printing)]
+#[tactic(auto, using(crate::proofs::Equations::expr_equations))]
 pub(crate) fn expr(out: &mut Writer, e: &Expr) -> Result<(), AllocError>
     ensures { IfOk result (λ _. out.new ≡ out.old ++ expr_tokens e.now) }
 {
@@ -24,19 +26,10 @@ pub(crate) fn expr(out: &mut Writer, e: &Expr) -> Result<(), AllocError>
         Expr::Number { value, .. } => out.number(*value),
         Expr::Text { value, .. } => out.text(value),
         Expr::Name(name) => target(out, name),
-        Expr::Junction {
-            junction,
-            first,
-            rest,
-        } => {
-            expr(out, first.get())?;
-            joined(out, rest, *junction)?;
-            Ok(())
-        }
+        Expr::Junction { junction, operands } => joined(out, operands, *junction),
         Expr::Not { condition, .. } => {
             out.word(Word::Not)?;
-            expr(out, condition.get())?;
-            Ok(())
+            expr(out, condition.get())
         }
         Expr::Compare {
             operator,
@@ -45,15 +38,13 @@ pub(crate) fn expr(out: &mut Writer, e: &Expr) -> Result<(), AllocError>
         } => {
             expr(out, left.get())?;
             comparison(out, *operator)?;
-            expr(out, right.get())?;
-            Ok(())
+            expr(out, right.get())
         }
         Expr::IsNull { negated, value } => {
             expr(out, value.get())?;
             out.word(Word::Is)?;
             not(out, *negated)?;
-            out.word(Word::Null)?;
-            Ok(())
+            out.word(Word::Null)
         }
         Expr::Between {
             negated,
@@ -66,23 +57,18 @@ pub(crate) fn expr(out: &mut Writer, e: &Expr) -> Result<(), AllocError>
             out.word(Word::Between)?;
             expr(out, low.get())?;
             out.word(Word::And)?;
-            expr(out, high.get())?;
-            Ok(())
+            expr(out, high.get())
         }
         Expr::In {
             negated,
             value,
-            first,
-            rest,
+            list,
         } => {
             expr(out, value.get())?;
             not(out, *negated)?;
-            out.word(Word::In)?;
-            out.sign(Sign::LeftParen)?;
-            expr(out, first.get())?;
-            more(out, rest)?;
-            out.sign(Sign::RightParen)?;
-            Ok(())
+            opening(out, Word::In)?;
+            sources(out, list)?;
+            out.sign(Sign::RightParen)
         }
         Expr::Like {
             negated,
@@ -94,24 +80,15 @@ pub(crate) fn expr(out: &mut Writer, e: &Expr) -> Result<(), AllocError>
             not(out, *negated)?;
             out.word(Word::Like)?;
             expr(out, pattern.get())?;
-            match escape {
-                None => Ok(()),
-                Some(escape) => {
-                    out.word(Word::Escape)?;
-                    expr(out, escape.get())?;
-                    Ok(())
-                }
-            }
+            behind(out, escape, Word::Escape)
         }
-        Expr::Chain { first, rest } => {
+        Expr::Chain { first, links: rest } => {
             expr(out, first.get())?;
-            links(out, rest)?;
-            Ok(())
+            links(out, rest)
         }
         Expr::Signed { sign, operand, .. } => {
             plus_minus(out, *sign)?;
-            expr(out, operand.get())?;
-            Ok(())
+            expr(out, operand.get())
         }
         Expr::Call {
             function,
@@ -120,32 +97,26 @@ pub(crate) fn expr(out: &mut Writer, e: &Expr) -> Result<(), AllocError>
             name(out, function)?;
             out.sign(Sign::LeftParen)?;
             listed(out, arguments)?;
-            out.sign(Sign::RightParen)?;
-            Ok(())
+            out.sign(Sign::RightParen)
         }
         Expr::Parenthesized { expr: inner, .. } => {
             out.sign(Sign::LeftParen)?;
             expr(out, inner.get())?;
-            out.sign(Sign::RightParen)?;
-            Ok(())
+            out.sign(Sign::RightParen)
         }
         Expr::Subquery { query, .. } => {
             out.sign(Sign::LeftParen)?;
             select(out, query.get())?;
-            out.sign(Sign::RightParen)?;
-            Ok(())
+            out.sign(Sign::RightParen)
         }
         Expr::Exists { query, .. } => {
-            out.word(Word::Exists)?;
-            out.sign(Sign::LeftParen)?;
+            opening(out, Word::Exists)?;
             select(out, query.get())?;
-            out.sign(Sign::RightParen)?;
-            Ok(())
+            out.sign(Sign::RightParen)
         }
         Expr::Case {
             operand,
-            first,
-            rest,
+            whens: branches,
             otherwise,
             ..
         } => {
@@ -154,43 +125,28 @@ pub(crate) fn expr(out: &mut Writer, e: &Expr) -> Result<(), AllocError>
                 None => {}
                 Some(operand) => expr(out, operand.get())?,
             }
-            when(out, first.get())?;
-            whens(out, rest)?;
-            match otherwise {
-                None => {}
-                Some(otherwise) => {
-                    out.word(Word::Else)?;
-                    expr(out, otherwise.get())?;
-                }
-            }
-            out.word(Word::End)?;
-            Ok(())
+            whens(out, branches)?;
+            behind(out, otherwise, Word::Else)?;
+            out.word(Word::End)
         }
         Expr::Cast { source, to, .. } => {
-            out.word(Word::Cast)?;
-            out.sign(Sign::LeftParen)?;
+            opening(out, Word::Cast)?;
             expr(out, source.get())?;
             out.word(Word::As)?;
             data_type(out, to)?;
-            out.sign(Sign::RightParen)?;
-            Ok(())
+            out.sign(Sign::RightParen)
         }
-        Expr::Coalesce { first, rest, .. } => {
-            out.word(Word::Coalesce)?;
-            out.sign(Sign::LeftParen)?;
-            expr(out, first.get())?;
-            more(out, rest)?;
-            out.sign(Sign::RightParen)?;
-            Ok(())
+        Expr::Coalesce { values, .. } => {
+            opening(out, Word::Coalesce)?;
+            sources(out, values)?;
+            out.sign(Sign::RightParen)
         }
         Expr::NullIf { left, right, .. } => {
-            out.word(Word::NullIf)?;
-            out.sign(Sign::LeftParen)?;
+            opening(out, Word::NullIf)?;
             expr(out, left.get())?;
             out.sign(Sign::Comma)?;
             expr(out, right.get())?;
-            out.sign(Sign::RightParen)?;
-            Ok(())
+            out.sign(Sign::RightParen)
         }
         Expr::Function {
             function,
@@ -200,17 +156,14 @@ pub(crate) fn expr(out: &mut Writer, e: &Expr) -> Result<(), AllocError>
             text_function(out, *function)?;
             out.sign(Sign::LeftParen)?;
             expr(out, argument.get())?;
-            out.sign(Sign::RightParen)?;
-            Ok(())
+            out.sign(Sign::RightParen)
         }
         Expr::Position { part, whole, .. } => {
-            out.word(Word::Position)?;
-            out.sign(Sign::LeftParen)?;
+            opening(out, Word::Position)?;
             expr(out, part.get())?;
             out.word(Word::In)?;
             expr(out, whole.get())?;
-            out.sign(Sign::RightParen)?;
-            Ok(())
+            out.sign(Sign::RightParen)
         }
         Expr::Substring {
             text,
@@ -218,64 +171,70 @@ pub(crate) fn expr(out: &mut Writer, e: &Expr) -> Result<(), AllocError>
             length,
             ..
         } => {
-            out.word(Word::Substring)?;
-            out.sign(Sign::LeftParen)?;
+            opening(out, Word::Substring)?;
             expr(out, text.get())?;
             out.word(Word::From)?;
             expr(out, from.get())?;
-            match length {
-                None => {}
-                Some(length) => {
-                    out.word(Word::For)?;
-                    expr(out, length.get())?;
-                }
-            }
-            out.sign(Sign::RightParen)?;
-            Ok(())
+            behind(out, length, Word::For)?;
+            out.sign(Sign::RightParen)
         }
         Expr::Trim {
             side: which,
             text,
             ..
         } => {
-            out.word(Word::Trim)?;
-            out.sign(Sign::LeftParen)?;
+            opening(out, Word::Trim)?;
             side(out, *which)?;
             expr(out, text.get())?;
-            out.sign(Sign::RightParen)?;
-            Ok(())
+            out.sign(Sign::RightParen)
         }
     }
 }
 
-/// Expressions, each behind a comma.
+/// An expression behind that word, where there is one.
 #[cycle(printing)]
-pub(crate) fn more(out: &mut Writer, items: &List<Expr>) -> Result<(), AllocError>
-    ensures { IfOk result (λ _. out.new ≡ out.old ++ each (sign s.Comma) expr_tokens items.now) }
+fn behind(out: &mut Writer, e: &Option<Boxed<Expr>>, before: Word) -> Result<(), AllocError>
+    ensures { IfOk result (λ _. out.new ≡ out.old ++ perhaps (word before) (option_map expr_tokens e.now)) }
 {
-    for item in items.items() {
+    match e {
+        None => Ok(()),
+        Some(e) => {
+            out.word(before)?;
+            expr(out, e.get())
+        }
+    }
+}
+
+/// Expressions with a comma between two of them: one or more.
+#[cycle(printing)]
+pub(crate) fn sources(out: &mut Writer, items: &OneOrMore<Boxed<Expr>>) -> Result<(), AllocError>
+    ensures { IfOk result (λ _. out.new ≡ out.old ++ separated (sign s.Comma) (several_map expr_tokens items.now)) }
+{
+    expr(out, items.first.get())?;
+    for item in items.rest.items() {
         out.sign(Sign::Comma)?;
-        expr(out, item)?;
+        expr(out, item.get())?;
     }
     Ok(())
 }
 
-/// Conditions, each behind AND or OR.
+/// Conditions with AND or OR between two of them.
 #[cycle(printing)]
-fn joined(out: &mut Writer, items: &List<Expr>, by: Junction) -> Result<(), AllocError>
-    ensures { IfOk result (λ _. out.new ≡ out.old ++ each (junction_tokens by) expr_tokens items.now) }
+fn joined(out: &mut Writer, items: &OneOrMore<Boxed<Expr>>, by: Junction) -> Result<(), AllocError>
+    ensures { IfOk result (λ _. out.new ≡ out.old ++ separated (junction_tokens by) (several_map expr_tokens items.now)) }
 {
-    for item in items.items() {
+    expr(out, items.first.get())?;
+    for item in items.rest.items() {
         junction(out, by)?;
-        expr(out, item)?;
+        expr(out, item.get())?;
     }
     Ok(())
 }
 
-/// Expressions with a comma between two of them.
+/// Expressions with a comma between two of them: none or more.
 #[cycle(printing)]
-pub(crate) fn listed(out: &mut Writer, items: &List<Expr>) -> Result<(), AllocError>
-    ensures { IfOk result (λ _. out.new ≡ out.old ++ listed_tokens items.now) }
+pub(crate) fn listed(out: &mut Writer, items: &List<Boxed<Expr>>) -> Result<(), AllocError>
+    ensures { IfOk result (λ _. out.new ≡ out.old ++ listed_tokens (map expr_tokens items.now)) }
 {
     let mut first = true;
     for item in items.items() {
@@ -283,46 +242,51 @@ pub(crate) fn listed(out: &mut Writer, items: &List<Expr>) -> Result<(), AllocEr
             out.sign(Sign::Comma)?;
         }
         first = false;
-        expr(out, item)?;
+        expr(out, item.get())?;
     }
     Ok(())
 }
 
 /// Operators, and the operand behind each.
 #[cycle(printing)]
+#[tactic(auto, using(crate::proofs::Equations::tokens_link))]
 fn links(out: &mut Writer, links: &List<Link>) -> Result<(), AllocError>
-    ensures { IfOk result (λ _. out.new ≡ out.old ++ each [] link_tokens links.now) }
+    ensures { IfOk result (λ _. out.new ≡ out.old ++ each [] (map link_tokens links.now)) }
 {
     for link in links.items() {
         operator(out, link.operator)?;
-        expr(out, &link.operand)?;
+        expr(out, link.operand.get())?;
     }
     Ok(())
 }
 
 /// A branch of a CASE expression.
 #[cycle(printing)]
+#[tactic(auto, using(crate::proofs::Equations::tokens_when))]
 fn when(out: &mut Writer, when: &When) -> Result<(), AllocError>
     ensures { IfOk result (λ _. out.new ≡ out.old ++ when_tokens when.now) }
 {
     out.word(Word::When)?;
-    expr(out, &when.test)?;
+    expr(out, when.test.get())?;
     out.word(Word::Then)?;
-    expr(out, &when.result)
+    expr(out, when.result.get())
 }
 
+/// The branches of a CASE expression.
 #[cycle(printing)]
-fn whens(out: &mut Writer, whens: &List<When>) -> Result<(), AllocError>
-    ensures { IfOk result (λ _. out.new ≡ out.old ++ each [] when_tokens whens.now) }
+fn whens(out: &mut Writer, whens: &OneOrMore<Boxed<When>>) -> Result<(), AllocError>
+    ensures { IfOk result (λ _. out.new ≡ out.old ++ separated [] (several_map when_tokens whens.now)) }
 {
-    for next in whens.items() {
-        when(out, next)?;
+    when(out, whens.first.get())?;
+    for next in whens.rest.items() {
+        when(out, next.get())?;
     }
     Ok(())
 }
 
 /// A query.
 #[cycle(printing)]
+#[tactic(auto, using(crate::proofs::Equations::tokens_select))]
 pub(crate) fn select(out: &mut Writer, query: &Select) -> Result<(), AllocError>
     ensures { IfOk result (λ _. out.new ≡ out.old ++ select_tokens query.now) }
 {
@@ -331,17 +295,26 @@ pub(crate) fn select(out: &mut Writer, query: &Select) -> Result<(), AllocError>
     out.word(Word::From)?;
     name(out, &query.table)?;
     alias(out, &query.alias)?;
-    match &query.condition {
-        None => Ok(()),
-        Some(condition) => {
-            out.word(Word::Where)?;
-            expr(out, condition.get())
-        }
-    }
+    behind(out, &query.condition, Word::Where)
+}
+
+/// A table, its alias and its condition.
+pub(crate) fn from_table(
+    out: &mut Writer,
+    table: &Identifier,
+    own: &Option<Identifier>,
+    condition: &Option<Boxed<Expr>>,
+) -> Result<(), AllocError>
+    ensures { IfOk result (λ _. out.new ≡ out.old ++ table_tokens table.now own.now (option_map expr_tokens condition.now)) }
+{
+    out.word(Word::From)?;
+    name(out, table)?;
+    alias(out, own)?;
+    behind(out, condition, Word::Where)
 }
 
 /// The name of an item or of a table, where it has one.
-pub(crate) fn alias(out: &mut Writer, alias: &Option<Identifier>) -> Result<(), AllocError>
+fn alias(out: &mut Writer, alias: &Option<Identifier>) -> Result<(), AllocError>
     ensures { IfOk result (λ _. out.new ≡ out.old ++ alias_tokens alias.now) }
 {
     match alias {
@@ -352,22 +325,20 @@ pub(crate) fn alias(out: &mut Writer, alias: &Option<Identifier>) -> Result<(), 
 
 /// The items of a query.
 #[cycle(printing)]
-pub(crate) fn picks(out: &mut Writer, picks: &List<Pick>) -> Result<(), AllocError>
-    ensures { IfOk result (λ _. out.new ≡ out.old ++ picks_tokens picks.now) }
+pub(crate) fn picks(out: &mut Writer, picks: &OneOrMore<Boxed<Pick>>) -> Result<(), AllocError>
+    ensures { IfOk result (λ _. out.new ≡ out.old ++ separated (sign s.Comma) (several_map pick_tokens picks.now)) }
 {
-    let mut first = true;
-    for item in picks.items() {
-        if !first {
-            out.sign(Sign::Comma)?;
-        }
-        first = false;
-        pick(out, item)?;
+    pick(out, picks.first.get())?;
+    for item in picks.rest.items() {
+        out.sign(Sign::Comma)?;
+        pick(out, item.get())?;
     }
     Ok(())
 }
 
 /// An item of a query.
 #[cycle(printing)]
+#[tactic(auto, using(crate::proofs::Equations::pick_equations))]
 fn pick(out: &mut Writer, pick: &Pick) -> Result<(), AllocError>
     ensures { IfOk result (λ _. out.new ≡ out.old ++ pick_tokens pick.now) }
 {
@@ -377,12 +348,11 @@ fn pick(out: &mut Writer, pick: &Pick) -> Result<(), AllocError>
             expr: value,
             alias: own,
         } => {
-            expr(out, value)?;
+            expr(out, value.get())?;
             alias(out, own)
         }
         Pick::CountRows { alias: own, .. } => {
-            out.word(Word::Count)?;
-            out.sign(Sign::LeftParen)?;
+            opening(out, Word::Count)?;
             out.sign(Sign::Asterisk)?;
             out.sign(Sign::RightParen)?;
             alias(out, own)
@@ -395,7 +365,7 @@ fn pick(out: &mut Writer, pick: &Pick) -> Result<(), AllocError>
         } => {
             set_function(out, *function)?;
             out.sign(Sign::LeftParen)?;
-            expr(out, argument)?;
+            expr(out, argument.get())?;
             out.sign(Sign::RightParen)?;
             alias(out, own)
         }

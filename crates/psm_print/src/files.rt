@@ -1,20 +1,21 @@
 //! Module files: tables, routines and the module.
-ghost use Rattle.std.specs.Prelude.{◌≡◌, ◌++◌, [], IfOk};
+ghost use Rattle.std.specs.Prelude.{◌≡◌, ◌++◌, [], IfOk, map, option_map};
 ghost use Rattle.psm_token.specs.declared.sign.Sign.TheVariants as s;
 ghost use Rattle.psm_token.specs.declared.word.Word.TheVariants as w;
-ghost use Rattle.psm_print.specs.ExprTokens.{word, sign, perhaps, each, in_parens, names_tokens, type_tokens, expr_tokens};
-ghost use Rattle.psm_print.specs.StatementTokens.{ended};
+ghost use Rattle.psm_list.specs.Several.{several_map};
+ghost use Rattle.psm_print.specs.Spelling.{word, sign, perhaps, each, separated, ended, in_parens};
+ghost use Rattle.psm_print.specs.ExprTokens.{type_tokens, expr_tokens};
 ghost use Rattle.psm_print.specs.FileTokens.{column_rule_tokens, table_rule_tokens, element_tokens, table_tree_tokens, said_mode_tokens, parameter_tokens, parameters_tokens, note_tokens, kind_tokens, routine_tokens, module_tokens, file_tokens};
 
 use crate::exprs::expr;
-use crate::names::{constant, data_type, name, names};
+use crate::names::{constant, data_type, enclosed_names, name};
 use crate::statements::statement;
-use psm_list::List;
+use psm_list::{List, OneOrMore};
 use psm_spell::Writer;
 use psm_token::{Sign, Word};
 use psm_tree::{
-    ColumnRule, ColumnRuleForm, DataType, Element, Expr, FileTree, Mode, Module, Names, Note,
-    NoteForm, Parameter, Routine, TableRule, TableRuleForm, TableTree,
+    ColumnRule, ColumnRuleForm, DataType, Element, Expr, FileTree, Mode, Module, Note, NoteForm,
+    Parameter, Routine, TableRule, TableRuleForm, TableTree,
 };
 use std::alloc::AllocError;
 
@@ -24,15 +25,6 @@ fn enclosed(out: &mut Writer, value: &Expr) -> Result<(), AllocError>
 {
     out.sign(Sign::LeftParen)?;
     expr(out, value)?;
-    out.sign(Sign::RightParen)
-}
-
-/// Names in parentheses.
-fn enclosed_names(out: &mut Writer, columns: &Names) -> Result<(), AllocError>
-    ensures { IfOk result (λ _. out.new ≡ out.old ++ in_parens (names_tokens columns.now)) }
-{
-    out.sign(Sign::LeftParen)?;
-    names(out, columns)?;
     out.sign(Sign::RightParen)
 }
 
@@ -52,7 +44,7 @@ fn column_rule(out: &mut Writer, rule: &ColumnRule) -> Result<(), AllocError>
         ColumnRuleForm::Unique => out.word(Word::Unique),
         ColumnRuleForm::Check(test) => {
             out.word(Word::Check)?;
-            enclosed(out, test)
+            enclosed(out, test.get())
         }
     }
 }
@@ -73,14 +65,14 @@ fn table_rule(out: &mut Writer, rule: &TableRule) -> Result<(), AllocError>
         }
         TableRuleForm::Check(test) => {
             out.word(Word::Check)?;
-            enclosed(out, test)
+            enclosed(out, test.get())
         }
     }
 }
 
 /// The rules of a column.
 fn column_rules(out: &mut Writer, rules: &List<ColumnRule>) -> Result<(), AllocError>
-    ensures { IfOk result (λ _. out.new ≡ out.old ++ each [] column_rule_tokens rules.now) }
+    ensures { IfOk result (λ _. out.new ≡ out.old ++ each [] (map column_rule_tokens rules.now)) }
 {
     for rule in rules.items() {
         column_rule(out, rule)?;
@@ -122,16 +114,16 @@ fn table(out: &mut Writer, table: &TableTree) -> Result<(), AllocError>
     out.word(Word::Table)?;
     name(out, &table.name)?;
     out.sign(Sign::LeftParen)?;
-    element(out, &table.first)?;
-    elements(out, &table.rest)?;
+    elements(out, &table.elements)?;
     out.sign(Sign::RightParen)
 }
 
-/// Elements, each behind a comma.
-fn elements(out: &mut Writer, elements: &List<Element>) -> Result<(), AllocError>
-    ensures { IfOk result (λ _. out.new ≡ out.old ++ each (sign s.Comma) element_tokens elements.now) }
+/// Elements with a comma between two of them.
+fn elements(out: &mut Writer, elements: &OneOrMore<Element>) -> Result<(), AllocError>
+    ensures { IfOk result (λ _. out.new ≡ out.old ++ separated (sign s.Comma) (several_map element_tokens elements.now)) }
 {
-    for next in elements.items() {
+    element(out, &elements.first)?;
+    for next in elements.rest.items() {
         out.sign(Sign::Comma)?;
         element(out, next)?;
     }
@@ -214,7 +206,7 @@ fn note(out: &mut Writer, note: &Note) -> Result<(), AllocError>
 
 /// The notes on a routine.
 fn notes(out: &mut Writer, notes: &List<Note>) -> Result<(), AllocError>
-    ensures { IfOk result (λ _. out.new ≡ out.old ++ each [] note_tokens notes.now) }
+    ensures { IfOk result (λ _. out.new ≡ out.old ++ each [] (map note_tokens notes.now)) }
 {
     for next in notes.items() {
         note(out, next)?;
@@ -234,7 +226,7 @@ fn routine_kind(out: &mut Writer, returns: &Option<DataType>) -> Result<(), Allo
 
 /// RETURNS and the type of a function.
 fn returned(out: &mut Writer, returns: &Option<DataType>) -> Result<(), AllocError>
-    ensures { IfOk result (λ _. out.new ≡ out.old ++ perhaps (word w.Returns) type_tokens returns.now) }
+    ensures { IfOk result (λ _. out.new ≡ out.old ++ perhaps (word w.Returns) (option_map type_tokens returns.now)) }
 {
     match returns {
         None => Ok(()),
@@ -256,13 +248,12 @@ fn routine(out: &mut Writer, routine: &Routine) -> Result<(), AllocError>
     out.sign(Sign::RightParen)?;
     returned(out, &routine.returns)?;
     notes(out, &routine.notes)?;
-    statement(out, &routine.body)?;
-    Ok(())
+    statement(out, routine.body.get())
 }
 
 /// Routines, each with a semicolon behind it.
 fn routines(out: &mut Writer, routines: &List<Routine>) -> Result<(), AllocError>
-    ensures { IfOk result (λ _. out.new ≡ out.old ++ ended routine_tokens routines.now) }
+    ensures { IfOk result (λ _. out.new ≡ out.old ++ ended (map routine_tokens routines.now)) }
 {
     for next in routines.items() {
         routine(out, next)?;
@@ -285,7 +276,7 @@ fn module_part(out: &mut Writer, module: &Module) -> Result<(), AllocError>
 
 /// Tables, each with a semicolon behind it.
 fn tables(out: &mut Writer, tables: &List<TableTree>) -> Result<(), AllocError>
-    ensures { IfOk result (λ _. out.new ≡ out.old ++ ended table_tree_tokens tables.now) }
+    ensures { IfOk result (λ _. out.new ≡ out.old ++ ended (map table_tree_tokens tables.now)) }
 {
     for next in tables.items() {
         table(out, next)?;

@@ -1,6 +1,6 @@
 //! Names, data types and constants.
 ghost use Rattle.std.specs.Prelude.{◌≡◌, ◌++◌, IfOk};
-ghost use Rattle.psm_print.specs.ExprTokens.{name_tokens, target_tokens, names_tokens, targets_tokens, precision_tokens, length_tokens, type_tokens, constant_tokens};
+ghost use Rattle.psm_print.specs.ExprTokens.{name_tokens, target_tokens, names_tokens, enclosed_names_tokens, targets_tokens, precision_tokens, length_tokens, type_tokens, constant_tokens};
 
 use crate::operators::plus_minus;
 use psm_num::Dec;
@@ -42,6 +42,15 @@ pub(crate) fn names(out: &mut Writer, names: &Names) -> Result<(), AllocError>
         name(out, next)?;
     }
     Ok(())
+}
+
+/// Names in parentheses.
+pub(crate) fn enclosed_names(out: &mut Writer, columns: &Names) -> Result<(), AllocError>
+    ensures { IfOk result (λ _. out.new ≡ out.old ++ enclosed_names_tokens columns.now) }
+{
+    out.sign(Sign::LeftParen)?;
+    names(out, columns)?;
+    out.sign(Sign::RightParen)
 }
 
 /// Targets with a comma between two of them.

@@ -1,5 +1,7 @@
 //! Operators and words that choose.
 ghost use Rattle.std.specs.Prelude.{◌≡◌, ◌++◌, IfOk};
+ghost use Rattle.psm_token.specs.declared.sign.Sign.TheVariants as s;
+ghost use Rattle.psm_print.specs.Spelling.{word, sign};
 ghost use Rattle.psm_print.specs.ExprTokens.{plus_minus_tokens, junction_tokens, comparison_tokens, operator_tokens, text_function_tokens, set_function_tokens, side_tokens, not_tokens};
 
 use psm_spell::Writer;
@@ -89,4 +91,12 @@ pub(crate) fn not(out: &mut Writer, negated: bool) -> Result<(), AllocError>
     ensures { IfOk result (λ _. out.new ≡ out.old ++ not_tokens negated) }
 {
     if negated { out.word(Word::Not) } else { Ok(()) }
+}
+
+/// A word and the parenthesis behind it.
+pub(crate) fn opening(out: &mut Writer, function: Word) -> Result<(), AllocError>
+    ensures { IfOk result (λ _. out.new ≡ out.old ++ word function ++ sign s.LeftParen) }
+{
+    out.word(function)?;
+    out.sign(SignToken::LeftParen)
 }

@@ -2,9 +2,9 @@
 ghost use Rattle.std.specs.Prelude.{◌≡◌, ◌++◌, IfOk};
 ghost use Rattle.psm_print.specs.StatementTokens.{state_tokens, column_order_tokens, order_tokens, ordered_query_tokens, condition_tokens, signalled_tokens, where_tokens, values_tokens, rows_tokens, insert_source_tokens, assignment_tokens, assignments_tokens};
 
-use crate::exprs::{expr, more, select};
+use crate::exprs::{expr, select, sources};
 use crate::names::name;
-use psm_list::List;
+use psm_list::OneOrMore;
 use psm_spell::Writer;
 use psm_token::{Sign, Word};
 use psm_tree::{
@@ -38,8 +38,8 @@ fn order(out: &mut Writer, order: &Order) -> Result<(), AllocError>
 {
     out.word(Word::Order)?;
     out.word(Word::By)?;
-    column_order(out, &order.first)?;
-    for next in order.rest.items() {
+    column_order(out, &order.columns.first)?;
+    for next in order.columns.rest.items() {
         out.sign(Sign::Comma)?;
         column_order(out, next)?;
     }
@@ -50,7 +50,7 @@ fn order(out: &mut Writer, order: &Order) -> Result<(), AllocError>
 pub(crate) fn ordered_query(out: &mut Writer, query: &OrderedQuery) -> Result<(), AllocError>
     ensures { IfOk result (λ _. out.new ≡ out.old ++ ordered_query_tokens query.now) }
 {
-    select(out, &query.query)?;
+    select(out, query.query.get())?;
     match &query.order {
         None => {}
         Some(columns) => order(out, columns)?,
@@ -79,7 +79,7 @@ pub(crate) fn signalled(out: &mut Writer, signalled: &Signalled) -> Result<(), A
             out.word(Word::Set)?;
             out.word(Word::MessageText)?;
             out.sign(Sign::Equal)?;
-            expr(out, message)?;
+            expr(out, message.get())?;
         }
     }
     Ok(())
@@ -91,7 +91,7 @@ pub(crate) fn which_rows(out: &mut Writer, which: &Where) -> Result<(), AllocErr
 {
     out.word(Word::Where)?;
     match which {
-        Where::Condition(condition) => expr(out, condition),
+        Where::Condition(condition) => expr(out, condition.get()),
         Where::Current { cursor } => {
             out.word(Word::Current)?;
             out.word(Word::Of)?;
@@ -105,8 +105,7 @@ fn values(out: &mut Writer, values: &Values) -> Result<(), AllocError>
     ensures { IfOk result (λ _. out.new ≡ out.old ++ values_tokens values.now) }
 {
     out.sign(Sign::LeftParen)?;
-    expr(out, &values.first)?;
-    more(out, &values.rest)?;
+    sources(out, &values.values)?;
     out.sign(Sign::RightParen)
 }
 
@@ -115,20 +114,20 @@ pub(crate) fn insert_source(out: &mut Writer, source: &InsertSource) -> Result<(
     ensures { IfOk result (λ _. out.new ≡ out.old ++ insert_source_tokens source.now) }
 {
     match source {
-        InsertSource::Values { first, rest } => {
+        InsertSource::Values { rows: lines } => {
             out.word(Word::Values)?;
-            rows(out, first, rest)
+            rows(out, lines)
         }
-        InsertSource::Query(query) => select(out, query),
+        InsertSource::Query(query) => select(out, query.get()),
     }
 }
 
 /// Rows of VALUES with a comma between two of them.
-fn rows(out: &mut Writer, first: &Values, rest: &List<Values>) -> Result<(), AllocError>
-    ensures { IfOk result (λ _. out.new ≡ out.old ++ rows_tokens first.now rest.now) }
+fn rows(out: &mut Writer, rows: &OneOrMore<Values>) -> Result<(), AllocError>
+    ensures { IfOk result (λ _. out.new ≡ out.old ++ rows_tokens rows.now) }
 {
-    values(out, first)?;
-    for next in rest.items() {
+    values(out, &rows.first)?;
+    for next in rows.rest.items() {
         out.sign(Sign::Comma)?;
         values(out, next)?;
     }
@@ -141,19 +140,18 @@ fn assignment(out: &mut Writer, assignment: &Assignment) -> Result<(), AllocErro
 {
     name(out, &assignment.column)?;
     out.sign(Sign::Equal)?;
-    expr(out, &assignment.source)
+    expr(out, assignment.source.get())
 }
 
 /// The columns that an UPDATE sets.
 pub(crate) fn assignments(
     out: &mut Writer,
-    first: &Assignment,
-    rest: &List<Assignment>,
+    assignments: &OneOrMore<Assignment>,
 ) -> Result<(), AllocError>
-    ensures { IfOk result (λ _. out.new ≡ out.old ++ assignments_tokens first.now rest.now) }
+    ensures { IfOk result (λ _. out.new ≡ out.old ++ assignments_tokens assignments.now) }
 {
-    assignment(out, first)?;
-    for next in rest.items() {
+    assignment(out, &assignments.first)?;
+    for next in assignments.rest.items() {
         out.sign(Sign::Comma)?;
         assignment(out, next)?;
     }

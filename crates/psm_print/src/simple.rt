@@ -1,16 +1,18 @@
 //! Statements that have no statements.
-ghost use Rattle.std.specs.Prelude.{◌≡◌, ◌++◌, IfOk};
-ghost use Rattle.psm_print.specs.ExprTokens.{table_tokens};
-ghost use Rattle.psm_print.specs.StatementTokens.{simple_tokens};
+ghost use Rattle.std.specs.Prelude.{◌≡◌, ◌++◌, [], IfOk, option_map};
+ghost use Rattle.psm_tree.specs.declared.expr.Select.{out-Select};
+ghost use Rattle.psm_print.specs.Spelling.{perhaps};
+ghost use Rattle.psm_print.specs.ExprTokens.{enclosed_names_tokens};
+ghost use Rattle.psm_print.specs.StatementTokens.{signalled_tokens, select_into_tokens, where_tokens, simple_tokens};
 
 use crate::diagnostics::diagnostics;
-use crate::exprs::{alias, expr, listed, picks};
-use crate::names::{name, names, target, targets};
+use crate::exprs::{expr, from_table, listed, picks};
+use crate::names::{enclosed_names, name, target, targets};
 use crate::parts::{assignments, insert_source, signalled, which_rows};
 use psm_list::Boxed;
 use psm_spell::Writer;
 use psm_token::{Sign, Word};
-use psm_tree::{Expr, Identifier, Simple};
+use psm_tree::{Names, Select, Signalled, Simple, Targets, Where};
 use std::alloc::AllocError;
 
 /// A statement that has no statements.
@@ -26,7 +28,7 @@ pub(crate) fn simple(out: &mut Writer, statement: &Simple) -> Result<(), AllocEr
             out.word(Word::Set)?;
             target(out, variable)?;
             out.sign(Sign::Equal)?;
-            expr(out, source)
+            expr(out, source.get())
         }
         Simple::Call {
             procedure,
@@ -41,7 +43,7 @@ pub(crate) fn simple(out: &mut Writer, statement: &Simple) -> Result<(), AllocEr
         }
         Simple::Return { source, .. } => {
             out.word(Word::Return)?;
-            expr(out, source)
+            expr(out, source.get())
         }
         Simple::Leave { label, .. } => {
             out.word(Word::Leave)?;
@@ -56,17 +58,14 @@ pub(crate) fn simple(out: &mut Writer, statement: &Simple) -> Result<(), AllocEr
             ..
         } => {
             out.word(Word::Signal)?;
-            signalled(out, condition)
+            signalled(out, condition.get())
         }
         Simple::Resignal {
             signalled: condition,
             ..
         } => {
             out.word(Word::Resignal)?;
-            match condition {
-                None => Ok(()),
-                Some(condition) => signalled(out, condition),
-            }
+            perhaps_signalled(out, condition)
         }
         Simple::GetDiagnostics {
             diagnostics: gets,
@@ -74,22 +73,12 @@ pub(crate) fn simple(out: &mut Writer, statement: &Simple) -> Result<(), AllocEr
         } => {
             out.word(Word::Get)?;
             out.word(Word::Diagnostics)?;
-            diagnostics(out, gets)
+            diagnostics(out, gets.get())
         }
         Simple::SelectInto {
-            picks: items,
+            query,
             targets: variables,
-            table,
-            alias: own,
-            condition,
-            ..
-        } => {
-            out.word(Word::Select)?;
-            picks(out, items)?;
-            out.word(Word::Into)?;
-            targets(out, variables)?;
-            from_table(out, table, own, condition)
-        }
+        } => select_into(out, query.get(), variables.get()),
         Simple::Insert {
             table,
             columns,
@@ -99,40 +88,26 @@ pub(crate) fn simple(out: &mut Writer, statement: &Simple) -> Result<(), AllocEr
             out.word(Word::Insert)?;
             out.word(Word::Into)?;
             name(out, table)?;
-            match columns {
-                None => {}
-                Some(columns) => {
-                    out.sign(Sign::LeftParen)?;
-                    names(out, columns)?;
-                    out.sign(Sign::RightParen)?;
-                }
-            }
-            insert_source(out, source)
+            perhaps_names(out, columns)?;
+            insert_source(out, source.get())
         }
         Simple::Update {
             table,
-            first,
-            rest,
+            assignments: sets,
             which,
             ..
         } => {
             out.word(Word::Update)?;
             name(out, table)?;
             out.word(Word::Set)?;
-            assignments(out, first, rest)?;
-            match which {
-                None => Ok(()),
-                Some(which) => which_rows(out, which),
-            }
+            assignments(out, sets)?;
+            perhaps_which(out, which)
         }
         Simple::Delete { table, which, .. } => {
             out.word(Word::Delete)?;
             out.word(Word::From)?;
             name(out, table)?;
-            match which {
-                None => Ok(()),
-                Some(which) => which_rows(out, which),
-            }
+            perhaps_which(out, which)
         }
         Simple::Open { cursor, .. } => {
             out.word(Word::Open)?;
@@ -146,7 +121,7 @@ pub(crate) fn simple(out: &mut Writer, statement: &Simple) -> Result<(), AllocEr
             out.word(Word::Fetch)?;
             name(out, cursor)?;
             out.word(Word::Into)?;
-            targets(out, variables)
+            targets(out, variables.get())
         }
         Simple::Close { cursor, .. } => {
             out.word(Word::Close)?;
@@ -155,23 +130,46 @@ pub(crate) fn simple(out: &mut Writer, statement: &Simple) -> Result<(), AllocEr
     }
 }
 
-/// A table, its alias and its condition.
-fn from_table(
+/// The condition of RESIGNAL, where it has one.
+fn perhaps_signalled(
     out: &mut Writer,
-    table: &Identifier,
-    own: &Option<Identifier>,
-    condition: &Option<Boxed<Expr>>,
+    condition: &Option<Boxed<Signalled>>,
 ) -> Result<(), AllocError>
-    ensures { IfOk result (λ _. out.new ≡ out.old ++ table_tokens table.now own.now condition.now) }
+    ensures { IfOk result (λ _. out.new ≡ out.old ++ perhaps [] (option_map signalled_tokens condition.now)) }
 {
-    out.word(Word::From)?;
-    name(out, table)?;
-    alias(out, own)?;
     match condition {
         None => Ok(()),
-        Some(condition) => {
-            out.word(Word::Where)?;
-            expr(out, condition.get())
-        }
+        Some(condition) => signalled(out, condition.get()),
+    }
+}
+
+/// A query whose items go into targets.
+fn select_into(out: &mut Writer, query: &Select, variables: &Targets) -> Result<(), AllocError>
+    ensures { IfOk result (λ _. out.new ≡ out.old ++ select_into_tokens (out-Select query.now) variables.now) }
+{
+    out.word(Word::Select)?;
+    picks(out, &query.picks)?;
+    out.word(Word::Into)?;
+    targets(out, variables)?;
+    from_table(out, &query.table, &query.alias, &query.condition)
+}
+
+/// The columns of INSERT in parentheses, where it has them.
+fn perhaps_names(out: &mut Writer, columns: &Option<Boxed<Names>>) -> Result<(), AllocError>
+    ensures { IfOk result (λ _. out.new ≡ out.old ++ perhaps [] (option_map enclosed_names_tokens columns.now)) }
+{
+    match columns {
+        None => Ok(()),
+        Some(columns) => enclosed_names(out, columns.get()),
+    }
+}
+
+/// Which rows are changed, where that is said.
+fn perhaps_which(out: &mut Writer, which: &Option<Where>) -> Result<(), AllocError>
+    ensures { IfOk result (λ _. out.new ≡ out.old ++ perhaps [] (option_map where_tokens which.now)) }
+{
+    match which {
+        None => Ok(()),
+        Some(which) => which_rows(out, which),
     }
 }

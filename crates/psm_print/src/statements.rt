@@ -1,8 +1,10 @@
 //! Statements that have statements, and handlers.
-ghost use Rattle.std.specs.Prelude.{◌≡◌, ◌++◌, [], IfOk};
-ghost use Rattle.psm_print.specs.ExprTokens.{word, each, perhaps, expr_tokens};
-ghost use Rattle.psm_print.specs.StatementTokens.{ended, for_head_tokens, statement_tokens};
-ghost use Rattle.psm_print.specs.PartTokens.{else_tokens, branch_tokens, handler_tokens};
+ghost use Rattle.std.specs.Prelude.{◌≡◌, ◌++◌, [], IfOk, map, option_map};
+ghost use Rattle.psm_list.specs.Several.{several_map};
+ghost use Rattle.psm_token.specs.declared.word.Word.TheVariants as w;
+ghost use Rattle.psm_print.specs.Spelling.{word, perhaps, each, separated, ended, all_of};
+ghost use Rattle.psm_print.specs.ExprTokens.{expr_tokens};
+ghost use Rattle.psm_print.specs.StatementTokens.{for_head_tokens, else_tokens, block_tokens, statement_tokens, branch_tokens, handler_tokens};
 
 use crate::declarations::{
     atomic, cursors, declarations, end_label, for_cursor, handled, handler_kind, start_label,
@@ -11,20 +13,62 @@ use crate::exprs::expr;
 use crate::names::name;
 use crate::parts::ordered_query;
 use crate::simple::simple;
-use psm_list::List;
+use psm_list::{Boxed, List, OneOrMore};
 use psm_spell::Writer;
 use psm_token::{Sign, Word};
-use psm_tree::{Branch, Expr, ForCursor, Handler, Identifier, OrderedQuery, Statement};
+use psm_tree::{Block, Branch, Expr, ForHead, Handler, Statement};
 use std::alloc::AllocError;
 
 /// A statement.
 #[cycle(statements)]
+#[tactic(auto, using(crate::proofs::Equations::statement_equations))]
 pub(crate) fn statement(out: &mut Writer, s: &Statement) -> Result<(), AllocError>
     ensures { IfOk result (λ _. out.new ≡ out.old ++ statement_tokens s.now) }
 {
     match s {
-        Statement::Compound {
+        Statement::Block {
             label,
+            block: labelled,
+        } => {
+            start_label(out, label)?;
+            block(out, labelled.get())?;
+            end_label(out, label)
+        }
+        Statement::If {
+            branches: tests,
+            otherwise,
+            ..
+        } => {
+            out.word(Word::If)?;
+            branches(out, tests, Word::ElseIf)?;
+            otherwise_statements(out, otherwise)?;
+            end(out, Word::If)
+        }
+        Statement::Case {
+            operand,
+            branches: tests,
+            otherwise,
+            ..
+        } => {
+            out.word(Word::Case)?;
+            perhaps_expr(out, operand)?;
+            out.word(Word::When)?;
+            branches(out, tests, Word::When)?;
+            otherwise_statements(out, otherwise)?;
+            end(out, Word::Case)
+        }
+        Statement::Simple(alone) => simple(out, alone.get()),
+    }
+}
+
+/// A block.
+#[cycle(statements)]
+#[tactic(auto, using(crate::proofs::Equations::block_equations))]
+fn block(out: &mut Writer, b: &Block) -> Result<(), AllocError>
+    ensures { IfOk result (λ _. out.new ≡ out.old ++ block_tokens b.now) }
+{
+    match b {
+        Block::Compound {
             atomic: undoes,
             declarations: declared,
             cursors: open,
@@ -32,162 +76,110 @@ pub(crate) fn statement(out: &mut Writer, s: &Statement) -> Result<(), AllocErro
             statements: body,
             ..
         } => {
-            start_label(out, label)?;
             out.word(Word::Begin)?;
             atomic(out, *undoes)?;
             declarations(out, declared)?;
             cursors(out, open)?;
             handlers(out, handle)?;
             statements(out, body)?;
-            out.word(Word::End)?;
-            end_label(out, label)?;
-            Ok(())
+            out.word(Word::End)
         }
-        Statement::Loop {
-            label,
-            first,
-            rest,
+        Block::Loop {
+            statements: body,
             ..
         } => {
-            start_label(out, label)?;
             out.word(Word::Loop)?;
-            statement(out, first.get())?;
-            out.sign(Sign::Semicolon)?;
-            statements(out, rest)?;
-            out.word(Word::End)?;
-            out.word(Word::Loop)?;
-            end_label(out, label)?;
-            Ok(())
+            all_statements(out, body)?;
+            end(out, Word::Loop)
         }
-        Statement::While {
-            label,
+        Block::While {
             test,
-            first,
-            rest,
+            statements: body,
             ..
         } => {
-            start_label(out, label)?;
             out.word(Word::While)?;
-            expr(out, test)?;
+            expr(out, test.get())?;
             out.word(Word::Do)?;
-            statement(out, first.get())?;
-            out.sign(Sign::Semicolon)?;
-            statements(out, rest)?;
-            out.word(Word::End)?;
-            out.word(Word::While)?;
-            end_label(out, label)?;
-            Ok(())
+            all_statements(out, body)?;
+            end(out, Word::While)
         }
-        Statement::Repeat {
-            label,
-            first,
-            rest,
+        Block::Repeat {
+            statements: body,
             until,
             ..
         } => {
-            start_label(out, label)?;
             out.word(Word::Repeat)?;
-            statement(out, first.get())?;
-            out.sign(Sign::Semicolon)?;
-            statements(out, rest)?;
+            all_statements(out, body)?;
             out.word(Word::Until)?;
-            expr(out, until)?;
-            out.word(Word::End)?;
-            out.word(Word::Repeat)?;
-            end_label(out, label)?;
-            Ok(())
+            expr(out, until.get())?;
+            end(out, Word::Repeat)
         }
-        Statement::For {
-            label,
-            name: row,
-            cursor,
-            query,
-            first,
-            rest,
+        Block::For {
+            head,
+            statements: body,
             ..
         } => {
-            start_label(out, label)?;
             out.word(Word::For)?;
-            for_head(out, row, cursor, query)?;
-            statement(out, first.get())?;
-            out.sign(Sign::Semicolon)?;
-            statements(out, rest)?;
-            out.word(Word::End)?;
-            out.word(Word::For)?;
-            end_label(out, label)?;
-            Ok(())
+            for_head(out, head.get())?;
+            out.word(Word::Do)?;
+            all_statements(out, body)?;
+            end(out, Word::For)
         }
-        Statement::If {
-            first,
-            rest,
-            otherwise,
-            ..
-        } => {
-            out.word(Word::If)?;
-            branch(out, first.get())?;
-            branches(out, rest, Word::ElseIf)?;
-            otherwise_statements(out, otherwise)?;
-            out.word(Word::End)?;
-            out.word(Word::If)?;
-            Ok(())
-        }
-        Statement::Case {
-            operand,
-            first,
-            rest,
-            otherwise,
-            ..
-        } => {
-            out.word(Word::Case)?;
-            perhaps_expr(out, operand)?;
-            out.word(Word::When)?;
-            branch(out, first.get())?;
-            branches(out, rest, Word::When)?;
-            otherwise_statements(out, otherwise)?;
-            out.word(Word::End)?;
-            out.word(Word::Case)?;
-            Ok(())
-        }
-        Statement::Simple(alone) => simple(out, alone),
     }
 }
 
-/// `name AS [cursor] query DO`.
-fn for_head(
-    out: &mut Writer,
-    row: &Identifier,
-    cursor: &Option<ForCursor>,
-    query: &OrderedQuery,
-) -> Result<(), AllocError>
-    ensures { IfOk result (λ _. out.new ≡ out.old ++ for_head_tokens row.now cursor.now query.now) }
+/// END and the word behind it.
+fn end(out: &mut Writer, of: Word) -> Result<(), AllocError>
+    ensures { IfOk result (λ _. out.new ≡ out.old ++ word w.End ++ word of) }
 {
-    name(out, row)?;
+    out.word(Word::End)?;
+    out.word(of)
+}
+
+/// `name AS [cursor] query`.
+fn for_head(out: &mut Writer, head: &ForHead) -> Result<(), AllocError>
+    ensures { IfOk result (λ _. out.new ≡ out.old ++ for_head_tokens head.now) }
+{
+    name(out, &head.name)?;
     out.word(Word::As)?;
-    match cursor {
+    match &head.cursor {
         None => {}
         Some(cursor) => for_cursor(out, cursor)?,
     }
-    ordered_query(out, query)?;
-    out.word(Word::Do)
+    ordered_query(out, &head.query)
 }
 
 /// The operand of CASE, where it has one.
-fn perhaps_expr(out: &mut Writer, operand: &Option<Expr>) -> Result<(), AllocError>
-    ensures { IfOk result (λ _. out.new ≡ out.old ++ perhaps [] expr_tokens operand.now) }
+fn perhaps_expr(out: &mut Writer, operand: &Option<Boxed<Expr>>) -> Result<(), AllocError>
+    ensures { IfOk result (λ _. out.new ≡ out.old ++ perhaps [] (option_map expr_tokens operand.now)) }
 {
     match operand {
         None => Ok(()),
-        Some(operand) => expr(out, operand),
+        Some(operand) => expr(out, operand.get()),
     }
 }
 
-/// Statements, each with a semicolon behind it.
+/// Statements, each with a semicolon behind it: none or more.
 #[cycle(statements)]
-fn statements(out: &mut Writer, items: &List<Statement>) -> Result<(), AllocError>
-    ensures { IfOk result (λ _. out.new ≡ out.old ++ ended statement_tokens items.now) }
+fn statements(out: &mut Writer, items: &List<Boxed<Statement>>) -> Result<(), AllocError>
+    ensures { IfOk result (λ _. out.new ≡ out.old ++ ended (map statement_tokens items.now)) }
 {
     for item in items.items() {
-        statement(out, item)?;
+        statement(out, item.get())?;
+        out.sign(Sign::Semicolon)?;
+    }
+    Ok(())
+}
+
+/// Statements, each with a semicolon behind it: one or more.
+#[cycle(statements)]
+fn all_statements(out: &mut Writer, items: &OneOrMore<Boxed<Statement>>) -> Result<(), AllocError>
+    ensures { IfOk result (λ _. out.new ≡ out.old ++ ended (all_of (several_map statement_tokens items.now))) }
+{
+    statement(out, items.first.get())?;
+    out.sign(Sign::Semicolon)?;
+    for item in items.rest.items() {
+        statement(out, item.get())?;
         out.sign(Sign::Semicolon)?;
     }
     Ok(())
@@ -195,15 +187,15 @@ fn statements(out: &mut Writer, items: &List<Statement>) -> Result<(), AllocErro
 
 /// The statements behind ELSE, which is left out where there are none.
 #[cycle(statements)]
-fn otherwise_statements(out: &mut Writer, items: &List<Statement>) -> Result<(), AllocError>
-    ensures { IfOk result (λ _. out.new ≡ out.old ++ else_tokens items.now) }
+fn otherwise_statements(out: &mut Writer, items: &List<Boxed<Statement>>) -> Result<(), AllocError>
+    ensures { IfOk result (λ _. out.new ≡ out.old ++ else_tokens (map statement_tokens items.now)) }
 {
     if items.items().is_empty() {
         return Ok(());
     }
     out.word(Word::Else)?;
     for item in items.items() {
-        statement(out, item)?;
+        statement(out, item.get())?;
         out.sign(Sign::Semicolon)?;
     }
     Ok(())
@@ -211,35 +203,39 @@ fn otherwise_statements(out: &mut Writer, items: &List<Statement>) -> Result<(),
 
 /// A test, and the statements behind THEN.
 #[cycle(statements)]
+#[tactic(auto, using(crate::proofs::Equations::tokens_branch))]
 fn branch(out: &mut Writer, branch: &Branch) -> Result<(), AllocError>
     ensures { IfOk result (λ _. out.new ≡ out.old ++ branch_tokens branch.now) }
 {
-    expr(out, &branch.test)?;
+    expr(out, branch.test.get())?;
     out.word(Word::Then)?;
-    statement(out, &branch.first)?;
-    out.sign(Sign::Semicolon)?;
-    statements(out, &branch.rest)
+    all_statements(out, &branch.statements)
 }
 
-/// Branches, each behind that word.
+/// Branches with that word between two of them.
 #[cycle(statements)]
-fn branches(out: &mut Writer, items: &List<Branch>, before: Word) -> Result<(), AllocError>
-    ensures { IfOk result (λ _. out.new ≡ out.old ++ each (word before) branch_tokens items.now) }
+fn branches(
+    out: &mut Writer,
+    items: &OneOrMore<Boxed<Branch>>,
+    between: Word,
+) -> Result<(), AllocError>
+    ensures { IfOk result (λ _. out.new ≡ out.old ++ separated (word between) (several_map branch_tokens items.now)) }
 {
-    for item in items.items() {
-        out.word(before)?;
-        branch(out, item)?;
+    branch(out, items.first.get())?;
+    for item in items.rest.items() {
+        out.word(between)?;
+        branch(out, item.get())?;
     }
     Ok(())
 }
 
 /// Declarations of handlers, each with a semicolon behind it.
 #[cycle(statements)]
-fn handlers(out: &mut Writer, items: &List<Handler>) -> Result<(), AllocError>
-    ensures { IfOk result (λ _. out.new ≡ out.old ++ ended handler_tokens items.now) }
+fn handlers(out: &mut Writer, items: &List<Boxed<Handler>>) -> Result<(), AllocError>
+    ensures { IfOk result (λ _. out.new ≡ out.old ++ ended (map handler_tokens items.now)) }
 {
     for item in items.items() {
-        handler(out, item)?;
+        handler(out, item.get())?;
         out.sign(Sign::Semicolon)?;
     }
     Ok(())
@@ -247,6 +243,7 @@ fn handlers(out: &mut Writer, items: &List<Handler>) -> Result<(), AllocError>
 
 /// A declaration of a handler.
 #[cycle(statements)]
+#[tactic(auto, using(crate::proofs::Equations::tokens_handler))]
 fn handler(out: &mut Writer, handler: &Handler) -> Result<(), AllocError>
     ensures { IfOk result (λ _. out.new ≡ out.old ++ handler_tokens handler.now) }
 {
@@ -254,6 +251,6 @@ fn handler(out: &mut Writer, handler: &Handler) -> Result<(), AllocError>
     handler_kind(out, handler.kind)?;
     out.word(Word::Handler)?;
     out.word(Word::For)?;
-    handled(out, &handler.first, &handler.rest)?;
+    handled(out, &handler.values)?;
     statement(out, handler.action.get())
 }

@@ -1,7 +1,7 @@
-use Rattle.std.proofs.Common.{◌≡◌, ◌++◌, [], drop}
-use Rattle.psm_print.specs.StatementTokens.{ended}
+use Rattle.std.proofs.Common.{◌≡◌, ◌++◌, drop, map}
+use Rattle.psm_print.specs.Spelling.{ended}
 use Rattle.psm_print.specs.FileTokens.{table_tree_tokens}
 use Rattle.psm_print.proofs.files.tables.Given as goal
 
 abbrev pub invariant-loop-next : goal.invariant-loop-next
-invariant-loop-next l = l.out ++ ended table_tree_tokens (drop l.next-index l.next-items) ≡ l.fn.out ++ ended table_tree_tokens l.tables
+invariant-loop-next l = l.out ++ ended (map table_tree_tokens (drop l.next-index l.next-items)) ≡ l.fn.out ++ ended (map table_tree_tokens l.tables)

@@ -1,8 +1,9 @@
-use Rattle.std.proofs.Common.{◌≡◌, ◌++◌, drop}
+use Rattle.std.proofs.Common.{◌≡◌, ◌++◌, drop, map}
+use Rattle.psm_list.specs.Several.{several_map}
 use Rattle.psm_token.specs.declared.sign.Sign.TheVariants as s
-use Rattle.psm_print.specs.ExprTokens.{sign, each}
-use Rattle.psm_print.specs.StatementTokens.{values_tokens, rows_tokens}
+use Rattle.psm_print.specs.Spelling.{sign, each, separated}
+use Rattle.psm_print.specs.StatementTokens.{values_tokens}
 use Rattle.psm_print.proofs.parts.rows.Given as goal
 
 abbrev pub invariant-loop-next : goal.invariant-loop-next
-invariant-loop-next l = l.out ++ each (sign s.Comma) values_tokens (drop l.next-index l.next-items) ≡ l.fn.out ++ rows_tokens l.first l.rest
+invariant-loop-next l = l.out ++ each (sign s.Comma) (map values_tokens (drop l.next-index l.next-items)) ≡ l.fn.out ++ separated (sign s.Comma) (several_map values_tokens l.rows)
