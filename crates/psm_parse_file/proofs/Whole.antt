@@ -1,28 +1,33 @@
--- The tree of a whole file is read as its grammar says, where its reader is exact.
-use Rattle.std.proofs.Common.{◌≡◌, List, [], ◌∷◌, Result, Ok, Err, sym, subst}
+-- The tree of a whole file is read as its grammar says.
+use Rattle.std.proofs.Common.{◌≡◌, ℕ, List, [], ◌∷◌, Result, Ok, Err, refl, sym, subst}
 use Rattle.psm_token.specs.declared.token.Placed.{Placed}
 use Rattle.psm_token.specs.Listed.{Tokens}
-use Rattle.psm_grammar.specs.Language.{Lang}
-use Rattle.psm_grammar.specs.Readers.{Out, Reader}
+use Rattle.psm_grammar.specs.Grammar.{Spells}
 use Rattle.psm_grammar.specs.Exact.{AtEnd, Holds}
-use Rattle.psm_grammar.specs.Gives.{Gives}
 use Rattle.psm_grammar.specs.declared.halt.Halt.{Halt}
+use Rattle.psm_grammar.proofs.Fitting.{Fit}
+use Rattle.psm_tree.specs.ExprGrammar.{Gram}
 use Rattle.psm_tree.specs.declared.fault.ParseFault.{ParseFault}
+use Rattle.psm_tree.specs.Productions.{productions}
 use Rattle.psm_tree.specs.Reading.{most_levels, ReadsAll}
+use Rattle.psm_tree.specs.Readers.{reading, Takes}
+use Rattle.psm_tree.proofs.ExprFits.{after}
+use Rattle.psm_tree.proofs.Readable.{exact_run}
+use Rattle.psm_tree.proofs.Reading.{reading_reads}
 use Rattle.psm_parse_token.proofs.Answering.{all_read, more_left, all_halted}
-use Rattle.psm_parse_file.specs.Whole.{alone, whole}
+use Rattle.psm_parse_file.specs.Whole.{whole}
 
-module _ {X S : Type 0} (L : Lang Placed X) (tokens : Tokens) (left : S → List Placed) where
-  answered : (o : Out Placed X) → Holds L AtEnd most_levels tokens.tokens o → (read : Result (X × S) Halt) → Gives (λ r. (r.0, left r.1)) read o → ReadsAll L (λ t. t) tokens (whole tokens left read)
-  answered o exact (Ok r) e = by (left r.1) e
-    where
-      by : (rest : List Placed) → o ≡ Ok (r.0, rest) → ReadsAll L (λ t. t) tokens (alone tokens r.0 rest)
-      by [] e = all_read L (λ t. t) tokens o exact r.0 e
-      by (t ∷ ts) e = more_left L (λ t. t) tokens o exact r.0 (t ∷ ts) e (λ h. absurd cc)
-  answered o exact (Err e) h = all_halted L (λ t. t) tokens o exact e h
+module _ {X : Type 0} (g : Gram X) {follow : List ℕ} (fit : Fit after follow g) (tokens : Tokens) where
+  -- what the reader answers is exact
+  exact : Holds (Spells productions 0 g) AtEnd most_levels tokens.tokens (reading most_levels g tokens.tokens)
+  exact = subst (Holds (Spells productions 0 g) AtEnd most_levels tokens.tokens) (sym (reading_reads most_levels g tokens.tokens)) (exact_run fit most_levels 0 most_levels refl tokens.tokens)
 
-  pub whole_reads : (reads : Reader Placed X) → ((ts : List Placed) → Holds L AtEnd most_levels ts (reads ts))
-      → (ts : List Placed) → ts ≡ tokens.tokens → (read : Result (X × S) Halt) → Gives (λ r. (r.0, left r.1)) read (reads ts)
-      → (result : Result X ParseFault) → result ≡ whole tokens left read → ReadsAll L (λ t. t) tokens result
-  whole_reads reads exact ts e read gives result made = subst (ReadsAll L (λ t. t) tokens) (sym made)
-      (answered (reads ts) (subst (λ (all : List Placed). Holds L AtEnd most_levels all (reads ts)) e (exact ts)) read gives)
+  answered : (read : Result X Halt) (rest : List Placed) → Takes (reading most_levels g tokens.tokens) read rest → ReadsAll (Spells productions 0 g) (λ t. t) tokens (whole tokens read rest)
+  answered (Ok x) [] e = all_read (Spells productions 0 g) (λ t. t) tokens (reading most_levels g tokens.tokens) exact x e
+  answered (Ok x) (t ∷ ts) e = more_left (Spells productions 0 g) (λ t. t) tokens (reading most_levels g tokens.tokens) exact x (t ∷ ts) e (λ h. absurd cc)
+  answered (Err e) rest h = all_halted (Spells productions 0 g) (λ t. t) tokens (reading most_levels g tokens.tokens) exact e h
+
+  pub whole_reads : (ts : List Placed) → ts ≡ tokens.tokens → (read : Result X Halt) (rest : List Placed) → Takes (reading most_levels g ts) read rest
+      → (result : Result X ParseFault) → result ≡ whole tokens read rest → ReadsAll (Spells productions 0 g) (λ t. t) tokens result
+  whole_reads ts e read rest takes result made = subst (ReadsAll (Spells productions 0 g) (λ t. t) tokens) (sym made)
+      (answered read rest (subst (λ (all : List Placed). Takes (reading most_levels g all) read rest) e takes))

@@ -1,5 +1,2 @@
-pub mod PartReaders
-pub mod FileReaders
-pub mod Bodies
 pub mod Creating
 pub mod Whole

@@ -1,98 +1,91 @@
 //! A script's CALL.
-ghost use Rattle.std.specs.Prelude.{ℕ, ◌≡◌, ◌<◌, ◌≤◌, length, IfOk};
-ghost use Rattle.psm_grammar.specs.Gives.{Gives};
-ghost use Rattle.psm_parse_file.specs.PartReaders.{argument_read, next_argument_read, next_arguments_read, script_argument_list_read, script_arguments_read, script_call_read};
+ghost use Rattle.psm_tree.specs.FileGrammar.{argument as argument_part, next_argument as next_argument_part, next_arguments as next_arguments_part, script_argument_list as script_argument_list_part, script_arguments as script_arguments_part, script_call as script_call_part};
+ghost use Rattle.psm_tree.specs.Readers.{Takes, reading};
 
+use crate::optional::in_front;
 use psm_grammar::Halt;
 use psm_list::List;
-use psm_parse_token::{
-    at_sign, before_sign, beside, constant, expect_name, expect_sign, expect_word, in_front,
-};
-use psm_token::{Placed, Sign, Word};
+use psm_parse_token::{Tokens, constant};
+use psm_token::{Sign, Word};
 use psm_tree::{Argument, Command};
 use std::alloc::Global;
 
-/// `const | "?"`.
-#[tactic(auto, unfolding(crate::specs::PartReaders::argument_read))]
-fn argument(alloc: Global, tokens: &[Placed]) -> Result<(Argument, &[Placed]), Halt>
-    ensures exact { Gives (λ x. (x.0, x.1.now)) result (argument_read tokens.now) }
-    ensures takes { IfOk result (λ x. length x.1.now < length tokens.now) }
+/// `const | "?"`
+#[tactic(auto, using(psm_tree::proofs::Reading::steps), unfolding(psm_tree::specs::FileGrammar::argument))]
+fn argument(alloc: Global, tokens: &mut Tokens, levels: u32) -> Result<Argument, Halt>
+    ensures { Takes (reading levels argument_part tokens.old.rest.now) result tokens.new.rest.now }
 {
-    if at_sign(tokens, Sign::QuestionMark) {
-        let (place, rest) = expect_sign(tokens, Sign::QuestionMark)?;
-        Ok((Argument::Placeholder { place }, rest))
-    } else {
-        let (value, rest) = constant(alloc, tokens)?;
-        Ok((Argument::Constant(value), rest))
+    if tokens.at_sign(Sign::QuestionMark) {
+        let place = tokens.sign(Sign::QuestionMark)?;
+        return Ok(Argument::Placeholder { place });
     }
+    Ok(Argument::Constant(constant(alloc, tokens, levels)?))
 }
 
-/// `"," argument`.
-#[tactic(auto, unfolding(crate::specs::PartReaders::next_argument_read))]
-fn next_argument(alloc: Global, tokens: &[Placed]) -> Result<(Argument, &[Placed]), Halt>
-    ensures exact { Gives (λ x. (x.0, x.1.now)) result (next_argument_read tokens.now) }
-    ensures takes { IfOk result (λ x. length x.1.now < length tokens.now) }
+/// `"," argument`
+#[tactic(auto, using(psm_tree::proofs::Reading::steps), unfolding(psm_tree::specs::FileGrammar::next_argument))]
+fn next_argument(alloc: Global, tokens: &mut Tokens, levels: u32) -> Result<Argument, Halt>
+    ensures { Takes (reading levels next_argument_part tokens.old.rest.now) result tokens.new.rest.now }
 {
-    let (_, rest) = expect_sign(tokens, Sign::Comma)?;
-    argument(alloc, rest)
+    tokens.sign(Sign::Comma)?;
+    argument(alloc, tokens, levels)
 }
 
-/// `{"," argument}`.
-#[tactic(auto, unfolding(crate::specs::PartReaders::next_arguments_read))]
-fn next_arguments(alloc: Global, tokens: &[Placed]) -> Result<(List<Argument>, &[Placed]), Halt>
-    ensures exact { Gives (λ x. (x.0, x.1.now)) result (next_arguments_read tokens.now) }
-    ensures takes { IfOk result (λ x. length x.1.now ≤ length tokens.now) }
+/// `{"," argument}`
+#[tactic(auto, using(psm_tree::proofs::Repeating::turns, psm_tree::proofs::Firsts::first_next_argument), unfolding(psm_tree::specs::FileGrammar::next_arguments))]
+fn next_arguments(alloc: Global, tokens: &mut Tokens, levels: u32) -> Result<List<Argument>, Halt>
+    ensures { Takes (reading levels next_arguments_part tokens.old.rest.now) result tokens.new.rest.now }
 {
-    let mut items = Vec::new(alloc);
-    let mut rest = tokens;
-    while at_sign(rest, Sign::Comma) {
-        let (item, next) = next_argument(alloc, rest)?;
-        items.push(item)?;
-        rest = next;
+    let mut arguments = Vec::new(alloc);
+    for _turn in 0..tokens.left() {
+        if !tokens.at_sign(Sign::Comma) {
+            break;
+        }
+        let argument = next_argument(alloc, tokens, levels)?;
+        arguments.push(argument)?;
     }
-    Ok((List::of(items), rest))
+    Ok(List::of(arguments))
 }
 
-/// `argument {"," argument} ")"`.
-#[tactic(auto, unfolding(crate::specs::PartReaders::script_argument_list_read))]
-fn argument_list(alloc: Global, tokens: &[Placed]) -> Result<(List<Argument>, &[Placed]), Halt>
-    ensures exact { Gives (λ x. (x.0, x.1.now)) result (script_argument_list_read tokens.now) }
-    ensures takes { IfOk result (λ x. length x.1.now < length tokens.now) }
+/// `argument {"," argument} ")"`
+#[tactic(auto, using(psm_tree::proofs::Reading::steps), unfolding(psm_tree::specs::FileGrammar::script_argument_list))]
+fn script_argument_list(
+    alloc: Global,
+    tokens: &mut Tokens,
+    levels: u32,
+) -> Result<List<Argument>, Halt>
+    ensures { Takes (reading levels script_argument_list_part tokens.old.rest.now) result tokens.new.rest.now }
 {
-    let (first, rest) = argument(alloc, tokens)?;
-    let (arguments, rest) = beside(first, next_arguments(alloc, rest))?;
-    let ((first, others), rest) = before_sign(arguments, rest, Sign::RightParen)?;
-    Ok((in_front(first, others)?, rest))
+    let first = argument(alloc, tokens, levels)?;
+    let others = next_arguments(alloc, tokens, levels)?;
+    tokens.sign(Sign::RightParen)?;
+    Ok(in_front(first, others)?)
 }
 
-/// `[argument {"," argument}] ")"`.
-#[tactic(auto, unfolding(crate::specs::PartReaders::script_arguments_read))]
-fn arguments(alloc: Global, tokens: &[Placed]) -> Result<(List<Argument>, &[Placed]), Halt>
-    ensures exact { Gives (λ x. (x.0, x.1.now)) result (script_arguments_read tokens.now) }
-    ensures takes { IfOk result (λ x. length x.1.now < length tokens.now) }
+/// `[argument {"," argument}] ")"`
+#[tactic(auto, using(psm_tree::proofs::Reading::steps), unfolding(psm_tree::specs::FileGrammar::script_arguments))]
+fn script_arguments(alloc: Global, tokens: &mut Tokens, levels: u32) -> Result<List<Argument>, Halt>
+    ensures { Takes (reading levels script_arguments_part tokens.old.rest.now) result tokens.new.rest.now }
 {
-    if at_sign(tokens, Sign::RightParen) {
-        let (_, rest) = expect_sign(tokens, Sign::RightParen)?;
-        Ok((List::of(Vec::new(alloc)), rest))
-    } else {
-        argument_list(alloc, tokens)
+    if tokens.at_sign(Sign::RightParen) {
+        tokens.sign(Sign::RightParen)?;
+        return Ok(List::of(Vec::new(alloc)));
     }
+    script_argument_list(alloc, tokens, levels)
 }
 
-/// `CALL name "(" [argument {"," argument}] ")"`.
-#[tactic(auto, unfolding(crate::specs::PartReaders::script_call_read))]
-pub(crate) fn script_call(alloc: Global, tokens: &[Placed]) -> Result<(Command, &[Placed]), Halt>
-    ensures exact { Gives (λ x. (x.0, x.1.now)) result (script_call_read tokens.now) }
-    ensures takes { IfOk result (λ x. length x.1.now < length tokens.now) }
+/// `CALL name "(" [argument {"," argument}] ")"`
+#[tactic(auto, using(psm_tree::proofs::Reading::steps), unfolding(psm_tree::specs::FileGrammar::script_call))]
+pub(crate) fn script_call(alloc: Global, tokens: &mut Tokens, levels: u32) -> Result<Command, Halt>
+    ensures { Takes (reading levels script_call_part tokens.old.rest.now) result tokens.new.rest.now }
 {
-    let (place, rest) = expect_word(tokens, Word::Call)?;
-    let (procedure, rest) = expect_name(alloc, rest)?;
-    let (procedure, rest) = before_sign(procedure, rest, Sign::LeftParen)?;
-    let ((procedure, arguments), rest) = beside(procedure, arguments(alloc, rest))?;
-    let call = Command::Call {
+    let place = tokens.word(Word::Call)?;
+    let procedure = tokens.name(alloc)?;
+    tokens.sign(Sign::LeftParen)?;
+    let arguments = script_arguments(alloc, tokens, levels)?;
+    Ok(Command::Call {
         place,
         procedure,
         arguments,
-    };
-    Ok((call, rest))
+    })
 }

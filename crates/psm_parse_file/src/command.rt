@@ -1,16 +1,15 @@
 //! The commands of a script.
-ghost use Rattle.std.specs.Prelude.{ℕ, ◌≡◌, ◌<◌, ◌≤◌, length, IfOk};
-ghost use Rattle.psm_grammar.specs.Gives.{Gives};
-ghost use Rattle.psm_parse_file.specs.FileReaders.{ending_read, command_read, ended_command_read, ended_commands_read, script_read};
+ghost use Rattle.psm_tree.specs.FileGrammar.{command as command_part, ended_command as ended_command_part, ended_commands as ended_commands_part, script as script_part};
+ghost use Rattle.psm_tree.specs.Readers.{Takes, reading};
 
 use crate::call::script_call;
 use crate::insert::script_insert;
-use crate::optional::optional_word;
+use crate::optional::perhaps_word;
 use psm_grammar::Halt;
 use psm_list::List;
 use psm_parse_stmt::ordered_select;
-use psm_parse_token::{at_one_of, at_word, before_sign, expect_word};
-use psm_token::{Placed, Sign, Word};
+use psm_parse_token::Tokens;
+use psm_token::{Sign, Word};
 use psm_tree::{Command, ScriptTree};
 use std::alloc::Global;
 
@@ -22,85 +21,61 @@ const COMMAND_WORDS: [Word; 5] = [
     Word::Rollback,
 ];
 
-/// `COMMIT [WORK] | ROLLBACK [WORK]`.
-#[tactic(auto, unfolding(crate::specs::FileReaders::ending_read))]
-fn ending(tokens: &[Placed]) -> Result<(Command, &[Placed]), Halt>
-    ensures exact { Gives (λ x. (x.0, x.1.now)) result (ending_read tokens.now) }
-    ensures takes { IfOk result (λ x. length x.1.now < length tokens.now) }
-{
-    if at_word(tokens, Word::Commit) {
-        let (place, rest) = expect_word(tokens, Word::Commit)?;
-        let (_, rest) = optional_word(rest, Word::Work);
-        Ok((Command::Commit { place }, rest))
-    } else {
-        let (place, rest) = expect_word(tokens, Word::Rollback)?;
-        let (_, rest) = optional_word(rest, Word::Work);
-        Ok((Command::Rollback { place }, rest))
-    }
-}
-
 /// A command.
-#[tactic(auto, unfolding(crate::specs::FileReaders::command_read))]
-fn command(alloc: Global, tokens: &[Placed], levels: u32) -> Result<(Command, &[Placed]), Halt>
-    ensures exact { Gives (λ x. (x.0, x.1.now)) result (command_read levels tokens.now) }
-    ensures takes { IfOk result (λ x. length x.1.now < length tokens.now) }
+#[tactic(auto, using(psm_tree::proofs::Reading::steps, psm_tree::proofs::Firsts::first_script_call, psm_tree::proofs::Firsts::first_script_insert, psm_tree::proofs::Firsts::first_ordered_select), unfolding(psm_tree::specs::FileGrammar::command))]
+fn command(alloc: Global, tokens: &mut Tokens, levels: u32) -> Result<Command, Halt>
+    ensures { Takes (reading levels command_part tokens.old.rest.now) result tokens.new.rest.now }
 {
-    if at_word(tokens, Word::Call) {
-        script_call(alloc, tokens)
-    } else if at_word(tokens, Word::Insert) {
-        script_insert(alloc, tokens)
-    } else if at_word(tokens, Word::Select) {
-        let (query, rest) = ordered_select(alloc, tokens, levels)?;
-        Ok((Command::Select(query), rest))
-    } else {
-        ending(tokens)
+    if tokens.at(Word::Call) {
+        return script_call(alloc, tokens, levels);
     }
+    if tokens.at(Word::Insert) {
+        return script_insert(alloc, tokens, levels);
+    }
+    if tokens.at(Word::Select) {
+        return Ok(Command::Select(ordered_select(alloc, tokens, levels)?));
+    }
+    if tokens.at(Word::Commit) {
+        let place = tokens.word(Word::Commit)?;
+        perhaps_word(tokens, levels, Word::Work)?;
+        return Ok(Command::Commit { place });
+    }
+    let place = tokens.word(Word::Rollback)?;
+    perhaps_word(tokens, levels, Word::Work)?;
+    Ok(Command::Rollback { place })
 }
 
-/// `command ";"`.
-#[tactic(auto, unfolding(crate::specs::FileReaders::ended_command_read))]
-fn ended_command(
-    alloc: Global,
-    tokens: &[Placed],
-    levels: u32,
-) -> Result<(Command, &[Placed]), Halt>
-    ensures exact { Gives (λ x. (x.0, x.1.now)) result (ended_command_read levels tokens.now) }
-    ensures takes { IfOk result (λ x. length x.1.now < length tokens.now) }
+/// `command ";"`
+#[tactic(auto, using(psm_tree::proofs::Reading::steps), unfolding(psm_tree::specs::FileGrammar::ended_command))]
+fn ended_command(alloc: Global, tokens: &mut Tokens, levels: u32) -> Result<Command, Halt>
+    ensures { Takes (reading levels ended_command_part tokens.old.rest.now) result tokens.new.rest.now }
 {
-    let (command, rest) = command(alloc, tokens, levels)?;
-    before_sign(command, rest, Sign::Semicolon)
+    let command = command(alloc, tokens, levels)?;
+    tokens.sign(Sign::Semicolon)?;
+    Ok(command)
 }
 
-/// `{command ";"}`.
-#[tactic(auto, unfolding(crate::specs::FileReaders::ended_commands_read))]
-fn ended_commands(
-    alloc: Global,
-    tokens: &[Placed],
-    levels: u32,
-) -> Result<(List<Command>, &[Placed]), Halt>
-    ensures exact { Gives (λ x. (x.0, x.1.now)) result (ended_commands_read levels tokens.now) }
-    ensures takes { IfOk result (λ x. length x.1.now ≤ length tokens.now) }
+/// `{command ";"}`
+#[tactic(auto, using(psm_tree::proofs::Repeating::turns, psm_tree::proofs::Firsts::first_ended_command), unfolding(psm_tree::specs::FileGrammar::ended_commands))]
+fn ended_commands(alloc: Global, tokens: &mut Tokens, levels: u32) -> Result<List<Command>, Halt>
+    ensures { Takes (reading levels ended_commands_part tokens.old.rest.now) result tokens.new.rest.now }
 {
-    let mut items = Vec::new(alloc);
-    let mut rest = tokens;
-    while at_one_of(rest, &COMMAND_WORDS) {
-        let (item, next) = ended_command(alloc, rest, levels)?;
-        items.push(item)?;
-        rest = next;
+    let mut commands = Vec::new(alloc);
+    for _turn in 0..tokens.left() {
+        if !tokens.at_one_of(&COMMAND_WORDS) {
+            break;
+        }
+        let command = ended_command(alloc, tokens, levels)?;
+        commands.push(command)?;
     }
-    Ok((List::of(items), rest))
+    Ok(List::of(commands))
 }
 
 /// A script.
-#[tactic(auto, unfolding(crate::specs::FileReaders::script_read))]
-pub(crate) fn script(
-    alloc: Global,
-    tokens: &[Placed],
-    levels: u32,
-) -> Result<(ScriptTree, &[Placed]), Halt>
-    ensures exact { Gives (λ x. (x.0, x.1.now)) result (script_read levels tokens.now) }
-    ensures takes { IfOk result (λ x. length x.1.now ≤ length tokens.now) }
+#[tactic(auto, using(psm_tree::proofs::Reading::steps), unfolding(psm_tree::specs::FileGrammar::script))]
+pub(crate) fn script(alloc: Global, tokens: &mut Tokens, levels: u32) -> Result<ScriptTree, Halt>
+    ensures { Takes (reading levels script_part tokens.old.rest.now) result tokens.new.rest.now }
 {
-    let (commands, rest) = ended_commands(alloc, tokens, levels)?;
-    Ok((ScriptTree { commands }, rest))
+    let commands = ended_commands(alloc, tokens, levels)?;
+    Ok(ScriptTree { commands })
 }

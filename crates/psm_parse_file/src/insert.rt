@@ -1,144 +1,126 @@
 //! A script's INSERT.
-ghost use Rattle.std.specs.Prelude.{ℕ, ◌≡◌, ◌<◌, ◌≤◌, length, IfOk};
-ghost use Rattle.psm_grammar.specs.Gives.{Gives};
-ghost use Rattle.psm_parse_file.specs.PartReaders.{next_constant_read, next_constants_read, row_read, next_row_read, next_rows_read, script_values_read, columns_read, insert_rest_read, script_insert_read};
+ghost use Rattle.psm_tree.specs.FileGrammar.{next_constant as next_constant_part, next_constants as next_constants_part, constants as constants_part, row as row_part, next_row as next_row_part, next_rows as next_rows_part, rows as rows_part, script_values as script_values_part, script_insert as script_insert_part};
+ghost use Rattle.psm_tree.specs.Readers.{Takes, reading};
 
 use psm_grammar::Halt;
-use psm_list::List;
-use psm_parse_token::{
-    at_sign, before_sign, beside, constant, expect_name, expect_sign, expect_word, names_in_parens,
-};
-use psm_token::{Placed, Sign, Word};
-use psm_tree::{Command, Constant, ConstantRow, Names};
+use psm_list::{List, OneOrMore};
+use psm_parse_token::{Tokens, constant, perhaps_names};
+use psm_token::{Sign, Word};
+use psm_tree::{Command, Constant, ConstantRow};
 use std::alloc::Global;
 
-/// `"," const`.
-#[tactic(auto, unfolding(crate::specs::PartReaders::next_constant_read))]
-fn next_constant(alloc: Global, tokens: &[Placed]) -> Result<(Constant, &[Placed]), Halt>
-    ensures exact { Gives (λ x. (x.0, x.1.now)) result (next_constant_read tokens.now) }
-    ensures takes { IfOk result (λ x. length x.1.now < length tokens.now) }
+/// `"," const`
+#[tactic(auto, using(psm_tree::proofs::Reading::steps), unfolding(psm_tree::specs::FileGrammar::next_constant))]
+fn next_constant(alloc: Global, tokens: &mut Tokens, levels: u32) -> Result<Constant, Halt>
+    ensures { Takes (reading levels next_constant_part tokens.old.rest.now) result tokens.new.rest.now }
 {
-    let (_, rest) = expect_sign(tokens, Sign::Comma)?;
-    constant(alloc, rest)
+    tokens.sign(Sign::Comma)?;
+    constant(alloc, tokens, levels)
 }
 
-/// `{"," const}`.
-#[tactic(auto, unfolding(crate::specs::PartReaders::next_constants_read))]
-fn next_constants(alloc: Global, tokens: &[Placed]) -> Result<(List<Constant>, &[Placed]), Halt>
-    ensures exact { Gives (λ x. (x.0, x.1.now)) result (next_constants_read tokens.now) }
-    ensures takes { IfOk result (λ x. length x.1.now ≤ length tokens.now) }
+/// `{"," const}`
+#[tactic(auto, using(psm_tree::proofs::Repeating::turns, psm_tree::proofs::Firsts::first_next_constant), unfolding(psm_tree::specs::FileGrammar::next_constants))]
+fn next_constants(alloc: Global, tokens: &mut Tokens, levels: u32) -> Result<List<Constant>, Halt>
+    ensures { Takes (reading levels next_constants_part tokens.old.rest.now) result tokens.new.rest.now }
 {
-    let mut items = Vec::new(alloc);
-    let mut rest = tokens;
-    while at_sign(rest, Sign::Comma) {
-        let (item, next) = next_constant(alloc, rest)?;
-        items.push(item)?;
-        rest = next;
+    let mut constants = Vec::new(alloc);
+    for _turn in 0..tokens.left() {
+        if !tokens.at_sign(Sign::Comma) {
+            break;
+        }
+        let constant = next_constant(alloc, tokens, levels)?;
+        constants.push(constant)?;
     }
-    Ok((List::of(items), rest))
+    Ok(List::of(constants))
 }
 
-/// `"(" const {"," const} ")"`.
-#[tactic(auto, unfolding(crate::specs::PartReaders::row_read))]
-fn row(alloc: Global, tokens: &[Placed]) -> Result<(ConstantRow, &[Placed]), Halt>
-    ensures exact { Gives (λ x. (x.0, x.1.now)) result (row_read tokens.now) }
-    ensures takes { IfOk result (λ x. length x.1.now < length tokens.now) }
+/// `const {"," const}`
+#[tactic(auto, using(psm_tree::proofs::Reading::steps), unfolding(psm_tree::specs::FileGrammar::constants))]
+fn constants(alloc: Global, tokens: &mut Tokens, levels: u32) -> Result<OneOrMore<Constant>, Halt>
+    ensures { Takes (reading levels constants_part tokens.old.rest.now) result tokens.new.rest.now }
 {
-    let (place, rest) = expect_sign(tokens, Sign::LeftParen)?;
-    let (first, rest) = constant(alloc, rest)?;
-    let (constants, rest) = beside(first, next_constants(alloc, rest))?;
-    let ((first, others), rest) = before_sign(constants, rest, Sign::RightParen)?;
-    let row = ConstantRow {
-        place,
-        first,
-        rest: others,
-    };
-    Ok((row, rest))
+    let first = constant(alloc, tokens, levels)?;
+    let rest = next_constants(alloc, tokens, levels)?;
+    Ok(OneOrMore::of(first, rest))
 }
 
-/// `"," row`.
-#[tactic(auto, unfolding(crate::specs::PartReaders::next_row_read))]
-fn next_row(alloc: Global, tokens: &[Placed]) -> Result<(ConstantRow, &[Placed]), Halt>
-    ensures exact { Gives (λ x. (x.0, x.1.now)) result (next_row_read tokens.now) }
-    ensures takes { IfOk result (λ x. length x.1.now < length tokens.now) }
+/// `"(" const {"," const} ")"`
+#[tactic(auto, using(psm_tree::proofs::Reading::steps), unfolding(psm_tree::specs::FileGrammar::row))]
+fn row(alloc: Global, tokens: &mut Tokens, levels: u32) -> Result<ConstantRow, Halt>
+    ensures { Takes (reading levels row_part tokens.old.rest.now) result tokens.new.rest.now }
 {
-    let (_, rest) = expect_sign(tokens, Sign::Comma)?;
-    row(alloc, rest)
+    let place = tokens.sign(Sign::LeftParen)?;
+    let values = constants(alloc, tokens, levels)?;
+    tokens.sign(Sign::RightParen)?;
+    Ok(ConstantRow { place, values })
 }
 
-/// `{"," row}`.
-#[tactic(auto, unfolding(crate::specs::PartReaders::next_rows_read))]
-fn next_rows(alloc: Global, tokens: &[Placed]) -> Result<(List<ConstantRow>, &[Placed]), Halt>
-    ensures exact { Gives (λ x. (x.0, x.1.now)) result (next_rows_read tokens.now) }
-    ensures takes { IfOk result (λ x. length x.1.now ≤ length tokens.now) }
+/// `"," row`
+#[tactic(auto, using(psm_tree::proofs::Reading::steps), unfolding(psm_tree::specs::FileGrammar::next_row))]
+fn next_row(alloc: Global, tokens: &mut Tokens, levels: u32) -> Result<ConstantRow, Halt>
+    ensures { Takes (reading levels next_row_part tokens.old.rest.now) result tokens.new.rest.now }
 {
-    let mut items = Vec::new(alloc);
-    let mut rest = tokens;
-    while at_sign(rest, Sign::Comma) {
-        let (item, next) = next_row(alloc, rest)?;
-        items.push(item)?;
-        rest = next;
+    tokens.sign(Sign::Comma)?;
+    row(alloc, tokens, levels)
+}
+
+/// `{"," row}`
+#[tactic(auto, using(psm_tree::proofs::Repeating::turns, psm_tree::proofs::Firsts::first_next_row), unfolding(psm_tree::specs::FileGrammar::next_rows))]
+fn next_rows(alloc: Global, tokens: &mut Tokens, levels: u32) -> Result<List<ConstantRow>, Halt>
+    ensures { Takes (reading levels next_rows_part tokens.old.rest.now) result tokens.new.rest.now }
+{
+    let mut rows = Vec::new(alloc);
+    for _turn in 0..tokens.left() {
+        if !tokens.at_sign(Sign::Comma) {
+            break;
+        }
+        let row = next_row(alloc, tokens, levels)?;
+        rows.push(row)?;
     }
-    Ok((List::of(items), rest))
+    Ok(List::of(rows))
 }
 
-/// `VALUES row {"," row}`.
-#[tactic(auto, unfolding(crate::specs::PartReaders::script_values_read))]
-fn values(
+/// `row {"," row}`
+#[tactic(auto, using(psm_tree::proofs::Reading::steps), unfolding(psm_tree::specs::FileGrammar::rows))]
+fn rows(alloc: Global, tokens: &mut Tokens, levels: u32) -> Result<OneOrMore<ConstantRow>, Halt>
+    ensures { Takes (reading levels rows_part tokens.old.rest.now) result tokens.new.rest.now }
+{
+    let first = row(alloc, tokens, levels)?;
+    let rest = next_rows(alloc, tokens, levels)?;
+    Ok(OneOrMore::of(first, rest))
+}
+
+/// `VALUES row {"," row}`
+#[tactic(auto, using(psm_tree::proofs::Reading::steps), unfolding(psm_tree::specs::FileGrammar::script_values))]
+fn script_values(
     alloc: Global,
-    tokens: &[Placed],
-) -> Result<((ConstantRow, List<ConstantRow>), &[Placed]), Halt>
-    ensures exact { Gives (λ x. (x.0, x.1.now)) result (script_values_read tokens.now) }
-    ensures takes { IfOk result (λ x. length x.1.now < length tokens.now) }
+    tokens: &mut Tokens,
+    levels: u32,
+) -> Result<OneOrMore<ConstantRow>, Halt>
+    ensures { Takes (reading levels script_values_part tokens.old.rest.now) result tokens.new.rest.now }
 {
-    let (_, rest) = expect_word(tokens, Word::Values)?;
-    let (first, rest) = row(alloc, rest)?;
-    beside(first, next_rows(alloc, rest))
+    tokens.word(Word::Values)?;
+    rows(alloc, tokens, levels)
 }
 
-/// `["(" name {"," name} ")"]`.
-#[tactic(auto, unfolding(crate::specs::PartReaders::columns_read))]
-fn columns(alloc: Global, tokens: &[Placed]) -> Result<(Option<Names>, &[Placed]), Halt>
-    ensures exact { Gives (λ x. (x.0, x.1.now)) result (columns_read tokens.now) }
-    ensures takes { IfOk result (λ x. length x.1.now ≤ length tokens.now) }
-{
-    if at_sign(tokens, Sign::LeftParen) {
-        let (names, rest) = names_in_parens(alloc, tokens)?;
-        Ok((Some(names), rest))
-    } else {
-        Ok((None, tokens))
-    }
-}
-
-/// `["(" name {"," name} ")"] VALUES row {"," row}`.
-#[tactic(auto, unfolding(crate::specs::PartReaders::insert_rest_read))]
-fn insert_rest(
+/// `INSERT INTO name ["(" name {"," name} ")"] VALUES row {"," row}`
+#[tactic(auto, using(psm_tree::proofs::Reading::steps), unfolding(psm_tree::specs::FileGrammar::script_insert))]
+pub(crate) fn script_insert(
     alloc: Global,
-    tokens: &[Placed],
-) -> Result<((Option<Names>, (ConstantRow, List<ConstantRow>)), &[Placed]), Halt>
-    ensures exact { Gives (λ x. (x.0, x.1.now)) result (insert_rest_read tokens.now) }
-    ensures takes { IfOk result (λ x. length x.1.now < length tokens.now) }
+    tokens: &mut Tokens,
+    levels: u32,
+) -> Result<Command, Halt>
+    ensures { Takes (reading levels script_insert_part tokens.old.rest.now) result tokens.new.rest.now }
 {
-    let (columns, rest) = columns(alloc, tokens)?;
-    beside(columns, values(alloc, rest))
-}
-
-/// `INSERT INTO name ["(" name {"," name} ")"] VALUES row {"," row}`.
-#[tactic(auto, unfolding(crate::specs::PartReaders::script_insert_read))]
-pub(crate) fn script_insert(alloc: Global, tokens: &[Placed]) -> Result<(Command, &[Placed]), Halt>
-    ensures exact { Gives (λ x. (x.0, x.1.now)) result (script_insert_read tokens.now) }
-    ensures takes { IfOk result (λ x. length x.1.now < length tokens.now) }
-{
-    let (place, rest) = expect_word(tokens, Word::Insert)?;
-    let (_, rest) = expect_word(rest, Word::Into)?;
-    let (table, rest) = expect_name(alloc, rest)?;
-    let ((table, (columns, (first, others))), rest) = beside(table, insert_rest(alloc, rest))?;
-    let insert = Command::Insert {
+    let place = tokens.word(Word::Insert)?;
+    tokens.word(Word::Into)?;
+    let table = tokens.name(alloc)?;
+    let columns = perhaps_names(alloc, tokens, levels)?;
+    let rows = script_values(alloc, tokens, levels)?;
+    Ok(Command::Insert {
         place,
         table,
         columns,
-        first,
-        rest: others,
-    };
-    Ok((insert, rest))
+        rows,
+    })
 }

@@ -1,7 +1,7 @@
 //! Module files and scripts from their tokens.
 //!
-//! Each function answers what the reader of its production answers (`Gives`, psm_grammar), and takes a
-//! token where it answers a value. The two public functions say what the grammar says of all the tokens.
+//! Each function takes what the reader of its production takes (`Takes`, psm_tree). The two public functions
+//! say what the grammar says of all the tokens.
 #![tactic(auto)]
 
 mod call;

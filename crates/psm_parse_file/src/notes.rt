@@ -1,12 +1,15 @@
 //! The notes of a routine (ISO/IEC 9075-4:1996, routine characteristics).
-ghost use Rattle.std.specs.Prelude.{ℕ, ◌≡◌, ◌<◌, ◌≤◌, length, IfOk};
-ghost use Rattle.psm_grammar.specs.Gives.{Gives};
-ghost use Rattle.psm_parse_file.specs.PartReaders.{sql_data_read, data_note_read, note_read, note_list_read, language_read};
+ghost use Rattle.psm_grammar.specs.Forms.{optional};
+ghost use Rattle.psm_grammar.specs.Grammar.{seq, token};
+ghost use Rattle.psm_tree.specs.FileGrammar.{sql_data as sql_data_part, note as note_part, note_list as note_list_part, language as language_part};
+ghost use Rattle.psm_tree.specs.FileValues.{note_by};
+ghost use Rattle.psm_tree.specs.Readers.{Takes, reading};
+ghost use Rattle.psm_tree.specs.Tests.{word as word_test};
 
 use psm_grammar::Halt;
 use psm_list::List;
-use psm_parse_token::{at_one_of, at_word, expect_word};
-use psm_token::{Place, Placed, Word};
+use psm_parse_token::Tokens;
+use psm_token::{Place, Word};
 use psm_tree::{Note, NoteForm};
 use std::alloc::Global;
 
@@ -20,86 +23,115 @@ const NOTE_WORDS: [Word; 6] = [
 ];
 
 /// `SQL DATA`: the place of `DATA`.
-#[tactic(auto, unfolding(crate::specs::PartReaders::sql_data_read))]
-fn sql_data(tokens: &[Placed]) -> Result<(Place, &[Placed]), Halt>
-    ensures exact { Gives (λ x. (x.0, x.1.now)) result (sql_data_read tokens.now) }
-    ensures takes { IfOk result (λ x. length x.1.now < length tokens.now) }
+#[tactic(auto, using(psm_tree::proofs::Reading::steps), unfolding(psm_tree::specs::FileGrammar::sql_data))]
+fn sql_data(tokens: &mut Tokens, levels: u32) -> Result<Place, Halt>
+    ensures { Takes (reading levels sql_data_part tokens.old.rest.now) result tokens.new.rest.now }
 {
-    let (_, rest) = expect_word(tokens, Word::Sql)?;
-    expect_word(rest, Word::Data)
+    tokens.word(Word::Sql)?;
+    tokens.word(Word::Data)
 }
 
-/// `READS SQL DATA | MODIFIES SQL DATA`.
-#[tactic(auto, unfolding(crate::specs::PartReaders::data_note_read))]
-fn data_note(tokens: &[Placed]) -> Result<(Note, &[Placed]), Halt>
-    ensures exact { Gives (λ x. (x.0, x.1.now)) result (data_note_read tokens.now) }
-    ensures takes { IfOk result (λ x. length x.1.now < length tokens.now) }
+/// A note of two words.
+#[tactic(auto, using(psm_tree::proofs::Reading::steps))]
+fn two_words(
+    tokens: &mut Tokens,
+    levels: u32,
+    first: Word,
+    second: Word,
+    form: NoteForm,
+) -> Result<Note, Halt>
+    ensures { Takes (reading levels (seq (note_by form) (token (word_test first)) (token (word_test second))) tokens.old.rest.now) result tokens.new.rest.now }
 {
-    if at_word(tokens, Word::Reads) {
-        let (place, rest) = expect_word(tokens, Word::Reads)?;
-        let (_, rest) = sql_data(rest)?;
-        let form = NoteForm::ReadsSqlData;
-        Ok((Note { place, form }, rest))
-    } else {
-        let (place, rest) = expect_word(tokens, Word::Modifies)?;
-        let (_, rest) = sql_data(rest)?;
-        let form = NoteForm::ModifiesSqlData;
-        Ok((Note { place, form }, rest))
+    let place = tokens.word(first)?;
+    tokens.word(second)?;
+    Ok(Note { place, form })
+}
+
+/// A note of a word before `SQL DATA`.
+#[tactic(auto, using(psm_tree::proofs::Reading::steps))]
+fn data_note(tokens: &mut Tokens, levels: u32, word: Word, form: NoteForm) -> Result<Note, Halt>
+    ensures { Takes (reading levels (seq (note_by form) (token (word_test word)) sql_data_part) tokens.old.rest.now) result tokens.new.rest.now }
+{
+    let place = tokens.word(word)?;
+    sql_data(tokens, levels)?;
+    Ok(Note { place, form })
+}
+
+/// `LANGUAGE SQL | DETERMINISTIC | NOT DETERMINISTIC | CONTAINS SQL | READS SQL DATA | MODIFIES SQL DATA`
+#[tactic(auto, using(psm_tree::proofs::Reading::steps), unfolding(psm_tree::specs::FileGrammar::note))]
+fn note(tokens: &mut Tokens, levels: u32) -> Result<Note, Halt>
+    ensures { Takes (reading levels note_part tokens.old.rest.now) result tokens.new.rest.now }
+{
+    if tokens.at(Word::Language) {
+        return two_words(
+            tokens,
+            levels,
+            Word::Language,
+            Word::Sql,
+            NoteForm::Language,
+        );
     }
-}
-
-/// `LANGUAGE SQL | DETERMINISTIC | NOT DETERMINISTIC | CONTAINS SQL | READS SQL DATA | MODIFIES SQL DATA`.
-#[tactic(auto, unfolding(crate::specs::PartReaders::note_read))]
-fn note(tokens: &[Placed]) -> Result<(Note, &[Placed]), Halt>
-    ensures exact { Gives (λ x. (x.0, x.1.now)) result (note_read tokens.now) }
-    ensures takes { IfOk result (λ x. length x.1.now < length tokens.now) }
-{
-    if at_word(tokens, Word::Language) {
-        let (place, rest) = expect_word(tokens, Word::Language)?;
-        let (_, rest) = expect_word(rest, Word::Sql)?;
-        let form = NoteForm::Language;
-        Ok((Note { place, form }, rest))
-    } else if at_word(tokens, Word::Deterministic) {
-        let (place, rest) = expect_word(tokens, Word::Deterministic)?;
+    if tokens.at(Word::Deterministic) {
+        let place = tokens.word(Word::Deterministic)?;
         let form = NoteForm::Deterministic;
-        Ok((Note { place, form }, rest))
-    } else if at_word(tokens, Word::Not) {
-        let (place, rest) = expect_word(tokens, Word::Not)?;
-        let (_, rest) = expect_word(rest, Word::Deterministic)?;
-        let form = NoteForm::NotDeterministic;
-        Ok((Note { place, form }, rest))
-    } else if at_word(tokens, Word::Contains) {
-        let (place, rest) = expect_word(tokens, Word::Contains)?;
-        let (_, rest) = expect_word(rest, Word::Sql)?;
-        let form = NoteForm::ContainsSql;
-        Ok((Note { place, form }, rest))
-    } else {
-        data_note(tokens)
+        return Ok(Note { place, form });
     }
+    if tokens.at(Word::Not) {
+        return two_words(
+            tokens,
+            levels,
+            Word::Not,
+            Word::Deterministic,
+            NoteForm::NotDeterministic,
+        );
+    }
+    if tokens.at(Word::Contains) {
+        return two_words(
+            tokens,
+            levels,
+            Word::Contains,
+            Word::Sql,
+            NoteForm::ContainsSql,
+        );
+    }
+    if tokens.at(Word::Reads) {
+        return data_note(tokens, levels, Word::Reads, NoteForm::ReadsSqlData);
+    }
+    data_note(tokens, levels, Word::Modifies, NoteForm::ModifiesSqlData)
 }
 
-/// `{note}`.
-#[tactic(auto, unfolding(crate::specs::PartReaders::note_list_read))]
-pub(crate) fn note_list(alloc: Global, tokens: &[Placed]) -> Result<(List<Note>, &[Placed]), Halt>
-    ensures exact { Gives (λ x. (x.0, x.1.now)) result (note_list_read tokens.now) }
-    ensures takes { IfOk result (λ x. length x.1.now ≤ length tokens.now) }
+/// `{note}`
+#[tactic(auto, using(psm_tree::proofs::Repeating::turns, psm_tree::proofs::Firsts::first_note), unfolding(psm_tree::specs::FileGrammar::note_list))]
+pub(crate) fn note_list(alloc: Global, tokens: &mut Tokens, levels: u32) -> Result<List<Note>, Halt>
+    ensures { Takes (reading levels note_list_part tokens.old.rest.now) result tokens.new.rest.now }
 {
-    let mut items = Vec::new(alloc);
-    let mut rest = tokens;
-    while at_one_of(rest, &NOTE_WORDS) {
-        let (item, next) = note(rest)?;
-        items.push(item)?;
-        rest = next;
+    let mut notes = Vec::new(alloc);
+    for _turn in 0..tokens.left() {
+        if !tokens.at_one_of(&NOTE_WORDS) {
+            break;
+        }
+        let note = note(tokens, levels)?;
+        notes.push(note)?;
     }
-    Ok((List::of(items), rest))
+    Ok(List::of(notes))
 }
 
 /// `LANGUAGE SQL`: the place of `SQL`.
-#[tactic(auto, unfolding(crate::specs::PartReaders::language_read))]
-pub(crate) fn language(tokens: &[Placed]) -> Result<(Place, &[Placed]), Halt>
-    ensures exact { Gives (λ x. (x.0, x.1.now)) result (language_read tokens.now) }
-    ensures takes { IfOk result (λ x. length x.1.now < length tokens.now) }
+#[tactic(auto, using(psm_tree::proofs::Reading::steps), unfolding(psm_tree::specs::FileGrammar::language))]
+fn language(tokens: &mut Tokens, levels: u32) -> Result<Place, Halt>
+    ensures { Takes (reading levels language_part tokens.old.rest.now) result tokens.new.rest.now }
 {
-    let (_, rest) = expect_word(tokens, Word::Language)?;
-    expect_word(rest, Word::Sql)
+    tokens.word(Word::Language)?;
+    tokens.word(Word::Sql)
+}
+
+/// `[LANGUAGE SQL]`: the place of `SQL`.
+#[tactic(auto, using(psm_tree::proofs::Reading::steps, psm_tree::proofs::Firsts::first_language))]
+pub(crate) fn perhaps_language(tokens: &mut Tokens, levels: u32) -> Result<Option<Place>, Halt>
+    ensures { Takes (reading levels (optional language_part) tokens.old.rest.now) result tokens.new.rest.now }
+{
+    if !tokens.at(Word::Language) {
+        return Ok(None);
+    }
+    Ok(Some(language(tokens, levels)?))
 }

@@ -1,139 +1,131 @@
-//! The parameters of a routine.
-ghost use Rattle.std.specs.Prelude.{ℕ, ◌≡◌, ◌<◌, ◌≤◌, length, IfOk};
-ghost use Rattle.psm_grammar.specs.Gives.{Gives};
+//! The parameters of a routine (ISO/IEC 9075-4:1996, SQL-invoked routines).
 ghost use Rattle.psm_grammar.specs.Readers.{one};
-ghost use Rattle.psm_tree.specs.Kinds.{kind};
+ghost use Rattle.psm_token.specs.Kinds.{kind};
+ghost use Rattle.psm_tree.specs.FileGrammar.{named_type as named_type_part, param as param_part, next_param as next_param_part, next_params as next_params_part, param_list as param_list_part, param_rest as param_rest_part, params as params_part};
+ghost use Rattle.psm_tree.specs.Readers.{Takes, TakesAs, reading};
 ghost use Rattle.psm_tree.specs.Tests.{mode as mode_test};
-ghost use Rattle.psm_parse_file.specs.PartReaders.{named_type_read, param_read, next_param_read, next_params_read, param_list_read, param_rest_read, params_read};
 
+use crate::optional::in_front;
 use psm_grammar::Halt;
 use psm_list::List;
-use psm_parse_token::{
-    at_one_of, at_sign, at_word, before_sign, beside, data_type, expect_name, expect_sign,
-    expect_word, in_front,
-};
-use psm_token::{Place, Placed, Sign, Word};
+use psm_parse_token::{Tokens, data_type};
+use psm_token::{Place, Sign, Word};
 use psm_tree::{DataType, Identifier, Mode, Parameter};
 use std::alloc::Global;
 
-const MODES: [Word; 3] = [Word::In, Word::Out, Word::InOut];
+const MODE_WORDS: [Word; 3] = [Word::In, Word::Out, Word::InOut];
 
-/// `IN | OUT | INOUT`.
-fn expect_mode(tokens: &[Placed]) -> Result<(Place, Mode, &[Placed]), Halt>
-    ensures exact { Gives (λ x. (record { place = x.0; value = x.1 }, x.2.now)) result (one kind mode_test tokens.now) }
-    ensures takes { IfOk result (λ x. length x.2.now < length tokens.now) }
+/// `IN | OUT | INOUT`, with its place.
+fn mode(tokens: &mut Tokens) -> Result<(Place, Mode), Halt>
+    ensures { TakesAs (λ x. record { place = x.0; value = x.1 }) (one kind mode_test tokens.old.rest.now) result tokens.new.rest.now }
 {
-    if at_word(tokens, Word::Out) {
-        let (place, rest) = expect_word(tokens, Word::Out)?;
-        Ok((place, Mode::Out, rest))
-    } else if at_word(tokens, Word::InOut) {
-        let (place, rest) = expect_word(tokens, Word::InOut)?;
-        Ok((place, Mode::InOut, rest))
-    } else {
-        let (place, rest) = expect_word(tokens, Word::In)?;
-        Ok((place, Mode::In, rest))
+    if tokens.at(Word::Out) {
+        let place = tokens.word(Word::Out)?;
+        return Ok((place, Mode::Out));
     }
+    if tokens.at(Word::InOut) {
+        let place = tokens.word(Word::InOut)?;
+        return Ok((place, Mode::InOut));
+    }
+    let place = tokens.word(Word::In)?;
+    Ok((place, Mode::In))
 }
 
-/// `name type`.
-#[tactic(auto, unfolding(crate::specs::PartReaders::named_type_read))]
-fn named_type(alloc: Global, tokens: &[Placed]) -> Result<((Identifier, DataType), &[Placed]), Halt>
-    ensures exact { Gives (λ x. (x.0, x.1.now)) result (named_type_read tokens.now) }
-    ensures takes { IfOk result (λ x. length x.1.now < length tokens.now) }
+/// `name type`
+#[tactic(auto, using(psm_tree::proofs::Reading::steps), unfolding(psm_tree::specs::FileGrammar::named_type))]
+fn named_type(
+    alloc: Global,
+    tokens: &mut Tokens,
+    levels: u32,
+) -> Result<(Identifier, DataType), Halt>
+    ensures { Takes (reading levels named_type_part tokens.old.rest.now) result tokens.new.rest.now }
 {
-    let (name, rest) = expect_name(alloc, tokens)?;
-    match data_type(rest) {
-        Ok((kind, rest)) => Ok(((name, kind), rest)),
-        Err(halt) => Err(halt),
-    }
+    let name = tokens.name(alloc)?;
+    let kind = data_type(tokens, levels)?;
+    Ok((name, kind))
 }
 
 /// `[IN | OUT | INOUT] name type`. A parameter without a mode stands at its name.
-#[tactic(auto, unfolding(crate::specs::PartReaders::param_read))]
-fn param(alloc: Global, tokens: &[Placed]) -> Result<(Parameter, &[Placed]), Halt>
-    ensures exact { Gives (λ x. (x.0, x.1.now)) result (param_read tokens.now) }
-    ensures takes { IfOk result (λ x. length x.1.now < length tokens.now) }
+#[tactic(auto, using(psm_tree::proofs::Reading::steps), unfolding(psm_tree::specs::FileGrammar::param))]
+fn param(alloc: Global, tokens: &mut Tokens, levels: u32) -> Result<Parameter, Halt>
+    ensures { Takes (reading levels param_part tokens.old.rest.now) result tokens.new.rest.now }
 {
-    if at_one_of(tokens, &MODES) {
-        let (place, mode, rest) = expect_mode(tokens)?;
-        let ((name, kind), rest) = named_type(alloc, rest)?;
-        let parameter = Parameter {
+    if tokens.at_one_of(&MODE_WORDS) {
+        let (place, mode) = mode(tokens)?;
+        let (name, kind) = named_type(alloc, tokens, levels)?;
+        return Ok(Parameter {
             place,
             mode,
             name,
             kind,
-        };
-        Ok((parameter, rest))
-    } else {
-        let ((name, kind), rest) = named_type(alloc, tokens)?;
-        let parameter = Parameter {
-            place: name.place,
-            mode: Mode::In,
-            name,
-            kind,
-        };
-        Ok((parameter, rest))
+        });
     }
+    let (name, kind) = named_type(alloc, tokens, levels)?;
+    Ok(Parameter {
+        place: name.place,
+        mode: Mode::In,
+        name,
+        kind,
+    })
 }
 
-/// `"," param`.
-#[tactic(auto, unfolding(crate::specs::PartReaders::next_param_read))]
-fn next_param(alloc: Global, tokens: &[Placed]) -> Result<(Parameter, &[Placed]), Halt>
-    ensures exact { Gives (λ x. (x.0, x.1.now)) result (next_param_read tokens.now) }
-    ensures takes { IfOk result (λ x. length x.1.now < length tokens.now) }
+/// `"," param`
+#[tactic(auto, using(psm_tree::proofs::Reading::steps), unfolding(psm_tree::specs::FileGrammar::next_param))]
+fn next_param(alloc: Global, tokens: &mut Tokens, levels: u32) -> Result<Parameter, Halt>
+    ensures { Takes (reading levels next_param_part tokens.old.rest.now) result tokens.new.rest.now }
 {
-    let (_, rest) = expect_sign(tokens, Sign::Comma)?;
-    param(alloc, rest)
+    tokens.sign(Sign::Comma)?;
+    param(alloc, tokens, levels)
 }
 
-/// `{"," param}`.
-#[tactic(auto, unfolding(crate::specs::PartReaders::next_params_read))]
-fn next_params(alloc: Global, tokens: &[Placed]) -> Result<(List<Parameter>, &[Placed]), Halt>
-    ensures exact { Gives (λ x. (x.0, x.1.now)) result (next_params_read tokens.now) }
-    ensures takes { IfOk result (λ x. length x.1.now ≤ length tokens.now) }
+/// `{"," param}`
+#[tactic(auto, using(psm_tree::proofs::Repeating::turns, psm_tree::proofs::Firsts::first_next_param), unfolding(psm_tree::specs::FileGrammar::next_params))]
+fn next_params(alloc: Global, tokens: &mut Tokens, levels: u32) -> Result<List<Parameter>, Halt>
+    ensures { Takes (reading levels next_params_part tokens.old.rest.now) result tokens.new.rest.now }
 {
-    let mut items = Vec::new(alloc);
-    let mut rest = tokens;
-    while at_sign(rest, Sign::Comma) {
-        let (item, next) = next_param(alloc, rest)?;
-        items.push(item)?;
-        rest = next;
+    let mut parameters = Vec::new(alloc);
+    for _turn in 0..tokens.left() {
+        if !tokens.at_sign(Sign::Comma) {
+            break;
+        }
+        let parameter = next_param(alloc, tokens, levels)?;
+        parameters.push(parameter)?;
     }
-    Ok((List::of(items), rest))
+    Ok(List::of(parameters))
 }
 
-/// `param {"," param} ")"`.
-#[tactic(auto, unfolding(crate::specs::PartReaders::param_list_read))]
-fn param_list(alloc: Global, tokens: &[Placed]) -> Result<(List<Parameter>, &[Placed]), Halt>
-    ensures exact { Gives (λ x. (x.0, x.1.now)) result (param_list_read tokens.now) }
-    ensures takes { IfOk result (λ x. length x.1.now < length tokens.now) }
+/// `param {"," param} ")"`
+#[tactic(auto, using(psm_tree::proofs::Reading::steps), unfolding(psm_tree::specs::FileGrammar::param_list))]
+fn param_list(alloc: Global, tokens: &mut Tokens, levels: u32) -> Result<List<Parameter>, Halt>
+    ensures { Takes (reading levels param_list_part tokens.old.rest.now) result tokens.new.rest.now }
 {
-    let (first, rest) = param(alloc, tokens)?;
-    let (parameters, rest) = beside(first, next_params(alloc, rest))?;
-    let ((first, others), rest) = before_sign(parameters, rest, Sign::RightParen)?;
-    Ok((in_front(first, others)?, rest))
+    let first = param(alloc, tokens, levels)?;
+    let others = next_params(alloc, tokens, levels)?;
+    tokens.sign(Sign::RightParen)?;
+    Ok(in_front(first, others)?)
 }
 
-/// `[param {"," param}] ")"`.
-#[tactic(auto, unfolding(crate::specs::PartReaders::param_rest_read))]
-fn param_rest(alloc: Global, tokens: &[Placed]) -> Result<(List<Parameter>, &[Placed]), Halt>
-    ensures exact { Gives (λ x. (x.0, x.1.now)) result (param_rest_read tokens.now) }
-    ensures takes { IfOk result (λ x. length x.1.now < length tokens.now) }
+/// `[param {"," param}] ")"`
+#[tactic(auto, using(psm_tree::proofs::Reading::steps), unfolding(psm_tree::specs::FileGrammar::param_rest))]
+fn param_rest(alloc: Global, tokens: &mut Tokens, levels: u32) -> Result<List<Parameter>, Halt>
+    ensures { Takes (reading levels param_rest_part tokens.old.rest.now) result tokens.new.rest.now }
 {
-    if at_sign(tokens, Sign::RightParen) {
-        let (_, rest) = expect_sign(tokens, Sign::RightParen)?;
-        Ok((List::of(Vec::new(alloc)), rest))
-    } else {
-        param_list(alloc, tokens)
+    if tokens.at_sign(Sign::RightParen) {
+        tokens.sign(Sign::RightParen)?;
+        return Ok(List::of(Vec::new(alloc)));
     }
+    param_list(alloc, tokens, levels)
 }
 
-/// `"(" [param {"," param}] ")"`.
-#[tactic(auto, unfolding(crate::specs::PartReaders::params_read))]
-pub(crate) fn params(alloc: Global, tokens: &[Placed]) -> Result<(List<Parameter>, &[Placed]), Halt>
-    ensures exact { Gives (λ x. (x.0, x.1.now)) result (params_read tokens.now) }
-    ensures takes { IfOk result (λ x. length x.1.now < length tokens.now) }
+/// `"(" [param {"," param}] ")"`
+#[tactic(auto, using(psm_tree::proofs::Reading::steps), unfolding(psm_tree::specs::FileGrammar::params))]
+pub(crate) fn params(
+    alloc: Global,
+    tokens: &mut Tokens,
+    levels: u32,
+) -> Result<List<Parameter>, Halt>
+    ensures { Takes (reading levels params_part tokens.old.rest.now) result tokens.new.rest.now }
 {
-    let (_, rest) = expect_sign(tokens, Sign::LeftParen)?;
-    param_rest(alloc, rest)
+    tokens.sign(Sign::LeftParen)?;
+    param_rest(alloc, tokens, levels)
 }

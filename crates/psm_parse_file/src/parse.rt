@@ -9,7 +9,7 @@ ghost use Rattle.psm_parse_file.specs.Whole.{whole as whole_of};
 use crate::command::script;
 use crate::module_file::file;
 use psm_grammar::Halt;
-use psm_parse_token::fault_of;
+use psm_parse_token::{Tokens, fault_of};
 use psm_token::{Placed, TokenList};
 use psm_tree::{FileTree, ParseFault, ScriptTree};
 use std::alloc::Global;
@@ -26,7 +26,10 @@ const MOST_LEVELS: u32 = 100;
 pub fn parse_file(alloc: Global, tokens: &TokenList) -> Result<FileTree, ParseFault>
     ensures { ReadsAll (Spells productions 0 file_grammar) (λ t. t) tokens.now result }
 {
-    whole(tokens, file(alloc, tokens.items(), MOST_LEVELS))
+    let mut cursor = Tokens::of(tokens.items());
+    let read = file(alloc, &mut cursor, MOST_LEVELS);
+    let Tokens { rest } = cursor;
+    whole(tokens, read, rest)
 }
 
 /// The tree of a script, which all the tokens spell.
@@ -38,16 +41,25 @@ pub fn parse_file(alloc: Global, tokens: &TokenList) -> Result<FileTree, ParseFa
 pub fn parse_script(alloc: Global, tokens: &TokenList) -> Result<ScriptTree, ParseFault>
     ensures { ReadsAll (Spells productions 0 script_grammar) (λ t. t) tokens.now result }
 {
-    whole(tokens, script(alloc, tokens.items(), MOST_LEVELS))
+    let mut cursor = Tokens::of(tokens.items());
+    let read = script(alloc, &mut cursor, MOST_LEVELS);
+    let Tokens { rest } = cursor;
+    whole(tokens, read, rest)
 }
 
 /// The tree that was read, if no token is left behind it; else the fault.
-fn whole<X: Drop>(tokens: &TokenList, read: Result<(X, &[Placed]), Halt>) -> Result<X, ParseFault>
-    ensures { result ≡ whole_of tokens.now (λ rest. rest.now) read.entry }
+fn whole<X: Drop>(
+    tokens: &TokenList,
+    read: Result<X, Halt>,
+    rest: &[Placed],
+) -> Result<X, ParseFault>
+    ensures { result ≡ whole_of tokens.now read rest.now }
 {
     match read {
-        Ok((tree, [])) => Ok(tree),
-        Ok((_, rest)) => Err(fault_of(tokens, Halt::Syntax(rest.len()))),
+        Ok(tree) => match rest {
+            [] => Ok(tree),
+            _ => Err(fault_of(tokens, Halt::Syntax(rest.len()))),
+        },
         Err(halt) => Err(fault_of(tokens, halt)),
     }
 }

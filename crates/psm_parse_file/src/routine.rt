@@ -1,19 +1,15 @@
 //! The routines of a module (ISO/IEC 9075-4:1996, SQL-invoked routines).
-ghost use Rattle.std.specs.Prelude.{ℕ, ◌≡◌, ◌<◌, ◌≤◌, length, IfOk};
-ghost use Rattle.psm_grammar.specs.Gives.{Gives};
-ghost use Rattle.psm_parse_file.specs.FileReaders.{noted_statement_read, procedure_read, varying_returned_read, length_returned_read, char_returned_read, returned_char_read, returned_plain_read, returned_read, function_read, plain_routine_read, routine_read, ended_routine_read, ended_routines_read};
+ghost use Rattle.psm_tree.specs.FileGrammar.{noted_statement as noted_statement_part, procedure as procedure_part, char_returned as char_returned_part, returned as returned_part, function as function_part, plain_routine as plain_routine_part, routine as routine_part, ended_routine as ended_routine_part, ended_routines as ended_routines_part};
+ghost use Rattle.psm_tree.specs.Readers.{Takes, reading};
 
 use crate::notes::note_list;
 use crate::optional::at_word_and_sign;
 use crate::parameters::params;
 use psm_grammar::Halt;
-use psm_list::List;
+use psm_list::{Boxed, List};
 use psm_parse_stmt::statement;
-use psm_parse_token::{
-    at_one_of, at_word, before_sign, before_word, beside, char_length, expect_name, expect_one_of,
-    expect_word, plain_type, varying,
-};
-use psm_token::{Placed, Sign, Word};
+use psm_parse_token::{Tokens, char_length, plain_type, varying};
+use psm_token::{Sign, Word};
 use psm_tree::{DataType, Note, Routine, Statement, TypeForm};
 use std::alloc::Global;
 
@@ -21,228 +17,147 @@ const CHAR_WORDS: [Word; 2] = [Word::Char, Word::Character];
 
 const ROUTINE_WORDS: [Word; 3] = [Word::Declare, Word::Procedure, Word::Function];
 
-/// `{note} statement`.
-#[tactic(auto, unfolding(crate::specs::FileReaders::noted_statement_read))]
+/// `{note} statement`
+#[tactic(auto, using(psm_tree::proofs::Reading::steps), unfolding(psm_tree::specs::FileGrammar::noted_statement))]
 fn noted_statement(
     alloc: Global,
-    tokens: &[Placed],
+    tokens: &mut Tokens,
     levels: u32,
-) -> Result<((List<Note>, Statement), &[Placed]), Halt>
-    ensures exact { Gives (λ x. (x.0, x.1.now)) result (noted_statement_read levels tokens.now) }
-    ensures takes { IfOk result (λ x. length x.1.now < length tokens.now) }
+) -> Result<(List<Note>, Boxed<Statement>), Halt>
+    ensures { Takes (reading levels noted_statement_part tokens.old.rest.now) result tokens.new.rest.now }
 {
-    let (notes, rest) = note_list(alloc, tokens)?;
-    beside(notes, statement(alloc, rest, levels))
+    let notes = note_list(alloc, tokens, levels)?;
+    let body = statement(alloc, tokens, levels)?;
+    Ok((notes, body))
 }
 
-/// `PROCEDURE name params {note} statement`.
-#[tactic(auto, unfolding(crate::specs::FileReaders::procedure_read))]
-fn procedure(alloc: Global, tokens: &[Placed], levels: u32) -> Result<(Routine, &[Placed]), Halt>
-    ensures exact { Gives (λ x. (x.0, x.1.now)) result (procedure_read levels tokens.now) }
-    ensures takes { IfOk result (λ x. length x.1.now < length tokens.now) }
+/// `PROCEDURE name params {note} statement`
+#[tactic(auto, using(psm_tree::proofs::Reading::steps), unfolding(psm_tree::specs::FileGrammar::procedure))]
+fn procedure(alloc: Global, tokens: &mut Tokens, levels: u32) -> Result<Routine, Halt>
+    ensures { Takes (reading levels procedure_part tokens.old.rest.now) result tokens.new.rest.now }
 {
-    let (place, rest) = expect_word(tokens, Word::Procedure)?;
-    let (name, rest) = expect_name(alloc, rest)?;
-    let (head, rest) = beside(name, params(alloc, rest))?;
-    let (((name, parameters), (notes, body)), rest) = beside(
-        head,
-        noted_statement(alloc, rest, levels),
-    )?;
-    let routine = Routine {
+    let place = tokens.word(Word::Procedure)?;
+    let name = tokens.name(alloc)?;
+    let parameters = params(alloc, tokens, levels)?;
+    let (notes, body) = noted_statement(alloc, tokens, levels)?;
+    Ok(Routine {
         place,
         name,
         parameters,
         returns: None,
         notes,
         body,
-    };
-    Ok((routine, rest))
-}
-
-/// `VARYING "(" num ")" {note} statement`, behind `RETURNS CHAR`.
-#[tactic(auto, unfolding(crate::specs::FileReaders::varying_returned_read))]
-fn varying_returned(
-    alloc: Global,
-    tokens: &[Placed],
-    levels: u32,
-) -> Result<((TypeForm, (List<Note>, Statement)), &[Placed]), Halt>
-    ensures exact { Gives (λ x. (x.0, x.1.now)) result (varying_returned_read levels tokens.now) }
-    ensures takes { IfOk result (λ x. length x.1.now < length tokens.now) }
-{
-    match varying(tokens) {
-        Ok((form, rest)) => beside(form, noted_statement(alloc, rest, levels)),
-        Err(halt) => Err(halt),
-    }
-}
-
-/// `["(" num ")"] {note} statement`, behind `RETURNS CHAR`.
-#[tactic(auto, unfolding(crate::specs::FileReaders::length_returned_read))]
-fn length_returned(
-    alloc: Global,
-    tokens: &[Placed],
-    levels: u32,
-) -> Result<((TypeForm, (List<Note>, Statement)), &[Placed]), Halt>
-    ensures exact { Gives (λ x. (x.0, x.1.now)) result (length_returned_read levels tokens.now) }
-    ensures takes { IfOk result (λ x. length x.1.now < length tokens.now) }
-{
-    match char_length(tokens) {
-        Ok((form, rest)) => beside(form, noted_statement(alloc, rest, levels)),
-        Err(halt) => Err(halt),
-    }
+    })
 }
 
 /// What stands behind `RETURNS CHAR`: `VARYING` belongs to the type where a parenthesis follows, and is
 /// else the label of the statement.
-#[tactic(auto, unfolding(crate::specs::FileReaders::char_returned_read))]
+#[tactic(auto, using(psm_tree::proofs::Reading::steps), unfolding(psm_tree::specs::FileGrammar::char_returned))]
 fn char_returned(
     alloc: Global,
-    tokens: &[Placed],
+    tokens: &mut Tokens,
     levels: u32,
-) -> Result<((TypeForm, (List<Note>, Statement)), &[Placed]), Halt>
-    ensures exact { Gives (λ x. (x.0, x.1.now)) result (char_returned_read levels tokens.now) }
-    ensures takes { IfOk result (λ x. length x.1.now < length tokens.now) }
+) -> Result<(TypeForm, (List<Note>, Boxed<Statement>)), Halt>
+    ensures { Takes (reading levels char_returned_part tokens.old.rest.now) result tokens.new.rest.now }
 {
     if at_word_and_sign(tokens, Word::Varying, Sign::LeftParen) {
-        varying_returned(alloc, tokens, levels)
-    } else {
-        length_returned(alloc, tokens, levels)
+        let form = varying(tokens, levels)?;
+        let noted = noted_statement(alloc, tokens, levels)?;
+        return Ok((form, noted));
     }
-}
-
-/// `(CHAR | CHARACTER) char_returned`.
-#[tactic(auto, unfolding(crate::specs::FileReaders::returned_char_read))]
-fn returned_char(
-    alloc: Global,
-    tokens: &[Placed],
-    levels: u32,
-) -> Result<((DataType, (List<Note>, Statement)), &[Placed]), Halt>
-    ensures exact { Gives (λ x. (x.0, x.1.now)) result (returned_char_read levels tokens.now) }
-    ensures takes { IfOk result (λ x. length x.1.now < length tokens.now) }
-{
-    let (place, rest) = expect_one_of(tokens, &CHAR_WORDS)?;
-    let ((form, noted), rest) = char_returned(alloc, rest, levels)?;
-    Ok(((DataType { place, form }, noted), rest))
-}
-
-/// `plain_type {note} statement`.
-#[tactic(auto, unfolding(crate::specs::FileReaders::returned_plain_read))]
-fn returned_plain(
-    alloc: Global,
-    tokens: &[Placed],
-    levels: u32,
-) -> Result<((DataType, (List<Note>, Statement)), &[Placed]), Halt>
-    ensures exact { Gives (λ x. (x.0, x.1.now)) result (returned_plain_read levels tokens.now) }
-    ensures takes { IfOk result (λ x. length x.1.now < length tokens.now) }
-{
-    match plain_type(tokens) {
-        Ok((kind, rest)) => beside(kind, noted_statement(alloc, rest, levels)),
-        Err(halt) => Err(halt),
-    }
+    let form = char_length(tokens, levels)?;
+    let noted = noted_statement(alloc, tokens, levels)?;
+    Ok((form, noted))
 }
 
 /// `type {note} statement`, behind `RETURNS`.
-#[tactic(auto, unfolding(crate::specs::FileReaders::returned_read))]
+#[tactic(auto, using(psm_tree::proofs::Reading::steps), unfolding(psm_tree::specs::FileGrammar::returned))]
 fn returned(
     alloc: Global,
-    tokens: &[Placed],
+    tokens: &mut Tokens,
     levels: u32,
-) -> Result<((DataType, (List<Note>, Statement)), &[Placed]), Halt>
-    ensures exact { Gives (λ x. (x.0, x.1.now)) result (returned_read levels tokens.now) }
-    ensures takes { IfOk result (λ x. length x.1.now < length tokens.now) }
+) -> Result<(DataType, (List<Note>, Boxed<Statement>)), Halt>
+    ensures { Takes (reading levels returned_part tokens.old.rest.now) result tokens.new.rest.now }
 {
-    if at_one_of(tokens, &CHAR_WORDS) {
-        returned_char(alloc, tokens, levels)
-    } else {
-        returned_plain(alloc, tokens, levels)
+    if tokens.at_one_of(&CHAR_WORDS) {
+        let place = tokens.one_of(&CHAR_WORDS)?;
+        let (form, noted) = char_returned(alloc, tokens, levels)?;
+        return Ok((DataType { place, form }, noted));
     }
+    let kind = plain_type(tokens, levels)?;
+    let noted = noted_statement(alloc, tokens, levels)?;
+    Ok((kind, noted))
 }
 
-/// `FUNCTION name params RETURNS type {note} statement`.
-#[tactic(auto, unfolding(crate::specs::FileReaders::function_read))]
-fn function(alloc: Global, tokens: &[Placed], levels: u32) -> Result<(Routine, &[Placed]), Halt>
-    ensures exact { Gives (λ x. (x.0, x.1.now)) result (function_read levels tokens.now) }
-    ensures takes { IfOk result (λ x. length x.1.now < length tokens.now) }
+/// `FUNCTION name params RETURNS type {note} statement`
+#[tactic(auto, using(psm_tree::proofs::Reading::steps), unfolding(psm_tree::specs::FileGrammar::function))]
+fn function(alloc: Global, tokens: &mut Tokens, levels: u32) -> Result<Routine, Halt>
+    ensures { Takes (reading levels function_part tokens.old.rest.now) result tokens.new.rest.now }
 {
-    let (place, rest) = expect_word(tokens, Word::Function)?;
-    let (name, rest) = expect_name(alloc, rest)?;
-    let (head, rest) = beside(name, params(alloc, rest))?;
-    let (head, rest) = before_word(head, rest, Word::Returns)?;
-    let (((name, parameters), (kind, (notes, body))), rest) = beside(
-        head,
-        returned(alloc, rest, levels),
-    )?;
-    let routine = Routine {
+    let place = tokens.word(Word::Function)?;
+    let name = tokens.name(alloc)?;
+    let parameters = params(alloc, tokens, levels)?;
+    tokens.word(Word::Returns)?;
+    let (kind, (notes, body)) = returned(alloc, tokens, levels)?;
+    Ok(Routine {
         place,
         name,
         parameters,
         returns: Some(kind),
         notes,
         body,
-    };
-    Ok((routine, rest))
+    })
 }
 
-/// `procedure | function`.
-#[tactic(auto, unfolding(crate::specs::FileReaders::plain_routine_read))]
-fn plain_routine(
-    alloc: Global,
-    tokens: &[Placed],
-    levels: u32,
-) -> Result<(Routine, &[Placed]), Halt>
-    ensures exact { Gives (λ x. (x.0, x.1.now)) result (plain_routine_read levels tokens.now) }
-    ensures takes { IfOk result (λ x. length x.1.now < length tokens.now) }
+/// `procedure | function`
+#[tactic(auto, using(psm_tree::proofs::Reading::steps, psm_tree::proofs::Firsts::first_procedure), unfolding(psm_tree::specs::FileGrammar::plain_routine))]
+fn plain_routine(alloc: Global, tokens: &mut Tokens, levels: u32) -> Result<Routine, Halt>
+    ensures { Takes (reading levels plain_routine_part tokens.old.rest.now) result tokens.new.rest.now }
 {
-    if at_word(tokens, Word::Procedure) {
-        procedure(alloc, tokens, levels)
-    } else {
-        function(alloc, tokens, levels)
+    if tokens.at(Word::Procedure) {
+        return procedure(alloc, tokens, levels);
     }
+    function(alloc, tokens, levels)
 }
 
-/// `[DECLARE] (procedure | function)`.
-#[tactic(auto, unfolding(crate::specs::FileReaders::routine_read))]
-fn routine(alloc: Global, tokens: &[Placed], levels: u32) -> Result<(Routine, &[Placed]), Halt>
-    ensures exact { Gives (λ x. (x.0, x.1.now)) result (routine_read levels tokens.now) }
-    ensures takes { IfOk result (λ x. length x.1.now < length tokens.now) }
+/// `[DECLARE] (procedure | function)`
+#[tactic(auto, using(psm_tree::proofs::Reading::steps), unfolding(psm_tree::specs::FileGrammar::routine))]
+fn routine(alloc: Global, tokens: &mut Tokens, levels: u32) -> Result<Routine, Halt>
+    ensures { Takes (reading levels routine_part tokens.old.rest.now) result tokens.new.rest.now }
 {
-    if at_word(tokens, Word::Declare) {
-        let (_, rest) = expect_word(tokens, Word::Declare)?;
-        plain_routine(alloc, rest, levels)
-    } else {
-        plain_routine(alloc, tokens, levels)
+    if tokens.at(Word::Declare) {
+        tokens.word(Word::Declare)?;
+        return plain_routine(alloc, tokens, levels);
     }
+    plain_routine(alloc, tokens, levels)
 }
 
-/// `routine ";"`.
-#[tactic(auto, unfolding(crate::specs::FileReaders::ended_routine_read))]
-fn ended_routine(
-    alloc: Global,
-    tokens: &[Placed],
-    levels: u32,
-) -> Result<(Routine, &[Placed]), Halt>
-    ensures exact { Gives (λ x. (x.0, x.1.now)) result (ended_routine_read levels tokens.now) }
-    ensures takes { IfOk result (λ x. length x.1.now < length tokens.now) }
+/// `routine ";"`
+#[tactic(auto, using(psm_tree::proofs::Reading::steps), unfolding(psm_tree::specs::FileGrammar::ended_routine))]
+fn ended_routine(alloc: Global, tokens: &mut Tokens, levels: u32) -> Result<Routine, Halt>
+    ensures { Takes (reading levels ended_routine_part tokens.old.rest.now) result tokens.new.rest.now }
 {
-    let (routine, rest) = routine(alloc, tokens, levels)?;
-    before_sign(routine, rest, Sign::Semicolon)
+    let routine = routine(alloc, tokens, levels)?;
+    tokens.sign(Sign::Semicolon)?;
+    Ok(routine)
 }
 
-/// `{routine ";"}`.
-#[tactic(auto, unfolding(crate::specs::FileReaders::ended_routines_read))]
+/// `{routine ";"}`
+#[tactic(auto, using(psm_tree::proofs::Repeating::turns, psm_tree::proofs::Firsts::first_ended_routine), unfolding(psm_tree::specs::FileGrammar::ended_routines))]
 pub(crate) fn ended_routines(
     alloc: Global,
-    tokens: &[Placed],
+    tokens: &mut Tokens,
     levels: u32,
-) -> Result<(List<Routine>, &[Placed]), Halt>
-    ensures exact { Gives (λ x. (x.0, x.1.now)) result (ended_routines_read levels tokens.now) }
-    ensures takes { IfOk result (λ x. length x.1.now ≤ length tokens.now) }
+) -> Result<List<Routine>, Halt>
+    ensures { Takes (reading levels ended_routines_part tokens.old.rest.now) result tokens.new.rest.now }
 {
-    let mut items = Vec::new(alloc);
-    let mut rest = tokens;
-    while at_one_of(rest, &ROUTINE_WORDS) {
-        let (item, next) = ended_routine(alloc, rest, levels)?;
-        items.push(item)?;
-        rest = next;
+    let mut routines = Vec::new(alloc);
+    for _turn in 0..tokens.left() {
+        if !tokens.at_one_of(&ROUTINE_WORDS) {
+            break;
+        }
+        let routine = ended_routine(alloc, tokens, levels)?;
+        routines.push(routine)?;
     }
-    Ok((List::of(items), rest))
+    Ok(List::of(routines))
 }

@@ -1,15 +1,13 @@
 //! The rules of a column and of a table (ISO/IEC 9075:1992, 11.4 and 11.6).
-ghost use Rattle.std.specs.Prelude.{ℕ, ◌≡◌, ◌<◌, ◌≤◌, length, IfOk};
-ghost use Rattle.psm_grammar.specs.Gives.{Gives};
-ghost use Rattle.psm_parse_file.specs.FileReaders.{condition_read, plain_column_rule_read, column_rule_read, column_rule_list_read, plain_table_rule_read, table_rule_read};
+ghost use Rattle.psm_tree.specs.ExprGrammar.{expr as expr_part, within_parens};
+ghost use Rattle.psm_tree.specs.FileGrammar.{plain_column_rule as plain_column_rule_part, column_rule as column_rule_part, column_rule_list as column_rule_list_part, plain_table_rule as plain_table_rule_part, table_rule as table_rule_part};
+ghost use Rattle.psm_tree.specs.Readers.{Takes, reading};
 
 use psm_grammar::Halt;
-use psm_list::List;
+use psm_list::{Boxed, List};
 use psm_parse_expr::expr;
-use psm_parse_token::{
-    at_one_of, at_word, before_sign, expect_name, expect_sign, expect_word, names_in_parens,
-};
-use psm_token::{Placed, Sign, Word};
+use psm_parse_token::{Tokens, names_in_parens};
+use psm_token::{Sign, Word};
 use psm_tree::{ColumnRule, ColumnRuleForm, Expr, TableRule, TableRuleForm};
 use std::alloc::Global;
 
@@ -21,132 +19,107 @@ const COLUMN_RULE_WORDS: [Word; 5] = [
     Word::Check,
 ];
 
-/// `"(" expr ")"`.
-#[tactic(auto, unfolding(crate::specs::FileReaders::condition_read))]
-fn condition(alloc: Global, tokens: &[Placed], levels: u32) -> Result<(Expr, &[Placed]), Halt>
-    ensures exact { Gives (λ x. (x.0, x.1.now)) result (condition_read levels tokens.now) }
-    ensures takes { IfOk result (λ x. length x.1.now < length tokens.now) }
+/// `"(" expr ")"`
+#[tactic(auto, using(psm_tree::proofs::Reading::steps))]
+fn condition(alloc: Global, tokens: &mut Tokens, levels: u32) -> Result<Boxed<Expr>, Halt>
+    ensures { Takes (reading levels (within_parens expr_part) tokens.old.rest.now) result tokens.new.rest.now }
 {
-    let (_, rest) = expect_sign(tokens, Sign::LeftParen)?;
-    let (test, rest) = expr(alloc, rest, levels)?;
-    before_sign(test, rest, Sign::RightParen)
+    tokens.sign(Sign::LeftParen)?;
+    let test = expr(alloc, tokens, levels)?;
+    tokens.sign(Sign::RightParen)?;
+    Ok(test)
 }
 
-/// `NOT NULL | PRIMARY KEY | UNIQUE | CHECK "(" expr ")"`.
-#[tactic(auto, unfolding(crate::specs::FileReaders::plain_column_rule_read))]
-fn plain_column_rule(
-    alloc: Global,
-    tokens: &[Placed],
-    levels: u32,
-) -> Result<(ColumnRule, &[Placed]), Halt>
-    ensures exact { Gives (λ x. (x.0, x.1.now)) result (plain_column_rule_read levels tokens.now) }
-    ensures takes { IfOk result (λ x. length x.1.now < length tokens.now) }
+/// `NOT NULL | PRIMARY KEY | UNIQUE | CHECK "(" expr ")"`
+#[tactic(auto, using(psm_tree::proofs::Reading::steps), unfolding(psm_tree::specs::FileGrammar::plain_column_rule))]
+fn plain_column_rule(alloc: Global, tokens: &mut Tokens, levels: u32) -> Result<ColumnRule, Halt>
+    ensures { Takes (reading levels plain_column_rule_part tokens.old.rest.now) result tokens.new.rest.now }
 {
-    if at_word(tokens, Word::Not) {
-        let (place, rest) = expect_word(tokens, Word::Not)?;
-        let (_, rest) = expect_word(rest, Word::Null)?;
+    if tokens.at(Word::Not) {
+        let place = tokens.word(Word::Not)?;
+        tokens.word(Word::Null)?;
         let form = ColumnRuleForm::NotNull;
-        Ok((ColumnRule { place, form }, rest))
-    } else if at_word(tokens, Word::Primary) {
-        let (place, rest) = expect_word(tokens, Word::Primary)?;
-        let (_, rest) = expect_word(rest, Word::Key)?;
+        return Ok(ColumnRule { place, form });
+    }
+    if tokens.at(Word::Primary) {
+        let place = tokens.word(Word::Primary)?;
+        tokens.word(Word::Key)?;
         let form = ColumnRuleForm::PrimaryKey;
-        Ok((ColumnRule { place, form }, rest))
-    } else if at_word(tokens, Word::Unique) {
-        let (place, rest) = expect_word(tokens, Word::Unique)?;
+        return Ok(ColumnRule { place, form });
+    }
+    if tokens.at(Word::Unique) {
+        let place = tokens.word(Word::Unique)?;
         let form = ColumnRuleForm::Unique;
-        Ok((ColumnRule { place, form }, rest))
-    } else {
-        let (place, rest) = expect_word(tokens, Word::Check)?;
-        let (test, rest) = condition(alloc, rest, levels)?;
-        let form = ColumnRuleForm::Check(test);
-        Ok((ColumnRule { place, form }, rest))
+        return Ok(ColumnRule { place, form });
     }
+    let place = tokens.word(Word::Check)?;
+    let form = ColumnRuleForm::Check(condition(alloc, tokens, levels)?);
+    Ok(ColumnRule { place, form })
 }
 
-/// `[CONSTRAINT name] plain_column_rule`.
-#[tactic(auto, unfolding(crate::specs::FileReaders::column_rule_read))]
-fn column_rule(
-    alloc: Global,
-    tokens: &[Placed],
-    levels: u32,
-) -> Result<(ColumnRule, &[Placed]), Halt>
-    ensures exact { Gives (λ x. (x.0, x.1.now)) result (column_rule_read levels tokens.now) }
-    ensures takes { IfOk result (λ x. length x.1.now < length tokens.now) }
+/// `[CONSTRAINT name] plain_column_rule`
+#[tactic(auto, using(psm_tree::proofs::Reading::steps), unfolding(psm_tree::specs::FileGrammar::column_rule))]
+fn column_rule(alloc: Global, tokens: &mut Tokens, levels: u32) -> Result<ColumnRule, Halt>
+    ensures { Takes (reading levels column_rule_part tokens.old.rest.now) result tokens.new.rest.now }
 {
-    if at_word(tokens, Word::Constraint) {
-        let (_, rest) = expect_word(tokens, Word::Constraint)?;
-        let (_, rest) = expect_name(alloc, rest)?;
-        plain_column_rule(alloc, rest, levels)
-    } else {
-        plain_column_rule(alloc, tokens, levels)
+    if tokens.at(Word::Constraint) {
+        tokens.word(Word::Constraint)?;
+        tokens.name(alloc)?;
+        return plain_column_rule(alloc, tokens, levels);
     }
+    plain_column_rule(alloc, tokens, levels)
 }
 
-/// `{column_rule}`.
-#[tactic(auto, unfolding(crate::specs::FileReaders::column_rule_list_read))]
+/// `{column_rule}`
+#[tactic(auto, using(psm_tree::proofs::Repeating::turns, psm_tree::proofs::Firsts::first_column_rule), unfolding(psm_tree::specs::FileGrammar::column_rule_list))]
 pub(crate) fn column_rules(
     alloc: Global,
-    tokens: &[Placed],
+    tokens: &mut Tokens,
     levels: u32,
-) -> Result<(List<ColumnRule>, &[Placed]), Halt>
-    ensures exact { Gives (λ x. (x.0, x.1.now)) result (column_rule_list_read levels tokens.now) }
-    ensures takes { IfOk result (λ x. length x.1.now ≤ length tokens.now) }
+) -> Result<List<ColumnRule>, Halt>
+    ensures { Takes (reading levels column_rule_list_part tokens.old.rest.now) result tokens.new.rest.now }
 {
-    let mut items = Vec::new(alloc);
-    let mut rest = tokens;
-    while at_one_of(rest, &COLUMN_RULE_WORDS) {
-        let (item, next) = column_rule(alloc, rest, levels)?;
-        items.push(item)?;
-        rest = next;
+    let mut rules = Vec::new(alloc);
+    for _turn in 0..tokens.left() {
+        if !tokens.at_one_of(&COLUMN_RULE_WORDS) {
+            break;
+        }
+        let rule = column_rule(alloc, tokens, levels)?;
+        rules.push(rule)?;
     }
-    Ok((List::of(items), rest))
+    Ok(List::of(rules))
 }
 
-/// `PRIMARY KEY names | UNIQUE names | CHECK "(" expr ")"`.
-#[tactic(auto, unfolding(crate::specs::FileReaders::plain_table_rule_read))]
-fn plain_table_rule(
-    alloc: Global,
-    tokens: &[Placed],
-    levels: u32,
-) -> Result<(TableRule, &[Placed]), Halt>
-    ensures exact { Gives (λ x. (x.0, x.1.now)) result (plain_table_rule_read levels tokens.now) }
-    ensures takes { IfOk result (λ x. length x.1.now < length tokens.now) }
+/// `PRIMARY KEY names | UNIQUE names | CHECK "(" expr ")"`
+#[tactic(auto, using(psm_tree::proofs::Reading::steps), unfolding(psm_tree::specs::FileGrammar::plain_table_rule))]
+fn plain_table_rule(alloc: Global, tokens: &mut Tokens, levels: u32) -> Result<TableRule, Halt>
+    ensures { Takes (reading levels plain_table_rule_part tokens.old.rest.now) result tokens.new.rest.now }
 {
-    if at_word(tokens, Word::Primary) {
-        let (place, rest) = expect_word(tokens, Word::Primary)?;
-        let (_, rest) = expect_word(rest, Word::Key)?;
-        let (names, rest) = names_in_parens(alloc, rest)?;
-        let form = TableRuleForm::PrimaryKey(names);
-        Ok((TableRule { place, form }, rest))
-    } else if at_word(tokens, Word::Unique) {
-        let (place, rest) = expect_word(tokens, Word::Unique)?;
-        let (names, rest) = names_in_parens(alloc, rest)?;
-        let form = TableRuleForm::Unique(names);
-        Ok((TableRule { place, form }, rest))
-    } else {
-        let (place, rest) = expect_word(tokens, Word::Check)?;
-        let (test, rest) = condition(alloc, rest, levels)?;
-        let form = TableRuleForm::Check(test);
-        Ok((TableRule { place, form }, rest))
+    if tokens.at(Word::Primary) {
+        let place = tokens.word(Word::Primary)?;
+        tokens.word(Word::Key)?;
+        let form = TableRuleForm::PrimaryKey(names_in_parens(alloc, tokens, levels)?);
+        return Ok(TableRule { place, form });
     }
+    if tokens.at(Word::Unique) {
+        let place = tokens.word(Word::Unique)?;
+        let form = TableRuleForm::Unique(names_in_parens(alloc, tokens, levels)?);
+        return Ok(TableRule { place, form });
+    }
+    let place = tokens.word(Word::Check)?;
+    let form = TableRuleForm::Check(condition(alloc, tokens, levels)?);
+    Ok(TableRule { place, form })
 }
 
-/// `[CONSTRAINT name] plain_table_rule`.
-#[tactic(auto, unfolding(crate::specs::FileReaders::table_rule_read))]
-pub(crate) fn table_rule(
-    alloc: Global,
-    tokens: &[Placed],
-    levels: u32,
-) -> Result<(TableRule, &[Placed]), Halt>
-    ensures exact { Gives (λ x. (x.0, x.1.now)) result (table_rule_read levels tokens.now) }
-    ensures takes { IfOk result (λ x. length x.1.now < length tokens.now) }
+/// `[CONSTRAINT name] plain_table_rule`
+#[tactic(auto, using(psm_tree::proofs::Reading::steps), unfolding(psm_tree::specs::FileGrammar::table_rule))]
+pub(crate) fn table_rule(alloc: Global, tokens: &mut Tokens, levels: u32) -> Result<TableRule, Halt>
+    ensures { Takes (reading levels table_rule_part tokens.old.rest.now) result tokens.new.rest.now }
 {
-    if at_word(tokens, Word::Constraint) {
-        let (_, rest) = expect_word(tokens, Word::Constraint)?;
-        let (_, rest) = expect_name(alloc, rest)?;
-        plain_table_rule(alloc, rest, levels)
-    } else {
-        plain_table_rule(alloc, tokens, levels)
+    if tokens.at(Word::Constraint) {
+        tokens.word(Word::Constraint)?;
+        tokens.name(alloc)?;
+        return plain_table_rule(alloc, tokens, levels);
     }
+    plain_table_rule(alloc, tokens, levels)
 }

@@ -1,9 +1,6 @@
-use Rattle.std.proofs.Common.{length}
+use Rattle.std.proofs.Common.{◌-◌}
 use Rattle.psm_parse_file.specs.Creating.{Creating}
 use Rattle.psm_parse_file.proofs.module_file.created_tables.Given as goal
 
-abbrev pub invariant-loop-alloc : goal.invariant-loop-alloc
-invariant-loop-alloc l = Creating l.levels l.fn.place l.tokens l.items.items l.last l.rest
-
-abbrev pub decreases-loop-alloc : goal.decreases-loop-alloc
-decreases-loop-alloc l = length l.rest
+abbrev pub invariant-loop-turn : goal.invariant-loop-turn
+invariant-loop-turn l = Creating l.levels l.fn.place l.initial.tokens.rest.now l.tables.items l.place (l._turn-end - l._turn) l.tokens.rest.now

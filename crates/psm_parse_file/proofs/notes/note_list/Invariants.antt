@@ -1,11 +1,7 @@
-use Rattle.std.proofs.Common.{length}
-use Rattle.psm_tree.specs.Kinds.{codes_of, note_words, kind}
-use Rattle.psm_grammar.specs.Loop.{Looping}
-use Rattle.psm_parse_file.specs.PartReaders.{note_read}
+use Rattle.std.proofs.Common.{◌-◌}
+use Rattle.psm_tree.specs.FileGrammar.{note}
+use Rattle.psm_tree.specs.Readers.{Repeating}
 use Rattle.psm_parse_file.proofs.notes.note_list.Given as goal
 
-abbrev pub invariant-loop-rest : goal.invariant-loop-rest
-invariant-loop-rest l = Looping kind (codes_of note_words) note_read l.tokens l.items.items l.rest
-
-abbrev pub decreases-loop-rest : goal.decreases-loop-rest
-decreases-loop-rest l = length l.rest
+abbrev pub invariant-loop-turn : goal.invariant-loop-turn
+invariant-loop-turn l = Repeating l.levels note l.initial.tokens.rest.now l.notes.items (l._turn-end - l._turn) l.tokens.rest.now

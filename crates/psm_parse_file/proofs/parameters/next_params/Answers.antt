@@ -1,24 +1,9 @@
-use Rattle.std.proofs.Common.{rules, ◌≡◌, [], ◌∷◌, ◌++◌, ◌<◌, length, true, Ok}
-use Rattle.std.proofs.lemmas.Result.{err_from_is_err_and}
-use Rattle.psm_token.specs.declared.sign.Sign.TheVariants as s
-use Rattle.psm_tree.specs.Kinds.{sign_code, kind}
-use Rattle.psm_grammar.specs.Readers.{starts}
-use Rattle.psm_grammar.proofs.Loops.{goes_on}
-use Rattle.psm_parse_token.proofs.Repeating.{loop_halts}
-use Rattle.psm_parse_file.specs.PartReaders.{next_param_read, next_params_read}
+use Rattle.std.proofs.Common.{rules}
+use Rattle.psm_tree.specs.FileGrammar.{next_params}
+use Rattle.psm_tree.proofs.Firsts.{first_next_param}
+use Rattle.psm_tree.proofs.Repeating.{turns}
 use Rattle.psm_parse_file.proofs.parameters.next_params.Goals as goal
 
-pub returns-in_err-item-clause-exact : goal.returns-in_err-item-clause-exact
-unfolding next_params_read
-returns-in_err-item-clause-exact c =
-    let p = err_from_is_err_and c.from_residual.result c.from_residual.ensures.1 in
-    let starts_so : starts kind (sign_code s.Comma ∷ []) c.loop-alloc.rest.now ≡ true = search rules in
-    rw (p.1, p.2) (loop_halts kind (sign_code s.Comma ∷ []) next_param_read c.args.tokens.now c.loop-alloc.items.items c.loop-alloc.rest.now c.in_err-item.field-0.0 c.loop-alloc.invariant starts_so c.in_err-item.ensures.exact)
-
-pub loop-alloc-preserved : goal.loop-alloc-preserved
-loop-alloc-preserved c =
-    let starts_so : starts kind (sign_code s.Comma ∷ []) c.loop-alloc.rest.now ≡ true = search rules in
-    let read_so : next_param_read c.loop-alloc.rest.now ≡ Ok (c.in_ok-item.item, c.in_ok-item.next.now) = search rules in
-    let shorter : length c.in_ok-item.next.now < length c.loop-alloc.rest.now = search rules in
-    let pushed : c.push.new.self.items ≡ c.loop-alloc.items.items ++ c.in_ok-item.item ∷ [] = search rules in
-    rw pushed (goes_on kind (sign_code s.Comma ∷ []) next_param_read c.args.tokens.now c.loop-alloc.items.items c.loop-alloc.rest.now c.in_ok-item.item c.in_ok-item.next.now c.loop-alloc.invariant starts_so read_so shorter)
+pub returns : goal.returns
+unfolding next_params
+returns c = search (rules, turns, first_next_param)

@@ -1,11 +1,8 @@
-use Rattle.psm_grammar.specs.Grammar.{Spells}
+use Rattle.std.proofs.Common.{◌∙◌}
 use Rattle.psm_tree.specs.FileGrammar.{script}
-use Rattle.psm_tree.specs.Productions.{productions}
-use Rattle.psm_tree.specs.Reading.{most_levels}
-use Rattle.psm_parse_file.specs.FileReaders.{script_read}
-use Rattle.psm_parse_file.proofs.FileExact.{script_exact}
+use Rattle.psm_tree.proofs.FileFits.{script_fit}
 use Rattle.psm_parse_file.proofs.Whole.{whole_reads}
 use Rattle.psm_parse_file.proofs.parse.parse_script.Goals as goal
 
 pub returns : goal.returns
-returns c = whole_reads (Spells productions 0 script) c.args.tokens.now (λ rest. rest.now) (script_read most_levels) script_exact c.items.result.now c.items.ensures c.script.result c.script.ensures.exact c.whole.result c.whole.ensures
+returns c = whole_reads script script_fit c.args.tokens.now c.of-cursor.result.rest.now (c.of-cursor.ensures ∙ c.items.ensures) c.script-read.result c.script-read.new.tokens.rest.now c.script-read.ensures c.whole.result c.whole.ensures

@@ -1,11 +1,7 @@
-use Rattle.std.proofs.Common.{length}
-use Rattle.psm_tree.specs.Kinds.{codes_of, column_rule_words, kind}
-use Rattle.psm_grammar.specs.Loop.{Looping}
-use Rattle.psm_parse_file.specs.FileReaders.{column_rule_read}
+use Rattle.std.proofs.Common.{◌-◌}
+use Rattle.psm_tree.specs.FileGrammar.{column_rule}
+use Rattle.psm_tree.specs.Readers.{Repeating}
 use Rattle.psm_parse_file.proofs.rules.column_rules.Given as goal
 
-abbrev pub invariant-loop-alloc : goal.invariant-loop-alloc
-invariant-loop-alloc l = Looping kind (codes_of column_rule_words) (column_rule_read l.levels) l.tokens l.items.items l.rest
-
-abbrev pub decreases-loop-alloc : goal.decreases-loop-alloc
-decreases-loop-alloc l = length l.rest
+abbrev pub invariant-loop-turn : goal.invariant-loop-turn
+invariant-loop-turn l = Repeating l.levels column_rule l.initial.tokens.rest.now l.rules.items (l._turn-end - l._turn) l.tokens.rest.now
