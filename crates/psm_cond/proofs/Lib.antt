@@ -1,0 +1,6 @@
+pub mod Choices
+pub mod Fronts
+pub mod Messages
+pub mod Numbers
+pub mod Sounds
+pub mod Texts
