@@ -1,13 +1,12 @@
 -- The choice among the handlers of one scope.
-use Rattle.std.proofs.Common.{◌≡◌, ℕ, zero, suc, ◌+◌, ◌<◌, ◌≤◌, Bool, true, false, ◌&&◌, nat_eq, nat_lt, nat_le, List, [], ◌∷◌, length, drop, get_or, refl, ap, sym, ◌∙◌, subst, arith}
-use Rattle.std.specs.Prelude.{max, Option, Some, None, if◌then◌else◌}
+use Rattle.std.proofs.Common.{◌≡◌, ℕ, ◌+◌, ◌<◌, Bool, true, false, nat_eq, nat_lt, nat_le, List, [], ◌∷◌, length, drop, get_or, refl, ap, sym, ◌∙◌, arith}
+use Rattle.std.specs.Prelude.{Option, Some, None, if◌then◌else◌}
 use Rattle.std.specs.List.{filter}
 use Rattle.std.proofs.lemmas.List.{drop_more}
 use Rattle.psm_cond.specs.declared.entry.Entry.{Entry}
 use Rattle.psm_cond.specs.declared.handlers.Handler.{Handler}
-use Rattle.psm_cond.specs.declared.handlers.HandlerTable.{HandlerTable}
 use Rattle.psm_cond.specs.Choice.{highest, chosen_in, rank_of_values}
-use Rattle.psm_cond.specs.Handlers.{Numbered, numbered, own_handlers, handler_rank, number_of}
+use Rattle.psm_cond.specs.Handlers.{Numbered, numbered, handler_rank, number_of}
 
 -- the handlers of a context among those whose numbers count from n
 abbrev pub own_from : ℕ → ℕ → List Handler → List Numbered
@@ -20,7 +19,7 @@ going_by rank c best handlers = if nat_le (highest rank handlers) c then best el
 abbrev pub going : Entry → ℕ → Option ℕ → List Numbered → Option ℕ
 going e c best handlers = going_by (handler_rank e) c best handlers
 
-none_chosen : (rank : Numbered → ℕ) (handlers : List Numbered) → highest rank handlers ≡ 0 → chosen_in rank handlers ≡ None
+pub none_chosen : (rank : Numbered → ℕ) (handlers : List Numbered) → highest rank handlers ≡ 0 → chosen_in rank handlers ≡ None
 none_chosen rank [] h = refl
 none_chosen rank (x ∷ xs) h = grind (arith, h, none_chosen rank xs (omega (arith, h)))
 

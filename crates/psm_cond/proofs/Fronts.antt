@@ -1,5 +1,5 @@
 -- An entry in front of those of a condition.
-use Rattle.std.proofs.Common.{◌≡◌, ℕ, zero, suc, ◌<◌, ◌≤◌, Bool, ◌||◌, nat_eq, nat_lt, List, [], ◌∷◌, length, take, refl, arith}
+use Rattle.std.proofs.Common.{◌≡◌, ◌≤◌, Bool, ◌||◌, nat_eq, List, length, take, arith}
 use Rattle.std.specs.List.{insert}
 use Rattle.psm_cond.specs.declared.entry.Entry.{Entry}
 use Rattle.psm_cond.specs.Condition.{Entries, behind}

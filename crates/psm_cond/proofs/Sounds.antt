@@ -1,5 +1,5 @@
 -- The contexts of a handler table that is sound, and their scopes.
-use Rattle.std.proofs.Common.{◌≡◌, ℕ, zero, suc, ◌+◌, ◌-◌, ◌<◌, ◌≤◌, Bool, true, false, ◌&&◌, nat_eq, nat_lt, nat_le, List, [], ◌∷◌, refl, ap, sym, ◌∙◌, subst, arith, ltb-true}
+use Rattle.std.proofs.Common.{◌≡◌, ℕ, zero, suc, ◌+◌, ◌-◌, ◌<◌, ◌≤◌, true, ◌&&◌, nat_lt, List, [], ◌∷◌, refl, ap, sym, ◌∙◌, subst, arith, ltb-true}
 use Rattle.std.specs.Prelude.{Option, Some, None, slice_get}
 use Rattle.std.specs.List.{list_all}
 use Rattle.psm_num.proofs.Literals.{and_first, and_second}
@@ -24,16 +24,16 @@ context_sound_at t j [] i c h e = cc
 context_sound_at t j (x ∷ xs) zero c h e =
     let n : j ≡ j + 0 = omega arith in
     subst (λ y. is_sound_context t (j + 0) y ≡ true) (ap (the_one x) e)
-        (subst (λ i. is_sound_context t i x ≡ true) n (and_first (is_sound_context t j x) (are_sound_contexts t (suc j) xs) h))
+    (subst (λ i. is_sound_context t i x ≡ true) n (and_first (is_sound_context t j x) (are_sound_contexts t (suc j) xs) h))
 context_sound_at t j (x ∷ xs) (suc i) c h e =
     let n : suc j + i ≡ j + suc i = omega arith in
     subst (λ i. is_sound_context t i c ≡ true) n
-        (context_sound_at t (suc j) xs i c (and_second (is_sound_context t j x) (are_sound_contexts t (suc j) xs) h) e)
+    (context_sound_at t (suc j) xs i c (and_second (is_sound_context t j x) (are_sound_contexts t (suc j) xs) h) e)
 
 contexts_sound : (t : HandlerTable) → is_sound t ≡ true → are_sound_contexts t 1 t.contexts ≡ true
 contexts_sound t s =
     and_second (is_numbered t) (are_sound_contexts t 1 t.contexts)
-        (and_first (is_numbered t && are_sound_contexts t 1 t.contexts) (list_all (is_sound_handler t) t.handlers) s)
+    (and_first (is_numbered t && are_sound_contexts t 1 t.contexts) (list_all (is_sound_handler t) t.handlers) s)
 
 context_sound : (t : HandlerTable) (k : ℕ) (c : Context) → is_sound t ≡ true → context_at t k ≡ Some c → is_sound_context t k c ≡ true
 context_sound t zero c s e = cc
@@ -60,9 +60,9 @@ pub outside_below : (t : HandlerTable) (k : ℕ) (c : Context) (handler : ℕ) �
     → outside t handler < k
 outside_below t k c handler s e f =
     let b : block_of (slice_get t.handlers handler) ≡ c.parent =
-        block_is (slice_get t.handlers handler) c.parent
-            (and_first (is_of (slice_get t.handlers handler) c.parent) (is_block (context_at t c.parent))
-                (sym (ap (λ kind. can_stand t c.parent kind) f) ∙ stands t k c s e)) in
+    block_is (slice_get t.handlers handler) c.parent
+    (and_first (is_of (slice_get t.handlers handler) c.parent) (is_block (context_at t c.parent))
+    (sym (ap (λ kind. can_stand t c.parent kind) f) ∙ stands t k c s e)) in
     let q : parent_of (context_at t c.parent) ≤ c.parent = parent_low t c.parent (context_at t c.parent) s refl in
     let r : outside t handler ≡ parent_of (context_at t c.parent) = ap (λ block. parent_of (context_at t block)) b in
     let p : c.parent < k = parent_below t k c s e in
@@ -147,7 +147,7 @@ pub asks_parent : (t : HandlerTable) (k : ℕ) (e : Entry) (c : Context) (b : _)
 asks_parent t k e c b s p f h = (
   parent_below t k c s p,
   choice_at t k e (own_handlers t k ∷ scopes t c.parent) (scopes_block t k c b s p f)
-  ∙ ap (λ o. number_of (or_else o (chosen (handler_rank e) (scopes t c.parent)))) (nothing (chosen_in (handler_rank e) (own_handlers t k)) h),
+      ∙ ap (λ o. number_of (or_else o (chosen (handler_rank e) (scopes t c.parent)))) (nothing (chosen_in (handler_rank e) (own_handlers t k)) h),
 )
 
 pub asks_outside : (t : HandlerTable) (k : ℕ) (e : Entry) (c : Context) (handler : ℕ) → is_sound t ≡ true → context_at t k ≡ Some c → c.kind ≡ Action handler

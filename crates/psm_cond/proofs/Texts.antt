@@ -1,5 +1,5 @@
 -- What the texts of strings are.
-use Rattle.std.proofs.Common.{◌≡◌, ℕ, List, Result, Ok, Err, arith}
+use Rattle.std.proofs.Common.{◌≡◌, ℕ, List, Ok, arith}
 use Rattle.std.specs.Str.{IsAscii, chars}
 use Rattle.std.proofs.lemmas.Str.{chars-IsAscii}
 use Rattle.psm_text.specs.Text.{made}

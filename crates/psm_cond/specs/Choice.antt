@@ -1,5 +1,6 @@
 -- The choice of a handler (ISO/IEC 9075-4:1996).
-use Rattle.std.specs.Prelude.{ℕ, zero, suc, nat_eq, nat_lt, nat_le, max, Bool, true, false, ◌&&◌, Option, Some, None, List, [], ◌∷◌, if◌then◌else◌}
+use Rattle.std.specs.Prelude.{◌≡◌, ◌<◌, ◌≤◌, ℕ, nat_eq, nat_lt, nat_le, max, Bool, true, false, ◌&&◌, Option, Some, None, List, [], ◌∷◌, if◌then◌else◌}
+use Rattle.std.specs.List.{All, Contains}
 use Rattle.std.specs.Cmp.Lexicographic.{pointwise}
 use Rattle.psm_list.specs.Several.{Several}
 use Rattle.psm_sqlstate.specs.declared.kind.Kind.{Kind}
@@ -73,3 +74,13 @@ or_else (Some h) other = Some h
 abbrev pub chosen : {A : Type 0} → (A → ℕ) → List (List A) → Option A
 chosen rank [] = None
 chosen rank (scope ∷ outer) = or_else (chosen_in rank scope) (chosen rank outer)
+
+-- a handler of a scope that matches, and than which no other of the scope is more specific
+pub record IsMostSpecific {A : Type 0} (rank : A → ℕ) (scope : List A) (h : A) : Type 0 where
+  pub there : Contains scope h
+  pub matches : 0 < rank h
+  pub most : All (λ other. rank other ≤ rank h) scope
+
+-- no handler of a scope matches
+abbrev pub HasNoMatch : {A : Type 0} → (A → ℕ) → List A → Type 0
+HasNoMatch rank scope = All (λ h. rank h ≡ 0) scope

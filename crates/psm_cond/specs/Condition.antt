@@ -22,7 +22,7 @@ abbrev pub behind : Entry → Entries → Entries
 behind e c = record {
   first = e;
   others = take (most_entries - 1) (c.first ∷ c.others);
-  more = c.more || nat_lt most_entries (length (e ∷ c.first ∷ c.others))
+  more = c.more || nat_lt most_entries (length (e ∷ c.first ∷ c.others));
 }
 
 -- each entry counts by its SQLSTATE alone

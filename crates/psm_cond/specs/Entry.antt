@@ -1,5 +1,5 @@
 -- The entries of a condition (ISO/IEC 9075:1992, 18.1).
-use Rattle.std.specs.Prelude.{ℕ, List, [], Option, None, encode_utf8_all}
+use Rattle.std.specs.Prelude.{ℕ, List, [], None, encode_utf8_all}
 use Rattle.std.specs.Str.{chars}
 use Rattle.psm_sqlstate.specs.Message.{message_of}
 use Rattle.psm_cond.specs.declared.entry.Entry.{Entry}

@@ -1,5 +1,5 @@
 -- What GET DIAGNOSTICS reads (ISO/IEC 9075:1992, 18.1).
-use Rattle.std.specs.Prelude.{◌≡◌, ℕ, suc, pos, ◌≤◌, ⊤, Bool, Option, Some, List, ◌∷◌, length, codes, slice_get, Result, Ok, Err, if◌then◌else◌}
+use Rattle.std.specs.Prelude.{◌≡◌, ℕ, suc, pos, ◌≤◌, ⊤, Bool, Some, List, ◌∷◌, length, codes, slice_get, Result, Ok, Err, if◌then◌else◌}
 use Rattle.std.specs.declared.cmp.Ordering.TheVariants.{Equal}
 use Rattle.psm_value.specs.declared.datum.Datum.{Datum}
 use Rattle.psm_value.specs.declared.datum.Datum.TheVariants.{Num, Text}

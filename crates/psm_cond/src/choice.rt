@@ -11,8 +11,8 @@ use psm_list::OneOrMore;
 use psm_sqlstate::Kind;
 
 /// What a context answers to a condition.
-#[derive(Clone, Copy, Debug, PartialEq, Eq)]
-pub(crate) enum Asked {
+#[derive(Clone, Copy)]
+enum Asked {
     /// The number of its own handler.
     Chosen(u32),
     /// The context that is asked next.
@@ -83,7 +83,7 @@ fn chosen_in(table: &HandlerTable, context: u32, entry: &Entry) -> Option<u32>
 }
 
 /// The best handler so far, and its rank.
-#[derive(Clone, Copy, Debug)]
+#[derive(Clone, Copy)]
 struct Best {
     rank: u8,
     number: Option<u32>,

@@ -9,6 +9,7 @@ mod entry;
 mod fault;
 mod handlers;
 mod item;
+mod laws;
 mod sound;
 
 pub use area::Area;
@@ -20,3 +21,4 @@ pub use handlers::{
     Block, ConditionValue, Context, ContextKind, Declared, Handler, HandlerKind, HandlerTable,
 };
 pub use item::{ConditionItem, StatementItem};
+pub use laws::{choice_is_innermost, choice_is_most_specific, scopes_go_outward};

@@ -94,8 +94,7 @@ fn are_sound_handlers(table: &HandlerTable) -> bool
 fn is_sound_handler(table: &HandlerTable, handler: &Handler) -> bool
     ensures { result ≡ is_sound_handler table.now handler.now }
 {
-    handler.context as usize <= table.contexts.items().len()
-        && are_declared(table, &handler.values)
+    handler.context as usize <= table.contexts.items().len() && are_declared(table, &handler.values)
 }
 
 fn are_declared(table: &HandlerTable, values: &OneOrMore<ConditionValue>) -> bool

@@ -10,6 +10,6 @@ pub loop-number-preserved : goal.loop-number-preserved
 loop-number-preserved c =
     let place = c.loop-number in
     going_on c.args.entry.now c.args.context place.number place.best.rank c.better-best.result.rank place.best.number c.better-best.result.number
-        c.args.table.now.handlers c.handler-item.result c.rank_in.result (grind arith) (grind arith) c.rank_in.ensures
-        c.better-best.ensures.rank c.better-best.ensures.number
+    c.args.table.now.handlers c.handler-item.result c.rank_in.result (grind arith) (grind arith) c.rank_in.ensures
+    c.better-best.ensures.rank c.better-best.ensures.number
     ∙ place.invariant

@@ -7,5 +7,5 @@ pub loop-entry-preserved : goal.loop-entry-preserved
 loop-entry-preserved c =
     let place = c.loop-entry in
     map_over_more without_own c.deref_mut-entry-items.result.now place.entry-items place.entry-index
-        (get_or place.entry-items place.entry-index c.entry-item.result) c.loop-entry-test.true place.invariant
-        (ap (λ d. get_or place.entry-items place.entry-index d) c.entry-item.is)
+    (get_or place.entry-items place.entry-index c.entry-item.result) c.loop-entry-test.true place.invariant
+    (ap (λ d. get_or place.entry-items place.entry-index d) c.entry-item.is)

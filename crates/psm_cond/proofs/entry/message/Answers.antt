@@ -1,4 +1,4 @@
-use Rattle.std.proofs.Common.{List, ℕ, sym, subst}
+use Rattle.std.proofs.Common.{sym, subst}
 use Rattle.std.specs.Str.{IsAscii}
 use Rattle.psm_cond.proofs.Messages.{message_ascii}
 use Rattle.psm_cond.proofs.entry.message.Goals as goal
