@@ -1,0 +1,7 @@
+pub mod Choices
+pub mod Fronts
+pub mod MostSpecific
+pub mod Messages
+pub mod Numbers
+pub mod Sounds
+pub mod Texts
