@@ -1,0 +1,4 @@
+use Rattle.psm_table.proofs.table.Table.copy.Goals as goal
+
+pub invariant_of-result : goal.invariant_of-result
+invariant_of-result c = ?
