@@ -76,10 +76,10 @@ module _ (def : TableDef) (row : List Datum) where
   entered-next i sets columns here long at later k d e from l = elim (cases_lt i k) [
     | inl above ↦ later k d e (omega arith) l
     | inr to ↦
-      let same : k ≡ i = omega arith in
-      let list : get_or def.unique k d ≡ columns = ap (λ j. get_or def.unique j d) same ∙ get_or_default def.unique i d columns long ∙ sym at in
-      let set_at : get_or (entries_of sets) k e ≡ get_or (entries_of sets) i [] = ap (λ j. get_or (entries_of sets) j e) same ∙ get_or_default (entries_of sets) i e [] (omega (arith, l, same)) in
-      subst (λ c. HasEntry def row c (get_or (entries_of sets) k e)) (sym list) (subst (λ s. HasEntry def row columns s) (sym set_at) here)
+        let same : k ≡ i = omega arith in
+        let list : get_or def.unique k d ≡ columns = ap (λ j. get_or def.unique j d) same ∙ get_or_default def.unique i d columns long ∙ sym at in
+        let set_at : get_or (entries_of sets) k e ≡ get_or (entries_of sets) i [] = ap (λ j. get_or (entries_of sets) j e) same ∙ get_or_default (entries_of sets) i e [] (omega (arith, l, same)) in
+        subst (λ c. HasEntry def row c (get_or (entries_of sets) k e)) (sym list) (subst (λ s. HasEntry def row columns s) (sym set_at) here)
   ]
 
 -- what holds at each place of two lists
@@ -125,7 +125,7 @@ module _ (def : TableDef) (row : List Datum) (i : ℕ) (columns : List ℕ) (lon
       → Grow (entries_of old) (entries_of new) → IsEnteredFrom (i + 1) def (entries_of new) row → IsEnteredFrom i def (entries_of new) row
   entered-there old new m e l same has grow later =
       let here : has_key (get_or (entries_of old) i []) (entry_of def columns row) ≡ true =
-          ap (λ (s : List (List Datum)). has_key s (entry_of def columns row)) (get-entries old i m [] l ∙ ap (λ (x : Mapped (Unit {0})). keys_of x.pairs) (sym e)) ∙ has in
+      ap (λ (s : List (List Datum)). has_key s (entry_of def columns row)) (get-entries old i m [] l ∙ ap (λ (x : Mapped (Unit {0})). keys_of x.pairs) (sym e)) ∙ has in
       entered-next def row i new columns (λ f. grow i [] [] (entry_of def columns row) (omega (arith, l, length-entries old)) here) long at later
 
   -- first is the set at place i once it has memory, between the sets after those that follow, and last the set with the entry
@@ -150,30 +150,30 @@ module _ (def : TableDef) (row : List Datum) (i : ℕ) (columns : List ℕ) (lon
       pub grow_put : Grow (entries_of (set old i first)) (entries_of between) → Grow (entries_of old) (entries_of (set between i last))
       grow_put grow k d e key l h = elim (cases_eq k i) [
         | inl is ↦
-          let at_i : has_key (keys_of first.pairs) key ≡ true =
-              ap (λ (s : List (List Datum)). has_key s key) (sym (ap (λ (ps : List (Pair (Unit {0}))). keys_of ps) (ap (λ (m : Mapped (Unit {0})). m.pairs) (get-set old i first first inside))) ∙ sym (get-entries (set old i first) i first d (omega (arith, inside, length-set old i first)))
-                  ∙ ap (λ (s : List (List (List Datum))). get_or s i d) reserved ∙ ap (λ j. get_or (entries_of old) j d) (sym is)) ∙ h in
-          let grown : has_key (keys_of last.pairs) key ≡ true =
-              ap (λ (ps : List (Pair (Unit {0}))). has_key (keys_of ps) key) put ∙ has-grown (record { key = entry_of def columns row; value = value }) key first.pairs at_i in
-          ap (λ (s : List (List Datum)). has_key s key) (ap (λ j. get_or (entries_of (set between i last)) j e) is ∙ get-entries (set between i last) i last e (omega (arith, between-inside, length-set between i last)) ∙ ap (λ (m : Mapped (Unit {0})). keys_of m.pairs) (get-set between i last last between-inside)) ∙ grown
+            let at_i : has_key (keys_of first.pairs) key ≡ true =
+            ap (λ (s : List (List Datum)). has_key s key) (sym (ap (λ (ps : List (Pair (Unit {0}))). keys_of ps) (ap (λ (m : Mapped (Unit {0})). m.pairs) (get-set old i first first inside))) ∙ sym (get-entries (set old i first) i first d (omega (arith, inside, length-set old i first)))
+            ∙ ap (λ (s : List (List (List Datum))). get_or s i d) reserved ∙ ap (λ j. get_or (entries_of old) j d) (sym is)) ∙ h in
+            let grown : has_key (keys_of last.pairs) key ≡ true =
+            ap (λ (ps : List (Pair (Unit {0}))). has_key (keys_of ps) key) put ∙ has-grown (record { key = entry_of def columns row; value = value }) key first.pairs at_i in
+            ap (λ (s : List (List Datum)). has_key s key) (ap (λ j. get_or (entries_of (set between i last)) j e) is ∙ get-entries (set between i last) i last e (omega (arith, between-inside, length-set between i last)) ∙ ap (λ (m : Mapped (Unit {0})). keys_of m.pairs) (get-set between i last last between-inside)) ∙ grown
         | inr other ↦
-          let inside_k : k < length between = omega (arith, l, length-entries old, same, length-set old i first) in
-          ap (λ (s : List (List Datum)). has_key s key) (get-entries (set between i last) k last e (omega (arith, inside_k, length-set between i last)) ∙ ap (λ (m : Mapped (Unit {0})). keys_of m.pairs) (get-set_other between i k last last (λ f. other (sym f))) ∙ sym (get-entries between k last e inside_k))
-          ∙ grow k d e key (omega (arith, l, ap length reserved)) (ap (λ (s : List (List (List Datum))). has_key (get_or s k d) key) reserved ∙ h)
+            let inside_k : k < length between = omega (arith, l, length-entries old, same, length-set old i first) in
+            ap (λ (s : List (List Datum)). has_key s key) (get-entries (set between i last) k last e (omega (arith, inside_k, length-set between i last)) ∙ ap (λ (m : Mapped (Unit {0})). keys_of m.pairs) (get-set_other between i k last last (λ f. other (sym f))) ∙ sym (get-entries between k last e inside_k))
+            ∙ grow k d e key (omega (arith, l, ap length reserved)) (ap (λ (s : List (List (List Datum))). has_key (get_or s k d) key) reserved ∙ h)
       ]
 
       pub entered_put : IsEnteredFrom (i + 1) def (entries_of between) row → IsEnteredFrom i def (entries_of (set between i last)) row
       entered_put later =
           let at_i : get_or (entries_of (set between i last)) i [] ≡ keys_of last.pairs =
-              get-entries (set between i last) i last [] (omega (arith, between-inside, length-set between i last)) ∙ ap (λ (m : Mapped (Unit {0})). keys_of m.pairs) (get-set between i last last between-inside) in
+          get-entries (set between i last) i last [] (omega (arith, between-inside, length-set between i last)) ∙ ap (λ (m : Mapped (Unit {0})). keys_of m.pairs) (get-set between i last last between-inside) in
           let has : has_key (keys_of last.pairs) (entry_of def columns row) ≡ true =
-              ap (λ (ps : List (Pair (Unit {0}))). has_key (keys_of ps) (entry_of def columns row)) put ∙ has-new (record { key = entry_of def columns row; value = value }) first.pairs in
+          ap (λ (ps : List (Pair (Unit {0}))). has_key (keys_of ps) (entry_of def columns row)) put ∙ has-new (record { key = entry_of def columns row; value = value }) first.pairs in
           entered-next def row i (set between i last) columns (λ f. ap (λ (s : List (List Datum)). has_key s (entry_of def columns row)) at_i ∙ has) long at
           (λ k d e from l.
-              let inside_k : k < length between = omega (arith, l, length-entries (set between i last), length-set between i last) in
-              subst (λ (s : List (List Datum)). HasEntry def row (get_or def.unique k d) s)
-              (sym (get-entries (set between i last) k last e (omega (arith, inside_k, length-set between i last)) ∙ ap (λ (m : Mapped (Unit {0})). keys_of m.pairs) (get-set_other between i k last last (λ f. absurd (omega (arith, f, from)))) ∙ sym (get-entries between k last e inside_k)))
-              (later k d e from (omega (arith, inside_k, length-entries between))))
+          let inside_k : k < length between = omega (arith, l, length-entries (set between i last), length-set between i last) in
+          subst (λ (s : List (List Datum)). HasEntry def row (get_or def.unique k d) s)
+          (sym (get-entries (set between i last) k last e (omega (arith, inside_k, length-set between i last)) ∙ ap (λ (m : Mapped (Unit {0})). keys_of m.pairs) (get-set_other between i k last last (λ f. absurd (omega (arith, f, from)))) ∙ sym (get-entries between k last e inside_k)))
+          (later k d e from (omega (arith, inside_k, length-entries between))))
 
 pub on_ok : {E : Type 0} (r : Result (Unit {0}) E) (P Q : Type 0) → (P → Q) → OnOk r P → OnOk r Q
 on_ok (Ok u) P Q f p = f p

@@ -159,7 +159,7 @@ module _ (def : TableDef) (rows : Slots) (live : ℕ) (sets : Sets) (h : IsHeld 
     pub held-over : (was : List Datum) → row_of (values_at def.key row) rows.pairs ≡ Some was → IsHeld def new live more
     held-over was s =
         let same : length (live_rows new.pairs) ≡ length (live_rows rows.pairs) =
-            ap (λ ps. length (live_rows ps)) e ∙ length-over (values_at def.key row) rows.pairs row was up (some_row (value_of (values_at def.key row) rows.pairs) was s) in
+        ap (λ ps. length (live_rows ps)) e ∙ length-over (values_at def.key row) rows.pairs row was up (some_row (value_of (values_at def.key row) rows.pairs) was s) in
         held-put def rows live sets h row new live more fits rows_put keyed_put (h.count ∙ sym same) (omega (arith, same, h.table.bound)) long grow entered order
 
     pub kept-over : (was : List Datum) → row_of (values_at def.key row) rows.pairs ≡ Some was → KeepsRow (state_of def new more) was

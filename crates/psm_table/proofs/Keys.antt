@@ -51,7 +51,7 @@ pub has-new : {V : Type 0} (p : Pair V) (pairs : List (Pair V)) → has_key (key
 has-new p pairs =
     has-append (pairs_below p.key pairs) (p ∷ pairs_above p.key pairs) p.key
     ∙ or_right (has_key (keys_of (pairs_below p.key pairs)) p.key) (is_eq (key_order p.key p.key) || has_key (keys_of (pairs_above p.key pairs)) p.key)
-      (ap (λ o. is_eq o || has_key (keys_of (pairs_above p.key pairs)) p.key) (key_order-refl p.key))
+    (ap (λ o. is_eq o || has_key (keys_of (pairs_above p.key pairs)) p.key) (key_order-refl p.key))
 
 same-key : (a b k : List Datum) → key_order a b ≡ Equal → is_eq (key_order a k) ≡ true → is_eq (key_order b k) ≡ true
 same-key a b k e f = ap is_eq (sym (key_order-total.congr a b k e)) ∙ f

@@ -91,7 +91,7 @@ module _ (columns : List ℕ) (key : List Datum) where
   find-step p ps Greater up h e t = t ∙ sym (find-first p p.value (live_rows ps) Greater (All-head (HasItsKey columns) p ps h) e refl)
   find-step p ps Equal up h e t =
       the_value p.value ∙ sym (find-equal p p.value (live_rows ps) (All-head (HasItsKey columns) p ps h) e
-          (rows-find_none ps (All-tail (HasItsKey columns) p ps h) (after_equal key p ps up e)))
+      (rows-find_none ps (All-tail (HasItsKey columns) p ps h) (after_equal key p ps up e)))
 
   -- the row of a key is the one that has it
   pub rows-find : (pairs : List Slot) → AreAscending pairs → All (HasItsKey columns) pairs → row_of key pairs ≡ row_with columns key (live_rows pairs)
@@ -177,7 +177,7 @@ module _ (columns : List ℕ) (key : List Datum) where
   live-with_value v (p ∷ ps) up h s =
       ap (λ o. cons_option o (live_rows (with_value key v ps))) (value-exchanged v p (is_eq (key_order p.key key)))
       ∙ exchange-step v p ps (key_order p.key key) up h refl
-          (live-with_value v ps (AllPairs-rest Rises p ps up) (All-tail (HasItsKey columns) p ps h)) s
+      (live-with_value v ps (AllPairs-rest Rises p ps up) (All-tail (HasItsKey columns) p ps h)) s
 
   -- without a row at the key
   pub live-hidden : (pairs : List Slot) → AreAscending pairs → All (HasItsKey columns) pairs → live_rows (with_value key None pairs) ≡ without columns key (live_rows pairs)
@@ -221,7 +221,7 @@ keyed-with_pair columns row pairs h =
     All-append (HasItsKey columns) (pairs_below key pairs) (record { key = key; value = Some row } ∷ pairs_above key pairs)
     (All-filter (λ (q : Slot). is_lt (key_order q.key key)) (HasItsKey columns) pairs h)
     (All-cons (HasItsKey columns) (record { key = key; value = Some row }) (pairs_above key pairs) (key_order-refl key)
-        (All-filter (λ (q : Slot). is_gt (key_order q.key key)) (HasItsKey columns) pairs h))
+    (All-filter (λ (q : Slot). is_gt (key_order q.key key)) (HasItsKey columns) pairs h))
 
 -- a walk past a key without a row, and to a row
 pub flagged-ahead : (pairs : List Slot) (p : Slot) → p.value ≡ None → live_rows (ahead pairs (Some p)) ≡ live_rows (pairs_above p.key pairs)

@@ -99,7 +99,7 @@ module _ {V : Type 0} where
   ascending-keys a b e up i j d l m =
       let long : length a ≡ length b = sym (length-map a (λ (p : Pair V). p.key)) ∙ ap length e ∙ length-map b (λ (p : Pair V). p.key) in
       let at : (k : ℕ) → k < length b → (get_or a k d).key ≡ (get_or b k d).key = λ k n.
-          sym (get_or-map (λ (p : Pair V). p.key) a k d d.key (omega (arith, n, long))) ∙ ap (λ ks. get_or ks k d.key) e ∙ get_or-map (λ (p : Pair V). p.key) b k d d.key n in
+      sym (get_or-map (λ (p : Pair V). p.key) a k d d.key (omega (arith, n, long))) ∙ ap (λ ks. get_or ks k d.key) e ∙ get_or-map (λ (p : Pair V). p.key) b k d d.key n in
       sym (ap (λ k. key_order k (get_or b j d).key) (at i (omega (arith, l, m))))
       ∙ sym (ap (λ k. key_order (get_or a i d).key k) (at j m))
       ∙ up i j d l (omega (arith, m, long))
@@ -122,4 +122,4 @@ module _ {V : Type 0} where
       AllPairs-append Rises low (p ∷ high) (AllPairs-filter Rises (λ (q : Pair V). is_lt (key_order q.key p.key)) pairs up)
       (AllPairs-cons Rises p high (above p.key pairs) (AllPairs-filter Rises (λ (q : Pair V). is_gt (key_order q.key p.key)) pairs up))
       (λ k d l. All-cons (Rises (get_or low k d)) p high (below p.key pairs k d l)
-          (λ k' d' l'. key_order-total.trans (get_or low k d).key p.key (get_or high k' d').key (below p.key pairs k d l) (above p.key pairs k' d' l')))
+      (λ k' d' l'. key_order-total.trans (get_or low k d).key p.key (get_or high k' d').key (below p.key pairs k d l) (above p.key pairs k' d' l')))

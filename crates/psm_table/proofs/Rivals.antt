@@ -73,7 +73,7 @@ row_with-at columns key [] i d up l e = absurd (omega arith)
 row_with-at columns key (x ∷ xs) zero d up l e = rw e refl
 row_with-at columns key (x ∷ xs) (suc i) d up l e =
     let less : row_order columns key x ≡ Less =
-        less_before_equal (values_at columns x) (values_at columns (get_or xs i d)) key (up 0 (suc i) d (omega arith) l) e in
+    less_before_equal (values_at columns x) (values_at columns (get_or xs i d)) key (up 0 (suc i) d (omega arith) l) e in
     let rest : IsAscending columns xs = λ j k f m n. up (suc j) (suc k) f (omega arith) (omega arith) in
     let t = row_with-at columns key xs i d rest (omega arith) e in
     rw less t
@@ -170,10 +170,10 @@ module _ (def : TableDef) (row : Row) where
     harmless-end entries p n e =
         let g : prefix_order (values_at columns row) p.key ≡ Greater = greater_or (prefix_order (values_at columns row) p.key) n e in
         let later : All (λ q. Rises p q) (pairs_above p.key entries) = filtered (λ (q : Entry). is_gt (key_order q.key p.key)) (λ q. Rises p q)
-            (λ q f. turned_less q.key p.key (greater_is (key_order q.key p.key) f)) entries in
+        (λ q f. turned_less q.key p.key (greater_is (key_order q.key p.key) f)) entries in
         All-cons Harmless p (pairs_above p.key entries) (vacuous p g)
         (λ k d l. vacuous (get_or (pairs_above p.key entries) k d)
-            (prefix-greater (values_at columns row) p.key (get_or (pairs_above p.key entries) k d).key (later k d l) g))
+        (prefix-greater (values_at columns row) p.key (get_or (pairs_above p.key entries) k d).key (later k d l) g))
 
     -- a walk has come so far: the entries before are harmless if those from here on are
     pub record Walked (entries : List Entry) (next : Option Entry) : Type 0 where
@@ -186,7 +186,7 @@ module _ (def : TableDef) (row : Row) where
     pub walked-start : (entries : List Entry) (next : Option Entry) → AreAscending entries → next ≡ slice_get (pairs_from (values_at columns row) entries) 0 → Walked entries next
     walked-start entries next up e =
         let same : ahead entries next ≡ pairs_from (values_at columns row) entries =
-            ap (ahead entries) e ∙ ahead-filter (λ (p : Entry). not (is_lt (prefix_order (values_at columns row) p.key))) entries (up-from (values_at columns row)) up in
+        ap (ahead entries) e ∙ ahead-filter (λ (p : Entry). not (is_lt (prefix_order (values_at columns row) p.key))) entries (up-from (values_at columns row)) up in
         record {
           rest = λ a. harmless-from entries (subst (All Harmless) same a);
           high = subst (All High) (sym same) (filtered (λ (p : Entry). not (is_lt (prefix_order (values_at columns row) p.key))) High (λ p f. f) entries);
@@ -237,7 +237,7 @@ module _ (def : TableDef) (row : Row) where
         let back = leads_back columns (p.0).key p.1 in
         let same : length (values_at columns row) ≡ length columns = length-values_at columns row in
         let prefix : prefix_order (values_at columns row) (p.0).key ≡ Equal =
-            subst (λ n. key_order (take n (p.0).key) (values_at columns row) ≡ Equal) (sym same) (equal_trans (take (length columns) (p.0).key) (values_at columns it) (values_at columns row) back.0 t.2) in
+        subst (λ n. key_order (take n (p.0).key) (values_at columns row) ≡ Equal) (sym same) (equal_trans (take (length columns) (p.0).key) (values_at columns it) (values_at columns row) back.0 t.2) in
         ap (rival_at def row) (sym back.1) ∙ p.2 (ap is_eq prefix)
 
     rival_none : (b : Bool) → is_rival def row it ≡ b → (conflict def it row ≡ true → is_rival def row it ≡ false) → is_rival def row it ≡ false
@@ -255,13 +255,13 @@ module _ (def : TableDef) (row : Row) where
         let long : length def.unique ≡ length (entries_of sets) = length_all_zip (HasEntry def it) def.unique (entries_of sets) has in
         let inside : any.0 < length sets = omega (arith, any.2, long, length-entries sets) in
         let here : HasEntry def it columns (keys_of (get_or sets any.0 empty).pairs) =
-            subst (λ c. HasEntry def it c (keys_of (get_or sets any.0 empty).pairs)) any.3
-            (subst (λ es. HasEntry def it (get_or def.unique any.0 columns) es) (get-entries sets any.0 empty [] inside)
-                (all_zip-at (HasEntry def it) def.unique (entries_of sets) any.0 columns [] has (omega (arith, inside, length-entries sets)))) in
+        subst (λ c. HasEntry def it c (keys_of (get_or sets any.0 empty).pairs)) any.3
+        (subst (λ es. HasEntry def it (get_or def.unique any.0 columns) es) (get-entries sets any.0 empty [] inside)
+        (all_zip-at (HasEntry def it) def.unique (entries_of sets) any.0 columns [] has (omega (arith, inside, length-entries sets)))) in
         let parts = agree-parts it row columns any.4 in
         let null : has_null (values_at (get_or def.unique any.0 columns) row) ≡ false = ap (λ c. has_null (values_at c row)) any.3 ∙ parts.1 in
         let fine : All (Harmless columns pairs) (get_or sets any.0 empty).pairs =
-            subst (λ c. All (Harmless c pairs) (get_or sets any.0 empty).pairs) any.3 (harmless any.0 columns empty inside null) in
+        subst (λ c. All (Harmless c pairs) (get_or sets any.0 empty).pairs) any.3 (harmless any.0 columns empty inside null) in
         no_rival_in columns (get_or sets any.0 empty).pairs here fine any.4)
 
     -- its entry is kept where those go that are of no row
@@ -284,19 +284,19 @@ module _ (def : TableDef) (row : Row) where
         let long : length def.unique ≡ length (entries_of sets) = length_all_zip (HasEntry def it) def.unique (entries_of sets) h in
         all_zip-from (HasEntry def it) def.unique (entries_of (set sets n new)) (omega (arith, long, length-entries sets, length-entries (set sets n new), length-set sets n new))
         (λ k d x l.
-            let within : k < length sets = omega (arith, l, length-entries (set sets n new), length-set sets n new) in
-            let before = all_zip-at (HasEntry def it) def.unique (entries_of sets) k d x h (omega (arith, within, length-entries sets)) in
-            elim (cases_eq k n) [
-              | inl is ↦
-                let same : get_or def.unique k d ≡ columns = ap (λ j. get_or def.unique j d) is ∙ get_or_default def.unique n d columns (omega (arith, inside, long, length-entries sets)) ∙ sym list in
-                let old : get_or (entries_of sets) k x ≡ keys_of m.pairs = ap (λ j. get_or (entries_of sets) j x) is ∙ get-entries sets n m x inside ∙ ap (λ (y : Mapped (Unit {0})). keys_of y.pairs) (sym at) in
-                let now : get_or (entries_of (set sets n new)) k x ≡ keys_of new.pairs =
-                    ap (λ j. get_or (entries_of (set sets n new)) j x) is ∙ get-entries (set sets n new) n m x (omega (arith, inside, length-set sets n new)) ∙ ap (λ (y : Mapped (Unit {0})). keys_of y.pairs) (get-set sets n new m inside) in
-                let here : HasEntry def it columns (keys_of m.pairs) = subst (λ c. HasEntry def it c (keys_of m.pairs)) same (subst (λ es. HasEntry def it (get_or def.unique k d) es) old before) in
-                let kept : HasEntry def it columns (keys_of new.pairs) = subst (λ (ps : List Entry). HasEntry def it columns (keys_of ps)) (sym e) (survives columns m.pairs here) in
-                subst (λ es. HasEntry def it (get_or def.unique k d) es) (sym now) (subst (λ c. HasEntry def it c (keys_of new.pairs)) (sym same) kept)
-              | inr other ↦
-                let unmoved : get_or (entries_of (set sets n new)) k x ≡ get_or (entries_of sets) k x =
-                    get-entries (set sets n new) k m x (omega (arith, within, length-set sets n new)) ∙ ap (λ (y : Mapped (Unit {0})). keys_of y.pairs) (get-set_other sets n k new m (λ f. other (sym f))) ∙ sym (get-entries sets k m x within) in
-                subst (λ es. HasEntry def it (get_or def.unique k d) es) (sym unmoved) before
-            ])
+        let within : k < length sets = omega (arith, l, length-entries (set sets n new), length-set sets n new) in
+        let before = all_zip-at (HasEntry def it) def.unique (entries_of sets) k d x h (omega (arith, within, length-entries sets)) in
+        elim (cases_eq k n) [
+          | inl is ↦
+              let same : get_or def.unique k d ≡ columns = ap (λ j. get_or def.unique j d) is ∙ get_or_default def.unique n d columns (omega (arith, inside, long, length-entries sets)) ∙ sym list in
+              let old : get_or (entries_of sets) k x ≡ keys_of m.pairs = ap (λ j. get_or (entries_of sets) j x) is ∙ get-entries sets n m x inside ∙ ap (λ (y : Mapped (Unit {0})). keys_of y.pairs) (sym at) in
+              let now : get_or (entries_of (set sets n new)) k x ≡ keys_of new.pairs =
+              ap (λ j. get_or (entries_of (set sets n new)) j x) is ∙ get-entries (set sets n new) n m x (omega (arith, inside, length-set sets n new)) ∙ ap (λ (y : Mapped (Unit {0})). keys_of y.pairs) (get-set sets n new m inside) in
+              let here : HasEntry def it columns (keys_of m.pairs) = subst (λ c. HasEntry def it c (keys_of m.pairs)) same (subst (λ es. HasEntry def it (get_or def.unique k d) es) old before) in
+              let kept : HasEntry def it columns (keys_of new.pairs) = subst (λ (ps : List Entry). HasEntry def it columns (keys_of ps)) (sym e) (survives columns m.pairs here) in
+              subst (λ es. HasEntry def it (get_or def.unique k d) es) (sym now) (subst (λ c. HasEntry def it c (keys_of new.pairs)) (sym same) kept)
+          | inr other ↦
+              let unmoved : get_or (entries_of (set sets n new)) k x ≡ get_or (entries_of sets) k x =
+              get-entries (set sets n new) k m x (omega (arith, within, length-set sets n new)) ∙ ap (λ (y : Mapped (Unit {0})). keys_of y.pairs) (get-set_other sets n k new m (λ f. other (sym f))) ∙ sym (get-entries sets k m x within) in
+              subst (λ es. HasEntry def it (get_or def.unique k d) es) (sym unmoved) before
+        ])

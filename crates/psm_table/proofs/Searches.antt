@@ -73,8 +73,8 @@ module _ {V : Type 0} (key : List Datum) (pairs : List (Pair V)) (up : AreAscend
   is_at m x l e r =
       let here : order_at (get_or pairs m x) ≡ Equal = sym (read m x x l e) ∙ r in
       let t = at_place order_at pairs m x l
-          (λ k d b. less_before_equal (get_or pairs k d).key (get_or pairs m d).key key (up k m d b l) (sym (read m x d l e) ∙ r)) here
-          (λ k d b n. greater_after_equal (get_or pairs m d).key (get_or pairs k d).key key (up m k d b n) (sym (read m x d l e) ∙ r)) in
+      (λ k d b. less_before_equal (get_or pairs k d).key (get_or pairs m d).key key (up k m d b l) (sym (read m x d l e) ∙ r)) here
+      (λ k d b n. greater_after_equal (get_or pairs m d).key (get_or pairs k d).key key (up m k d b n) (sym (read m x d l e) ∙ r)) in
       record { inside = l; has = t.0; before = t.1; after = rw add-one t.2 }
 
   -- nothing is left between low and high

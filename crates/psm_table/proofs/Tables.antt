@@ -244,12 +244,12 @@ module _ (def : TableDef) (rows : Slots) (live : ℕ) (sets : Sets) (h : IsHeld 
     entered =
         let key = values_at def.key row in
         let old : AreEntered def (live_rows rows.pairs) (entries_of more) = λ k d l.
-            entered-grow def (get_or (live_rows rows.pairs) k d) (entries_of sets) (entries_of more) (omega (arith, long, length-entries sets, length-entries more)) grow (h.entered k d l) in
+        entered-grow def (get_or (live_rows rows.pairs) k d) (entries_of sets) (entries_of more) (omega (arith, long, length-entries sets, length-entries more)) grow (h.entered k d l) in
         subst (λ r. AreEntered def r (entries_of more)) (sym e)
         (All-append (IsEntered def (entries_of more)) (rows_below def.key key (live_rows rows.pairs)) (row ∷ rows_above def.key key (live_rows rows.pairs))
-            (All-filter (λ r. is_lt (row_order def.key key r)) (IsEntered def (entries_of more)) (live_rows rows.pairs) old)
-            (All-cons (IsEntered def (entries_of more)) row (rows_above def.key key (live_rows rows.pairs)) entered
-                (All-filter (λ r. is_gt (row_order def.key key r)) (IsEntered def (entries_of more)) (live_rows rows.pairs) old)));
+        (All-filter (λ r. is_lt (row_order def.key key r)) (IsEntered def (entries_of more)) (live_rows rows.pairs) old)
+        (All-cons (IsEntered def (entries_of more)) row (rows_above def.key key (live_rows rows.pairs)) entered
+        (All-filter (λ r. is_gt (row_order def.key key r)) (IsEntered def (entries_of more)) (live_rows rows.pairs) old)));
   }
 
   -- a table with the row of a key taken out
@@ -264,8 +264,8 @@ module _ (def : TableDef) (rows : Slots) (live : ℕ) (sets : Sets) (h : IsHeld 
     lists = h.lists;
     entered = subst (λ r. AreEntered def r (entries_of sets)) (sym e)
         (All-append (IsEntered def (entries_of sets)) (rows_below def.key key (live_rows rows.pairs)) (rows_above def.key key (live_rows rows.pairs))
-            (All-filter (λ r. is_lt (row_order def.key key r)) (IsEntered def (entries_of sets)) (live_rows rows.pairs) h.entered)
-            (All-filter (λ r. is_gt (row_order def.key key r)) (IsEntered def (entries_of sets)) (live_rows rows.pairs) h.entered));
+        (All-filter (λ r. is_lt (row_order def.key key r)) (IsEntered def (entries_of sets)) (live_rows rows.pairs) h.entered)
+        (All-filter (λ r. is_gt (row_order def.key key r)) (IsEntered def (entries_of sets)) (live_rows rows.pairs) h.entered));
   }
 
   -- the row that a key has

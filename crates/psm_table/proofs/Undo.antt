@@ -97,9 +97,9 @@ module _ (columns : List ℕ) where
       below-again =
           filter-append (λ r. is_lt (row_order columns key r)) (rows_below columns key rows) (mid ++ rows_above columns key rows)
           ∙ ap (λ l. rows_below columns key (rows_below columns key rows) ++ l)
-            (filter-append (λ r. is_lt (row_order columns key r)) mid (rows_above columns key rows)
-            ∙ ap (λ l. l ++ rows_below columns key (rows_above columns key rows)) (filter-empty (λ r. is_lt (row_order columns key r)) mid (λ k d l. ap is_lt (equal k d l)))
-            ∙ filter-empty (λ r. is_lt (row_order columns key r)) (rows_above columns key rows) (λ k d l. ap is_lt (highs k d l)))
+          (filter-append (λ r. is_lt (row_order columns key r)) mid (rows_above columns key rows)
+          ∙ ap (λ l. l ++ rows_below columns key (rows_above columns key rows)) (filter-empty (λ r. is_lt (row_order columns key r)) mid (λ k d l. ap is_lt (equal k d l)))
+          ∙ filter-empty (λ r. is_lt (row_order columns key r)) (rows_above columns key rows) (λ k d l. ap is_lt (highs k d l)))
           ∙ append-nil (rows_below columns key (rows_below columns key rows))
           ∙ filter-whole (λ r. is_lt (row_order columns key r)) (rows_below columns key rows) (λ k d l. ap is_lt (lows k d l))
 
@@ -118,9 +118,9 @@ module _ (columns : List ℕ) where
   put-alike : (key : List Datum) (row : Row) (rows : List Row) → row_order columns key row ≡ Equal → put columns row rows ≡ rows_below columns key rows ++ row ∷ rows_above columns key rows
   put-alike key row rows e =
       ap (λ l. l ++ row ∷ rows_above columns (values_at columns row) rows)
-        (filter-alike (λ r. is_lt (row_order columns (values_at columns row) r)) (λ r. is_lt (row_order columns key r)) (λ r. sym (ap is_lt (alike (values_at columns row) key e r))) rows)
+      (filter-alike (λ r. is_lt (row_order columns (values_at columns row) r)) (λ r. is_lt (row_order columns key r)) (λ r. sym (ap is_lt (alike (values_at columns row) key e r))) rows)
       ∙ ap (λ l. rows_below columns key rows ++ row ∷ l)
-        (filter-alike (λ r. is_gt (row_order columns (values_at columns row) r)) (λ r. is_gt (row_order columns key r)) (λ r. sym (ap is_gt (alike (values_at columns row) key e r))) rows)
+      (filter-alike (λ r. is_gt (row_order columns (values_at columns row) r)) (λ r. is_gt (row_order columns key r)) (λ r. sym (ap is_gt (alike (values_at columns row) key e r))) rows)
 
   found_equal : (key : List Datum) (rows : List Row) (row : Row) → row_with columns key rows ≡ Some row → row_order columns key row ≡ Equal
   found_equal key rows row s = equal_is (row_order columns key row) (find_passes (λ r. is_eq (row_order columns key r)) rows row s)

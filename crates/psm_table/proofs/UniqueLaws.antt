@@ -106,6 +106,6 @@ unique-kept t row h unique quiet n c within =
     let quiet_high = All-filter (λ r. is_gt (row_order t.def.key key r)) (λ other. is_rival t.def row other ≡ false) t.rows rivals in
     AllPairs-append R low (row ∷ high) (AllPairs-filter R (λ r. is_lt (row_order t.def.key key r)) t.rows pairs)
     (AllPairs-cons R row high (λ k d l. agree-turned row (get_or high k d) columns ∙ apart_greater t.def row (get_or high k d) (more k d l) (quiet_high k d l) n c within)
-        (AllPairs-filter R (λ r. is_gt (row_order t.def.key key r)) t.rows pairs))
+    (AllPairs-filter R (λ r. is_gt (row_order t.def.key key r)) t.rows pairs))
     (λ k d l. All-cons (R (get_or low k d)) row high (apart t.def row (get_or low k d) (less k d l) (quiet_low k d l) n c within)
-        (across-rows t.def.key key R t.rows h.ascend pairs k d l))
+    (across-rows t.def.key key R t.rows h.ascend pairs k d l))

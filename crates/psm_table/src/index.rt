@@ -164,12 +164,7 @@ fn key_part(entry: &[Datum], width: usize) -> &[Datum]
 }
 
 /// Whether the key has a row, which has another key than the row and agrees with it in a UNIQUE list.
-fn is_rival_at(
-    def: &TableDef,
-    rows: &OrderedMap<Option<Row>>,
-    key: &[Datum],
-    row: &[Datum],
-) -> bool
+fn is_rival_at(def: &TableDef, rows: &OrderedMap<Option<Row>>, key: &[Datum], row: &[Datum]) -> bool
     requires rows { HaveKeys def.now (live_rows rows.now.pairs) }
     requires row { AreColumnsOf row.now def.now.key }
     ensures { result ≡ rival_at def.now row.now (row_of key.now rows.now.pairs) }
@@ -246,7 +241,10 @@ impl<'a> Test<()> for IsCurrent<'a> {
 
     fn passes(&self, pair: &Pair<()>) -> bool {
         let entry = pair.key.values();
-        match self.rows.row_at(Probe::Of(key_part(entry, self.columns.len()))) {
+        match self
+            .rows
+            .row_at(Probe::Of(key_part(entry, self.columns.len())))
+        {
             Some(row) => is_entry_of(self.columns, self.def.key.items(), row.values(), entry),
             None => false,
         }
@@ -261,7 +259,9 @@ fn is_entry_of(columns: &[u32], key: &[u32], row: &[Datum], entry: &[Datum]) -> 
     if is_null_in(row, columns) {
         return false;
     }
-    Probe::Of(entry).order(Probe::Both { columns, key, row }).is_eq()
+    Probe::Of(entry)
+        .order(Probe::Both { columns, key, row })
+        .is_eq()
 }
 
 /// Lets the entries go that are of no row which is there now.

@@ -3,14 +3,13 @@
 
 mod definition;
 mod fault;
-mod key;
 mod index;
+mod key;
 mod laws;
 mod map;
 mod probe;
 mod row;
 mod table;
-
 
 pub use definition::{Column, TableDef};
 pub use fault::RowFault;
@@ -21,4 +20,3 @@ pub use psm_text::Name;
 pub use psm_value::{Datum, SqlType, Steps};
 pub use row::Row;
 pub use table::Table;
-

@@ -106,9 +106,13 @@ impl Table {
             row: row.values(),
         });
         match place {
-            Some(Some(_)) => Err(RowFault::Duplicate),
-            Some(None) => self.insert_again(row, steps),
             None => self.insert_first(row, steps),
+            Some(held) => {
+                if held.is_some() {
+                    return Err(RowFault::Duplicate);
+                }
+                self.insert_again(row, steps)
+            }
         }
     }
 

@@ -9,4 +9,4 @@ pub returns : goal.returns
 returns c =
     sym (list_any_none (is_rival c.args.def.now c.args.row.now) (live_rows c.args.rows.now.pairs)
     (λ n d l. no_rival c.args.def.now c.args.row.now c.args.rows.now.pairs c.requires.order c.requires.at_keys c.requires.ascend n d l c.args.indexes.now
-        (c.requires.entered n d l) (λ k x m i null. c.loop-i.invariant k x m (omega (arith, i, c.loop-i-test.false)) null)))
+    (c.requires.entered n d l) (λ k x m i null. c.loop-i.invariant k x m (omega (arith, i, c.loop-i-test.false)) null)))

@@ -36,12 +36,12 @@ pub walk-smaller : goal.walk-smaller
 walk-smaller c =
     subst (λ n. length (ahead c.args.index.now.pairs (option_copied c.after-next.result)) < length (ahead c.args.index.now.pairs (option_copied n))) (sym c.in-Some.is)
     (walked-less c.args.def.now c.args.row.now c.args.columns.now c.args.rows.now.pairs c.args.index.now.pairs c.in-Some.entry.now (option_copied c.after-next.result)
-        c.after-next.ensures.ordered (c.after-next.ensures.pair ∙ ap (λ k. slice_get (pairs_above k c.args.index.now.pairs) 0) c.values-values.ensures))
+    c.after-next.ensures.ordered (c.after-next.ensures.pair ∙ ap (λ k. slice_get (pairs_above k c.args.index.now.pairs) 0) c.values-values.ensures))
 
 pub walk-preserved : goal.walk-preserved
 walk-preserved c =
     walked-step c.args.def.now c.args.row.now c.args.columns.now c.args.rows.now.pairs c.args.index.now.pairs c.in-Some.entry.now (option_copied c.after-next.result) c.after-next.ensures.ordered
     (subst (λ n. Walked c.args.def.now c.args.row.now c.args.columns.now c.args.rows.now.pairs c.args.index.now.pairs (option_copied n)) c.in-Some.is c.walk.invariant)
     (λ e. ap (λ k. rival_at c.args.def.now c.args.row.now (row_of k c.args.rows.now.pairs)) (sym (c.key_part.ensures ∙ ap (drop (length c.args.columns.now)) c.values-values.ensures))
-        ∙ sym c.is_rival_at.ensures ∙ c.if-is_rival_at.false)
+    ∙ sym c.is_rival_at.ensures ∙ c.if-is_rival_at.false)
     (c.after-next.ensures.pair ∙ ap (λ k. slice_get (pairs_above k c.args.index.now.pairs) 0) c.values-values.ensures)

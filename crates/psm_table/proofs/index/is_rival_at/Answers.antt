@@ -8,4 +8,4 @@ pub rivals-requires-clause-exist : goal.rivals-requires-clause-exist
 rivals-requires-clause-exist c =
     subst (λ (r : Row). AreColumnsOf r c.args.def.now.key) (sym c.values.ensures)
     (row-live (λ r. AreColumnsOf r c.args.def.now.key) c.args.key.now c.args.rows.now.pairs c.in-Some.other.now
-        (sym c.row_at.ensures ∙ ap option_copied c.in-Some.is) c.requires.rows)
+    (sym c.row_at.ensures ∙ ap option_copied c.in-Some.is) c.requires.rows)

@@ -12,8 +12,8 @@ pub returns-in-Some : goal.returns-in-Some
 returns-in-Some c =
     c.row_ahead.ensures
     ∙ ap (λ l. slice_get (live_rows l) 0)
-        (ap (ahead c.args.self.now.pairs) c.after.ensures.pair
-        ∙ ahead-filter (λ (q : Slot). is_gt (key_order q.key (probe_key c.in-Some.probe))) c.args.self.now.pairs (up-above (probe_key c.in-Some.probe)) c.after.ensures.ordered)
+    (ap (ahead c.args.self.now.pairs) c.after.ensures.pair
+    ∙ ahead-filter (λ (q : Slot). is_gt (key_order q.key (probe_key c.in-Some.probe))) c.args.self.now.pairs (up-above (probe_key c.in-Some.probe)) c.after.ensures.ordered)
     ∙ sym (ap (λ o. slice_get (live_rows (pairs_past o c.args.self.now.pairs)) 0) c.in-Some.is)
 
 pub returns-in-None : goal.returns-in-None

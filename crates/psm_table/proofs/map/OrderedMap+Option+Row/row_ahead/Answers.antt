@@ -13,18 +13,18 @@ use Rattle.psm_table.proofs.map.OrderedMap+Option+Row.row_ahead.Goals as goal
 pub loop-next-smaller : goal.loop-next-smaller
 loop-next-smaller c =
     let e : ahead c.args.self.now.pairs (option_copied c.after-next.result) ≡ pairs_above c.in-Some.pair.now.key c.args.self.now.pairs =
-        ap (ahead c.args.self.now.pairs) c.after-next.ensures.pair
-        ∙ ahead-filter (λ (q : Slot). is_gt (key_order q.key c.values.result.now)) c.args.self.now.pairs (up-above c.values.result.now) c.after-next.ensures.ordered
-        ∙ ap (λ k. pairs_above k c.args.self.now.pairs) c.values.ensures in
+    ap (ahead c.args.self.now.pairs) c.after-next.ensures.pair
+    ∙ ahead-filter (λ (q : Slot). is_gt (key_order q.key c.values.result.now)) c.args.self.now.pairs (up-above c.values.result.now) c.after-next.ensures.ordered
+    ∙ ap (λ k. pairs_above k c.args.self.now.pairs) c.values.ensures in
     subst (λ n. length (ahead c.args.self.now.pairs (option_copied c.after-next.result)) < length (ahead c.args.self.now.pairs (option_copied n))) (sym c.in-Some.is)
     (next_less (ahead c.args.self.now.pairs (option_copied c.after-next.result)) (pairs_above c.in-Some.pair.now.key c.args.self.now.pairs) c.in-Some.pair.now e)
 
 pub loop-next-preserved : goal.loop-next-preserved
 loop-next-preserved c =
     ap (λ l. slice_get (live_rows l) 0)
-        (ap (ahead c.args.self.now.pairs) c.after-next.ensures.pair
-        ∙ ahead-filter (λ (q : Slot). is_gt (key_order q.key c.values.result.now)) c.args.self.now.pairs (up-above c.values.result.now) c.after-next.ensures.ordered
-        ∙ ap (λ k. pairs_above k c.args.self.now.pairs) c.values.ensures)
+    (ap (ahead c.args.self.now.pairs) c.after-next.ensures.pair
+    ∙ ahead-filter (λ (q : Slot). is_gt (key_order q.key c.values.result.now)) c.args.self.now.pairs (up-above c.values.result.now) c.after-next.ensures.ordered
+    ∙ ap (λ k. pairs_above k c.args.self.now.pairs) c.values.ensures)
     ∙ sym (ap (λ l. slice_get l 0) (flagged-ahead c.args.self.now.pairs c.in-Some.pair.now c.in-None.is))
     ∙ sym (ap (λ n. slice_get (live_rows (ahead c.args.self.now.pairs (option_copied n))) 0) c.in-Some.is)
     ∙ c.loop-next.invariant

@@ -12,8 +12,8 @@ pub returns-in-Some : goal.returns-in-Some
 returns-in-Some c =
     c.row_behind.ensures
     ∙ ap (λ l. last_of (live_rows l))
-        (ap (behind c.args.self.now.pairs) c.before-in-Some.ensures.pair
-        ∙ behind-filter (λ (q : Slot). is_lt (key_order q.key (probe_key c.in-Some.probe))) c.args.self.now.pairs (down-below (probe_key c.in-Some.probe)) c.before-in-Some.ensures.ordered)
+    (ap (behind c.args.self.now.pairs) c.before-in-Some.ensures.pair
+    ∙ behind-filter (λ (q : Slot). is_lt (key_order q.key (probe_key c.in-Some.probe))) c.args.self.now.pairs (down-below (probe_key c.in-Some.probe)) c.before-in-Some.ensures.ordered)
     ∙ sym (ap (λ o. last_of (live_rows (pairs_short_of o c.args.self.now.pairs))) c.in-Some.is)
 
 pub returns-in-None : goal.returns-in-None

@@ -19,18 +19,18 @@ returns-in-Some-value c =
 pub loop-next-smaller : goal.loop-next-smaller
 loop-next-smaller c =
     let e : behind c.args.self.now.pairs (option_copied c.before-next.result) ≡ pairs_below c.in-Some.pair.now.key c.args.self.now.pairs =
-        ap (behind c.args.self.now.pairs) c.before-next.ensures.pair
-        ∙ behind-filter (λ (q : Slot). is_lt (key_order q.key c.values.result.now)) c.args.self.now.pairs (down-below c.values.result.now) c.before-next.ensures.ordered
-        ∙ ap (λ k. pairs_below k c.args.self.now.pairs) c.values.ensures in
+    ap (behind c.args.self.now.pairs) c.before-next.ensures.pair
+    ∙ behind-filter (λ (q : Slot). is_lt (key_order q.key c.values.result.now)) c.args.self.now.pairs (down-below c.values.result.now) c.before-next.ensures.ordered
+    ∙ ap (λ k. pairs_below k c.args.self.now.pairs) c.values.ensures in
     subst (λ n. length (behind c.args.self.now.pairs (option_copied c.before-next.result)) < length (behind c.args.self.now.pairs (option_copied n))) (sym c.in-Some.is)
     (last_less (behind c.args.self.now.pairs (option_copied c.before-next.result)) (pairs_below c.in-Some.pair.now.key c.args.self.now.pairs) c.in-Some.pair.now e)
 
 pub loop-next-preserved : goal.loop-next-preserved
 loop-next-preserved c =
     ap (λ l. last_of (live_rows l))
-        (ap (behind c.args.self.now.pairs) c.before-next.ensures.pair
-        ∙ behind-filter (λ (q : Slot). is_lt (key_order q.key c.values.result.now)) c.args.self.now.pairs (down-below c.values.result.now) c.before-next.ensures.ordered
-        ∙ ap (λ k. pairs_below k c.args.self.now.pairs) c.values.ensures)
+    (ap (behind c.args.self.now.pairs) c.before-next.ensures.pair
+    ∙ behind-filter (λ (q : Slot). is_lt (key_order q.key c.values.result.now)) c.args.self.now.pairs (down-below c.values.result.now) c.before-next.ensures.ordered
+    ∙ ap (λ k. pairs_below k c.args.self.now.pairs) c.values.ensures)
     ∙ sym (ap last_of (flagged-behind c.args.self.now.pairs c.in-Some.pair.now c.in-None.is))
     ∙ sym (ap (λ n. last_of (live_rows (behind c.args.self.now.pairs (option_copied n)))) c.in-Some.is)
     ∙ c.loop-next.invariant

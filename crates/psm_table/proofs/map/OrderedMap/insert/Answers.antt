@@ -7,6 +7,7 @@ use Rattle.psm_table.specs.Mapped.{Mapped}
 use Rattle.psm_table.specs.Place.{IsAt, IsGap}
 use Rattle.psm_table.proofs.Filters.{none_some}
 use Rattle.psm_table.proofs.Pairs.{ascending-with_pair, inserted, value_some}
+use Rattle.psm_table.proofs.map.OrderedMap.insert.Goals.{in-Err-1, in-Ok-1}
 use Rattle.psm_table.proofs.map.OrderedMap.insert.Goals as goal
 
 pub invariant_of-self-in-Err-2 : goal.invariant_of-self-in-Err-2
@@ -33,4 +34,8 @@ returns-in-Err-clause-ordered g c =
     let p : Pair g.row.V.Denot = record { key = c.args.key; value = c.args.value } in
     let gap = subst (λ k. IsGap k c.self.inside.pairs.items c.in-Err.at) c.values.ensures c.in-Err.ensures.absent in
     let items : c.insert-room.new.self.items ≡ insert c.self.inside.pairs.items c.in-Err.at p = rw done at c.insert-room.ensures.items in
-    subst AreAscending (sym (items ∙ inserted p c.self.inside.pairs.items c.in-Err.at gap)) (ascending-with_pair p c.self.inside.pairs.items c.self.invariant.0)
+    let up : AreAscending c.insert-room.new.self.items = subst AreAscending (sym (items ∙ inserted p c.self.inside.pairs.items c.in-Err.at gap)) (ascending-with_pair p c.self.inside.pairs.items c.self.invariant.0) in
+    elim c.match-room.branch [
+      | in-Err-1 w ↦ subst (λ (m : Mapped g.row.V.Denot). AreAscending m.pairs) (sym w.self-is) up
+      | in-Ok-1 w ↦ subst (λ (m : Mapped g.row.V.Denot). AreAscending m.pairs) (sym w.self-is) up
+    ]

@@ -10,31 +10,39 @@ use Rattle.psm_table.specs.State.{has_key, KeepsRow, State, StillKeeps}
 use Rattle.psm_table.specs.Table.{keyed, most_rows, namesake, with_row, without_row}
 use Rattle.std.specs.Prelude.{is_some}
 use Rattle.psm_table.specs.Held.{the_row}
+use Rattle.psm_table.proofs.Entered.{no_value}
 use Rattle.psm_table.proofs.Keys.{has_value}
+use Rattle.psm_table.proofs.Holds.{some_from}
 use Rattle.psm_table.proofs.Tables.{held-find}
 use Rattle.psm_table.proofs.table.Table.insert.Goals as goal
-
-pub insert_again-requires-clause-place : goal.insert_again-requires-clause-place
-insert_again-requires-clause-place g c =
-    let val : Some None ≡ value_of (values_at c.self.inside.def.key c.args.row) c.self.inside.rows.pairs =
-        c.in-Some-None.ensures tt ∙ ap (λ (r : List Datum). value_of (values_at c.items.result.now r) c.self.inside.rows.pairs) c.values.ensures ∙ ap (λ (k : List ℕ). value_of (values_at k c.args.row) c.self.inside.rows.pairs) c.items.ensures in
-    subst (λ (s : State). has_key s.places (values_at s.contents.def.key c.args.row) ≡ true) c.self.view_is (sym (has_value (values_at c.self.inside.def.key c.args.row) c.self.inside.rows.pairs) ∙ ap is_some (sym val))
-
-pub insert_again-requires-clause-absent : goal.insert_again-requires-clause-absent
-insert_again-requires-clause-absent g c =
-    let val : Some None ≡ value_of (values_at c.self.inside.def.key c.args.row) c.self.inside.rows.pairs =
-        c.in-Some-None.ensures tt ∙ ap (λ (r : List Datum). value_of (values_at c.items.result.now r) c.self.inside.rows.pairs) c.values.ensures ∙ ap (λ (k : List ℕ). value_of (values_at k c.args.row) c.self.inside.rows.pairs) c.items.ensures in
-    subst (λ (s : State). namesake s.contents c.args.row ≡ None) c.self.view_is (sym (held-find c.self.inside.def c.self.inside.rows c.self.inside.live c.self.inside.indexes.items c.self.invariant (values_at c.self.inside.def.key c.args.row)) ∙ ap the_row (sym val))
 
 pub insert_first-requires-clause-absent : goal.insert_first-requires-clause-absent
 insert_first-requires-clause-absent g c =
     let val : None ≡ value_of (values_at c.self.inside.def.key c.args.row) c.self.inside.rows.pairs =
-        c.in-None.ensures tt ∙ ap (λ (r : List Datum). value_of (values_at c.items.result.now r) c.self.inside.rows.pairs) c.values.ensures ∙ ap (λ (k : List ℕ). value_of (values_at k c.args.row) c.self.inside.rows.pairs) c.items.ensures in
+    c.in-None.ensures ∙ ap (λ (r : List Datum). value_of (values_at c.items.result.now r) c.self.inside.rows.pairs) c.values.ensures ∙ ap (λ (k : List ℕ). value_of (values_at k c.args.row) c.self.inside.rows.pairs) c.items.ensures in
     subst (λ (s : State). has_key s.places (values_at s.contents.def.key c.args.row) ≡ false) c.self.view_is (sym (has_value (values_at c.self.inside.def.key c.args.row) c.self.inside.rows.pairs) ∙ ap is_some (sym val))
 
-pub returns-in-Some-Some-clause-answer : goal.returns-in-Some-Some-clause-answer
-returns-in-Some-Some-clause-answer g c =
-    let val : Some (Some c.in-Some-Some.field-0-0) ≡ value_of (values_at c.self.inside.def.key c.args.row) c.self.inside.rows.pairs =
-        c.in-Some-Some.ensures tt ∙ ap (λ (r : List Datum). value_of (values_at c.items.result.now r) c.self.inside.rows.pairs) c.values.ensures ∙ ap (λ (k : List ℕ). value_of (values_at k c.args.row) c.self.inside.rows.pairs) c.items.ensures in
-    (omega (arith, c.if-self-eq-MOST_ROWS.false, c.self.invariant.count, c.self.invariant.table.bound, ap (λ (s : State). length s.contents.rows) c.self.view_is),
-    subst (λ (s : State). IsSome (namesake s.contents c.args.row)) c.self.view_is (subst IsSome (ap the_row val ∙ held-find c.self.inside.def c.self.inside.rows c.self.inside.live c.self.inside.indexes.items c.self.invariant (values_at c.self.inside.def.key c.args.row)) refl), refl, refl)
+pub insert_again-requires-clause-place : goal.insert_again-requires-clause-place
+insert_again-requires-clause-place g c =
+    let val : Some c.in-Some.held.now ≡ value_of (values_at c.self.inside.def.key c.args.row) c.self.inside.rows.pairs =
+    c.in-Some.ensures ∙ ap (λ (r : List Datum). value_of (values_at c.items.result.now r) c.self.inside.rows.pairs) c.values.ensures ∙ ap (λ (k : List ℕ). value_of (values_at k c.args.row) c.self.inside.rows.pairs) c.items.ensures in
+    subst (λ (s : State). has_key s.places (values_at s.contents.def.key c.args.row) ≡ true) c.self.view_is (sym (has_value (values_at c.self.inside.def.key c.args.row) c.self.inside.rows.pairs) ∙ ap is_some (sym val))
+
+pub insert_again-requires-clause-absent : goal.insert_again-requires-clause-absent
+insert_again-requires-clause-absent g c =
+    let val : Some c.in-Some.held.now ≡ value_of (values_at c.self.inside.def.key c.args.row) c.self.inside.rows.pairs =
+    c.in-Some.ensures ∙ ap (λ (r : List Datum). value_of (values_at c.items.result.now r) c.self.inside.rows.pairs) c.values.ensures ∙ ap (λ (k : List ℕ). value_of (values_at k c.args.row) c.self.inside.rows.pairs) c.items.ensures in
+    let none : c.in-Some.held.now ≡ None = no_value c.in-Some.held.now (sym c.is_some.ensures ∙ c.if-is_some.false) in
+    subst (λ (s : State). namesake s.contents c.args.row ≡ None) c.self.view_is (sym (held-find c.self.inside.def c.self.inside.rows c.self.inside.live c.self.inside.indexes.items c.self.invariant (values_at c.self.inside.def.key c.args.row)) ∙ ap the_row (sym val) ∙ none)
+
+pub returns-then-is_some-clause-answer : goal.returns-then-is_some-clause-answer
+returns-then-is_some-clause-answer g c =
+    let val : Some c.in-Some.held.now ≡ value_of (values_at c.self.inside.def.key c.args.row) c.self.inside.rows.pairs =
+    c.in-Some.ensures ∙ ap (λ (r : List Datum). value_of (values_at c.items.result.now r) c.self.inside.rows.pairs) c.values.ensures ∙ ap (λ (k : List ℕ). value_of (values_at k c.args.row) c.self.inside.rows.pairs) c.items.ensures in
+    let found : IsSome c.in-Some.held.now = some_from c.in-Some.held.now (sym c.is_some.ensures ∙ c.if-is_some.true) in (
+      omega (arith, c.if-self-eq-MOST_ROWS.false, c.self.invariant.count, c.self.invariant.table.bound, ap (λ (s : State). length s.contents.rows) c.self.view_is),
+      subst (λ (s : State). IsSome (namesake s.contents c.args.row)) c.self.view_is
+          (subst IsSome (ap the_row val ∙ held-find c.self.inside.def c.self.inside.rows c.self.inside.live c.self.inside.indexes.items c.self.invariant (values_at c.self.inside.def.key c.args.row)) found),
+      refl,
+      refl,
+    )
