@@ -241,7 +241,8 @@ impl Table {
 
     /// Whether there are 200,000 rows, so that no further one can be put in.
     pub fn is_full(&self) -> bool
-        ensures { IsTrue result ↔ (length self.now.contents.rows ≡ most_rows) }
+        ensures value { IsTrue result ↔ (length self.now.contents.rows ≡ most_rows) }
+        ensures table { IsTable self.now.contents }
     {
         self.live == MOST_ROWS
     }
