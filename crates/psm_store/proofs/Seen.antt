@@ -1,7 +1,7 @@
 -- Tables seen as what is in them, one of which a row call leaves.
-use Rattle.std.proofs.Common.{◌≡◌, ℕ, zero, suc, ◌<◌, List, [], ◌∷◌, length, get_or, set, refl, ap, sym, ◌∙◌, arith}
+use Rattle.std.proofs.Common.{◌≡◌, ℕ, zero, suc, ◌+◌, ◌<◌, List, [], ◌∷◌, ◌++◌, length, get_or, set, take, refl, ap, sym, ◌∙◌, add-one, arith}
 use Rattle.std.specs.Prelude.{Result}
-use Rattle.std.proofs.lemmas.List.{get_or-map, length-map}
+use Rattle.std.proofs.lemmas.List.{get_or-map, length-map, map-append}
 use Rattle.psm_table.specs.declared.fault.RowFault.{RowFault}
 use Rattle.psm_table.specs.State.{State}
 use Rattle.psm_table.specs.Table.{Contents}
@@ -30,3 +30,17 @@ module _ (change : Contents → Contents) (r : Result (Unit {0}) RowFault) (stat
 
   pub defs-seen : ((c : Contents) → (change c).def ≡ c.def) → defs_of (contents_of (set states t s)) ≡ defs_of seen
   defs-seen h = ap defs_of seen-after ∙ defs-after change h r seen t
+
+-- what is in some first tables, and in one more
+take-seen : (states : List State) (i : ℕ) (x : State) → i < length states → take (suc i) (contents_of states) ≡ take i (contents_of states) ++ (get_or states i x).contents ∷ []
+take-seen [] i x l = absurd (omega arith)
+take-seen (s ∷ ss) zero x l = refl
+take-seen (s ∷ ss) (suc i) x l = ap (λ r. s.contents ∷ r) (take-seen ss i x (omega arith))
+
+pub seen-more : (copies states : List State) (seen : List Contents) (i : ℕ) (copy x : State) → contents_of states ≡ seen → contents_of copies ≡ take i seen
+    → i < length states → x ≡ get_or states i x → copy ≡ x → contents_of (copies ++ copy ∷ []) ≡ take (i + 1) seen
+seen-more copies states seen i copy x view e l at same =
+    map-append (λ (y : State). y.contents) copies (copy ∷ [])
+    ∙ ap (λ cs. cs ++ copy.contents ∷ []) (e ∙ ap (take i) (sym view))
+    ∙ ap (λ (y : State). take i (contents_of states) ++ y.contents ∷ []) (same ∙ at)
+    ∙ rw add-one (sym (take-seen states i x l) ∙ ap (take (suc i)) view)
