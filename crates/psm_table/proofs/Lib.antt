@@ -2,6 +2,7 @@ pub mod Entered
 pub mod Filters
 pub mod Halves
 pub mod Holds
+pub mod Joined
 pub mod KeyLaws
 pub mod Keys
 pub mod Lives
@@ -13,6 +14,7 @@ pub mod Rivals
 pub mod RowOrders
 pub mod Searches
 pub mod Tables
+pub mod Turns
 pub mod Undo
 pub mod UniqueLaws
 pub mod Uniques

@@ -7,6 +7,7 @@ pub mod Mapped
 pub mod Parts
 pub mod Place
 pub mod Rows
+pub mod Runs
 pub mod State
 pub mod Table
 pub mod Unique

@@ -9,6 +9,8 @@ mod laws;
 mod map;
 mod probe;
 mod row;
+mod run;
+mod runs;
 mod table;
 
 pub use definition::{Column, TableDef};

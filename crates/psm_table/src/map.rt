@@ -1,20 +1,20 @@
 //! Ordered maps from keys, which can be asked by values that stand in a row.
-ghost use Rattle.std.specs.Prelude.{◌≡◌, ◌+◌, ◌<◌, [], length, Bool, true, is_some, filter, slice_get, slice_index_or, IfOk, IfErr, IsSome, OnOk, None, Some};
+ghost use Rattle.std.specs.Prelude.{◌≡◌, [], Bool, true, is_some, filter, slice_get, IfOk, IfSome, IsSome, OnOk, None, Some};
 ghost use Rattle.std.specs.Option.{option_copied, ForSome};
 ghost use Rattle.psm_table.specs.Held.{live_rows, row_of};
 ghost use Rattle.psm_table.specs.Key.{values_at, AreColumnsOf};
 ghost use Rattle.psm_table.specs.Map.{value_of, AreAscending, pairs_from, pairs_above, pairs_below, with_pair, with_value};
-ghost use Rattle.psm_table.specs.Place.{ahead, behind, pairs_past, pairs_short_of, probe_key, FitsProbe, IsAt, IsGap};
+ghost use Rattle.psm_table.specs.Place.{ahead, behind, pairs_past, pairs_short_of, probe_key, FitsProbe};
 ghost use Rattle.psm_table.specs.declared.map.Pair.{Pair};
 ghost use Rattle.psm_table.specs.Rows.{last_of};
 
 use crate::key::Key;
-use crate::probe::{Probe, order_of_prefix};
+use crate::probe::Probe;
 use crate::row::Row;
+use crate::run::Run;
+use crate::runs::{first_from, last_before, locate, locate_from, put, retain_at};
 use std::alloc::{AllocError, Global};
-use std::cmp::Ordering;
 use std::marker::Model;
-use std::mem;
 
 /// A key and its value.
 #[derive(Drop)]
@@ -23,24 +23,29 @@ pub(crate) struct Pair<V> {
     pub value: V,
 }
 
-/// Pairs in ascending order of their keys. After `reserve` one `insert` takes no memory.
+/// Pairs in ascending order of their keys, in runs: a pair that is put in moves only others of its run. After
+/// `reserve` one `insert` takes no memory.
 #[derive(Drop)]
 pub(crate) struct OrderedMap<V> {
-    pairs: Vec<Pair<V>>,
+    alloc: Global,
+    runs: Vec<Run<V>>,
+    /// An empty run, for when a full one is cut in two.
+    spare: Option<Run<V>>,
     ready: bool,
 }
 
 impl<V> Model for OrderedMap<V> {
-    ghost use Rattle.std.specs.Prelude.{◌≡◌, ◌<◌, true};
+    ghost use Rattle.std.specs.Prelude.{◌≡◌, ◌<◌, [], true, All, IfSome, IsSome};
     ghost use Rattle.std.specs.Vec.{vec_len, vec_capacity};
     ghost use Rattle.psm_table.specs.Map.{AreAscending};
     ghost use Rattle.psm_table.specs.Mapped.{Mapped};
+    ghost use Rattle.psm_table.specs.Runs.{joined, IsRun};
 
     ghost Value = { Mapped V };
 
-    ghost view = { λ m. record { pairs = m.pairs.items; ready = m.ready } };
+    ghost view = { λ m. record { pairs = joined m.runs.items; ready = m.ready } };
 
-    ghost invariant = { λ m. AreAscending m.pairs.items × (m.ready ≡ true → vec_len m.pairs < vec_capacity m.pairs) };
+    ghost invariant = { λ m. AreAscending (joined m.runs.items) × All IsRun m.runs.items × IfSome m.spare (λ r. r ≡ []) × (m.ready ≡ true → IsSome m.spare × (vec_len m.runs < vec_capacity m.runs)) };
 }
 
 impl<V: Drop> OrderedMap<V> {
@@ -50,7 +55,9 @@ impl<V: Drop> OrderedMap<V> {
         ensures ordered { AreAscending result.pairs }
     {
         OrderedMap {
-            pairs: Vec::new(alloc),
+            alloc,
+            runs: Vec::new(alloc),
+            spare: None,
             ready: false,
         }
     }
@@ -60,10 +67,12 @@ impl<V: Drop> OrderedMap<V> {
         requires { FitsProbe probe }
         ensures { option_copied result ≡ value_of (probe_key probe.entry) self.now.pairs }
     {
-        match self.find(probe) {
-            Ok(at) => Some(&self.pairs[at].value),
-            Err(_) => None,
+        let runs = self.runs.as_slice();
+        if runs.is_empty() {
+            return None;
         }
+        let at = locate(runs, probe);
+        runs[at].get(probe)
     }
 
     /// Takes the memory that one insertion needs.
@@ -71,7 +80,9 @@ impl<V: Drop> OrderedMap<V> {
         ensures pairs { self.new.pairs ≡ self.old.pairs }
         ensures ready { OnOk result (self.new.ready ≡ true) }
     {
-        self.pairs.reserve(1)?;
+        self.ready = false;
+        self.runs.reserve(1)?;
+        have_spare(self.alloc, &mut self.spare)?;
         self.ready = true;
         Ok(())
     }
@@ -84,11 +95,8 @@ impl<V: Drop> OrderedMap<V> {
         ensures ordered { AreAscending self.new.pairs }
     {
         self.ready = false;
-        match self.find(Probe::Of(key.values())) {
-            Ok(_) => {}
-            Err(at) => {
-                let _room = self.pairs.insert(at, Pair { key, value });
-            }
+        if let Some(spare) = self.spare.take() {
+            self.spare = put(&mut self.runs, spare, key, value);
         }
     }
 
@@ -98,9 +106,14 @@ impl<V: Drop> OrderedMap<V> {
         ensures pair { option_copied result ≡ slice_get (pairs_above (probe_key probe.entry) self.now.pairs) 0 }
         ensures ordered { AreAscending self.now.pairs }
     {
-        match self.find(probe) {
-            Ok(at) => self.pairs.get(at + 1),
-            Err(at) => self.pairs.get(at),
+        let runs = self.runs.as_slice();
+        if runs.is_empty() {
+            return None;
+        }
+        let at = locate(runs, probe);
+        match runs[at].after(probe) {
+            Some(pair) => Some(pair),
+            None => first_from(runs, at + 1),
         }
     }
 
@@ -110,11 +123,15 @@ impl<V: Drop> OrderedMap<V> {
         ensures pair { option_copied result ≡ last_of (pairs_below (probe_key probe.entry) self.now.pairs) }
         ensures ordered { AreAscending self.now.pairs }
     {
-        let smaller = match self.find(probe) {
-            Ok(at) => at,
-            Err(at) => at,
-        };
-        self.pairs[..smaller].last()
+        let runs = self.runs.as_slice();
+        if runs.is_empty() {
+            return None;
+        }
+        let at = locate(runs, probe);
+        match runs[at].before(probe) {
+            Some(pair) => Some(pair),
+            None => last_before(runs, at),
+        }
     }
 
     /// The first pair.
@@ -122,7 +139,7 @@ impl<V: Drop> OrderedMap<V> {
         ensures pair { option_copied result ≡ slice_get self.now.pairs 0 }
         ensures ordered { AreAscending self.now.pairs }
     {
-        self.pairs.first()
+        first_from(self.runs.as_slice(), 0)
     }
 
     /// The last pair.
@@ -130,7 +147,7 @@ impl<V: Drop> OrderedMap<V> {
         ensures pair { option_copied result ≡ last_of self.now.pairs }
         ensures ordered { AreAscending self.now.pairs }
     {
-        self.pairs.last()
+        last_before(self.runs.as_slice(), self.runs.len())
     }
 
     /// The first pair whose key begins with what is looked for, or with greater values.
@@ -139,36 +156,15 @@ impl<V: Drop> OrderedMap<V> {
         ensures pair { option_copied result ≡ slice_get (pairs_from (probe_key probe.entry) self.now.pairs) 0 }
         ensures ordered { AreAscending self.now.pairs }
     {
-        let mut low = 0;
-        let mut high = self.pairs.len();
-        while low < high {
-            let middle = low + (high - low) / 2;
-            if order_of_prefix(self.pairs[middle].key.values(), probe).is_lt() {
-                low = middle + 1;
-            } else {
-                high = middle;
-            }
+        let runs = self.runs.as_slice();
+        if runs.is_empty() {
+            return None;
         }
-        self.pairs.get(low)
-    }
-
-    /// Where the key stands, or else where it would.
-    fn find(&self, probe: Probe<'_>) -> Result<usize, usize>
-        requires { FitsProbe probe }
-        ensures found { IfOk result (IsAt (probe_key probe.entry) self.now.pairs) }
-        ensures absent { IfErr result (IsGap (probe_key probe.entry) self.now.pairs) }
-    {
-        let mut low = 0;
-        let mut high = self.pairs.len();
-        while low < high {
-            let middle = low + (high - low) / 2;
-            match Probe::Of(self.pairs[middle].key.values()).order(probe) {
-                Ordering::Less => low = middle + 1,
-                Ordering::Equal => return Ok(middle),
-                Ordering::Greater => high = middle,
-            }
+        let at = locate_from(runs, probe);
+        match runs[at].from(probe) {
+            Some(pair) => Some(pair),
+            None => first_from(runs, at + 1),
         }
-        Err(low)
     }
 
     /// Keeps the pairs that pass a test.
@@ -178,14 +174,24 @@ impl<V: Drop> OrderedMap<V> {
         ensures ordered { AreAscending self.new.pairs }
     {
         self.ready = false;
-        let mut left = self.pairs.len();
+        let mut left = self.runs.len();
         while left > 0 {
             left -= 1;
-            if !test.passes(&self.pairs[left]) {
-                let _pair = self.pairs.remove(left);
-            }
+            retain_at(&mut self.runs, left, &test);
         }
     }
+}
+
+/// Makes an empty run, where there is none.
+fn have_spare<V: Drop>(alloc: Global, spare: &mut Option<Run<V>>) -> Result<(), AllocError>
+    requires { IfSome spare.old (λ r. r ≡ []) }
+    ensures empty { IfSome spare.new (λ r. r ≡ []) }
+    ensures there { OnOk result (IsSome spare.new) }
+{
+    if spare.is_none() {
+        *spare = Some(Run::with_room(alloc)?);
+    }
+    Ok(())
 }
 
 /// A value that can be copied to memory of its own.
@@ -214,15 +220,14 @@ impl<V: Copied + Drop> OrderedMap<V> {
     pub(crate) fn copy(&self, alloc: Global) -> Result<OrderedMap<V>, AllocError>
         ensures { IfOk result (λ copy. copy.pairs ≡ self.now.pairs) }
     {
-        let mut pairs = Vec::new(alloc);
-        for pair in &self.pairs {
-            pairs.push(Pair {
-                key: pair.key.copy(alloc)?,
-                value: pair.value.copied(alloc)?,
-            })?;
+        let mut runs = Vec::with_capacity(alloc, self.runs.len())?;
+        for run in &self.runs {
+            runs.push(run.copy(alloc)?)?;
         }
         Ok(OrderedMap {
-            pairs,
+            alloc,
+            runs,
+            spare: None,
             ready: false,
         })
     }
@@ -272,10 +277,11 @@ impl OrderedMap<Option<Row>> {
         ensures pairs { self.new.pairs ≡ with_value (probe_key probe.entry) None self.old.pairs }
         ensures ordered { AreAscending self.new.pairs }
     {
-        match self.find(probe) {
-            Ok(at) => mem::replace(&mut self.pairs[at].value, None),
-            Err(_) => None,
+        if self.runs.is_empty() {
+            return None;
         }
+        let at = locate(self.runs.as_slice(), probe);
+        self.runs[at].take_row(probe)
     }
 
     /// Puts a row in whose key has a place, and gives the row that was there.
@@ -286,14 +292,15 @@ impl OrderedMap<Option<Row>> {
         ensures pairs { self.new.pairs ≡ with_value (values_at columns.now row) (Some row) self.old.pairs }
         ensures ordered { AreAscending self.new.pairs }
     {
-        let place = self.find(Probe::In {
+        if self.runs.is_empty() {
+            return None;
+        }
+        let probe = Probe::In {
             columns,
             row: row.values(),
-        });
-        match place {
-            Ok(at) => mem::replace(&mut self.pairs[at].value, Some(row)),
-            Err(_) => None,
-        }
+        };
+        let at = locate(self.runs.as_slice(), probe);
+        self.runs[at].replace_row(columns, row)
     }
 
     /// The row that follows a key, or the first.

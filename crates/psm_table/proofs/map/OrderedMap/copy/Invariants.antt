@@ -1,5 +1,5 @@
 use Rattle.std.proofs.Common.{◌≡◌, take}
 use Rattle.psm_table.proofs.map.OrderedMap.copy.Given as goal
 
-abbrev pub invariant-loop-pair : goal.invariant-loop-pair
-invariant-loop-pair g l = l.pairs.items ≡ take l.pair-index l.self.pairs
+abbrev pub invariant-loop-run : goal.invariant-loop-run
+invariant-loop-run g l = l.runs.items ≡ take l.run-index l.run-items

@@ -1,33 +1,33 @@
-use Rattle.std.proofs.Common.{◌≡◌, ap, sym, subst, ◌∙◌, arith, get_or, ◌+◌, ◌-◌, ◌/◌}
-use Rattle.std.specs.Prelude.{not, slice_get}
-use Rattle.std.specs.Ordering.{is_lt}
-use Rattle.psm_table.specs.Map.{AreAscending, prefix_order}
+use Rattle.std.proofs.Common.{◌≡◌, ◌<◌, length, get_or, ap, sym, subst, ◌∙◌, rules, Some, None}
+use Rattle.std.specs.Option.{option_copied}
 use Rattle.psm_table.specs.Mapped.{Mapped}
 use Rattle.psm_table.specs.Place.{probe_key}
-use Rattle.psm_table.proofs.Filters.{copied-get}
-use Rattle.psm_table.proofs.Halves.{parted_fail, parted_pass, parted_end}
-use Rattle.psm_table.proofs.Walks.{up-from}
+use Rattle.std.specs.Prelude.{drop, not, slice_get}
+use Rattle.std.specs.Ordering.{is_lt}
+use Rattle.std.proofs.Common.{◌+◌}
+use Rattle.psm_table.specs.Map.{pairs_from, prefix_order}
+use Rattle.psm_table.specs.Runs.{joined, IsTurn}
+use Rattle.psm_table.proofs.Joined.{from_there, from_past}
 use Rattle.psm_table.proofs.map.OrderedMap.from.Goals as goal
 
-pub loop-low-preserved-then-is_lt : goal.loop-low-preserved-then-is_lt
-loop-low-preserved-then-is_lt g c =
-    let same : c.self.inside.pairs.items ≡ c.args.self.now.pairs = ap (λ (m : Mapped g.row.V.Denot). m.pairs) c.self.view_is in
-    parted_fail (λ p. not (is_lt (prefix_order (probe_key c.args.probe) p.key))) c.args.self.now.pairs (up-from (probe_key c.args.probe)) (subst AreAscending same c.self.invariant.0)
-    c.loop-low.low c.loop-low.high (c.loop-low.low + (c.loop-low.high - c.loop-low.low) / 2) c.index.result.now c.loop-low.invariant (omega arith) (omega arith)
-    (subst (λ l. c.index.result.now ≡ get_or l (c.loop-low.low + (c.loop-low.high - c.loop-low.low) / 2) c.index.result.now) same c.index.ensures)
-    (ap (λ o. not (is_lt o)) (ap (prefix_order (probe_key c.args.probe)) (sym c.values.ensures) ∙ sym c.order_of_prefix.ensures) ∙ ap not (sym c.is_lt.ensures ∙ c.if-is_lt.true))
+pub returns-in-Some-clause-pair : goal.returns-in-Some-clause-pair
+returns-in-Some-clause-pair g c =
+    let same : joined c.self.inside.runs.items ≡ c.args.self.now.pairs = ap (λ (m : Mapped g.row.V.Denot). m.pairs) c.self.view_is in
+    let some : 0 < length c.as_slice-runs.result.now = search rules in
+    let here : IsTurn (λ p. not (is_lt (prefix_order (probe_key c.args.probe) p.key))) c.self.inside.runs.items c.locate_from-at.result =
+        subst (λ l. IsTurn (λ p. not (is_lt (prefix_order (probe_key c.args.probe) p.key))) l c.locate_from-at.result) c.as_slice-runs.ensures.value (c.locate_from-at.ensures some) in
+    let run : c.index-runs-at.result ≡ get_or c.self.inside.runs.items c.locate_from-at.result c.index-runs-at.result =
+        subst (λ l. c.index-runs-at.result ≡ get_or l c.locate_from-at.result c.index-runs-at.result) c.as_slice-runs.ensures.value c.index-runs-at.is in
+    let there : Some c.in-Some.pair.now ≡ slice_get (pairs_from (probe_key c.args.probe) (get_or c.self.inside.runs.items c.locate_from-at.result c.index-runs-at.result)) 0 = sym (ap option_copied c.in-Some.is) ∙ c.from.ensures ∙ ap (λ r. slice_get (pairs_from (probe_key c.args.probe) r) 0) run in
+    from_there (λ p. not (is_lt (prefix_order (probe_key c.args.probe) p.key))) c.self.inside.runs.items c.locate_from-at.result c.index-runs-at.result here c.in-Some.pair.now there ∙ ap (λ l. slice_get (pairs_from (probe_key c.args.probe) l) 0) same
 
-pub loop-low-preserved : goal.loop-low-preserved
-loop-low-preserved g c =
-    let same : c.self.inside.pairs.items ≡ c.args.self.now.pairs = ap (λ (m : Mapped g.row.V.Denot). m.pairs) c.self.view_is in
-    parted_pass (λ p. not (is_lt (prefix_order (probe_key c.args.probe) p.key))) c.args.self.now.pairs (up-from (probe_key c.args.probe)) (subst AreAscending same c.self.invariant.0)
-    c.loop-low.low c.loop-low.high (c.loop-low.low + (c.loop-low.high - c.loop-low.low) / 2) c.index.result.now c.loop-low.invariant (omega arith) (omega arith)
-    (subst (λ l. c.index.result.now ≡ get_or l (c.loop-low.low + (c.loop-low.high - c.loop-low.low) / 2) c.index.result.now) same c.index.ensures)
-    (ap (λ o. not (is_lt o)) (ap (prefix_order (probe_key c.args.probe)) (sym c.values.ensures) ∙ sym c.order_of_prefix.ensures) ∙ ap not (sym c.is_lt.ensures ∙ c.if-is_lt.false))
-
-pub returns-clause-pair : goal.returns-clause-pair
-returns-clause-pair g c =
-    let same : c.self.inside.pairs.items ≡ c.args.self.now.pairs = ap (λ (m : Mapped g.row.V.Denot). m.pairs) c.self.view_is in
-    copied-get c.get.result c.deref.result.now c.loop-low.low c.get.ensures.lookup.0 c.get.ensures.lookup.1
-    ∙ ap (λ l. slice_get l c.loop-low.low) (c.deref.ensures.value ∙ same)
-    ∙ sym (parted_end (λ p. not (is_lt (prefix_order (probe_key c.args.probe) p.key))) c.args.self.now.pairs c.loop-low.low c.loop-low.high c.loop-low.invariant c.loop-low-test.false)
+pub returns-in-None-clause-pair : goal.returns-in-None-clause-pair
+returns-in-None-clause-pair g c =
+    let same : joined c.self.inside.runs.items ≡ c.args.self.now.pairs = ap (λ (m : Mapped g.row.V.Denot). m.pairs) c.self.view_is in
+    let some : 0 < length c.as_slice-runs.result.now = search rules in
+    let here : IsTurn (λ p. not (is_lt (prefix_order (probe_key c.args.probe) p.key))) c.self.inside.runs.items c.locate_from-at.result =
+        subst (λ l. IsTurn (λ p. not (is_lt (prefix_order (probe_key c.args.probe) p.key))) l c.locate_from-at.result) c.as_slice-runs.ensures.value (c.locate_from-at.ensures some) in
+    let run : c.index-runs-at.result ≡ get_or c.self.inside.runs.items c.locate_from-at.result c.index-runs-at.result =
+        subst (λ l. c.index-runs-at.result ≡ get_or l c.locate_from-at.result c.index-runs-at.result) c.as_slice-runs.ensures.value c.index-runs-at.is in
+    let none : None ≡ slice_get (pairs_from (probe_key c.args.probe) (get_or c.self.inside.runs.items c.locate_from-at.result c.index-runs-at.result)) 0 = sym (ap option_copied c.in-None.is) ∙ c.from.ensures ∙ ap (λ r. slice_get (pairs_from (probe_key c.args.probe) r) 0) run in
+    c.first_from.ensures ∙ ap (λ l. slice_get (joined (drop (c.locate_from-at.result + 1) l)) 0) c.as_slice-runs.ensures.value ∙ from_past (λ p. not (is_lt (prefix_order (probe_key c.args.probe) p.key))) c.self.inside.runs.items c.locate_from-at.result c.index-runs-at.result here none ∙ ap (λ l. slice_get (pairs_from (probe_key c.args.probe) l) 0) same

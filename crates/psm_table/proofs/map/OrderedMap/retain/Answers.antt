@@ -1,22 +1,22 @@
-use Rattle.std.proofs.Common.{◌≡◌, ◌++◌, sym, subst, ◌∙◌, arith, take, drop, true, false}
+use Rattle.std.proofs.Common.{◌≡◌, sym, subst, ◌∙◌, arith, drop, true, false}
 use Rattle.std.specs.Prelude.{filter}
 use Rattle.std.proofs.lemmas.List.Kept.{AllPairs-filter}
 use Rattle.psm_table.specs.Map.{AreAscending}
+use Rattle.psm_table.specs.Runs.{joined}
 use Rattle.psm_table.proofs.Pairs.{Rises}
 use Rattle.psm_table.proofs.map.OrderedMap.retain.Goals as goal
 
 pub invariant_of-self : goal.invariant_of-self
 invariant_of-self g c =
     let none : c.loop-left.left ≡ 0 = omega (arith, c.loop-left-test.false) in
-    let kept : c.loop-left.self-inside.pairs.items ≡ filter (g.T.Test.passes c.args.test) c.self.inside.pairs.items =
-    subst (λ n. c.loop-left.self-inside.pairs.items ≡ take n c.self.inside.pairs.items ++ filter (g.T.Test.passes c.args.test) (drop n c.self.inside.pairs.items)) none c.loop-left.invariant.1 in (
-      subst AreAscending (sym kept) (AllPairs-filter Rises (g.T.Test.passes c.args.test) c.self.inside.pairs.items c.self.invariant.0),
-      λ e. absurd (let f : true ≡ false = sym e ∙ c.loop-left.invariant.2 in cc),
-    )
+    let kept : joined c.loop-left.self-inside.runs.items ≡ filter (g.T.Test.passes c.args.test) (joined c.self.inside.runs.items) =
+        subst (λ n. joined (drop n c.loop-left.self-inside.runs.items) ≡ filter (g.T.Test.passes c.args.test) (joined (drop n c.self.inside.runs.items))) none c.loop-left.invariant.3 in
+    (subst AreAscending (sym kept) (AllPairs-filter Rises (g.T.Test.passes c.args.test) (joined c.self.inside.runs.items) c.self.invariant.0),
+    c.loop-left.invariant.4, c.loop-left.invariant.5, λ e. absurd (let f : true ≡ false = sym e ∙ c.loop-left.invariant.6 in cc))
 
 pub returns-clause-ordered : goal.returns-clause-ordered
 returns-clause-ordered g c =
     let none : c.loop-left.left ≡ 0 = omega (arith, c.loop-left-test.false) in
-    let kept : c.loop-left.self-inside.pairs.items ≡ filter (g.T.Test.passes c.args.test) c.self.inside.pairs.items =
-    subst (λ n. c.loop-left.self-inside.pairs.items ≡ take n c.self.inside.pairs.items ++ filter (g.T.Test.passes c.args.test) (drop n c.self.inside.pairs.items)) none c.loop-left.invariant.1 in
-    subst AreAscending (sym kept) (AllPairs-filter Rises (g.T.Test.passes c.args.test) c.self.inside.pairs.items c.self.invariant.0)
+    let kept : joined c.loop-left.self-inside.runs.items ≡ filter (g.T.Test.passes c.args.test) (joined c.self.inside.runs.items) =
+        subst (λ n. joined (drop n c.loop-left.self-inside.runs.items) ≡ filter (g.T.Test.passes c.args.test) (joined (drop n c.self.inside.runs.items))) none c.loop-left.invariant.3 in
+    subst AreAscending (sym kept) (AllPairs-filter Rises (g.T.Test.passes c.args.test) (joined c.self.inside.runs.items) c.self.invariant.0)
