@@ -1,5 +1,5 @@
 -- Filters, and lists in which each two elements are related.
-use Rattle.std.proofs.Common.{◌≡◌, Bor, nat_lt, inl, inr, ℕ, zero, suc, ◌<◌, ◌≤◌, List, [], ◌∷◌, ◌++◌, length, get_or, set, drop, Bool, true, false, refl, ap, sym, subst, ◌∙◌, arith, Some, None}
+use Rattle.std.proofs.Common.{◌≡◌, Bor, nat_lt, inl, inr, ℕ, zero, suc, ◌<◌, ◌≤◌, List, [], ◌∷◌, ◌++◌, length, get_or, drop, Bool, true, false, refl, ap, sym, subst, ◌∙◌, arith, Some, None}
 use Rattle.std.specs.Prelude.{All, AllPairs, Option, cond, filter, find, slice_get, is_some, IfSome, IsSome}
 use Rattle.std.specs.Option.{option_copied}
 use Rattle.std.proofs.lemmas.Bool.{cases_lt, lt-ltb, ltb-true}

@@ -1,5 +1,5 @@
 -- What the calls of a table leave of it: a row taken out, put in, or put in the place of another.
-use Rattle.std.proofs.Common.{◌≡◌, Bor, ℕ, zero, suc, ◌+◌, ◌-◌, ◌<◌, ◌≤◌, List, [], ◌∷◌, ◌++◌, length, length-append, get_or, Bool, true, false, refl, ap, sym, subst, ◌∙◌, arith, Some, None, inl, inr}
+use Rattle.std.proofs.Common.{◌≡◌, Bor, ℕ, suc, ◌+◌, ◌-◌, ◌<◌, ◌≤◌, List, [], ◌∷◌, length, length-append, true, refl, ap, sym, subst, ◌∙◌, arith, Some, None}
 use Rattle.std.specs.Prelude.{All, cond, filter, is_some, IfNone, IfSome, IsSome, slice_get, Option, option_map, if◌then◌else◌}
 use Rattle.std.specs.List.{cons_option}
 use Rattle.std.specs.Option.{option_copied}
@@ -11,20 +11,18 @@ use Rattle.std.specs.declared.cmp.Ordering.TheVariants.{Less, Equal, Greater}
 use Rattle.std.specs.Ordering.{is_eq}
 use Rattle.psm_value.specs.declared.datum.Datum.{Datum}
 use Rattle.psm_table.specs.declared.definition.TableDef.{TableDef}
-use Rattle.psm_table.specs.declared.map.Pair.{Pair}
 use Rattle.psm_table.specs.Definition.{IsDefinition, IsRow}
 use Rattle.psm_table.specs.Held.{contents_of, entries_of, live_rows, row_of, state_of, the_row, HasItsKey, IsEntered, IsHeld}
 use Rattle.psm_table.specs.Index.{AreEntered, Grow}
 use Rattle.psm_table.specs.Key.{key_order, row_order, values_at}
-use Rattle.psm_table.specs.Map.{AreAscending, exchanged, keys_of, pair_with, pairs_above, pairs_below, value_of, with_pair, with_value}
-use Rattle.psm_table.specs.Mapped.{Mapped}
+use Rattle.psm_table.specs.Map.{AreAscending, keys_of, pair_with, pairs_above, pairs_below, value_of, with_pair, with_value}
 use Rattle.psm_table.specs.Rows.{put, without}
 use Rattle.psm_table.specs.State.{has_key, KeepsRow, State, StillKeeps}
-use Rattle.psm_table.specs.Table.{Contents, IsTable, keyed, most_rows, namesake, with_row, without_row}
+use Rattle.psm_table.specs.Table.{IsTable, most_rows, with_row, without_row}
 use Rattle.psm_table.proofs.Entered.{entered-grow, length-entries}
 use Rattle.psm_table.proofs.Filters.{AllPairs-rest}
-use Rattle.psm_table.proofs.Keys.{has-grown, has_value}
-use Rattle.psm_table.proofs.Lives.{keyed-with_pair, keyed-with_value, live-hidden, live-inserted, live-replaced, rows-find}
+use Rattle.psm_table.proofs.Keys.{has-grown}
+use Rattle.psm_table.proofs.Lives.{keyed-with_pair, keyed-with_value, live-hidden, live-inserted, live-replaced}
 use Rattle.psm_table.proofs.Pairs.{Rises, after_equal, keys-with_value, with_value-greater}
 use Rattle.psm_table.proofs.Tables.{found-all, have_places, held-find, held-put, held-without, keeps-grow, length-around, length-hidden, length-over, length-put, row_kept, Sets, Slot, Slots}
 

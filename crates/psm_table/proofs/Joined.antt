@@ -1,11 +1,11 @@
 -- Pairs in runs: a run between those before it and those after it.
 use Rattle.std.proofs.Common.{◌≡◌, ℕ, zero, suc, ◌+◌, ◌-◌, ◌<◌, ◌≤◌, List, [], ◌∷◌, ◌++◌, length, get_or, set, take, drop, Bool, true, false, refl, ap, sym, subst, ◌∙◌, add-one, arith, inl, inr, Some, None}
-use Rattle.std.specs.Prelude.{All, AllPairs, cond, filter, find, insert, Option, option_map, slice_get}
+use Rattle.std.specs.Prelude.{All, cond, filter, insert, option_map, slice_get}
 use Rattle.std.proofs.lemmas.Bool.{cases_eq}
 use Rattle.std.proofs.lemmas.List.Elements.{All-nil, All-cons, All-append, All-drop, All-tail, All-take, All-head, filter-append}
 use Rattle.std.proofs.lemmas.List.{append-nil, append_assoc, length-append, length-map, length-set}
 use Rattle.std.proofs.lemmas.List.Kept.{AllPairs-cons}
-use Rattle.std.specs.declared.cmp.Ordering.TheVariants.{Less, Equal, Greater}
+use Rattle.std.specs.declared.cmp.Ordering.TheVariants.{Less, Greater}
 use Rattle.std.specs.Ordering.{is_lt, is_gt, is_eq}
 use Rattle.psm_value.specs.declared.datum.Datum.{Datum}
 use Rattle.psm_table.specs.declared.map.Pair.{Pair}
@@ -23,10 +23,6 @@ drop-past [] zero l = refl
 drop-past [] (suc i) l = refl
 drop-past (x ∷ xs) zero l = absurd (omega arith)
 drop-past (x ∷ xs) (suc i) l = drop-past xs i (omega arith)
-
-pub take-whole : {X : Type 0} (xs : List X) → take (length xs) xs ≡ xs
-take-whole [] = refl
-take-whole (x ∷ xs) = ap (λ r. x ∷ r) (take-whole xs)
 
 module _ {V : Type 0} where
   -- a run, with the pairs before it and after it
@@ -85,8 +81,8 @@ module _ {V : Type 0} where
           filter-append (λ p. is_lt (key_order p.key key)) a (c ++ b)
           ∙ ap (λ l. l ++ pairs_below key (c ++ b)) (filter-whole (λ p. is_lt (key_order p.key key)) a (λ k d l. ap is_lt (low k d l)))
           ∙ ap (λ l. a ++ l) (filter-append (λ p. is_lt (key_order p.key key)) c b
-              ∙ ap (λ l. pairs_below key c ++ l) (filter-empty (λ p. is_lt (key_order p.key key)) b (λ k d l. ap is_lt (high k d l)))
-              ∙ append-nil (pairs_below key c))
+          ∙ ap (λ l. pairs_below key c ++ l) (filter-empty (λ p. is_lt (key_order p.key key)) b (λ k d l. ap is_lt (high k d l)))
+          ∙ append-nil (pairs_below key c))
 
       pub above-lift : pairs_above key (a ++ (c ++ b)) ≡ pairs_above key c ++ b
       above-lift =
@@ -229,9 +225,6 @@ module _ {V : Type 0} (runs : List (List (Pair V))) where
       let all = set_fit i a others h l in
       All-append IsRun (take (i + 1) (set runs i a)) (b ∷ drop (i + 1) (set runs i a)) (All-take IsRun (i + 1) (set runs i a) all)
       (All-cons IsRun b (drop (i + 1) (set runs i a)) k (All-drop IsRun (i + 1) (set runs i a) all))
-
-  pub others_fit : (i : ℕ) (a : List (Pair V)) → All IsRun runs → AreRunsBut i (set runs i a)
-  others_fit i a fit k d n other = subst IsRun (sym (get-set_other runs i k a d (λ e. other (sym e)))) (fit k d (omega (arith, n, length-set runs i a)))
 
   -- the run that was written over
   pub written : (i : ℕ) (a x : List (Pair V)) → i < length runs → x ≡ get_or (set runs i a) i x → x ≡ a

@@ -1,16 +1,15 @@
 -- Keys among the keys of a map.
-use Rattle.std.proofs.Common.{◌≡◌, ℕ, zero, suc, ◌+◌, ◌<◌, ◌≤◌, List, [], ◌∷◌, ◌++◌, length, get_or, set, take, Bool, true, false, ◌||◌, refl, ap, sym, subst, ◌∙◌, arith, Some, None, inl, inr}
-use Rattle.std.specs.Prelude.{All, cond, Option, is_some, option_map, filter}
-use Rattle.std.specs.List.{list_any}
-use Rattle.std.proofs.lemmas.List.{length-map, get_or-map, get_or_default, get_or_past}
+use Rattle.std.proofs.Common.{◌≡◌, ℕ, ◌<◌, List, [], ◌∷◌, ◌++◌, length, get_or, Bool, true, false, ◌||◌, refl, ap, sym, ◌∙◌, arith, Some, inl, inr}
+use Rattle.std.specs.Prelude.{cond, Option, is_some, option_map, filter}
+use Rattle.std.proofs.lemmas.List.{length-map, get_or-map, get_or_past}
 use Rattle.std.proofs.lemmas.List.Elements.{All-nil, All-cons}
 use Rattle.std.proofs.lemmas.List.Folds.{list_any_at, list_any-append}
 use Rattle.std.proofs.lemmas.Bool.{cases_lt}
 use Rattle.std.specs.declared.cmp.Ordering.{Ordering}
 use Rattle.std.specs.declared.cmp.Ordering.TheVariants.{Less, Equal, Greater}
-use Rattle.std.specs.Ordering.{is_lt, is_gt, is_eq}
+use Rattle.std.specs.Ordering.{is_eq}
 use Rattle.psm_value.specs.declared.datum.Datum.{Datum}
-use Rattle.psm_value.specs.declared.datum.Datum.TheVariants.{Null, Num, Text}
+use Rattle.psm_value.specs.declared.datum.Datum.TheVariants.{Null}
 use Rattle.psm_table.specs.declared.map.Pair.{Pair}
 use Rattle.psm_table.specs.Key.{key_order, values_at, AreColumnsOf}
 use Rattle.psm_table.specs.Map.{keys_of, pair_with, pairs_above, pairs_below, value_of, with_pair}

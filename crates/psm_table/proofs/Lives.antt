@@ -1,21 +1,20 @@
 -- The rows of a map from keys to rows, when a pair is put in or its row exchanged.
-use Rattle.std.proofs.Common.{◌≡◌, ◌⊎◌, inl, inr, ℕ, zero, suc, ◌<◌, List, [], ◌∷◌, ◌++◌, length, get_or, Bool, true, false, refl, ap, sym, subst, ◌∙◌, arith, Some, None}
-use Rattle.std.specs.Prelude.{All, cond, Option, IfSome, IsSome, filter, find, option_map, if◌then◌else◌}
-use Rattle.std.specs.List.{filter_map, cons_option}
+use Rattle.std.proofs.Common.{◌≡◌, ◌⊎◌, inl, inr, ℕ, List, [], ◌∷◌, ◌++◌, Bool, true, false, refl, ap, sym, ◌∙◌, Some, None}
+use Rattle.std.specs.Prelude.{All, cond, Option, IfSome, IsSome, filter, option_map, if◌then◌else◌}
+use Rattle.std.specs.List.{cons_option}
 use Rattle.std.proofs.lemmas.List.Elements.{All-nil, All-cons, All-tail, All-head, All-append, All-filter, filter_map-append}
 use Rattle.std.specs.declared.cmp.Ordering.{Ordering}
 use Rattle.std.specs.declared.cmp.Ordering.TheVariants.{Less, Equal, Greater}
 use Rattle.std.specs.Ordering.{is_lt, is_gt, is_eq, ordering_reverse}
-use Rattle.std.specs.Cmp.{alike_right}
 use Rattle.psm_value.specs.declared.datum.Datum.{Datum}
 use Rattle.psm_table.specs.declared.map.Pair.{Pair}
 use Rattle.psm_table.specs.Held.{live_rows, row_of, the_row, HasItsKey}
 use Rattle.psm_table.specs.Key.{key_order, row_order, values_at}
-use Rattle.psm_table.specs.Map.{AreAscending, exchanged, pair_with, pairs_above, pairs_below, value_of, with_pair, with_value}
+use Rattle.psm_table.specs.Map.{AreAscending, exchanged, pair_with, pairs_above, pairs_below, with_pair, with_value}
 use Rattle.psm_table.specs.Place.{ahead, behind}
 use Rattle.psm_table.specs.Rows.{last_of, put, row_with, rows_above, rows_below, without}
 use Rattle.psm_table.proofs.KeyLaws.{key_order-refl, key_order-total}
-use Rattle.psm_table.proofs.Filters.{equal_is, none_some, filter-whole, filter-empty, AllPairs-first, AllPairs-rest}
+use Rattle.psm_table.proofs.Filters.{equal_is, none_some, filter-whole, filter-empty, AllPairs-rest}
 use Rattle.psm_table.proofs.Pairs.{Rises, after_equal, after_greater, with_value-greater}
 use Rattle.psm_table.proofs.Walks.{last-append}
 use Rattle.std.proofs.lemmas.List.{append-nil}

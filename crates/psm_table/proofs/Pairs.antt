@@ -1,7 +1,7 @@
 -- Pairs in ascending order of their keys: one that is found, put in or exchanged.
-use Rattle.std.proofs.Common.{◌≡◌, ℕ, zero, suc, ◌+◌, ◌<◌, ◌≤◌, List, [], ◌∷◌, ◌++◌, length, get_or, set, take, drop, Bool, true, false, refl, ap, sym, subst, ◌∙◌, add-one, arith, Some, None}
-use Rattle.std.specs.Prelude.{All, AllPairs, Option, IsSome, option_map, filter, insert, slice_get, if◌then◌else◌}
-use Rattle.std.proofs.lemmas.List.Elements.{All-nil, All-cons, All-tail, All-head}
+use Rattle.std.proofs.Common.{◌≡◌, ℕ, zero, suc, ◌<◌, List, [], ◌∷◌, ◌++◌, length, get_or, set, drop, Bool, true, false, refl, ap, sym, subst, ◌∙◌, arith, Some, None}
+use Rattle.std.specs.Prelude.{All, Option, IsSome, option_map, insert, if◌then◌else◌}
+use Rattle.std.proofs.lemmas.List.Elements.{All-cons, All-tail, All-head}
 use Rattle.std.proofs.lemmas.List.Kept.{AllPairs-filter, AllPairs-cons}
 use Rattle.std.proofs.lemmas.List.{get_or-map, length-map}
 use Rattle.std.proofs.lemmas.Option.{slice_get-get_or}

@@ -1,28 +1,27 @@
 -- Rows that have an entry beside a row's in a UNIQUE list, found by the entries.
-use Rattle.std.proofs.Common.{◌≡◌, ℕ, zero, suc, ◌+◌, ◌<◌, ◌≤◌, List, [], ◌∷◌, ◌++◌, length, get_or, set, take, drop, Bool, true, false, not, ◌&&◌, ◌||◌, refl, ap, sym, subst, ◌∙◌, arith, Some, None, inl, inr}
+use Rattle.std.proofs.Common.{◌≡◌, ℕ, zero, suc, ◌<◌, List, [], ◌∷◌, ◌++◌, length, get_or, set, take, drop, Bool, true, false, not, ◌&&◌, ◌||◌, refl, ap, sym, subst, ◌∙◌, arith, Some, None, inl, inr}
 use Rattle.std.specs.Prelude.{All, cond, filter, slice_get, Option, option_map}
 use Rattle.std.specs.List.{cons_option}
 use Rattle.std.proofs.lemmas.List.{length-set, get_or_default}
 use Rattle.std.proofs.lemmas.Bool.{cases_eq}
-use Rattle.std.proofs.lemmas.List.Elements.{All-nil, All-cons, All-tail, All-head, All-filter}
-use Rattle.std.proofs.lemmas.List.Folds.{list_any_none, Any-from_list_any}
+use Rattle.std.proofs.lemmas.List.Elements.{All-nil, All-cons, All-tail, All-head}
+use Rattle.std.proofs.lemmas.List.Folds.{Any-from_list_any}
 use Rattle.std.specs.declared.cmp.Ordering.{Ordering}
 use Rattle.std.specs.declared.cmp.Ordering.TheVariants.{Less, Equal, Greater}
 use Rattle.std.specs.Ordering.{is_lt, is_gt, is_eq, is_ne, ordering_then, ordering_reverse}
-use Rattle.std.specs.Cmp.{alike_right}
 use Rattle.psm_value.specs.declared.datum.Datum.{Datum}
 use Rattle.psm_value.specs.Order.{data_order}
 use Rattle.psm_table.specs.declared.definition.TableDef.{TableDef}
 use Rattle.psm_table.specs.declared.map.Pair.{Pair}
 use Rattle.psm_table.specs.Held.{entries_of, live_rows, row_of, the_row, HasItsKey, IsEntered}
-use Rattle.psm_table.specs.Index.{is_current, is_entry, rival_at, AreEntered, AreHarmless}
+use Rattle.psm_table.specs.Index.{is_current, rival_at}
 use Rattle.psm_table.specs.Key.{key_order, row_order, values_at}
-use Rattle.psm_table.specs.Map.{AreAscending, keys_of, pair_with, pairs_above, pairs_from, prefix_order, value_of}
+use Rattle.psm_table.specs.Map.{AreAscending, keys_of, pair_with, pairs_above, pairs_from, prefix_order}
 use Rattle.psm_table.specs.Mapped.{Mapped}
 use Rattle.psm_table.specs.Place.{ahead}
 use Rattle.psm_table.specs.Rows.{IsAscending, row_with}
 use Rattle.psm_table.specs.State.{entry_of, has_key, HasEntry}
-use Rattle.psm_table.specs.Unique.{agree, clashes, conflict, equal_values, has_null, is_rival}
+use Rattle.psm_table.specs.Unique.{agree, clashes, conflict, has_null, is_rival}
 use Rattle.psm_table.proofs.KeyLaws.{key_order-total}
 use Rattle.psm_table.proofs.Entered.{all_zip-at, all_zip-from, get-entries, get-set, get-set_other, length-entries, length_all_zip}
 use Rattle.psm_table.proofs.Filters.{filtered, unfiltered, equal_is, greater_is}

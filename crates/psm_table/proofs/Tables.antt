@@ -1,7 +1,7 @@
 -- What a change of one row leaves of a table.
-use Rattle.std.proofs.Common.{◌≡◌, ℕ, zero, suc, ◌+◌, ◌<◌, ◌≤◌, List, [], ◌∷◌, ◌++◌, length, get_or, Bool, true, false, ◌||◌, refl, ap, sym, subst, ◌∙◌, arith, Some, None}
-use Rattle.std.specs.Prelude.{All, AllPairs, cond, filter, find, IfSome, Option, option_map, if◌then◌else◌}
-use Rattle.std.specs.List.{AllZip, cons_option, filter_map}
+use Rattle.std.proofs.Common.{◌≡◌, ℕ, suc, ◌+◌, ◌≤◌, List, [], ◌∷◌, length, get_or, Bool, true, false, ◌||◌, refl, ap, sym, subst, ◌∙◌, arith, Some, None}
+use Rattle.std.specs.Prelude.{All, cond, find, IfSome, Option, option_map, if◌then◌else◌}
+use Rattle.std.specs.List.{cons_option}
 use Rattle.std.proofs.lemmas.List.Elements.{All-nil, All-cons, All-append, All-filter, All-tail, All-head}
 use Rattle.std.proofs.lemmas.List.Kept.{AllPairs-filter, AllPairs-cons}
 use Rattle.std.specs.declared.cmp.Ordering.{Ordering}
@@ -14,13 +14,13 @@ use Rattle.psm_table.specs.Definition.{IsDefinition, IsRow}
 use Rattle.psm_table.specs.Held.{contents_of, entries_of, live_rows, row_of, state_of, HasItsKey, IsEntered, IsHeld}
 use Rattle.psm_table.specs.Index.{AreEntered, Grow, HaveKeys}
 use Rattle.psm_table.specs.Key.{values_at, key_order, row_order, AreColumnsOf}
-use Rattle.psm_table.specs.Map.{AreAscending, exchanged, keys_of, pair_with, pairs_above, pairs_below, value_of, with_pair, with_value}
+use Rattle.psm_table.specs.Map.{AreAscending, keys_of, pair_with, pairs_above, pairs_below, value_of, with_value}
 use Rattle.psm_table.specs.Mapped.{Mapped}
-use Rattle.psm_table.specs.Rows.{IsAscending, rows_below, rows_above, row_with, put, without}
-use Rattle.psm_table.specs.State.{has_key, KeepsRow, State, StillKeeps}
-use Rattle.psm_table.specs.Table.{Contents, IsTable, keyed, most_rows, namesake, with_row, without_row}
+use Rattle.psm_table.specs.Rows.{IsAscending, rows_below, rows_above, put, without}
+use Rattle.psm_table.specs.State.{has_key, KeepsRow, StillKeeps}
+use Rattle.psm_table.specs.Table.{Contents, IsTable, keyed, most_rows, with_row}
 use Rattle.psm_table.proofs.Entered.{entered-grow, length-entries}
-use Rattle.psm_table.proofs.Filters.{filtered, AllPairs-first, AllPairs-rest, AllPairs-append, less_is, equal_is, greater_is}
+use Rattle.psm_table.proofs.Filters.{filtered, AllPairs-rest, AllPairs-append, less_is, equal_is, greater_is}
 use Rattle.psm_table.proofs.KeyLaws.{key_order-refl, key_order-total}
 use Rattle.psm_table.proofs.Keys.{or_right}
 use Rattle.psm_table.proofs.Rivals.{equal_trans}

@@ -112,7 +112,7 @@ module _ {V : Type 0} (key : List Datum) where
         let inside : i < length runs = omega (arith, h.bound, h.order) in
         let first : begins Above (get_or runs i []) ≡ false = subst (λ j. begins Above (get_or runs j []) ≡ false) one (h.left (omega arith)) in
         let less : All (λ p. key_order p.key key ≡ Less) (joined (take i runs)) =
-            all_less (joined (drop i runs)) (rest-some Above runs up fit i inside) (begins-drop Above runs up fit i inside ∙ first) (joined (take i runs)) (before_rise Above runs up fit i) in
+        all_less (joined (drop i runs)) (rest-some Above runs up fit i inside) (begins-drop Above runs up fit i inside ∙ first) (joined (take i runs)) (before_rise Above runs up fit i) in
         subst (λ j. All (λ p. key_order p.key key ≡ Less) (joined (take j runs))) (sym one) less
 
     pub in_end : (low high : ℕ) → IsCut Above runs low high → high ≤ low → 0 < length runs → IsIn key runs (low - 1)

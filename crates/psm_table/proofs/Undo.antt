@@ -1,6 +1,6 @@
 -- Changes of one row that undo one another.
-use Rattle.std.proofs.Common.{◌≡◌, ℕ, List, [], ◌∷◌, ◌++◌, get_or, Bool, true, false, refl, ap, sym, ◌∙◌, Some, None}
-use Rattle.std.specs.Prelude.{All, cond, filter, find, Option}
+use Rattle.std.proofs.Common.{◌≡◌, ℕ, List, [], ◌∷◌, ◌++◌, get_or, Bool, refl, ap, sym, ◌∙◌, Some, None}
+use Rattle.std.specs.Prelude.{All, cond, filter}
 use Rattle.std.proofs.lemmas.List.{append-nil}
 use Rattle.std.proofs.lemmas.List.Elements.{All-nil, All-cons, All-head, All-tail, filter-append}
 use Rattle.std.specs.declared.cmp.Ordering.{Ordering}

@@ -1,8 +1,8 @@
 -- What it means that no row clashes.
-use Rattle.std.proofs.Common.{◌≡◌, ℕ, zero, suc, ◌<◌, List, [], ◌∷◌, ◌++◌, length, get_or, Bool, true, false, not, ◌&&◌, ◌||◌, refl, ap, sym, subst, ◌∙◌, arith, inl, inr}
-use Rattle.std.specs.Prelude.{All, AllPairs, cond, filter}
+use Rattle.std.proofs.Common.{◌≡◌, ℕ, List, [], ◌∷◌, get_or, Bool, true, false, not, ◌&&◌, ◌||◌, refl, ap, sym, subst, ◌∙◌, arith}
+use Rattle.std.specs.Prelude.{All, AllPairs, cond}
 use Rattle.std.specs.List.{list_any}
-use Rattle.std.proofs.lemmas.List.Elements.{All-nil, All-cons, All-head, All-tail, All-filter}
+use Rattle.std.proofs.lemmas.List.Elements.{All-nil, All-cons, All-filter}
 use Rattle.std.proofs.lemmas.List.Kept.{AllPairs-cons, AllPairs-filter}
 use Rattle.std.specs.declared.cmp.Ordering.{Ordering}
 use Rattle.std.specs.declared.cmp.Ordering.TheVariants.{Less, Equal, Greater}
@@ -10,9 +10,9 @@ use Rattle.std.specs.Ordering.{is_eq, is_gt, is_lt, is_ne, ordering_reverse}
 use Rattle.psm_value.specs.declared.datum.Datum.{Datum}
 use Rattle.psm_table.specs.declared.definition.TableDef.{TableDef}
 use Rattle.psm_table.specs.Key.{key_order, row_order, values_at}
-use Rattle.psm_table.specs.Rows.{IsAscending, put, rows_above, rows_below}
+use Rattle.psm_table.specs.Rows.{IsAscending, rows_above, rows_below}
 use Rattle.psm_table.specs.Table.{Contents, IsTable, with_row}
-use Rattle.psm_table.specs.Unique.{agree, clashes, conflict, equal_values, has_null, is_rival, AreUnique, IsUnique}
+use Rattle.psm_table.specs.Unique.{agree, clashes, conflict, has_null, is_rival, AreUnique}
 use Rattle.psm_table.proofs.Filters.{filtered, filter-empty, greater_is, less_is, AllPairs-append, AllPairs-first, AllPairs-rest}
 use Rattle.psm_table.proofs.KeyLaws.{key_order-total}
 use Rattle.psm_table.proofs.Searches.{greater_after_equal, greater_after_greater}

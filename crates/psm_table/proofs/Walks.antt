@@ -1,5 +1,5 @@
 -- Walks over pairs in ascending order of their keys, from one pair to the next or the one before.
-use Rattle.std.proofs.Common.{◌≡◌, length-append, ℕ, zero, suc, ◌-◌, ◌+◌, ◌<◌, List, [], ◌∷◌, ◌++◌, length, get_or, Bool, true, false, not, refl, ap, sym, subst, ◌∙◌, arith, Some, None}
+use Rattle.std.proofs.Common.{◌≡◌, length-append, suc, ◌-◌, ◌<◌, List, [], ◌∷◌, ◌++◌, length, get_or, Bool, true, false, not, refl, ap, sym, subst, ◌∙◌, arith, Some, None}
 use Rattle.std.specs.Prelude.{All, cond, Option, filter, slice_get}
 use Rattle.std.proofs.lemmas.List.Elements.{All-head, All-tail, All-filter}
 use Rattle.std.specs.declared.cmp.Ordering.{Ordering}

@@ -4,7 +4,7 @@ use Rattle.std.specs.Ordering.{is_eq}
 use Rattle.psm_value.specs.declared.datum.Datum.{Datum}
 use Rattle.psm_table.specs.declared.definition.TableDef.{TableDef}
 use Rattle.psm_table.specs.declared.map.Pair.{Pair}
-use Rattle.psm_table.specs.Held.{live_rows, row_of, IsEntered}
+use Rattle.psm_table.specs.Held.{row_of, IsEntered}
 use Rattle.psm_table.specs.Key.{values_at, key_order, AreColumnsOf}
 use Rattle.psm_table.specs.Map.{prefix_order}
 use Rattle.psm_table.specs.State.{has_key, HasEntry}

@@ -1,5 +1,5 @@
 -- Pairs of a key and a value in the order of their keys.
-use Rattle.std.specs.Prelude.{◌≡◌, ℕ, Bool, true, false, not, List, [], ◌∷◌, ◌++◌, length, map, take, AllPairs, filter, find, Option, option_map, if◌then◌else◌}
+use Rattle.std.specs.Prelude.{◌≡◌, not, List, ◌∷◌, ◌++◌, length, map, take, AllPairs, filter, find, Option, option_map, if◌then◌else◌}
 use Rattle.std.specs.Ordering.{is_lt, is_gt, is_eq}
 use Rattle.std.specs.declared.cmp.Ordering.{Ordering}
 use Rattle.std.specs.declared.cmp.Ordering.TheVariants.{Less}

@@ -1,9 +1,7 @@
 -- Tables: what is in them, and what the calls that change one row do to that.
-use Rattle.std.specs.Prelude.{◌≡◌, ℕ, ◌+◌, ◌<◌, ◌≤◌, List, [], length, map, All, Option, Some, None, IsSome, Result, Ok, Err}
+use Rattle.std.specs.Prelude.{ℕ, ◌≤◌, List, [], length, All, Option}
 use Rattle.psm_value.specs.declared.datum.Datum.{Datum}
 use Rattle.psm_table.specs.declared.definition.TableDef.{TableDef}
-use Rattle.psm_table.specs.declared.fault.RowFault.{RowFault}
-use Rattle.psm_table.specs.declared.fault.RowFault.TheVariants.{Duplicate, Absent, Full, Memory}
 use Rattle.psm_table.specs.Definition.{IsDefinition, IsRow}
 use Rattle.psm_table.specs.Key.{values_at}
 use Rattle.psm_table.specs.Rows.{IsAscending, row_with, put, without}

@@ -1,12 +1,12 @@
-use Rattle.std.proofs.Common.{◌≡◌, ℕ, ◌+◌, ◌<◌, ◌++◌, List, length, take, get_or, set, true, false, sym, subst, ap, ◌∙◌, add-one, arith}
+use Rattle.std.proofs.Common.{◌≡◌, ℕ, ◌+◌, ◌<◌, ◌++◌, List, length, get_or, set, true, false, sym, subst, ap, ◌∙◌, add-one, arith}
 use Rattle.std.proofs.lemmas.List.{get_or_default}
 use Rattle.psm_table.specs.Held.{entries_of}
 use Rattle.psm_table.specs.Index.{IsEnteredFrom}
 use Rattle.psm_table.specs.Key.{values_at}
-use Rattle.psm_table.specs.Map.{keys_of, value_of, with_pair}
+use Rattle.psm_table.specs.Map.{keys_of, with_pair}
 use Rattle.psm_table.specs.Mapped.{Mapped}
 use Rattle.psm_table.specs.State.{entry_of, has_key}
-use Rattle.psm_table.proofs.Entered.{entered-there, entered_put, entries-set, first_kept, grow-same, grow-trans, grow_put, length-entries, none_there, on_err, on_ok, take-less, take-set}
+use Rattle.psm_table.proofs.Entered.{entered-there, entered_put, entries-set, first_kept, grow-same, grow-trans, grow_put, none_there, on_err, on_ok, take-less, take-set}
 use Rattle.psm_table.proofs.Keys.{columns_exist}
 use Rattle.psm_table.proofs.index.+enter_from.Goals as goal
 

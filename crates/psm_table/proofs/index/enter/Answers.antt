@@ -1,4 +1,4 @@
-use Rattle.std.proofs.Common.{◌∙◌, ap, length}
+use Rattle.std.proofs.Common.{◌∙◌}
 use Rattle.psm_table.specs.Held.{entries_of, IsEntered}
 use Rattle.psm_table.specs.Index.{IsEnteredFrom}
 use Rattle.psm_table.proofs.Entered.{entered-all, on_ok}

@@ -1,4 +1,4 @@
-use Rattle.std.proofs.Common.{◌<◌, length, sym, arith}
+use Rattle.std.proofs.Common.{sym, arith}
 use Rattle.std.proofs.lemmas.List.Folds.{list_any_none}
 use Rattle.psm_table.specs.Held.{live_rows}
 use Rattle.psm_table.specs.Unique.{is_rival}

@@ -1,4 +1,4 @@
-use Rattle.std.proofs.Common.{◌≡◌, length, get_or, set, [], sym, subst, ap, ◌∙◌, arith, ℕ, List}
+use Rattle.std.proofs.Common.{◌≡◌, get_or, [], sym, subst, ◌∙◌, arith, ℕ, List}
 use Rattle.std.proofs.lemmas.List.{length-set}
 use Rattle.psm_table.proofs.Rivals.{survives-set}
 use Rattle.psm_table.proofs.index.settle_entries.Goals as goal

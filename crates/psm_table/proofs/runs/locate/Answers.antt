@@ -4,8 +4,7 @@ use Rattle.std.specs.Ordering.{is_gt}
 use Rattle.psm_table.specs.Key.{key_order}
 use Rattle.psm_table.specs.Place.{probe_key}
 use Rattle.psm_table.specs.Runs.{begins, IsIn}
-use Rattle.psm_table.proofs.Turns.{cut_fail, cut_pass, in_end, turn_end}
-use Rattle.psm_table.proofs.Walks.{up-from}
+use Rattle.psm_table.proofs.Turns.{cut_fail, cut_pass, in_end}
 use Rattle.psm_table.proofs.runs.locate.Goals as goal
 
 pub loop-low-preserved-then-begins_above : goal.loop-low-preserved-then-begins_above

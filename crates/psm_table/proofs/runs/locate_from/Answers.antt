@@ -5,7 +5,7 @@ use Rattle.std.specs.Ordering.{is_lt}
 use Rattle.psm_table.specs.Map.{prefix_order}
 use Rattle.psm_table.specs.Place.{probe_key}
 use Rattle.psm_table.specs.Runs.{begins, IsTurn}
-use Rattle.psm_table.proofs.Turns.{cut_fail, cut_pass, in_end, turn_end}
+use Rattle.psm_table.proofs.Turns.{cut_fail, cut_pass, turn_end}
 use Rattle.psm_table.proofs.Walks.{up-from}
 use Rattle.psm_table.proofs.runs.locate_from.Goals as goal
 

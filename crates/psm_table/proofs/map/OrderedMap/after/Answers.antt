@@ -14,9 +14,9 @@ returns-in-Some-clause-pair g c =
     let same : joined c.self.inside.runs.items ≡ c.args.self.now.pairs = ap (λ (m : Mapped g.row.V.Denot). m.pairs) c.self.view_is in
     let some : 0 < length c.as_slice-runs.result.now = search rules in
     let here : IsIn (probe_key c.args.probe) c.self.inside.runs.items c.locate-at.result =
-        subst (λ l. IsIn (probe_key c.args.probe) l c.locate-at.result) c.as_slice-runs.ensures.value (c.locate-at.ensures some) in
+    subst (λ l. IsIn (probe_key c.args.probe) l c.locate-at.result) c.as_slice-runs.ensures.value (c.locate-at.ensures some) in
     let run : c.index-runs-at.result ≡ get_or c.self.inside.runs.items c.locate-at.result c.index-runs-at.result =
-        subst (λ l. c.index-runs-at.result ≡ get_or l c.locate-at.result c.index-runs-at.result) c.as_slice-runs.ensures.value c.index-runs-at.is in
+    subst (λ l. c.index-runs-at.result ≡ get_or l c.locate-at.result c.index-runs-at.result) c.as_slice-runs.ensures.value c.index-runs-at.is in
     let there : Some c.in-Some.pair.now ≡ slice_get (pairs_above (probe_key c.args.probe) (get_or c.self.inside.runs.items c.locate-at.result c.index-runs-at.result)) 0 = sym (ap option_copied c.in-Some.is) ∙ c.after.ensures ∙ ap (λ r. slice_get (pairs_above (probe_key c.args.probe) r) 0) run in
     after_there (probe_key c.args.probe) c.self.inside.runs.items c.locate-at.result c.index-runs-at.result here c.in-Some.pair.now there ∙ ap (λ l. slice_get (pairs_above (probe_key c.args.probe) l) 0) same
 
@@ -25,8 +25,8 @@ returns-in-None-clause-pair g c =
     let same : joined c.self.inside.runs.items ≡ c.args.self.now.pairs = ap (λ (m : Mapped g.row.V.Denot). m.pairs) c.self.view_is in
     let some : 0 < length c.as_slice-runs.result.now = search rules in
     let here : IsIn (probe_key c.args.probe) c.self.inside.runs.items c.locate-at.result =
-        subst (λ l. IsIn (probe_key c.args.probe) l c.locate-at.result) c.as_slice-runs.ensures.value (c.locate-at.ensures some) in
+    subst (λ l. IsIn (probe_key c.args.probe) l c.locate-at.result) c.as_slice-runs.ensures.value (c.locate-at.ensures some) in
     let run : c.index-runs-at.result ≡ get_or c.self.inside.runs.items c.locate-at.result c.index-runs-at.result =
-        subst (λ l. c.index-runs-at.result ≡ get_or l c.locate-at.result c.index-runs-at.result) c.as_slice-runs.ensures.value c.index-runs-at.is in
+    subst (λ l. c.index-runs-at.result ≡ get_or l c.locate-at.result c.index-runs-at.result) c.as_slice-runs.ensures.value c.index-runs-at.is in
     let none : None ≡ slice_get (pairs_above (probe_key c.args.probe) (get_or c.self.inside.runs.items c.locate-at.result c.index-runs-at.result)) 0 = sym (ap option_copied c.in-None.is) ∙ c.after.ensures ∙ ap (λ r. slice_get (pairs_above (probe_key c.args.probe) r) 0) run in
     c.first_from.ensures ∙ ap (λ l. slice_get (joined (drop (c.locate-at.result + 1) l)) 0) c.as_slice-runs.ensures.value ∙ after_past (probe_key c.args.probe) c.self.inside.runs.items c.locate-at.result c.index-runs-at.result here none ∙ ap (λ l. slice_get (pairs_above (probe_key c.args.probe) l) 0) same

@@ -14,9 +14,9 @@ returns-in-Some-clause-pair g c =
     let same : joined c.self.inside.runs.items ≡ c.args.self.now.pairs = ap (λ (m : Mapped g.row.V.Denot). m.pairs) c.self.view_is in
     let some : 0 < length c.as_slice-runs.result.now = search rules in
     let here : IsIn (probe_key c.args.probe) c.self.inside.runs.items c.locate-at.result =
-        subst (λ l. IsIn (probe_key c.args.probe) l c.locate-at.result) c.as_slice-runs.ensures.value (c.locate-at.ensures some) in
+    subst (λ l. IsIn (probe_key c.args.probe) l c.locate-at.result) c.as_slice-runs.ensures.value (c.locate-at.ensures some) in
     let run : c.index-runs-at.result ≡ get_or c.self.inside.runs.items c.locate-at.result c.index-runs-at.result =
-        subst (λ l. c.index-runs-at.result ≡ get_or l c.locate-at.result c.index-runs-at.result) c.as_slice-runs.ensures.value c.index-runs-at.is in
+    subst (λ l. c.index-runs-at.result ≡ get_or l c.locate-at.result c.index-runs-at.result) c.as_slice-runs.ensures.value c.index-runs-at.is in
     let there : Some c.in-Some.pair.now ≡ last_of (pairs_below (probe_key c.args.probe) (get_or c.self.inside.runs.items c.locate-at.result c.index-runs-at.result)) = sym (ap option_copied c.in-Some.is) ∙ c.before-2.ensures ∙ ap (λ r. last_of (pairs_below (probe_key c.args.probe) r)) run in
     before_there (probe_key c.args.probe) c.self.inside.runs.items c.locate-at.result c.index-runs-at.result here c.in-Some.pair.now there ∙ ap (λ l. last_of (pairs_below (probe_key c.args.probe) l)) same
 
@@ -25,8 +25,8 @@ returns-in-None-clause-pair g c =
     let same : joined c.self.inside.runs.items ≡ c.args.self.now.pairs = ap (λ (m : Mapped g.row.V.Denot). m.pairs) c.self.view_is in
     let some : 0 < length c.as_slice-runs.result.now = search rules in
     let here : IsIn (probe_key c.args.probe) c.self.inside.runs.items c.locate-at.result =
-        subst (λ l. IsIn (probe_key c.args.probe) l c.locate-at.result) c.as_slice-runs.ensures.value (c.locate-at.ensures some) in
+    subst (λ l. IsIn (probe_key c.args.probe) l c.locate-at.result) c.as_slice-runs.ensures.value (c.locate-at.ensures some) in
     let run : c.index-runs-at.result ≡ get_or c.self.inside.runs.items c.locate-at.result c.index-runs-at.result =
-        subst (λ l. c.index-runs-at.result ≡ get_or l c.locate-at.result c.index-runs-at.result) c.as_slice-runs.ensures.value c.index-runs-at.is in
+    subst (λ l. c.index-runs-at.result ≡ get_or l c.locate-at.result c.index-runs-at.result) c.as_slice-runs.ensures.value c.index-runs-at.is in
     let none : None ≡ last_of (pairs_below (probe_key c.args.probe) (get_or c.self.inside.runs.items c.locate-at.result c.index-runs-at.result)) = sym (ap option_copied c.in-None.is) ∙ c.before-2.ensures ∙ ap (λ r. last_of (pairs_below (probe_key c.args.probe) r)) run in
     c.last_before.ensures ∙ ap (λ l. last_of (joined (take c.locate-at.result l))) c.as_slice-runs.ensures.value ∙ before_past (probe_key c.args.probe) c.self.inside.runs.items c.locate-at.result c.index-runs-at.result here none ∙ ap (λ l. last_of (pairs_below (probe_key c.args.probe) l)) same

@@ -1,9 +1,7 @@
 use Rattle.std.proofs.Common.{◌≡◌, ap, sym, subst, ◌∙◌, List, Some}
-use Rattle.std.specs.Prelude.{Option}
 use Rattle.psm_value.specs.declared.datum.Datum.{Datum}
 use Rattle.psm_table.specs.Key.{values_at}
-use Rattle.psm_table.specs.Map.{pair_with, with_value}
-use Rattle.psm_table.specs.Mapped.{Mapped}
+use Rattle.psm_table.specs.Map.{with_value}
 use Rattle.psm_table.specs.Place.{IsAt, IsGap}
 use Rattle.psm_table.proofs.Pairs.{replaced, with_value-absent}
 use Rattle.psm_table.proofs.run.Run+Option+Row.replace_row.Goals as goal

@@ -1,6 +1,5 @@
-use Rattle.std.proofs.Common.{◌≡◌, ◌≤◌, ◌+◌, ◌++◌, length}
+use Rattle.std.proofs.Common.{◌≡◌, ◌≤◌, ◌++◌, length}
 use Rattle.std.specs.Vec.{vec_capacity}
-use Rattle.psm_table.specs.Map.{AreAscending}
 use Rattle.psm_table.specs.Runs.{most_pairs}
 use Rattle.psm_table.proofs.run.Run.cut.Given as goal
 

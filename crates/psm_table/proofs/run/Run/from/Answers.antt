@@ -2,7 +2,6 @@ use Rattle.std.proofs.Common.{◌≡◌, ap, sym, subst, ◌∙◌, arith, get_o
 use Rattle.std.specs.Prelude.{not, slice_get}
 use Rattle.std.specs.Ordering.{is_lt}
 use Rattle.psm_table.specs.Map.{AreAscending, prefix_order}
-use Rattle.psm_table.specs.Mapped.{Mapped}
 use Rattle.psm_table.specs.Place.{probe_key}
 use Rattle.psm_table.proofs.Filters.{copied-get}
 use Rattle.psm_table.proofs.Halves.{parted_fail, parted_pass, parted_end}

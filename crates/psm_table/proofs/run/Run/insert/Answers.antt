@@ -1,6 +1,4 @@
-use Rattle.std.proofs.Common.{◌≡◌, ◌≤◌, ap, sym, subst, ◌∙◌, length, arith}
-use Rattle.std.specs.Prelude.{insert}
-use Rattle.std.specs.Vec.{vec_capacity}
+use Rattle.std.proofs.Common.{◌≤◌, ap, sym, subst, ◌∙◌, length, arith}
 use Rattle.psm_table.specs.declared.map.Pair.{Pair}
 use Rattle.psm_table.specs.Map.{AreAscending, value_of}
 use Rattle.psm_table.specs.Place.{IsAt, IsGap}
@@ -13,9 +11,11 @@ invariant_of-self g c =
     let p : Pair g.row.V.Denot = record { key = c.args.key; value = c.args.value } in
     let here : IsGap c.args.key c.args.self.now c.in-Err.at = subst (λ k. IsGap k c.args.self.now c.in-Err.at) c.values.ensures c.in-Err.ensures.absent in
     let gap : IsGap c.args.key c.self.inside.pairs.items c.in-Err.at = subst (λ l. IsGap c.args.key l c.in-Err.at) (sym c.self.view_is) here in
-    let room : length c.insert_reserved.new.items.items ≤ 128 = omega (arith, c.insert_reserved.ensures.len, c.requires.room, ap length c.self.view_is) in
-    (subst AreAscending (sym (c.insert_reserved.ensures.items ∙ inserted p c.self.inside.pairs.items c.in-Err.at gap)) (ascending-with_pair p c.self.inside.pairs.items c.self.invariant.0),
-    room, omega (arith, c.insert_reserved.ensures.capacity, c.self.invariant.2))
+    let room : length c.insert_reserved.new.items.items ≤ 128 = omega (arith, c.insert_reserved.ensures.len, c.requires.room, ap length c.self.view_is) in (
+      subst AreAscending (sym (c.insert_reserved.ensures.items ∙ inserted p c.self.inside.pairs.items c.in-Err.at gap)) (ascending-with_pair p c.self.inside.pairs.items c.self.invariant.0),
+      room,
+      omega (arith, c.insert_reserved.ensures.capacity, c.self.invariant.2),
+    )
 
 pub returns-in-Ok-clause-pairs : goal.returns-in-Ok-clause-pairs
 returns-in-Ok-clause-pairs g c =

@@ -1,13 +1,9 @@
-use Rattle.std.proofs.Common.{◌≡◌, ℕ, ◌+◌, ◌-◌, ◌<◌, ◌≤◌, List, length, Some, None, true, false, refl, ap, sym, subst, ◌∙◌, arith}
-use Rattle.std.specs.Prelude.{All, IfSome, IsSome, Option}
-use Rattle.std.specs.Option.{option_copied}
-use Rattle.psm_value.specs.declared.datum.Datum.{Datum}
+use Rattle.std.proofs.Common.{◌≡◌, Some, None, refl, ap, sym, subst, ◌∙◌}
 use Rattle.psm_table.specs.Definition.{IsRow}
-use Rattle.psm_table.specs.Held.{contents_of, entries_of, row_of, state_of, IsEntered, IsHeld}
-use Rattle.psm_table.specs.Key.{values_at}
-use Rattle.psm_table.specs.Map.{keys_of, value_of, with_pair, with_value}
-use Rattle.psm_table.specs.State.{has_key, KeepsRow, State, StillKeeps}
-use Rattle.psm_table.specs.Table.{keyed, most_rows, namesake, with_row, without_row}
+use Rattle.psm_table.specs.Held.{row_of, state_of}
+use Rattle.psm_table.specs.Map.{with_value}
+use Rattle.psm_table.specs.State.{State, StillKeeps}
+use Rattle.psm_table.specs.Table.{keyed, without_row}
 use Rattle.psm_table.proofs.Holds.{contents-hidden, contents-taken, held-hidden, held-same, if_none, its_row, keeps-hidden, keeps-same, kept-hidden, some_live, state-same, with_value-none}
 use Rattle.psm_table.proofs.Tables.{held-find}
 use Rattle.psm_table.proofs.table.Table.hide.Goals as goal

@@ -1,13 +1,11 @@
-use Rattle.std.proofs.Common.{◌≡◌, ℕ, ◌+◌, ◌-◌, ◌<◌, ◌≤◌, List, length, Some, None, true, false, refl, ap, sym, subst, ◌∙◌, arith}
-use Rattle.std.specs.Prelude.{All, IfSome, IsSome, Option}
-use Rattle.std.specs.Option.{option_copied}
+use Rattle.std.proofs.Common.{◌≡◌, ℕ, ◌<◌, List, length, Some, None, false, refl, ap, sym, subst, ◌∙◌}
 use Rattle.psm_value.specs.declared.datum.Datum.{Datum}
 use Rattle.psm_table.specs.Definition.{IsRow}
-use Rattle.psm_table.specs.Held.{contents_of, entries_of, row_of, state_of, IsEntered, IsHeld}
+use Rattle.psm_table.specs.Held.{contents_of, entries_of, state_of, IsEntered}
 use Rattle.psm_table.specs.Key.{values_at}
-use Rattle.psm_table.specs.Map.{keys_of, value_of, with_pair, with_value}
-use Rattle.psm_table.specs.State.{has_key, KeepsRow, State, StillKeeps}
-use Rattle.psm_table.specs.Table.{keyed, most_rows, namesake, with_row, without_row}
+use Rattle.psm_table.specs.Map.{value_of, with_pair}
+use Rattle.psm_table.specs.State.{has_key, State, StillKeeps}
+use Rattle.psm_table.specs.Table.{most_rows, namesake, with_row}
 use Rattle.psm_table.specs.Held.{the_row}
 use Rattle.psm_table.proofs.Entered.{none_there}
 use Rattle.psm_table.proofs.Holds.{contents-first, held-first, keeps-first, keeps-same, state-same}

@@ -1,20 +1,15 @@
-use Rattle.std.proofs.Common.{◌≡◌, ℕ, ◌+◌, ◌-◌, ◌<◌, ◌≤◌, List, length, Some, None, true, false, refl, ap, sym, subst, ◌∙◌, arith}
-use Rattle.std.specs.Prelude.{All, IfSome, IsSome, Option}
+use Rattle.std.proofs.Common.{◌≡◌, Some, ap, sym, subst, ◌∙◌}
+use Rattle.std.specs.Prelude.{IfSome}
 use Rattle.std.specs.Option.{option_copied}
-use Rattle.psm_value.specs.declared.datum.Datum.{Datum}
 use Rattle.psm_table.specs.Definition.{IsRow}
-use Rattle.psm_table.specs.Held.{contents_of, entries_of, row_of, state_of, IsEntered, IsHeld}
-use Rattle.psm_table.specs.Key.{values_at}
-use Rattle.psm_table.specs.Map.{keys_of, value_of, with_pair, with_value}
-use Rattle.psm_table.specs.State.{has_key, KeepsRow, State, StillKeeps}
-use Rattle.psm_table.specs.Table.{keyed, most_rows, namesake, with_row, without_row}
+use Rattle.psm_table.specs.State.{State}
 use Rattle.std.specs.Prelude.{slice_get}
 use Rattle.std.specs.Ordering.{is_gt}
 use Rattle.std.proofs.lemmas.List.Elements.{All-filter}
 use Rattle.psm_table.specs.Held.{live_rows}
 use Rattle.psm_table.specs.Key.{row_order}
 use Rattle.psm_table.specs.Map.{pairs_above}
-use Rattle.psm_table.specs.Rows.{last_of, row_after, rows_above}
+use Rattle.psm_table.specs.Rows.{row_after, rows_above}
 use Rattle.psm_table.proofs.Holds.{listed_fits}
 use Rattle.psm_table.proofs.Lives.{rows-above}
 use Rattle.psm_table.proofs.table.Table.next_after.Goals as goal
