@@ -2,7 +2,7 @@ use Rattle.std.proofs.Common.{rules, ◌≡◌, ◌<◌, length, set, ap, sym, s
 use Rattle.std.proofs.lemmas.List.Elements.{All-set}
 use Rattle.psm_table.specs.declared.map.Pair.{Pair}
 use Rattle.psm_table.specs.Map.{value_of, with_pair}
-use Rattle.psm_table.specs.Runs.{joined, IsIn, IsRun}
+use Rattle.psm_table.specs.Runs.{joined, most_pairs, IsIn, IsRun}
 use Rattle.psm_table.proofs.Joined.{value-in, with_pair-in, written}
 use Rattle.psm_table.proofs.runs.put.Goals as goal
 
@@ -42,4 +42,4 @@ returns-clause-runs g c =
     subst (λ l. c.locate-at.result < length l) c.as_slice.ensures.value (c.locate-at.ensures (subst (λ l. 0 < length l) (sym c.as_slice.ensures.value) some)).inside in
     let x : c.index.result.now ≡ c.insert.new.self = written c.args.runs.now.items c.locate-at.result c.insert.new.self c.index.result.now inside c.index.ensures in
     All-set IsRun c.args.runs.now.items c.locate-at.result c.insert.new.self
-    (record { some = omega (arith, c.insert.ensures.size); room = subst (λ r. length r < 128) x c.if-is_full.ensures.room }) c.requires.runs
+    (record { some = omega (arith, c.insert.ensures.size); room = subst (λ r. length r < most_pairs) x c.if-is_full.ensures.room }) c.requires.runs
