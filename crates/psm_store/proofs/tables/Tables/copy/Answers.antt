@@ -1,4 +1,4 @@
-use Rattle.std.proofs.Common.{◌≡◌, ◌<◌, List, length, get_or, subst, ◌∙◌, ap, sym, arith, take}
+use Rattle.std.proofs.Common.{◌≡◌, ◌<◌, List, length, get_or, ◌∙◌, ap, arith}
 use Rattle.psm_table.specs.State.{State}
 use Rattle.psm_store.specs.Kept.{contents_of}
 use Rattle.psm_store.proofs.Seen.{seen-more}
