@@ -27,8 +27,8 @@ struct Bench<L: Ledger> {
     steps: Steps<L>,
     count: u64,
     ghost counted: { steps ≡ count },
-    ghost key: { table.def.key ≡ 0 ∷ [] },
-    ghost kinds: { kinds_of table.def.columns ≡ Integer ∷ Integer ∷ [] },
+    ghost key: { table.contents.def.key ≡ 0 ∷ [] },
+    ghost kinds: { kinds_of table.contents.def.columns ≡ Integer ∷ Integer ∷ [] },
 }
 
 /// Fills a table, looks each key up, and walks the rows. `Full` comes past 200,000 rows.

@@ -1,4 +1,4 @@
 pub mod Changes
 pub mod Marked
 pub mod Runs
-pub mod TestRows
+pub mod Seen

@@ -1,6 +1,6 @@
 -- What calls of a store of copies leave of its marks.
-use Rattle.std.proofs.Common.{◌≡◌, ℕ, ◌+◌, ◌-◌, ◌<◌, ◌≤◌, List, ◌++◌, length, get_or, take, drop, replicate, ap, sym, subst, ◌∙◌, arith}
-use Rattle.std.proofs.lemmas.List.{length-take, get_or-take, get_or_default, take_all, take_at, length-map, append-nil}
+use Rattle.std.proofs.Common.{◌≡◌, ℕ, ◌+◌, ◌-◌, ◌<◌, ◌≤◌, List, ◌++◌, length, get_or, take, replicate, ap, sym, subst, ◌∙◌, arith}
+use Rattle.std.proofs.lemmas.List.{length-take, get_or-take, get_or_default, take_all, append-nil}
 use Rattle.psm_table.specs.Table.{Contents}
 use Rattle.psm_store.specs.declared.store.Mark.{Mark}
 use Rattle.psm_store.specs.Marks.{defs_of}
@@ -31,18 +31,12 @@ keeps_cut s new n e m o h =
 pub kept_same : (s new : Kept) → IsKept s → new.marks ≡ s.marks → defs_of new.tables ≡ defs_of s.tables → IsKept new
 kept_same s new h e f = kept_cut s new (length s.marks) h (e ∙ sym (take_all (length s.marks) s.marks (omega arith))) f
 
--- a list that is written over by one of the same length
-pub written : (tables new : List Contents) (size : ℕ) → size ≡ length tables → defs_of new ≡ defs_of tables → take size (new ++ drop (length new) tables) ≡ new
-written tables new size long e =
-    let same : length new ≡ size = sym (length-map new (λ t. t.def)) ∙ ap length e ∙ length-map tables (λ t. t.def) ∙ sym long in
-    take_at new (drop (length new) tables) size same
-
--- a row call: the copies have all marks, and the tables are written over by some of the same definitions
-pub rows_kept : (tables new : List Contents) (copies all : List (List Contents)) (n m size : ℕ) → IsKept (kept_of tables copies n) → size ≡ length tables →
-    defs_of new ≡ defs_of tables → m ≡ 0 → all ≡ copies ++ replicate n tables → IsKept (kept_of (take size (new ++ drop (length new) tables)) all m)
-rows_kept tables new copies all n m size h long e none f =
+-- a row call: the copies have all marks, and the tables are others of the same definitions
+pub rows_kept : (tables new : List Contents) (copies all : List (List Contents)) (n m : ℕ) → IsKept (kept_of tables copies n) →
+    defs_of new ≡ defs_of tables → m ≡ 0 → all ≡ copies ++ replicate n tables → IsKept (kept_of new all m)
+rows_kept tables new copies all n m h e none f =
     let marks : all ++ replicate m new ≡ copies ++ replicate n tables = ap (λ k. all ++ replicate k new) none ∙ append-nil all ∙ f in
-    subst (λ (t : List Contents). IsKept (kept_of t all m)) (sym (written tables new size long e)) (kept_same (kept_of tables copies n) (kept_of new all m) h marks e)
+    kept_same (kept_of tables copies n) (kept_of new all m) h marks e
 
 -- a rollback, after which the rest of the copies stand
 module _ (s : Kept) (mark : Mark) (tables new : List Contents) (copies rest : List (List Contents)) (n len : ℕ)

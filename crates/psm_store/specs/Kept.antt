@@ -1,6 +1,6 @@
 -- A store that keeps copies of its tables.
-use Rattle.std.specs.Prelude.{◌≡◌, ℕ, ◌<◌, ◌≤◌, List, [], ◌++◌, length, All, slice_index_or, replicate}
-use Rattle.psm_table.specs.declared.definition.TableDef.{TableDef}
+use Rattle.std.specs.Prelude.{◌≡◌, ℕ, ◌<◌, ◌≤◌, List, ◌++◌, length, map, All, slice_index_or, replicate}
+use Rattle.psm_table.specs.State.{State}
 use Rattle.psm_table.specs.Table.{Contents}
 use Rattle.psm_store.specs.declared.store.Mark.{Mark}
 use Rattle.psm_store.specs.Marks.{defs_of, most_marks}
@@ -9,6 +9,10 @@ use Rattle.psm_store.specs.Marks.{defs_of, most_marks}
 pub record Kept : Type 0 where
   pub tables : List Contents
   pub marks : List (List Contents)
+
+-- what is in the tables, whatever else they keep
+abbrev pub contents_of : List State → List Contents
+contents_of states = map (λ s. s.contents) states
 
 -- tables with copies for some marks, and after those so many marks that stand for the tables of now
 abbrev pub kept_of : List Contents → List (List Contents) → ℕ → Kept
@@ -27,7 +31,3 @@ pub record IsOpen (s : Kept) (m : Mark) : Type 0 where
 -- the tables that a mark stands for
 abbrev pub stands_for : Kept → Mark → List Contents
 stands_for s m = slice_index_or s.marks m.depth s.tables
-
--- a table without rows
-abbrev pub empty_table : TableDef → Contents
-empty_table def = record { def = def; rows = [] }

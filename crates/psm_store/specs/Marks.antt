@@ -1,9 +1,8 @@
 -- Marks, to which the tables of a store can be put back.
-use Rattle.std.specs.Prelude.{◌≡◌, ℕ, ◌+◌, ◌^◌, ◌<◌, ◌≤◌, List, map, All, Result, Ok, Err}
+use Rattle.std.specs.Prelude.{◌≡◌, ℕ, ◌+◌, ◌^◌, ◌<◌, ◌≤◌, List, map, Result, Ok, Err}
 use Rattle.std.specs.declared.alloc.AllocError.{AllocError}
 use Rattle.psm_table.specs.declared.definition.TableDef.{TableDef}
-use Rattle.psm_table.specs.Table.{Contents, IsTable}
-use Rattle.psm_table.specs.Legal.{IsLegal, schema_of}
+use Rattle.psm_table.specs.Table.{Contents}
 use Rattle.psm_store.specs.declared.store.Mark.{Mark}
 
 -- so many marks are never open
@@ -13,10 +12,6 @@ most_marks = 2 ^ 100
 -- the definitions of tables
 abbrev pub defs_of : List Contents → List TableDef
 defs_of tables = map (λ t. t.def) tables
-
--- each is a table of its definition and keeps the rules of its columns, key and UNIQUE lists
-abbrev pub AreGoodTables : List Contents → Type 0
-AreGoodTables tables = All (λ t. IsTable t × IsLegal (schema_of t.def) t.rows) tables
 
 -- how many marks are open after a call of mark
 abbrev pub marks_after : ℕ → Result Mark AllocError → ℕ

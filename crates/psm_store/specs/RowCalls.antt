@@ -3,7 +3,6 @@ use Rattle.std.specs.Prelude.{◌≡◌, ℕ, ◌<◌, List, length, slice_get, 
 use Rattle.psm_value.specs.declared.datum.Datum.{Datum}
 use Rattle.psm_table.specs.declared.fault.RowFault.{RowFault}
 use Rattle.psm_table.specs.declared.fault.RowFault.TheVariants.{Duplicate, Absent, Full, Memory}
-use Rattle.psm_table.specs.Rows.{row_with, without}
 use Rattle.psm_table.specs.Table.{Contents, most_rows, namesake}
 
 -- the tables with another in the place of one of them
@@ -25,14 +24,6 @@ abbrev pub row_after : Result (Unit {0}) RowFault → (Contents → Contents) �
 row_after (Ok _) change t = change t
 row_after (Err _) change t = t
 
--- the table without the row that has the key
-abbrev pub without_row : List Datum → Contents → Contents
-without_row key t = record t { rows = without t.def.key key t.rows }
-
--- the row that has a key
-abbrev pub keyed : Contents → List Datum → Option (List Datum)
-keyed t key = row_with t.def.key key t.rows
-
 -- what an insertion answers: a full table comes first, and then a row that has the key; memory may run out at any time
 abbrev pub AnswersInsert : List Datum → Result (Unit {0}) RowFault → Contents → Type 0
 AnswersInsert row (Ok _) t = (length t.rows < most_rows) × (namesake t row ≡ None)
@@ -48,11 +39,3 @@ AnswersFound found (Err Absent) = found ≡ None
 AnswersFound found (Err Memory) = Unit {0}
 AnswersFound found (Err Full) = ⊥
 AnswersFound found (Err Duplicate) = ⊥
-
--- what the exchange of the row that has a key for another answers
-abbrev pub AnswersReplace : List Datum → List Datum → Result (Unit {0}) RowFault → Contents → Type 0
-AnswersReplace key row (Err Absent) t = keyed t key ≡ None
-AnswersReplace key row (Err Memory) t = Unit {0}
-AnswersReplace key row (Ok u) t = IsSome (keyed t key) × AnswersInsert row (Ok u) (without_row key t)
-AnswersReplace key row (Err Duplicate) t = IsSome (keyed t key) × AnswersInsert row (Err Duplicate) (without_row key t)
-AnswersReplace key row (Err Full) t = IsSome (keyed t key) × AnswersInsert row (Err Full) (without_row key t)

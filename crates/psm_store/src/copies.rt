@@ -1,7 +1,7 @@
 //! Copies of tables, each for one or more marks that are open side by side.
 ghost use Rattle.std.specs.Prelude.{◌≡◌, ℕ, ◌+◌, ◌-◌, ◌^◌, ◌<◌, ◌≤◌, [], ◌++◌, length, take, replicate, IfOk, IfSome, IfNone, OnOk, OnErr, OnSome};
 
-use psm_table::Table;
+use crate::tables::Tables;
 use std::alloc::{AllocError, Global};
 use std::marker::Model;
 
@@ -15,7 +15,7 @@ pub(crate) struct Copies {
 /// A copy for neighbouring marks that stand for the same tables.
 #[derive(Drop)]
 struct Group {
-    tables: Vec<Table>,
+    tables: Tables,
     marks: u128,
 }
 
@@ -25,7 +25,7 @@ impl Model for Group {
 
     ghost Value = { Shared };
 
-    ghost view = { λ g. record { tables = g.tables.items; marks = g.marks } };
+    ghost view = { λ g. record { tables = g.tables; marks = g.marks } };
 
     ghost invariant = { λ g. 0 < g.marks };
 }
@@ -48,8 +48,8 @@ impl Group {
     }
 
     /// Gives the copy.
-    fn into_tables(self) -> Vec<Table>
-        ensures { result.items ≡ self.tables }
+    fn into_tables(self) -> Tables
+        ensures { result ≡ self.tables }
     {
         let Group { tables, marks: _ } = self;
         tables
@@ -87,10 +87,10 @@ impl Copies {
     }
 
     /// Adds a copy for further marks.
-    pub(crate) fn push(&mut self, tables: Vec<Table>, marks: u128) -> Result<(), AllocError>
+    pub(crate) fn push(&mut self, tables: Tables, marks: u128) -> Result<(), AllocError>
         requires some { 0 < marks }
         requires bound { length self.old + marks < 2 ^ 128 }
-        ensures ok { OnOk result (self.new ≡ self.old ++ replicate marks tables.items) }
+        ensures ok { OnOk result (self.new ≡ self.old ++ replicate marks tables) }
         ensures err { OnErr result (self.new ≡ self.old) }
     {
         self.groups.push(Group { tables, marks })?;
@@ -110,10 +110,10 @@ impl Copies {
     }
 
     /// Moves the copy for the mark of that depth into the tables, if there is one. It and the deeper copies go.
-    pub(crate) fn restore(&mut self, depth: u128, tables: &mut Vec<Table>)
+    pub(crate) fn restore(&mut self, depth: u128, tables: &mut Tables)
         ensures outside { length self.new ≤ depth }
-        ensures restored { take (depth + 1) (self.new ++ replicate (depth + 1) tables.new.items) ≡
-            take (depth + 1) (self.old ++ replicate (depth + 1) tables.old.items) }
+        ensures restored { take (depth + 1) (self.new ++ replicate (depth + 1) tables.new) ≡
+            take (depth + 1) (self.old ++ replicate (depth + 1) tables.old) }
     {
         while depth < self.len() {
             if let Some(group) = self.pop() {
@@ -147,15 +147,4 @@ impl Copies {
             self.marks -= group.marks();
         }
     }
-}
-
-/// The same tables in memory of their own.
-pub(crate) fn copied(alloc: Global, tables: &[Table]) -> Result<Vec<Table>, AllocError>
-    ensures { IfOk result (λ copy. copy.items ≡ tables.now) }
-{
-    let mut copy = Vec::new(alloc);
-    for table in tables {
-        copy.push(table.copy(alloc)?)?;
-    }
-    Ok(copy)
 }

@@ -1,15 +1,11 @@
 //! Tables that can be put back to marks: what a store is, and one that keeps whole copies.
 #![tactic(auto)]
 
-mod atomic;
 mod copies;
 mod copy_store;
 mod store;
+mod tables;
 
-pub use atomic::replace;
 pub use copy_store::CopyStore;
 pub use psm_table::{Key, List, Row, RowFault, Steps, Table, TableDef};
 pub use store::{Mark, Store};
-
-#[cfg(test)]
-mod tests;

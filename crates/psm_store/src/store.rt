@@ -1,9 +1,9 @@
 ghost use Rattle.std.specs.Prelude.{◌≡◌, ℕ, ◌+◌, ◌<◌, List, Some, IfSome, IfOk, length, slice_get};
 ghost use Rattle.psm_table.specs.Definition.{IsRow, IsKey};
-ghost use Rattle.psm_table.specs.Table.{Contents, with_row, namesake};
+ghost use Rattle.psm_table.specs.Table.{Contents, keyed, namesake, with_row, without_row};
 ghost use Rattle.psm_store.specs.declared.store.Mark.{Mark};
 ghost use Rattle.psm_store.specs.Marks.{AnyMark, IsNewMark, IsOutside, Keeps, defs_of, marks_after, most_marks};
-ghost use Rattle.psm_store.specs.RowCalls.{AnswersFound, AnswersInsert, after, keyed, without_row};
+ghost use Rattle.psm_store.specs.RowCalls.{AnswersFound, AnswersInsert, after};
 
 use psm_table::{Key, Row, RowFault, Steps, Table};
 use std::alloc::{AllocError, Global};
@@ -37,7 +37,7 @@ pub trait Store {
     /// A table by its number.
     fn table(&self, t: u32) -> &Table
         requires { t < length (tables self.now) }
-        ensures { slice_get (tables self.now) t ≡ Some result.now };
+        ensures { slice_get (tables self.now) t ≡ Some result.now.contents };
 
     /// Opens a mark, which stands for the tables of now. The marks that are held stay as they were, also
     /// where memory runs out.

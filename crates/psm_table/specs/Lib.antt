@@ -1,8 +1,13 @@
 pub mod Definition
+pub mod Held
+pub mod Index
 pub mod Key
-pub mod Legal
+pub mod Map
+pub mod Mapped
 pub mod Parts
 pub mod Place
 pub mod Rows
+pub mod Runs
+pub mod State
 pub mod Table
 pub mod Unique

@@ -1,31 +1,55 @@
--- Where a key stands among rows.
-use Rattle.std.specs.Prelude.{◌≡◌, ℕ, ◌+◌, ◌<◌, ◌≤◌, List, length, take, drop, slice_get, None}
+-- What is looked for in a map, and where a key stands in it.
+use Rattle.std.specs.Prelude.{◌≡◌, ℕ, ◌+◌, ◌<◌, ◌≤◌, ◌++◌, List, [], ◌∷◌, length, take, drop, slice_get, Option, Some, None}
 use Rattle.psm_value.specs.declared.datum.Datum.{Datum}
-use Rattle.psm_table.specs.declared.place.Probe.{Probe}
-use Rattle.psm_table.specs.declared.place.Probe.TheVariants.{Of, In}
+use Rattle.psm_table.specs.declared.map.Pair.{Pair}
+use Rattle.psm_table.specs.declared.probe.Probe.{Probe}
+use Rattle.psm_table.specs.declared.probe.Probe.TheVariants.{Of, In, Both}
 use Rattle.psm_table.specs.Key.{values_at, AreColumnsOf}
-use Rattle.psm_table.specs.Rows.{rows_below, rows_above, row_with}
+use Rattle.psm_table.specs.Map.{pairs_below, pairs_above, pair_with}
 
 -- the key that is looked for
-abbrev pub probe_key : List ℕ → Probe → List Datum
-probe_key columns (Of key) = key.now
-probe_key columns (In row) = values_at columns row.now
+abbrev pub probe_key : Probe → List Datum
+probe_key (Of key) = key.now
+probe_key (In columns row) = values_at columns.now row.now
+probe_key (Both columns key row) = values_at columns.now row.now ++ values_at key.now row.now
 
--- there is a value for each column of the key
-abbrev pub FitsProbe : List ℕ → Probe → Type 0
-FitsProbe columns (Of key) = length key.now ≡ length columns
-FitsProbe columns (In row) = AreColumnsOf row.now columns
+-- the columns are some of the row's
+abbrev pub FitsProbe : Probe → Type 0
+FitsProbe (Of key) = Unit {0}
+FitsProbe (In columns row) = AreColumnsOf row.now columns.now
+FitsProbe (Both columns key row) = AreColumnsOf row.now columns.now × AreColumnsOf row.now key.now
 
--- the row at place i has the key, the rows before it have smaller keys, and the rows after it greater ones
-pub record IsAt (columns : List ℕ) (key : List Datum) (rows : List (List Datum)) (i : ℕ) : Type 0 where
-  pub inside : i < length rows
-  pub has : row_with columns key rows ≡ slice_get rows i
-  pub before : take i rows ≡ rows_below columns key rows
-  pub after : drop (i + 1) rows ≡ rows_above columns key rows
+module _ {V : Type 0} where
+  -- the pair at place i has the key, those before it have smaller keys, and those after it greater ones
+  pub record IsAt (key : List Datum) (pairs : List (Pair V)) (i : ℕ) : Type 0 where
+    pub inside : i < length pairs
+    pub has : pair_with key pairs ≡ slice_get pairs i
+    pub before : take i pairs ≡ pairs_below key pairs
+    pub after : drop (i + 1) pairs ≡ pairs_above key pairs
 
--- no row has the key, the rows before place i have smaller keys, and the rows from it on greater ones
-pub record IsGap (columns : List ℕ) (key : List Datum) (rows : List (List Datum)) (i : ℕ) : Type 0 where
-  pub inside : i ≤ length rows
-  pub has : row_with columns key rows ≡ None
-  pub before : take i rows ≡ rows_below columns key rows
-  pub after : drop i rows ≡ rows_above columns key rows
+  -- no pair has the key, those before place i have smaller keys, and those from it on greater ones
+  pub record IsGap (key : List Datum) (pairs : List (Pair V)) (i : ℕ) : Type 0 where
+    pub inside : i ≤ length pairs
+    pub has : pair_with key pairs ≡ None
+    pub before : take i pairs ≡ pairs_below key pairs
+    pub after : drop i pairs ≡ pairs_above key pairs
+
+  -- the pairs after a key; without a key all
+  abbrev pub pairs_past : Option Probe → List (Pair V) → List (Pair V)
+  pairs_past None pairs = pairs
+  pairs_past (Some probe) pairs = pairs_above (probe_key probe) pairs
+
+  -- the pairs before a key; without a key all
+  abbrev pub pairs_short_of : Option Probe → List (Pair V) → List (Pair V)
+  pairs_short_of None pairs = pairs
+  pairs_short_of (Some probe) pairs = pairs_below (probe_key probe) pairs
+
+  -- a pair and those after it
+  abbrev pub ahead : List (Pair V) → Option (Pair V) → List (Pair V)
+  ahead pairs None = []
+  ahead pairs (Some p) = p ∷ pairs_above p.key pairs
+
+  -- a pair and those before it
+  abbrev pub behind : List (Pair V) → Option (Pair V) → List (Pair V)
+  behind pairs None = []
+  behind pairs (Some p) = pairs_below p.key pairs ++ p ∷ []

@@ -35,9 +35,9 @@ abbrev pub row_after : List ℕ → Option (List Datum) → List (List Datum) �
 row_after columns None rows = slice_get rows 0
 row_after columns (Some key) rows = slice_get (rows_above columns key rows) 0
 
--- the last of the rows
-abbrev pub last_of : List (List Datum) → Option (List Datum)
-last_of rows = slice_get rows (length rows - 1)
+-- the last element of a list
+abbrev pub last_of : {X : Type 0} → List X → Option X
+last_of xs = slice_get xs (length xs - 1)
 
 -- the last row with a smaller key; without a key the last row
 abbrev pub row_before : List ℕ → Option (List Datum) → List (List Datum) → Option (List Datum)

@@ -1,5 +1,5 @@
 -- UNIQUE lists of columns (ISO/IEC 9075:1992, 8.9 and 11.7).
-use Rattle.std.specs.Prelude.{ℕ, Bool, true, false, not, ◌&&◌, List}
+use Rattle.std.specs.Prelude.{◌≡◌, ℕ, Bool, true, false, not, ◌&&◌, List, All, AllPairs}
 use Rattle.std.specs.List.{list_any}
 use Rattle.std.specs.Ordering.{is_eq, is_ne}
 use Rattle.psm_value.specs.declared.datum.Datum.{Datum}
@@ -41,3 +41,11 @@ clashes def row rows = list_any (is_rival def row) rows
 -- whether neither of two values is null, and they are equal
 abbrev pub equal_value : Datum → Datum → Bool
 equal_value a b = not (is_null a) && (not (is_null b) && is_eq (data_order a b))
+
+-- no two rows agree in the columns
+abbrev pub IsUnique : List (List Datum) → List ℕ → Type 0
+IsUnique rows columns = AllPairs (λ a b. agree a b columns ≡ false) rows
+
+-- no two rows agree in one of the definition's UNIQUE lists
+abbrev pub AreUnique : TableDef → List (List Datum) → Type 0
+AreUnique def rows = All (IsUnique rows) def.unique

@@ -1,4 +1,4 @@
-ghost use Rattle.std.specs.Prelude.{◌≡◌, IfOk};
+ghost use Rattle.std.specs.Prelude.{◌≡◌, ◌++◌, IfOk};
 ghost use Rattle.psm_table.specs.Key.{key_order, values_at, AreColumnsOf};
 
 use crate::row::{Row, copied};
@@ -76,6 +76,24 @@ impl Key {
             _ => Parts::Many(values_in(alloc, columns, values)?),
         };
         Ok(Key { parts })
+    }
+}
+
+impl Key {
+    /// The row's values in the columns, followed by those in its key.
+    pub(crate) fn of_entry(
+        alloc: Global,
+        columns: &[u32],
+        key: &[u32],
+        row: &[Datum],
+    ) -> Result<Key, AllocError>
+        requires columns { AreColumnsOf row.now columns.now }
+        requires key { AreColumnsOf row.now key.now }
+        ensures { IfOk result (λ entry. entry ≡ values_at columns.now row.now ++ values_at key.now row.now) }
+    {
+        let mut values = values_in(alloc, columns, row)?;
+        values.append(&mut values_in(alloc, key, row)?)?;
+        Ok(Key::of(values))
     }
 }
 

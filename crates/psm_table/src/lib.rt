@@ -3,20 +3,22 @@
 
 mod definition;
 mod fault;
+mod index;
 mod key;
-mod place;
+mod laws;
+mod map;
+mod probe;
 mod row;
+mod run;
+mod runs;
 mod table;
-mod unique;
 
 pub use definition::{Column, TableDef};
 pub use fault::RowFault;
 pub use key::Key;
+pub use laws::{undo_laws, unique_laws};
 pub use psm_list::List;
 pub use psm_text::Name;
 pub use psm_value::{Datum, SqlType, Steps};
 pub use row::Row;
 pub use table::Table;
-
-#[cfg(test)]
-mod tests;

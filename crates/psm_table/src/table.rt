@@ -1,177 +1,283 @@
-ghost use Rattle.std.specs.Prelude.{◌≡◌, ◌+◌, [], length, is_some, IfSome, IfOk, IfErr, if◌then◌else◌};
+ghost use Rattle.std.specs.Prelude.{◌≡◌, ◌+◌, ◌≤◌, ◌<◌, ◌↔◌, [], length, None, IsTrue, is_some, true, false, IfSome, IfNone, IfOk, if◌then◌else◌};
 ghost use Rattle.std.specs.Option.{option_copied, ForSome};
 ghost use Rattle.psm_table.specs.Definition.{IsDefinition, IsRow, IsKey, HasColumns};
+ghost use Rattle.psm_table.specs.Held.{entries_of};
 ghost use Rattle.psm_table.specs.Key.{values_at};
-ghost use Rattle.psm_table.specs.Place.{probe_key, FitsProbe, IsAt, IsGap};
-ghost use Rattle.psm_table.specs.Rows.{row_with, row_after, row_before, without};
-ghost use Rattle.psm_table.specs.Table.{IsTable, Inserts, Changes};
+ghost use Rattle.psm_table.specs.Rows.{row_after, row_before};
+ghost use Rattle.psm_table.specs.State.{has_key, Inserts, Changes, KeepsRow, StillKeeps};
+ghost use Rattle.psm_table.specs.Table.{IsTable, empty_table, keyed, most_rows, namesake, with_row, without_row};
 ghost use Rattle.psm_table.specs.Unique.{clashes};
 
 use crate::definition::TableDef;
 use crate::fault::RowFault;
+use crate::index::{enter, has_rival, settle_entries};
 use crate::key::Key;
-use crate::place::{Probe, place};
+use crate::map::{HasRow, OrderedMap};
+use crate::probe::Probe;
 use crate::row::Row;
-use crate::unique::has_rival;
 use psm_value::Steps;
 use std::alloc::{AllocError, Global};
 use std::marker::Model;
-use std::mem;
 use std::sync::ledger::Ledger;
 
-const MOST_ROWS: usize = 200_000;
+const MOST_ROWS: u32 = 200_000;
+
+/// So many rows more than the table has may be kept after `settle`.
+const FEW_LEFT: u64 = 64;
 
 /// A table: its definition, which no call changes, and its rows in ascending order of their keys.
+///
+/// The row of a key that was taken out by `hide`, or put out by `swap`, can be put back by `revive` without
+/// memory: its key keeps a place and its UNIQUE entries stay, until `settle`, `erase` or `change`.
 #[derive(Drop)]
 pub struct Table {
     def: TableDef,
-    rows: Vec<Row>,
+    alloc: Global,
+    /// A key without a row is that of a row which was taken out.
+    rows: OrderedMap<Option<Row>>,
+    /// How many keys have a row.
+    live: u32,
+    /// For each UNIQUE list the values of rows in it, each followed by the row's key.
+    indexes: Vec<OrderedMap<()>>,
+    /// How many rows were taken out, or put out by others, since these were last let go.
+    left: u64,
 }
 
 impl Model for Table {
-    ghost use Rattle.psm_table.specs.Table.{Contents, IsTable};
+    ghost use Rattle.psm_table.specs.State.{State};
+    ghost use Rattle.psm_table.specs.Held.{IsHeld, state_of};
 
-    ghost Value = { Contents };
+    ghost Value = { State };
 
-    ghost view = { λ t. record { def = t.def; rows = t.rows.items } };
+    ghost view = { λ t. state_of t.def t.rows t.indexes.items };
 
-    ghost invariant = { λ t. IsTable (record { def = t.def; rows = t.rows.items }) };
+    ghost invariant = { λ t. IsHeld t.def t.rows t.live t.indexes.items };
 }
 
 impl Table {
     /// An empty table.
     pub fn new(alloc: Global, def: TableDef) -> Result<Table, AllocError>
         requires { IsDefinition def }
-        ensures { IfOk result (λ t. t ≡ record { def = def; rows = [] }) }
+        ensures { IfOk result (λ t. t.contents ≡ empty_table def) }
     {
+        let mut indexes = Vec::with_capacity(alloc, def.unique.items().len())?;
+        for _ in def.unique.items() {
+            indexes.push(OrderedMap::new(alloc))?;
+        }
         Ok(Table {
             def,
-            rows: Vec::new(alloc),
+            alloc,
+            rows: OrderedMap::new(alloc),
+            live: 0,
+            indexes,
+            left: 0,
         })
     }
 
     /// The definition.
     pub fn def(&self) -> &TableDef
-        ensures value { result.now ≡ self.now.def }
-        ensures table { IsTable self.now }
+        ensures value { result.now ≡ self.now.contents.def }
+        ensures table { IsTable self.now.contents }
     {
         &self.def
     }
 
     /// The number of rows.
     pub fn len(&self) -> u32
-        ensures value { result ≡ length self.now.rows }
-        ensures table { IsTable self.now }
+        ensures value { result ≡ length self.now.contents.rows }
+        ensures table { IsTable self.now.contents }
     {
-        self.rows.len() as u32
+        self.live
     }
 
     /// Puts a row in, which is one row step. `Full` comes exactly where there are 200,000 rows, and else
-    /// `Duplicate` exactly where a row has its key; `Memory` comes where the list of rows can't grow.
+    /// `Duplicate` exactly where a row has its key. `Memory` may come at any time. A refusal changes nothing.
     pub fn insert<L: Ledger>(&mut self, row: Row, steps: &mut Steps<L>) -> Result<(), RowFault>
-        requires { IsRow self.old.def row }
+        requires { IsRow self.old.contents.def row }
         ensures answer { Inserts self.old self.new row steps.old steps.new result }
-        ensures def { self.new.def ≡ self.old.def }
+        ensures def { self.new.contents.def ≡ self.old.contents.def }
+        ensures keeps { StillKeeps self.old self.new }
     {
-        if self.rows.len() == MOST_ROWS {
+        if self.live == MOST_ROWS {
             return Err(RowFault::Full);
         }
-        match self.place(Probe::In(row.values())) {
-            Ok(_) => Err(RowFault::Duplicate),
-            Err(at) => {
-                self.rows.insert(at, row)?;
-                steps.tick();
-                Ok(())
+        let place = self.rows.get(Probe::In {
+            columns: self.def.key.items(),
+            row: row.values(),
+        });
+        match place {
+            None => self.insert_first(row, steps),
+            Some(held) => {
+                if held.is_some() {
+                    return Err(RowFault::Duplicate);
+                }
+                self.insert_again(row, steps)
             }
         }
     }
 
     /// Takes the row that has the key out, which is one row step. `None` comes exactly where no row has it.
     pub fn erase<L: Ledger>(&mut self, key: &Key, steps: &mut Steps<L>) -> Option<Row>
-        requires { IsKey self.old.def key.now }
-        ensures row { result ≡ row_with self.old.def.key key.now self.old.rows }
-        ensures fits { IfSome result (λ row. IsRow self.old.def row) }
-        ensures rows { self.new ≡ record self.old { rows = without self.old.def.key key.now self.old.rows } }
+        requires { IsKey self.old.contents.def key.now }
+        ensures row { result ≡ keyed self.old.contents key.now }
+        ensures fits { IfSome result (λ row. IsRow self.old.contents.def row) }
+        ensures rows { self.new.contents ≡ without_row key.now self.old.contents }
         ensures steps { steps.new ≡ steps.old + (if is_some result then 1 else 0) }
     {
-        match self.place(Probe::Of(key.values())) {
-            Ok(at) => {
-                steps.tick();
-                Some(self.rows.remove(at))
-            }
-            Err(_) => None,
-        }
+        let row = self.hide(key, steps);
+        self.settle();
+        row
     }
 
     /// Puts a row in the place of the row that has its key, and gives that one; this is one row step.
-    /// `Absent` comes exactly where no row has the key, and there is no other refusal.
+    /// `Absent` comes exactly where no row has the key. `Memory` may come at any time. A refusal changes nothing.
     pub fn change<L: Ledger>(&mut self, row: Row, steps: &mut Steps<L>) -> Result<Row, RowFault>
-        requires { IsRow self.old.def row }
+        requires { IsRow self.old.contents.def row }
         ensures answer { Changes self.old self.new row steps.old steps.new result }
-        ensures def { self.new.def ≡ self.old.def }
-        ensures fits { IfOk result (λ was. IsRow self.old.def was) }
+        ensures def { self.new.contents.def ≡ self.old.contents.def }
+        ensures fits { IfOk result (λ was. IsRow self.old.contents.def was) }
     {
-        match self.place(Probe::In(row.values())) {
-            Ok(at) => {
+        let was = self.swap(row, steps)?;
+        self.settle();
+        Ok(was)
+    }
+
+    /// Takes the row that has the key out as `erase` does, and keeps it: `revive` can put it back. It takes no
+    /// memory. `None` comes exactly where no row has the key, and then nothing changes.
+    pub fn hide<L: Ledger>(&mut self, key: &Key, steps: &mut Steps<L>) -> Option<Row>
+        requires { IsKey self.old.contents.def key.now }
+        ensures row { result ≡ keyed self.old.contents key.now }
+        ensures fits { IfSome result (λ row. IsRow self.old.contents.def row) }
+        ensures rows { self.new.contents ≡ without_row key.now self.old.contents }
+        ensures steps { steps.new ≡ steps.old + (if is_some result then 1 else 0) }
+        ensures none { IfNone result (self.new ≡ self.old) }
+        ensures kept { IfSome result (λ row. KeepsRow self.new row) }
+        ensures keeps { StillKeeps self.old self.new }
+    {
+        let row = self.rows.take_row(Probe::Of(key.values()))?;
+        self.live -= 1;
+        self.left = self.left.saturating_add(1);
+        steps.tick();
+        Some(row)
+    }
+
+    /// Puts a row in the place of the row that has its key, as `change` does, and keeps that one: `revive` can
+    /// put it back. `Absent` comes exactly where no row has the key. `Memory` may come at any time. A refusal
+    /// changes nothing.
+    pub fn swap<L: Ledger>(&mut self, row: Row, steps: &mut Steps<L>) -> Result<Row, RowFault>
+        requires { IsRow self.old.contents.def row }
+        ensures answer { Changes self.old self.new row steps.old steps.new result }
+        ensures def { self.new.contents.def ≡ self.old.contents.def }
+        ensures fits { IfOk result (λ was. IsRow self.old.contents.def was) }
+        ensures kept { IfOk result (λ was. KeepsRow self.new was) }
+        ensures keeps { StillKeeps self.old self.new }
+    {
+        let probe = Probe::In {
+            columns: self.def.key.items(),
+            row: row.values(),
+        };
+        if self.rows.row_at(probe).is_none() {
+            return Err(RowFault::Absent);
+        }
+        enter(self.alloc, &mut self.indexes, &self.def, row.values())?;
+        match self.rows.replace_row(self.def.key.items(), row) {
+            Some(was) => {
+                self.left = self.left.saturating_add(1);
                 steps.tick();
-                Ok(mem::replace(&mut self.rows[at], row))
+                Ok(was)
             }
-            Err(_) => Err(RowFault::Absent),
+            None => Err(RowFault::Absent),
+        }
+    }
+
+    /// Makes a row that the table keeps the row of its key. A row that had the key is dropped, and else the
+    /// table has room for one more. This is one row step, and takes no memory.
+    pub fn revive<L: Ledger>(&mut self, row: Row, steps: &mut Steps<L>)
+        requires fits { IsRow self.old.contents.def row }
+        requires kept { KeepsRow self.old row }
+        requires room { length (with_row self.old.contents row).rows ≤ most_rows }
+        ensures rows { self.new.contents ≡ with_row self.old.contents row }
+        ensures steps { steps.new ≡ steps.old + 1 }
+        ensures keeps { StillKeeps self.old self.new }
+    {
+        steps.tick();
+        if self.rows.replace_row(self.def.key.items(), row).is_none() {
+            self.live += 1;
+        }
+    }
+
+    /// Lets the rows go that were taken out: their places and entries may be used again. No row of the table
+    /// changes. It takes no memory.
+    pub fn settle(&mut self)
+        ensures { self.new.contents ≡ self.old.contents }
+    {
+        if self.left > u64::from(self.live) + FEW_LEFT {
+            settle_entries(&self.def, &self.rows, &mut self.indexes);
+            self.rows.retain(HasRow);
+            self.left = 0;
         }
     }
 
     /// The row that has the key.
     pub fn get(&self, key: &Key) -> Option<&Row>
-        requires { IsKey self.now.def key.now }
-        ensures row { option_copied result ≡ row_with self.now.def.key key.now self.now.rows }
-        ensures fits { IfSome result (λ row. IsRow self.now.def row.now) }
+        requires { IsKey self.now.contents.def key.now }
+        ensures row { option_copied result ≡ keyed self.now.contents key.now }
+        ensures fits { IfSome result (λ row. IsRow self.now.contents.def row.now) }
     {
-        match self.place(Probe::Of(key.values())) {
-            Ok(at) => Some(&self.rows[at]),
-            Err(_) => None,
-        }
+        self.rows.row_at(Probe::Of(key.values()))
+    }
+
+    /// The row that has the key of a row. It takes no memory.
+    pub fn namesake(&self, row: &Row) -> Option<&Row>
+        requires { HasColumns self.now.contents.def row.now }
+        ensures row { option_copied result ≡ namesake self.now.contents row.now }
+        ensures fits { IfSome result (λ row. IsRow self.now.contents.def row.now) }
+    {
+        self.rows.row_at(Probe::In {
+            columns: self.def.key.items(),
+            row: row.values(),
+        })
+    }
+
+    /// Whether there are 200,000 rows, so that no further one can be put in.
+    pub fn is_full(&self) -> bool
+        ensures value { IsTrue result ↔ (length self.now.contents.rows ≡ most_rows) }
+        ensures table { IsTable self.now.contents }
+    {
+        self.live == MOST_ROWS
     }
 
     /// The first row with a greater key; without a key the first row.
     pub fn next_after(&self, key: Option<&Key>) -> Option<&Row>
-        requires { ForSome key (λ k. IsKey self.now.def k.now) }
-        ensures row { option_copied result ≡ row_after self.now.def.key (option_copied key.entry) self.now.rows }
-        ensures fits { IfSome result (λ row. IsRow self.now.def row.now) }
+        requires { ForSome key (λ k. IsKey self.now.contents.def k.now) }
+        ensures row { option_copied result ≡ row_after self.now.contents.def.key (option_copied key.entry) self.now.contents.rows }
+        ensures fits { IfSome result (λ row. IsRow self.now.contents.def row.now) }
     {
         match key {
-            None => self.rows.first(),
-            Some(key) => match self.place(Probe::Of(key.values())) {
-                Ok(at) => self.rows.get(at + 1),
-                Err(at) => self.rows.get(at),
-            },
+            Some(key) => self.rows.row_after(Some(Probe::Of(key.values()))),
+            None => self.rows.row_after(None),
         }
     }
 
     /// The last row with a smaller key; without a key the last row.
     pub fn prev_before(&self, key: Option<&Key>) -> Option<&Row>
-        requires { ForSome key (λ k. IsKey self.now.def k.now) }
-        ensures row { option_copied result ≡ row_before self.now.def.key (option_copied key.entry) self.now.rows }
-        ensures fits { IfSome result (λ row. IsRow self.now.def row.now) }
+        requires { ForSome key (λ k. IsKey self.now.contents.def k.now) }
+        ensures row { option_copied result ≡ row_before self.now.contents.def.key (option_copied key.entry) self.now.contents.rows }
+        ensures fits { IfSome result (λ row. IsRow self.now.contents.def row.now) }
     {
         match key {
-            None => self.rows.last(),
-            Some(key) => {
-                let smaller = match self.place(Probe::Of(key.values())) {
-                    Ok(at) => at,
-                    Err(at) => at,
-                };
-                self.rows[..smaller].last()
-            }
+            Some(key) => self.rows.row_before(Some(Probe::Of(key.values()))),
+            None => self.rows.row_before(None),
         }
     }
 
     /// Whether a row with another key agrees with the row in a UNIQUE list in which neither has a null
-    /// (ISO/IEC 9075:1992, 8.9).
+    /// (ISO/IEC 9075:1992, 8.9). It takes no memory and copies nothing.
     pub fn clash(&self, row: &Row) -> bool
-        requires { HasColumns self.now.def row.now }
-        ensures { result ≡ clashes self.now.def row.now self.now.rows }
+        requires { HasColumns self.now.contents.def row.now }
+        ensures { result ≡ clashes self.now.contents.def row.now self.now.contents.rows }
     {
-        has_rival(&self.def, self.rows.as_slice(), row.values())
+        has_rival(&self.def, &self.rows, self.indexes.as_slice(), row.values())
     }
 
     /// The same table in memory of its own.
@@ -180,34 +286,68 @@ impl Table {
     {
         Ok(Table {
             def: self.def.copy(alloc)?,
-            rows: copied_rows(alloc, self.rows.as_slice())?,
+            alloc,
+            rows: self.rows.copy(alloc)?,
+            live: self.live,
+            indexes: copied_indexes(alloc, self.indexes.as_slice())?,
+            left: self.left,
         })
     }
 
     /// The key of a row. A key of one number takes no memory.
     pub fn key_of(&self, alloc: Global, row: &Row) -> Result<Key, AllocError>
-        requires { HasColumns self.now.def row.now }
-        ensures value { IfOk result (λ key. key ≡ values_at self.now.def.key row.now) }
-        ensures fits { IfOk result (λ key. IsKey self.now.def key) }
+        requires { HasColumns self.now.contents.def row.now }
+        ensures value { IfOk result (λ key. key ≡ values_at self.now.contents.def.key row.now) }
+        ensures fits { IfOk result (λ key. IsKey self.now.contents.def key) }
     {
         Key::of_row(alloc, self.def.key.items(), row)
     }
 
-    fn place(&self, probe: Probe<'_>) -> Result<usize, usize>
-        requires { FitsProbe self.now.def.key probe }
-        ensures found { IfOk result (IsAt self.now.def.key (probe_key self.now.def.key probe.entry) self.now.rows) }
-        ensures absent { IfErr result (IsGap self.now.def.key (probe_key self.now.def.key probe.entry) self.now.rows) }
+    /// Puts a row in whose key has a place, but no row.
+    fn insert_again<L: Ledger>(&mut self, row: Row, steps: &mut Steps<L>) -> Result<(), RowFault>
+        requires fits { IsRow self.old.contents.def row }
+        requires room { length self.old.contents.rows < most_rows }
+        requires place { has_key self.old.places (values_at self.old.contents.def.key row) ≡ true }
+        requires absent { namesake self.old.contents row ≡ None }
+        ensures answer { Inserts self.old self.new row steps.old steps.new result }
+        ensures def { self.new.contents.def ≡ self.old.contents.def }
+        ensures keeps { StillKeeps self.old self.new }
     {
-        place(self.rows.as_slice(), self.def.key.items(), probe)
+        enter(self.alloc, &mut self.indexes, &self.def, row.values())?;
+        let _none = self.rows.replace_row(self.def.key.items(), row);
+        self.live += 1;
+        steps.tick();
+        Ok(())
+    }
+
+    /// Puts a row in whose key has no place.
+    fn insert_first<L: Ledger>(&mut self, row: Row, steps: &mut Steps<L>) -> Result<(), RowFault>
+        requires fits { IsRow self.old.contents.def row }
+        requires room { length self.old.contents.rows < most_rows }
+        requires absent { has_key self.old.places (values_at self.old.contents.def.key row) ≡ false }
+        ensures answer { Inserts self.old self.new row steps.old steps.new result }
+        ensures def { self.new.contents.def ≡ self.old.contents.def }
+        ensures keeps { StillKeeps self.old self.new }
+    {
+        let key = Key::of_row(self.alloc, self.def.key.items(), &row)?;
+        self.rows.reserve()?;
+        enter(self.alloc, &mut self.indexes, &self.def, row.values())?;
+        self.rows.insert(key, Some(row));
+        self.live += 1;
+        steps.tick();
+        Ok(())
     }
 }
 
-fn copied_rows(alloc: Global, rows: &[Row]) -> Result<Vec<Row>, AllocError>
-    ensures { IfOk result (λ copy. copy.items ≡ rows.now) }
+fn copied_indexes(
+    alloc: Global,
+    indexes: &[OrderedMap<()>],
+) -> Result<Vec<OrderedMap<()>>, AllocError>
+    ensures { IfOk result (λ copy. entries_of copy.items ≡ entries_of indexes.now) }
 {
     let mut copy = Vec::new(alloc);
-    for row in rows {
-        copy.push(row.copy(alloc)?)?;
+    for index in indexes {
+        copy.push(index.copy(alloc)?)?;
     }
     Ok(copy)
 }

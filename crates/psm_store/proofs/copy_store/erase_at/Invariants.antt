@@ -1,4 +1,0 @@
-use Rattle.psm_store.proofs.copy_store.erase_at.Given as goal
-
-abbrev pub ghosts-erase_row : goal.ghosts-erase_row
-ghosts-erase_row a = record { name = a.blank.name; parts = a.blank.parts }

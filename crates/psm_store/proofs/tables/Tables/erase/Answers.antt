@@ -1,0 +1,14 @@
+use Rattle.std.proofs.Common.{refl}
+use Rattle.psm_table.specs.Table.{without_row}
+use Rattle.psm_store.proofs.Seen.{defs-seen, seen-after}
+use Rattle.psm_store.proofs.tables.Tables.erase.Goals as goal
+
+pub returns-clause-tables : goal.returns-clause-tables
+returns-clause-tables c =
+    seen-after (without_row c.args.key.now) c.erase_row.result c.self.inside.tables.items c.args.self.now c.args.t c.index_mut.result.now c.erase_row.new.table
+    c.self.view_is c.requires.exists c.index_mut.ensures.value c.erase_row.ensures.table
+
+pub returns-clause-defs : goal.returns-clause-defs
+returns-clause-defs c =
+    defs-seen (without_row c.args.key.now) c.erase_row.result c.self.inside.tables.items c.args.self.now c.args.t c.index_mut.result.now c.erase_row.new.table
+    c.self.view_is c.requires.exists c.index_mut.ensures.value c.erase_row.ensures.table (λ x. refl)

@@ -1,0 +1,52 @@
+-- Searches for the first pair that passes a test, which each greater one passes too.
+use Rattle.std.proofs.Common.{◌≡◌, ℕ, ◌+◌, ◌<◌, ◌≤◌, List, length, get_or, Bool, true, false, ap, sym, ◌∙◌, inl, inr, arith, refl}
+use Rattle.std.specs.Prelude.{filter, slice_get}
+use Rattle.std.proofs.lemmas.Bool.{cases_lt}
+use Rattle.std.proofs.lemmas.List.{get_or_default}
+use Rattle.psm_table.specs.declared.map.Pair.{Pair}
+use Rattle.psm_table.specs.Map.{AreAscending}
+use Rattle.psm_table.proofs.Filters.{filter-drop, slice_get-drop}
+use Rattle.psm_table.proofs.Walks.{Up}
+
+module _ {V : Type 0} (t : Pair V → Bool) where
+  -- those before low don't pass, and those from high on do
+  pub record Parted (pairs : List (Pair V)) (low high : ℕ) : Type 0 where
+    pub order : low ≤ high
+    pub bound : high ≤ length pairs
+    pub fail : (k : ℕ) (d : Pair V) → k < low → t (get_or pairs k d) ≡ false
+    pub pass : (k : ℕ) (d : Pair V) → high ≤ k → k < length pairs → t (get_or pairs k d) ≡ true
+
+  fails : (a b : Bool) → (a ≡ true → b ≡ true) → b ≡ false → a ≡ false
+  fails true b h e = sym (h refl) ∙ e
+  fails false b h e = refl
+
+  module _ (pairs : List (Pair V)) (closed : Up t) (up : AreAscending pairs) where
+    at : (m : ℕ) (x d : Pair V) (b : Bool) → m < length pairs → x ≡ get_or pairs m x → t x ≡ b → t (get_or pairs m d) ≡ b
+    at m x d b l e r = sym (ap t (e ∙ get_or_default pairs m x d l)) ∙ r
+
+    pub parted_fail : (low high m : ℕ) (x : Pair V) → Parted pairs low high → low ≤ m → m < high → x ≡ get_or pairs m x → t x ≡ false → Parted pairs (m + 1) high
+    parted_fail low high m x h l b e r = record {
+      order = omega arith;
+      bound = h.bound;
+      fail = λ k d n. elim (cases_lt k m) [
+        | inl below ↦ fails (t (get_or pairs k d)) (t (get_or pairs m d)) (closed (get_or pairs k d) (get_or pairs m d) (up k m d below (omega (arith, h.bound)))) (at m x d false (omega (arith, h.bound)) e r)
+        | inr from ↦ let same : k ≡ m = omega arith in rw same (at m x d false (omega (arith, h.bound)) e r)
+      ];
+      pass = h.pass;
+    }
+
+    pub parted_pass : (low high m : ℕ) (x : Pair V) → Parted pairs low high → low ≤ m → m < high → x ≡ get_or pairs m x → t x ≡ true → Parted pairs low m
+    parted_pass low high m x h l b e r = record {
+      order = l;
+      bound = omega (arith, h.bound);
+      fail = h.fail;
+      pass = λ k d n i. elim (cases_lt m k) [
+        | inl above ↦ closed (get_or pairs m d) (get_or pairs k d) (up m k d above i) (at m x d true (omega (arith, h.bound)) e r)
+        | inr to ↦ let same : k ≡ m = omega arith in rw same (at m x d true (omega (arith, h.bound)) e r)
+      ];
+    }
+
+  -- nothing is left between low and high
+  pub parted_end : (pairs : List (Pair V)) (low high : ℕ) → Parted pairs low high → high ≤ low → slice_get (filter t pairs) 0 ≡ slice_get pairs low
+  parted_end pairs low high h l =
+      ap (λ xs. slice_get xs 0) (filter-drop t pairs low (omega (arith, h.bound, h.order)) h.fail (λ k d b n. h.pass k d (omega arith) n)) ∙ slice_get-drop pairs low

@@ -1,0 +1,12 @@
+use Rattle.std.proofs.Common.{subst, ap, length, arith}
+use Rattle.std.proofs.lemmas.List.{length-append}
+use Rattle.psm_table.specs.Map.{AreAscending}
+use Rattle.psm_table.proofs.Joined.{ascending-second}
+use Rattle.psm_table.proofs.run.Run.cut.Goals as goal
+
+pub invariant_of-upper : goal.invariant_of-upper
+invariant_of-upper g c = (
+  ascending-second c.loop-self.self-inside.pairs.items c.loop-self.upper-inside.pairs.items (subst AreAscending c.loop-self.invariant.0 c.self.invariant.0),
+  omega (arith, ap length c.loop-self.invariant.0, length-append c.loop-self.self-inside.pairs.items c.loop-self.upper-inside.pairs.items, c.self.invariant.1),
+  c.loop-self.invariant.3,
+)

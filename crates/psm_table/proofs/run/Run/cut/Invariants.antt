@@ -1,0 +1,14 @@
+use Rattle.std.proofs.Common.{◌≡◌, ◌≤◌, ◌++◌, ◌/◌, length}
+use Rattle.std.specs.Vec.{vec_capacity}
+use Rattle.psm_table.specs.Runs.{most_pairs}
+use Rattle.psm_table.proofs.run.Run.cut.Given as goal
+
+abbrev pub invariant-loop-self : goal.invariant-loop-self
+invariant-loop-self g l =
+    (l.initial.self-inside.pairs.items ≡ l.self-inside.pairs.items ++ l.upper-inside.pairs.items)
+    × (most_pairs / 2 ≤ length l.self-inside.pairs.items)
+    × (most_pairs ≤ vec_capacity l.self-inside.pairs)
+    × (most_pairs ≤ vec_capacity l.upper-inside.pairs)
+
+abbrev pub decreases-loop-self : goal.decreases-loop-self
+decreases-loop-self g l = length l.self-inside.pairs.items

@@ -1,0 +1,29 @@
+use Rattle.std.proofs.Common.{◌≤◌, ap, sym, subst, ◌∙◌, length, arith}
+use Rattle.psm_table.specs.declared.map.Pair.{Pair}
+use Rattle.psm_table.specs.Map.{AreAscending, value_of}
+use Rattle.psm_table.specs.Place.{IsAt, IsGap}
+use Rattle.psm_table.specs.Runs.{most_pairs}
+use Rattle.psm_table.proofs.Filters.{none_some}
+use Rattle.psm_table.proofs.Pairs.{ascending-with_pair, inserted, value_some}
+use Rattle.psm_table.proofs.run.Run.insert.Goals as goal
+
+pub invariant_of-self : goal.invariant_of-self
+invariant_of-self g c =
+    let p : Pair g.row.V.Denot = record { key = c.args.key; value = c.args.value } in
+    let here : IsGap c.args.key c.args.self.now c.in-Err.at = subst (λ k. IsGap k c.args.self.now c.in-Err.at) c.values.ensures c.in-Err.ensures.absent in
+    let gap : IsGap c.args.key c.self.inside.pairs.items c.in-Err.at = subst (λ l. IsGap c.args.key l c.in-Err.at) (sym c.self.view_is) here in
+    let room : length c.insert_reserved.new.items.items ≤ most_pairs = omega (arith, c.insert_reserved.ensures.len, c.requires.room, ap length c.self.view_is) in (
+      subst AreAscending (sym (c.insert_reserved.ensures.items ∙ inserted p c.self.inside.pairs.items c.in-Err.at gap)) (ascending-with_pair p c.self.inside.pairs.items c.self.invariant.0),
+      room,
+      omega (arith, c.insert_reserved.ensures.capacity, c.self.invariant.2),
+    )
+
+pub returns-in-Ok-clause-pairs : goal.returns-in-Ok-clause-pairs
+returns-in-Ok-clause-pairs g c =
+    let found = subst (λ k. IsAt k c.args.self.now c.in-Ok.field-0) c.values.ensures c.in-Ok.ensures.found in
+    absurd (none_some (value_of c.args.key c.args.self.now) c.requires.absent (value_some c.args.key c.args.self.now c.in-Ok.field-0 found))
+
+pub returns-in-Ok-clause-size : goal.returns-in-Ok-clause-size
+returns-in-Ok-clause-size g c =
+    let found = subst (λ k. IsAt k c.args.self.now c.in-Ok.field-0) c.values.ensures c.in-Ok.ensures.found in
+    absurd (none_some (value_of c.args.key c.args.self.now) c.requires.absent (value_some c.args.key c.args.self.now c.in-Ok.field-0 found))

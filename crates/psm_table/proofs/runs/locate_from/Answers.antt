@@ -1,0 +1,25 @@
+use Rattle.std.proofs.Common.{◌≡◌, [], get_or, ap, sym, subst, ◌∙◌, arith, ◌+◌, ◌-◌, ◌/◌, true, false}
+use Rattle.std.proofs.lemmas.List.{get_or_default}
+use Rattle.std.specs.Prelude.{not}
+use Rattle.std.specs.Ordering.{is_lt}
+use Rattle.psm_table.specs.Map.{prefix_order}
+use Rattle.psm_table.specs.Place.{probe_key}
+use Rattle.psm_table.specs.Runs.{begins, IsTurn}
+use Rattle.psm_table.proofs.Turns.{cut_fail, cut_pass, turn_end}
+use Rattle.psm_table.proofs.Walks.{up-from}
+use Rattle.psm_table.proofs.runs.locate_from.Goals as goal
+
+pub loop-low-preserved-then-begins_from : goal.loop-low-preserved-then-begins_from
+loop-low-preserved-then-begins_from g c =
+    let e : begins (λ p. not (is_lt (prefix_order (probe_key c.args.probe) p.key))) (get_or c.args.runs.now (c.loop-low.low + (c.loop-low.high - c.loop-low.low) / 2) []) ≡ true = ap (begins (λ p. not (is_lt (prefix_order (probe_key c.args.probe) p.key)))) (get_or_default c.args.runs.now (c.loop-low.low + (c.loop-low.high - c.loop-low.low) / 2) [] c.index-runs-middle.result (omega (arith, c.loop-low.invariant.bound)) ∙ sym c.index-runs-middle.is) ∙ sym c.begins_from.ensures ∙ c.if-begins_from.true in
+    cut_pass (λ p. not (is_lt (prefix_order (probe_key c.args.probe) p.key))) c.args.runs.now c.requires.order c.requires.runs c.loop-low.low c.loop-low.high (c.loop-low.low + (c.loop-low.high - c.loop-low.low) / 2) c.loop-low.invariant (omega arith) (omega arith) e
+
+pub loop-low-preserved : goal.loop-low-preserved
+loop-low-preserved g c =
+    let e : begins (λ p. not (is_lt (prefix_order (probe_key c.args.probe) p.key))) (get_or c.args.runs.now (c.loop-low.low + (c.loop-low.high - c.loop-low.low) / 2) []) ≡ false = ap (begins (λ p. not (is_lt (prefix_order (probe_key c.args.probe) p.key)))) (get_or_default c.args.runs.now (c.loop-low.low + (c.loop-low.high - c.loop-low.low) / 2) [] c.index-runs-middle.result (omega (arith, c.loop-low.invariant.bound)) ∙ sym c.index-runs-middle.is) ∙ sym c.begins_from.ensures ∙ c.if-begins_from.false in
+    cut_fail (λ p. not (is_lt (prefix_order (probe_key c.args.probe) p.key))) c.args.runs.now c.requires.order c.requires.runs c.loop-low.low c.loop-low.high (c.loop-low.low + (c.loop-low.high - c.loop-low.low) / 2) c.loop-low.invariant (omega arith) (omega arith) e
+
+pub returns : goal.returns
+returns g c = λ some.
+    subst (IsTurn (λ p. not (is_lt (prefix_order (probe_key c.args.probe) p.key))) c.args.runs.now) (sym c.saturating_sub.ensures)
+    (turn_end (λ p. not (is_lt (prefix_order (probe_key c.args.probe) p.key))) c.args.runs.now c.requires.order c.requires.runs (up-from (probe_key c.args.probe)) c.loop-low.low c.loop-low.high c.loop-low.invariant c.loop-low-test.false some)

@@ -1,0 +1,47 @@
+-- The entries of UNIQUE lists: what is added to them and taken from them, and which tell of a row.
+use Rattle.std.specs.Prelude.{◌≡◌, ℕ, ◌≤◌, ◌<◌, Bool, true, false, not, ◌&&◌, ◌++◌, List, length, drop, All, Option, Some, None, slice_index_or}
+use Rattle.std.specs.Ordering.{is_eq}
+use Rattle.psm_value.specs.declared.datum.Datum.{Datum}
+use Rattle.psm_table.specs.declared.definition.TableDef.{TableDef}
+use Rattle.psm_table.specs.declared.map.Pair.{Pair}
+use Rattle.psm_table.specs.Held.{row_of, IsEntered}
+use Rattle.psm_table.specs.Key.{values_at, key_order, AreColumnsOf}
+use Rattle.psm_table.specs.Map.{prefix_order}
+use Rattle.psm_table.specs.State.{has_key, HasEntry}
+use Rattle.psm_table.specs.Unique.{has_null, is_rival}
+
+-- no set loses an entry
+abbrev pub Grow : List (List (List Datum)) → List (List (List Datum)) → Type 0
+Grow old new = (k : ℕ) (d e : List (List Datum)) (key : List Datum) → k < length old → has_key (slice_index_or old k d) key ≡ true → has_key (slice_index_or new k e) key ≡ true
+
+-- the entries of a row are in the sets from a place on
+abbrev pub IsEnteredFrom : ℕ → TableDef → List (List (List Datum)) → List Datum → Type 0
+IsEnteredFrom i def entries row =
+    (k : ℕ) (d : List ℕ) (e : List (List Datum)) → i ≤ k → k < length entries → HasEntry def row (slice_index_or def.unique k d) (slice_index_or entries k e)
+
+-- each row has its entries
+abbrev pub AreEntered : TableDef → List (List Datum) → List (List (List Datum)) → Type 0
+AreEntered def rows entries = All (IsEntered def entries) rows
+
+-- each row has the columns of the key
+abbrev pub HaveKeys : TableDef → List (List Datum) → Type 0
+HaveKeys def rows = All (λ row. AreColumnsOf row def.key) rows
+
+-- whether a key has a row that has another key than the row and agrees with it in a UNIQUE list
+abbrev pub rival_at : TableDef → List Datum → Option (List Datum) → Bool
+rival_at def row None = false
+rival_at def row (Some other) = is_rival def row other
+
+-- no entry with the row's values in the columns is that of a rival
+abbrev pub AreHarmless : TableDef → List ℕ → List (Pair (Option (List Datum))) → List Datum → List (Pair (Unit {0})) → Type 0
+AreHarmless def columns pairs row entries =
+    All (λ p. is_eq (prefix_order (values_at columns row) p.key) ≡ true → rival_at def row (row_of (drop (length columns) p.key) pairs) ≡ false) entries
+
+-- whether an entry is that of a row, which has no null in the columns
+abbrev pub is_entry : List ℕ → List ℕ → List Datum → List Datum → Bool
+is_entry key columns entry row = not (has_null (values_at columns row)) && is_eq (key_order entry (values_at columns row ++ values_at key row))
+
+-- whether an entry is that of the row that its key has, if it has one
+abbrev pub is_current : List ℕ → List ℕ → List Datum → Option (List Datum) → Bool
+is_current key columns entry None = false
+is_current key columns entry (Some row) = is_entry key columns entry row

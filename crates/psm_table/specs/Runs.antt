@@ -1,0 +1,49 @@
+-- Pairs in ascending order, in runs one after the other.
+use Rattle.std.specs.Prelude.{◌≡◌, ℕ, ◌+◌, ◌-◌, ◌<◌, ◌≤◌, Bool, true, false, List, [], ◌∷◌, ◌++◌, length, take, drop, All, slice_index_or}
+use Rattle.std.specs.declared.cmp.Ordering.TheVariants.{Less, Greater}
+use Rattle.psm_value.specs.declared.datum.Datum.{Datum}
+use Rattle.psm_table.specs.declared.map.Pair.{Pair}
+use Rattle.psm_table.specs.Key.{key_order}
+
+-- a run has memory for so many pairs
+abbrev pub most_pairs : ℕ
+most_pairs = 128
+
+module _ {V : Type 0} where
+  -- the pairs of all runs
+  abbrev pub joined : List (List (Pair V)) → List (Pair V)
+  joined [] = []
+  joined (r ∷ rs) = r ++ joined rs
+
+  -- a run has a pair, and room for one more
+  pub record IsRun (run : List (Pair V)) : Type 0 where
+    pub some : 0 < length run
+    pub room : length run < most_pairs
+
+  -- each run but that at place i has a pair, and room for one more
+  abbrev pub AreRunsBut : ℕ → List (List (Pair V)) → Type 0
+  AreRunsBut i runs = (k : ℕ) (d : List (Pair V)) → k < length runs → (k ≡ i → ⊥) → IsRun (slice_index_or runs k d)
+
+  -- the pairs of the runs before place i have smaller keys than a key, and those of the runs after it greater ones
+  pub record IsIn (key : List Datum) (runs : List (List (Pair V))) (i : ℕ) : Type 0 where
+    pub inside : i < length runs
+    pub low : All (λ p. key_order p.key key ≡ Less) (joined (take i runs))
+    pub high : All (λ p. key_order p.key key ≡ Greater) (joined (drop (i + 1) runs))
+
+  -- whether there is a first pair, and it passes a test
+  abbrev pub begins : (Pair V → Bool) → List (Pair V) → Bool
+  begins t [] = false
+  begins t (p ∷ ps) = t p
+
+  -- no pair of the runs before place i passes a test, and each of those after it does
+  pub record IsTurn (t : Pair V → Bool) (runs : List (List (Pair V))) (i : ℕ) : Type 0 where
+    pub inside : i < length runs
+    pub fail : All (λ p. t p ≡ false) (joined (take i runs))
+    pub pass : All (λ p. t p ≡ true) (joined (drop (i + 1) runs))
+
+  -- the first pair of the run before place low doesn't pass a test, and that of the run at place high does
+  pub record IsCut (t : Pair V → Bool) (runs : List (List (Pair V))) (low high : ℕ) : Type 0 where
+    pub order : low ≤ high
+    pub bound : high ≤ length runs
+    pub left : 0 < low → begins t (slice_index_or runs (low - 1) []) ≡ false
+    pub right : high < length runs → begins t (slice_index_or runs high []) ≡ true

@@ -1,0 +1,286 @@
+//! The UNIQUE lists of a table (ISO/IEC 9075:1992, 8.9), each with the set of its entries: the values of rows in
+//! the columns of the list, each followed by the row's key.
+ghost use Rattle.std.specs.Prelude.{◌≡◌, ◌≤◌, ◌++◌, length, take, drop, All, slice_index_or, true, false, OnOk, OnErr};
+ghost use Rattle.std.specs.Bool.{OnTrue, OnFalse};
+ghost use Rattle.psm_value.specs.declared.datum.Datum.TheVariants.{Null};
+ghost use Rattle.psm_table.specs.Held.{entries_of, live_rows, row_of, HasItsKey, IsEntered};
+ghost use Rattle.psm_table.specs.Index.{is_current, is_entry, rival_at, AreEntered, AreHarmless, Grow, HaveKeys, IsEnteredFrom};
+ghost use Rattle.psm_table.specs.Key.{values_at, AreColumnsOf};
+ghost use Rattle.psm_table.specs.Map.{keys_of, prefix_order, AreAscending};
+ghost use Rattle.psm_table.specs.Rows.{IsAscending};
+ghost use Rattle.psm_table.specs.State.{has_key};
+ghost use Rattle.psm_table.specs.Unique.{agree, clashes, conflict, equal_value, has_null, is_null, is_rival};
+
+use crate::definition::TableDef;
+use crate::key::Key;
+use crate::map::{OrderedMap, Pair, Test};
+use crate::probe::{Probe, order_of_prefix};
+use crate::row::Row;
+use psm_value::Datum;
+use std::alloc::{AllocError, Global};
+
+/// Puts the entries of a row into the sets that don't have them. All memory is taken before the first is put in.
+pub(crate) fn enter(
+    alloc: Global,
+    indexes: &mut Vec<OrderedMap<()>>,
+    def: &TableDef,
+    row: &[Datum],
+) -> Result<(), AllocError>
+    requires lists { length indexes.old.items ≡ length def.now.unique }
+    requires key { AreColumnsOf row.now def.now.key }
+    ensures lists { length indexes.new.items ≡ length indexes.old.items }
+    ensures entered { OnOk result (IsEntered def.now (entries_of indexes.new.items) row.now) }
+    ensures grow { Grow (entries_of indexes.old.items) (entries_of indexes.new.items) }
+    ensures refused { OnErr result (entries_of indexes.new.items ≡ entries_of indexes.old.items) }
+{
+    enter_from(alloc, indexes, 0, def, row)
+}
+
+/// The same for the lists from a place on.
+fn enter_from(
+    alloc: Global,
+    indexes: &mut Vec<OrderedMap<()>>,
+    i: usize,
+    def: &TableDef,
+    row: &[Datum],
+) -> Result<(), AllocError>
+    requires place { i ≤ length indexes.old.items }
+    requires lists { length indexes.old.items ≡ length def.now.unique }
+    requires key { AreColumnsOf row.now def.now.key }
+    ensures lists { length indexes.new.items ≡ length indexes.old.items }
+    ensures before { take i indexes.new.items ≡ take i indexes.old.items }
+    ensures entered { OnOk result (IsEnteredFrom i def.now (entries_of indexes.new.items) row.now) }
+    ensures grow { Grow (entries_of indexes.old.items) (entries_of indexes.new.items) }
+    ensures refused { OnErr result (entries_of indexes.new.items ≡ entries_of indexes.old.items) }
+{
+    if i == indexes.len() {
+        return Ok(());
+    }
+    let columns = def.unique.items()[i].items();
+    let key = def.key.items();
+    if is_null_in(row, columns) {
+        return enter_from(alloc, indexes, i + 1, def, row);
+    }
+    if has_entry(&indexes[i], columns, key, row) {
+        return enter_from(alloc, indexes, i + 1, def, row);
+    }
+    let entry = Key::of_entry(alloc, columns, key, row)?;
+    indexes[i].reserve()?;
+    enter_from(alloc, indexes, i + 1, def, row)?;
+    indexes[i].insert(entry, ());
+    Ok(())
+}
+
+/// Whether the entry of a row is there.
+fn has_entry(index: &OrderedMap<()>, columns: &[u32], key: &[u32], row: &[Datum]) -> bool
+    requires columns { has_null (values_at columns.now row.now) ≡ false }
+    requires key { AreColumnsOf row.now key.now }
+    ensures { result ≡ has_key (keys_of index.now.pairs) (values_at columns.now row.now ++ values_at key.now row.now) }
+{
+    index.get(Probe::Both { columns, key, row }).is_some()
+}
+
+/// Whether a row has a null in one of the columns. A column that it doesn't have counts as null.
+fn is_null_in(row: &[Datum], columns: &[u32]) -> bool
+    ensures { result ≡ has_null (values_at columns.now row.now) }
+{
+    for column in columns {
+        if is_null_at(row, *column as usize) {
+            return true;
+        }
+    }
+    false
+}
+
+/// Whether a row has a null in a column, or doesn't have it.
+fn is_null_at(row: &[Datum], column: usize) -> bool
+    ensures { result ≡ is_null (slice_index_or row.now column Null) }
+{
+    match row.get(column) {
+        None | Some(Datum::Null) => true,
+        Some(_) => false,
+    }
+}
+
+/// Whether one of the rows has another key and agrees with the row in a UNIQUE list.
+pub(crate) fn has_rival(
+    def: &TableDef,
+    rows: &OrderedMap<Option<Row>>,
+    indexes: &[OrderedMap<()>],
+    row: &[Datum],
+) -> bool
+    requires lists { length indexes.now ≡ length def.now.unique }
+    requires row { AreColumnsOf row.now def.now.key }
+    requires rows { HaveKeys def.now (live_rows rows.now.pairs) }
+    requires order { AreAscending rows.now.pairs }
+    requires at_keys { All (HasItsKey def.now.key) rows.now.pairs }
+    requires ascend { IsAscending def.now.key (live_rows rows.now.pairs) }
+    requires entered { AreEntered def.now (live_rows rows.now.pairs) (entries_of indexes.now) }
+    ensures { result ≡ clashes def.now row.now (live_rows rows.now.pairs) }
+{
+    for i in 0..indexes.len() {
+        let columns = def.unique.items()[i].items();
+        if !is_null_in(row, columns) && has_rival_in(def, columns, rows, &indexes[i], row) {
+            return true;
+        }
+    }
+    false
+}
+
+/// Whether one of the rows that have entries in the index has another key and agrees with the row.
+fn has_rival_in(
+    def: &TableDef,
+    columns: &[u32],
+    rows: &OrderedMap<Option<Row>>,
+    index: &OrderedMap<()>,
+    row: &[Datum],
+) -> bool
+    requires columns { has_null (values_at columns.now row.now) ≡ false }
+    requires rows { HaveKeys def.now (live_rows rows.now.pairs) }
+    requires row { AreColumnsOf row.now def.now.key }
+    ensures found { OnTrue result (clashes def.now row.now (live_rows rows.now.pairs) ≡ true) }
+    ensures none { OnFalse result (AreHarmless def.now columns.now rows.now.pairs row.now index.now.pairs) }
+{
+    let probe = Probe::In { columns, row };
+    let mut next = index.from(probe);
+    'walk: while let Some(entry) = next {
+        let values = entry.key.values();
+        if !order_of_prefix(values, probe).is_eq() {
+            return false;
+        }
+        if is_rival_at(def, rows, key_part(values, columns.len()), row) {
+            return true;
+        }
+        next = index.after(Probe::Of(values));
+    }
+    false
+}
+
+/// What follows so many values of an entry.
+fn key_part(entry: &[Datum], width: usize) -> &[Datum]
+    ensures { result.now ≡ drop width entry.now }
+{
+    &entry[width.min(entry.len())..]
+}
+
+/// Whether the key has a row, which has another key than the row and agrees with it in a UNIQUE list.
+fn is_rival_at(def: &TableDef, rows: &OrderedMap<Option<Row>>, key: &[Datum], row: &[Datum]) -> bool
+    requires rows { HaveKeys def.now (live_rows rows.now.pairs) }
+    requires row { AreColumnsOf row.now def.now.key }
+    ensures { result ≡ rival_at def.now row.now (row_of key.now rows.now.pairs) }
+{
+    match rows.row_at(Probe::Of(key)) {
+        Some(other) => rivals(def, row, other.values()),
+        None => false,
+    }
+}
+
+/// Whether the other row has another key and agrees with the row in a UNIQUE list.
+fn rivals(def: &TableDef, row: &[Datum], other: &[Datum]) -> bool
+    requires exist { AreColumnsOf other.now def.now.key }
+    requires row { AreColumnsOf row.now def.now.key }
+    ensures { result ≡ is_rival def.now row.now other.now }
+{
+    let columns = def.key.items();
+    let key = Probe::In { columns, row };
+    let order = Probe::In {
+        columns,
+        row: other,
+    }
+    .order(key);
+    order.is_ne() && agree_somewhere(def, other, row)
+}
+
+/// Whether two rows agree in one of the UNIQUE lists.
+fn agree_somewhere(def: &TableDef, a: &[Datum], b: &[Datum]) -> bool
+    ensures { result ≡ conflict def.now a.now b.now }
+{
+    def.unique
+        .items()
+        .iter()
+        .any(|columns| agree_in(a, b, columns.items()))
+}
+
+/// Whether two rows have no null in the columns and equal values there.
+fn agree_in(a: &[Datum], b: &[Datum], columns: &[u32]) -> bool
+    ensures { result ≡ agree a.now b.now columns.now }
+{
+    for column in columns {
+        if !agree_at(a, b, *column as usize) {
+            return false;
+        }
+    }
+    true
+}
+
+/// Whether two rows have no null in a column and equal values there.
+fn agree_at(a: &[Datum], b: &[Datum], column: usize) -> bool
+    ensures { result ≡ equal_value (slice_index_or a.now column Null) (slice_index_or b.now column Null) }
+{
+    match a.get(column) {
+        None | Some(Datum::Null) => false,
+        Some(a) => match b.get(column) {
+            Some(Datum::Null) | None => false,
+            Some(b) => a.total_cmp(b).is_eq(),
+        },
+    }
+}
+
+/// Whether an entry is that of a row which is there now.
+#[derive(Drop)]
+pub(crate) struct IsCurrent<'a> {
+    pub def: &'a TableDef,
+    pub columns: &'a [u32],
+    pub rows: &'a OrderedMap<Option<Row>>,
+}
+
+impl<'a> Test<()> for IsCurrent<'a> {
+    ghost applies = { λ t. All (λ row. AreColumnsOf row t.def.now.key) (live_rows t.rows.now.pairs) };
+
+    ghost passes = { λ t p. is_current t.def.now.key t.columns.now p.key (row_of (drop (length t.columns.now) p.key) t.rows.now.pairs) };
+
+    fn passes(&self, pair: &Pair<()>) -> bool {
+        let entry = pair.key.values();
+        match self
+            .rows
+            .row_at(Probe::Of(key_part(entry, self.columns.len())))
+        {
+            Some(row) => is_entry_of(self.columns, self.def.key.items(), row.values(), entry),
+            None => false,
+        }
+    }
+}
+
+/// Whether an entry is that of a row.
+fn is_entry_of(columns: &[u32], key: &[u32], row: &[Datum], entry: &[Datum]) -> bool
+    requires { AreColumnsOf row.now key.now }
+    ensures { result ≡ is_entry key.now columns.now entry.now row.now }
+{
+    if is_null_in(row, columns) {
+        return false;
+    }
+    Probe::Of(entry)
+        .order(Probe::Both { columns, key, row })
+        .is_eq()
+}
+
+/// Lets the entries go that are of no row which is there now.
+pub(crate) fn settle_entries(
+    def: &TableDef,
+    rows: &OrderedMap<Option<Row>>,
+    indexes: &mut Vec<OrderedMap<()>>,
+)
+    requires lists { length indexes.old.items ≡ length def.now.unique }
+    requires rows { HaveKeys def.now (live_rows rows.now.pairs) }
+    requires order { AreAscending rows.now.pairs }
+    requires at_keys { All (HasItsKey def.now.key) rows.now.pairs }
+    requires ascend { IsAscending def.now.key (live_rows rows.now.pairs) }
+    requires entered { AreEntered def.now (live_rows rows.now.pairs) (entries_of indexes.old.items) }
+    ensures lists { length indexes.new.items ≡ length indexes.old.items }
+    ensures entered { AreEntered def.now (live_rows rows.now.pairs) (entries_of indexes.new.items) }
+{
+    for i in 0..indexes.len() {
+        let columns = def.unique.items()[i].items();
+        indexes[i].retain(IsCurrent { def, columns, rows });
+    }
+}

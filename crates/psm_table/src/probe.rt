@@ -1,0 +1,82 @@
+//! Keys that are looked for, lent from a row or a list of values.
+ghost use Rattle.std.specs.Prelude.{◌≡◌, ◌<◌, ◌++◌, length, slice_index_or};
+ghost use Rattle.psm_value.specs.declared.datum.Datum.TheVariants.{Null};
+ghost use Rattle.psm_table.specs.Key.{key_order};
+ghost use Rattle.psm_table.specs.Map.{prefix_order};
+ghost use Rattle.psm_table.specs.Place.{probe_key, FitsProbe};
+
+use psm_value::Datum;
+use std::cmp::Ordering;
+
+/// What is looked for.
+#[derive(Clone, Copy)]
+pub(crate) enum Probe<'a> {
+    /// These values.
+    Of(&'a [Datum]),
+    /// The values of a row in some columns.
+    In {
+        columns: &'a [u32],
+        row: &'a [Datum],
+    },
+    /// The values of a row in some columns, followed by those in its key.
+    Both {
+        columns: &'a [u32],
+        key: &'a [u32],
+        row: &'a [Datum],
+    },
+}
+
+impl<'a> Probe<'a> {
+    /// How many values are looked for.
+    pub(crate) fn len(self) -> usize
+        ensures { result ≡ length (probe_key self.entry) }
+    {
+        match self {
+            Probe::Of(values) => values.len(),
+            Probe::In { columns, .. } => columns.len(),
+            Probe::Both { columns, key, .. } => columns.len() + key.len(),
+        }
+    }
+
+    /// The value at a place.
+    fn value(self, i: usize) -> &'a Datum
+        requires inside { i < length (probe_key self) }
+        requires fits { FitsProbe self }
+        ensures { result.now ≡ slice_index_or (probe_key self.entry) i Null }
+    {
+        match self {
+            Probe::Of(values) => &values[i],
+            Probe::In { columns, row } => &row[columns[i] as usize],
+            Probe::Both { columns, key, row } => {
+                if i < columns.len() {
+                    &row[columns[i] as usize]
+                } else {
+                    &row[key[i - columns.len()] as usize]
+                }
+            }
+        }
+    }
+
+    /// The order of two keys: the first values that differ decide, and else the lengths do.
+    pub(crate) fn order(self, other: Probe<'_>) -> Ordering
+        requires fits { FitsProbe self }
+        requires other { FitsProbe other }
+        ensures { result ≡ key_order (probe_key self.entry) (probe_key other.entry) }
+    {
+        for i in 0..self.len().min(other.len()) {
+            match self.value(i).total_cmp(other.value(i)) {
+                Ordering::Equal => {}
+                unequal => return unequal,
+            }
+        }
+        self.len().cmp(&other.len())
+    }
+}
+
+/// The order of the beginning of a key, as long as what it is compared with, and that.
+pub(crate) fn order_of_prefix(key: &[Datum], probe: Probe<'_>) -> Ordering
+    requires { FitsProbe probe }
+    ensures { result ≡ prefix_order (probe_key probe.entry) key.now }
+{
+    Probe::Of(&key[..key.len().min(probe.len())]).order(probe)
+}

@@ -1,0 +1,283 @@
+//! Runs of pairs in ascending order of their keys, each in memory of its own that is taken when it is made.
+ghost use Rattle.std.specs.Prelude.{◌≡◌, ◌+◌, ◌<◌, ◌≤◌, [], ◌++◌, length, filter, insert, not, slice_get, IfOk, IfErr, IsSome, None, Some};
+ghost use Rattle.std.specs.Vec.{vec_len, vec_capacity};
+ghost use Rattle.std.specs.Bool.{OnTrue, OnFalse};
+ghost use Rattle.std.specs.Option.{option_copied};
+ghost use Rattle.std.specs.Ordering.{is_gt, is_lt};
+ghost use Rattle.psm_table.specs.Held.{row_of};
+ghost use Rattle.psm_table.specs.Key.{key_order, values_at, AreColumnsOf};
+ghost use Rattle.psm_table.specs.Map.{value_of, pairs_from, pairs_above, pairs_below, prefix_order, with_pair, with_value};
+ghost use Rattle.psm_table.specs.Place.{probe_key, FitsProbe, IsAt, IsGap};
+ghost use Rattle.psm_table.specs.declared.map.Pair.{Pair};
+ghost use Rattle.psm_table.specs.Rows.{last_of};
+ghost use Rattle.psm_table.specs.Runs.{begins, most_pairs, IsRun};
+
+use crate::key::Key;
+use crate::map::{Copied, Pair, Test};
+use crate::probe::{Probe, order_of_prefix};
+use crate::row::Row;
+use std::alloc::{AllocError, Global};
+use std::cmp::Ordering;
+use std::marker::Model;
+use std::mem;
+
+/// A run has memory for so many pairs.
+const MOST_PAIRS: usize = 128;
+
+/// Pairs in ascending order of their keys.
+#[derive(Drop)]
+pub(crate) struct Run<V> {
+    pairs: Vec<Pair<V>>,
+}
+
+impl<V> Model for Run<V> {
+    ghost use Rattle.std.specs.Prelude.{◌≤◌, length, List};
+    ghost use Rattle.std.specs.Vec.{vec_capacity};
+    ghost use Rattle.psm_table.specs.declared.map.Pair.{Pair};
+    ghost use Rattle.psm_table.specs.Map.{AreAscending};
+    ghost use Rattle.psm_table.specs.Runs.{most_pairs};
+
+    ghost Value = { List (Pair V) };
+
+    ghost view = { λ r. r.pairs.items };
+
+    ghost invariant = { λ r. AreAscending r.pairs.items × (length r.pairs.items ≤ most_pairs) × (most_pairs ≤ vec_capacity r.pairs) };
+}
+
+impl<V: Drop> Run<V> {
+    /// A run without pairs, with its memory.
+    pub(crate) fn with_room(alloc: Global) -> Result<Run<V>, AllocError>
+        ensures { IfOk result (λ r. r ≡ []) }
+    {
+        Ok(Run {
+            pairs: Vec::with_capacity(alloc, MOST_PAIRS)?,
+        })
+    }
+
+    /// Whether there is no pair.
+    pub(crate) fn is_empty(&self) -> bool
+        ensures empty { OnTrue result (self.now ≡ []) }
+        ensures some { OnFalse result (0 < length self.now) }
+    {
+        self.pairs.is_empty()
+    }
+
+    /// Whether there is no room for one more pair.
+    pub(crate) fn is_full(&self) -> bool
+        ensures full { OnTrue result (length self.now ≡ most_pairs) }
+        ensures room { OnFalse result (length self.now < most_pairs) }
+    {
+        self.pairs.len() == MOST_PAIRS
+    }
+
+    /// The value of the key.
+    pub(crate) fn get(&self, probe: Probe<'_>) -> Option<&V>
+        requires { FitsProbe probe }
+        ensures { option_copied result ≡ value_of (probe_key probe.entry) self.now }
+    {
+        match self.find(probe) {
+            Ok(at) => Some(&self.pairs[at].value),
+            Err(_) => None,
+        }
+    }
+
+    /// Puts a pair in, whose key the run doesn't have. It takes no memory.
+    pub(crate) fn insert(&mut self, key: Key, value: V)
+        requires room { length self.old < most_pairs }
+        requires absent { value_of key self.old ≡ None }
+        ensures pairs { self.new ≡ with_pair (record { key = key; value = value }) self.old }
+        ensures size { length self.new ≡ length self.old + 1 }
+    {
+        match self.find(Probe::Of(key.values())) {
+            Ok(_) => {}
+            Err(at) => {
+                insert_reserved(&mut self.pairs, at, Pair { key, value });
+            }
+        }
+    }
+
+    /// The first pair with a greater key.
+    pub(crate) fn after(&self, probe: Probe<'_>) -> Option<&Pair<V>>
+        requires { FitsProbe probe }
+        ensures { option_copied result ≡ slice_get (pairs_above (probe_key probe.entry) self.now) 0 }
+    {
+        match self.find(probe) {
+            Ok(at) => self.pairs.get(at + 1),
+            Err(at) => self.pairs.get(at),
+        }
+    }
+
+    /// The last pair with a smaller key.
+    pub(crate) fn before(&self, probe: Probe<'_>) -> Option<&Pair<V>>
+        requires { FitsProbe probe }
+        ensures { option_copied result ≡ last_of (pairs_below (probe_key probe.entry) self.now) }
+    {
+        let smaller = match self.find(probe) {
+            Ok(at) => at,
+            Err(at) => at,
+        };
+        self.pairs[..smaller].last()
+    }
+
+    /// The first pair.
+    pub(crate) fn first(&self) -> Option<&Pair<V>>
+        ensures { option_copied result ≡ slice_get self.now 0 }
+    {
+        self.pairs.first()
+    }
+
+    /// The last pair.
+    pub(crate) fn last(&self) -> Option<&Pair<V>>
+        ensures { option_copied result ≡ last_of self.now }
+    {
+        self.pairs.last()
+    }
+
+    /// Whether the first pair has a greater key.
+    pub(crate) fn begins_above(&self, probe: Probe<'_>) -> bool
+        requires { FitsProbe probe }
+        ensures { result ≡ begins (λ p. is_gt (key_order p.key (probe_key probe.entry))) self.now }
+    {
+        match self.pairs.as_slice() {
+            [first, ..] => Probe::Of(first.key.values()).order(probe).is_gt(),
+            [] => false,
+        }
+    }
+
+    /// Whether the first pair's key begins with what is looked for, or with greater values.
+    pub(crate) fn begins_from(&self, probe: Probe<'_>) -> bool
+        requires { FitsProbe probe }
+        ensures { result ≡ begins (λ p. not (is_lt (prefix_order (probe_key probe.entry) p.key))) self.now }
+    {
+        match self.pairs.as_slice() {
+            [first, ..] => !order_of_prefix(first.key.values(), probe).is_lt(),
+            [] => false,
+        }
+    }
+
+    /// The first pair whose key begins with what is looked for, or with greater values.
+    pub(crate) fn from(&self, probe: Probe<'_>) -> Option<&Pair<V>>
+        requires { FitsProbe probe }
+        ensures { option_copied result ≡ slice_get (pairs_from (probe_key probe.entry) self.now) 0 }
+    {
+        let mut low = 0;
+        let mut high = self.pairs.len();
+        while low < high {
+            let middle = low + (high - low) / 2;
+            if order_of_prefix(self.pairs[middle].key.values(), probe).is_lt() {
+                low = middle + 1;
+            } else {
+                high = middle;
+            }
+        }
+        self.pairs.get(low)
+    }
+
+    /// Where the key stands, or else where it would.
+    fn find(&self, probe: Probe<'_>) -> Result<usize, usize>
+        requires { FitsProbe probe }
+        ensures found { IfOk result (IsAt (probe_key probe.entry) self.now) }
+        ensures absent { IfErr result (IsGap (probe_key probe.entry) self.now) }
+    {
+        let mut low = 0;
+        let mut high = self.pairs.len();
+        while low < high {
+            let middle = low + (high - low) / 2;
+            match Probe::Of(self.pairs[middle].key.values()).order(probe) {
+                Ordering::Less => low = middle + 1,
+                Ordering::Equal => return Ok(middle),
+                Ordering::Greater => high = middle,
+            }
+        }
+        Err(low)
+    }
+
+    /// Moves the greater half of the pairs of a full run into an empty one.
+    pub(crate) fn cut(&mut self, spare: Run<V>) -> Run<V>
+        requires full { length self.old ≡ most_pairs }
+        requires empty { spare ≡ [] }
+        ensures pairs { self.old ≡ self.new ++ result }
+        ensures lower { IsRun self.new }
+        ensures upper { IsRun result }
+    {
+        let mut upper = spare;
+        while self.pairs.len() > MOST_PAIRS / 2 {
+            if let Some(pair) = self.pairs.pop() {
+                insert_reserved(&mut upper.pairs, 0, pair);
+            }
+        }
+        upper
+    }
+
+    /// Keeps the pairs that pass a test.
+    pub(crate) fn retain<T: Test<V>>(&mut self, test: &T)
+        requires { T.applies test.now }
+        ensures { self.new ≡ filter (T.passes test.now) self.old }
+    {
+        let mut left = self.pairs.len();
+        while left > 0 {
+            left -= 1;
+            if !test.passes(&self.pairs[left]) {
+                let _pair = self.pairs.remove(left);
+            }
+        }
+    }
+}
+
+impl<V: Copied + Drop> Run<V> {
+    /// The same pairs in memory of their own.
+    pub(crate) fn copy(&self, alloc: Global) -> Result<Run<V>, AllocError>
+        ensures { IfOk result (λ copy. copy ≡ self.now) }
+    {
+        let mut pairs = Vec::with_capacity(alloc, MOST_PAIRS)?;
+        for pair in &self.pairs {
+            pairs.push(Pair {
+                key: pair.key.copy(alloc)?,
+                value: pair.value.copied(alloc)?,
+            })?;
+        }
+        Ok(Run { pairs })
+    }
+}
+
+impl Run<Option<Row>> {
+    /// Takes the row of the key out, if it has one, and keeps its place.
+    pub(crate) fn take_row(&mut self, probe: Probe<'_>) -> Option<Row>
+        requires { FitsProbe probe }
+        ensures row { result ≡ row_of (probe_key probe.entry) self.old }
+        ensures pairs { self.new ≡ with_value (probe_key probe.entry) None self.old }
+    {
+        match self.find(probe) {
+            Ok(at) => mem::replace(&mut self.pairs[at].value, None),
+            Err(_) => None,
+        }
+    }
+
+    /// Puts a row in whose key has a place, and gives the row that was there.
+    pub(crate) fn replace_row(&mut self, columns: &[u32], row: Row) -> Option<Row>
+        requires columns { AreColumnsOf row columns.now }
+        requires place { IsSome (value_of (values_at columns.now row) self.old) }
+        ensures row { result ≡ row_of (values_at columns.now row) self.old }
+        ensures pairs { self.new ≡ with_value (values_at columns.now row) (Some row) self.old }
+    {
+        let place = self.find(Probe::In {
+            columns,
+            row: row.values(),
+        });
+        match place {
+            Ok(at) => mem::replace(&mut self.pairs[at].value, Some(row)),
+            Err(_) => None,
+        }
+    }
+}
+
+/// Puts an item in at a place. It takes no memory.
+pub(crate) fn insert_reserved<T: Drop>(items: &mut Vec<T>, at: usize, item: T)
+    requires place { at ≤ vec_len items.old }
+    requires room { vec_len items.old < vec_capacity items.old }
+    ensures items { items.new.items ≡ insert items.old.items at item }
+    ensures len { length items.new.items ≡ length items.old.items + 1 }
+    ensures capacity { vec_capacity items.old ≤ vec_capacity items.new }
+{
+    let _room = items.insert(at, item);
+}

@@ -1,0 +1,148 @@
+//! Runs that follow one another, so that the pairs of all are in ascending order of their keys.
+ghost use Rattle.std.specs.Prelude.{◌≡◌, ◌+◌, ◌<◌, ◌≤◌, [], ◌∷◌, ◌++◌, length, take, drop, All, filter, not, slice_get, slice_index_or, IfSome, None};
+ghost use Rattle.std.specs.Option.{option_copied};
+ghost use Rattle.std.specs.Ordering.{is_lt};
+ghost use Rattle.std.specs.Vec.{vec_len, vec_capacity};
+ghost use Rattle.psm_table.specs.Map.{value_of, prefix_order, with_pair, AreAscending};
+ghost use Rattle.psm_table.specs.Place.{probe_key, FitsProbe};
+ghost use Rattle.psm_table.specs.declared.map.Pair.{Pair};
+ghost use Rattle.psm_table.specs.Rows.{last_of};
+ghost use Rattle.psm_table.specs.Runs.{joined, most_pairs, AreRunsBut, IsIn, IsRun, IsTurn};
+
+use crate::key::Key;
+use crate::map::{Pair, Test};
+use crate::probe::Probe;
+use crate::run::{Run, insert_reserved};
+
+/// The run in which a key stands, or would: the last whose first pair hasn't a greater key, or the first.
+pub(crate) fn locate<V: Drop>(runs: &[Run<V>], probe: Probe<'_>) -> usize
+    requires fits { FitsProbe probe }
+    requires order { AreAscending (joined runs.now) }
+    requires runs { All IsRun runs.now }
+    ensures { 0 < length runs.now → IsIn (probe_key probe.entry) runs.now result }
+{
+    let mut low = 0;
+    let mut high = runs.len();
+    while low < high {
+        let middle = low + (high - low) / 2;
+        if runs[middle].begins_above(probe) {
+            high = middle;
+        } else {
+            low = middle + 1;
+        }
+    }
+    low.saturating_sub(1)
+}
+
+/// The last run whose first pair's key begins with smaller values than are looked for, or the first.
+pub(crate) fn locate_from<V: Drop>(runs: &[Run<V>], probe: Probe<'_>) -> usize
+    requires fits { FitsProbe probe }
+    requires order { AreAscending (joined runs.now) }
+    requires runs { All IsRun runs.now }
+    ensures { 0 < length runs.now → IsTurn (λ p. not (is_lt (prefix_order (probe_key probe.entry) p.key))) runs.now result }
+{
+    let mut low = 0;
+    let mut high = runs.len();
+    while low < high {
+        let middle = low + (high - low) / 2;
+        if runs[middle].begins_from(probe) {
+            high = middle;
+        } else {
+            low = middle + 1;
+        }
+    }
+    low.saturating_sub(1)
+}
+
+/// The first pair of the runs from a place on.
+pub(crate) fn first_from<V: Drop>(runs: &[Run<V>], at: usize) -> Option<&Pair<V>>
+    requires { All IsRun runs.now }
+    ensures { option_copied result ≡ slice_get (joined (drop at runs.now)) 0 }
+{
+    if at < runs.len() {
+        runs[at].first()
+    } else {
+        None
+    }
+}
+
+/// The last pair of the runs before a place.
+pub(crate) fn last_before<V: Drop>(runs: &[Run<V>], at: usize) -> Option<&Pair<V>>
+    requires place { at ≤ length runs.now }
+    requires runs { All IsRun runs.now }
+    ensures { option_copied result ≡ last_of (joined (take at runs.now)) }
+{
+    if at == 0 { None } else { runs[at - 1].last() }
+}
+
+/// Puts a pair in, whose key no run has. A run that is full then is cut in two, for which there is an empty run;
+/// that is given back if it isn't needed.
+pub(crate) fn put<V: Drop>(
+    runs: &mut Vec<Run<V>>,
+    spare: Run<V>,
+    key: Key,
+    value: V,
+) -> Option<Run<V>>
+    requires order { AreAscending (joined runs.old.items) }
+    requires runs { All IsRun runs.old.items }
+    requires room { vec_len runs.old < vec_capacity runs.old }
+    requires empty { spare ≡ [] }
+    requires absent { value_of key (joined runs.old.items) ≡ None }
+    ensures pairs { joined runs.new.items ≡ with_pair (record { key = key; value = value }) (joined runs.old.items) }
+    ensures runs { All IsRun runs.new.items }
+    ensures empty { IfSome result (λ r. r ≡ []) }
+{
+    if runs.is_empty() {
+        start(runs, spare, key, value);
+        return None;
+    }
+    let at = locate(runs.as_slice(), Probe::Of(key.values()));
+    runs[at].insert(key, value);
+    if runs[at].is_full() {
+        cut_at(runs, at, spare);
+        return None;
+    }
+    Some(spare)
+}
+
+/// Makes a run of one pair the first.
+fn start<V: Drop>(runs: &mut Vec<Run<V>>, spare: Run<V>, key: Key, value: V)
+    requires none { runs.old.items ≡ [] }
+    requires room { vec_len runs.old < vec_capacity runs.old }
+    requires empty { spare ≡ [] }
+    ensures { runs.new.items ≡ (record { key = key; value = value } ∷ []) ∷ [] }
+{
+    let mut run = spare;
+    run.insert(key, value);
+    insert_reserved(runs, 0, run);
+}
+
+/// Cuts a full run in two.
+fn cut_at<V: Drop>(runs: &mut Vec<Run<V>>, at: usize, spare: Run<V>)
+    requires inside { at < length runs.old.items }
+    requires full { length (slice_index_or runs.old.items at []) ≡ most_pairs }
+    requires others { AreRunsBut at runs.old.items }
+    requires room { vec_len runs.old < vec_capacity runs.old }
+    requires empty { spare ≡ [] }
+    ensures pairs { joined runs.new.items ≡ joined runs.old.items }
+    ensures runs { All IsRun runs.new.items }
+{
+    let upper = runs[at].cut(spare);
+    insert_reserved(runs, at + 1, upper);
+}
+
+/// Keeps the pairs of a run that pass a test, and the run if there are any.
+pub(crate) fn retain_at<V: Drop, T: Test<V>>(runs: &mut Vec<Run<V>>, at: usize, test: &T)
+    requires inside { at < length runs.old.items }
+    requires applies { T.applies test.now }
+    requires runs { All IsRun runs.old.items }
+    ensures pairs { joined (drop at runs.new.items) ≡ filter (T.passes test.now) (slice_index_or runs.old.items at []) ++ joined (drop (at + 1) runs.old.items) }
+    ensures before { take at runs.new.items ≡ take at runs.old.items }
+    ensures inside { at ≤ length runs.new.items }
+    ensures runs { All IsRun runs.new.items }
+{
+    runs[at].retain(test);
+    if runs[at].is_empty() {
+        let _run = runs.remove(at);
+    }
+}
