@@ -1,3 +1,4 @@
+//! Names and whole numbers of the forms that run today.
 ghost use Rattle.std.specs.Prelude.{◌≡◌, ◌≤◌, string_bytes};
 ghost use Rattle.psm_built.specs.Numeral.{most_whole, numeral_value};
 

@@ -1,3 +1,4 @@
+//! Vectors of whole numbers and names.
 use super::*;
 use crate::names::distinct_names;
 use crate::sums::whole;

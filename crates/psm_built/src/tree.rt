@@ -1,3 +1,4 @@
+//! The small trees of the forms that run today.
 use crate::name::{Name, Numeral};
 use psm_list::List;
 

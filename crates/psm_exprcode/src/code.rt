@@ -1,3 +1,4 @@
+//! The code of an expression.
 ghost use Rattle.std.specs.Prelude.{◌≡◌, IsTrue};
 ghost use Rattle.psm_exprcode.specs.WellFormed.{code_of, does_fit, is_well_formed as are_well_formed};
 

@@ -1,3 +1,4 @@
+//! The operations of expression code, and the letters of their operands.
 ghost use Rattle.std.specs.Prelude.{◌≡◌};
 ghost use Rattle.psm_exprcode.specs.Kinds.{are_of, has_letter};
 

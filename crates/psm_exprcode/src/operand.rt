@@ -1,3 +1,4 @@
+//! The operands of expression code.
 use psm_value::{Datum, Truth};
 
 /// An operand: a value, or a truth value.

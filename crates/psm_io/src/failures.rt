@@ -1,3 +1,4 @@
+//! The names whose fetch failed.
 ghost use Rattle.std.specs.Prelude.{◌≡◌, ◌≢◌, ◌+◌, ℕ, List, [], ◌⊎◌, Err};
 ghost use Rattle.psm_io.specs.Failures.{times, names_after};
 

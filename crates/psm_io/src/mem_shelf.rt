@@ -1,3 +1,4 @@
+//! Files in memory as a shelf, some of whose calls fail.
 ghost use Rattle.std.specs.Prelude.{◌≡◌, ◌≢◌, ◌≤◌, ℕ, List, [], Option, ◌⊎◌, IsSome, map, nat_eq, if◌then◌else◌};
 ghost use Rattle.std.specs.List.{list_any};
 ghost use Rattle.std.specs.Option.{option_copied};

@@ -1,3 +1,4 @@
+//! Memory as a sink, some of whose calls fail.
 ghost use Rattle.std.specs.Prelude.{◌≡◌, ◌≤◌, ℕ, List, [], ◌++◌, Option, Some, ◌⊎◌};
 ghost use Rattle.psm_io.specs.Sink.{Put};
 ghost use Rattle.psm_io.specs.Count.{next_count};

@@ -1,3 +1,4 @@
+//! Where files are fetched by their names.
 ghost use Rattle.std.specs.Prelude.{◌≡◌, ◌≢◌, ◌≤◌, ℕ, List, Option};
 ghost use Rattle.psm_io.specs.Shelf.{Fetched};
 

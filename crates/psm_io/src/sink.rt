@@ -1,3 +1,4 @@
+//! Where pieces of text are put one after another.
 ghost use Rattle.std.specs.Prelude.{◌≤◌, ℕ, List, Option};
 ghost use Rattle.psm_io.specs.Sink.{Put};
 

@@ -1,3 +1,4 @@
+//! The standard output as a sink.
 ghost use Rattle.std.specs.Prelude.{◌≡◌, ◌≢◌, ◌≤◌, ℕ, List, Option, None, IfNone, IfSome, ◌<◌, length, take};
 ghost use Rattle.std.specs.Io.KnownBytes.{Appends, Keeps};
 ghost use Rattle.psm_io.specs.Sink.{Put};

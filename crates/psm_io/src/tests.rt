@@ -1,3 +1,4 @@
+//! One call each of the shelves and sinks, and of their failures.
 use super::*;
 use std::alloc::{AllocError, Global};
 use std::test::Fail;

@@ -4,9 +4,11 @@
 
 mod boxed;
 mod list;
+mod one_or_more;
 
 pub use boxed::Boxed;
 pub use list::List;
+pub use one_or_more::OneOrMore;
 
 #[cfg(test)]
 mod tests;

@@ -1,3 +1,4 @@
+//! A list that is seen as its items.
 ghost use Rattle.std.specs.Prelude.{◌≡◌};
 
 use std::marker::Model;

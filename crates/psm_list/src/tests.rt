@@ -1,3 +1,4 @@
+//! One round trip through a list and a box.
 use super::*;
 use std::test::Fail;
 

@@ -1,3 +1,4 @@
+//! Exact decimal numbers, and their arithmetic (ISO/IEC 9075:1992, 4.4 and 6.12).
 ghost use Rattle.std.specs.Prelude.{◌≡◌, ◌^◌, ◌<◌, ◌≤◌, unsigned_abs};
 ghost use Rattle.std.specs.Result.{result_ok};
 ghost use Rattle.psm_num.specs.Num.{Num, checked};

@@ -1,3 +1,4 @@
+//! Why an operation gives no number.
 use thiserror::Error;
 
 /// Why an operation gives no number.

@@ -1,4 +1,4 @@
-// Powers of ten, and the sums, products and quotients of 128 bits that exact arithmetic needs.
+//! Powers of ten, and the sums, differences and quotients of whole numbers of up to 36 digits.
 ghost use Rattle.std.specs.Prelude.{◌≡◌, pos, ◌*◌, ◌^◌, ◌<◌, ◌≤◌, ◌*ℤ◌, ◌+ℤ◌, ◌-ℤ◌, unsigned_abs, int_div};
 
 /// The `n`th power of ten.

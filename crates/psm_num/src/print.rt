@@ -1,3 +1,4 @@
+//! A number as text.
 ghost use Rattle.std.specs.Prelude.{◌≡◌, ◌++◌, IfOk, OnOk};
 ghost use Rattle.std.specs.String.{string_bytes};
 ghost use Rattle.psm_num.specs.Printed.{printed, filled};

@@ -1,3 +1,4 @@
+//! The number that a text spells (ISO/IEC 9075:1992, 5.3).
 ghost use Rattle.std.specs.Prelude.{◌≡◌, ◌≢◌, ◌+◌, ◌*◌, ◌^◌, ◌<◌, ◌≤◌, ◌++◌, length, position, pos, unsigned_abs, IsTrue, IfOk};
 ghost use Rattle.std.specs.List.{list_all, before_first, after_first};
 ghost use Rattle.std.specs.Char.{is_ascii_digit};

@@ -1,3 +1,4 @@
+//! A segment of a stack: room for a fixed number of items.
 ghost use Rattle.std.specs.Prelude.{◌≡◌, ◌<◌, [], ◌∷◌, ◌++◌, length, slice_get, IfOk, IfNone};
 ghost use Rattle.std.specs.Option.{option_copied, option_to_list};
 ghost use Rattle.psm_segstack.specs.Segments.{segment_room};

@@ -1,3 +1,4 @@
+//! A stack that grows by segments and moves no item.
 ghost use Rattle.std.specs.Prelude.{◌≡◌, ◌+◌, ◌-◌, ◌≤◌, [], ◌∷◌, ◌++◌, length, take, slice_get, IfNone, OnOk, OnErr};
 ghost use Rattle.std.specs.Option.{option_copied, option_to_list};
 

@@ -1,3 +1,4 @@
+//! A stack over the growth of its segments.
 use super::*;
 use std::test::Fail;
 

@@ -1,3 +1,5 @@
+//! Success, warning, no data or exception.
+
 /// What an SQLSTATE says of its statement (ISO/IEC 9075:1992, 22.1).
 #[derive(Clone, Copy, Debug, PartialEq, Eq)]
 pub enum Kind {

@@ -1,3 +1,4 @@
+//! SQLSTATEs, their classes and their messages.
 ghost use Rattle.std.specs.Prelude.{◌≡◌, length, SomeIff};
 ghost use Rattle.std.specs.List.{list_all};
 ghost use Rattle.psm_sqlstate.specs.Kind.{kind_of};

@@ -1,3 +1,4 @@
+//! Why an operation gives no text.
 use std::alloc::AllocError;
 
 /// Why a text operation gives no text.

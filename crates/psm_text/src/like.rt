@@ -1,3 +1,4 @@
+//! LIKE (ISO/IEC 9075:1992, 8.5).
 ghost use Rattle.std.specs.Prelude.{◌≡◌, ◌↔◌, ◌<◌, ◌≤◌, length, drop, [], if◌then◌else◌, nat_eq, IsTrue};
 ghost use Rattle.std.specs.Option.{option_copied};
 ghost use Rattle.psm_text.specs.Like.{Liked, like_answer, Matches, items_of, well_formed, escapes, escapable, escape_of, begins_any, step_at};

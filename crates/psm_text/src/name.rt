@@ -1,3 +1,4 @@
+//! Names (ISO/IEC 9075:1992, 5.4).
 ghost use Rattle.std.specs.Prelude.{◌≡◌, ◌↔◌, ◌<◌, ◌≤◌, ℕ, length, encode_utf8_all, IsTrue, IfOk};
 ghost use Rattle.psm_text.specs.Name.{GivesName, named};
 

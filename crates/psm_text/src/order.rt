@@ -1,3 +1,4 @@
+//! The order of texts, the shorter one padded with blanks (ISO/IEC 9075:1992, 8.2).
 ghost use Rattle.std.specs.Prelude.{◌≡◌, ◌↔◌, ℕ, slice_index_or, drop};
 ghost use Rattle.std.specs.declared.cmp.Ordering.TheVariants.{Less, Equal};
 ghost use Rattle.std.specs.Ordering.{ordering_reverse};

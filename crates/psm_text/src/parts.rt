@@ -1,3 +1,4 @@
+//! The functions of texts (ISO/IEC 9075:1992, 6.6 and 6.7).
 ghost use Rattle.std.specs.Prelude.{◌≡◌, ◌↔◌, ◌≤◌, ◌<◌, ◌-◌, ℕ, pos, int_lt, int_le, nat_lt, nat_le, length, take, drop, slice_get, IsTrue, IfOk};
 ghost use Rattle.psm_text.specs.Text.{Gives};
 ghost use Rattle.psm_text.specs.Order.{blank};

@@ -1,3 +1,4 @@
+//! A text as a column or a variable stores it (ISO/IEC 9075:1992, 9.1 and 9.2).
 ghost use Rattle.std.specs.Prelude.{◌≡◌, ◌≤◌, length, take, drop, IfOk};
 ghost use Rattle.psm_text.specs.Text.{Gives};
 ghost use Rattle.psm_text.specs.Storing.{filled, is_blank as is_blank_text, stored, fetched};

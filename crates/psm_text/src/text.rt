@@ -1,3 +1,4 @@
+//! Texts of at most 4000 characters.
 ghost use Rattle.std.specs.Prelude.{◌≡◌, ◌≤◌, length, IfOk, encode_utf8_all, vec_len};
 ghost use Rattle.std.specs.Str.{chars};
 ghost use Rattle.psm_text.specs.Text.{Gives, made, most};

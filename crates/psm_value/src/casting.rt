@@ -1,3 +1,4 @@
+//! CAST (ISO/IEC 9075:1992, 6.10).
 ghost use Rattle.std.specs.Prelude.{◌≡◌, ℕ, IsTrue, IfOk, List as Seq, Ok, Err, codes, encode_utf8_all, reverse};
 ghost use Rattle.std.specs.String.{string_bytes};
 ghost use Rattle.std.specs.Char.{is_ascii};

@@ -1,3 +1,4 @@
+//! Values: null, numbers and texts.
 ghost use Rattle.std.specs.Prelude.{◌≡◌, ◌++◌, IfOk, OnOk, OnErr, encode_utf8_all, take, vec_len};
 ghost use Rattle.psm_num.specs.Printed.{printed as printed_number};
 ghost use Rattle.psm_value.specs.Printed.{doubled, printed, quoted};

@@ -1,3 +1,4 @@
+//! Why an operation on values gives no value.
 use psm_sqlstate::SqlState;
 use psm_text::TextFault;
 use std::alloc::{AllocError, AllocFailed};

@@ -1,3 +1,4 @@
+//! Comparison, and the order of all values (ISO/IEC 9075:1992, 8.2).
 ghost use Rattle.std.specs.Prelude.{◌≡◌};
 ghost use Rattle.std.specs.Cmp.{IsTotalOrder};
 ghost use Rattle.std.specs.Ordering.{ordering_reverse};

@@ -1,3 +1,4 @@
+//! The types of columns and variables (ISO/IEC 9075:1992, 6.1).
 ghost use Rattle.std.specs.Prelude.{◌↔◌, IsTrue};
 ghost use Rattle.psm_value.specs.SqlType.{IsType};
 

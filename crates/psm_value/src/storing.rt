@@ -1,3 +1,4 @@
+//! A value as a type stores it (ISO/IEC 9075:1992, 9.1 and 9.2).
 ghost use Rattle.std.specs.Prelude.{◌≡◌, ◌≤◌, ◌↔◌, ℕ, Bool, IsTrue, Ok, length, codes, if◌then◌else◌};
 ghost use Rattle.psm_value.specs.declared.datum.Datum.{Datum};
 ghost use Rattle.psm_value.specs.declared.datum.Datum.TheVariants as data_of;

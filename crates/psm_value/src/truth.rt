@@ -1,3 +1,4 @@
+//! Truth values, and AND, OR and NOT (ISO/IEC 9075:1992, 8.12).
 ghost use Rattle.std.specs.Prelude.{◌≡◌};
 ghost use Rattle.psm_value.specs.Truth.{both, either, opposite, is_certain};
 
