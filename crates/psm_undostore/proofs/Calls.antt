@@ -1,7 +1,7 @@
 -- Lists of tables after a row call on one of them.
-use Rattle.std.proofs.Common.{◌≡◌, ℕ, zero, suc, ◌+◌, ◌<◌, ◌≤◌, List, [], length, get_or, set, map, take, drop, ◌++◌, ◌∷◌, refl, ap, sym, subst, ◌∙◌, arith, Some, None}
-use Rattle.std.specs.Prelude.{slice_get, IfSome, Option, Result, Ok, Err, is_ok, if◌then◌else◌}
-use Rattle.std.proofs.lemmas.List.{get_or-map, get_or_default, length-map, map-set, set-get_or, take_at}
+use Rattle.std.proofs.Common.{◌≡◌, ℕ, zero, suc, ◌<◌, List, [], length, get_or, set, take, drop, ◌++◌, ◌∷◌, refl, ap, sym, subst, ◌∙◌, arith, Some}
+use Rattle.std.specs.Prelude.{slice_get, All, IfSome, Option, Result, Ok, Err, is_ok, if◌then◌else◌}
+use Rattle.std.proofs.lemmas.List.{get_or-map, get_or_default, drop_all, map-set, set-get_or, take_all, take_at}
 use Rattle.std.proofs.lemmas.Option.{slice_get-get_or}
 use Rattle.psm_table.specs.declared.fault.RowFault.{RowFault}
 use Rattle.psm_table.specs.State.{State}
@@ -41,7 +41,7 @@ module _ (states : List State) (t : ℕ) (d : State) (inside : t < length states
   -- a recorded row call
   pub record Journaled (r : Result (Unit {0}) RowFault) (w : State) (entries more : List Entry) : Type 0 where
     pub undoable : AreUndoable (set states t w) more
-    pub extends : Extends states (set states t w) entries more (if is_ok r then 1 else 0)
+    pub extends : Extends t states (set states t w) entries more (if is_ok r then 1 else 0)
 
   pub journaled : (r : Result (Unit {0}) RowFault) (w : State) (inner entries more : List Entry) → inner ≡ entries → AreUndoable states entries →
       Records r t (get_or states t d) w inner more → Journaled r w entries more
@@ -49,7 +49,7 @@ module _ (states : List State) (t : ℕ) (d : State) (inside : t < length states
       let all : more ≡ entries ++ (record { table = t; change = c }) ∷ [] = e ∙ ap (λ l. l ++ (record { table = t; change = c }) ∷ []) is in record {
         undoable = subst (AreUndoable (set states t w)) (sym all) (added_undoable states entries t c (get_or states t d) w h inside (λ x. get_or_default states t d x inside) leads);
         extends =
-            subst (λ (l : List Entry). Extends states (set states t w) entries l 1) (sym all)
+            subst (λ (l : List Entry). Extends t states (set states t w) entries l 1) (sym all)
             (added_extends states entries t c (get_or states t d) w h inside (λ x. get_or_default states t d x inside) leads);
       }
   journaled (Err f) w inner entries more is h (same, e) =
@@ -58,6 +58,10 @@ module _ (states : List State) (t : ℕ) (d : State) (inside : t < length states
         undoable = subst (AreUndoable (set states t w)) (sym all) (subst (λ (s : List State). AreUndoable s entries) (sym here) h);
         extends = record {
           longer = omega (arith, ap length all);
+          first = ap (take (length entries)) all ∙ take_all (length entries) entries (omega arith);
+          about =
+              subst (All (λ (x : Entry). x.table ≡ t)) (sym (ap (drop (length entries)) all ∙ drop_all (length entries) entries (omega arith)))
+              (λ k d l. let never : ⊥ = omega (arith, l) in absurd never);
           same = λ place l. ap (λ (x : List Entry). before place x (set states t w)) all ∙ ap (before place entries) here;
         };
       }

@@ -1,5 +1,5 @@
 -- Marks of a store that undoes changes.
-use Rattle.std.proofs.Common.{◌≡◌, ℕ, ◌+◌, ◌^◌, ◌<◌, ◌≤◌, List, [], ◌∷◌, ◌++◌, length, drop, take, refl, ap, sym, subst, ◌∙◌, arith}
+use Rattle.std.proofs.Common.{◌≡◌, ℕ, ◌+◌, ◌^◌, ◌<◌, ◌≤◌, List, ◌++◌, length, drop, take, ap, sym, subst, ◌∙◌, arith}
 use Rattle.std.specs.Prelude.{IfSome, slice_get, Result}
 use Rattle.std.proofs.lemmas.List.{drop-append-le, length-take, take-append-drop}
 use Rattle.psm_table.specs.declared.fault.RowFault.{RowFault}

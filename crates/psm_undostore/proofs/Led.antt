@@ -1,5 +1,5 @@
 -- Changes that lead a table from one state to another.
-use Rattle.std.proofs.Common.{◌≡◌, List, ap, refl, sym, subst, ◌∙◌, Some, None}
+use Rattle.std.proofs.Common.{◌≡◌, List, ap, sym, subst, ◌∙◌, Some, None}
 use Rattle.std.specs.Prelude.{unwrap_or}
 use Rattle.psm_value.specs.declared.datum.Datum.{Datum}
 use Rattle.psm_table.specs.declared.definition.TableDef.{TableDef}
@@ -8,7 +8,7 @@ use Rattle.psm_table.specs.Key.{values_at}
 use Rattle.psm_table.specs.State.{State, KeepsRow, StillKeeps}
 use Rattle.psm_table.specs.Table.{Contents, IsTable, keyed, namesake, with_row, without_row}
 use Rattle.psm_undostore.specs.declared.entry.Change.TheVariants.{Inserted, Erased, Changed}
-use Rattle.psm_undostore.specs.Journal.{CanUndo, Leads}
+use Rattle.psm_undostore.specs.Journal.{Leads}
 use Rattle.psm_table.proofs.Undo.{hidden-inserted, revived-hidden, revived-swapped}
 
 inner : (x y : List Datum) → Some x ≡ Some y → x ≡ y

@@ -1,16 +1,16 @@
 -- Entries that can be undone, where one is added at the end or taken from there.
 use Rattle.std.proofs.Common.{◌≡◌, ℕ, zero, suc, ◌+◌, ◌<◌, ◌≤◌, List, [], ◌∷◌, ◌++◌, length, drop, get_or, set, refl, ap, sym, subst, ◌∙◌, inl, inr, arith}
-use Rattle.std.specs.Prelude.{◌≢◌, All, Some}
+use Rattle.std.specs.Prelude.{◌≢◌, All}
 use Rattle.std.proofs.lemmas.Bool.{cases_eq}
-use Rattle.std.proofs.lemmas.List.{drop-append-le, drop_all, get_or_append_left, get_or_push, get_or_default, get_or-set_same, get_or-set_other, length-append, length-set, set-set, set-get_or}
+use Rattle.std.proofs.lemmas.List.{drop-append-le, drop_all, get_or_append_left, get_or_push, get_or_default, get_or-set_same, get_or-set_other, length-append, length-set, set-set, set-get_or, take-append-le, take_all}
 use Rattle.std.proofs.lemmas.List.Elements.{All-append}
 use Rattle.psm_table.specs.Definition.{IsRow, IsKey}
 use Rattle.psm_table.specs.State.{State, StillKeeps}
 use Rattle.psm_table.specs.Table.{Contents, IsTable}
 use Rattle.psm_undostore.specs.declared.entry.Change.{Change}
 use Rattle.psm_undostore.specs.declared.entry.Entry.{Entry}
-use Rattle.psm_undostore.specs.Journal.{AreUndoable, CanUndo, Extends, IsReady, Leads, Takes}
-use Rattle.psm_undostore.specs.Undone.{before, contents_of, undone, undone_in}
+use Rattle.psm_undostore.specs.Journal.{AreUndoable, CanUndo, Extends, IsReady, Leads}
+use Rattle.psm_undostore.specs.Undone.{before, undone, undone_in}
 use Rattle.psm_undostore.proofs.UndoneLaws.{before-last, def-undone, undone_at-other, undone_at-same, undone_in-append}
 
 -- what a table can undo, it can after each change that lets no kept row go
@@ -98,6 +98,11 @@ module _ (states : List State) (es : List Entry) (t : ℕ) (c : Change) (old new
   one_ready zero d l = last_ready
   one_ready (suc k) d l = let never : ⊥ = omega (arith, l) in absurd never
 
+  one_about : All (λ (x : Entry). x.table ≡ t) (added ∷ [])
+  unfolding added
+  one_about zero d l = refl
+  one_about (suc k) d l = let never : ⊥ = omega (arith, l) in absurd never
+
   good_at : (k u : ℕ) (d : State) → k ≤ length es → IsTable (undone_in u (drop k es) (get_or states u d).contents) → IsTable (undone_in u (drop k (es ++ added ∷ [])) (get_or (set states t new) u d).contents)
   good_at k u d l g = subst IsTable (sym (lead_back k u d l)) g
 
@@ -121,10 +126,14 @@ module _ (states : List State) (es : List Entry) (t : ℕ) (c : Change) (old new
         ];
   }
 
-  pub added_extends : Extends states (set states t new) es (es ++ (record { table = t; change = c }) ∷ []) 1
+  pub added_extends : Extends t states (set states t new) es (es ++ (record { table = t; change = c }) ∷ []) 1
   unfolding added
   added_extends = record {
     longer = length-append es (added ∷ []);
+    first = take-append-le (length es) es (added ∷ []) (omega arith) ∙ take_all (length es) es (omega arith);
+    about =
+        subst (All (λ (x : Entry). x.table ≡ t)) (sym (drop-append-le (length es) es (added ∷ []) (omega arith) ∙ ap (λ l. l ++ added ∷ []) (drop_all (length es) es (omega arith))))
+        one_about;
     same = λ place l.
         before-last (set states t new) added old new inside_new (sym leads.back ∙ ap (λ (s : State). undone c s.contents) (read_new new)) es place l
         ∙ ap (before place es) again;

@@ -1,6 +1,6 @@
 -- Entries that are undone one after another, the last first.
-use Rattle.std.proofs.Common.{◌≡◌, ℕ, ◌+◌, ◌-◌, ◌*◌, ◌<◌, ◌≤◌, List, [], ◌∷◌, ◌++◌, length, get_or, set, take, refl, ap, sym, subst, ◌∙◌, arith, Some, None}
-use Rattle.std.proofs.lemmas.List.{length-append, length-take, take-append-le, drop_all}
+use Rattle.std.proofs.Common.{◌≡◌, ℕ, ◌+◌, ◌*◌, ◌<◌, ◌≤◌, List, [], ◌∷◌, ◌++◌, length, get_or, set, take, ap, sym, subst, ◌∙◌, arith}
+use Rattle.std.proofs.lemmas.List.{length-append, take-append-le, drop_all}
 use Rattle.psm_table.specs.State.{State}
 use Rattle.psm_table.specs.Table.{IsTable}
 use Rattle.psm_undostore.specs.declared.entry.Entry.{Entry}

@@ -1,5 +1,5 @@
 -- A journal of changes of rows, which can be undone without memory.
-use Rattle.std.specs.Prelude.{◌≡◌, ℕ, ◌+◌, ◌<◌, ◌≤◌, List, [], ◌∷◌, ◌++◌, length, drop, All, slice_index_or, slice_set, Option, Some, None, Result, Ok, Err}
+use Rattle.std.specs.Prelude.{◌≡◌, ℕ, ◌+◌, ◌<◌, ◌≤◌, List, [], ◌∷◌, ◌++◌, length, take, drop, All, slice_index_or, slice_set, Option, Some, None, Result, Ok, Err}
 use Rattle.std.specs.Option.{ForSome}
 use Rattle.psm_value.specs.declared.datum.Datum.{Datum}
 use Rattle.psm_table.specs.declared.fault.RowFault.{RowFault}
@@ -53,9 +53,12 @@ abbrev pub Records : Result (Unit {0}) RowFault → ℕ → State → State → 
 Records (Ok _) t old new entries more = (c : Change) × (more ≡ entries ++ (record { table = t; change = c }) ∷ []) × Leads c old new
 Records (Err _) t old new entries more = (new ≡ old) × (more ≡ entries)
 
--- so many entries are added, and from before each of the entries that were there the tables are as they were
-pub record Extends (old new : List State) (entries more : List Entry) (count : ℕ) : Type 0 where
+-- behind the entries that were there stand so many more, which are about table number t, and from before each of the
+-- entries that were there the tables are as they were
+pub record Extends (t : ℕ) (old new : List State) (entries more : List Entry) (count : ℕ) : Type 0 where
   pub longer : length more ≡ length entries + count
+  pub first : take (length entries) more ≡ entries
+  pub about : All (λ e. e.table ≡ t) (drop (length entries) more)
   pub same : (place : ℕ) → place ≤ length entries → before place more new ≡ before place entries old
 
 -- the table of an entry is led back, and the others stay

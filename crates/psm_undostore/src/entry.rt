@@ -1,3 +1,4 @@
+//! What a journal keeps of a change.
 use psm_table::{Key, Row};
 
 /// A change of a row of a table, by the table's number.

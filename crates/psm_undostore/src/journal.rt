@@ -1,3 +1,4 @@
+//! A journal of the changes of rows of some tables.
 ghost use Rattle.std.specs.Prelude.{◌≡◌, ◌+◌, ◌-◌, ◌*◌, ◌<◌, ◌≤◌, [], length, take, is_ok, if◌then◌else◌, IfSome, slice_get, slice_index_or};
 ghost use Rattle.psm_table.specs.Definition.{IsRow, IsKey};
 ghost use Rattle.psm_table.specs.State.{State, StillKeeps};
@@ -80,7 +81,7 @@ impl Journal {
         ensures answer { IfSome (slice_get (contents_of tables.old) t) (AnswersInsert row result) }
         ensures tables { contents_of tables.new ≡ after result (λ c. with_row c row) (contents_of tables.old) t }
         ensures undoable { AreUndoable tables.new self.new }
-        ensures entries { Extends tables.old tables.new self.old self.new (if is_ok result then 1 else 0) }
+        ensures entries { Extends t tables.old tables.new self.old self.new (if is_ok result then 1 else 0) }
     {
         insert_row::<Brand>(
             alloc,
@@ -101,7 +102,7 @@ impl Journal {
         ensures answer { IfSome (slice_get (contents_of tables.old) t) (λ c. AnswersFound (keyed c key.now) result) }
         ensures tables { contents_of tables.new ≡ after result (without_row key.now) (contents_of tables.old) t }
         ensures undoable { AreUndoable tables.new self.new }
-        ensures entries { Extends tables.old tables.new self.old self.new (if is_ok result then 1 else 0) }
+        ensures entries { Extends t tables.old tables.new self.old self.new (if is_ok result then 1 else 0) }
     {
         erase_row::<Brand>(
             &mut self.entries,
@@ -121,7 +122,7 @@ impl Journal {
         ensures answer { IfSome (slice_get (contents_of tables.old) t) (λ c. AnswersFound (namesake c row) result) }
         ensures tables { contents_of tables.new ≡ after result (λ c. with_row c row) (contents_of tables.old) t }
         ensures undoable { AreUndoable tables.new self.new }
-        ensures entries { Extends tables.old tables.new self.old self.new (if is_ok result then 1 else 0) }
+        ensures entries { Extends t tables.old tables.new self.old self.new (if is_ok result then 1 else 0) }
     {
         change_row::<Brand>(
             &mut self.entries,

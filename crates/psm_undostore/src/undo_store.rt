@@ -1,3 +1,4 @@
+//! A store that undoes changes.
 ghost use Rattle.std.specs.Prelude.{◌≡◌, ◌+◌, ◌*◌, ◌<◌, ◌≤◌, [], map, length, is_ok, if◌then◌else◌, All, Some, IfSome, IfOk, IsOk, slice_get};
 ghost use Rattle.psm_table.specs.Definition.{IsDefinition, IsRow, IsKey};
 ghost use Rattle.psm_table.specs.Table.{empty_table, keyed, namesake, with_row, without_row};

@@ -1,4 +1,4 @@
-use Rattle.std.proofs.Common.{◌∙◌, ap, refl, subst, get_or}
+use Rattle.std.proofs.Common.{◌∙◌, ap, refl, subst}
 use Rattle.std.proofs.lemmas.List.{get_or_default}
 use Rattle.psm_table.specs.State.{State, StillKeeps}
 use Rattle.psm_undostore.specs.Undone.{undone}

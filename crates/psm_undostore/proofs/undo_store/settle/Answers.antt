@@ -1,4 +1,4 @@
-use Rattle.std.proofs.Common.{◌∙◌, ap, sym}
+use Rattle.std.proofs.Common.{◌∙◌}
 use Rattle.psm_undostore.proofs.Calls.{same_contents}
 use Rattle.psm_undostore.proofs.undo_store.settle.Goals as goal
 
