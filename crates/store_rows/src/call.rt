@@ -40,7 +40,7 @@ pub enum Look<'a> {
     Sum,
     /// The rows of a copy of the table.
     Copy,
-    /// A copy of the definition.
+    /// A copy of the definition of a copy of the table.
     Definition,
     /// Copies of the row and of its key.
     Copies(RowLike<'a>),
@@ -77,14 +77,14 @@ impl<'a> Call<'a> {
             "revive" => Ok(Call::Revive),
             "settle" => Ok(Call::Settle),
             "insert" | "change" | "erase" | "fill" | "raise" | "drain" => {
-                Ok(Call::Change(change(operation, operands)?))
+                Ok(Call::Change(named_change(operation, operands)?))
             }
-            _ => Ok(Call::Look(look(operation, operands)?)),
+            _ => Ok(Call::Look(named_look(operation, operands)?)),
         }
     }
 }
 
-fn change<'a>(operation: &str, operands: &mut Operands<'a>) -> Result<Change<'a>, Fault> {
+fn named_change<'a>(operation: &str, operands: &mut Operands<'a>) -> Result<Change<'a>, Fault> {
     match operation {
         "insert" => Ok(Change::Insert(operands.row()?)),
         "change" => Ok(Change::Replace(operands.row()?)),
@@ -95,7 +95,7 @@ fn change<'a>(operation: &str, operands: &mut Operands<'a>) -> Result<Change<'a>
     }
 }
 
-fn look<'a>(operation: &str, operands: &mut Operands<'a>) -> Result<Look<'a>, Fault> {
+fn named_look<'a>(operation: &str, operands: &mut Operands<'a>) -> Result<Look<'a>, Fault> {
     match operation {
         "get" => Ok(Look::Get(operands.key()?)),
         "next" => after(operands),

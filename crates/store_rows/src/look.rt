@@ -23,7 +23,7 @@ pub fn looked(alloc: Global, table: &Table, look: Look<'_>) -> Result<String, Fa
         Look::Back => told::rows(alloc, falling(alloc, table)?.as_slice()),
         Look::Sum => sum(alloc, table),
         Look::Copy => copied(alloc, table),
-        Look::Definition => told::definition(alloc, &table.def().copy(alloc)?),
+        Look::Definition => defined(alloc, table),
         Look::Copies(row) => copies(alloc, row),
     }
 }
@@ -80,6 +80,11 @@ fn copied(alloc: Global, table: &Table) -> Result<String, Fault> {
     let copy = table.copy(alloc)?;
     let rows = rising(alloc, &copy)?;
     told::rows(alloc, rows.as_slice())
+}
+
+fn defined(alloc: Global, table: &Table) -> Result<String, Fault> {
+    let copy = table.copy(alloc)?;
+    told::definition(alloc, &copy.def().copy(alloc)?)
 }
 
 fn copies(alloc: Global, like: RowLike<'_>) -> Result<String, Fault> {
