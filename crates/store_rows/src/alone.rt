@@ -1,14 +1,15 @@
 //! A table that stands alone, and the row that was taken out of it last.
 ghost use Rattle.std.specs.Prelude.{IfOk};
 ghost use Rattle.store_rows.specs.Alone.{IsAlone};
+ghost use Rattle.store_rows.specs.Parts.{IsPartsKey, IsPartsRow};
 
 use crate::call::{Call, Change};
 use crate::definition::definition;
 use crate::fault::Fault;
-use crate::like::{KeyLike, RowLike};
+use crate::like::{numbered_key, numbered_row};
 use crate::look::looked;
 use crate::told;
-use psm_table::{Row, Steps, Table};
+use psm_table::{Key, Row, Steps, Table};
 use std::alloc::Global;
 use std::sync::ledger::Ledger;
 
@@ -35,7 +36,7 @@ impl Alone {
     pub fn answered<L: Ledger>(
         &mut self,
         alloc: Global,
-        call: Call<'_>,
+        call: &Call<'_>,
         steps: &mut Steps<L>,
     ) -> Result<String, Fault>
         requires { IsAlone self.old.table self.old.left }
@@ -44,8 +45,8 @@ impl Alone {
         match call {
             Call::Look(look) => looked(alloc, &self.table, look),
             Call::Change(change) => self.changed(alloc, change, steps),
-            Call::Hide(key) => self.hide(alloc, key, steps),
-            Call::Swap(row) => self.swap(alloc, row, steps),
+            Call::Hide(like) => self.hide(alloc, &like.made(alloc)?, steps),
+            Call::Swap(like) => self.swap(alloc, like.made(alloc)?, steps),
             Call::Revive => self.revive(alloc, steps),
             Call::Settle => self.settle(alloc),
             Call::Mark | Call::Rollback(_) | Call::Release(_) => Err(Fault::NoRow),
@@ -55,18 +56,18 @@ impl Alone {
     fn changed<L: Ledger>(
         &mut self,
         alloc: Global,
-        change: Change<'_>,
+        change: &Change<'_>,
         steps: &mut Steps<L>,
     ) -> Result<String, Fault>
         requires { IsAlone self.old.table self.old.left }
         ensures { IsAlone self.new.table self.new.left }
     {
         match change {
-            Change::Insert(row) => self.insert(alloc, row, steps),
-            Change::Replace(row) => self.replace(alloc, row, steps),
-            Change::Erase(key) => self.erase(alloc, key, steps),
-            Change::Fill(from, to) => self.fill(alloc, from, to, steps),
-            Change::Drain(from, to) => self.drain(alloc, from, to, steps),
+            Change::Insert(like) => self.insert(alloc, like.made(alloc)?, steps),
+            Change::Replace(like) => self.replace(alloc, like.made(alloc)?, steps),
+            Change::Erase(like) => self.erase(alloc, &like.made(alloc)?, steps),
+            Change::Fill(from, to) => self.fill(alloc, *from, *to, steps),
+            Change::Drain(from, to) => self.drain(alloc, *from, *to, steps),
             Change::Raise(..) => Err(Fault::NoRow),
         }
     }
@@ -75,13 +76,13 @@ impl Alone {
     fn insert<L: Ledger>(
         &mut self,
         alloc: Global,
-        like: RowLike<'_>,
+        row: Row,
         steps: &mut Steps<L>,
     ) -> Result<String, Fault>
-        requires { IsAlone self.old.table self.old.left }
+        requires alone { IsAlone self.old.table self.old.left }
+        requires parts { IsPartsRow row }
         ensures { IsAlone self.new.table self.new.left }
     {
-        let row = like.made(alloc)?;
         self.table.insert(row, steps)?;
         told::word(alloc, "ok")
     }
@@ -91,13 +92,13 @@ impl Alone {
     fn replace<L: Ledger>(
         &mut self,
         alloc: Global,
-        like: RowLike<'_>,
+        row: Row,
         steps: &mut Steps<L>,
     ) -> Result<String, Fault>
-        requires { IsAlone self.old.table self.old.left }
+        requires alone { IsAlone self.old.table self.old.left }
+        requires parts { IsPartsRow row }
         ensures { IsAlone self.new.table self.new.left }
     {
-        let row = like.made(alloc)?;
         self.left = None;
         let was = self.table.change(row, steps)?;
         told::row(alloc, Some(&was))
@@ -107,15 +108,15 @@ impl Alone {
     fn erase<L: Ledger>(
         &mut self,
         alloc: Global,
-        like: KeyLike<'_>,
+        key: &Key,
         steps: &mut Steps<L>,
     ) -> Result<String, Fault>
-        requires { IsAlone self.old.table self.old.left }
+        requires alone { IsAlone self.old.table self.old.left }
+        requires parts { IsPartsKey key.now }
         ensures { IsAlone self.new.table self.new.left }
     {
-        let key = like.made(alloc)?;
         self.left = None;
-        let was = self.table.erase(&key, steps);
+        let was = self.table.erase(key, steps);
         told::row(alloc, was.as_ref())
     }
 
@@ -130,7 +131,7 @@ impl Alone {
         ensures { IsAlone self.new.table self.new.left }
     {
         'fill: for size in from..to {
-            let _told = self.insert(alloc, RowLike::numbered(size, 0)?, steps)?;
+            let _told = self.insert(alloc, numbered_row(alloc, size, size)?, steps)?;
         }
         told::word(alloc, "ok")
     }
@@ -146,7 +147,7 @@ impl Alone {
         ensures { IsAlone self.new.table self.new.left }
     {
         'drain: for size in from..to {
-            let _told = self.erase(alloc, KeyLike::numbered(size)?, steps)?;
+            let _told = self.erase(alloc, &numbered_key(alloc, size)?, steps)?;
         }
         told::word(alloc, "ok")
     }
@@ -156,14 +157,14 @@ impl Alone {
     fn hide<L: Ledger>(
         &mut self,
         alloc: Global,
-        like: KeyLike<'_>,
+        key: &Key,
         steps: &mut Steps<L>,
     ) -> Result<String, Fault>
-        requires { IsAlone self.old.table self.old.left }
+        requires alone { IsAlone self.old.table self.old.left }
+        requires parts { IsPartsKey key.now }
         ensures { IsAlone self.new.table self.new.left }
     {
-        let key = like.made(alloc)?;
-        self.left = self.table.hide(&key, steps);
+        self.left = self.table.hide(key, steps);
         told::row(alloc, self.left.as_ref())
     }
 
@@ -172,13 +173,13 @@ impl Alone {
     fn swap<L: Ledger>(
         &mut self,
         alloc: Global,
-        like: RowLike<'_>,
+        row: Row,
         steps: &mut Steps<L>,
     ) -> Result<String, Fault>
-        requires { IsAlone self.old.table self.old.left }
+        requires alone { IsAlone self.old.table self.old.left }
+        requires parts { IsPartsRow row }
         ensures { IsAlone self.new.table self.new.left }
     {
-        let row = like.made(alloc)?;
         self.left = Some(self.table.swap(row, steps)?);
         told::row(alloc, self.left.as_ref())
     }

@@ -55,13 +55,10 @@ pub fn answer<S: Store, T: Store, L: Ledger>(
     ensures journal { IsBench (T.tables journal.new.store) (T.marks journal.new.store) (T.holds journal.new.store) journal.new.marks.items }
 {
     match Row::of(line) {
-        Ok(Row { call, table: None }) => told(alloc, alone.answered(alloc, call, steps)),
-        Ok(
-            Row {
-                call,
-                table: Some(t),
-            },
-        ) => both(alloc, t, call, copies, journal, steps),
+        Ok(row) => match row.table {
+            None => told(alloc, alone.answered(alloc, &row.call, steps)),
+            Some(t) => both(alloc, t, &row.call, copies, journal, steps),
+        },
         Err(fault) => fault.told(alloc),
     }
 }
@@ -70,7 +67,7 @@ pub fn answer<S: Store, T: Store, L: Ledger>(
 fn both<S: Store, T: Store, L: Ledger>(
     alloc: Global,
     t: u32,
-    call: Call<'_>,
+    call: &Call<'_>,
     copies: &mut Bench<S>,
     journal: &mut Bench<T>,
     steps: &mut Steps<L>,

@@ -1,12 +1,11 @@
 //! A store, and the marks that rows have opened in it.
 ghost use Rattle.std.specs.Prelude.{◌≡◌, ◌<◌, ◌≤◌, ◌∷◌, [], length, map, IfOk, IfSome, slice_get};
-ghost use Rattle.psm_table.specs.Definition.{IsKey, IsRow};
 ghost use Rattle.store_rows.specs.Bench.{IsBench};
-ghost use Rattle.store_rows.specs.Parts.{IsPartsTable};
+ghost use Rattle.store_rows.specs.Parts.{IsPartsKey, IsPartsRow, IsPartsTable};
 
 use crate::call::{Call, Change, Look};
 use crate::fault::Fault;
-use crate::like::{KeyLike, RowLike};
+use crate::like::{numbered_key, numbered_row};
 use crate::look::looked;
 use crate::told;
 use psm_store::{Key, Mark, Row, Steps, Store, Table};
@@ -28,7 +27,7 @@ impl<S: Store> Bench<S> {
         &mut self,
         alloc: Global,
         t: u32,
-        call: Call<'_>,
+        call: &Call<'_>,
         steps: &mut Steps<L>,
     ) -> Result<String, Fault>
         requires { IsBench (S.tables self.old.store) (S.marks self.old.store) (S.holds self.old.store) self.old.marks.items }
@@ -38,13 +37,13 @@ impl<S: Store> Bench<S> {
             Call::Look(look) => self.looked(alloc, t, look),
             Call::Change(change) => self.changed(alloc, t, change),
             Call::Mark => self.mark(alloc),
-            Call::Rollback(depth) => self.rollback(alloc, depth, steps),
-            Call::Release(depth) => self.release(alloc, depth),
+            Call::Rollback(depth) => self.rollback(alloc, *depth, steps),
+            Call::Release(depth) => self.release(alloc, *depth),
             _ => Err(Fault::NoRow),
         }
     }
 
-    fn looked(&self, alloc: Global, t: u32, look: Look<'_>) -> Result<String, Fault>
+    fn looked(&self, alloc: Global, t: u32, look: &Look<'_>) -> Result<String, Fault>
         requires { IsBench (S.tables self.now.store) (S.marks self.now.store) (S.holds self.now.store) self.now.marks.items }
     {
         if t < 2 {
@@ -63,74 +62,55 @@ impl<S: Store> Bench<S> {
         self.store.table(t)
     }
 
-    fn changed(&mut self, alloc: Global, t: u32, change: Change<'_>) -> Result<String, Fault>
+    fn changed(&mut self, alloc: Global, t: u32, change: &Change<'_>) -> Result<String, Fault>
         requires { IsBench (S.tables self.old.store) (S.marks self.old.store) (S.holds self.old.store) self.old.marks.items }
         ensures { IsBench (S.tables self.new.store) (S.marks self.new.store) (S.holds self.new.store) self.new.marks.items }
     {
         match change {
-            Change::Insert(row) => self.insert(alloc, t, row)?,
-            Change::Replace(row) => self.replace(alloc, t, row)?,
-            Change::Erase(key) => self.erase(alloc, t, key)?,
-            Change::Fill(from, to) => self.fill(alloc, t, from, to)?,
-            Change::Raise(from, to, by) => self.raise(alloc, t, from, to, by)?,
-            Change::Drain(from, to) => self.drain(alloc, t, from, to)?,
+            Change::Insert(like) => self.insert(alloc, t, like.made(alloc)?)?,
+            Change::Replace(like) => self.replace(alloc, t, like.made(alloc)?)?,
+            Change::Erase(like) => self.erase(alloc, t, &like.made(alloc)?)?,
+            Change::Fill(from, to) => self.fill(alloc, t, *from, *to)?,
+            Change::Raise(from, to, by) => self.raise(alloc, t, *from, *to, *by)?,
+            Change::Drain(from, to) => self.drain(alloc, t, *from, *to)?,
         }
         told::word(alloc, "ok")
     }
-    // A row that fits the table.
-    #[tactic(auto, using(crate::proofs::PartsRows::row_fits_at))]
-    fn row(&self, alloc: Global, t: u32, like: RowLike<'_>) -> Result<Row, Fault>
-        requires bench { IsBench (S.tables self.now.store) (S.marks self.now.store) (S.holds self.now.store) self.now.marks.items }
-        requires exists { t < 2 }
-        ensures { IfOk result (λ row. IfSome (slice_get (S.tables self.now.store) t) (λ c. IsRow c.def row)) }
-    {
-        like.made(alloc)
-    }
 
-    #[tactic(auto, using(crate::proofs::Benches::kept))]
-    fn insert(&mut self, alloc: Global, t: u32, like: RowLike<'_>) -> Result<(), Fault>
+    #[tactic(auto, using(crate::proofs::Benches::kept, crate::proofs::PartsRows::row_fits_at))]
+    fn insert(&mut self, alloc: Global, t: u32, row: Row) -> Result<(), Fault>
+        requires parts { IsPartsRow row }
         requires bench { IsBench (S.tables self.old.store) (S.marks self.old.store) (S.holds self.old.store) self.old.marks.items }
         ensures { IsBench (S.tables self.new.store) (S.marks self.new.store) (S.holds self.new.store) self.new.marks.items }
     {
         if t >= 2 {
             return Err(Fault::NoRow);
         }
-        let row = self.row(alloc, t, like)?;
         Ok(self.store.insert(alloc, t, row)?)
     }
 
-    #[tactic(auto, using(crate::proofs::Benches::kept))]
-    fn replace(&mut self, alloc: Global, t: u32, like: RowLike<'_>) -> Result<(), Fault>
+    #[tactic(auto, using(crate::proofs::Benches::kept, crate::proofs::PartsRows::row_fits_at))]
+    fn replace(&mut self, alloc: Global, t: u32, row: Row) -> Result<(), Fault>
+        requires parts { IsPartsRow row }
         requires bench { IsBench (S.tables self.old.store) (S.marks self.old.store) (S.holds self.old.store) self.old.marks.items }
         ensures { IsBench (S.tables self.new.store) (S.marks self.new.store) (S.holds self.new.store) self.new.marks.items }
     {
         if t >= 2 {
             return Err(Fault::NoRow);
         }
-        let row = self.row(alloc, t, like)?;
         Ok(self.store.change(alloc, t, row)?)
     }
 
-    #[tactic(auto, using(crate::proofs::Benches::kept))]
-    fn erase(&mut self, alloc: Global, t: u32, like: KeyLike<'_>) -> Result<(), Fault>
+    #[tactic(auto, using(crate::proofs::Benches::kept, crate::proofs::PartsRows::key_fits_at))]
+    fn erase(&mut self, alloc: Global, t: u32, key: &Key) -> Result<(), Fault>
+        requires parts { IsPartsKey key.now }
         requires bench { IsBench (S.tables self.old.store) (S.marks self.old.store) (S.holds self.old.store) self.old.marks.items }
         ensures { IsBench (S.tables self.new.store) (S.marks self.new.store) (S.holds self.new.store) self.new.marks.items }
     {
         if t >= 2 {
             return Err(Fault::NoRow);
         }
-        let key = self.key(alloc, t, like)?;
-        Ok(self.store.erase(alloc, t, &key)?)
-    }
-
-    // A key that fits the table.
-    #[tactic(auto, using(crate::proofs::PartsRows::key_fits_at))]
-    fn key(&self, alloc: Global, t: u32, like: KeyLike<'_>) -> Result<Key, Fault>
-        requires bench { IsBench (S.tables self.now.store) (S.marks self.now.store) (S.holds self.now.store) self.now.marks.items }
-        requires exists { t < 2 }
-        ensures { IfOk result (λ key. IfSome (slice_get (S.tables self.now.store) t) (λ c. IsKey c.def key)) }
-    {
-        like.made(alloc)
+        Ok(self.store.erase(alloc, t, key)?)
     }
 
     fn fill(&mut self, alloc: Global, t: u32, from: u32, to: u32) -> Result<(), Fault>
@@ -138,7 +118,7 @@ impl<S: Store> Bench<S> {
         ensures { IsBench (S.tables self.new.store) (S.marks self.new.store) (S.holds self.new.store) self.new.marks.items }
     {
         'fill: for size in from..to {
-            self.insert(alloc, t, RowLike::numbered(size, 0)?)?;
+            self.insert(alloc, t, numbered_row(alloc, size, size)?)?;
         }
         Ok(())
     }
@@ -148,7 +128,11 @@ impl<S: Store> Bench<S> {
         ensures { IsBench (S.tables self.new.store) (S.marks self.new.store) (S.holds self.new.store) self.new.marks.items }
     {
         'raise: for size in from..to {
-            self.replace(alloc, t, RowLike::numbered(size, by)?)?;
+            self.replace(
+                alloc,
+                t,
+                numbered_row(alloc, size, size.saturating_add(by))?,
+            )?;
         }
         Ok(())
     }
@@ -158,7 +142,7 @@ impl<S: Store> Bench<S> {
         ensures { IsBench (S.tables self.new.store) (S.marks self.new.store) (S.holds self.new.store) self.new.marks.items }
     {
         'drain: for size in from..to {
-            self.erase(alloc, t, KeyLike::numbered(size)?)?;
+            self.erase(alloc, t, &numbered_key(alloc, size)?)?;
         }
         Ok(())
     }

@@ -9,7 +9,7 @@ use crate::walk::{falling, rising};
 use psm_table::{Datum, Row, Table};
 use std::alloc::Global;
 
-pub fn looked(alloc: Global, table: &Table, look: Look<'_>) -> Result<String, Fault>
+pub fn looked(alloc: Global, table: &Table, look: &Look<'_>) -> Result<String, Fault>
     requires { IsPartsTable table.now.contents.def }
 {
     match look {
@@ -29,7 +29,7 @@ pub fn looked(alloc: Global, table: &Table, look: Look<'_>) -> Result<String, Fa
 }
 
 #[tactic(auto, using(crate::proofs::PartsRows::key_fits))]
-fn get(alloc: Global, table: &Table, key: KeyLike<'_>) -> Result<String, Fault>
+fn get(alloc: Global, table: &Table, key: &KeyLike<'_>) -> Result<String, Fault>
     requires { IsPartsTable table.now.contents.def }
 {
     let key = key.made(alloc)?;
@@ -37,7 +37,7 @@ fn get(alloc: Global, table: &Table, key: KeyLike<'_>) -> Result<String, Fault>
 }
 
 #[tactic(auto, using(crate::proofs::PartsRows::key_fits))]
-fn next(alloc: Global, table: &Table, key: KeyLike<'_>) -> Result<String, Fault>
+fn next(alloc: Global, table: &Table, key: &KeyLike<'_>) -> Result<String, Fault>
     requires { IsPartsTable table.now.contents.def }
 {
     let key = key.made(alloc)?;
@@ -45,7 +45,7 @@ fn next(alloc: Global, table: &Table, key: KeyLike<'_>) -> Result<String, Fault>
 }
 
 #[tactic(auto, using(crate::proofs::PartsRows::key_fits))]
-fn prev(alloc: Global, table: &Table, key: KeyLike<'_>) -> Result<String, Fault>
+fn prev(alloc: Global, table: &Table, key: &KeyLike<'_>) -> Result<String, Fault>
     requires { IsPartsTable table.now.contents.def }
 {
     let key = key.made(alloc)?;
@@ -53,7 +53,7 @@ fn prev(alloc: Global, table: &Table, key: KeyLike<'_>) -> Result<String, Fault>
 }
 
 #[tactic(auto, using(crate::proofs::PartsRows::row_has_columns))]
-fn clash(alloc: Global, table: &Table, row: RowLike<'_>) -> Result<String, Fault>
+fn clash(alloc: Global, table: &Table, row: &RowLike<'_>) -> Result<String, Fault>
     requires { IsPartsTable table.now.contents.def }
 {
     let row = row.made(alloc)?;
@@ -87,7 +87,7 @@ fn defined(alloc: Global, table: &Table) -> Result<String, Fault> {
     told::definition(alloc, &copy.def().copy(alloc)?)
 }
 
-fn copies(alloc: Global, like: RowLike<'_>) -> Result<String, Fault> {
+fn copies(alloc: Global, like: &RowLike<'_>) -> Result<String, Fault> {
     let key = like.key.made(alloc)?.copy(alloc)?;
     let row = like.made(alloc)?.copy(alloc)?;
     let mut told = told::values(alloc, key.values())?;

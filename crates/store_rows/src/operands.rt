@@ -2,7 +2,6 @@
 
 use crate::fault::Fault;
 use crate::like::{KeyLike, RowLike};
-use psm_value::Dec;
 
 /// The operands that are still to be read.
 #[derive(Drop)]
@@ -52,17 +51,14 @@ impl<'a> Operands<'a> {
     /// A row of a name, a size and a code.
     pub fn row(&mut self) -> Result<RowLike<'a>, Fault> {
         let key = self.key()?;
-        let code = match self.word()? {
-            "NULL" => None,
-            number => Some(read(number)?),
-        };
+        let code = self.word()?;
         Ok(RowLike { key, code })
     }
 
     /// A name and a size.
     pub fn key(&mut self) -> Result<KeyLike<'a>, Fault> {
         let name = self.name()?;
-        let size = read(self.word()?)?;
+        let size = self.word()?;
         Ok(KeyLike { name, size })
     }
 
@@ -73,8 +69,4 @@ impl<'a> Operands<'a> {
         self.rest = rest;
         Ok(name)
     }
-}
-
-fn read(number: &str) -> Result<Dec, Fault> {
-    Dec::read(number).ok().ok_or(Fault::NoRow)
 }

@@ -1,3 +1,5 @@
+//! The orders in which keys come.
+
 use psm_value::Dec;
 
 /// The order in which keys come.
@@ -9,15 +11,6 @@ pub enum Order {
 }
 
 impl Order {
-    pub fn named(word: &str) -> Option<Order> {
-        match word {
-            "rising" => Some(Order::Rising),
-            "falling" => Some(Order::Falling),
-            "scattered" => Some(Order::Scattered),
-            _ => None,
-        }
-    }
-
     pub fn name(self) -> &'static str {
         match self {
             Order::Rising => "rising",
