@@ -1,7 +1,6 @@
 -- Rows and keys of two numbers fit the table of these.
 use Rattle.std.proofs.Common.{◌≡◌, ℕ, zero, suc, ◌<◌, List, [], ◌∷◌, length, ap, refl, sym, subst, ◌∙◌, arith}
-use Rattle.std.specs.Prelude.{◌≢◌, All, IfSome, Some, map, slice_get}
-use Rattle.std.proofs.Math.Option.{some-injective}
+use Rattle.std.specs.Prelude.{◌≢◌, All, IfSome, Option, Some, unwrap_or, map, slice_get}
 use Rattle.std.proofs.lemmas.List.{length-map}
 use Rattle.std.proofs.lemmas.List.Elements.{All-head, All-tail}
 use Rattle.psm_value.specs.declared.datum.Datum.{Datum}
@@ -29,7 +28,7 @@ key_fits def key table one = one ∙ sym (ap length table.key)
 -- each of the tables is one of pairs
 pub table_in : (tables : List Contents) (t : ℕ) (c : Contents) → All IsPairsTable (defs_of tables) → slice_get tables t ≡ Some c → IsPairsTable c.def
 table_in [] t c h e = cc
-table_in (x ∷ xs) zero c h e = subst (λ (o : Contents). IsPairsTable o.def) (some-injective x c e) (All-head IsPairsTable x.def (defs_of xs) h)
+table_in (x ∷ xs) zero c h e = subst (λ (o : Contents). IsPairsTable o.def) (ap (λ (o : Option Contents). unwrap_or o x) e) (All-head IsPairsTable x.def (defs_of xs) h)
 table_in (x ∷ xs) (suc t) c h e = table_in xs t c (All-tail IsPairsTable x.def (defs_of xs) h) e
 
 pub table_of : (s : Undo) (t : ℕ) (c : Contents) → HasPairs s → slice_get (tables_of s) t ≡ Some c → IsPairsTable c.def
@@ -63,6 +62,13 @@ new_store d s h e = record {
   one_pair : All IsPairsTable (d ∷ [])
   one_pair zero o l = h
   one_pair (suc k) o l = let never : ⊥ = omega (arith, l) in absurd never
+
+pub keeps_same : (a : Undo) → Keeps AnyMark (IsHeld a) (stands_for a) (IsHeld a) (stands_for a)
+keeps_same a m held any = (held, refl)
+
+-- a mark that is given is held after what keeps marks
+pub held_on : (a b : Undo) (m : Mark) → Keeps AnyMark (IsHeld a) (stands_for a) (IsHeld b) (stands_for b) → IsHeld a m → IsHeld b m
+held_on a b m keeps held = (keeps m held tt).0
 
 -- what keeps marks, after what keeps them
 pub keeps_on : (a b c : Undo) → Keeps AnyMark (IsHeld a) (stands_for a) (IsHeld b) (stands_for b) → Keeps AnyMark (IsHeld b) (stands_for b) (IsHeld c) (stands_for c)

@@ -31,7 +31,7 @@ use std::marker::Brand;
 use std::rt::Env;
 use std::sync::ledger::{Blank, Ledger};
 use std::time::{CpuClock, Duration};
-use work::{Walked, done, filled, walked};
+use work::{Walked, done, filled, walk};
 
 fn main(rt: HostRuntime) -> Result<()> {
     let alloc = rt.alloc();
@@ -131,7 +131,7 @@ fn measured<L: Ledger>(
         bail!("the table is full or has too few rows, or memory ran out");
     };
     let spent = processor_time(rt, timed)?.saturating_sub(before);
-    let Ok(walked) = walked(alloc, table(&store)) else {
+    let Ok(walked) = walk(alloc, table(&store)) else {
         bail!("memory ran out");
     };
     Ok(Told {

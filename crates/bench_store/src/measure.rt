@@ -34,8 +34,8 @@ impl Measure {
             "scattered" => Some(Measure::Fill(Order::Scattered, one(sizes)?)),
             "look_up" => Some(Measure::LookUp(one(sizes)?)),
             "walk" => Some(Measure::Walk(one(sizes)?)),
-            "undo" => undo(sizes),
-            "marks" => marks(sizes),
+            "undo" => undo_of(sizes),
+            "marks" => marks_of(sizes),
             _ => None,
         }
     }
@@ -67,7 +67,7 @@ fn one(sizes: &[u32]) -> Option<u32> {
     }
 }
 
-fn undo(sizes: &[u32]) -> Option<Measure> {
+fn undo_of(sizes: &[u32]) -> Option<Measure> {
     match sizes {
         [marks, changes, rows] => Some(Measure::Undo(Undo {
             marks: *marks,
@@ -78,7 +78,7 @@ fn undo(sizes: &[u32]) -> Option<Measure> {
     }
 }
 
-fn marks(sizes: &[u32]) -> Option<Measure> {
+fn marks_of(sizes: &[u32]) -> Option<Measure> {
     match sizes {
         [marks, rows] => Some(Measure::Marks(*marks, *rows)),
         _ => None,

@@ -1,5 +1,5 @@
 //! A store of one table of two numbers, of which the first is the key, and its calls.
-ghost use Rattle.std.specs.Prelude.{◌≡◌, ◌≢◌, ◌<◌, [], ◌∷◌, All, IfOk, IfSome, length, slice_get};
+ghost use Rattle.std.specs.Prelude.{◌≡◌, ◌≢◌, ◌<◌, [], ◌∷◌, All, IfOk, OnOk, IfSome, length, slice_get};
 ghost use Rattle.psm_value.specs.declared.sqltype.SqlType.TheVariants.{Integer};
 ghost use Rattle.psm_table.specs.Definition.{kinds_of, HasColumns, IsDefinition, IsKey, IsRow};
 ghost use Rattle.psm_store.specs.Marks.{AnyMark, Keeps};
@@ -38,7 +38,7 @@ pub fn change(store: &mut UndoStore, alloc: Global, key: Dec, number: u32) -> Re
     requires { HasPairs store.old }
     ensures pairs { HasPairs store.new }
     ensures marks { store.new.marks ≡ store.old.marks }
-    ensures keeps { Keeps AnyMark (IsHeld store.old) (stands_for store.old) (IsHeld store.new) (stands_for store.new) }
+    ensures keeps { OnOk result (Keeps AnyMark (IsHeld store.old) (stands_for store.old) (IsHeld store.new) (stands_for store.new)) }
 {
     let row = row(alloc, key, number)?;
     store.change(alloc, 0, row)

@@ -1,6 +1,6 @@
 //! The work that is measured. The number beside a key is its place among those put in, until it is changed to
 //! the next greater one.
-ghost use Rattle.std.specs.Prelude.{◌≡◌, ◌×◌, ◌+◌, ◌^◌, ◌<◌, IfOk, OnOk};
+ghost use Rattle.std.specs.Prelude.{◌≡◌, ◌+◌, ◌^◌, ◌<◌, IfOk, OnOk};
 ghost use Rattle.psm_store.specs.Marks.{AnyMark, Keeps};
 ghost use Rattle.psm_undostore.specs.Undo.{IsHeld, stands_for};
 ghost use Rattle.bench_store.specs.Pairs.{HasPairs};
@@ -43,7 +43,7 @@ pub fn done<L: Ledger>(
     match measure {
         Measure::Fill(order, rows) => fill(store, alloc, order, rows),
         Measure::LookUp(rows) => found(store, alloc, rows),
-        Measure::Walk(_) => Ok(u64::from(walked(alloc, table(store))?.rows)),
+        Measure::Walk(_) => Ok(u64::from(walk(alloc, table(store))?.rows)),
         Measure::Undo(undo) => undone(store, alloc, undo, steps),
         Measure::Marks(marks, rows) => marked(store, alloc, marks, rows),
     }
@@ -73,7 +73,7 @@ fn found(store: &UndoStore, alloc: Global, rows: u32) -> Result<u64, RowFault>
 }
 
 /// A walk over the rows, from the first on.
-pub fn walked(alloc: Global, table: &Table) -> Result<Walked, RowFault> {
+pub fn walk(alloc: Global, table: &Table) -> Result<Walked, RowFault> {
     let mut walked = Walked { rows: 0, sum: 0 };
     let mut next = table.next_after(None);
     'walk: for before in 0..table.len() {
@@ -103,7 +103,7 @@ fn undone<L: Ledger>(
     'marks: for _ in 0..undo.marks {
         change_and_undo(store, alloc, undo.changes, steps)?;
     }
-    Ok(u64::from(undo.marks) * u64::from(undo.changes))
+    Ok(u64::from(undo.marks).saturating_mul(u64::from(undo.changes)))
 }
 
 fn change_and_undo<L: Ledger>(
@@ -123,11 +123,12 @@ fn change_and_undo<L: Ledger>(
     Ok(())
 }
 
+#[tactic(auto, using(crate::proofs::PairsRows::keeps_same, crate::proofs::PairsRows::keeps_on))]
 fn change_all(store: &mut UndoStore, alloc: Global, changes: u32) -> Result<(), RowFault>
     requires { HasPairs store.old }
     ensures pairs { HasPairs store.new }
     ensures marks { store.new.marks ≡ store.old.marks }
-    ensures keeps { Keeps AnyMark (IsHeld store.old) (stands_for store.old) (IsHeld store.new) (stands_for store.new) }
+    ensures keeps { OnOk result (Keeps AnyMark (IsHeld store.old) (stands_for store.old) (IsHeld store.new) (stands_for store.new)) }
 {
     'change: for place in 0..changes {
         change(store, alloc, Order::Rising.key(place), place + 1)?;

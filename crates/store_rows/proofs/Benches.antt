@@ -1,5 +1,5 @@
 -- A store and its marks, after each call of it.
-use Rattle.std.proofs.Common.{◌≡◌, ℕ, zero, suc, ◌+◌, ◌<◌, ◌≤◌, ◌×◌, ◌⊎◌, inl, inr, List, [], ◌∷◌, ◌++◌, length, take, refl, ap, sym, subst, ◌∙◌, arith}
+use Rattle.std.proofs.Common.{◌≡◌, ℕ, zero, suc, ◌+◌, ◌<◌, ◌≤◌, ◌⊎◌, inl, inr, List, [], ◌∷◌, ◌++◌, length, take, refl, ap, sym, subst, ◌∙◌, arith}
 use Rattle.std.specs.Prelude.{All, Some, slice_get}
 use Rattle.std.proofs.lemmas.List.{length-append, length-map, length-take-le}
 use Rattle.std.proofs.lemmas.Option.{slice_get_within}
@@ -39,12 +39,17 @@ two_tables ts us two e = sym (length-map us (λ t. t.def)) ∙ ap length e ∙ l
 no-marks : (H : Mark → Type 0) → AreHeld H []
 no-marks H = record { held = λ k m e. cc; deep = λ k m e. cc; rising = λ j k m n below e f. cc }
 
+two_parts : (d e : TableDef) → IsPartsTable d → IsPartsTable e → All IsPartsTable (d ∷ e ∷ [])
+two_parts d e p q zero o l = p
+two_parts d e p q (suc zero) o l = q
+two_parts d e p q (suc (suc k)) o l = let never : ⊥ = omega (arith, l) in absurd never
+
 -- a new store of two tables of parts
 pub new_bench : (d e : TableDef) (ts : List Contents) (m : ℕ) (H : Mark → Type 0) → IsPartsTable d → IsPartsTable e
     → ts ≡ empty_table d ∷ empty_table e ∷ [] → m ≡ 0 → IsBench ts m H []
 new_bench d e ts m H p q same none = record {
   two = ap length same;
-  parts = subst (λ (xs : List Contents). All IsPartsTable (defs_of xs)) (sym same) (p, q, tt);
+  parts = subst (λ (xs : List Contents). All IsPartsTable (defs_of xs)) (sym same) (two_parts d e p q);
   counted = none;
   held = no-marks H;
 }
@@ -86,7 +91,7 @@ opened ts us m n H K old new marks mark b e more made keeps = record {
 outer : (ts : List Contents) (m : ℕ) (H : Mark → Type 0) (marks : List Mark) (d : ℕ) (mark : Mark) → IsBench ts m H marks → slice_get marks d ≡ Some mark
     → (k : ℕ) (x : Mark) → k < d → slice_get marks k ≡ Some x → H x × IsOutside mark x
 outer ts m H marks d mark b at k x below g =
-    (b.held.held k x g, omega (arith, below, b.held.deep k x g, b.held.deep d mark at), b.held.rising k d x mark below g at)
+    (b.held.held k x g, (omega (arith, below, b.held.deep k x g, b.held.deep d mark at), b.held.rising k d x mark below g at))
 
 -- after a rollback to the mark of that depth
 pub rolled : (ts us : List Contents) (m n : ℕ) (H K : Mark → Type 0) (old new : Mark → List Contents) (marks : List Mark) (d : ℕ) (mark : Mark)

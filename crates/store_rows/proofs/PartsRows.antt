@@ -1,7 +1,6 @@
 -- Rows and keys of a name, a size and a code fit the tables of these.
 use Rattle.std.proofs.Common.{◌≡◌, ℕ, zero, suc, List, [], ◌∷◌, length, ap, sym, subst, ◌∙◌}
-use Rattle.std.specs.Prelude.{◌≢◌, All, IfSome, Some, slice_get}
-use Rattle.std.proofs.Math.Option.{some-injective}
+use Rattle.std.specs.Prelude.{◌≢◌, All, IfSome, Option, Some, unwrap_or, slice_get}
 use Rattle.std.proofs.lemmas.List.{length-map}
 use Rattle.std.proofs.lemmas.List.Elements.{All-head, All-tail}
 use Rattle.psm_value.specs.declared.datum.Datum.{Datum}
@@ -27,7 +26,7 @@ key_fits def key table parts = parts ∙ sym (ap length table.key)
 -- each of the tables is one of parts
 pub table_of : (tables : List Contents) (t : ℕ) (c : Contents) → All IsPartsTable (defs_of tables) → slice_get tables t ≡ Some c → IsPartsTable c.def
 table_of [] t c h e = cc
-table_of (x ∷ xs) zero c h e = subst (λ (o : Contents). IsPartsTable o.def) (some-injective x c e) (All-head IsPartsTable x.def (defs_of xs) h)
+table_of (x ∷ xs) zero c h e = subst (λ (o : Contents). IsPartsTable o.def) (ap (λ (o : Option Contents). unwrap_or o x) e) (All-head IsPartsTable x.def (defs_of xs) h)
 table_of (x ∷ xs) (suc t) c h e = table_of xs t c (All-tail IsPartsTable x.def (defs_of xs) h) e
 
 pub row_has_columns : (def : TableDef) (row : List Datum) → IsPartsTable def → IsPartsRow row → HasColumns def row

@@ -35,7 +35,7 @@ impl<S: Store> Bench<S> {
     {
         match call {
             Call::Look(look) => self.looked(alloc, t, look),
-            Call::Change(change) => self.changed(alloc, t, change),
+            Call::Change(change) => told::done(alloc, self.changed(alloc, t, change)),
             Call::Mark => self.mark(alloc),
             Call::Rollback(depth) => self.rollback(alloc, *depth, steps),
             Call::Release(depth) => self.release(alloc, *depth),
@@ -62,19 +62,18 @@ impl<S: Store> Bench<S> {
         self.store.table(t)
     }
 
-    fn changed(&mut self, alloc: Global, t: u32, change: &Change<'_>) -> Result<String, Fault>
+    fn changed(&mut self, alloc: Global, t: u32, change: &Change<'_>) -> Result<(), Fault>
         requires { IsBench (S.tables self.old.store) (S.marks self.old.store) (S.holds self.old.store) self.old.marks.items }
         ensures { IsBench (S.tables self.new.store) (S.marks self.new.store) (S.holds self.new.store) self.new.marks.items }
     {
         match change {
-            Change::Insert(like) => self.insert(alloc, t, like.made(alloc)?)?,
-            Change::Replace(like) => self.replace(alloc, t, like.made(alloc)?)?,
-            Change::Erase(like) => self.erase(alloc, t, &like.made(alloc)?)?,
-            Change::Fill(from, to) => self.fill(alloc, t, *from, *to)?,
-            Change::Raise(from, to, by) => self.raise(alloc, t, *from, *to, *by)?,
-            Change::Drain(from, to) => self.drain(alloc, t, *from, *to)?,
+            Change::Insert(like) => self.insert(alloc, t, like.made(alloc)?),
+            Change::Replace(like) => self.replace(alloc, t, like.made(alloc)?),
+            Change::Erase(like) => self.erase(alloc, t, &like.made(alloc)?),
+            Change::Fill(from, to) => self.fill(alloc, t, *from, *to),
+            Change::Raise(from, to, by) => self.raise(alloc, t, *from, *to, *by),
+            Change::Drain(from, to) => self.drain(alloc, t, *from, *to),
         }
-        told::word(alloc, "ok")
     }
 
     #[tactic(auto, using(crate::proofs::Benches::kept, crate::proofs::PartsRows::row_fits_at))]
@@ -157,11 +156,13 @@ impl<S: Store> Bench<S> {
             return Err(Fault::NoRow);
         }
         let mark = self.store.mark(alloc)?;
-        if self.marks.push(mark).is_err() {
-            self.store.release(mark);
-            return Err(Fault::Memory);
+        match self.marks.push(mark) {
+            Ok(()) => told::depth(alloc, mark.depth),
+            Err(_) => {
+                self.store.release(mark);
+                Err(Fault::Memory)
+            }
         }
-        Ok(format!(in alloc; "{}", mark.depth)?)
     }
 
     #[tactic(auto, using(crate::proofs::Benches::rolled))]

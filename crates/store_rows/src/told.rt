@@ -46,6 +46,17 @@ pub fn word(alloc: Global, word: &str) -> Result<String, Fault> {
     Ok(String::from_str(alloc, word)?)
 }
 
+/// That a change was done, or why it wasn't.
+pub fn done(alloc: Global, done: Result<(), Fault>) -> Result<String, Fault> {
+    done?;
+    word(alloc, "ok")
+}
+
+/// How many marks were open before one.
+pub fn depth(alloc: Global, depth: u128) -> Result<String, Fault> {
+    Ok(format!(in alloc; "{depth}")?)
+}
+
 /// The name, the columns, the places of those in the key and of those in each UNIQUE list.
 pub fn definition(alloc: Global, def: &TableDef) -> Result<String, Fault> {
     let mut told = String::from_str(alloc, def.name.as_str())?;

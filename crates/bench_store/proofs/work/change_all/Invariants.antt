@@ -1,4 +1,4 @@
-use Rattle.std.specs.Prelude.{◌≡◌, ◌×◌}
+use Rattle.std.specs.Prelude.{◌≡◌}
 use Rattle.psm_store.specs.Marks.{AnyMark, Keeps}
 use Rattle.psm_undostore.specs.Undo.{IsHeld, stands_for}
 use Rattle.bench_store.specs.Pairs.{HasPairs}

@@ -1,4 +1,4 @@
-use Rattle.std.specs.Prelude.{◌≡◌, ◌×◌}
+use Rattle.std.specs.Prelude.{◌≡◌}
 use Rattle.bench_store.specs.Pairs.{HasPairs}
 use Rattle.bench_store.proofs.work.fill.Given as goal
 

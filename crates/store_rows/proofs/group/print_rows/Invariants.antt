@@ -1,4 +1,3 @@
-use Rattle.std.specs.Prelude.{◌×◌}
 use Rattle.store_rows.specs.Alone.{IsAlone}
 use Rattle.store_rows.specs.Bench.{IsBench}
 use Rattle.store_rows.proofs.group.print_rows.Given as goal

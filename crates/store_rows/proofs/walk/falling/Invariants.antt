@@ -3,4 +3,4 @@ use Rattle.psm_table.specs.Definition.{HasColumns}
 use Rattle.store_rows.proofs.walk.falling.Given as goal
 
 abbrev pub invariant-walk : goal.invariant-walk
-invariant-walk l = IfSome l.next (λ row. HasColumns l.table.def row.now)
+invariant-walk l = IfSome l.next (λ row. HasColumns l.table.contents.def row.now)
