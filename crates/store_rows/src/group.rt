@@ -14,15 +14,16 @@ use anyhow::{Result, bail};
 use psm_store::{CopyStore, Steps, Store};
 use psm_undostore::UndoStore;
 use std::alloc::Global;
+use std::marker::Brand;
 use std::sync::ledger::{Blank, Ledger};
 
 /// Prints each row of a group, which begins with empty tables, with what is answered to it.
-pub fn print_group<L: Ledger>(
-    rt: &impl Print,
-    alloc: Global,
-    rows: &str,
-    blank: Blank,
-) -> Result<()>
+pub fn print_group(rt: &impl Print, alloc: Global, rows: &str) -> Result<()> {
+    print_counted::<Brand>(rt, alloc, rows, Blank::new(1))
+}
+
+// The row steps are counted, and nothing is done with their number.
+fn print_counted<L: Ledger>(rt: &impl Print, alloc: Global, rows: &str, blank: Blank) -> Result<()>
     requires name { blank.name ≡ L.name }
     requires parts { blank.parts ≡ L.parts }
     requires some { 0 < blank.parts }

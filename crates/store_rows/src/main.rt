@@ -25,8 +25,6 @@ mod walk;
 use anyhow::Result;
 use group::print_group;
 use std::io;
-use std::marker::Brand;
-use std::sync::ledger::Blank;
 
 fn main(rt: HostRuntime) -> Result<()> {
     let alloc = rt.alloc();
@@ -35,7 +33,7 @@ fn main(rt: HostRuntime) -> Result<()> {
         if number > 0 {
             println!(rt; "")?;
         }
-        print_group::<Brand>(&rt, alloc, rows, Blank::new(1))?;
+        print_group(&rt, alloc, rows)?;
     }
     Ok(())
 }
