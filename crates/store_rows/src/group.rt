@@ -19,11 +19,13 @@ use std::sync::ledger::{Blank, Ledger};
 
 /// Prints each row of a group, which begins with empty tables, with what is answered to it.
 pub fn print_group(rt: &impl Print, alloc: Global, rows: &str) -> Result<()> {
-    print_counted::<Brand>(rt, alloc, rows, Blank::new(1))
+    let told = told_group::<Brand>(alloc, rows, Blank::new(1))?;
+    print!(rt; "{told}")?;
+    Ok(())
 }
 
 // The row steps are counted, and nothing is done with their number.
-fn print_counted<L: Ledger>(rt: &impl Print, alloc: Global, rows: &str, blank: Blank) -> Result<()>
+fn told_group<L: Ledger>(alloc: Global, rows: &str, blank: Blank) -> Result<String>
     requires name { blank.name ≡ L.name }
     requires parts { blank.parts ≡ L.parts }
     requires some { 0 < blank.parts }
@@ -35,8 +37,7 @@ fn print_counted<L: Ledger>(rt: &impl Print, alloc: Global, rows: &str, blank: B
     let (Ok(mut copies), Ok(mut journal)) = (copying(alloc), journaling(alloc)) else {
         bail!("no store");
     };
-    print_rows(
-        rt,
+    told_rows(
         alloc,
         rows,
         &mut alone,
@@ -74,26 +75,27 @@ fn journaling(alloc: Global) -> Result<Bench<UndoStore>, Fault>
     })
 }
 
-fn print_rows<S: Store, T: Store, L: Ledger>(
-    rt: &impl Print,
+fn told_rows<S: Store, T: Store, L: Ledger>(
     alloc: Global,
     rows: &str,
     alone: &mut Alone,
     copies: &mut Bench<S>,
     journal: &mut Bench<T>,
     steps: &mut Steps<L>,
-) -> Result<()>
+) -> Result<String>
     requires alone { IsAlone alone.old.table alone.old.left }
     requires copies { IsBench (S.tables copies.old.store) (S.marks copies.old.store) (S.holds copies.old.store) copies.old.marks.items }
     requires journal { IsBench (T.tables journal.old.store) (T.marks journal.old.store) (T.holds journal.old.store) journal.old.marks.items }
 {
+    let mut told = String::new(alloc);
     'rows: for row in rows.lines() {
-        if row.starts_with('#') {
-            println!(rt; "{row}")?;
-        } else {
+        told.push_str(row)?;
+        if !row.starts_with('#') {
             let answer = answer(alloc, row, alone, copies, journal, steps)?;
-            println!(rt; "{row} | {answer}")?;
+            told.push_str(" | ")?;
+            told.push_str(answer.as_str())?;
         }
+        told.push_str("\n")?;
     }
-    Ok(())
+    Ok(told)
 }
