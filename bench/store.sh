@@ -1,0 +1,27 @@
+#!/usr/bin/env bash
+# Measures a store that keeps a journal: the seconds of processor time to put rows in in each order of their keys,
+# to look each key up, to walk the rows, to undo 200 changes under each of some marks, and to change one row under
+# each of some marks.
+#
+#     bench/store.sh [ROWS] [MARKS] [SHORT]
+#
+# ROWS, 200000 where it isn't said, are put in, looked up and walked; of 20000 rows 200 are changed and put back under
+# each of MARKS marks, 1000 where it isn't said, and one is changed under each of SHORT marks, 20000 where it isn't said.
+# Each is done with a tenth of the work, and then with all of it.
+set -u
+cd "$(dirname "$0")/../crates/bench_store" || exit 1
+
+mkdir -p out
+rows=${1:-200000}
+marks=${2:-1000}
+short=${3:-20000}
+program=out/bench_store
+if ! rt run >out/bench.log 2>&1 || [ ! -x "$program" ]; then
+    echo "bench: the program could not be built; run 'rt check' in $PWD" >&2
+    exit 70
+fi
+for measure in rising falling scattered look_up walk; do
+    "$program" "$measure" $((rows / 10)) && "$program" "$measure" "$rows" || exit 1
+done
+"$program" undo $((marks / 10)) 200 20000 && "$program" undo "$marks" 200 20000 || exit 1
+"$program" marks $((short / 10)) 20000 && "$program" marks "$short" 20000 || exit 1

@@ -1,0 +1,52 @@
+-- Entries that are undone one after another, the last first.
+use Rattle.std.proofs.Common.{◌≡◌, ℕ, ◌+◌, ◌*◌, ◌<◌, ◌≤◌, List, [], ◌∷◌, ◌++◌, length, get_or, set, take, ap, sym, subst, ◌∙◌, arith}
+use Rattle.std.proofs.lemmas.List.{length-append, take-append-le, drop_all}
+use Rattle.psm_table.specs.State.{State}
+use Rattle.psm_table.specs.Table.{IsTable}
+use Rattle.psm_undostore.specs.declared.entry.Entry.{Entry}
+use Rattle.psm_undostore.specs.Journal.{AreUndoable, IsReady, Takes}
+use Rattle.psm_undostore.specs.Undone.{before, contents_of, undone, undone_from}
+use Rattle.psm_undostore.proofs.UndoneLaws.{undone_from-nil}
+use Rattle.psm_undostore.proofs.Undoable.{good_last, last_is_ready, taken_before, taken_undoable}
+
+-- some of the entries are undone: those that are left are the first ones, and undoing them leads on to the same tables
+pub record Undoing (place : ℕ) (states : List State) (entries : List Entry) (steps : ℕ) (now : List State) (left : List Entry) (taken : ℕ) : Type 0 where
+  pub undoable : AreUndoable now left
+  pub ahead : place ≤ length left
+  pub first : take place left ≡ take place entries
+  pub tables : before place left now ≡ before place entries states
+  pub cost : taken + 2 * length left ≤ steps + 2 * length entries
+
+-- no entry is left to undo
+pub nothing_left : (place : ℕ) (now : List State) (left : List Entry) → length left ≤ place → before place left now ≡ contents_of now
+nothing_left place now left h = ap (λ l. undone_from 0 l (contents_of now)) (drop_all place left h) ∙ undone_from-nil 0 (contents_of now)
+
+-- one more
+module _ (place : ℕ) (states : List State) (entries : List Entry) (steps : ℕ) (now : List State) (left rest : List Entry) (taken : ℕ) (e : Entry) (h : Undoing place states entries steps now left taken)
+    (last : left ≡ rest ++ e ∷ []) where
+  longer : length left ≡ length rest + 1
+  longer = ap length last ∙ length-append rest (e ∷ [])
+
+  undoable_last : AreUndoable now (rest ++ e ∷ [])
+  undoable_last = subst (AreUndoable now) last h.undoable
+
+  pub next_ready : IsReady now e
+  next_ready = last_is_ready now rest e undoable_last
+
+  pub next_good : (d : State) → IsTable (undone e.change (get_or now e.table d).contents)
+  next_good d = good_last now rest e undoable_last d
+
+  pub next_undoing : (new : List State) (more : ℕ) → place < length left → Takes e now new → more ≤ taken + 2 → Undoing place states entries steps new rest more
+  next_undoing new more l takes cost =
+      let short : place ≤ length rest = omega (arith, l, longer) in
+      let there : new ≡ set now e.table takes.state = takes.others in record {
+        undoable = subst (λ (s : List State). AreUndoable s rest) (sym there) (taken_undoable now rest e undoable_last takes.state takes.back takes.keeps);
+        ahead = short;
+        first = sym (ap (take place) last ∙ take-append-le place rest (e ∷ []) short) ∙ h.first;
+        tables =
+            ap (before place rest) there
+            ∙ sym (taken_before now rest e undoable_last takes.state takes.back takes.keeps place short)
+            ∙ ap (λ (x : List Entry). before place x now) (sym last)
+            ∙ h.tables;
+        cost = omega (arith, h.cost, cost, longer);
+      }

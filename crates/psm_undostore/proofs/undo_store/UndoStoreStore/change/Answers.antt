@@ -1,0 +1,31 @@
+use Rattle.std.proofs.Common.{◌∙◌, List, ap, length, refl}
+use Rattle.psm_table.specs.Definition.{IsRow}
+use Rattle.psm_table.specs.State.{State}
+use Rattle.psm_table.specs.Table.{with_row}
+use Rattle.psm_store.specs.Marks.{defs_of}
+use Rattle.psm_undostore.specs.Undone.{contents_of}
+use Rattle.psm_undostore.proofs.Calls.{written}
+use Rattle.psm_undostore.proofs.Held.{defs_called, exists_in, fits_in}
+use Rattle.psm_undostore.proofs.undo_store.UndoStoreStore.change.Goals as goal
+
+pub change-requires-clause-exists : goal.change-requires-clause-exists
+change-requires-clause-exists c = exists_in c.self.inside.tables.items c.self.inside.journal c.self.inside.marks c.args.self.now c.self.view_is c.as_mut_slice.result.now c.as_mut_slice.ensures.value c.args.t c.requires.exists
+
+pub change-requires-clause-fits : goal.change-requires-clause-fits
+change-requires-clause-fits c = fits_in c.self.inside.tables.items c.self.inside.journal c.self.inside.marks c.args.self.now c.self.view_is c.as_mut_slice.result.now c.as_mut_slice.ensures.value c.args.t (λ x. IsRow x.def c.args.row) c.requires.fits
+
+pub returns-then-self-eq0-clause-defs : goal.returns-then-self-eq0-clause-defs
+returns-then-self-eq0-clause-defs c =
+    ap (λ (s : List State). defs_of (contents_of s)) (written c.self.inside.tables.items c.change.new.tables c.self.inside.tables.len c.self.inside.tables.ok.0 (c.change.auto.tables ∙ ap length c.as_mut_slice.ensures.value))
+    ∙ defs_called c.self.inside.tables.items c.self.inside.journal c.self.inside.marks c.args.self.now c.self.view_is c.as_mut_slice.result.now c.as_mut_slice.ensures.value c.args.t (λ x. with_row x c.args.row) (λ x. refl) c.change.result c.change.new.tables c.change.ensures.tables
+
+pub change-requires-2-clause-exists : goal.change-requires-2-clause-exists
+change-requires-2-clause-exists c = exists_in c.self.inside.tables.items c.self.inside.journal c.self.inside.marks c.args.self.now c.self.view_is c.as_mut_slice-2.result.now c.as_mut_slice-2.ensures.value c.args.t c.requires.exists
+
+pub change-requires-2-clause-fits : goal.change-requires-2-clause-fits
+change-requires-2-clause-fits c = fits_in c.self.inside.tables.items c.self.inside.journal c.self.inside.marks c.args.self.now c.self.view_is c.as_mut_slice-2.result.now c.as_mut_slice-2.ensures.value c.args.t (λ x. IsRow x.def c.args.row) c.requires.fits
+
+pub returns-clause-defs : goal.returns-clause-defs
+returns-clause-defs c =
+    ap (λ (s : List State). defs_of (contents_of s)) (written c.self.inside.tables.items c.change-2.new.tables c.self.inside.tables.len c.self.inside.tables.ok.0 (c.change-2.auto.tables ∙ ap length c.as_mut_slice-2.ensures.value))
+    ∙ defs_called c.self.inside.tables.items c.self.inside.journal c.self.inside.marks c.args.self.now c.self.view_is c.as_mut_slice-2.result.now c.as_mut_slice-2.ensures.value c.args.t (λ x. with_row x c.args.row) (λ x. refl) c.change-2.result c.change-2.new.tables c.change-2.ensures.tables

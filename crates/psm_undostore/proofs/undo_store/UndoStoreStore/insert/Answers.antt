@@ -1,0 +1,31 @@
+use Rattle.std.proofs.Common.{◌∙◌, List, ap, length, refl}
+use Rattle.psm_table.specs.Definition.{IsRow}
+use Rattle.psm_table.specs.State.{State}
+use Rattle.psm_table.specs.Table.{with_row}
+use Rattle.psm_store.specs.Marks.{defs_of}
+use Rattle.psm_undostore.specs.Undone.{contents_of}
+use Rattle.psm_undostore.proofs.Calls.{written}
+use Rattle.psm_undostore.proofs.Held.{defs_called, exists_in, fits_in}
+use Rattle.psm_undostore.proofs.undo_store.UndoStoreStore.insert.Goals as goal
+
+pub insert-requires-clause-exists : goal.insert-requires-clause-exists
+insert-requires-clause-exists c = exists_in c.self.inside.tables.items c.self.inside.journal c.self.inside.marks c.args.self.now c.self.view_is c.as_mut_slice.result.now c.as_mut_slice.ensures.value c.args.t c.requires.exists
+
+pub insert-requires-clause-fits : goal.insert-requires-clause-fits
+insert-requires-clause-fits c = fits_in c.self.inside.tables.items c.self.inside.journal c.self.inside.marks c.args.self.now c.self.view_is c.as_mut_slice.result.now c.as_mut_slice.ensures.value c.args.t (λ x. IsRow x.def c.args.row) c.requires.fits
+
+pub returns-then-self-eq0-clause-defs : goal.returns-then-self-eq0-clause-defs
+returns-then-self-eq0-clause-defs c =
+    ap (λ (s : List State). defs_of (contents_of s)) (written c.self.inside.tables.items c.insert.new.tables c.self.inside.tables.len c.self.inside.tables.ok.0 (c.insert.auto.tables ∙ ap length c.as_mut_slice.ensures.value))
+    ∙ defs_called c.self.inside.tables.items c.self.inside.journal c.self.inside.marks c.args.self.now c.self.view_is c.as_mut_slice.result.now c.as_mut_slice.ensures.value c.args.t (λ x. with_row x c.args.row) (λ x. refl) c.insert.result c.insert.new.tables c.insert.ensures.tables
+
+pub insert-requires-2-clause-exists : goal.insert-requires-2-clause-exists
+insert-requires-2-clause-exists c = exists_in c.self.inside.tables.items c.self.inside.journal c.self.inside.marks c.args.self.now c.self.view_is c.as_mut_slice-2.result.now c.as_mut_slice-2.ensures.value c.args.t c.requires.exists
+
+pub insert-requires-2-clause-fits : goal.insert-requires-2-clause-fits
+insert-requires-2-clause-fits c = fits_in c.self.inside.tables.items c.self.inside.journal c.self.inside.marks c.args.self.now c.self.view_is c.as_mut_slice-2.result.now c.as_mut_slice-2.ensures.value c.args.t (λ x. IsRow x.def c.args.row) c.requires.fits
+
+pub returns-clause-defs : goal.returns-clause-defs
+returns-clause-defs c =
+    ap (λ (s : List State). defs_of (contents_of s)) (written c.self.inside.tables.items c.insert-2.new.tables c.self.inside.tables.len c.self.inside.tables.ok.0 (c.insert-2.auto.tables ∙ ap length c.as_mut_slice-2.ensures.value))
+    ∙ defs_called c.self.inside.tables.items c.self.inside.journal c.self.inside.marks c.args.self.now c.self.view_is c.as_mut_slice-2.result.now c.as_mut_slice-2.ensures.value c.args.t (λ x. with_row x c.args.row) (λ x. refl) c.insert-2.result c.insert-2.new.tables c.insert-2.ensures.tables

@@ -1,0 +1,196 @@
+//! A journal of the changes of rows of some tables.
+ghost use Rattle.std.specs.Prelude.{◌≡◌, ◌+◌, ◌-◌, ◌*◌, ◌<◌, ◌≤◌, [], length, take, is_ok, if◌then◌else◌, IfSome, slice_get, slice_index_or};
+ghost use Rattle.psm_table.specs.Definition.{IsRow, IsKey};
+ghost use Rattle.psm_table.specs.State.{State, StillKeeps};
+ghost use Rattle.psm_table.specs.Table.{IsTable, keyed, namesake, with_row, without_row};
+ghost use Rattle.psm_store.specs.RowCalls.{AnswersFound, AnswersInsert, after};
+ghost use Rattle.psm_undostore.specs.Journal.{AreUndoable, CanUndo, Extends, IsReady, Takes};
+ghost use Rattle.psm_undostore.specs.Undone.{before, contents_of, undone};
+
+use crate::entry::{Change, Entry};
+use crate::journaled::{change_row, erase_row, insert_row};
+use psm_segstack::SegStack;
+use psm_table::{Key, Row, RowFault, Steps, Table};
+use std::alloc::Global;
+use std::marker::{Brand, Model};
+use std::sync::ledger::{Blank, Ledger};
+
+/// A journal that had more entries than this gives its memory back when it is emptied.
+const FEW_ENTRIES: usize = 1024;
+
+/// The changes of rows of some tables, in the order in which they were made.
+///
+/// The tables stay with the caller and are lent to each call. What the journal says is said of each table by
+/// itself, so that others may change those that none of its entries is about.
+#[derive(Drop)]
+pub struct Journal {
+    alloc: Global,
+    entries: SegStack<Entry>,
+}
+
+impl Model for Journal {
+    ghost use Rattle.std.specs.Prelude.{List};
+    ghost use Rattle.psm_undostore.specs.declared.entry.Entry.{Entry};
+
+    ghost Value = { List Entry };
+
+    ghost view = { λ j. j.entries.items };
+}
+
+impl Journal {
+    /// A journal without changes, for which no memory is taken.
+    pub fn new(alloc: Global) -> Journal
+        ensures { result ≡ [] }
+    {
+        Journal {
+            alloc,
+            entries: SegStack::new(alloc),
+        }
+    }
+
+    /// The number of changes, which is the place of the next one.
+    pub fn len(&self) -> u64
+        ensures { result ≡ length self.now }
+    {
+        self.entries.len() as u64
+    }
+
+    /// Forgets the changes. The memory of a long journal is given back.
+    pub fn clear(&mut self)
+        ensures { self.new ≡ [] }
+    {
+        if self.entries.len() > FEW_ENTRIES {
+            self.entries = SegStack::new(self.alloc);
+        } else {
+            self.entries.cut(0);
+        }
+    }
+
+    /// Puts a row into table `t`. `Full` comes exactly where the table has 200,000 rows, and else `Duplicate`
+    /// exactly where a row has the key; `Memory` may come at any time. A refusal changes nothing.
+    pub fn insert(
+        &mut self,
+        alloc: Global,
+        tables: &mut [Table],
+        t: u32,
+        row: Row,
+    ) -> Result<(), RowFault>
+        requires exists { t < length tables.old }
+        requires fits { IfSome (slice_get (contents_of tables.old) t) (λ c. IsRow c.def row) }
+        requires undoable { AreUndoable tables.old self.old }
+        ensures answer { IfSome (slice_get (contents_of tables.old) t) (AnswersInsert row result) }
+        ensures tables { contents_of tables.new ≡ after result (λ c. with_row c row) (contents_of tables.old) t }
+        ensures undoable { AreUndoable tables.new self.new }
+        ensures entries { Extends t tables.old tables.new self.old self.new (if is_ok result then 1 else 0) }
+    {
+        insert_row::<Brand>(
+            alloc,
+            &mut self.entries,
+            t,
+            &mut tables[t as usize],
+            row,
+            Blank::new(1),
+        )
+    }
+
+    /// Takes the row that has the key out of table `t`. `Absent` comes exactly where no row has it, and `Memory`
+    /// may come at any time. A refusal changes nothing.
+    pub fn erase(&mut self, tables: &mut [Table], t: u32, key: &Key) -> Result<(), RowFault>
+        requires exists { t < length tables.old }
+        requires fits { IfSome (slice_get (contents_of tables.old) t) (λ c. IsKey c.def key.now) }
+        requires undoable { AreUndoable tables.old self.old }
+        ensures answer { IfSome (slice_get (contents_of tables.old) t) (λ c. AnswersFound (keyed c key.now) result) }
+        ensures tables { contents_of tables.new ≡ after result (without_row key.now) (contents_of tables.old) t }
+        ensures undoable { AreUndoable tables.new self.new }
+        ensures entries { Extends t tables.old tables.new self.old self.new (if is_ok result then 1 else 0) }
+    {
+        erase_row::<Brand>(
+            &mut self.entries,
+            t,
+            &mut tables[t as usize],
+            key,
+            Blank::new(1),
+        )
+    }
+
+    /// Puts a row in the place of the row that has its key in table `t`. `Absent` comes exactly where no row has
+    /// it, and `Memory` may come at any time. A refusal changes nothing.
+    pub fn change(&mut self, tables: &mut [Table], t: u32, row: Row) -> Result<(), RowFault>
+        requires exists { t < length tables.old }
+        requires fits { IfSome (slice_get (contents_of tables.old) t) (λ c. IsRow c.def row) }
+        requires undoable { AreUndoable tables.old self.old }
+        ensures answer { IfSome (slice_get (contents_of tables.old) t) (λ c. AnswersFound (namesake c row) result) }
+        ensures tables { contents_of tables.new ≡ after result (λ c. with_row c row) (contents_of tables.old) t }
+        ensures undoable { AreUndoable tables.new self.new }
+        ensures entries { Extends t tables.old tables.new self.old self.new (if is_ok result then 1 else 0) }
+    {
+        change_row::<Brand>(
+            &mut self.entries,
+            t,
+            &mut tables[t as usize],
+            row,
+            Blank::new(1),
+        )
+    }
+
+    /// Undoes the changes from a place on, the last first, and forgets them. It takes no memory, and at most two
+    /// row steps for each.
+    pub fn undo<L: Ledger>(&mut self, tables: &mut [Table], place: u64, steps: &mut Steps<L>)
+        requires undoable { AreUndoable tables.old self.old }
+        requires place { place ≤ length self.old }
+        ensures tables { contents_of tables.new ≡ before place self.old tables.old }
+        ensures entries { self.new ≡ take place self.old }
+        ensures undoable { AreUndoable tables.new self.new }
+        ensures steps { steps.new ≤ steps.old + 2 * (length self.old - place) }
+    {
+        undo_from(&mut self.entries, tables, place as usize, steps);
+    }
+}
+
+fn undo_from<L: Ledger>(
+    entries: &mut SegStack<Entry>,
+    tables: &mut [Table],
+    place: usize,
+    steps: &mut Steps<L>,
+)
+    requires undoable { AreUndoable tables.old entries.old.items }
+    requires place { place ≤ length entries.old.items }
+    ensures tables { contents_of tables.new ≡ before place entries.old.items tables.old }
+    ensures entries { entries.new.items ≡ take place entries.old.items }
+    ensures undoable { AreUndoable tables.new entries.new.items }
+    ensures steps { steps.new ≤ steps.old + 2 * (length entries.old.items - place) }
+{
+    while place < entries.len() {
+        if let Some(entry) = entries.pop() {
+            undo_entry(entry, tables, steps);
+        }
+    }
+}
+
+/// Undoes the last change of some tables.
+fn undo_entry<L: Ledger>(entry: Entry, tables: &mut [Table], steps: &mut Steps<L>)
+    requires ready { IsReady tables.old entry }
+    requires good { (d : State) → IsTable (undone entry.change (slice_index_or tables.old entry.table d).contents) }
+    ensures taken { Takes entry tables.old tables.new }
+    ensures steps { steps.new ≤ steps.old + 2 }
+{
+    let Entry { table, change } = entry;
+    undo_change(change, &mut tables[table as usize], steps);
+}
+
+/// Undoes the last change of a table.
+fn undo_change<L: Ledger>(change: Change, table: &mut Table, steps: &mut Steps<L>)
+    requires can { CanUndo table.old change }
+    requires good { IsTable (undone change table.old.contents) }
+    ensures table { table.new.contents ≡ undone change table.old.contents }
+    ensures keeps { StillKeeps table.old table.new }
+    ensures steps { steps.new ≤ steps.old + 2 }
+{
+    match change {
+        Change::Inserted(key) => {
+            let _row = table.hide(&key, steps);
+        }
+        Change::Erased(row) => table.revive(row, steps),
+        Change::Changed(row) => table.revive(row, steps),
+    }
+}

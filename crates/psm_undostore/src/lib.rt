@@ -1,0 +1,12 @@
+//! Tables that can be put back to marks by undoing the changes since, one after another.
+#![tactic(auto)]
+
+mod entry;
+mod journal;
+mod journaled;
+mod plain;
+mod undo_store;
+
+pub use journal::Journal;
+pub use psm_store::{Key, List, Mark, Row, RowFault, Steps, Store, Table, TableDef};
+pub use undo_store::UndoStore;

@@ -1,0 +1,3 @@
+pub mod Benches
+pub mod PartsRows
+pub mod Rooms

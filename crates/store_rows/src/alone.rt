@@ -1,0 +1,207 @@
+//! A table that stands alone, and the row that was taken out of it last.
+ghost use Rattle.std.specs.Prelude.{IfOk};
+ghost use Rattle.store_rows.specs.Alone.{IsAlone};
+ghost use Rattle.store_rows.specs.Parts.{IsPartsKey, IsPartsRow};
+
+use crate::call::{Call, Change};
+use crate::definition::definition;
+use crate::fault::Fault;
+use crate::like::{numbered_key, numbered_row};
+use crate::look::looked;
+use crate::told;
+use psm_table::{Key, Row, Steps, Table};
+use std::alloc::Global;
+use std::sync::ledger::Ledger;
+
+const MOST_ROWS: u32 = 200_000;
+
+/// A table, and the row that `hide` or `swap` gave last, if it may be put back.
+#[derive(Drop)]
+pub struct Alone {
+    pub table: Table,
+    pub left: Option<Row>,
+}
+
+impl Alone {
+    pub fn new(alloc: Global) -> Result<Alone, Fault>
+        ensures { IfOk result (λ a. IsAlone a.table a.left) }
+    {
+        Ok(Alone {
+            table: Table::new(alloc, definition(alloc)?)?,
+            left: None,
+        })
+    }
+
+    /// What the table answers to a call.
+    pub fn answered<L: Ledger>(
+        &mut self,
+        alloc: Global,
+        call: &Call<'_>,
+        steps: &mut Steps<L>,
+    ) -> Result<String, Fault>
+        requires { IsAlone self.old.table self.old.left }
+        ensures { IsAlone self.new.table self.new.left }
+    {
+        match call {
+            Call::Look(look) => looked(alloc, &self.table, look),
+            Call::Change(change) => self.changed(alloc, change, steps),
+            Call::Hide(like) => self.hide(alloc, &like.made(alloc)?, steps),
+            Call::Swap(like) => self.swap(alloc, like.made(alloc)?, steps),
+            Call::Revive => self.revive(alloc, steps),
+            Call::Settle => self.settle(alloc),
+            Call::Mark | Call::Rollback(_) | Call::Release(_) => Err(Fault::NoRow),
+        }
+    }
+
+    fn changed<L: Ledger>(
+        &mut self,
+        alloc: Global,
+        change: &Change<'_>,
+        steps: &mut Steps<L>,
+    ) -> Result<String, Fault>
+        requires { IsAlone self.old.table self.old.left }
+        ensures { IsAlone self.new.table self.new.left }
+    {
+        match change {
+            Change::Insert(like) => self.insert(alloc, like.made(alloc)?, steps),
+            Change::Replace(like) => self.replace(alloc, like.made(alloc)?, steps),
+            Change::Erase(like) => self.erase(alloc, &like.made(alloc)?, steps),
+            Change::Fill(from, to) => self.fill(alloc, *from, *to, steps),
+            Change::Drain(from, to) => self.drain(alloc, *from, *to, steps),
+            Change::Raise(..) => Err(Fault::NoRow),
+        }
+    }
+
+    #[tactic(auto, using(crate::proofs::PartsRows::row_fits))]
+    fn insert<L: Ledger>(
+        &mut self,
+        alloc: Global,
+        row: Row,
+        steps: &mut Steps<L>,
+    ) -> Result<String, Fault>
+        requires alone { IsAlone self.old.table self.old.left }
+        requires parts { IsPartsRow row }
+        ensures { IsAlone self.new.table self.new.left }
+    {
+        self.table.insert(row, steps)?;
+        told::word(alloc, "ok")
+    }
+
+    // The row that had the key. It isn't kept.
+    #[tactic(auto, using(crate::proofs::PartsRows::row_fits))]
+    fn replace<L: Ledger>(
+        &mut self,
+        alloc: Global,
+        row: Row,
+        steps: &mut Steps<L>,
+    ) -> Result<String, Fault>
+        requires alone { IsAlone self.old.table self.old.left }
+        requires parts { IsPartsRow row }
+        ensures { IsAlone self.new.table self.new.left }
+    {
+        self.left = None;
+        let was = self.table.change(row, steps)?;
+        told::row(alloc, Some(&was))
+    }
+
+    #[tactic(auto, using(crate::proofs::PartsRows::key_fits))]
+    fn erase<L: Ledger>(
+        &mut self,
+        alloc: Global,
+        key: &Key,
+        steps: &mut Steps<L>,
+    ) -> Result<String, Fault>
+        requires alone { IsAlone self.old.table self.old.left }
+        requires parts { IsPartsKey key.now }
+        ensures { IsAlone self.new.table self.new.left }
+    {
+        self.left = None;
+        let was = self.table.erase(key, steps);
+        told::row(alloc, was.as_ref())
+    }
+
+    fn fill<L: Ledger>(
+        &mut self,
+        alloc: Global,
+        from: u32,
+        to: u32,
+        steps: &mut Steps<L>,
+    ) -> Result<String, Fault>
+        requires { IsAlone self.old.table self.old.left }
+        ensures { IsAlone self.new.table self.new.left }
+    {
+        'fill: for size in from..to {
+            let _told = self.insert(alloc, numbered_row(alloc, size, size)?, steps)?;
+        }
+        told::word(alloc, "ok")
+    }
+
+    fn drain<L: Ledger>(
+        &mut self,
+        alloc: Global,
+        from: u32,
+        to: u32,
+        steps: &mut Steps<L>,
+    ) -> Result<String, Fault>
+        requires { IsAlone self.old.table self.old.left }
+        ensures { IsAlone self.new.table self.new.left }
+    {
+        'drain: for size in from..to {
+            let _told = self.erase(alloc, &numbered_key(alloc, size)?, steps)?;
+        }
+        told::word(alloc, "ok")
+    }
+
+    // The row that had the key. It is kept.
+    #[tactic(auto, using(crate::proofs::PartsRows::key_fits))]
+    fn hide<L: Ledger>(
+        &mut self,
+        alloc: Global,
+        key: &Key,
+        steps: &mut Steps<L>,
+    ) -> Result<String, Fault>
+        requires alone { IsAlone self.old.table self.old.left }
+        requires parts { IsPartsKey key.now }
+        ensures { IsAlone self.new.table self.new.left }
+    {
+        self.left = self.table.hide(key, steps);
+        told::row(alloc, self.left.as_ref())
+    }
+
+    // The row that had the key. It is kept.
+    #[tactic(auto, using(crate::proofs::PartsRows::row_fits))]
+    fn swap<L: Ledger>(
+        &mut self,
+        alloc: Global,
+        row: Row,
+        steps: &mut Steps<L>,
+    ) -> Result<String, Fault>
+        requires alone { IsAlone self.old.table self.old.left }
+        requires parts { IsPartsRow row }
+        ensures { IsAlone self.new.table self.new.left }
+    {
+        self.left = Some(self.table.swap(row, steps)?);
+        told::row(alloc, self.left.as_ref())
+    }
+
+    fn revive<L: Ledger>(&mut self, alloc: Global, steps: &mut Steps<L>) -> Result<String, Fault>
+        requires { IsAlone self.old.table self.old.left }
+        ensures { IsAlone self.new.table self.new.left }
+    {
+        if self.table.len() == MOST_ROWS {
+            return Err(Fault::NoRow);
+        }
+        let row = self.left.take().ok_or(Fault::NoRow)?;
+        self.table.revive(row, steps);
+        told::word(alloc, "ok")
+    }
+
+    fn settle(&mut self, alloc: Global) -> Result<String, Fault>
+        requires { IsAlone self.old.table self.old.left }
+        ensures { IsAlone self.new.table self.new.left }
+    {
+        self.left = None;
+        self.table.settle();
+        told::word(alloc, "ok")
+    }
+}

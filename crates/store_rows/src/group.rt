@@ -1,0 +1,101 @@
+//! Groups of rows.
+ghost use Rattle.std.specs.Prelude.{◌≡◌, ◌<◌, length, IfOk};
+ghost use Rattle.psm_store.specs.Kept.{IsOpen};
+ghost use Rattle.psm_undostore.specs.Undo.{IsHeld, tables_of};
+ghost use Rattle.store_rows.specs.Alone.{IsAlone};
+ghost use Rattle.store_rows.specs.Bench.{IsBench};
+
+use crate::alone::Alone;
+use crate::answer::answer;
+use crate::bench::Bench;
+use crate::definition::definition;
+use crate::fault::Fault;
+use anyhow::{Result, bail};
+use psm_store::{CopyStore, Steps, Store};
+use psm_undostore::UndoStore;
+use std::alloc::Global;
+use std::marker::Brand;
+use std::sync::ledger::{Blank, Ledger};
+
+/// Prints each row of a group, which begins with empty tables, with what is answered to it.
+pub fn print_group(rt: &impl Print, alloc: Global, rows: &str) -> Result<()> {
+    let told = told_group::<Brand>(alloc, rows, Blank::new(1))?;
+    print!(rt; "{told}")?;
+    Ok(())
+}
+
+// The row steps are counted, and nothing is done with their number.
+fn told_group<L: Ledger>(alloc: Global, rows: &str, blank: Blank) -> Result<String>
+    requires name { blank.name ≡ L.name }
+    requires parts { blank.parts ≡ L.parts }
+    requires some { 0 < blank.parts }
+{
+    let mut steps: Steps<L> = Steps::open(blank);
+    let Ok(mut alone) = Alone::new(alloc) else {
+        bail!("no table");
+    };
+    let (Ok(mut copies), Ok(mut journal)) = (copying(alloc), journaling(alloc)) else {
+        bail!("no store");
+    };
+    told_rows(
+        alloc,
+        rows,
+        &mut alone,
+        &mut copies,
+        &mut journal,
+        &mut steps,
+    )
+}
+
+// A store of two tables that keeps copies.
+#[tactic(auto, using(crate::proofs::Benches::new_bench))]
+fn copying(alloc: Global) -> Result<Bench<CopyStore>, Fault>
+    ensures { IfOk result (λ b. IsBench b.store.tables (length b.store.marks) (IsOpen b.store) b.marks.items) }
+{
+    let first = definition(alloc)?;
+    let second = definition(alloc)?;
+    let store = CopyStore::new(alloc, vec![in alloc; first, second]?)?;
+    Ok(Bench {
+        store,
+        marks: Vec::new(alloc),
+    })
+}
+
+// A store of two tables that keeps a journal.
+#[tactic(auto, using(crate::proofs::Benches::new_bench))]
+fn journaling(alloc: Global) -> Result<Bench<UndoStore>, Fault>
+    ensures { IfOk result (λ b. IsBench (tables_of b.store) b.store.marks (IsHeld b.store) b.marks.items) }
+{
+    let first = definition(alloc)?;
+    let second = definition(alloc)?;
+    let store = UndoStore::new(alloc, vec![in alloc; first, second]?)?;
+    Ok(Bench {
+        store,
+        marks: Vec::new(alloc),
+    })
+}
+
+fn told_rows<S: Store, T: Store, L: Ledger>(
+    alloc: Global,
+    rows: &str,
+    alone: &mut Alone,
+    copies: &mut Bench<S>,
+    journal: &mut Bench<T>,
+    steps: &mut Steps<L>,
+) -> Result<String>
+    requires alone { IsAlone alone.old.table alone.old.left }
+    requires copies { IsBench (S.tables copies.old.store) (S.marks copies.old.store) (S.holds copies.old.store) copies.old.marks.items }
+    requires journal { IsBench (T.tables journal.old.store) (T.marks journal.old.store) (T.holds journal.old.store) journal.old.marks.items }
+{
+    let mut told = String::new(alloc);
+    'rows: for row in rows.lines() {
+        told.push_str(row)?;
+        if !row.starts_with('#') {
+            let answer = answer(alloc, row, alone, copies, journal, steps)?;
+            told.push_str(" | ")?;
+            told.push_str(answer.as_str())?;
+        }
+        told.push_str("\n")?;
+    }
+    Ok(told)
+}

@@ -1,0 +1,96 @@
+//! What a table answers without a change.
+ghost use Rattle.store_rows.specs.Parts.{IsPartsTable};
+
+use crate::call::Look;
+use crate::fault::Fault;
+use crate::like::{KeyLike, RowLike};
+use crate::told;
+use crate::walk::{falling, rising};
+use psm_table::{Datum, Row, Table};
+use std::alloc::Global;
+
+pub fn looked(alloc: Global, table: &Table, look: &Look<'_>) -> Result<String, Fault>
+    requires { IsPartsTable table.now.contents.def }
+{
+    match look {
+        Look::Get(key) => get(alloc, table, key),
+        Look::First => told::row(alloc, table.next_after(None)),
+        Look::Next(key) => next(alloc, table, key),
+        Look::Last => told::row(alloc, table.prev_before(None)),
+        Look::Prev(key) => prev(alloc, table, key),
+        Look::Clash(row) => clash(alloc, table, row),
+        Look::Rows => told::rows(alloc, rising(alloc, table)?.as_slice()),
+        Look::Back => told::rows(alloc, falling(alloc, table)?.as_slice()),
+        Look::Sum => sum(alloc, table),
+        Look::Copy => copied(alloc, table),
+        Look::Definition => defined(alloc, table),
+        Look::Copies(row) => copies(alloc, row),
+    }
+}
+
+#[tactic(auto, using(crate::proofs::PartsRows::key_fits))]
+fn get(alloc: Global, table: &Table, key: &KeyLike<'_>) -> Result<String, Fault>
+    requires { IsPartsTable table.now.contents.def }
+{
+    let key = key.made(alloc)?;
+    told::row(alloc, table.get(&key))
+}
+
+#[tactic(auto, using(crate::proofs::PartsRows::key_fits))]
+fn next(alloc: Global, table: &Table, key: &KeyLike<'_>) -> Result<String, Fault>
+    requires { IsPartsTable table.now.contents.def }
+{
+    let key = key.made(alloc)?;
+    told::row(alloc, table.next_after(Some(&key)))
+}
+
+#[tactic(auto, using(crate::proofs::PartsRows::key_fits))]
+fn prev(alloc: Global, table: &Table, key: &KeyLike<'_>) -> Result<String, Fault>
+    requires { IsPartsTable table.now.contents.def }
+{
+    let key = key.made(alloc)?;
+    told::row(alloc, table.prev_before(Some(&key)))
+}
+
+#[tactic(auto, using(crate::proofs::PartsRows::row_has_columns))]
+fn clash(alloc: Global, table: &Table, row: &RowLike<'_>) -> Result<String, Fault>
+    requires { IsPartsTable table.now.contents.def }
+{
+    let row = row.made(alloc)?;
+    told::word(alloc, if table.clash(&row) { "yes" } else { "no" })
+}
+
+fn sum(alloc: Global, table: &Table) -> Result<String, Fault> {
+    let mut sum = 0i64;
+    let rows = rising(alloc, table)?;
+    for row in rows.as_slice() {
+        sum = sum.wrapping_add(code(row));
+    }
+    Ok(format!(in alloc; "{} rows, sum {sum}", table.len())?)
+}
+
+fn code(row: &Row) -> i64 {
+    match row.values().get(2) {
+        Some(Datum::Num(code)) => code.coef(),
+        _ => 0,
+    }
+}
+
+fn copied(alloc: Global, table: &Table) -> Result<String, Fault> {
+    let copy = table.copy(alloc)?;
+    let rows = rising(alloc, &copy)?;
+    told::rows(alloc, rows.as_slice())
+}
+
+fn defined(alloc: Global, table: &Table) -> Result<String, Fault> {
+    let copy = table.copy(alloc)?;
+    told::definition(alloc, &copy.def().copy(alloc)?)
+}
+
+fn copies(alloc: Global, like: &RowLike<'_>) -> Result<String, Fault> {
+    let key = like.key.made(alloc)?.copy(alloc)?;
+    let row = like.made(alloc)?.copy(alloc)?;
+    let mut told = told::values(alloc, key.values())?;
+    told.push_str(told::values(alloc, row.values())?.as_str())?;
+    Ok(told)
+}
