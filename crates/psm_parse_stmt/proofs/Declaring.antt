@@ -1,57 +1,26 @@
--- The loop over the declarations of a block.
-use Rattle.std.proofs.Common.{◌≡◌, ℕ, ◌+◌, ◌<◌, ◌≤◌, true, false, List, [], ◌∷◌, ◌++◌, length, Ok, Err, refl, sym, ap, ◌∙◌, append_assoc, arith}
+-- The loop over the declarations of a block, one turn after another.
+use Rattle.std.proofs.Common.{◌≡◌, ℕ, suc, ◌+◌, ◌≤◌, true, false, List, [], ◌∷◌, ◌++◌, length, Ok, Err, refl, sym, ap, ◌∙◌, append_assoc, arith}
 use Rattle.std.proofs.lemmas.List.{append-nil}
-use Rattle.psm_token.specs.declared.place.Place.{Place}
 use Rattle.psm_token.specs.declared.word.Word.TheVariants as w
 use Rattle.psm_token.specs.declared.token.Placed.{Placed}
+use Rattle.psm_token.specs.Kinds.{kind}
+use Rattle.psm_token.specs.Words.{word_kind}
 use Rattle.psm_grammar.specs.declared.halt.Halt.{Halt}
 use Rattle.psm_grammar.specs.declared.halt.Halt.TheVariants as halt
 use Rattle.psm_grammar.specs.Gives.{Halts}
-use Rattle.psm_grammar.specs.Readers.{Stop, Wrong, TooDeep, Out, Reader, and_then, starts, made}
-use Rattle.psm_tree.specs.Kinds.{code, kind}
-use Rattle.psm_tree.specs.Parts.{Phase, Declarations, NamedRest, Variables, Condition, Cursor, Declared, Named, Handled, Body}
+use Rattle.psm_grammar.specs.Readers.{Stop, Wrong, TooDeep, Out, and_then, starts, made}
+use Rattle.psm_tree.specs.Parts.{Declarations, Body}
 use Rattle.psm_tree.specs.StatementValues.{undeclared}
+use Rattle.psm_tree.specs.StatementGrammar.{body_rest, ending}
+use Rattle.psm_tree.specs.Readers.{reading}
 use Rattle.psm_tree.specs.declared.statement.Statement.{Statement}
 use Rattle.psm_parse_stmt.specs.declared.item.Item.{Item}
 use Rattle.psm_parse_stmt.specs.declared.item.Item.TheVariants as item
 use Rattle.psm_parse_stmt.specs.declared.item.Stage.{Stage}
 use Rattle.psm_parse_stmt.specs.declared.item.Heads.{Heads}
-use Rattle.psm_parse_stmt.specs.StatementReaders.{declaration_read, ending_read, statements_end_read, body_rest_read}
-use Rattle.psm_parse_stmt.specs.Declaring.{item_at, item_of, declaration_item_read, phase_of, stage_behind, with_item, after_heads, with_heads, Adds, heads_body, Declaring}
-use Rattle.psm_parse_stmt.proofs.ItemSame.{declaration_made}
-use Rattle.psm_parse_stmt.proofs.BodySteps.{rest_behind, declares, declares_not, declares_nothing}
-
--- ---- one declaration
-
-made_ok : {X Y : Type 0} (f : X → Y) (o : Out Placed X) (y : Y) (next : List Placed) → and_then o (λ x rest. Ok (f x, rest)) ≡ Ok (y, next) → (x : X) × (o ≡ Ok (x, next)) × (f x ≡ y)
-made_ok {X} {Y} f (Ok r) y next e =
-    let same : (f r.0, r.1) ≡ (y, next) = ap ok_of e in
-    (r.0, ap (λ rest. Ok (r.0, rest)) (ap (λ (u : Y × List Placed). u.1) same), ap (λ (u : Y × List Placed). u.0) same)
-  where
-    ok_of : Out Placed Y → Y × List Placed
-    ok_of (Ok u) = u
-    ok_of (Err s) = (f r.0, r.1)
-made_ok f (Err s) y next e = absurd cc
-
-made_err : {X Y : Type 0} (f : X → Y) (o : Out Placed X) (s : Stop Placed) → and_then o (λ x rest. Ok (f x, rest)) ≡ Err s → o ≡ Err s
-made_err f (Ok r) s e = absurd cc
-made_err {X} {Y} f (Err u) s e = ap err_of e
-  where
-    err_of : Out Placed Y → Out Placed X
-    err_of (Ok r) = Err u
-    err_of (Err s) = Err s
-
-item_same : (levels : ℕ) (place : Place) (d : Declared) (next : List Placed) → rest_behind levels ((place, d), next) ≡ made (with_item (item_at place d)) (body_rest_read levels (phase_of (stage_behind (item_at place d)))) next
-item_same levels place (Named name (Variables others kind default)) next = refl
-item_same levels place (Named name (Condition state)) next = refl
-item_same levels place (Named name (Cursor insensitive query updatability)) next = refl
-item_same levels place (Handled kind parts) next = refl
-
-step_item : (levels : ℕ) (p : Phase) (ts : List Placed) (x : Item) (next : List Placed) → declaration_item_read p levels ts ≡ Ok (x, next) → length next + 1 < length ts
-    → body_rest_read levels p ts ≡ made (with_item x) (body_rest_read levels (phase_of (stage_behind x))) next
-step_item levels p ts x next e short =
-    let d = made_ok item_of (declaration_read p levels ts) x next (declaration_made p levels ts ∙ e) in
-    declares levels p ts (d.0, next) d.1 short ∙ item_same levels d.0.0 d.0.1 next ∙ ap (λ x. made (with_item x) (body_rest_read levels (phase_of (stage_behind x))) next) d.2
+use Rattle.psm_parse_stmt.specs.Declaring.{declaration_item, phase_of, stage_behind, with_item, after_heads, with_heads, Adds, heads_body, statements_end, Declaring}
+use Rattle.psm_parse_stmt.proofs.Bodies.{behind_item, declares, declares_nothing}
+use Rattle.psm_parse_stmt.proofs.Shorter.{item_takes}
 
 -- ---- declarations before others
 
@@ -68,43 +37,64 @@ adds_made : (old : Heads) (x : Item) (new : Heads) → Adds old x new → (o : O
 adds_made old x new a (Ok r) = ap (λ b. Ok (b, r.1)) (adds_same old x new a r.0)
 adds_made old x new a (Err s) = refl
 
--- ---- the loop
-
 body_same : (o : Out Placed Body) → and_then o (λ b end. Ok (b, end)) ≡ o
 body_same (Ok r) = refl
 body_same (Err s) = refl
 
-pub declares_start : (levels : ℕ) (start : List Placed) (s : Stage) (heads : Heads) → phase_of s ≡ Declarations → heads.declarations.items ≡ [] → heads.cursors.items ≡ [] → heads.handlers.items ≡ [] → Declaring levels start s heads start
-declares_start levels start s heads p d c h = record {
-  same = (λ i. made (after_heads (d i) (c i) (h i)) (body_rest_read levels (p i)) start) ∙ body_same (body_rest_read levels Declarations start);
-  room = omega arith;
-}
-
-pub declares_more : (levels : ℕ) (start : List Placed) (s : Stage) (heads : Heads) (rest : List Placed) (x : Item) (next : List Placed) (new : Heads) → Declaring levels start s heads rest
-    → declaration_item_read (phase_of s) levels rest ≡ Ok (x, next) → length next + 1 < length rest → Adds heads x new → Declaring levels start (stage_behind x) new next
-declares_more levels start s heads rest x next new l e short a = record {
-  same = adds_made heads x new a (body_rest_read levels (phase_of (stage_behind x)) next)
-      ∙ ap (λ o. and_then o (λ b end. Ok (with_heads heads b, end))) (sym (step_item levels (phase_of s) rest x next e short)) ∙ l.same;
-  room = omega (arith, l.room, short);
-}
-
-fails_so : (levels : ℕ) (start : List Placed) (s : Stage) (heads : Heads) (rest : List Placed) (stop : Stop Placed) → Declaring levels start s heads rest → starts kind (code w.Declare ∷ []) rest ≡ true
-    → declaration_item_read (phase_of s) levels rest ≡ Err stop → body_rest_read levels Declarations start ≡ Err stop
-fails_so levels start s heads rest stop l d e = sym l.same
-    ∙ ap (λ o. and_then o (λ b end. Ok (with_heads heads b, end))) (declares_not levels (phase_of s) rest stop (made_err item_of (declaration_read (phase_of s) levels rest) stop (declaration_made (phase_of s) levels rest ∙ e)) d)
-
-pub declares_halts : (levels : ℕ) (start : List Placed) (s : Stage) (heads : Heads) (rest : List Placed) (e : Halt) → Declaring levels start s heads rest → starts kind (code w.Declare ∷ []) rest ≡ true
-    → Halts e (declaration_item_read (phase_of s) levels rest) → Halts e (body_rest_read levels Declarations start)
-declares_halts levels start s heads rest (halt.Syntax n) l d h = (h.0, fails_so levels start s heads rest (Wrong h.0) l d h.1, h.2)
-declares_halts levels start s heads rest (halt.Deep n) l d h = (h.0, fails_so levels start s heads rest (TooDeep h.0) l d h.1, h.2)
-declares_halts levels start s heads rest halt.Memory l d h = tt
-
-done_so : (heads : Heads) (o : Out Placed (List Statement))
+none_behind : (heads : Heads) (o : Out Placed (List Statement))
     → and_then (and_then o (λ ss end. Ok (undeclared ss, end))) (λ b end. Ok (with_heads heads b, end)) ≡ and_then o (λ ss end. Ok (heads_body heads ss, end))
-done_so heads (Ok r) = λ i. Ok (record { declarations = append-nil heads.declarations.items i; cursors = append-nil heads.cursors.items i; handlers = append-nil heads.handlers.items i; statements = r.0 }, r.1)
-done_so heads (Err s) = refl
+none_behind heads (Ok r) = λ i. Ok (record { declarations = append-nil heads.declarations.items i; cursors = append-nil heads.cursors.items i; handlers = append-nil heads.handlers.items i; statements = r.0 }, r.1)
+none_behind heads (Err s) = refl
 
-pub declares_done : (levels : ℕ) (start : List Placed) (s : Stage) (heads : Heads) (rest : List Placed) → Declaring levels start s heads rest → starts kind (code w.Declare ∷ []) rest ≡ false
-    → body_rest_read levels Declarations start ≡ made (heads_body heads) (statements_end_read levels) rest
-unfolding ending_read
-declares_done levels start s heads rest l d = sym l.same ∙ ap (λ o. and_then o (λ b end. Ok (with_heads heads b, end))) (declares_nothing levels (phase_of s) rest d) ∙ done_so heads (statements_end_read levels rest)
+-- ---- the loop
+
+module _ (levels : ℕ) (start : List Placed) (s : Stage) (heads : Heads) where
+  -- nothing is read yet
+  pub declares_begin : (turns : ℕ) → phase_of s ≡ Declarations → heads.declarations.items ≡ [] → heads.cursors.items ≡ [] → heads.handlers.items ≡ [] → turns ≡ length start
+      → Declaring levels start s heads turns start
+  declares_begin turns p d c h e = record {
+    same = (λ i. made (after_heads (d i) (c i) (h i)) (reading levels (body_rest (p i))) start) ∙ body_same (reading levels (body_rest Declarations) start);
+    room = omega (arith, e);
+  }
+
+  -- one declaration more
+  pub declares_go_on : (turns left : ℕ) (rest : List Placed) (x : Item) (next : List Placed) (new : Heads) (t : Stage) → Declaring levels start s heads turns rest → left + 1 ≡ turns
+      → starts kind (word_kind w.Declare ∷ []) rest ≡ true → declaration_item (phase_of s) levels rest ≡ Ok (x, next) → t ≡ stage_behind x → Adds heads x new
+      → Declaring levels start t new left next
+  declares_go_on turns left rest x next new t l h d e st a = record {
+    same = (λ i. made (with_heads new) (reading levels (body_rest (phase_of (st i)))) next)
+        ∙ adds_made heads x new a (reading levels (body_rest (phase_of (stage_behind x))) next)
+        ∙ ap (λ o. and_then (and_then o (behind_item levels)) (λ b end. Ok (with_heads heads b, end))) (sym e)
+        ∙ ap (λ o. and_then o (λ b end. Ok (with_heads heads b, end))) (sym (declares levels (phase_of s) rest d)) ∙ l.same;
+    room = omega (arith, h, l.room, item_takes (phase_of s) levels rest (x, next) e);
+  }
+
+  -- no declaration follows
+  pub declares_end : (turns : ℕ) (rest : List Placed) → Declaring levels start s heads turns rest → starts kind (word_kind w.Declare ∷ []) rest ≡ false
+      → reading levels (body_rest Declarations) start ≡ made (heads_body heads) (reading levels statements_end) rest
+  unfolding reading ending
+  declares_end turns rest l d = sym l.same ∙ ap (λ o. and_then o (λ b end. Ok (with_heads heads b, end))) (declares_nothing levels (phase_of s) rest d)
+      ∙ none_behind heads (reading levels statements_end rest)
+
+  none_starts : (rest : List Placed) → length rest ≤ 0 → starts kind (word_kind w.Declare ∷ []) rest ≡ false
+  none_starts [] h = refl
+  none_starts (t ∷ rest) h = absurd (omega (arith, h))
+
+  -- no token is left for a further turn
+  pub declares_run_out : (turns : ℕ) (rest : List Placed) → Declaring levels start s heads turns rest → turns ≡ 0
+      → reading levels (body_rest Declarations) start ≡ made (heads_body heads) (reading levels statements_end) rest
+  declares_run_out turns rest l e = declares_end turns rest l (none_starts rest (omega (arith, e, l.room)))
+
+  fails : (turns : ℕ) (rest : List Placed) (stop : Stop Placed) → Declaring levels start s heads turns rest → starts kind (word_kind w.Declare ∷ []) rest ≡ true
+      → declaration_item (phase_of s) levels rest ≡ Err stop → reading levels (body_rest Declarations) start ≡ Err stop
+  fails turns rest stop l d e = sym l.same
+      ∙ ap (λ o. and_then o (λ b end. Ok (with_heads heads b, end))) (declares levels (phase_of s) rest d ∙ ap (λ o. and_then o (behind_item levels)) e)
+
+  -- a declaration stops
+  pub declares_halt : (turns : ℕ) (rest : List Placed) (e : Halt) → Declaring levels start s heads turns rest → starts kind (word_kind w.Declare ∷ []) rest ≡ true
+      → Halts e (declaration_item (phase_of s) levels rest) → Halts e (reading levels (body_rest Declarations) start)
+  declares_halt turns rest (halt.Syntax n) l d h = (h.0, fails turns rest (Wrong h.0) l d h.1, h.2)
+  declares_halt turns rest (halt.Deep n) l d h = (h.0, fails turns rest (TooDeep h.0) l d h.1, h.2)
+  declares_halt turns rest halt.Memory l d h = tt
+
+pub ruleset declaring = (declares_begin, declares_go_on, declares_end, declares_run_out, declares_halt)

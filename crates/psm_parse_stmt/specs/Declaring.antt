@@ -4,13 +4,19 @@ use Rattle.psm_token.specs.declared.place.Place.{Place}
 use Rattle.psm_token.specs.declared.word.Word.TheVariants as w
 use Rattle.psm_token.specs.declared.sign.Sign.TheVariants as s
 use Rattle.psm_token.specs.declared.token.Placed.{Placed}
+use Rattle.psm_token.specs.Kinds.{kind}
 use Rattle.psm_grammar.specs.declared.halt.Halt.{Halt}
 use Rattle.psm_grammar.specs.Gives.{Halts}
-use Rattle.psm_grammar.specs.Forms.{earlier}
-use Rattle.psm_grammar.specs.Readers.{Reader, and_then, one, both, made, pick, entered}
-use Rattle.psm_tree.specs.Kinds.{kind}
+use Rattle.psm_grammar.specs.Grammar.{token, level, seq, or}
+use Rattle.psm_grammar.specs.Forms.{optional, before_token}
+use Rattle.psm_grammar.specs.Readers.{Out, Reader, and_then, one, made}
 use Rattle.psm_tree.specs.Tests.{At, word, sign, name, handler_kind}
-use Rattle.psm_tree.specs.Parts.{Phase, Declarations, Cursors, Handlers, HandlerRest, HandlerParts, NamedRest, Variables, Condition, Cursor, Declared, Named, Handled, Body}
+use Rattle.psm_tree.specs.Parts.{Phase, Declarations, Cursors, Handlers, HandlerRest, HandlerParts, NamedRest, Variables, Condition, Cursor, Body}
+use Rattle.psm_tree.specs.ExprValues.{several}
+use Rattle.psm_tree.specs.StatementValues.{condition_of, variables_of, one_variable}
+use Rattle.psm_tree.specs.ExprGrammar.{Gram, data_type}
+use Rattle.psm_tree.specs.StatementGrammar.{ended_statements, for_state, other_variables, typed, default_source, declaration_rest, cursor_rest, body_rest}
+use Rattle.psm_tree.specs.Readers.{reading}
 use Rattle.psm_tree.specs.declared.name.Identifier.{Identifier}
 use Rattle.psm_tree.specs.declared.statement.Declaration.{Declaration}
 use Rattle.psm_tree.specs.declared.statement.Declaration.TheVariants as declarations
@@ -23,40 +29,48 @@ use Rattle.psm_parse_stmt.specs.declared.item.Item.TheVariants as item
 use Rattle.psm_parse_stmt.specs.declared.item.Stage.{Stage}
 use Rattle.psm_parse_stmt.specs.declared.item.Stage.TheVariants as stage
 use Rattle.psm_parse_stmt.specs.declared.item.Heads.{Heads}
-use Rattle.psm_parse_stmt.specs.StatementReaders.{inner, body_rest_read, named_rest_read, statements_end_read}
+
+-- ---- one declaration
 
 -- what stands behind DECLARE and a name
 abbrev pub named_item : Place → Identifier → NamedRest → Item
-named_item place name (Variables others kind default) = item.Declaration (declarations.Variables place (record { first = name; rest = others }) kind default)
+named_item place name (Variables others kind default) = item.Declaration (declarations.Variables place (several name others) kind default)
 named_item place name (Condition state) = item.Declaration (declarations.Condition place name state)
 named_item place name (Cursor insensitive query updatability) = item.Cursor (record { place = place; name = name; insensitive = insensitive; query = query; updatability = updatability })
 
+-- what stands behind DECLARE and the kind of a handler
 abbrev pub handled_item : Place → At HandlerKind → HandlerParts → Item
-handled_item place kind p = item.Handler (roll-Handler (record { place = place; «at» = kind.place; kind = kind.value; first = p.first; rest = p.rest; action = p.action }))
+handled_item place kind p = item.Handler (roll-Handler (record { place = place; «at» = kind.place; kind = kind.value; values = p.values; action = p.action }))
 
--- what stands behind DECLARE
-abbrev pub item_at : Place → Declared → Item
-item_at place (Named name rest) = named_item place name rest
-item_at place (Handled kind p) = handled_item place kind p
+-- CONDITION [FOR state], behind a name
+abbrev pub condition_rest : Gram NamedRest
+condition_rest = seq condition_of (token (word w.Condition)) (optional for_state)
 
-abbrev pub item_of : Place × Declared → Item
-item_of p = item_at p.0 p.1
+-- {"," name} type [DEFAULT source], behind a name
+abbrev pub variables_rest : Gram NamedRest
+variables_rest = or (seq variables_of other_variables typed) (seq one_variable data_type (optional default_source))
 
--- ---- declarations with the places of their DECLARE
+-- a handler, behind DECLARE
+abbrev pub handler_item : Place → Gram Item
+handler_item place = level HandlerRest handler_kind (handled_item place)
 
-unfoldable pub named_item_read : Place → Phase → ℕ → Reader Placed Item
-named_item_read place phase levels = both (named_item place) (one kind name) (named_rest_read phase levels)
+-- a name and what is declared of it, behind DECLARE
+abbrev pub named : Place → Gram NamedRest → Gram Item
+named place rest = seq (named_item place) (token name) rest
 
-unfoldable pub handler_item_read : Place → ℕ → Reader Placed Item
-handler_item_read place levels = entered (one kind handler_kind) HandlerRest (handled_item place) (inner levels)
+-- variables, a condition or a cursor, behind a name
+abbrev pub any_rest : Gram NamedRest
+any_rest = or cursor_rest declaration_rest
 
-unfoldable pub declared_item_read : Place → Phase → ℕ → Reader Placed Item
-declared_item_read place Declarations levels = pick kind handler_kind.kinds (handler_item_read place levels) (named_item_read place Declarations levels)
-declared_item_read place Cursors levels = pick kind handler_kind.kinds (handler_item_read place levels) (named_item_read place Cursors levels)
-declared_item_read place Handlers levels = handler_item_read place levels
+-- what is declared behind DECLARE
+unfoldable pub declared_item : Place → Phase → Gram Item
+declared_item place Declarations = or (handler_item place) (named place any_rest)
+declared_item place Cursors = or (handler_item place) (named place cursor_rest)
+declared_item place Handlers = handler_item place
 
-unfoldable pub declaration_item_read : Phase → ℕ → Reader Placed Item
-declaration_item_read phase levels ts = and_then (one kind (word w.Declare) ts) (λ place rest. both earlier (declared_item_read place phase levels) (one kind (sign s.Semicolon)) rest)
+-- DECLARE, what is declared and ";"
+unfoldable pub declaration_item : Phase → ℕ → Reader Placed Item
+declaration_item phase levels ts = and_then (one kind (word w.Declare) ts) (λ place rest. reading levels (before_token (declared_item place phase) (sign s.Semicolon)) rest)
 
 -- ---- stages
 
@@ -71,6 +85,8 @@ abbrev pub stage_behind : Item → Stage
 stage_behind (item.Declaration d) = stage.Declarations
 stage_behind (item.Cursor c) = stage.Cursors
 stage_behind (item.Handler h) = stage.Handlers
+
+-- ---- the declarations that were read
 
 -- a declaration before the others
 abbrev pub with_item : Item → Body → Body
@@ -95,12 +111,17 @@ Adds old (item.Handler h) new = (new.declarations.items ≡ old.declarations.ite
 abbrev pub heads_body : Heads → List Statement → Body
 heads_body heads statements = record { declarations = heads.declarations.items; cursors = heads.cursors.items; handlers = heads.handlers.items; statements = statements }
 
--- the declarations of a block, such that its statements are all that is left of it
-abbrev pub GivesHeads : {X : Type 0} → (X → Heads × List Placed) → Result X Halt → ℕ → List Placed → Type 0
-GivesHeads view (Ok x) levels ts = body_rest_read levels Declarations ts ≡ made (heads_body (view x).0) (statements_end_read levels) (view x).1
-GivesHeads view (Err e) levels ts = Halts e (body_rest_read levels Declarations ts)
+-- the statements of a block and its END
+abbrev pub statements_end : Gram (List Statement)
+statements_end = before_token ended_statements (word w.End)
 
--- with what is left to read, the declarations that were read are the block from the start
-pub record Declaring (levels : ℕ) (start : List Placed) (s : Stage) (heads : Heads) (rest : List Placed) : Type 0 where
-  pub same : made (with_heads heads) (body_rest_read levels (phase_of s)) rest ≡ body_rest_read levels Declarations start
-  pub room : length rest ≤ length start
+-- the declarations of a block, such that its statements are all that is left of it
+abbrev pub TakesHeads : ℕ → List Placed → Result Heads Halt → List Placed → Type 0
+TakesHeads levels start (Ok heads) rest = reading levels (body_rest Declarations) start ≡ made (heads_body heads) (reading levels statements_end) rest
+TakesHeads levels start (Err e) rest = Halts e (reading levels (body_rest Declarations) start)
+
+-- With what is left to read, where as many turns are left as tokens, the declarations that were read are the block
+-- from the start on.
+pub record Declaring (levels : ℕ) (start : List Placed) (s : Stage) (heads : Heads) (turns : ℕ) (rest : List Placed) : Type 0 where
+  pub same : made (with_heads heads) (reading levels (body_rest (phase_of s))) rest ≡ reading levels (body_rest Declarations) start
+  pub room : length rest ≤ turns

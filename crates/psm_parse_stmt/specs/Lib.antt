@@ -1,6 +1,2 @@
-pub mod Items
-pub mod Blocks
-pub mod PartReaders
-pub mod SimpleReaders
-pub mod StatementReaders
+pub mod Levels
 pub mod Declaring

@@ -1,245 +1,283 @@
 //! IF and CASE (ISO/IEC 9075-4:1996, if statement and case statement).
-ghost use Rattle.std.specs.Prelude.{◌≡◌, ◌<◌, ◌≤◌, length, IfOk};
-ghost use Rattle.psm_grammar.specs.Gives.{Gives};
-ghost use Rattle.psm_grammar.specs.Readers.{made};
-ghost use Rattle.psm_tree.specs.StatementValues.{if_of, case_statement_of};
-ghost use Rattle.psm_parse_stmt.specs.StatementReaders.{branch_read, branches_end_read, branches_with, case_branches_read, case_statement_read, case_statement_rest_read, if_rest_read, if_statement_read, more_branches_read, next_branch_read, next_branches_read, otherwise_read};
+ghost use Rattle.std.specs.Prelude.{◌≡◌, IfOk};
+ghost use Rattle.psm_grammar.specs.Forms.{optional};
+ghost use Rattle.psm_tree.specs.Readers.{Takes, TakesAs, reading};
+ghost use Rattle.psm_tree.specs.StatementGrammar.{branch as branch_part, otherwise_statements as otherwise_statements_part, elseif_branch as elseif_branch_part, elseif_branches as elseif_branches_part, if_end as if_end_part, if_branches as if_branches_part, if_rest as if_rest_part, if_statement as if_statement_part, when_branch as when_branch_part, when_branches as when_branches_part, case_end as case_end_part, all_when_branches as all_when_branches_part, case_branches as case_branches_part, case_statement_rest as case_statement_rest_part, case_statement as case_statement_part};
+ghost use Rattle.psm_tree.specs.StatementValues.{listed as listed_statements};
 
-use crate::level::level_below;
 use crate::statements::statements;
 use psm_grammar::Halt;
-use psm_list::{Boxed, List};
+use psm_list::{Boxed, List, OneOrMore};
 use psm_parse_expr::expr;
-use psm_parse_token::{at_word, before_word, beside, expect_word, in_front};
-use psm_token::{Place, Placed, Word};
-use psm_tree::{Branch, Statement};
-use std::alloc::Global;
+use psm_parse_token::Tokens;
+use psm_token::Word;
+use psm_tree::{Branch, Expr, Statement};
+use std::alloc::{AllocError, Global};
+
+/// The branches of IF or CASE, and the statements behind ELSE.
+type Branches = (OneOrMore<Boxed<Branch>>, List<Boxed<Statement>>);
+
+/// The statements behind ELSE, or none; want of memory is the one refusal.
+fn listed(
+    alloc: Global,
+    otherwise: Option<OneOrMore<Boxed<Statement>>>,
+) -> Result<List<Boxed<Statement>>, AllocError>
+    ensures { IfOk result (λ l. l ≡ listed_statements otherwise) }
+{
+    match otherwise {
+        None => Ok(List::of(Vec::new(alloc))),
+        Some(OneOrMore { first, rest }) => {
+            let mut statements = rest.into_vec();
+            statements.insert(0, first)?;
+            Ok(List::of(statements))
+        }
+    }
+}
 
 /// `expr THEN statements`
 #[cycle(statements)]
-#[tactic(auto, unfolding(crate::specs::StatementReaders::branch_read))]
-fn branch(alloc: Global, tokens: &[Placed], levels: u32) -> Result<(Branch, &[Placed]), Halt>
-    ensures exact { Gives (λ x. (x.0, x.1.now)) result (branch_read levels tokens.now) }
-    ensures takes { IfOk result (λ x. length x.1.now < length tokens.now) }
+#[tactic(auto, using(psm_tree::proofs::Reading::steps), unfolding(psm_tree::specs::StatementGrammar::branch))]
+fn branch(alloc: Global, tokens: &mut Tokens, levels: u32) -> Result<Boxed<Branch>, Halt>
+    ensures { Takes (reading levels branch_part tokens.old.rest.now) result tokens.new.rest.now }
 {
-    let (test, rest) = expr(alloc, tokens, levels)?;
-    let (test, rest) = before_word(test, rest, Word::Then)?;
-    let ((test, (first, others)), rest) = beside(test, statements(alloc, rest, levels))?;
-    let branch = Branch {
-        test,
-        first,
-        rest: others,
-    };
-    Ok((branch, rest))
+    let test = expr(alloc, tokens, levels)?;
+    tokens.word(Word::Then)?;
+    let statements = statements(alloc, tokens, levels)?;
+    Ok(Boxed::new(alloc, Branch { test, statements })?)
 }
 
-/// A branch behind its word, ELSEIF or WHEN.
+/// `ELSE statements`
 #[cycle(statements)]
-#[tactic(auto, unfolding(crate::specs::StatementReaders::next_branch_read))]
-fn next_branch(
+#[tactic(auto, using(psm_tree::proofs::Reading::steps), unfolding(psm_tree::specs::StatementGrammar::otherwise_statements))]
+fn otherwise_statements(
     alloc: Global,
-    tokens: &[Placed],
+    tokens: &mut Tokens,
     levels: u32,
-    before: Word,
-) -> Result<(Branch, &[Placed]), Halt>
-    ensures exact { Gives (λ x. (x.0, x.1.now)) result (next_branch_read before levels tokens.now) }
-    ensures takes { IfOk result (λ x. length x.1.now < length tokens.now) }
+) -> Result<OneOrMore<Boxed<Statement>>, Halt>
+    ensures { Takes (reading levels otherwise_statements_part tokens.old.rest.now) result tokens.new.rest.now }
 {
-    let (_, rest) = expect_word(tokens, before)?;
-    branch(alloc, rest, levels)
-}
-
-/// Branches, each behind its word.
-#[cycle(statements)]
-#[tactic(auto, unfolding(crate::specs::StatementReaders::next_branches_read))]
-fn next_branches(
-    alloc: Global,
-    tokens: &[Placed],
-    levels: u32,
-    before: Word,
-) -> Result<(List<Branch>, &[Placed]), Halt>
-    ensures exact { Gives (λ x. (x.0, x.1.now)) result (next_branches_read before levels tokens.now) }
-    ensures takes { IfOk result (λ x. length x.1.now ≤ length tokens.now) }
-{
-    let mut branches = Vec::new(alloc);
-    let mut rest = tokens;
-    while at_word(rest, before) {
-        let (branch, next) = next_branch(alloc, rest, levels, before)?;
-        branches.push(branch)?;
-        rest = next;
-    }
-    Ok((List::of(branches), rest))
+    tokens.word(Word::Else)?;
+    statements(alloc, tokens, levels)
 }
 
 /// `[ELSE statements]`
 #[cycle(statements)]
-#[tactic(auto, unfolding(crate::specs::StatementReaders::otherwise_read, crate::specs::StatementReaders::else_read))]
-fn otherwise(
+#[tactic(auto, using(psm_tree::proofs::Reading::steps, psm_tree::proofs::Firsts::first_otherwise_statements))]
+fn perhaps_otherwise(
     alloc: Global,
-    tokens: &[Placed],
+    tokens: &mut Tokens,
     levels: u32,
-) -> Result<(List<Statement>, &[Placed]), Halt>
-    ensures exact { Gives (λ x. (x.0, x.1.now)) result (otherwise_read levels tokens.now) }
-    ensures takes { IfOk result (λ x. length x.1.now ≤ length tokens.now) }
+) -> Result<Option<OneOrMore<Boxed<Statement>>>, Halt>
+    ensures { Takes (reading levels (optional otherwise_statements_part) tokens.old.rest.now) result tokens.new.rest.now }
 {
-    if !at_word(tokens, Word::Else) {
-        return Ok((List::of(Vec::new(alloc)), tokens));
+    if !tokens.at(Word::Else) {
+        return Ok(None);
     }
-    let (_, rest) = expect_word(tokens, Word::Else)?;
-    let ((first, others), rest) = statements(alloc, rest, levels)?;
-    Ok((in_front(first, others)?, rest))
+    Ok(Some(otherwise_statements(alloc, tokens, levels)?))
 }
 
-/// `[ELSE statements] END`, and the word of the statement.
+/// `ELSEIF branch`
 #[cycle(statements)]
-#[tactic(auto, unfolding(crate::specs::StatementReaders::branches_end_read))]
-fn branches_end(
-    alloc: Global,
-    tokens: &[Placed],
-    levels: u32,
-    behind: Word,
-) -> Result<(List<Statement>, &[Placed]), Halt>
-    ensures exact { Gives (λ x. (x.0, x.1.now)) result (branches_end_read behind levels tokens.now) }
-    ensures takes { IfOk result (λ x. length x.1.now < length tokens.now) }
+#[tactic(auto, using(psm_tree::proofs::Reading::steps), unfolding(psm_tree::specs::StatementGrammar::elseif_branch))]
+fn elseif_branch(alloc: Global, tokens: &mut Tokens, levels: u32) -> Result<Boxed<Branch>, Halt>
+    ensures { Takes (reading levels elseif_branch_part tokens.old.rest.now) result tokens.new.rest.now }
 {
-    let (otherwise, rest) = otherwise(alloc, tokens, levels)?;
-    let (otherwise, rest) = before_word(otherwise, rest, Word::End)?;
-    before_word(otherwise, rest, behind)
+    tokens.word(Word::ElseIf)?;
+    branch(alloc, tokens, levels)
 }
 
-/// The branches behind the first one, each behind its word, what stands behind ELSE, END and the word of
-/// the statement.
+/// `{ELSEIF branch}`
 #[cycle(statements)]
-#[tactic(auto, unfolding(crate::specs::StatementReaders::more_branches_read))]
-fn more_branches(
+#[tactic(auto, using(psm_tree::proofs::Repeating::turns, psm_tree::proofs::Firsts::first_elseif_branch), unfolding(psm_tree::specs::StatementGrammar::elseif_branches))]
+fn elseif_branches(
     alloc: Global,
-    tokens: &[Placed],
+    tokens: &mut Tokens,
     levels: u32,
-    before: Word,
-    behind: Word,
-) -> Result<((List<Branch>, List<Statement>), &[Placed]), Halt>
-    ensures exact { Gives (λ x. (x.0, x.1.now)) result (more_branches_read before behind levels tokens.now) }
-    ensures takes { IfOk result (λ x. length x.1.now < length tokens.now) }
+) -> Result<List<Boxed<Branch>>, Halt>
+    ensures { Takes (reading levels elseif_branches_part tokens.old.rest.now) result tokens.new.rest.now }
 {
-    let (branches, rest) = next_branches(alloc, tokens, levels, before)?;
-    beside(branches, branches_end(alloc, rest, levels, behind))
+    let mut branches = Vec::new(alloc);
+    for _turn in 0..tokens.left() {
+        if !tokens.at(Word::ElseIf) {
+            break;
+        }
+        let branch = elseif_branch(alloc, tokens, levels)?;
+        branches.push(branch)?;
+    }
+    Ok(List::of(branches))
 }
 
-/// `IF branch {ELSEIF branch} [ELSE statements] END IF`
+/// `branch {ELSEIF branch}`
 #[cycle(statements)]
-#[tactic(auto, using(crate::proofs::Blocks::if_part), unfolding(crate::specs::StatementReaders::if_statement_read))]
-pub(crate) fn if_statement(
+#[tactic(auto, using(psm_tree::proofs::Reading::steps), unfolding(psm_tree::specs::StatementGrammar::if_branches))]
+fn if_branches(
     alloc: Global,
-    tokens: &[Placed],
+    tokens: &mut Tokens,
     levels: u32,
-) -> Result<(Statement, &[Placed]), Halt>
-    ensures exact { Gives (λ x. (x.0, x.1.now)) result (if_statement_read levels tokens.now) }
-    ensures takes { IfOk result (λ x. length x.1.now < length tokens.now) }
+) -> Result<OneOrMore<Boxed<Branch>>, Halt>
+    ensures { Takes (reading levels if_branches_part tokens.old.rest.now) result tokens.new.rest.now }
 {
-    let (place, rest) = expect_word(tokens, Word::If)?;
-    let left = level_below(tokens, levels)?;
-    if_rest(alloc, place, rest, left)
+    let first = branch(alloc, tokens, levels)?;
+    let rest = elseif_branches(alloc, tokens, levels)?;
+    Ok(OneOrMore::of(first, rest))
+}
+
+/// `[ELSE statements] END IF`
+#[cycle(statements)]
+#[tactic(auto, using(psm_tree::proofs::Reading::steps), unfolding(psm_tree::specs::StatementGrammar::if_end))]
+fn if_end(
+    alloc: Global,
+    tokens: &mut Tokens,
+    levels: u32,
+) -> Result<Option<OneOrMore<Boxed<Statement>>>, Halt>
+    ensures { Takes (reading levels if_end_part tokens.old.rest.now) result tokens.new.rest.now }
+{
+    let otherwise = perhaps_otherwise(alloc, tokens, levels)?;
+    tokens.word(Word::End)?;
+    tokens.word(Word::If)?;
+    Ok(otherwise)
 }
 
 /// `branch {ELSEIF branch} [ELSE statements] END IF`
 #[cycle(statements)]
-#[tactic(auto, unfolding(crate::specs::StatementReaders::if_rest_read))]
-fn if_rest(
-    alloc: Global,
-    place: Place,
-    tokens: &[Placed],
-    levels: u32,
-) -> Result<(Statement, &[Placed]), Halt>
-    ensures exact { Gives (λ x. (x.0, x.1.now)) result (made (if_of place) (if_rest_read levels) tokens.now) }
-    ensures takes { IfOk result (λ x. length x.1.now < length tokens.now) }
+#[tactic(auto, using(psm_tree::proofs::Reading::steps), unfolding(psm_tree::specs::StatementGrammar::if_rest))]
+fn if_rest(alloc: Global, tokens: &mut Tokens, levels: u32) -> Result<Branches, Halt>
+    ensures { TakesAs (λ x. record { branches = x.0; otherwise = x.1 }) (reading levels if_rest_part tokens.old.rest.now) result tokens.new.rest.now }
 {
-    let (first, rest) = branch(alloc, tokens, levels)?;
-    let first = Boxed::new(alloc, first)?;
-    let ((first, (others, otherwise)), rest) = beside(
-        first,
-        more_branches(alloc, rest, levels, Word::ElseIf, Word::If),
-    )?;
-    let statement = Statement::If {
-        place,
-        first,
-        rest: others,
-        otherwise,
-    };
-    Ok((statement, rest))
+    let branches = if_branches(alloc, tokens, levels)?;
+    let otherwise = if_end(alloc, tokens, levels)?;
+    Ok((branches, listed(alloc, otherwise)?))
 }
 
-/// `CASE [expr] WHEN branch {WHEN branch} [ELSE statements] END CASE`
+/// `IF branch {ELSEIF branch} [ELSE statements] END IF`
 #[cycle(statements)]
-#[tactic(auto, using(crate::proofs::Blocks::case_part), unfolding(crate::specs::StatementReaders::case_statement_read))]
-pub(crate) fn case_statement(
+#[tactic(auto, using(psm_tree::proofs::Reading::steps), unfolding(psm_tree::specs::StatementGrammar::if_statement))]
+pub(crate) fn if_statement(
     alloc: Global,
-    tokens: &[Placed],
+    tokens: &mut Tokens,
     levels: u32,
-) -> Result<(Statement, &[Placed]), Halt>
-    ensures exact { Gives (λ x. (x.0, x.1.now)) result (case_statement_read levels tokens.now) }
-    ensures takes { IfOk result (λ x. length x.1.now < length tokens.now) }
+) -> Result<Boxed<Statement>, Halt>
+    ensures { Takes (reading levels if_statement_part tokens.old.rest.now) result tokens.new.rest.now }
 {
-    let (place, rest) = expect_word(tokens, Word::Case)?;
-    let left = level_below(tokens, levels)?;
-    case_rest(alloc, place, rest, left)
+    let (place, levels) = tokens.open(Word::If, levels)?;
+    let (branches, otherwise) = if_rest(alloc, tokens, levels)?;
+    let statement = Statement::If {
+        place,
+        branches,
+        otherwise,
+    };
+    Ok(Boxed::new(alloc, statement)?)
+}
+
+/// `WHEN branch`
+#[cycle(statements)]
+#[tactic(auto, using(psm_tree::proofs::Reading::steps), unfolding(psm_tree::specs::StatementGrammar::when_branch))]
+fn when_branch(alloc: Global, tokens: &mut Tokens, levels: u32) -> Result<Boxed<Branch>, Halt>
+    ensures { Takes (reading levels when_branch_part tokens.old.rest.now) result tokens.new.rest.now }
+{
+    tokens.word(Word::When)?;
+    branch(alloc, tokens, levels)
+}
+
+/// `{WHEN branch}`
+#[cycle(statements)]
+#[tactic(auto, using(psm_tree::proofs::Repeating::turns, psm_tree::proofs::Firsts::first_when_branch), unfolding(psm_tree::specs::StatementGrammar::when_branches))]
+fn when_branches(
+    alloc: Global,
+    tokens: &mut Tokens,
+    levels: u32,
+) -> Result<List<Boxed<Branch>>, Halt>
+    ensures { Takes (reading levels when_branches_part tokens.old.rest.now) result tokens.new.rest.now }
+{
+    let mut branches = Vec::new(alloc);
+    for _turn in 0..tokens.left() {
+        if !tokens.at(Word::When) {
+            break;
+        }
+        let branch = when_branch(alloc, tokens, levels)?;
+        branches.push(branch)?;
+    }
+    Ok(List::of(branches))
+}
+
+/// `WHEN branch {WHEN branch}`
+#[cycle(statements)]
+#[tactic(auto, using(psm_tree::proofs::Reading::steps), unfolding(psm_tree::specs::StatementGrammar::all_when_branches))]
+fn all_when_branches(
+    alloc: Global,
+    tokens: &mut Tokens,
+    levels: u32,
+) -> Result<OneOrMore<Boxed<Branch>>, Halt>
+    ensures { Takes (reading levels all_when_branches_part tokens.old.rest.now) result tokens.new.rest.now }
+{
+    let first = when_branch(alloc, tokens, levels)?;
+    let rest = when_branches(alloc, tokens, levels)?;
+    Ok(OneOrMore::of(first, rest))
+}
+
+/// `[ELSE statements] END CASE`
+#[cycle(statements)]
+#[tactic(auto, using(psm_tree::proofs::Reading::steps), unfolding(psm_tree::specs::StatementGrammar::case_end))]
+fn case_end(
+    alloc: Global,
+    tokens: &mut Tokens,
+    levels: u32,
+) -> Result<Option<OneOrMore<Boxed<Statement>>>, Halt>
+    ensures { Takes (reading levels case_end_part tokens.old.rest.now) result tokens.new.rest.now }
+{
+    let otherwise = perhaps_otherwise(alloc, tokens, levels)?;
+    tokens.word(Word::End)?;
+    tokens.word(Word::Case)?;
+    Ok(otherwise)
+}
+
+/// `WHEN branch {WHEN branch} [ELSE statements] END CASE`
+#[cycle(statements)]
+#[tactic(auto, using(psm_tree::proofs::Reading::steps), unfolding(psm_tree::specs::StatementGrammar::case_branches))]
+fn case_branches(alloc: Global, tokens: &mut Tokens, levels: u32) -> Result<Branches, Halt>
+    ensures { TakesAs (λ x. record { branches = x.0; otherwise = x.1 }) (reading levels case_branches_part tokens.old.rest.now) result tokens.new.rest.now }
+{
+    let branches = all_when_branches(alloc, tokens, levels)?;
+    let otherwise = case_end(alloc, tokens, levels)?;
+    Ok((branches, listed(alloc, otherwise)?))
 }
 
 /// `[expr] WHEN branch {WHEN branch} [ELSE statements] END CASE`
 #[cycle(statements)]
-#[tactic(auto, unfolding(crate::specs::StatementReaders::case_statement_rest_read))]
-fn case_rest(
+#[tactic(auto, using(psm_tree::proofs::Reading::steps, psm_tree::proofs::Firsts::first_case_branches), unfolding(psm_tree::specs::StatementGrammar::case_statement_rest))]
+fn case_statement_rest(
     alloc: Global,
-    place: Place,
-    tokens: &[Placed],
+    tokens: &mut Tokens,
     levels: u32,
-) -> Result<(Statement, &[Placed]), Halt>
-    ensures exact { Gives (λ x. (x.0, x.1.now)) result (made (case_statement_of place) (case_statement_rest_read levels) tokens.now) }
-    ensures takes { IfOk result (λ x. length x.1.now < length tokens.now) }
+) -> Result<(Option<Boxed<Expr>>, Branches), Halt>
+    ensures { TakesAs (λ x. (x.0, record { branches = x.1.0; otherwise = x.1.1 })) (reading levels case_statement_rest_part tokens.old.rest.now) result tokens.new.rest.now }
 {
-    if at_word(tokens, Word::When) {
-        let ((first, (others, otherwise)), rest) = case_branches(alloc, tokens, levels)?;
-        let statement = Statement::Case {
-            place,
-            operand: None,
-            first,
-            rest: others,
-            otherwise,
-        };
-        return Ok((statement, rest));
+    if tokens.at(Word::When) {
+        let branches = case_branches(alloc, tokens, levels)?;
+        return Ok((None, branches));
     }
-    let (operand, rest) = expr(alloc, tokens, levels)?;
-    let ((operand, (first, (others, otherwise))), rest) = beside(
-        operand,
-        case_branches(alloc, rest, levels),
-    )?;
-    let statement = Statement::Case {
-        place,
-        operand: Some(operand),
-        first,
-        rest: others,
-        otherwise,
-    };
-    Ok((statement, rest))
+    let operand = expr(alloc, tokens, levels)?;
+    let branches = case_branches(alloc, tokens, levels)?;
+    Ok((Some(operand), branches))
 }
 
-/// The first branch of a CASE statement, the others, and the statements behind ELSE.
-type CaseBranches = (Boxed<Branch>, (List<Branch>, List<Statement>));
-
-/// `WHEN branch {WHEN branch} [ELSE statements] END CASE`
+/// `CASE [expr] WHEN branch {WHEN branch} [ELSE statements] END CASE`
 #[cycle(statements)]
-#[tactic(auto, unfolding(crate::specs::StatementReaders::case_branches_read))]
-fn case_branches(
+#[tactic(auto, using(psm_tree::proofs::Reading::steps), unfolding(psm_tree::specs::StatementGrammar::case_statement))]
+pub(crate) fn case_statement(
     alloc: Global,
-    tokens: &[Placed],
+    tokens: &mut Tokens,
     levels: u32,
-) -> Result<(CaseBranches, &[Placed]), Halt>
-    ensures exact { Gives (λ x. (branches_with x.0.0 x.0.1, x.1.now)) result (case_branches_read levels tokens.now) }
-    ensures takes { IfOk result (λ x. length x.1.now < length tokens.now) }
+) -> Result<Boxed<Statement>, Halt>
+    ensures { Takes (reading levels case_statement_part tokens.old.rest.now) result tokens.new.rest.now }
 {
-    let (first, rest) = next_branch(alloc, tokens, levels, Word::When)?;
-    let first = Boxed::new(alloc, first)?;
-    beside(
-        first,
-        more_branches(alloc, rest, levels, Word::When, Word::Case),
-    )
+    let (place, levels) = tokens.open(Word::Case, levels)?;
+    let (operand, (branches, otherwise)) = case_statement_rest(alloc, tokens, levels)?;
+    let statement = Statement::Case {
+        place,
+        operand,
+        branches,
+        otherwise,
+    };
+    Ok(Boxed::new(alloc, statement)?)
 }

@@ -1,45 +1,41 @@
 //! Blocks, and what stands in a compound statement (ISO/IEC 9075-4:1996, compound statement).
-ghost use Rattle.std.specs.Prelude.{◌≡◌, ◌<◌, length, IfOk};
-ghost use Rattle.psm_grammar.specs.Gives.{Gives};
 ghost use Rattle.psm_tree.specs.Parts.{Declarations};
-ghost use Rattle.psm_parse_stmt.specs.StatementReaders.{block_read, body_rest_read, compound_read, statements_end_read};
-ghost use Rattle.psm_parse_stmt.specs.Declaring.{heads_body};
+ghost use Rattle.psm_tree.specs.Readers.{Takes, TakesAs, reading};
+ghost use Rattle.psm_tree.specs.StatementGrammar.{block as block_part, begin_rest as begin_rest_part, body_rest};
+ghost use Rattle.psm_parse_stmt.specs.Declaring.{heads_body, statements_end as statements_end_part};
+ghost use Rattle.psm_parse_stmt.specs.Levels.{compound_block as compound_block_part};
 
-use crate::block::Block;
 use crate::declaration::atomic;
 use crate::declare::declarations;
 use crate::item::Heads;
-use crate::level::level_below;
 use crate::loops::{for_block, loop_block, repeat_block, while_block};
 use crate::statements::ended_statements;
 use psm_grammar::Halt;
-use psm_list::List;
-use psm_parse_token::{at_word, before_word, beside, expect_word};
-use psm_token::{Placed, Word};
-use psm_tree::Statement;
+use psm_list::{Boxed, List};
+use psm_parse_token::Tokens;
+use psm_token::Word;
+use psm_tree::{Block, Statement};
 use std::alloc::Global;
+
+/// The declarations of a block, and its statements.
+type Body = (Heads, List<Boxed<Statement>>);
 
 /// `BEGIN .. | LOOP .. | WHILE .. | REPEAT .. | FOR ..`
 #[cycle(statements)]
-#[tactic(auto, unfolding(crate::specs::StatementReaders::block_read))]
-pub(crate) fn block(
-    alloc: Global,
-    tokens: &[Placed],
-    levels: u32,
-) -> Result<(Block, &[Placed]), Halt>
-    ensures exact { Gives (λ x. (x.0, x.1.now)) result (block_read levels tokens.now) }
-    ensures takes { IfOk result (λ x. length x.1.now < length tokens.now) }
+#[tactic(auto, using(psm_tree::proofs::Reading::steps), unfolding(psm_tree::specs::StatementGrammar::block))]
+pub(crate) fn block(alloc: Global, tokens: &mut Tokens, levels: u32) -> Result<Boxed<Block>, Halt>
+    ensures { Takes (reading levels block_part tokens.old.rest.now) result tokens.new.rest.now }
 {
-    if at_word(tokens, Word::Begin) {
-        return compound(alloc, tokens, levels);
+    if tokens.at(Word::Begin) {
+        return compound_block(alloc, tokens, levels);
     }
-    if at_word(tokens, Word::Loop) {
+    if tokens.at(Word::Loop) {
         return loop_block(alloc, tokens, levels);
     }
-    if at_word(tokens, Word::While) {
+    if tokens.at(Word::While) {
         return while_block(alloc, tokens, levels);
     }
-    if at_word(tokens, Word::Repeat) {
+    if tokens.at(Word::Repeat) {
         return repeat_block(alloc, tokens, levels);
     }
     for_block(alloc, tokens, levels)
@@ -47,15 +43,12 @@ pub(crate) fn block(
 
 /// `BEGIN [[NOT] ATOMIC] body`
 #[cycle(statements)]
-#[tactic(auto, using(crate::proofs::Blocks::begin_part), unfolding(crate::specs::StatementReaders::compound_read, crate::specs::StatementReaders::begin_rest_read))]
-fn compound(alloc: Global, tokens: &[Placed], levels: u32) -> Result<(Block, &[Placed]), Halt>
-    ensures exact { Gives (λ x. (x.0, x.1.now)) result (compound_read levels tokens.now) }
-    ensures takes { IfOk result (λ x. length x.1.now < length tokens.now) }
+#[tactic(auto, using(psm_tree::proofs::Reading::steps))]
+fn compound_block(alloc: Global, tokens: &mut Tokens, levels: u32) -> Result<Boxed<Block>, Halt>
+    ensures { Takes (reading levels compound_block_part tokens.old.rest.now) result tokens.new.rest.now }
 {
-    let (place, rest) = expect_word(tokens, Word::Begin)?;
-    let left = level_below(tokens, levels)?;
-    let (atomic, rest) = atomic(rest)?;
-    let ((heads, statements), rest) = block_body(alloc, rest, left)?;
+    let (place, levels) = tokens.open(Word::Begin, levels)?;
+    let (atomic, (heads, statements)) = begin_rest(alloc, tokens, levels)?;
     let Heads {
         declarations,
         cursors,
@@ -69,34 +62,41 @@ fn compound(alloc: Global, tokens: &[Placed], levels: u32) -> Result<(Block, &[P
         handlers: List::of(handlers),
         statements,
     };
-    Ok((compound, rest))
+    Ok(Boxed::new(alloc, compound)?)
+}
+
+/// `[[NOT] ATOMIC] body`, and whether it is ATOMIC.
+#[cycle(statements)]
+#[tactic(auto, using(psm_tree::proofs::Reading::steps), unfolding(psm_tree::specs::StatementGrammar::begin_rest))]
+fn begin_rest(alloc: Global, tokens: &mut Tokens, levels: u32) -> Result<(bool, Body), Halt>
+    ensures { TakesAs (λ x. (x.0, heads_body x.1.0 x.1.1)) (reading levels begin_rest_part tokens.old.rest.now) result tokens.new.rest.now }
+{
+    let atomic = atomic(tokens, levels)?;
+    let body = body(alloc, tokens, levels)?;
+    Ok((atomic, body))
 }
 
 /// The declarations and statements of a block, and END.
 #[cycle(statements)]
-fn block_body(
-    alloc: Global,
-    tokens: &[Placed],
-    levels: u32,
-) -> Result<((Heads, List<Statement>), &[Placed]), Halt>
-    ensures exact { Gives (λ x. (heads_body x.0.0 x.0.1, x.1.now)) result (body_rest_read levels Declarations tokens.now) }
-    ensures takes { IfOk result (λ x. length x.1.now < length tokens.now) }
+fn body(alloc: Global, tokens: &mut Tokens, levels: u32) -> Result<Body, Halt>
+    ensures { TakesAs (λ x. heads_body x.0 x.1) (reading levels (body_rest Declarations) tokens.old.rest.now) result tokens.new.rest.now }
 {
-    let (heads, rest) = declarations(alloc, tokens, levels)?;
-    beside(heads, statements_end(alloc, rest, levels))
+    let heads = declarations(alloc, tokens, levels)?;
+    let statements = statements_end(alloc, tokens, levels)?;
+    Ok((heads, statements))
 }
 
 /// `{statement ";"} END`
 #[cycle(statements)]
-#[tactic(auto, unfolding(crate::specs::StatementReaders::statements_end_read))]
+#[tactic(auto, using(psm_tree::proofs::Reading::steps))]
 fn statements_end(
     alloc: Global,
-    tokens: &[Placed],
+    tokens: &mut Tokens,
     levels: u32,
-) -> Result<(List<Statement>, &[Placed]), Halt>
-    ensures exact { Gives (λ x. (x.0, x.1.now)) result (statements_end_read levels tokens.now) }
-    ensures takes { IfOk result (λ x. length x.1.now < length tokens.now) }
+) -> Result<List<Boxed<Statement>>, Halt>
+    ensures { Takes (reading levels statements_end_part tokens.old.rest.now) result tokens.new.rest.now }
 {
-    let (statements, rest) = ended_statements(alloc, tokens, levels)?;
-    before_word(statements, rest, Word::End)
+    let statements = ended_statements(alloc, tokens, levels)?;
+    tokens.word(Word::End)?;
+    Ok(statements)
 }

@@ -1,13 +1,14 @@
 //! Conditions, queries and the rows that a statement changes.
-ghost use Rattle.std.specs.Prelude.{◌≡◌, ◌<◌, ◌≤◌, length, IfOk};
-ghost use Rattle.psm_grammar.specs.Gives.{Gives};
-ghost use Rattle.psm_parse_stmt.specs.SimpleReaders.{message_read, name_signalled_read, ordered_select_read, perhaps_message_read, perhaps_where_read, resignalled_read, signalled_read, state_signalled_read, which_rows_read};
+ghost use Rattle.psm_grammar.specs.Forms.{optional};
+ghost use Rattle.psm_tree.specs.Readers.{Takes, reading};
+ghost use Rattle.psm_tree.specs.StatementGrammar.{ordered_select as ordered_select_part, message as message_part, state_signalled as state_signalled_part, name_signalled as name_signalled_part, signalled as signalled_part, resignalled as resignalled_part, which_rows as which_rows_part, where_part};
 
 use crate::parts::{current, perhaps_order, state};
 use psm_grammar::Halt;
+use psm_list::Boxed;
 use psm_parse_expr::{expr, select};
-use psm_parse_token::{at_name, at_word, beside, expect_name, expect_sign, expect_word};
-use psm_token::{Placed, Sign, Word};
+use psm_parse_token::Tokens;
+use psm_token::{Sign, Word};
 use psm_tree::{Condition, Expr, OrderedQuery, Signalled, Where};
 use std::alloc::Global;
 
@@ -15,145 +16,131 @@ use std::alloc::Global;
 ///
 /// # Errors
 /// `Syntax` and `Deep` with the number of tokens that are left at the fault; `Memory`.
-#[tactic(auto, unfolding(crate::specs::SimpleReaders::ordered_select_read))]
-pub fn ordered_select(
-    alloc: Global,
-    tokens: &[Placed],
-    levels: u32,
-) -> Result<(OrderedQuery, &[Placed]), Halt>
-    ensures exact { Gives (λ x. (x.0, x.1.now)) result (ordered_select_read levels tokens.now) }
-    ensures takes { IfOk result (λ x. length x.1.now < length tokens.now) }
+#[tactic(auto, using(psm_tree::proofs::Reading::steps), unfolding(psm_tree::specs::StatementGrammar::ordered_select))]
+pub fn ordered_select(alloc: Global, tokens: &mut Tokens, levels: u32) -> Result<OrderedQuery, Halt>
+    ensures { Takes (reading levels ordered_select_part tokens.old.rest.now) result tokens.new.rest.now }
 {
-    let (query, rest) = select(alloc, tokens, levels)?;
-    let ((query, order), rest) = beside(query, perhaps_order(alloc, rest))?;
-    Ok((OrderedQuery { query, order }, rest))
+    let query = select(alloc, tokens, levels)?;
+    let order = perhaps_order(alloc, tokens, levels)?;
+    Ok(OrderedQuery { query, order })
 }
 
 /// `SET MESSAGE_TEXT "=" expr`
-#[tactic(auto, unfolding(crate::specs::SimpleReaders::message_read))]
-fn message(alloc: Global, tokens: &[Placed], levels: u32) -> Result<(Expr, &[Placed]), Halt>
-    ensures exact { Gives (λ x. (x.0, x.1.now)) result (message_read levels tokens.now) }
-    ensures takes { IfOk result (λ x. length x.1.now < length tokens.now) }
+#[tactic(auto, using(psm_tree::proofs::Reading::steps), unfolding(psm_tree::specs::StatementGrammar::message))]
+fn message(alloc: Global, tokens: &mut Tokens, levels: u32) -> Result<Boxed<Expr>, Halt>
+    ensures { Takes (reading levels message_part tokens.old.rest.now) result tokens.new.rest.now }
 {
-    let (_, rest) = expect_word(tokens, Word::Set)?;
-    let (_, rest) = expect_word(rest, Word::MessageText)?;
-    let (_, rest) = expect_sign(rest, Sign::Equal)?;
-    expr(alloc, rest, levels)
+    tokens.word(Word::Set)?;
+    tokens.word(Word::MessageText)?;
+    tokens.sign(Sign::Equal)?;
+    expr(alloc, tokens, levels)
 }
 
 /// `[SET MESSAGE_TEXT "=" expr]`
-#[tactic(auto, unfolding(crate::specs::SimpleReaders::perhaps_message_read))]
+#[tactic(auto, using(psm_tree::proofs::Reading::steps, psm_tree::proofs::Firsts::first_message))]
 fn perhaps_message(
     alloc: Global,
-    tokens: &[Placed],
+    tokens: &mut Tokens,
     levels: u32,
-) -> Result<(Option<Expr>, &[Placed]), Halt>
-    ensures exact { Gives (λ x. (x.0, x.1.now)) result (perhaps_message_read levels tokens.now) }
-    ensures takes { IfOk result (λ x. length x.1.now ≤ length tokens.now) }
+) -> Result<Option<Boxed<Expr>>, Halt>
+    ensures { Takes (reading levels (optional message_part) tokens.old.rest.now) result tokens.new.rest.now }
 {
-    if !at_word(tokens, Word::Set) {
-        return Ok((None, tokens));
+    if !tokens.at(Word::Set) {
+        return Ok(None);
     }
-    let (text, rest) = message(alloc, tokens, levels)?;
-    Ok((Some(text), rest))
+    Ok(Some(message(alloc, tokens, levels)?))
 }
 
 /// `state [SET MESSAGE_TEXT "=" expr]`
-#[tactic(auto, unfolding(crate::specs::SimpleReaders::state_signalled_read))]
+#[tactic(auto, using(psm_tree::proofs::Reading::steps), unfolding(psm_tree::specs::StatementGrammar::state_signalled))]
 fn state_signalled(
     alloc: Global,
-    tokens: &[Placed],
+    tokens: &mut Tokens,
     levels: u32,
-) -> Result<(Signalled, &[Placed]), Halt>
-    ensures exact { Gives (λ x. (x.0, x.1.now)) result (state_signalled_read levels tokens.now) }
-    ensures takes { IfOk result (λ x. length x.1.now < length tokens.now) }
+) -> Result<Boxed<Signalled>, Halt>
+    ensures { Takes (reading levels state_signalled_part tokens.old.rest.now) result tokens.new.rest.now }
 {
-    let (state, rest) = state(alloc, tokens)?;
-    let ((state, message), rest) = beside(state, perhaps_message(alloc, rest, levels))?;
+    let state = state(alloc, tokens, levels)?;
+    let message = perhaps_message(alloc, tokens, levels)?;
     let condition = Condition::State(state);
-    Ok((Signalled { condition, message }, rest))
+    Ok(Boxed::new(alloc, Signalled { condition, message })?)
 }
 
 /// `name [SET MESSAGE_TEXT "=" expr]`
-#[tactic(auto, unfolding(crate::specs::SimpleReaders::name_signalled_read))]
-fn name_signalled(
-    alloc: Global,
-    tokens: &[Placed],
-    levels: u32,
-) -> Result<(Signalled, &[Placed]), Halt>
-    ensures exact { Gives (λ x. (x.0, x.1.now)) result (name_signalled_read levels tokens.now) }
-    ensures takes { IfOk result (λ x. length x.1.now < length tokens.now) }
+#[tactic(auto, using(psm_tree::proofs::Reading::steps), unfolding(psm_tree::specs::StatementGrammar::name_signalled))]
+fn name_signalled(alloc: Global, tokens: &mut Tokens, levels: u32) -> Result<Boxed<Signalled>, Halt>
+    ensures { Takes (reading levels name_signalled_part tokens.old.rest.now) result tokens.new.rest.now }
 {
-    let (name, rest) = expect_name(alloc, tokens)?;
-    let ((name, message), rest) = beside(name, perhaps_message(alloc, rest, levels))?;
+    let name = tokens.name(alloc)?;
+    let message = perhaps_message(alloc, tokens, levels)?;
     let condition = Condition::Name(name);
-    Ok((Signalled { condition, message }, rest))
+    Ok(Boxed::new(alloc, Signalled { condition, message })?)
 }
 
 /// `(state | name) [SET MESSAGE_TEXT "=" expr]`, of SIGNAL (ISO/IEC 9075-4:1996, signal statement).
-#[tactic(auto, unfolding(crate::specs::SimpleReaders::signalled_read))]
+#[tactic(auto, using(psm_tree::proofs::Reading::steps, psm_tree::proofs::Firsts::first_state_signalled), unfolding(psm_tree::specs::StatementGrammar::signalled))]
 pub(crate) fn signalled(
     alloc: Global,
-    tokens: &[Placed],
+    tokens: &mut Tokens,
     levels: u32,
-) -> Result<(Signalled, &[Placed]), Halt>
-    ensures exact { Gives (λ x. (x.0, x.1.now)) result (signalled_read levels tokens.now) }
-    ensures takes { IfOk result (λ x. length x.1.now < length tokens.now) }
+) -> Result<Boxed<Signalled>, Halt>
+    ensures { Takes (reading levels signalled_part tokens.old.rest.now) result tokens.new.rest.now }
 {
-    if at_word(tokens, Word::SqlState) {
+    if tokens.at(Word::SqlState) {
         return state_signalled(alloc, tokens, levels);
     }
     name_signalled(alloc, tokens, levels)
 }
 
 /// `[(state | name) [SET MESSAGE_TEXT "=" expr]]`, of RESIGNAL (ISO/IEC 9075-4:1996, resignal statement).
-#[tactic(auto, unfolding(crate::specs::SimpleReaders::resignalled_read))]
+#[tactic(auto, using(psm_tree::proofs::Reading::steps, psm_tree::proofs::Firsts::first_state_signalled, psm_tree::proofs::Firsts::first_name_signalled), unfolding(psm_tree::specs::StatementGrammar::resignalled))]
 pub(crate) fn resignalled(
     alloc: Global,
-    tokens: &[Placed],
+    tokens: &mut Tokens,
     levels: u32,
-) -> Result<(Option<Signalled>, &[Placed]), Halt>
-    ensures exact { Gives (λ x. (x.0, x.1.now)) result (resignalled_read levels tokens.now) }
-    ensures takes { IfOk result (λ x. length x.1.now ≤ length tokens.now) }
+) -> Result<Option<Boxed<Signalled>>, Halt>
+    ensures { Takes (reading levels resignalled_part tokens.old.rest.now) result tokens.new.rest.now }
 {
-    if at_word(tokens, Word::SqlState) {
-        let (signalled, rest) = state_signalled(alloc, tokens, levels)?;
-        return Ok((Some(signalled), rest));
+    if tokens.at(Word::SqlState) {
+        return Ok(Some(state_signalled(alloc, tokens, levels)?));
     }
-    if at_name(tokens) {
-        let (signalled, rest) = name_signalled(alloc, tokens, levels)?;
-        return Ok((Some(signalled), rest));
+    if tokens.at_name() {
+        return Ok(Some(name_signalled(alloc, tokens, levels)?));
     }
-    Ok((None, tokens))
+    Ok(None)
 }
 
 /// `CURRENT OF name | expr`
-#[tactic(auto, unfolding(crate::specs::SimpleReaders::which_rows_read))]
-fn which_rows(alloc: Global, tokens: &[Placed], levels: u32) -> Result<(Where, &[Placed]), Halt>
-    ensures exact { Gives (λ x. (x.0, x.1.now)) result (which_rows_read levels tokens.now) }
-    ensures takes { IfOk result (λ x. length x.1.now < length tokens.now) }
+#[tactic(auto, using(psm_tree::proofs::Reading::steps, psm_tree::proofs::Firsts::first_current), unfolding(psm_tree::specs::StatementGrammar::which_rows))]
+fn which_rows(alloc: Global, tokens: &mut Tokens, levels: u32) -> Result<Where, Halt>
+    ensures { Takes (reading levels which_rows_part tokens.old.rest.now) result tokens.new.rest.now }
 {
-    if at_word(tokens, Word::Current) {
-        return current(alloc, tokens);
+    if tokens.at(Word::Current) {
+        return current(alloc, tokens, levels);
     }
-    let (test, rest) = expr(alloc, tokens, levels)?;
-    Ok((Where::Condition(test), rest))
+    Ok(Where::Condition(expr(alloc, tokens, levels)?))
+}
+
+/// `WHERE (CURRENT OF name | expr)`
+#[tactic(auto, using(psm_tree::proofs::Reading::steps), unfolding(psm_tree::specs::StatementGrammar::where_part))]
+fn where_rows(alloc: Global, tokens: &mut Tokens, levels: u32) -> Result<Where, Halt>
+    ensures { Takes (reading levels where_part tokens.old.rest.now) result tokens.new.rest.now }
+{
+    tokens.word(Word::Where)?;
+    which_rows(alloc, tokens, levels)
 }
 
 /// `[WHERE (CURRENT OF name | expr)]`
-#[tactic(auto, unfolding(crate::specs::SimpleReaders::perhaps_where_read, crate::specs::SimpleReaders::where_part_read))]
+#[tactic(auto, using(psm_tree::proofs::Reading::steps, psm_tree::proofs::Firsts::first_where_part))]
 pub(crate) fn perhaps_where(
     alloc: Global,
-    tokens: &[Placed],
+    tokens: &mut Tokens,
     levels: u32,
-) -> Result<(Option<Where>, &[Placed]), Halt>
-    ensures exact { Gives (λ x. (x.0, x.1.now)) result (perhaps_where_read levels tokens.now) }
-    ensures takes { IfOk result (λ x. length x.1.now ≤ length tokens.now) }
+) -> Result<Option<Where>, Halt>
+    ensures { Takes (reading levels (optional where_part) tokens.old.rest.now) result tokens.new.rest.now }
 {
-    if !at_word(tokens, Word::Where) {
-        return Ok((None, tokens));
+    if !tokens.at(Word::Where) {
+        return Ok(None);
     }
-    let (_, rest) = expect_word(tokens, Word::Where)?;
-    let (which, rest) = which_rows(alloc, rest, levels)?;
-    Ok((Some(which), rest))
+    Ok(Some(where_rows(alloc, tokens, levels)?))
 }

@@ -1,305 +1,249 @@
 //! Statements about tables and cursors (ISO/IEC 9075:1992, clause 13).
-ghost use Rattle.std.specs.Prelude.{◌≡◌, ◌<◌, ◌≤◌, length, IfOk};
-ghost use Rattle.psm_grammar.specs.Gives.{Gives};
-ghost use Rattle.psm_parse_stmt.specs.SimpleReaders.{assignment_read, assignments_read, data_statement_read, delete_statement_read, insert_source_read, insert_statement_read, insert_values_read, more_values_read, next_assignment_read, next_assignments_read, next_values_read, select_statement_read, update_statement_read, values_read};
+ghost use Rattle.psm_tree.specs.Readers.{Takes, reading};
+ghost use Rattle.psm_tree.specs.StatementGrammar.{values as values_part, next_values as next_values_part, more_values as more_values_part, all_values as all_values_part, insert_values as insert_values_part, insert_source as insert_source_part, insert_statement as insert_statement_part, assignment as assignment_part, next_assignment as next_assignment_part, next_assignments as next_assignments_part, assignments as assignments_part, update_statement as update_statement_part, delete_statement as delete_statement_part, select_statement as select_statement_part, data_statement as data_statement_part};
 
 use crate::condition::perhaps_where;
-use crate::cursor::{
-    close_statement, fetch_statement, into_targets, open_statement, perhaps_names,
-};
+use crate::cursor::{close_statement, fetch_statement, into_targets, open_statement};
 use psm_grammar::Halt;
-use psm_list::List;
-use psm_parse_expr::{TableExpression, from_table, picks, select, source, sources};
-use psm_parse_token::{
-    at_sign, at_word, before_sign, before_word, beside, expect_name, expect_sign, expect_word,
-};
-use psm_token::{Placed, Sign, Word};
-use psm_tree::{Assignment, InsertSource, Simple, Values};
+use psm_list::{Boxed, List, OneOrMore};
+use psm_parse_expr::{from_table, picks, select, source, sources};
+use psm_parse_token::{Tokens, perhaps_names};
+use psm_token::{Sign, Word};
+use psm_tree::{Assignment, InsertSource, Select, Simple, Values};
 use std::alloc::Global;
 
 /// `"(" source {"," source} ")"`
-#[tactic(auto, unfolding(crate::specs::SimpleReaders::values_read))]
-fn values(alloc: Global, tokens: &[Placed], levels: u32) -> Result<(Values, &[Placed]), Halt>
-    ensures exact { Gives (λ x. (x.0, x.1.now)) result (values_read levels tokens.now) }
-    ensures takes { IfOk result (λ x. length x.1.now < length tokens.now) }
+#[tactic(auto, using(psm_tree::proofs::Reading::steps), unfolding(psm_tree::specs::StatementGrammar::values))]
+fn values(alloc: Global, tokens: &mut Tokens, levels: u32) -> Result<Values, Halt>
+    ensures { Takes (reading levels values_part tokens.old.rest.now) result tokens.new.rest.now }
 {
-    let (place, rest) = expect_sign(tokens, Sign::LeftParen)?;
-    let (row, rest) = sources(alloc, rest, levels)?;
-    let ((first, others), rest) = before_sign(row, rest, Sign::RightParen)?;
-    let row = Values {
-        place,
-        first,
-        rest: others,
-    };
-    Ok((row, rest))
+    let place = tokens.sign(Sign::LeftParen)?;
+    let values = sources(alloc, tokens, levels)?;
+    tokens.sign(Sign::RightParen)?;
+    Ok(Values { place, values })
 }
 
 /// `"," "(" source {"," source} ")"`
-#[tactic(auto, unfolding(crate::specs::SimpleReaders::next_values_read))]
-fn next_values(alloc: Global, tokens: &[Placed], levels: u32) -> Result<(Values, &[Placed]), Halt>
-    ensures exact { Gives (λ x. (x.0, x.1.now)) result (next_values_read levels tokens.now) }
-    ensures takes { IfOk result (λ x. length x.1.now < length tokens.now) }
+#[tactic(auto, using(psm_tree::proofs::Reading::steps), unfolding(psm_tree::specs::StatementGrammar::next_values))]
+fn next_values(alloc: Global, tokens: &mut Tokens, levels: u32) -> Result<Values, Halt>
+    ensures { Takes (reading levels next_values_part tokens.old.rest.now) result tokens.new.rest.now }
 {
-    let (_, rest) = expect_sign(tokens, Sign::Comma)?;
-    values(alloc, rest, levels)
+    tokens.sign(Sign::Comma)?;
+    values(alloc, tokens, levels)
 }
 
 /// `{"," values}`
-#[tactic(auto, unfolding(crate::specs::SimpleReaders::more_values_read))]
-fn more_values(
-    alloc: Global,
-    tokens: &[Placed],
-    levels: u32,
-) -> Result<(List<Values>, &[Placed]), Halt>
-    ensures exact { Gives (λ x. (x.0, x.1.now)) result (more_values_read levels tokens.now) }
-    ensures takes { IfOk result (λ x. length x.1.now ≤ length tokens.now) }
+#[tactic(auto, using(psm_tree::proofs::Repeating::turns, psm_tree::proofs::Firsts::first_next_values), unfolding(psm_tree::specs::StatementGrammar::more_values))]
+fn more_values(alloc: Global, tokens: &mut Tokens, levels: u32) -> Result<List<Values>, Halt>
+    ensures { Takes (reading levels more_values_part tokens.old.rest.now) result tokens.new.rest.now }
 {
     let mut rows = Vec::new(alloc);
-    let mut rest = tokens;
-    while at_sign(rest, Sign::Comma) {
-        let (row, next) = next_values(alloc, rest, levels)?;
+    for _turn in 0..tokens.left() {
+        if !tokens.at_sign(Sign::Comma) {
+            break;
+        }
+        let row = next_values(alloc, tokens, levels)?;
         rows.push(row)?;
-        rest = next;
     }
-    Ok((List::of(rows), rest))
+    Ok(List::of(rows))
+}
+
+/// `values {"," values}`
+#[tactic(auto, using(psm_tree::proofs::Reading::steps), unfolding(psm_tree::specs::StatementGrammar::all_values))]
+fn all_values(alloc: Global, tokens: &mut Tokens, levels: u32) -> Result<OneOrMore<Values>, Halt>
+    ensures { Takes (reading levels all_values_part tokens.old.rest.now) result tokens.new.rest.now }
+{
+    let first = values(alloc, tokens, levels)?;
+    let rest = more_values(alloc, tokens, levels)?;
+    Ok(OneOrMore::of(first, rest))
 }
 
 /// `VALUES values {"," values}`
-#[tactic(auto, unfolding(crate::specs::SimpleReaders::insert_values_read))]
+#[tactic(auto, using(psm_tree::proofs::Reading::steps), unfolding(psm_tree::specs::StatementGrammar::insert_values))]
 fn insert_values(
     alloc: Global,
-    tokens: &[Placed],
+    tokens: &mut Tokens,
     levels: u32,
-) -> Result<(InsertSource, &[Placed]), Halt>
-    ensures exact { Gives (λ x. (x.0, x.1.now)) result (insert_values_read levels tokens.now) }
-    ensures takes { IfOk result (λ x. length x.1.now < length tokens.now) }
+) -> Result<Boxed<InsertSource>, Halt>
+    ensures { Takes (reading levels insert_values_part tokens.old.rest.now) result tokens.new.rest.now }
 {
-    let (_, rest) = expect_word(tokens, Word::Values)?;
-    let (first, rest) = values(alloc, rest, levels)?;
-    let ((first, others), rest) = beside(first, more_values(alloc, rest, levels))?;
-    let source = InsertSource::Values {
-        first,
-        rest: others,
-    };
-    Ok((source, rest))
+    tokens.word(Word::Values)?;
+    let rows = all_values(alloc, tokens, levels)?;
+    Ok(Boxed::new(alloc, InsertSource::Values { rows })?)
 }
 
 /// `VALUES values {"," values} | select`
-#[tactic(auto, unfolding(crate::specs::SimpleReaders::insert_source_read))]
+#[tactic(auto, using(psm_tree::proofs::Reading::steps, psm_tree::proofs::Firsts::first_insert_values), unfolding(psm_tree::specs::StatementGrammar::insert_source))]
 fn insert_source(
     alloc: Global,
-    tokens: &[Placed],
+    tokens: &mut Tokens,
     levels: u32,
-) -> Result<(InsertSource, &[Placed]), Halt>
-    ensures exact { Gives (λ x. (x.0, x.1.now)) result (insert_source_read levels tokens.now) }
-    ensures takes { IfOk result (λ x. length x.1.now < length tokens.now) }
+) -> Result<Boxed<InsertSource>, Halt>
+    ensures { Takes (reading levels insert_source_part tokens.old.rest.now) result tokens.new.rest.now }
 {
-    if at_word(tokens, Word::Values) {
+    if tokens.at(Word::Values) {
         return insert_values(alloc, tokens, levels);
     }
-    let (query, rest) = select(alloc, tokens, levels)?;
-    Ok((InsertSource::Query(query), rest))
+    let query = select(alloc, tokens, levels)?;
+    Ok(Boxed::new(alloc, InsertSource::Query(query))?)
 }
 
 /// `INSERT INTO name [names] insert_source` (ISO/IEC 9075:1992, 13.8)
-#[tactic(auto, unfolding(crate::specs::SimpleReaders::insert_statement_read))]
-fn insert_statement(
-    alloc: Global,
-    tokens: &[Placed],
-    levels: u32,
-) -> Result<(Simple, &[Placed]), Halt>
-    ensures exact { Gives (λ x. (x.0, x.1.now)) result (insert_statement_read levels tokens.now) }
-    ensures takes { IfOk result (λ x. length x.1.now < length tokens.now) }
+#[tactic(auto, using(psm_tree::proofs::Reading::steps), unfolding(psm_tree::specs::StatementGrammar::insert_statement))]
+fn insert_statement(alloc: Global, tokens: &mut Tokens, levels: u32) -> Result<Boxed<Simple>, Halt>
+    ensures { Takes (reading levels insert_statement_part tokens.old.rest.now) result tokens.new.rest.now }
 {
-    let (place, rest) = expect_word(tokens, Word::Insert)?;
-    let (_, rest) = expect_word(rest, Word::Into)?;
-    let (table, rest) = expect_name(alloc, rest)?;
-    let ((table, columns), rest) = beside(table, perhaps_names(alloc, rest))?;
-    let (((table, columns), source), rest) = beside(
-        (table, columns),
-        insert_source(alloc, rest, levels),
-    )?;
+    let place = tokens.word(Word::Insert)?;
+    tokens.word(Word::Into)?;
+    let table = tokens.name(alloc)?;
+    let columns = perhaps_names(alloc, tokens, levels)?;
+    let source = insert_source(alloc, tokens, levels)?;
     let insert = Simple::Insert {
         place,
         table,
         columns,
         source,
     };
-    Ok((insert, rest))
+    Ok(Boxed::new(alloc, insert)?)
 }
 
 /// `name "=" source`
-#[tactic(auto, unfolding(crate::specs::SimpleReaders::assignment_read))]
-fn assignment(
-    alloc: Global,
-    tokens: &[Placed],
-    levels: u32,
-) -> Result<(Assignment, &[Placed]), Halt>
-    ensures exact { Gives (λ x. (x.0, x.1.now)) result (assignment_read levels tokens.now) }
-    ensures takes { IfOk result (λ x. length x.1.now < length tokens.now) }
+#[tactic(auto, using(psm_tree::proofs::Reading::steps), unfolding(psm_tree::specs::StatementGrammar::assignment))]
+fn assignment(alloc: Global, tokens: &mut Tokens, levels: u32) -> Result<Assignment, Halt>
+    ensures { Takes (reading levels assignment_part tokens.old.rest.now) result tokens.new.rest.now }
 {
-    let (column, rest) = expect_name(alloc, tokens)?;
-    let (column, rest) = before_sign(column, rest, Sign::Equal)?;
-    let ((column, source), rest) = beside(column, source(alloc, rest, levels))?;
-    Ok((Assignment { column, source }, rest))
+    let column = tokens.name(alloc)?;
+    tokens.sign(Sign::Equal)?;
+    let source = source(alloc, tokens, levels)?;
+    Ok(Assignment { column, source })
 }
 
 /// `"," name "=" source`
-#[tactic(auto, unfolding(crate::specs::SimpleReaders::next_assignment_read))]
-fn next_assignment(
-    alloc: Global,
-    tokens: &[Placed],
-    levels: u32,
-) -> Result<(Assignment, &[Placed]), Halt>
-    ensures exact { Gives (λ x. (x.0, x.1.now)) result (next_assignment_read levels tokens.now) }
-    ensures takes { IfOk result (λ x. length x.1.now < length tokens.now) }
+#[tactic(auto, using(psm_tree::proofs::Reading::steps), unfolding(psm_tree::specs::StatementGrammar::next_assignment))]
+fn next_assignment(alloc: Global, tokens: &mut Tokens, levels: u32) -> Result<Assignment, Halt>
+    ensures { Takes (reading levels next_assignment_part tokens.old.rest.now) result tokens.new.rest.now }
 {
-    let (_, rest) = expect_sign(tokens, Sign::Comma)?;
-    assignment(alloc, rest, levels)
+    tokens.sign(Sign::Comma)?;
+    assignment(alloc, tokens, levels)
 }
 
 /// `{"," assignment}`
-#[tactic(auto, unfolding(crate::specs::SimpleReaders::next_assignments_read))]
+#[tactic(auto, using(psm_tree::proofs::Repeating::turns, psm_tree::proofs::Firsts::first_next_assignment), unfolding(psm_tree::specs::StatementGrammar::next_assignments))]
 fn next_assignments(
     alloc: Global,
-    tokens: &[Placed],
+    tokens: &mut Tokens,
     levels: u32,
-) -> Result<(List<Assignment>, &[Placed]), Halt>
-    ensures exact { Gives (λ x. (x.0, x.1.now)) result (next_assignments_read levels tokens.now) }
-    ensures takes { IfOk result (λ x. length x.1.now ≤ length tokens.now) }
+) -> Result<List<Assignment>, Halt>
+    ensures { Takes (reading levels next_assignments_part tokens.old.rest.now) result tokens.new.rest.now }
 {
     let mut assignments = Vec::new(alloc);
-    let mut rest = tokens;
-    while at_sign(rest, Sign::Comma) {
-        let (assignment, next) = next_assignment(alloc, rest, levels)?;
+    for _turn in 0..tokens.left() {
+        if !tokens.at_sign(Sign::Comma) {
+            break;
+        }
+        let assignment = next_assignment(alloc, tokens, levels)?;
         assignments.push(assignment)?;
-        rest = next;
     }
-    Ok((List::of(assignments), rest))
+    Ok(List::of(assignments))
 }
 
 /// `SET assignment {"," assignment}`
-#[tactic(auto, unfolding(crate::specs::SimpleReaders::assignments_read))]
+#[tactic(auto, using(psm_tree::proofs::Reading::steps), unfolding(psm_tree::specs::StatementGrammar::assignments))]
 fn assignments(
     alloc: Global,
-    tokens: &[Placed],
+    tokens: &mut Tokens,
     levels: u32,
-) -> Result<((Assignment, List<Assignment>), &[Placed]), Halt>
-    ensures exact { Gives (λ x. (x.0, x.1.now)) result (assignments_read levels tokens.now) }
-    ensures takes { IfOk result (λ x. length x.1.now < length tokens.now) }
+) -> Result<OneOrMore<Assignment>, Halt>
+    ensures { Takes (reading levels assignments_part tokens.old.rest.now) result tokens.new.rest.now }
 {
-    let (_, rest) = expect_word(tokens, Word::Set)?;
-    let (first, rest) = assignment(alloc, rest, levels)?;
-    beside(first, next_assignments(alloc, rest, levels))
+    tokens.word(Word::Set)?;
+    let first = assignment(alloc, tokens, levels)?;
+    let rest = next_assignments(alloc, tokens, levels)?;
+    Ok(OneOrMore::of(first, rest))
 }
 
 /// `UPDATE name SET assignment {"," assignment} [where]` (ISO/IEC 9075:1992, 13.9 and 13.10)
-#[tactic(auto, unfolding(crate::specs::SimpleReaders::update_statement_read))]
-fn update_statement(
-    alloc: Global,
-    tokens: &[Placed],
-    levels: u32,
-) -> Result<(Simple, &[Placed]), Halt>
-    ensures exact { Gives (λ x. (x.0, x.1.now)) result (update_statement_read levels tokens.now) }
-    ensures takes { IfOk result (λ x. length x.1.now < length tokens.now) }
+#[tactic(auto, using(psm_tree::proofs::Reading::steps), unfolding(psm_tree::specs::StatementGrammar::update_statement))]
+fn update_statement(alloc: Global, tokens: &mut Tokens, levels: u32) -> Result<Boxed<Simple>, Halt>
+    ensures { Takes (reading levels update_statement_part tokens.old.rest.now) result tokens.new.rest.now }
 {
-    let (place, rest) = expect_word(tokens, Word::Update)?;
-    let (table, rest) = expect_name(alloc, rest)?;
-    let ((table, changes), rest) = beside(table, assignments(alloc, rest, levels))?;
-    let (((table, (first, others)), which), rest) = beside(
-        (table, changes),
-        perhaps_where(alloc, rest, levels),
-    )?;
+    let place = tokens.word(Word::Update)?;
+    let table = tokens.name(alloc)?;
+    let assignments = assignments(alloc, tokens, levels)?;
+    let which = perhaps_where(alloc, tokens, levels)?;
     let update = Simple::Update {
         place,
         table,
-        first,
-        rest: others,
+        assignments,
         which,
     };
-    Ok((update, rest))
+    Ok(Boxed::new(alloc, update)?)
 }
 
 /// `DELETE FROM name [where]` (ISO/IEC 9075:1992, 13.6 and 13.7)
-#[tactic(auto, unfolding(crate::specs::SimpleReaders::delete_statement_read))]
-fn delete_statement(
-    alloc: Global,
-    tokens: &[Placed],
-    levels: u32,
-) -> Result<(Simple, &[Placed]), Halt>
-    ensures exact { Gives (λ x. (x.0, x.1.now)) result (delete_statement_read levels tokens.now) }
-    ensures takes { IfOk result (λ x. length x.1.now < length tokens.now) }
+#[tactic(auto, using(psm_tree::proofs::Reading::steps), unfolding(psm_tree::specs::StatementGrammar::delete_statement))]
+fn delete_statement(alloc: Global, tokens: &mut Tokens, levels: u32) -> Result<Boxed<Simple>, Halt>
+    ensures { Takes (reading levels delete_statement_part tokens.old.rest.now) result tokens.new.rest.now }
 {
-    let (place, rest) = expect_word(tokens, Word::Delete)?;
-    let (_, rest) = expect_word(rest, Word::From)?;
-    let (table, rest) = expect_name(alloc, rest)?;
-    let ((table, which), rest) = beside(table, perhaps_where(alloc, rest, levels))?;
+    let place = tokens.word(Word::Delete)?;
+    tokens.word(Word::From)?;
+    let table = tokens.name(alloc)?;
+    let which = perhaps_where(alloc, tokens, levels)?;
     let delete = Simple::Delete {
         place,
         table,
         which,
     };
-    Ok((delete, rest))
+    Ok(Boxed::new(alloc, delete)?)
 }
 
 /// `SELECT picks INTO targets FROM from` (ISO/IEC 9075:1992, 13.5)
-#[tactic(auto, unfolding(crate::specs::SimpleReaders::select_statement_read))]
-fn select_statement(
-    alloc: Global,
-    tokens: &[Placed],
-    levels: u32,
-) -> Result<(Simple, &[Placed]), Halt>
-    ensures exact { Gives (λ x. (x.0, x.1.now)) result (select_statement_read levels tokens.now) }
-    ensures takes { IfOk result (λ x. length x.1.now < length tokens.now) }
+#[tactic(auto, using(psm_tree::proofs::Reading::steps), unfolding(psm_tree::specs::StatementGrammar::select_statement))]
+fn select_statement(alloc: Global, tokens: &mut Tokens, levels: u32) -> Result<Boxed<Simple>, Halt>
+    ensures { Takes (reading levels select_statement_part tokens.old.rest.now) result tokens.new.rest.now }
 {
-    let (place, rest) = expect_word(tokens, Word::Select)?;
-    let (picks, rest) = picks(alloc, rest, levels)?;
-    let (selected, rest) = beside(picks, into_targets(alloc, rest))?;
-    let (selected, rest) = before_word(selected, rest, Word::From)?;
-    let (((picks, targets), from), rest) = beside(selected, from_table(alloc, rest, levels))?;
-    let TableExpression {
-        table,
-        alias,
-        condition,
-    } = from;
-    let select = Simple::SelectInto {
+    let place = tokens.word(Word::Select)?;
+    let picks = picks(alloc, tokens, levels)?;
+    let targets = into_targets(alloc, tokens, levels)?;
+    tokens.word(Word::From)?;
+    let (table, alias, condition) = from_table(alloc, tokens, levels)?;
+    let query = Select {
         place,
         picks,
-        targets,
         table,
         alias,
         condition,
     };
-    Ok((select, rest))
+    let query = Boxed::new(alloc, query)?;
+    Ok(Boxed::new(alloc, Simple::SelectInto { query, targets })?)
 }
 
 /// A statement about cursors or tables.
-#[tactic(auto, unfolding(crate::specs::SimpleReaders::data_statement_read))]
+#[tactic(auto, using(psm_tree::proofs::Reading::steps, psm_tree::proofs::Firsts::first_select_statement, psm_tree::proofs::Firsts::first_insert_statement, psm_tree::proofs::Firsts::first_update_statement, psm_tree::proofs::Firsts::first_delete_statement, psm_tree::proofs::Firsts::first_open_statement, psm_tree::proofs::Firsts::first_fetch_statement), unfolding(psm_tree::specs::StatementGrammar::data_statement))]
 pub(crate) fn data_statement(
     alloc: Global,
-    tokens: &[Placed],
+    tokens: &mut Tokens,
     levels: u32,
-) -> Result<(Simple, &[Placed]), Halt>
-    ensures exact { Gives (λ x. (x.0, x.1.now)) result (data_statement_read levels tokens.now) }
-    ensures takes { IfOk result (λ x. length x.1.now < length tokens.now) }
+) -> Result<Boxed<Simple>, Halt>
+    ensures { Takes (reading levels data_statement_part tokens.old.rest.now) result tokens.new.rest.now }
 {
-    if at_word(tokens, Word::Select) {
+    if tokens.at(Word::Select) {
         return select_statement(alloc, tokens, levels);
     }
-    if at_word(tokens, Word::Insert) {
+    if tokens.at(Word::Insert) {
         return insert_statement(alloc, tokens, levels);
     }
-    if at_word(tokens, Word::Update) {
+    if tokens.at(Word::Update) {
         return update_statement(alloc, tokens, levels);
     }
-    if at_word(tokens, Word::Delete) {
+    if tokens.at(Word::Delete) {
         return delete_statement(alloc, tokens, levels);
     }
-    if at_word(tokens, Word::Open) {
-        return open_statement(alloc, tokens);
+    if tokens.at(Word::Open) {
+        return open_statement(alloc, tokens, levels);
     }
-    if at_word(tokens, Word::Fetch) {
-        return fetch_statement(alloc, tokens);
+    if tokens.at(Word::Fetch) {
+        return fetch_statement(alloc, tokens, levels);
     }
-    close_statement(alloc, tokens)
+    close_statement(alloc, tokens, levels)
 }

@@ -1,260 +1,256 @@
 //! Parts of declarations.
-ghost use Rattle.std.specs.Prelude.{◌≡◌, ◌<◌, ◌≤◌, length, IfOk};
-ghost use Rattle.psm_grammar.specs.Gives.{Gives};
-ghost use Rattle.psm_parse_stmt.specs.PartReaders.{atomic_read, for_cursor_part_read, for_state_read, handler_value_read, handler_values_read, insensitive_read, next_handler_value_read, next_handler_values_read, not_atomic_read, other_variables_read, perhaps_for_cursor_read, perhaps_state_read, perhaps_updatability_read, read_only_part_read, updatability_read};
+ghost use Rattle.std.specs.Prelude.{◌<◌, IfOk};
+ghost use Rattle.psm_grammar.specs.Forms.{optional};
 ghost use Rattle.psm_grammar.specs.Readers.{one};
-ghost use Rattle.psm_tree.specs.Kinds.{kind};
-ghost use Rattle.psm_tree.specs.Tests.{handler_kind};
-ghost use Rattle.psm_parse_stmt.specs.Items.{handler_kind_for, named_by};
+ghost use Rattle.psm_token.specs.Kinds.{kind};
+ghost use Rattle.psm_tree.specs.Readers.{Takes, TakesAs, opening, reading};
+ghost use Rattle.psm_tree.specs.StatementGrammar.{insensitive as insensitive_part, other_variables as other_variables_part, for_state as for_state_part, read_only_part, updatability as updatability_part, handler_value as handler_value_part, next_handler_value as next_handler_value_part, next_handler_values as next_handler_values_part, handler_values as handler_values_part, for_cursor_part, not_atomic as not_atomic_part, atomic as atomic_part};
+ghost use Rattle.psm_tree.specs.Tests.{handler_kind as handler_kind_test};
 
 use crate::parts::state;
 use psm_grammar::Halt;
-use psm_list::List;
-use psm_parse_token::{
-    at_name, at_sign, at_word, expect_name, expect_sign, expect_word, next_names,
-};
-use psm_token::{Place, Placed, Sign, Token, Word};
+use psm_list::{List, OneOrMore};
+use psm_parse_token::{Tokens, next_names};
+use psm_token::{Place, Sign, Word};
 use psm_tree::{ForCursor, HandlerKind, HandlerValue, Identifier, State, Updatability};
 use std::alloc::Global;
 
 /// `[INSENSITIVE]`
-#[tactic(auto, unfolding(crate::specs::PartReaders::insensitive_read))]
-pub(crate) fn insensitive(tokens: &[Placed]) -> Result<(bool, &[Placed]), Halt>
-    ensures exact { Gives (λ x. (x.0, x.1.now)) result (insensitive_read tokens.now) }
-    ensures takes { IfOk result (λ x. length x.1.now ≤ length tokens.now) }
+#[tactic(auto, using(psm_tree::proofs::Reading::steps), unfolding(psm_tree::specs::StatementGrammar::insensitive))]
+pub(crate) fn insensitive(tokens: &mut Tokens, levels: u32) -> Result<bool, Halt>
+    ensures { Takes (reading levels insensitive_part tokens.old.rest.now) result tokens.new.rest.now }
 {
-    if !at_word(tokens, Word::Insensitive) {
-        return Ok((false, tokens));
+    if !tokens.at(Word::Insensitive) {
+        return Ok(false);
     }
-    let (_, rest) = expect_word(tokens, Word::Insensitive)?;
-    Ok((true, rest))
+    tokens.word(Word::Insensitive)?;
+    Ok(true)
 }
 
 /// `"," name {"," name}`
-#[tactic(auto, unfolding(crate::specs::PartReaders::other_variables_read))]
+#[tactic(auto, using(psm_tree::proofs::Reading::steps), unfolding(psm_tree::specs::StatementGrammar::other_variables))]
 pub(crate) fn other_variables(
     alloc: Global,
-    tokens: &[Placed],
-) -> Result<(List<Identifier>, &[Placed]), Halt>
-    ensures exact { Gives (λ x. (x.0, x.1.now)) result (other_variables_read tokens.now) }
-    ensures takes { IfOk result (λ x. length x.1.now < length tokens.now) }
+    tokens: &mut Tokens,
+    levels: u32,
+) -> Result<List<Identifier>, Halt>
+    ensures { Takes (reading levels other_variables_part tokens.old.rest.now) result tokens.new.rest.now }
 {
-    let (_, rest) = expect_sign(tokens, Sign::Comma)?;
-    let (first, rest) = expect_name(alloc, rest)?;
-    let (others, rest) = next_names(alloc, rest)?;
+    tokens.sign(Sign::Comma)?;
+    let first = tokens.name(alloc)?;
+    let others = next_names(alloc, tokens, levels)?;
     let mut names = others.into_vec();
     names.insert(0, first)?;
-    Ok((List::of(names), rest))
+    Ok(List::of(names))
 }
 
 /// `FOR state`
-#[tactic(auto, unfolding(crate::specs::PartReaders::for_state_read))]
-fn for_state(alloc: Global, tokens: &[Placed]) -> Result<(State, &[Placed]), Halt>
-    ensures exact { Gives (λ x. (x.0, x.1.now)) result (for_state_read tokens.now) }
-    ensures takes { IfOk result (λ x. length x.1.now < length tokens.now) }
+#[tactic(auto, using(psm_tree::proofs::Reading::steps), unfolding(psm_tree::specs::StatementGrammar::for_state))]
+fn for_state(alloc: Global, tokens: &mut Tokens, levels: u32) -> Result<State, Halt>
+    ensures { Takes (reading levels for_state_part tokens.old.rest.now) result tokens.new.rest.now }
 {
-    let (_, rest) = expect_word(tokens, Word::For)?;
-    state(alloc, rest)
+    tokens.word(Word::For)?;
+    state(alloc, tokens, levels)
 }
 
 /// `[FOR state]`
-#[tactic(auto, unfolding(crate::specs::PartReaders::perhaps_state_read))]
+#[tactic(auto, using(psm_tree::proofs::Reading::steps, psm_tree::proofs::Firsts::first_for_state))]
 pub(crate) fn perhaps_state(
     alloc: Global,
-    tokens: &[Placed],
-) -> Result<(Option<State>, &[Placed]), Halt>
-    ensures exact { Gives (λ x. (x.0, x.1.now)) result (perhaps_state_read tokens.now) }
-    ensures takes { IfOk result (λ x. length x.1.now ≤ length tokens.now) }
+    tokens: &mut Tokens,
+    levels: u32,
+) -> Result<Option<State>, Halt>
+    ensures { Takes (reading levels (optional for_state_part) tokens.old.rest.now) result tokens.new.rest.now }
 {
-    if !at_word(tokens, Word::For) {
-        return Ok((None, tokens));
+    if !tokens.at(Word::For) {
+        return Ok(None);
     }
-    let (state, rest) = for_state(alloc, tokens)?;
-    Ok((Some(state), rest))
+    Ok(Some(for_state(alloc, tokens, levels)?))
 }
 
 /// `READ ONLY`
-#[tactic(auto, unfolding(crate::specs::PartReaders::read_only_part_read))]
-fn read_only(tokens: &[Placed]) -> Result<(Updatability, &[Placed]), Halt>
-    ensures exact { Gives (λ x. (x.0, x.1.now)) result (read_only_part_read tokens.now) }
-    ensures takes { IfOk result (λ x. length x.1.now < length tokens.now) }
+#[tactic(auto, using(psm_tree::proofs::Reading::steps), unfolding(psm_tree::specs::StatementGrammar::read_only_part))]
+fn read_only(tokens: &mut Tokens, levels: u32) -> Result<Updatability, Halt>
+    ensures { Takes (reading levels read_only_part tokens.old.rest.now) result tokens.new.rest.now }
 {
-    let (_, rest) = expect_word(tokens, Word::Read)?;
-    let (_, rest) = expect_word(rest, Word::Only)?;
-    Ok((Updatability::ReadOnly, rest))
+    tokens.word(Word::Read)?;
+    tokens.word(Word::Only)?;
+    Ok(Updatability::ReadOnly)
 }
 
 /// `FOR (READ ONLY | UPDATE)`
-#[tactic(auto, unfolding(crate::specs::PartReaders::updatability_read))]
-fn updatability(tokens: &[Placed]) -> Result<(Updatability, &[Placed]), Halt>
-    ensures exact { Gives (λ x. (x.0, x.1.now)) result (updatability_read tokens.now) }
-    ensures takes { IfOk result (λ x. length x.1.now < length tokens.now) }
+#[tactic(auto, using(psm_tree::proofs::Reading::steps, psm_tree::proofs::Firsts::first_read_only_part), unfolding(psm_tree::specs::StatementGrammar::updatability))]
+fn updatability(tokens: &mut Tokens, levels: u32) -> Result<Updatability, Halt>
+    ensures { Takes (reading levels updatability_part tokens.old.rest.now) result tokens.new.rest.now }
 {
-    let (_, rest) = expect_word(tokens, Word::For)?;
-    if at_word(rest, Word::Read) {
-        return read_only(rest);
+    tokens.word(Word::For)?;
+    if tokens.at(Word::Read) {
+        return read_only(tokens, levels);
     }
-    let (_, rest) = expect_word(rest, Word::Update)?;
-    Ok((Updatability::Update, rest))
+    tokens.word(Word::Update)?;
+    Ok(Updatability::Update)
 }
 
 /// `[FOR (READ ONLY | UPDATE)]`
-#[tactic(auto, unfolding(crate::specs::PartReaders::perhaps_updatability_read))]
+#[tactic(auto, using(psm_tree::proofs::Reading::steps, psm_tree::proofs::Firsts::first_updatability))]
 pub(crate) fn perhaps_updatability(
-    tokens: &[Placed],
-) -> Result<(Option<Updatability>, &[Placed]), Halt>
-    ensures exact { Gives (λ x. (x.0, x.1.now)) result (perhaps_updatability_read tokens.now) }
-    ensures takes { IfOk result (λ x. length x.1.now ≤ length tokens.now) }
+    tokens: &mut Tokens,
+    levels: u32,
+) -> Result<Option<Updatability>, Halt>
+    ensures { Takes (reading levels (optional updatability_part) tokens.old.rest.now) result tokens.new.rest.now }
 {
-    if !at_word(tokens, Word::For) {
-        return Ok((None, tokens));
+    if !tokens.at(Word::For) {
+        return Ok(None);
     }
-    let (updatability, rest) = updatability(tokens)?;
-    Ok((Some(updatability), rest))
+    Ok(Some(updatability(tokens, levels)?))
 }
 
 /// What a handler handles: a state, SQLEXCEPTION, SQLWARNING, NOT FOUND or the name of a condition.
-#[tactic(auto, unfolding(crate::specs::PartReaders::handler_value_read))]
-fn handler_value(alloc: Global, tokens: &[Placed]) -> Result<(HandlerValue, &[Placed]), Halt>
-    ensures exact { Gives (λ x. (x.0, x.1.now)) result (handler_value_read tokens.now) }
-    ensures takes { IfOk result (λ x. length x.1.now < length tokens.now) }
+#[tactic(auto, using(psm_tree::proofs::Reading::steps, psm_tree::proofs::Firsts::first_state), unfolding(psm_tree::specs::StatementGrammar::handler_value))]
+fn handler_value(alloc: Global, tokens: &mut Tokens, levels: u32) -> Result<HandlerValue, Halt>
+    ensures { Takes (reading levels handler_value_part tokens.old.rest.now) result tokens.new.rest.now }
 {
-    if at_word(tokens, Word::SqlState) {
-        let (state, rest) = state(alloc, tokens)?;
-        return Ok((HandlerValue::State(state), rest));
+    if tokens.at(Word::SqlState) {
+        return Ok(HandlerValue::State(state(alloc, tokens, levels)?));
     }
-    if at_word(tokens, Word::SqlException) {
-        let (place, rest) = expect_word(tokens, Word::SqlException)?;
-        return Ok((HandlerValue::SqlException { place }, rest));
+    if tokens.at(Word::SqlException) {
+        let place = tokens.word(Word::SqlException)?;
+        return Ok(HandlerValue::SqlException { place });
     }
-    if at_word(tokens, Word::SqlWarning) {
-        let (place, rest) = expect_word(tokens, Word::SqlWarning)?;
-        return Ok((HandlerValue::SqlWarning { place }, rest));
+    if tokens.at(Word::SqlWarning) {
+        let place = tokens.word(Word::SqlWarning)?;
+        return Ok(HandlerValue::SqlWarning { place });
     }
-    if at_word(tokens, Word::Not) {
-        let (place, rest) = expect_word(tokens, Word::Not)?;
-        let (_, rest) = expect_word(rest, Word::Found)?;
-        return Ok((HandlerValue::NotFound { place }, rest));
+    if tokens.at(Word::Not) {
+        let place = tokens.word(Word::Not)?;
+        tokens.word(Word::Found)?;
+        return Ok(HandlerValue::NotFound { place });
     }
-    let (name, rest) = expect_name(alloc, tokens)?;
-    Ok((HandlerValue::Name(name), rest))
+    Ok(HandlerValue::Name(tokens.name(alloc)?))
 }
 
 /// `"," value`
-#[tactic(auto, unfolding(crate::specs::PartReaders::next_handler_value_read))]
-fn next_handler_value(alloc: Global, tokens: &[Placed]) -> Result<(HandlerValue, &[Placed]), Halt>
-    ensures exact { Gives (λ x. (x.0, x.1.now)) result (next_handler_value_read tokens.now) }
-    ensures takes { IfOk result (λ x. length x.1.now < length tokens.now) }
+#[tactic(auto, using(psm_tree::proofs::Reading::steps), unfolding(psm_tree::specs::StatementGrammar::next_handler_value))]
+fn next_handler_value(alloc: Global, tokens: &mut Tokens, levels: u32) -> Result<HandlerValue, Halt>
+    ensures { Takes (reading levels next_handler_value_part tokens.old.rest.now) result tokens.new.rest.now }
 {
-    let (_, rest) = expect_sign(tokens, Sign::Comma)?;
-    handler_value(alloc, rest)
+    tokens.sign(Sign::Comma)?;
+    handler_value(alloc, tokens, levels)
 }
 
 /// `{"," value}`
-#[tactic(auto, unfolding(crate::specs::PartReaders::next_handler_values_read))]
+#[tactic(auto, using(psm_tree::proofs::Repeating::turns, psm_tree::proofs::Firsts::first_next_handler_value), unfolding(psm_tree::specs::StatementGrammar::next_handler_values))]
 fn next_handler_values(
     alloc: Global,
-    tokens: &[Placed],
-) -> Result<(List<HandlerValue>, &[Placed]), Halt>
-    ensures exact { Gives (λ x. (x.0, x.1.now)) result (next_handler_values_read tokens.now) }
-    ensures takes { IfOk result (λ x. length x.1.now ≤ length tokens.now) }
+    tokens: &mut Tokens,
+    levels: u32,
+) -> Result<List<HandlerValue>, Halt>
+    ensures { Takes (reading levels next_handler_values_part tokens.old.rest.now) result tokens.new.rest.now }
 {
     let mut values = Vec::new(alloc);
-    let mut rest = tokens;
-    while at_sign(rest, Sign::Comma) {
-        let (value, next) = next_handler_value(alloc, rest)?;
+    for _turn in 0..tokens.left() {
+        if !tokens.at_sign(Sign::Comma) {
+            break;
+        }
+        let value = next_handler_value(alloc, tokens, levels)?;
         values.push(value)?;
-        rest = next;
     }
-    Ok((List::of(values), rest))
+    Ok(List::of(values))
 }
 
 /// `value {"," value}`
-#[tactic(auto, unfolding(crate::specs::PartReaders::handler_values_read))]
+#[tactic(auto, using(psm_tree::proofs::Reading::steps), unfolding(psm_tree::specs::StatementGrammar::handler_values))]
 pub(crate) fn handler_values(
     alloc: Global,
-    tokens: &[Placed],
-) -> Result<((HandlerValue, List<HandlerValue>), &[Placed]), Halt>
-    ensures exact { Gives (λ x. (x.0, x.1.now)) result (handler_values_read tokens.now) }
-    ensures takes { IfOk result (λ x. length x.1.now < length tokens.now) }
+    tokens: &mut Tokens,
+    levels: u32,
+) -> Result<OneOrMore<HandlerValue>, Halt>
+    ensures { Takes (reading levels handler_values_part tokens.old.rest.now) result tokens.new.rest.now }
 {
-    let (first, rest) = handler_value(alloc, tokens)?;
-    let (others, rest) = next_handler_values(alloc, rest)?;
-    Ok(((first, others), rest))
+    let first = handler_value(alloc, tokens, levels)?;
+    let rest = next_handler_values(alloc, tokens, levels)?;
+    Ok(OneOrMore::of(first, rest))
 }
 
 /// `name [INSENSITIVE] CURSOR FOR`
-#[tactic(auto, unfolding(crate::specs::PartReaders::for_cursor_part_read))]
-fn for_cursor(alloc: Global, tokens: &[Placed]) -> Result<(ForCursor, &[Placed]), Halt>
-    ensures exact { Gives (λ x. (x.0, x.1.now)) result (for_cursor_part_read tokens.now) }
-    ensures takes { IfOk result (λ x. length x.1.now < length tokens.now) }
+#[tactic(auto, using(psm_tree::proofs::Reading::steps), unfolding(psm_tree::specs::StatementGrammar::for_cursor_part))]
+fn for_cursor(alloc: Global, tokens: &mut Tokens, levels: u32) -> Result<ForCursor, Halt>
+    ensures { Takes (reading levels for_cursor_part tokens.old.rest.now) result tokens.new.rest.now }
 {
-    let (name, rest) = expect_name(alloc, tokens)?;
-    let (insensitive, rest) = insensitive(rest)?;
-    let (_, rest) = expect_word(rest, Word::Cursor)?;
-    let (_, rest) = expect_word(rest, Word::For)?;
-    Ok((ForCursor { name, insensitive }, rest))
+    let name = tokens.name(alloc)?;
+    let insensitive = insensitive(tokens, levels)?;
+    tokens.word(Word::Cursor)?;
+    tokens.word(Word::For)?;
+    Ok(ForCursor { name, insensitive })
 }
 
 /// `[name [INSENSITIVE] CURSOR FOR]`
-#[tactic(auto, unfolding(crate::specs::PartReaders::perhaps_for_cursor_read))]
+#[tactic(auto, using(psm_tree::proofs::Reading::steps, psm_tree::proofs::Firsts::first_for_cursor_part))]
 pub(crate) fn perhaps_for_cursor(
     alloc: Global,
-    tokens: &[Placed],
-) -> Result<(Option<ForCursor>, &[Placed]), Halt>
-    ensures exact { Gives (λ x. (x.0, x.1.now)) result (perhaps_for_cursor_read tokens.now) }
-    ensures takes { IfOk result (λ x. length x.1.now ≤ length tokens.now) }
+    tokens: &mut Tokens,
+    levels: u32,
+) -> Result<Option<ForCursor>, Halt>
+    ensures { Takes (reading levels (optional for_cursor_part) tokens.old.rest.now) result tokens.new.rest.now }
 {
-    if !at_name(tokens) {
-        return Ok((None, tokens));
+    if !tokens.at_name() {
+        return Ok(None);
     }
-    let (cursor, rest) = for_cursor(alloc, tokens)?;
-    Ok((Some(cursor), rest))
+    Ok(Some(for_cursor(alloc, tokens, levels)?))
+}
+
+/// `NOT ATOMIC`
+#[tactic(auto, using(psm_tree::proofs::Reading::steps), unfolding(psm_tree::specs::StatementGrammar::not_atomic))]
+fn not_atomic(tokens: &mut Tokens, levels: u32) -> Result<bool, Halt>
+    ensures { Takes (reading levels not_atomic_part tokens.old.rest.now) result tokens.new.rest.now }
+{
+    tokens.word(Word::Not)?;
+    tokens.word(Word::Atomic)?;
+    Ok(false)
 }
 
 /// `[[NOT] ATOMIC]`, and whether it is ATOMIC.
-#[tactic(auto, unfolding(crate::specs::PartReaders::atomic_read, crate::specs::PartReaders::not_atomic_read))]
-pub(crate) fn atomic(tokens: &[Placed]) -> Result<(bool, &[Placed]), Halt>
-    ensures exact { Gives (λ x. (x.0, x.1.now)) result (atomic_read tokens.now) }
-    ensures takes { IfOk result (λ x. length x.1.now ≤ length tokens.now) }
+#[tactic(auto, using(psm_tree::proofs::Reading::steps, psm_tree::proofs::Firsts::first_not_atomic), unfolding(psm_tree::specs::StatementGrammar::atomic))]
+pub(crate) fn atomic(tokens: &mut Tokens, levels: u32) -> Result<bool, Halt>
+    ensures { Takes (reading levels atomic_part tokens.old.rest.now) result tokens.new.rest.now }
 {
-    if at_word(tokens, Word::Atomic) {
-        let (_, rest) = expect_word(tokens, Word::Atomic)?;
-        return Ok((true, rest));
+    if tokens.at(Word::Atomic) {
+        tokens.word(Word::Atomic)?;
+        return Ok(true);
     }
-    if at_word(tokens, Word::Not) {
-        let (_, rest) = expect_word(tokens, Word::Not)?;
-        let (_, rest) = expect_word(rest, Word::Atomic)?;
-        return Ok((false, rest));
+    if tokens.at(Word::Not) {
+        return not_atomic(tokens, levels);
     }
-    Ok((false, tokens))
+    Ok(false)
 }
 
-/// The kind of a handler that a token names.
-fn handler_kind_of(token: &Token) -> Option<HandlerKind>
-    ensures { result ≡ named_by handler_kind_for token.now }
+/// Takes `CONTINUE`, `EXIT` or `UNDO`, with its place.
+fn handler_kind(tokens: &mut Tokens) -> Result<(Place, HandlerKind), Halt>
+    ensures { TakesAs (λ x. record { place = x.0; value = x.1 }) (one kind handler_kind_test tokens.old.rest.now) result tokens.new.rest.now }
 {
-    match token {
-        Token::Word(Word::Continue) => Some(HandlerKind::Continue),
-        Token::Word(Word::Exit) => Some(HandlerKind::Exit),
-        Token::Word(Word::Undo) => Some(HandlerKind::Undo),
-        _ => None,
+    if tokens.at(Word::Exit) {
+        return Ok((tokens.word(Word::Exit)?, HandlerKind::Exit));
     }
+    if tokens.at(Word::Undo) {
+        return Ok((tokens.word(Word::Undo)?, HandlerKind::Undo));
+    }
+    Ok((tokens.word(Word::Continue)?, HandlerKind::Continue))
 }
 
-/// `CONTINUE | EXIT | UNDO`, with its place.
-#[tactic(auto, using(crate::proofs::Items::handler_kind_chosen))]
-pub(crate) fn expect_handler_kind(
-    tokens: &[Placed],
-) -> Result<(Place, HandlerKind, &[Placed]), Halt>
-    ensures exact { Gives (λ x. (record { place = x.0; value = x.1 }, x.2.now)) result (one kind handler_kind tokens.now) }
-    ensures takes { IfOk result (λ x. length x.2.now < length tokens.now) }
+/// Takes the kind of a handler, which opens a level, and gives its place, the kind and the number of levels
+/// below it; `Deep` at the kind where no level is left.
+#[tactic(auto, using(psm_tree::proofs::Reading::opening_none, psm_tree::proofs::Reading::opening_some))]
+pub(crate) fn open_handler(
+    tokens: &mut Tokens,
+    levels: u32,
+) -> Result<((Place, HandlerKind), u32), Halt>
+    ensures taken { TakesAs (λ x. (record { place = x.0.0; value = x.0.1 }, x.1)) (opening levels handler_kind_test tokens.old.rest.now) result tokens.new.rest.now }
+    ensures below { IfOk result (λ o. o.1 < levels) }
 {
-    match tokens {
-        [] => Err(Halt::Syntax(0)),
-        [first, rest @ ..] => match handler_kind_of(&first.token) {
-            Some(kind) => Ok((first.place, kind, rest)),
-            None => Err(Halt::Syntax(tokens.len())),
-        },
+    let opening = tokens.left();
+    let kind = handler_kind(tokens)?;
+    if levels == 0 {
+        return Err(Halt::Deep(opening));
     }
+    Ok((kind, levels - 1))
 }

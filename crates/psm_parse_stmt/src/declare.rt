@@ -1,19 +1,17 @@
 //! The declarations of a block (ISO/IEC 9075-4:1996, compound statement).
-ghost use Rattle.std.specs.Prelude.{◌≡◌, ◌<◌, ◌≤◌, ◌+◌, length, IfOk};
-ghost use Rattle.psm_grammar.specs.Gives.{Gives};
-ghost use Rattle.psm_parse_stmt.specs.StatementReaders.{statement_read};
-ghost use Rattle.psm_parse_stmt.specs.Declaring.{GivesHeads, declaration_item_read, declared_item_read, handler_item_read, phase_of};
+ghost use Rattle.psm_tree.specs.Readers.{Takes, TakesAs, reading};
+ghost use Rattle.psm_tree.specs.StatementGrammar.{handler_rest as handler_rest_part};
+ghost use Rattle.psm_parse_stmt.specs.Declaring.{TakesHeads, declaration_item, declared_item, handler_item, phase_of};
 
-use crate::declaration::{expect_handler_kind, handler_values};
+use crate::declaration::{handler_values, open_handler};
 use crate::item::{Heads, Item, Stage};
-use crate::level::level_below;
-use crate::named::named;
+use crate::named::{named, named_cursor};
 use crate::statements::statement;
 use psm_grammar::Halt;
-use psm_list::Boxed;
-use psm_parse_token::{at_one_of, at_word, before_sign, beside, expect_word};
-use psm_token::{Place, Placed, Sign, Word};
-use psm_tree::{Handler, Statement};
+use psm_list::{Boxed, OneOrMore};
+use psm_parse_token::Tokens;
+use psm_token::{Place, Sign, Word};
+use psm_tree::{Handler, HandlerValue, Statement};
 use std::alloc::Global;
 
 /// The kinds of handlers.
@@ -21,13 +19,9 @@ const HANDLER_WORDS: [Word; 3] = [Word::Continue, Word::Exit, Word::Undo];
 
 /// The declarations of a block: variables and conditions, then cursors, then handlers.
 #[cycle(statements)]
-pub(crate) fn declarations(
-    alloc: Global,
-    tokens: &[Placed],
-    levels: u32,
-) -> Result<(Heads, &[Placed]), Halt>
-    ensures exact { GivesHeads (λ x. (x.0, x.1.now)) result levels tokens.now }
-    ensures takes { IfOk result (λ x. length x.1.now ≤ length tokens.now) }
+#[tactic(auto, using(crate::proofs::Declaring::declaring))]
+pub(crate) fn declarations(alloc: Global, tokens: &mut Tokens, levels: u32) -> Result<Heads, Halt>
+    ensures { TakesHeads levels tokens.old.rest.now result tokens.new.rest.now }
 {
     let mut heads = Heads {
         declarations: Vec::new(alloc),
@@ -35,58 +29,53 @@ pub(crate) fn declarations(
         handlers: Vec::new(alloc),
     };
     let mut stage = Stage::Declarations;
-    let mut rest = tokens;
-    while at_word(rest, Word::Declare) {
-        let (item, next) = declaration(alloc, rest, levels, stage)?;
+    for _turn in 0..tokens.left() {
+        if !tokens.at(Word::Declare) {
+            break;
+        }
+        let item = declaration(alloc, tokens, levels, stage)?;
         stage = item.stage_behind();
         heads.add(item)?;
-        rest = next;
     }
-    Ok((heads, rest))
+    Ok(heads)
 }
 
 /// `DECLARE`, what is declared and `";"`.
 #[cycle(statements)]
-#[tactic(auto, unfolding(crate::specs::Declaring::declaration_item_read))]
-fn declaration(
-    alloc: Global,
-    tokens: &[Placed],
-    levels: u32,
-    stage: Stage,
-) -> Result<(Item, &[Placed]), Halt>
-    ensures exact { Gives (λ x. (x.0, x.1.now)) result (declaration_item_read (phase_of stage) levels tokens.now) }
-    ensures takes { IfOk result (λ x. length x.1.now + 1 < length tokens.now) }
+#[tactic(auto, using(psm_tree::proofs::Reading::steps), unfolding(crate::specs::Declaring::declaration_item))]
+fn declaration(alloc: Global, tokens: &mut Tokens, levels: u32, stage: Stage) -> Result<Item, Halt>
+    ensures { Takes (declaration_item (phase_of stage) levels tokens.old.rest.now) result tokens.new.rest.now }
 {
-    let (place, rest) = expect_word(tokens, Word::Declare)?;
-    let (item, rest) = declared(alloc, place, rest, levels, stage)?;
-    before_sign(item, rest, Sign::Semicolon)
+    let place = tokens.word(Word::Declare)?;
+    let item = declared(alloc, place, tokens, levels, stage)?;
+    tokens.sign(Sign::Semicolon)?;
+    Ok(item)
 }
 
 /// What stands behind DECLARE: at the last stage a handler alone.
 #[cycle(statements)]
-#[tactic(auto, unfolding(crate::specs::Declaring::declared_item_read))]
+#[tactic(auto, using(psm_tree::proofs::Reading::steps), unfolding(crate::specs::Declaring::declared_item))]
 fn declared(
     alloc: Global,
     place: Place,
-    tokens: &[Placed],
+    tokens: &mut Tokens,
     levels: u32,
     stage: Stage,
-) -> Result<(Item, &[Placed]), Halt>
-    ensures exact { Gives (λ x. (x.0, x.1.now)) result (declared_item_read place (phase_of stage) levels tokens.now) }
-    ensures takes { IfOk result (λ x. length x.1.now < length tokens.now) }
+) -> Result<Item, Halt>
+    ensures { Takes (reading levels (declared_item place (phase_of stage)) tokens.old.rest.now) result tokens.new.rest.now }
 {
     match stage {
         Stage::Declarations => {
-            if at_one_of(tokens, &HANDLER_WORDS) {
+            if tokens.at_one_of(&HANDLER_WORDS) {
                 return handler(alloc, place, tokens, levels);
             }
-            named(alloc, place, tokens, levels, Stage::Declarations)
+            named(alloc, place, tokens, levels)
         }
         Stage::Cursors => {
-            if at_one_of(tokens, &HANDLER_WORDS) {
+            if tokens.at_one_of(&HANDLER_WORDS) {
                 return handler(alloc, place, tokens, levels);
             }
-            named(alloc, place, tokens, levels, Stage::Cursors)
+            named_cursor(alloc, place, tokens, levels)
         }
         Stage::Handlers => handler(alloc, place, tokens, levels),
     }
@@ -94,44 +83,35 @@ fn declared(
 
 /// `(CONTINUE | EXIT | UNDO) HANDLER FOR value {"," value} statement`
 #[cycle(statements)]
-#[tactic(auto, using(crate::proofs::Blocks::handler_part), unfolding(crate::specs::Declaring::handler_item_read, crate::specs::StatementReaders::handler_rest_read))]
-fn handler(
-    alloc: Global,
-    place: Place,
-    tokens: &[Placed],
-    levels: u32,
-) -> Result<(Item, &[Placed]), Halt>
-    ensures exact { Gives (λ x. (x.0, x.1.now)) result (handler_item_read place levels tokens.now) }
-    ensures takes { IfOk result (λ x. length x.1.now < length tokens.now) }
+#[tactic(auto, using(psm_tree::proofs::Reading::steps))]
+fn handler(alloc: Global, place: Place, tokens: &mut Tokens, levels: u32) -> Result<Item, Halt>
+    ensures { Takes (reading levels (handler_item place) tokens.old.rest.now) result tokens.new.rest.now }
 {
-    let (at, kind, rest) = expect_handler_kind(tokens)?;
-    let left = level_below(tokens, levels)?;
-    let (_, rest) = expect_word(rest, Word::Handler)?;
-    let (_, rest) = expect_word(rest, Word::For)?;
-    let (values, rest) = handler_values(alloc, rest)?;
-    let ((values, action), rest) = beside(values, boxed_statement(alloc, rest, left))?;
-    let (first, others) = values;
+    let ((at, kind), levels) = open_handler(tokens, levels)?;
+    let (values, action) = handler_rest(alloc, tokens, levels)?;
     let handler = Handler {
         place,
         at,
         kind,
-        first,
-        rest: others,
+        values,
         action,
     };
-    Ok((Item::Handler(handler), rest))
+    Ok(Item::Handler(Boxed::new(alloc, handler)?))
 }
 
-/// A statement on the heap.
+/// `HANDLER FOR value {"," value} statement`
 #[cycle(statements)]
-fn boxed_statement(
+#[tactic(auto, using(psm_tree::proofs::Reading::steps), unfolding(psm_tree::specs::StatementGrammar::handler_rest))]
+fn handler_rest(
     alloc: Global,
-    tokens: &[Placed],
+    tokens: &mut Tokens,
     levels: u32,
-) -> Result<(Boxed<Statement>, &[Placed]), Halt>
-    ensures exact { Gives (λ x. (x.0, x.1.now)) result (statement_read levels tokens.now) }
-    ensures takes { IfOk result (λ x. length x.1.now < length tokens.now) }
+) -> Result<(OneOrMore<HandlerValue>, Boxed<Statement>), Halt>
+    ensures { TakesAs (λ x. record { values = x.0; action = x.1 }) (reading levels handler_rest_part tokens.old.rest.now) result tokens.new.rest.now }
 {
-    let (statement, rest) = statement(alloc, tokens, levels)?;
-    Ok((Boxed::new(alloc, statement)?, rest))
+    tokens.word(Word::Handler)?;
+    tokens.word(Word::For)?;
+    let values = handler_values(alloc, tokens, levels)?;
+    let action = statement(alloc, tokens, levels)?;
+    Ok((values, action))
 }

@@ -1,269 +1,258 @@
 //! GET DIAGNOSTICS (ISO/IEC 9075:1992, 18.1).
-ghost use Rattle.std.specs.Prelude.{◌≡◌, ◌<◌, ◌≤◌, length, IfOk};
-ghost use Rattle.psm_grammar.specs.Gives.{Gives};
-ghost use Rattle.psm_parse_stmt.specs.PartReaders.{condition_info_read, condition_number_read, diagnostics_read, diagnostics_statement_read, exception_diagnostics_read, next_condition_info_read, next_condition_infos_read, next_statement_info_read, next_statement_infos_read, statement_diagnostics_read, statement_info_read};
 ghost use Rattle.psm_grammar.specs.Readers.{one};
-ghost use Rattle.psm_tree.specs.Kinds.{kind};
-ghost use Rattle.psm_tree.specs.Tests.{statement_item, condition_item, exception_word};
-ghost use Rattle.psm_parse_stmt.specs.Items.{statement_item_for, condition_item_for, named_by};
+ghost use Rattle.psm_token.specs.Kinds.{kind};
+ghost use Rattle.psm_tree.specs.Readers.{Takes, TakesAs, reading};
+ghost use Rattle.psm_tree.specs.StatementGrammar.{statement_info as statement_info_part, next_statement_info as next_statement_info_part, next_statement_infos as next_statement_infos_part, statement_infos as statement_infos_part, condition_info as condition_info_part, next_condition_info as next_condition_info_part, next_condition_infos as next_condition_infos_part, condition_infos as condition_infos_part, condition_number as condition_number_part, exception_diagnostics as exception_diagnostics_part, diagnostics as diagnostics_part, diagnostics_statement as diagnostics_statement_part};
+ghost use Rattle.psm_tree.specs.Tests.{statement_item as statement_item_test, condition_item as condition_item_test};
 
 use psm_grammar::Halt;
-use psm_list::List;
-use psm_parse_token::{
-    at_number, at_one_of, at_sign, at_word, expect_number, expect_sign, expect_word, target,
-};
-use psm_token::{Place, Placed, Sign, Token, Word};
+use psm_list::{Boxed, List, OneOrMore};
+use psm_parse_token::{Tokens, target};
+use psm_token::{Place, Sign, Word};
 use psm_tree::{
-    ConditionInformation, ConditionItem, ConditionNumber, Diagnostics, Simple,
+    ConditionInformation, ConditionItem, ConditionNumber, Diagnostics, DiagnosticsArea, Simple,
     StatementInformation, StatementItem,
 };
 use std::alloc::Global;
 
-/// The item of a statement that a word names.
-fn statement_item_of(token: &Token) -> Option<StatementItem>
-    ensures { result ≡ named_by statement_item_for token.now }
+/// The words before the number of a condition, which mean the same.
+const EXCEPTION_WORDS: [Word; 2] = [Word::Exception, Word::Condition];
+
+/// Takes `NUMBER`, `MORE` or `ROW_COUNT`, with its place.
+fn statement_item(tokens: &mut Tokens) -> Result<(Place, StatementItem), Halt>
+    ensures { TakesAs (λ x. record { place = x.0; value = x.1 }) (one kind statement_item_test tokens.old.rest.now) result tokens.new.rest.now }
 {
-    match token {
-        Token::Word(Word::Number) => Some(StatementItem::Number),
-        Token::Word(Word::More) => Some(StatementItem::More),
-        Token::Word(Word::RowCount) => Some(StatementItem::RowCount),
-        _ => None,
+    if tokens.at(Word::More) {
+        return Ok((tokens.word(Word::More)?, StatementItem::More));
     }
+    if tokens.at(Word::RowCount) {
+        return Ok((tokens.word(Word::RowCount)?, StatementItem::RowCount));
+    }
+    Ok((tokens.word(Word::Number)?, StatementItem::Number))
 }
 
-/// The item of a condition that a word names.
-fn condition_item_of(token: &Token) -> Option<ConditionItem>
-    ensures { result ≡ named_by condition_item_for token.now }
+/// Takes the word of an item of a condition, with its place.
+fn condition_item(tokens: &mut Tokens) -> Result<(Place, ConditionItem), Halt>
+    ensures { TakesAs (λ x. record { place = x.0; value = x.1 }) (one kind condition_item_test tokens.old.rest.now) result tokens.new.rest.now }
 {
-    match token {
-        Token::Word(Word::ConditionNumber) => Some(ConditionItem::ConditionNumber),
-        Token::Word(Word::ReturnedSqlState) => Some(ConditionItem::ReturnedSqlState),
-        Token::Word(Word::ConditionIdentifier) => Some(ConditionItem::ConditionIdentifier),
-        Token::Word(Word::MessageText) => Some(ConditionItem::MessageText),
-        Token::Word(Word::MessageLength) => Some(ConditionItem::MessageLength),
-        Token::Word(Word::TableName) => Some(ConditionItem::TableName),
-        Token::Word(Word::CursorName) => Some(ConditionItem::CursorName),
-        _ => None,
+    if tokens.at(Word::ReturnedSqlState) {
+        let place = tokens.word(Word::ReturnedSqlState)?;
+        return Ok((place, ConditionItem::ReturnedSqlState));
     }
+    if tokens.at(Word::ConditionIdentifier) {
+        let place = tokens.word(Word::ConditionIdentifier)?;
+        return Ok((place, ConditionItem::ConditionIdentifier));
+    }
+    if tokens.at(Word::MessageText) {
+        return Ok((tokens.word(Word::MessageText)?, ConditionItem::MessageText));
+    }
+    if tokens.at(Word::MessageLength) {
+        let place = tokens.word(Word::MessageLength)?;
+        return Ok((place, ConditionItem::MessageLength));
+    }
+    if tokens.at(Word::TableName) {
+        return Ok((tokens.word(Word::TableName)?, ConditionItem::TableName));
+    }
+    if tokens.at(Word::CursorName) {
+        return Ok((tokens.word(Word::CursorName)?, ConditionItem::CursorName));
+    }
+    let place = tokens.word(Word::ConditionNumber)?;
+    Ok((place, ConditionItem::ConditionNumber))
 }
 
-/// `NUMBER | MORE | ROW_COUNT`, with its place.
-#[tactic(auto, using(crate::proofs::Items::statement_item_chosen))]
-fn expect_statement_item(tokens: &[Placed]) -> Result<(Place, StatementItem, &[Placed]), Halt>
-    ensures exact { Gives (λ x. (record { place = x.0; value = x.1 }, x.2.now)) result (one kind statement_item tokens.now) }
-    ensures takes { IfOk result (λ x. length x.2.now < length tokens.now) }
-{
-    match tokens {
-        [] => Err(Halt::Syntax(0)),
-        [first, rest @ ..] => match statement_item_of(&first.token) {
-            Some(item) => Ok((first.place, item, rest)),
-            None => Err(Halt::Syntax(tokens.len())),
-        },
-    }
-}
-
-/// `CONDITION_NUMBER | .. | CURSOR_NAME`, with its place.
-#[tactic(auto, using(crate::proofs::Items::condition_item_chosen))]
-fn expect_condition_item(tokens: &[Placed]) -> Result<(Place, ConditionItem, &[Placed]), Halt>
-    ensures exact { Gives (λ x. (record { place = x.0; value = x.1 }, x.2.now)) result (one kind condition_item tokens.now) }
-    ensures takes { IfOk result (λ x. length x.2.now < length tokens.now) }
-{
-    match tokens {
-        [] => Err(Halt::Syntax(0)),
-        [first, rest @ ..] => match condition_item_of(&first.token) {
-            Some(item) => Ok((first.place, item, rest)),
-            None => Err(Halt::Syntax(tokens.len())),
-        },
-    }
-}
-
-/// `EXCEPTION | CONDITION`
-fn expect_exception(tokens: &[Placed]) -> Result<(Place, &[Placed]), Halt>
-    ensures exact { Gives (λ x. (x.0, x.1.now)) result (one kind exception_word tokens.now) }
-    ensures takes { IfOk result (λ x. length x.1.now < length tokens.now) }
-{
-    if at_word(tokens, Word::Exception) {
-        return expect_word(tokens, Word::Exception);
-    }
-    expect_word(tokens, Word::Condition)
-}
-
-/// `target "=" item`
-#[tactic(auto, unfolding(crate::specs::PartReaders::statement_info_read))]
+/// `target "=" (NUMBER | MORE | ROW_COUNT)`
+#[tactic(auto, using(psm_tree::proofs::Reading::steps), unfolding(psm_tree::specs::StatementGrammar::statement_info))]
 fn statement_info(
     alloc: Global,
-    tokens: &[Placed],
-) -> Result<(StatementInformation, &[Placed]), Halt>
-    ensures exact { Gives (λ x. (x.0, x.1.now)) result (statement_info_read tokens.now) }
-    ensures takes { IfOk result (λ x. length x.1.now < length tokens.now) }
+    tokens: &mut Tokens,
+    levels: u32,
+) -> Result<StatementInformation, Halt>
+    ensures { Takes (reading levels statement_info_part tokens.old.rest.now) result tokens.new.rest.now }
 {
-    let (target, rest) = target(alloc, tokens)?;
-    let (_, rest) = expect_sign(rest, Sign::Equal)?;
-    let (place, item, rest) = expect_statement_item(rest)?;
+    let target = target(alloc, tokens, levels)?;
+    tokens.sign(Sign::Equal)?;
+    let (place, item) = statement_item(tokens)?;
     let information = StatementInformation {
         target,
         place,
         item,
     };
-    Ok((information, rest))
+    Ok(information)
 }
 
 /// `"," target "=" item`
-#[tactic(auto, unfolding(crate::specs::PartReaders::next_statement_info_read))]
+#[tactic(auto, using(psm_tree::proofs::Reading::steps), unfolding(psm_tree::specs::StatementGrammar::next_statement_info))]
 fn next_statement_info(
     alloc: Global,
-    tokens: &[Placed],
-) -> Result<(StatementInformation, &[Placed]), Halt>
-    ensures exact { Gives (λ x. (x.0, x.1.now)) result (next_statement_info_read tokens.now) }
-    ensures takes { IfOk result (λ x. length x.1.now < length tokens.now) }
+    tokens: &mut Tokens,
+    levels: u32,
+) -> Result<StatementInformation, Halt>
+    ensures { Takes (reading levels next_statement_info_part tokens.old.rest.now) result tokens.new.rest.now }
 {
-    let (_, rest) = expect_sign(tokens, Sign::Comma)?;
-    statement_info(alloc, rest)
+    tokens.sign(Sign::Comma)?;
+    statement_info(alloc, tokens, levels)
 }
 
 /// `{"," target "=" item}`
-#[tactic(auto, unfolding(crate::specs::PartReaders::next_statement_infos_read))]
+#[tactic(auto, using(psm_tree::proofs::Repeating::turns, psm_tree::proofs::Firsts::first_next_statement_info), unfolding(psm_tree::specs::StatementGrammar::next_statement_infos))]
 fn next_statement_infos(
     alloc: Global,
-    tokens: &[Placed],
-) -> Result<(List<StatementInformation>, &[Placed]), Halt>
-    ensures exact { Gives (λ x. (x.0, x.1.now)) result (next_statement_infos_read tokens.now) }
-    ensures takes { IfOk result (λ x. length x.1.now ≤ length tokens.now) }
+    tokens: &mut Tokens,
+    levels: u32,
+) -> Result<List<StatementInformation>, Halt>
+    ensures { Takes (reading levels next_statement_infos_part tokens.old.rest.now) result tokens.new.rest.now }
 {
     let mut informations = Vec::new(alloc);
-    let mut rest = tokens;
-    while at_sign(rest, Sign::Comma) {
-        let (information, next) = next_statement_info(alloc, rest)?;
+    for _turn in 0..tokens.left() {
+        if !tokens.at_sign(Sign::Comma) {
+            break;
+        }
+        let information = next_statement_info(alloc, tokens, levels)?;
         informations.push(information)?;
-        rest = next;
     }
-    Ok((List::of(informations), rest))
+    Ok(List::of(informations))
 }
 
-/// `target "=" item`
-#[tactic(auto, unfolding(crate::specs::PartReaders::condition_info_read))]
+/// `target "=" item {"," target "=" item}`
+#[tactic(auto, using(psm_tree::proofs::Reading::steps), unfolding(psm_tree::specs::StatementGrammar::statement_infos))]
+fn statement_infos(
+    alloc: Global,
+    tokens: &mut Tokens,
+    levels: u32,
+) -> Result<OneOrMore<StatementInformation>, Halt>
+    ensures { Takes (reading levels statement_infos_part tokens.old.rest.now) result tokens.new.rest.now }
+{
+    let first = statement_info(alloc, tokens, levels)?;
+    let rest = next_statement_infos(alloc, tokens, levels)?;
+    Ok(OneOrMore::of(first, rest))
+}
+
+/// `target "=" (CONDITION_NUMBER | .. | CURSOR_NAME)`
+#[tactic(auto, using(psm_tree::proofs::Reading::steps), unfolding(psm_tree::specs::StatementGrammar::condition_info))]
 fn condition_info(
     alloc: Global,
-    tokens: &[Placed],
-) -> Result<(ConditionInformation, &[Placed]), Halt>
-    ensures exact { Gives (λ x. (x.0, x.1.now)) result (condition_info_read tokens.now) }
-    ensures takes { IfOk result (λ x. length x.1.now < length tokens.now) }
+    tokens: &mut Tokens,
+    levels: u32,
+) -> Result<ConditionInformation, Halt>
+    ensures { Takes (reading levels condition_info_part tokens.old.rest.now) result tokens.new.rest.now }
 {
-    let (target, rest) = target(alloc, tokens)?;
-    let (_, rest) = expect_sign(rest, Sign::Equal)?;
-    let (place, item, rest) = expect_condition_item(rest)?;
+    let target = target(alloc, tokens, levels)?;
+    tokens.sign(Sign::Equal)?;
+    let (place, item) = condition_item(tokens)?;
     let information = ConditionInformation {
         target,
         place,
         item,
     };
-    Ok((information, rest))
+    Ok(information)
 }
 
 /// `"," target "=" item`
-#[tactic(auto, unfolding(crate::specs::PartReaders::next_condition_info_read))]
+#[tactic(auto, using(psm_tree::proofs::Reading::steps), unfolding(psm_tree::specs::StatementGrammar::next_condition_info))]
 fn next_condition_info(
     alloc: Global,
-    tokens: &[Placed],
-) -> Result<(ConditionInformation, &[Placed]), Halt>
-    ensures exact { Gives (λ x. (x.0, x.1.now)) result (next_condition_info_read tokens.now) }
-    ensures takes { IfOk result (λ x. length x.1.now < length tokens.now) }
+    tokens: &mut Tokens,
+    levels: u32,
+) -> Result<ConditionInformation, Halt>
+    ensures { Takes (reading levels next_condition_info_part tokens.old.rest.now) result tokens.new.rest.now }
 {
-    let (_, rest) = expect_sign(tokens, Sign::Comma)?;
-    condition_info(alloc, rest)
+    tokens.sign(Sign::Comma)?;
+    condition_info(alloc, tokens, levels)
 }
 
 /// `{"," target "=" item}`
-#[tactic(auto, unfolding(crate::specs::PartReaders::next_condition_infos_read))]
+#[tactic(auto, using(psm_tree::proofs::Repeating::turns, psm_tree::proofs::Firsts::first_next_condition_info), unfolding(psm_tree::specs::StatementGrammar::next_condition_infos))]
 fn next_condition_infos(
     alloc: Global,
-    tokens: &[Placed],
-) -> Result<(List<ConditionInformation>, &[Placed]), Halt>
-    ensures exact { Gives (λ x. (x.0, x.1.now)) result (next_condition_infos_read tokens.now) }
-    ensures takes { IfOk result (λ x. length x.1.now ≤ length tokens.now) }
+    tokens: &mut Tokens,
+    levels: u32,
+) -> Result<List<ConditionInformation>, Halt>
+    ensures { Takes (reading levels next_condition_infos_part tokens.old.rest.now) result tokens.new.rest.now }
 {
     let mut informations = Vec::new(alloc);
-    let mut rest = tokens;
-    while at_sign(rest, Sign::Comma) {
-        let (information, next) = next_condition_info(alloc, rest)?;
+    for _turn in 0..tokens.left() {
+        if !tokens.at_sign(Sign::Comma) {
+            break;
+        }
+        let information = next_condition_info(alloc, tokens, levels)?;
         informations.push(information)?;
-        rest = next;
     }
-    Ok((List::of(informations), rest))
+    Ok(List::of(informations))
+}
+
+/// `target "=" item {"," target "=" item}`
+#[tactic(auto, using(psm_tree::proofs::Reading::steps), unfolding(psm_tree::specs::StatementGrammar::condition_infos))]
+fn condition_infos(
+    alloc: Global,
+    tokens: &mut Tokens,
+    levels: u32,
+) -> Result<OneOrMore<ConditionInformation>, Halt>
+    ensures { Takes (reading levels condition_infos_part tokens.old.rest.now) result tokens.new.rest.now }
+{
+    let first = condition_info(alloc, tokens, levels)?;
+    let rest = next_condition_infos(alloc, tokens, levels)?;
+    Ok(OneOrMore::of(first, rest))
 }
 
 /// `number | target`
-#[tactic(auto, unfolding(crate::specs::PartReaders::condition_number_read))]
-fn condition_number(alloc: Global, tokens: &[Placed]) -> Result<(ConditionNumber, &[Placed]), Halt>
-    ensures exact { Gives (λ x. (x.0, x.1.now)) result (condition_number_read tokens.now) }
-    ensures takes { IfOk result (λ x. length x.1.now < length tokens.now) }
+#[tactic(auto, using(psm_tree::proofs::Reading::steps), unfolding(psm_tree::specs::StatementGrammar::condition_number))]
+fn condition_number(
+    alloc: Global,
+    tokens: &mut Tokens,
+    levels: u32,
+) -> Result<ConditionNumber, Halt>
+    ensures { Takes (reading levels condition_number_part tokens.old.rest.now) result tokens.new.rest.now }
 {
-    if at_number(tokens) {
-        return match expect_number(tokens) {
-            Ok((place, number, rest)) => Ok((ConditionNumber::Number { place, number }, rest)),
-            Err(halt) => Err(halt),
-        };
+    if tokens.at_number() {
+        let (place, number) = tokens.number()?;
+        return Ok(ConditionNumber::Number { place, number });
     }
-    let (target, rest) = target(alloc, tokens)?;
-    Ok((ConditionNumber::Target(target), rest))
+    Ok(ConditionNumber::Target(target(alloc, tokens, levels)?))
 }
 
 /// `(EXCEPTION | CONDITION) number information {"," information}`
-#[tactic(auto, unfolding(crate::specs::PartReaders::exception_diagnostics_read))]
-fn exception_diagnostics(alloc: Global, tokens: &[Placed]) -> Result<(Diagnostics, &[Placed]), Halt>
-    ensures exact { Gives (λ x. (x.0, x.1.now)) result (exception_diagnostics_read tokens.now) }
-    ensures takes { IfOk result (λ x. length x.1.now < length tokens.now) }
+#[tactic(auto, using(psm_tree::proofs::Reading::steps), unfolding(psm_tree::specs::StatementGrammar::exception_diagnostics))]
+fn exception_diagnostics(
+    alloc: Global,
+    tokens: &mut Tokens,
+    levels: u32,
+) -> Result<Boxed<Diagnostics>, Halt>
+    ensures { Takes (reading levels exception_diagnostics_part tokens.old.rest.now) result tokens.new.rest.now }
 {
-    let (_, rest) = expect_exception(tokens)?;
-    let (number, rest) = condition_number(alloc, rest)?;
-    let (first, rest) = condition_info(alloc, rest)?;
-    let (others, rest) = next_condition_infos(alloc, rest)?;
-    let diagnostics = Diagnostics::Condition {
-        number,
-        first,
-        rest: others,
-    };
-    Ok((diagnostics, rest))
+    tokens.one_of(&EXCEPTION_WORDS)?;
+    let number = condition_number(alloc, tokens, levels)?;
+    let items = condition_infos(alloc, tokens, levels)?;
+    Ok(Boxed::new(alloc, Diagnostics::Condition { number, items })?)
 }
 
-/// `information {"," information}`
-#[tactic(auto, unfolding(crate::specs::PartReaders::statement_diagnostics_read))]
-fn statement_diagnostics(alloc: Global, tokens: &[Placed]) -> Result<(Diagnostics, &[Placed]), Halt>
-    ensures exact { Gives (λ x. (x.0, x.1.now)) result (statement_diagnostics_read tokens.now) }
-    ensures takes { IfOk result (λ x. length x.1.now < length tokens.now) }
+/// What stands behind DIAGNOSTICS: `information {"," information}`, or with EXCEPTION and a number.
+#[tactic(auto, using(psm_tree::proofs::Reading::steps, psm_tree::proofs::Firsts::first_exception_diagnostics), unfolding(psm_tree::specs::StatementGrammar::diagnostics))]
+fn diagnostics(alloc: Global, tokens: &mut Tokens, levels: u32) -> Result<Boxed<Diagnostics>, Halt>
+    ensures { Takes (reading levels diagnostics_part tokens.old.rest.now) result tokens.new.rest.now }
 {
-    let (first, rest) = statement_info(alloc, tokens)?;
-    let (others, rest) = next_statement_infos(alloc, rest)?;
-    let diagnostics = Diagnostics::Statement {
-        first,
-        rest: others,
-    };
-    Ok((diagnostics, rest))
+    if tokens.at_one_of(&EXCEPTION_WORDS) {
+        return exception_diagnostics(alloc, tokens, levels);
+    }
+    let items = statement_infos(alloc, tokens, levels)?;
+    Ok(Boxed::new(alloc, Diagnostics::Statement { items })?)
 }
 
-/// `GET DIAGNOSTICS information {"," information}`, or with EXCEPTION and a number (ISO/IEC 9075:1992, 18.1)
-#[tactic(auto, unfolding(crate::specs::PartReaders::diagnostics_statement_read))]
+/// `GET DIAGNOSTICS diagnostics` (ISO/IEC 9075:1992, 18.1)
+#[tactic(auto, using(psm_tree::proofs::Reading::steps), unfolding(psm_tree::specs::StatementGrammar::diagnostics_statement))]
 pub(crate) fn diagnostics_statement(
     alloc: Global,
-    tokens: &[Placed],
-) -> Result<(Simple, &[Placed]), Halt>
-    ensures exact { Gives (λ x. (x.0, x.1.now)) result (diagnostics_statement_read tokens.now) }
-    ensures takes { IfOk result (λ x. length x.1.now < length tokens.now) }
+    tokens: &mut Tokens,
+    levels: u32,
+) -> Result<Boxed<Simple>, Halt>
+    ensures { Takes (reading levels diagnostics_statement_part tokens.old.rest.now) result tokens.new.rest.now }
 {
-    let (place, rest) = expect_word(tokens, Word::Get)?;
-    let (_, rest) = expect_word(rest, Word::Diagnostics)?;
-    let (diagnostics, rest) = items(alloc, rest)?;
-    Ok((Simple::GetDiagnostics { place, diagnostics }, rest))
-}
-
-/// What stands behind DIAGNOSTICS.
-#[tactic(auto, unfolding(crate::specs::PartReaders::diagnostics_read))]
-fn items(alloc: Global, tokens: &[Placed]) -> Result<(Diagnostics, &[Placed]), Halt>
-    ensures exact { Gives (λ x. (x.0, x.1.now)) result (diagnostics_read tokens.now) }
-    ensures takes { IfOk result (λ x. length x.1.now < length tokens.now) }
-{
-    if at_one_of(tokens, &[Word::Exception, Word::Condition]) {
-        return exception_diagnostics(alloc, tokens);
-    }
-    statement_diagnostics(alloc, tokens)
+    let place = tokens.word(Word::Get)?;
+    tokens.word(Word::Diagnostics)?;
+    let diagnostics = diagnostics(alloc, tokens, levels)?;
+    let get = Simple::GetDiagnostics {
+        place,
+        which: DiagnosticsArea::Current,
+        diagnostics,
+    };
+    Ok(Boxed::new(alloc, get)?)
 }

@@ -1,15 +1,16 @@
 //! The declarations of a block while it is read.
 ghost use Rattle.std.specs.Prelude.{◌≡◌, IfOk};
 
+use psm_list::Boxed;
 use psm_tree::{CursorDeclaration, Declaration, Handler};
 use std::alloc::AllocError;
 
 /// A declaration.
 #[derive(Drop)]
 pub(crate) enum Item {
-    Declaration(Declaration),
-    Cursor(CursorDeclaration),
-    Handler(Handler),
+    Declaration(Boxed<Declaration>),
+    Cursor(Boxed<CursorDeclaration>),
+    Handler(Boxed<Handler>),
 }
 
 /// Which declarations may still come in a block: all, all but variables and conditions, or handlers alone.
@@ -23,9 +24,9 @@ pub(crate) enum Stage {
 /// The declarations of a block that were read.
 #[derive(Drop)]
 pub(crate) struct Heads {
-    pub declarations: Vec<Declaration>,
-    pub cursors: Vec<CursorDeclaration>,
-    pub handlers: Vec<Handler>,
+    pub declarations: Vec<Boxed<Declaration>>,
+    pub cursors: Vec<Boxed<CursorDeclaration>>,
+    pub handlers: Vec<Boxed<Handler>>,
 }
 
 impl Item {

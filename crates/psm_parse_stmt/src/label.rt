@@ -1,51 +1,56 @@
-//! Statements about labels (ISO/IEC 9075-4:1996, LEAVE and ITERATE).
-ghost use Rattle.std.specs.Prelude.{◌≡◌, ◌<◌, ◌≤◌, length, IfOk};
-ghost use Rattle.psm_grammar.specs.Gives.{Gives};
-ghost use Rattle.psm_parse_stmt.specs.PartReaders.{end_label_read, iterate_statement_read, leave_statement_read};
+//! Labels, and statements about them (ISO/IEC 9075-4:1996, leave and iterate statements).
+ghost use Rattle.psm_grammar.specs.Forms.{optional};
+ghost use Rattle.psm_grammar.specs.Grammar.{token};
+ghost use Rattle.psm_tree.specs.Readers.{Takes, reading};
+ghost use Rattle.psm_tree.specs.StatementGrammar.{leave_statement as leave_statement_part, iterate_statement as iterate_statement_part};
+ghost use Rattle.psm_tree.specs.Tests.{name as name_test};
 
 use psm_grammar::Halt;
-use psm_parse_token::{at_name, expect_name, expect_word};
-use psm_token::{Placed, Word};
+use psm_list::Boxed;
+use psm_parse_token::Tokens;
+use psm_token::Word;
 use psm_tree::{Identifier, Simple};
 use std::alloc::Global;
 
 /// `LEAVE name`
-#[tactic(auto, unfolding(crate::specs::PartReaders::leave_statement_read))]
-pub(crate) fn leave_statement(alloc: Global, tokens: &[Placed]) -> Result<(Simple, &[Placed]), Halt>
-    ensures exact { Gives (λ x. (x.0, x.1.now)) result (leave_statement_read tokens.now) }
-    ensures takes { IfOk result (λ x. length x.1.now < length tokens.now) }
+#[tactic(auto, using(psm_tree::proofs::Reading::steps), unfolding(psm_tree::specs::StatementGrammar::leave_statement))]
+pub(crate) fn leave_statement(
+    alloc: Global,
+    tokens: &mut Tokens,
+    levels: u32,
+) -> Result<Boxed<Simple>, Halt>
+    ensures { Takes (reading levels leave_statement_part tokens.old.rest.now) result tokens.new.rest.now }
 {
-    let (place, rest) = expect_word(tokens, Word::Leave)?;
-    let (label, rest) = expect_name(alloc, rest)?;
-    Ok((Simple::Leave { place, label }, rest))
+    let place = tokens.word(Word::Leave)?;
+    let label = tokens.name(alloc)?;
+    Ok(Boxed::new(alloc, Simple::Leave { place, label })?)
 }
 
 /// `ITERATE name`
-#[tactic(auto, unfolding(crate::specs::PartReaders::iterate_statement_read))]
+#[tactic(auto, using(psm_tree::proofs::Reading::steps), unfolding(psm_tree::specs::StatementGrammar::iterate_statement))]
 pub(crate) fn iterate_statement(
     alloc: Global,
-    tokens: &[Placed],
-) -> Result<(Simple, &[Placed]), Halt>
-    ensures exact { Gives (λ x. (x.0, x.1.now)) result (iterate_statement_read tokens.now) }
-    ensures takes { IfOk result (λ x. length x.1.now < length tokens.now) }
+    tokens: &mut Tokens,
+    levels: u32,
+) -> Result<Boxed<Simple>, Halt>
+    ensures { Takes (reading levels iterate_statement_part tokens.old.rest.now) result tokens.new.rest.now }
 {
-    let (place, rest) = expect_word(tokens, Word::Iterate)?;
-    let (label, rest) = expect_name(alloc, rest)?;
-    Ok((Simple::Iterate { place, label }, rest))
+    let place = tokens.word(Word::Iterate)?;
+    let label = tokens.name(alloc)?;
+    Ok(Boxed::new(alloc, Simple::Iterate { place, label })?)
 }
 
 /// `[name]`, the label behind END.
-#[tactic(auto, unfolding(crate::specs::PartReaders::end_label_read))]
+#[tactic(auto, using(psm_tree::proofs::Reading::steps))]
 pub(crate) fn end_label(
     alloc: Global,
-    tokens: &[Placed],
-) -> Result<(Option<Identifier>, &[Placed]), Halt>
-    ensures exact { Gives (λ x. (x.0, x.1.now)) result (end_label_read tokens.now) }
-    ensures takes { IfOk result (λ x. length x.1.now ≤ length tokens.now) }
+    tokens: &mut Tokens,
+    levels: u32,
+) -> Result<Option<Identifier>, Halt>
+    ensures { Takes (reading levels (optional (token name_test)) tokens.old.rest.now) result tokens.new.rest.now }
 {
-    if !at_name(tokens) {
-        return Ok((None, tokens));
+    if !tokens.at_name() {
+        return Ok(None);
     }
-    let (label, rest) = expect_name(alloc, tokens)?;
-    Ok((Some(label), rest))
+    Ok(Some(tokens.name(alloc)?))
 }

@@ -1,10 +1,9 @@
 //! Statements, blocks, declarations and handlers (ISO/IEC 9075-4:1996).
 //!
-//! Each function answers what the reader of its production answers (`Gives`, psm_grammar), and takes a
-//! token where it answers a value. A `Halt` holds the number of tokens that are left at the fault.
+//! Each function takes what the reader of its production takes (`Takes`, psm_tree). A `Halt` holds the
+//! number of tokens that are left at the fault.
 #![tactic(auto)]
 
-mod block;
 mod branch;
 mod compound;
 mod condition;
@@ -15,7 +14,6 @@ mod declare;
 mod diagnostics;
 mod item;
 mod label;
-mod level;
 mod loops;
 mod named;
 mod parse;

@@ -1,166 +1,175 @@
 //! What stands behind DECLARE and a name (ISO/IEC 9075-4:1996, declarations; ISO/IEC 9075:1992, 13.1).
-ghost use Rattle.std.specs.Prelude.{◌≡◌, ◌<◌, ◌≤◌, length, IfOk};
-ghost use Rattle.psm_grammar.specs.Gives.{Gives};
+ghost use Rattle.psm_grammar.specs.Forms.{optional};
 ghost use Rattle.psm_grammar.specs.Readers.{made};
-ghost use Rattle.psm_tree.specs.Parts.{Cursor};
-ghost use Rattle.psm_tree.specs.StatementValues.{variables_of};
-ghost use Rattle.psm_parse_stmt.specs.PartReaders.{condition_rest_read};
-ghost use Rattle.psm_parse_stmt.specs.StatementReaders.{cursor_rest_read, declaration_rest_read, perhaps_default_read, typed_read, variables_rest_read};
-ghost use Rattle.psm_parse_stmt.specs.Declaring.{named_item, named_item_read, phase_of};
+ghost use Rattle.psm_tree.specs.Parts.{Condition, Cursor, Variables};
+ghost use Rattle.psm_tree.specs.Readers.{Takes, TakesAs, reading};
+ghost use Rattle.psm_tree.specs.StatementGrammar.{default_source as default_source_part, typed as typed_part, declaration_rest as declaration_rest_part, cursor_rest as cursor_rest_part};
+ghost use Rattle.psm_parse_stmt.specs.Declaring.{any_rest as any_rest_part, condition_rest as condition_rest_part, named as named_part, named_item, variables_rest as variables_rest_part};
 
 use crate::condition::ordered_select;
 use crate::declaration::{insensitive, other_variables, perhaps_state, perhaps_updatability};
-use crate::item::{Item, Stage};
+use crate::item::Item;
 use psm_grammar::Halt;
-use psm_list::List;
+use psm_list::{Boxed, List, OneOrMore};
 use psm_parse_expr::source;
-use psm_parse_token::{
-    at_one_of, at_sign, at_word, before_word, beside, data_type, expect_name, expect_word,
-};
-use psm_token::{Place, Placed, Sign, Word};
+use psm_parse_token::{Tokens, data_type};
+use psm_token::{Place, Sign, Word};
 use psm_tree::{
-    CursorDeclaration, DataType, Declaration, Expr, Identifier, Names, OrderedQuery, Updatability,
+    CursorDeclaration, DataType, Declaration, Expr, Identifier, OrderedQuery, State, Updatability,
 };
 use std::alloc::Global;
 
 /// The words that stand behind the name of a cursor.
 const CURSOR_WORDS: [Word; 2] = [Word::Insensitive, Word::Cursor];
 
+/// `DEFAULT source`
+#[tactic(auto, using(psm_tree::proofs::Reading::steps), unfolding(psm_tree::specs::StatementGrammar::default_source))]
+fn default_source(alloc: Global, tokens: &mut Tokens, levels: u32) -> Result<Boxed<Expr>, Halt>
+    ensures { Takes (reading levels default_source_part tokens.old.rest.now) result tokens.new.rest.now }
+{
+    tokens.word(Word::Default)?;
+    source(alloc, tokens, levels)
+}
+
 /// `[DEFAULT source]`
-#[tactic(auto, unfolding(crate::specs::StatementReaders::perhaps_default_read, crate::specs::StatementReaders::default_source_read))]
+#[tactic(auto, using(psm_tree::proofs::Reading::steps, psm_tree::proofs::Firsts::first_default_source))]
 fn perhaps_default(
     alloc: Global,
-    tokens: &[Placed],
+    tokens: &mut Tokens,
     levels: u32,
-) -> Result<(Option<Expr>, &[Placed]), Halt>
-    ensures exact { Gives (λ x. (x.0, x.1.now)) result (perhaps_default_read levels tokens.now) }
-    ensures takes { IfOk result (λ x. length x.1.now ≤ length tokens.now) }
+) -> Result<Option<Boxed<Expr>>, Halt>
+    ensures { Takes (reading levels (optional default_source_part) tokens.old.rest.now) result tokens.new.rest.now }
 {
-    if !at_word(tokens, Word::Default) {
-        return Ok((None, tokens));
+    if !tokens.at(Word::Default) {
+        return Ok(None);
     }
-    let (_, rest) = expect_word(tokens, Word::Default)?;
-    let (source, rest) = source(alloc, rest, levels)?;
-    Ok((Some(source), rest))
+    Ok(Some(default_source(alloc, tokens, levels)?))
 }
 
 /// `type [DEFAULT source]`
-#[tactic(auto, unfolding(crate::specs::StatementReaders::typed_read))]
+#[tactic(auto, using(psm_tree::proofs::Reading::steps), unfolding(psm_tree::specs::StatementGrammar::typed))]
 fn typed(
     alloc: Global,
-    tokens: &[Placed],
+    tokens: &mut Tokens,
     levels: u32,
-) -> Result<((DataType, Option<Expr>), &[Placed]), Halt>
-    ensures exact { Gives (λ x. (x.0, x.1.now)) result (typed_read levels tokens.now) }
-    ensures takes { IfOk result (λ x. length x.1.now < length tokens.now) }
+) -> Result<(DataType, Option<Boxed<Expr>>), Halt>
+    ensures { Takes (reading levels typed_part tokens.old.rest.now) result tokens.new.rest.now }
 {
-    match data_type(tokens) {
-        Ok((kind, rest)) => {
-            let (default, rest) = perhaps_default(alloc, rest, levels)?;
-            Ok(((kind, default), rest))
-        }
-        Err(halt) => Err(halt),
-    }
+    let kind = data_type(tokens, levels)?;
+    let default = perhaps_default(alloc, tokens, levels)?;
+    Ok((kind, default))
 }
 
 /// `{"," name} type [DEFAULT source]`, behind the first name.
-#[tactic(auto, unfolding(crate::specs::StatementReaders::variables_rest_read))]
+#[tactic(auto, using(psm_tree::proofs::Reading::steps), unfolding(psm_tree::specs::StatementGrammar::typed, psm_tree::specs::StatementGrammar::other_variables))]
 fn variables_rest(
     alloc: Global,
-    tokens: &[Placed],
+    tokens: &mut Tokens,
     levels: u32,
-) -> Result<((List<Identifier>, (DataType, Option<Expr>)), &[Placed]), Halt>
-    ensures exact { Gives (λ x. (variables_of x.0.0 x.0.1, x.1.now)) result (variables_rest_read levels tokens.now) }
-    ensures takes { IfOk result (λ x. length x.1.now < length tokens.now) }
+) -> Result<(List<Identifier>, DataType, Option<Boxed<Expr>>), Halt>
+    ensures { TakesAs (λ x. Variables x.0 x.1 x.2) (reading levels variables_rest_part tokens.old.rest.now) result tokens.new.rest.now }
 {
-    if at_sign(tokens, Sign::Comma) {
-        let (others, rest) = other_variables(alloc, tokens)?;
-        return beside(others, typed(alloc, rest, levels));
+    if tokens.at_sign(Sign::Comma) {
+        let others = other_variables(alloc, tokens, levels)?;
+        let (kind, default) = typed(alloc, tokens, levels)?;
+        return Ok((others, kind, default));
     }
-    let (typed, rest) = typed(alloc, tokens, levels)?;
-    Ok(((List::of(Vec::new(alloc)), typed), rest))
+    let (kind, default) = typed(alloc, tokens, levels)?;
+    Ok((List::of(Vec::new(alloc)), kind, default))
+}
+
+/// Variables, behind the name of the first of them.
+#[tactic(auto, using(psm_tree::proofs::Reading::steps))]
+fn variables(
+    alloc: Global,
+    place: Place,
+    name: Identifier,
+    tokens: &mut Tokens,
+    levels: u32,
+) -> Result<Item, Halt>
+    ensures { Takes (made (named_item place name) (reading levels variables_rest_part) tokens.old.rest.now) result tokens.new.rest.now }
+{
+    let (others, kind, default) = variables_rest(alloc, tokens, levels)?;
+    let variables = Declaration::Variables {
+        place,
+        names: OneOrMore::of(name, others),
+        kind,
+        default,
+    };
+    Ok(Item::Declaration(Boxed::new(alloc, variables)?))
 }
 
 /// `CONDITION [FOR state]`, behind its name.
-#[tactic(auto, unfolding(crate::specs::PartReaders::condition_rest_read))]
+#[tactic(auto, using(psm_tree::proofs::Reading::steps))]
+fn condition_rest(alloc: Global, tokens: &mut Tokens, levels: u32) -> Result<Option<State>, Halt>
+    ensures { TakesAs (λ x. Condition x) (reading levels condition_rest_part tokens.old.rest.now) result tokens.new.rest.now }
+{
+    tokens.word(Word::Condition)?;
+    perhaps_state(alloc, tokens, levels)
+}
+
+/// A condition, behind its name.
+#[tactic(auto, using(psm_tree::proofs::Reading::steps))]
 fn condition(
     alloc: Global,
     place: Place,
     name: Identifier,
-    tokens: &[Placed],
-) -> Result<(Item, &[Placed]), Halt>
-    ensures exact { Gives (λ x. (x.0, x.1.now)) result (made (named_item place name) condition_rest_read tokens.now) }
-    ensures takes { IfOk result (λ x. length x.1.now < length tokens.now) }
+    tokens: &mut Tokens,
+    levels: u32,
+) -> Result<Item, Halt>
+    ensures { Takes (made (named_item place name) (reading levels condition_rest_part) tokens.old.rest.now) result tokens.new.rest.now }
 {
-    let (name, rest) = before_word(name, tokens, Word::Condition)?;
-    let ((name, state), rest) = beside(name, perhaps_state(alloc, rest))?;
+    let state = condition_rest(alloc, tokens, levels)?;
     let condition = Declaration::Condition { place, name, state };
-    Ok((Item::Declaration(condition), rest))
+    Ok(Item::Declaration(Boxed::new(alloc, condition)?))
 }
 
 /// What declares variables or a condition, behind the first name.
-#[tactic(auto, unfolding(crate::specs::StatementReaders::declaration_rest_read))]
+#[tactic(auto, using(psm_tree::proofs::Reading::steps), unfolding(psm_tree::specs::StatementGrammar::declaration_rest))]
 fn declaration_rest(
     alloc: Global,
     place: Place,
     name: Identifier,
-    tokens: &[Placed],
+    tokens: &mut Tokens,
     levels: u32,
-) -> Result<(Item, &[Placed]), Halt>
-    ensures exact { Gives (λ x. (x.0, x.1.now)) result (made (named_item place name) (declaration_rest_read levels) tokens.now) }
-    ensures takes { IfOk result (λ x. length x.1.now < length tokens.now) }
+) -> Result<Item, Halt>
+    ensures { Takes (made (named_item place name) (reading levels declaration_rest_part) tokens.old.rest.now) result tokens.new.rest.now }
 {
-    if at_word(tokens, Word::Condition) {
-        return condition(alloc, place, name, tokens);
+    if tokens.at(Word::Condition) {
+        return condition(alloc, place, name, tokens, levels);
     }
-    let ((name, (others, (kind, default))), rest) = beside(
-        name,
-        variables_rest(alloc, tokens, levels),
-    )?;
-    let names = Names {
-        first: name,
-        rest: others,
-    };
-    let variables = Declaration::Variables {
-        place,
-        names,
-        kind,
-        default,
-    };
-    Ok((Item::Declaration(variables), rest))
+    variables(alloc, place, name, tokens, levels)
 }
 
 /// `[INSENSITIVE] CURSOR FOR select [order] [FOR (READ ONLY | UPDATE)]`, behind its name.
-#[tactic(auto, unfolding(crate::specs::StatementReaders::cursor_rest_read, crate::specs::StatementReaders::cursor_query_read))]
+#[tactic(auto, using(psm_tree::proofs::Reading::steps), unfolding(psm_tree::specs::StatementGrammar::cursor_rest, psm_tree::specs::StatementGrammar::cursor_query))]
 fn cursor_rest(
     alloc: Global,
-    tokens: &[Placed],
+    tokens: &mut Tokens,
     levels: u32,
-) -> Result<((bool, OrderedQuery, Option<Updatability>), &[Placed]), Halt>
-    ensures exact { Gives (λ x. (Cursor x.0.0 x.0.1 x.0.2, x.1.now)) result (cursor_rest_read levels tokens.now) }
-    ensures takes { IfOk result (λ x. length x.1.now < length tokens.now) }
+) -> Result<(bool, OrderedQuery, Option<Updatability>), Halt>
+    ensures { TakesAs (λ x. Cursor x.0 x.1 x.2) (reading levels cursor_rest_part tokens.old.rest.now) result tokens.new.rest.now }
 {
-    let (insensitive, rest) = insensitive(tokens)?;
-    let (_, rest) = expect_word(rest, Word::Cursor)?;
-    let (_, rest) = expect_word(rest, Word::For)?;
-    let (query, rest) = ordered_select(alloc, rest, levels)?;
-    let ((query, updatability), rest) = beside(query, perhaps_updatability(rest))?;
-    Ok(((insensitive, query, updatability), rest))
+    let insensitive = insensitive(tokens, levels)?;
+    tokens.word(Word::Cursor)?;
+    tokens.word(Word::For)?;
+    let query = ordered_select(alloc, tokens, levels)?;
+    let updatability = perhaps_updatability(tokens, levels)?;
+    Ok((insensitive, query, updatability))
 }
 
 /// A cursor, behind its name.
+#[tactic(auto, using(psm_tree::proofs::Reading::steps))]
 fn cursor(
     alloc: Global,
     place: Place,
     name: Identifier,
-    tokens: &[Placed],
+    tokens: &mut Tokens,
     levels: u32,
-) -> Result<(Item, &[Placed]), Halt>
-    ensures exact { Gives (λ x. (x.0, x.1.now)) result (made (named_item place name) (cursor_rest_read levels) tokens.now) }
-    ensures takes { IfOk result (λ x. length x.1.now < length tokens.now) }
+) -> Result<Item, Halt>
+    ensures { Takes (made (named_item place name) (reading levels cursor_rest_part) tokens.old.rest.now) result tokens.new.rest.now }
 {
-    let ((name, cursor), rest) = beside(name, cursor_rest(alloc, tokens, levels))?;
-    let (insensitive, query, updatability) = cursor;
+    let (insensitive, query, updatability) = cursor_rest(alloc, tokens, levels)?;
     let cursor = CursorDeclaration {
         place,
         name,
@@ -168,30 +177,36 @@ fn cursor(
         query,
         updatability,
     };
-    Ok((Item::Cursor(cursor), rest))
+    Ok(Item::Cursor(Boxed::new(alloc, cursor)?))
 }
 
-/// What declares a cursor, or at the first stage variables or a condition, behind DECLARE.
-#[tactic(auto, unfolding(crate::specs::Declaring::named_item_read, crate::specs::StatementReaders::named_rest_read))]
+/// A cursor, behind DECLARE.
+#[tactic(auto, using(psm_tree::proofs::Reading::steps))]
+pub(crate) fn named_cursor(
+    alloc: Global,
+    place: Place,
+    tokens: &mut Tokens,
+    levels: u32,
+) -> Result<Item, Halt>
+    ensures { Takes (reading levels (named_part place cursor_rest_part) tokens.old.rest.now) result tokens.new.rest.now }
+{
+    let name = tokens.name(alloc)?;
+    cursor(alloc, place, name, tokens, levels)
+}
+
+/// What declares a cursor, variables or a condition, behind DECLARE.
+#[tactic(auto, using(psm_tree::proofs::Reading::steps, psm_tree::proofs::Firsts::first_cursor_rest))]
 pub(crate) fn named(
     alloc: Global,
     place: Place,
-    tokens: &[Placed],
+    tokens: &mut Tokens,
     levels: u32,
-    stage: Stage,
-) -> Result<(Item, &[Placed]), Halt>
-    ensures exact { Gives (λ x. (x.0, x.1.now)) result (named_item_read place (phase_of stage) levels tokens.now) }
-    ensures takes { IfOk result (λ x. length x.1.now < length tokens.now) }
+) -> Result<Item, Halt>
+    ensures { Takes (reading levels (named_part place any_rest_part) tokens.old.rest.now) result tokens.new.rest.now }
 {
-    let (name, rest) = expect_name(alloc, tokens)?;
-    match stage {
-        Stage::Declarations => {
-            if at_one_of(rest, &CURSOR_WORDS) {
-                return cursor(alloc, place, name, rest, levels);
-            }
-            declaration_rest(alloc, place, name, rest, levels)
-        }
-        Stage::Cursors => cursor(alloc, place, name, rest, levels),
-        Stage::Handlers => cursor(alloc, place, name, rest, levels),
+    let name = tokens.name(alloc)?;
+    if tokens.at_one_of(&CURSOR_WORDS) {
+        return cursor(alloc, place, name, tokens, levels);
     }
+    declaration_rest(alloc, place, name, tokens, levels)
 }

@@ -6,7 +6,8 @@ ghost use Rattle.psm_tree.specs.StatementGrammar.{statement as statement_grammar
 ghost use Rattle.psm_tree.specs.Reading.{ReadsRun};
 
 use crate::statements::statement;
-use psm_parse_token::fault_of;
+use psm_list::Boxed;
+use psm_parse_token::{Tokens, fault_of};
 use psm_token::TokenList;
 use psm_tree::{ParseFault, Statement};
 use std::alloc::Global;
@@ -25,14 +26,17 @@ pub fn parse_stmt(
     tokens: &TokenList,
     at: usize,
     depth: u32,
-) -> Result<(Statement, usize), ParseFault>
+) -> Result<(Boxed<Statement>, usize), ParseFault>
     requires inside { at ≤ length tokens.now.tokens }
     requires nested { depth ≤ 100 }
     ensures { ReadsRun (Spells productions depth statement_grammar) (λ t. t) tokens.now at result }
 {
     let items = tokens.items();
-    match statement(alloc, &items[at..], MOST_LEVELS - depth) {
-        Ok((statement, rest)) => Ok((statement, items.len() - rest.len())),
+    let mut cursor = Tokens::of(&items[at..]);
+    let read = statement(alloc, &mut cursor, MOST_LEVELS - depth);
+    let Tokens { rest } = cursor;
+    match read {
+        Ok(statement) => Ok((statement, items.len() - rest.len())),
         Err(halt) => Err(fault_of(tokens, halt)),
     }
 }

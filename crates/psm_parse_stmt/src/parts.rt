@@ -1,139 +1,140 @@
 //! Parts of statements.
-ghost use Rattle.std.specs.Prelude.{◌≡◌, ◌<◌, ◌≤◌, length, IfOk};
-ghost use Rattle.psm_grammar.specs.Gives.{Gives};
-ghost use Rattle.psm_parse_stmt.specs.PartReaders.{column_order_read, current_read, direction_read, next_column_order_read, next_column_orders_read, order_read, perhaps_order_read, state_read, state_text_read};
+ghost use Rattle.psm_grammar.specs.Forms.{optional};
+ghost use Rattle.psm_tree.specs.Readers.{Takes, TakesAs, reading};
+ghost use Rattle.psm_tree.specs.StatementGrammar.{state_text as state_text_part, state as state_part, direction as direction_part, column_order as column_order_part, next_column_order as next_column_order_part, next_column_orders as next_column_orders_part, column_orders as column_orders_part, order as order_part, current as current_part};
 
 use psm_grammar::Halt;
-use psm_list::List;
-use psm_parse_token::{at_sign, at_word, expect_name, expect_sign, expect_text, expect_word};
+use psm_list::{List, OneOrMore};
+use psm_parse_token::Tokens;
 use psm_text::Text;
-use psm_token::{Place, Placed, Sign, Word};
+use psm_token::{Place, Sign, Word};
 use psm_tree::{Order, OrderColumn, State, Where};
 use std::alloc::Global;
 
 /// `[VALUE] text`
-#[tactic(auto, unfolding(crate::specs::PartReaders::state_text_read))]
-fn state_text(alloc: Global, tokens: &[Placed]) -> Result<(Place, Text, &[Placed]), Halt>
-    ensures exact { Gives (λ x. (record { place = x.0; value = x.1 }, x.2.now)) result (state_text_read tokens.now) }
-    ensures takes { IfOk result (λ x. length x.2.now < length tokens.now) }
+#[tactic(auto, using(psm_tree::proofs::Reading::steps), unfolding(psm_tree::specs::StatementGrammar::state_text))]
+fn state_text(alloc: Global, tokens: &mut Tokens, levels: u32) -> Result<(Place, Text), Halt>
+    ensures { TakesAs (λ x. record { place = x.0; value = x.1 }) (reading levels state_text_part tokens.old.rest.now) result tokens.new.rest.now }
 {
-    if at_word(tokens, Word::Value) {
-        let (_, rest) = expect_word(tokens, Word::Value)?;
-        return expect_text(alloc, rest);
+    if tokens.at(Word::Value) {
+        tokens.word(Word::Value)?;
+        return tokens.text(alloc);
     }
-    expect_text(alloc, tokens)
+    tokens.text(alloc)
 }
 
-/// `SQLSTATE [VALUE] text`
-#[tactic(auto, unfolding(crate::specs::PartReaders::state_read))]
-pub(crate) fn state(alloc: Global, tokens: &[Placed]) -> Result<(State, &[Placed]), Halt>
-    ensures exact { Gives (λ x. (x.0, x.1.now)) result (state_read tokens.now) }
-    ensures takes { IfOk result (λ x. length x.1.now < length tokens.now) }
+/// `SQLSTATE [VALUE] text` (ISO/IEC 9075-4:1996, SQLSTATE values)
+#[tactic(auto, using(psm_tree::proofs::Reading::steps), unfolding(psm_tree::specs::StatementGrammar::state))]
+pub(crate) fn state(alloc: Global, tokens: &mut Tokens, levels: u32) -> Result<State, Halt>
+    ensures { Takes (reading levels state_part tokens.old.rest.now) result tokens.new.rest.now }
 {
-    let (place, rest) = expect_word(tokens, Word::SqlState)?;
-    let (at, text, rest) = state_text(alloc, rest)?;
-    Ok((State { place, at, text }, rest))
+    let place = tokens.word(Word::SqlState)?;
+    let (at, text) = state_text(alloc, tokens, levels)?;
+    Ok(State { place, at, text })
 }
 
-/// `[ASC|DESC]`, and whether it is DESC.
-#[tactic(auto, unfolding(crate::specs::PartReaders::direction_read))]
-fn direction(tokens: &[Placed]) -> Result<(bool, &[Placed]), Halt>
-    ensures exact { Gives (λ x. (x.0, x.1.now)) result (direction_read tokens.now) }
-    ensures takes { IfOk result (λ x. length x.1.now ≤ length tokens.now) }
+/// `[ASC | DESC]`, and whether it is DESC.
+#[tactic(auto, using(psm_tree::proofs::Reading::steps), unfolding(psm_tree::specs::StatementGrammar::direction))]
+fn direction(tokens: &mut Tokens, levels: u32) -> Result<bool, Halt>
+    ensures { Takes (reading levels direction_part tokens.old.rest.now) result tokens.new.rest.now }
 {
-    if at_word(tokens, Word::Desc) {
-        let (_, rest) = expect_word(tokens, Word::Desc)?;
-        return Ok((true, rest));
+    if tokens.at(Word::Desc) {
+        tokens.word(Word::Desc)?;
+        return Ok(true);
     }
-    if at_word(tokens, Word::Asc) {
-        let (_, rest) = expect_word(tokens, Word::Asc)?;
-        return Ok((false, rest));
+    if tokens.at(Word::Asc) {
+        tokens.word(Word::Asc)?;
+        return Ok(false);
     }
-    Ok((false, tokens))
+    Ok(false)
 }
 
-/// `name [ASC|DESC]`
-#[tactic(auto, unfolding(crate::specs::PartReaders::column_order_read))]
-fn column_order(alloc: Global, tokens: &[Placed]) -> Result<(OrderColumn, &[Placed]), Halt>
-    ensures exact { Gives (λ x. (x.0, x.1.now)) result (column_order_read tokens.now) }
-    ensures takes { IfOk result (λ x. length x.1.now < length tokens.now) }
+/// `name [ASC | DESC]`
+#[tactic(auto, using(psm_tree::proofs::Reading::steps), unfolding(psm_tree::specs::StatementGrammar::column_order))]
+fn column_order(alloc: Global, tokens: &mut Tokens, levels: u32) -> Result<OrderColumn, Halt>
+    ensures { Takes (reading levels column_order_part tokens.old.rest.now) result tokens.new.rest.now }
 {
-    let (column, rest) = expect_name(alloc, tokens)?;
-    let (descending, rest) = direction(rest)?;
-    Ok((OrderColumn { column, descending }, rest))
+    let column = tokens.name(alloc)?;
+    let descending = direction(tokens, levels)?;
+    Ok(OrderColumn { column, descending })
 }
 
-/// `"," name [ASC|DESC]`
-#[tactic(auto, unfolding(crate::specs::PartReaders::next_column_order_read))]
-fn next_column_order(alloc: Global, tokens: &[Placed]) -> Result<(OrderColumn, &[Placed]), Halt>
-    ensures exact { Gives (λ x. (x.0, x.1.now)) result (next_column_order_read tokens.now) }
-    ensures takes { IfOk result (λ x. length x.1.now < length tokens.now) }
+/// `"," name [ASC | DESC]`
+#[tactic(auto, using(psm_tree::proofs::Reading::steps), unfolding(psm_tree::specs::StatementGrammar::next_column_order))]
+fn next_column_order(alloc: Global, tokens: &mut Tokens, levels: u32) -> Result<OrderColumn, Halt>
+    ensures { Takes (reading levels next_column_order_part tokens.old.rest.now) result tokens.new.rest.now }
 {
-    let (_, rest) = expect_sign(tokens, Sign::Comma)?;
-    column_order(alloc, rest)
+    tokens.sign(Sign::Comma)?;
+    column_order(alloc, tokens, levels)
 }
 
-/// `{"," name [ASC|DESC]}`
-#[tactic(auto, unfolding(crate::specs::PartReaders::next_column_orders_read))]
+/// `{"," name [ASC | DESC]}`
+#[tactic(auto, using(psm_tree::proofs::Repeating::turns, psm_tree::proofs::Firsts::first_next_column_order), unfolding(psm_tree::specs::StatementGrammar::next_column_orders))]
 fn next_column_orders(
     alloc: Global,
-    tokens: &[Placed],
-) -> Result<(List<OrderColumn>, &[Placed]), Halt>
-    ensures exact { Gives (λ x. (x.0, x.1.now)) result (next_column_orders_read tokens.now) }
-    ensures takes { IfOk result (λ x. length x.1.now ≤ length tokens.now) }
+    tokens: &mut Tokens,
+    levels: u32,
+) -> Result<List<OrderColumn>, Halt>
+    ensures { Takes (reading levels next_column_orders_part tokens.old.rest.now) result tokens.new.rest.now }
 {
     let mut columns = Vec::new(alloc);
-    let mut rest = tokens;
-    while at_sign(rest, Sign::Comma) {
-        let (column, next) = next_column_order(alloc, rest)?;
+    for _turn in 0..tokens.left() {
+        if !tokens.at_sign(Sign::Comma) {
+            break;
+        }
+        let column = next_column_order(alloc, tokens, levels)?;
         columns.push(column)?;
-        rest = next;
     }
-    Ok((List::of(columns), rest))
+    Ok(List::of(columns))
 }
 
-/// `ORDER BY name [ASC|DESC] {"," name [ASC|DESC]}` (ISO/IEC 9075:1992, 13.1)
-#[tactic(auto, unfolding(crate::specs::PartReaders::order_read))]
-fn order(alloc: Global, tokens: &[Placed]) -> Result<(Order, &[Placed]), Halt>
-    ensures exact { Gives (λ x. (x.0, x.1.now)) result (order_read tokens.now) }
-    ensures takes { IfOk result (λ x. length x.1.now < length tokens.now) }
+/// `name [ASC | DESC] {"," name [ASC | DESC]}`
+#[tactic(auto, using(psm_tree::proofs::Reading::steps), unfolding(psm_tree::specs::StatementGrammar::column_orders))]
+fn column_orders(
+    alloc: Global,
+    tokens: &mut Tokens,
+    levels: u32,
+) -> Result<OneOrMore<OrderColumn>, Halt>
+    ensures { Takes (reading levels column_orders_part tokens.old.rest.now) result tokens.new.rest.now }
 {
-    let (place, rest) = expect_word(tokens, Word::Order)?;
-    let (_, rest) = expect_word(rest, Word::By)?;
-    let (first, rest) = column_order(alloc, rest)?;
-    let (columns, rest) = next_column_orders(alloc, rest)?;
-    let order = Order {
-        place,
-        first,
-        rest: columns,
-    };
-    Ok((order, rest))
+    let first = column_order(alloc, tokens, levels)?;
+    let rest = next_column_orders(alloc, tokens, levels)?;
+    Ok(OneOrMore::of(first, rest))
+}
+
+/// `ORDER BY name [ASC | DESC] {"," name [ASC | DESC]}` (ISO/IEC 9075:1992, 13.1)
+#[tactic(auto, using(psm_tree::proofs::Reading::steps), unfolding(psm_tree::specs::StatementGrammar::order))]
+fn order(alloc: Global, tokens: &mut Tokens, levels: u32) -> Result<Order, Halt>
+    ensures { Takes (reading levels order_part tokens.old.rest.now) result tokens.new.rest.now }
+{
+    let place = tokens.word(Word::Order)?;
+    tokens.word(Word::By)?;
+    let columns = column_orders(alloc, tokens, levels)?;
+    Ok(Order { place, columns })
 }
 
 /// `[order]`
-#[tactic(auto, unfolding(crate::specs::PartReaders::perhaps_order_read))]
+#[tactic(auto, using(psm_tree::proofs::Reading::steps, psm_tree::proofs::Firsts::first_order))]
 pub(crate) fn perhaps_order(
     alloc: Global,
-    tokens: &[Placed],
-) -> Result<(Option<Order>, &[Placed]), Halt>
-    ensures exact { Gives (λ x. (x.0, x.1.now)) result (perhaps_order_read tokens.now) }
-    ensures takes { IfOk result (λ x. length x.1.now ≤ length tokens.now) }
+    tokens: &mut Tokens,
+    levels: u32,
+) -> Result<Option<Order>, Halt>
+    ensures { Takes (reading levels (optional order_part) tokens.old.rest.now) result tokens.new.rest.now }
 {
-    if !at_word(tokens, Word::Order) {
-        return Ok((None, tokens));
+    if !tokens.at(Word::Order) {
+        return Ok(None);
     }
-    let (order, rest) = order(alloc, tokens)?;
-    Ok((Some(order), rest))
+    Ok(Some(order(alloc, tokens, levels)?))
 }
 
 /// `CURRENT OF name`
-#[tactic(auto, unfolding(crate::specs::PartReaders::current_read))]
-pub(crate) fn current(alloc: Global, tokens: &[Placed]) -> Result<(Where, &[Placed]), Halt>
-    ensures exact { Gives (λ x. (x.0, x.1.now)) result (current_read tokens.now) }
-    ensures takes { IfOk result (λ x. length x.1.now < length tokens.now) }
+#[tactic(auto, using(psm_tree::proofs::Reading::steps), unfolding(psm_tree::specs::StatementGrammar::current))]
+pub(crate) fn current(alloc: Global, tokens: &mut Tokens, levels: u32) -> Result<Where, Halt>
+    ensures { Takes (reading levels current_part tokens.old.rest.now) result tokens.new.rest.now }
 {
-    let (_, rest) = expect_word(tokens, Word::Current)?;
-    let (_, rest) = expect_word(rest, Word::Of)?;
-    let (cursor, rest) = expect_name(alloc, rest)?;
-    Ok((Where::Current { cursor }, rest))
+    tokens.word(Word::Current)?;
+    tokens.word(Word::Of)?;
+    let cursor = tokens.name(alloc)?;
+    Ok(Where::Current { cursor })
 }

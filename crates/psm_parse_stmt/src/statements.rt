@@ -1,22 +1,22 @@
 //! Statements, and lists of them (ISO/IEC 9075-4:1996).
-ghost use Rattle.std.specs.Prelude.{◌≡◌, ◌<◌, ◌≤◌, ◌++◌, length, IfOk};
-ghost use Rattle.psm_grammar.specs.Gives.{Gives};
+ghost use Rattle.std.specs.Prelude.{◌≡◌, ◌++◌};
 ghost use Rattle.psm_grammar.specs.Readers.{starts};
-ghost use Rattle.psm_tree.specs.Kinds.{kind, codes_of, statement_words};
+ghost use Rattle.psm_token.specs.Kinds.{kind, kinds_of};
+ghost use Rattle.psm_tree.specs.FirstWords.{statement_words};
+ghost use Rattle.psm_tree.specs.Readers.{Takes, reading};
+ghost use Rattle.psm_tree.specs.StatementGrammar.{labelled_block as labelled_block_part, labelled_statement as labelled_statement_part, statement as statement_part, ended_statement as ended_statement_part, ended_statements as ended_statements_part, statements as statements_part};
 ghost use Rattle.psm_tree.specs.Tests.{name_kinds};
-ghost use Rattle.psm_tree.specs.StatementValues.{statements_of};
-ghost use Rattle.psm_parse_stmt.specs.StatementReaders.{ended_statement_read, ended_statements_read, labelled_statement_read, statement_read, statements_read, unlabelled_statement_read};
+ghost use Rattle.psm_parse_stmt.specs.Levels.{unlabelled_block as unlabelled_block_part};
 
-use crate::block::block_statement;
 use crate::branch::{case_statement, if_statement};
 use crate::compound::block;
 use crate::label::end_label;
 use crate::simple::simple_statement;
 use psm_grammar::Halt;
-use psm_list::List;
-use psm_parse_token::{at_name, at_one_of, at_word, before_sign, beside, expect_name};
-use psm_token::{Placed, Sign, Word};
-use psm_tree::{Label, Statement};
+use psm_list::{Boxed, List, OneOrMore};
+use psm_parse_token::Tokens;
+use psm_token::{Sign, Word};
+use psm_tree::{Block, Identifier, Label, Statement};
 use std::alloc::Global;
 
 /// The words that a block begins with.
@@ -55,10 +55,10 @@ const STATEMENT_WORDS: [Word; 22] = [
 ];
 
 /// Whether a statement stands at the front.
-fn at_statement(tokens: &[Placed]) -> bool
-    ensures { result ≡ starts kind (name_kinds ++ codes_of statement_words) tokens.now }
+fn at_statement(tokens: &Tokens) -> bool
+    ensures { result ≡ starts kind (name_kinds ++ kinds_of statement_words) tokens.now.rest.now }
 {
-    at_name(tokens) || at_one_of(tokens, &STATEMENT_WORDS)
+    tokens.at_name() || tokens.at_one_of(&STATEMENT_WORDS)
 }
 
 /// A statement.
@@ -66,112 +66,119 @@ fn at_statement(tokens: &[Placed]) -> bool
 /// # Errors
 /// `Syntax` and `Deep` with the number of tokens that are left at the fault; `Memory`.
 #[cycle(statements)]
-#[tactic(auto, unfolding(crate::specs::StatementReaders::statement_read))]
-pub fn statement(
-    alloc: Global,
-    tokens: &[Placed],
-    levels: u32,
-) -> Result<(Statement, &[Placed]), Halt>
-    ensures exact { Gives (λ x. (x.0, x.1.now)) result (statement_read levels tokens.now) }
-    ensures takes { IfOk result (λ x. length x.1.now < length tokens.now) }
+#[tactic(auto, using(psm_tree::proofs::Reading::steps, psm_tree::proofs::Firsts::first_labelled_statement, psm_tree::proofs::Firsts::first_if_statement, psm_tree::proofs::Firsts::first_case_statement, psm_tree::proofs::Firsts::first_block), unfolding(psm_tree::specs::StatementGrammar::statement))]
+pub fn statement(alloc: Global, tokens: &mut Tokens, levels: u32) -> Result<Boxed<Statement>, Halt>
+    ensures { Takes (reading levels statement_part tokens.old.rest.now) result tokens.new.rest.now }
 {
-    if at_name(tokens) {
+    if tokens.at_name() {
         return labelled_statement(alloc, tokens, levels);
     }
-    if at_word(tokens, Word::If) {
+    if tokens.at(Word::If) {
         return if_statement(alloc, tokens, levels);
     }
-    if at_word(tokens, Word::Case) {
+    if tokens.at(Word::Case) {
         return case_statement(alloc, tokens, levels);
     }
-    if at_one_of(tokens, &BLOCK_WORDS) {
+    if tokens.at_one_of(&BLOCK_WORDS) {
         return unlabelled_statement(alloc, tokens, levels);
     }
-    let (simple, rest) = simple_statement(alloc, tokens, levels)?;
-    Ok((Statement::Simple(simple), rest))
+    let simple = simple_statement(alloc, tokens, levels)?;
+    Ok(Boxed::new(alloc, Statement::Simple(simple))?)
 }
 
 /// A block that has no label.
 #[cycle(statements)]
-#[tactic(auto, unfolding(crate::specs::StatementReaders::unlabelled_statement_read))]
+#[tactic(auto, using(psm_tree::proofs::Reading::steps))]
 fn unlabelled_statement(
     alloc: Global,
-    tokens: &[Placed],
+    tokens: &mut Tokens,
     levels: u32,
-) -> Result<(Statement, &[Placed]), Halt>
-    ensures exact { Gives (λ x. (x.0, x.1.now)) result (unlabelled_statement_read levels tokens.now) }
-    ensures takes { IfOk result (λ x. length x.1.now < length tokens.now) }
+) -> Result<Boxed<Statement>, Halt>
+    ensures { Takes (reading levels unlabelled_block_part tokens.old.rest.now) result tokens.new.rest.now }
 {
-    let (block, rest) = block(alloc, tokens, levels)?;
-    Ok((block_statement(None, block), rest))
+    let block = block(alloc, tokens, levels)?;
+    Ok(Boxed::new(alloc, Statement::Block { label: None, block })?)
+}
+
+/// `":" block [name]`, behind the label.
+#[cycle(statements)]
+#[tactic(auto, using(psm_tree::proofs::Reading::steps), unfolding(psm_tree::specs::StatementGrammar::labelled_block))]
+fn labelled_block(
+    alloc: Global,
+    tokens: &mut Tokens,
+    levels: u32,
+) -> Result<(Boxed<Block>, Option<Identifier>), Halt>
+    ensures { Takes (reading levels labelled_block_part tokens.old.rest.now) result tokens.new.rest.now }
+{
+    tokens.sign(Sign::Colon)?;
+    let block = block(alloc, tokens, levels)?;
+    let end = end_label(alloc, tokens, levels)?;
+    Ok((block, end))
 }
 
 /// `name ":" block [name]`
 #[cycle(statements)]
-#[tactic(auto, unfolding(crate::specs::StatementReaders::labelled_statement_read, crate::specs::StatementReaders::labelled_block_read))]
+#[tactic(auto, using(psm_tree::proofs::Reading::steps), unfolding(psm_tree::specs::StatementGrammar::labelled_statement))]
 fn labelled_statement(
     alloc: Global,
-    tokens: &[Placed],
+    tokens: &mut Tokens,
     levels: u32,
-) -> Result<(Statement, &[Placed]), Halt>
-    ensures exact { Gives (λ x. (x.0, x.1.now)) result (labelled_statement_read levels tokens.now) }
-    ensures takes { IfOk result (λ x. length x.1.now < length tokens.now) }
+) -> Result<Boxed<Statement>, Halt>
+    ensures { Takes (reading levels labelled_statement_part tokens.old.rest.now) result tokens.new.rest.now }
 {
-    let (start, rest) = expect_name(alloc, tokens)?;
-    let (start, rest) = before_sign(start, rest, Sign::Colon)?;
-    let ((start, block), rest) = beside(start, block(alloc, rest, levels))?;
-    let (((start, block), end), rest) = beside((start, block), end_label(alloc, rest))?;
-    let label = Label { start, end };
-    Ok((block_statement(Some(label), block), rest))
+    let start = tokens.name(alloc)?;
+    let (block, end) = labelled_block(alloc, tokens, levels)?;
+    let label = Some(Label { start, end });
+    Ok(Boxed::new(alloc, Statement::Block { label, block })?)
 }
 
 /// `statement ";"`
 #[cycle(statements)]
-#[tactic(auto, unfolding(crate::specs::StatementReaders::ended_statement_read))]
+#[tactic(auto, using(psm_tree::proofs::Reading::steps), unfolding(psm_tree::specs::StatementGrammar::ended_statement))]
 fn ended_statement(
     alloc: Global,
-    tokens: &[Placed],
+    tokens: &mut Tokens,
     levels: u32,
-) -> Result<(Statement, &[Placed]), Halt>
-    ensures exact { Gives (λ x. (x.0, x.1.now)) result (ended_statement_read levels tokens.now) }
-    ensures takes { IfOk result (λ x. length x.1.now < length tokens.now) }
+) -> Result<Boxed<Statement>, Halt>
+    ensures { Takes (reading levels ended_statement_part tokens.old.rest.now) result tokens.new.rest.now }
 {
-    let (statement, rest) = statement(alloc, tokens, levels)?;
-    before_sign(statement, rest, Sign::Semicolon)
+    let statement = statement(alloc, tokens, levels)?;
+    tokens.sign(Sign::Semicolon)?;
+    Ok(statement)
 }
 
 /// `{statement ";"}`
 #[cycle(statements)]
-#[tactic(auto, unfolding(crate::specs::StatementReaders::ended_statements_read))]
+#[tactic(auto, using(psm_tree::proofs::Repeating::turns, psm_tree::proofs::Firsts::first_ended_statement), unfolding(psm_tree::specs::StatementGrammar::ended_statements))]
 pub(crate) fn ended_statements(
     alloc: Global,
-    tokens: &[Placed],
+    tokens: &mut Tokens,
     levels: u32,
-) -> Result<(List<Statement>, &[Placed]), Halt>
-    ensures exact { Gives (λ x. (x.0, x.1.now)) result (ended_statements_read levels tokens.now) }
-    ensures takes { IfOk result (λ x. length x.1.now ≤ length tokens.now) }
+) -> Result<List<Boxed<Statement>>, Halt>
+    ensures { Takes (reading levels ended_statements_part tokens.old.rest.now) result tokens.new.rest.now }
 {
     let mut statements = Vec::new(alloc);
-    let mut rest = tokens;
-    while at_statement(rest) {
-        let (statement, next) = ended_statement(alloc, rest, levels)?;
+    for _turn in 0..tokens.left() {
+        if !at_statement(tokens) {
+            break;
+        }
+        let statement = ended_statement(alloc, tokens, levels)?;
         statements.push(statement)?;
-        rest = next;
     }
-    Ok((List::of(statements), rest))
+    Ok(List::of(statements))
 }
 
 /// `statement ";" {statement ";"}`
 #[cycle(statements)]
-#[tactic(auto, unfolding(crate::specs::StatementReaders::statements_read))]
+#[tactic(auto, using(psm_tree::proofs::Reading::steps), unfolding(psm_tree::specs::StatementGrammar::statements))]
 pub(crate) fn statements(
     alloc: Global,
-    tokens: &[Placed],
+    tokens: &mut Tokens,
     levels: u32,
-) -> Result<((Statement, List<Statement>), &[Placed]), Halt>
-    ensures exact { Gives (λ x. (statements_of x.0.0 x.0.1, x.1.now)) result (statements_read levels tokens.now) }
-    ensures takes { IfOk result (λ x. length x.1.now < length tokens.now) }
+) -> Result<OneOrMore<Boxed<Statement>>, Halt>
+    ensures { Takes (reading levels statements_part tokens.old.rest.now) result tokens.new.rest.now }
 {
-    let (first, rest) = ended_statement(alloc, tokens, levels)?;
-    beside(first, ended_statements(alloc, rest, levels))
+    let first = ended_statement(alloc, tokens, levels)?;
+    let rest = ended_statements(alloc, tokens, levels)?;
+    Ok(OneOrMore::of(first, rest))
 }

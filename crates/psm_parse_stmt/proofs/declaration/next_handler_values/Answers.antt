@@ -1,24 +1,17 @@
-use Rattle.std.proofs.Common.{rules, ◌≡◌, [], ◌∷◌, ◌++◌, ◌<◌, length, true, Ok}
-use Rattle.std.proofs.lemmas.Result.{err_from_is_err_and}
-use Rattle.psm_token.specs.declared.sign.Sign.TheVariants as s
-use Rattle.psm_grammar.specs.Readers.{starts}
-use Rattle.psm_grammar.proofs.Loops.{goes_on}
-use Rattle.psm_tree.specs.Kinds.{sign_code, kind}
-use Rattle.psm_parse_token.proofs.Repeating.{loop_halts}
-use Rattle.psm_parse_stmt.specs.PartReaders.{next_handler_value_read, next_handler_values_read}
+use Rattle.std.proofs.Common.{rules, ◌≡◌, ◌-◌, false}
+use Rattle.psm_token.specs.Kinds.{kind}
+use Rattle.psm_grammar.specs.Readers.{first, starts}
+use Rattle.psm_tree.specs.StatementGrammar.{next_handler_value, next_handler_values}
+use Rattle.psm_tree.proofs.Firsts.{first_next_handler_value}
+use Rattle.psm_tree.proofs.Repeating.{turns_end, turns_run_out}
+use Rattle.psm_parse_stmt.proofs.declaration.next_handler_values.Goals.{else-loop-turn-test, then-loop-turn-test+then-not-at_sign}
 use Rattle.psm_parse_stmt.proofs.declaration.next_handler_values.Goals as goal
 
-pub returns-in_err-value-clause-exact : goal.returns-in_err-value-clause-exact
-unfolding next_handler_values_read
-returns-in_err-value-clause-exact c =
-    let p = err_from_is_err_and c.from_residual.result c.from_residual.ensures.1 in
-    let starts_so : starts kind (sign_code s.Comma ∷ []) c.loop-alloc.rest.now ≡ true = search rules in
-    rw (p.1, p.2) (loop_halts kind (sign_code s.Comma ∷ []) next_handler_value_read c.args.tokens.now c.loop-alloc.values.items c.loop-alloc.rest.now c.in_err-value.field-0.0 c.loop-alloc.invariant starts_so c.in_err-value.ensures.exact)
-
-pub loop-alloc-preserved : goal.loop-alloc-preserved
-loop-alloc-preserved c =
-    let starts_so : starts kind (sign_code s.Comma ∷ []) c.loop-alloc.rest.now ≡ true = search rules in
-    let read_so : next_handler_value_read c.loop-alloc.rest.now ≡ Ok (c.in_ok-value.value, c.in_ok-value.next.now) = search rules in
-    let shorter : length c.in_ok-value.next.now < length c.loop-alloc.rest.now = search rules in
-    let pushed : c.push.new.self.items ≡ c.loop-alloc.values.items ++ c.in_ok-value.value ∷ [] = search rules in
-    rw pushed (goes_on kind (sign_code s.Comma ∷ []) next_handler_value_read c.args.tokens.now c.loop-alloc.values.items c.loop-alloc.rest.now c.in_ok-value.value c.in_ok-value.next.now c.loop-alloc.invariant starts_so read_so shorter)
+pub returns : goal.returns
+unfolding next_handler_values
+returns c = rw c.of.ensures (elim c.loop-turn-test.branch [
+  | else-loop-turn-test w ↦ (let over : c.left-turn-end.result - c.loop-turn._turn ≡ 0 = search rules in
+      turns_run_out c.args.levels next_handler_value c.args.tokens.now.rest.now c.loop-turn.values.items (c.left-turn-end.result - c.loop-turn._turn) c.loop-turn.tokens.rest.now c.loop-turn.invariant over)
+  | then-loop-turn-test+then-not-at_sign w ↦ (let away : starts kind (first next_handler_value) c.loop-turn.tokens.rest.now ≡ false = rw first_next_handler_value (search rules) in
+      turns_end c.args.levels next_handler_value c.args.tokens.now.rest.now c.loop-turn.values.items (c.left-turn-end.result - c.loop-turn._turn) c.loop-turn.tokens.rest.now c.loop-turn.invariant away)
+])

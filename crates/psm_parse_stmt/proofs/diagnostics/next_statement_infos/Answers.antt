@@ -1,24 +1,17 @@
-use Rattle.std.proofs.Common.{rules, ◌≡◌, [], ◌∷◌, ◌++◌, ◌<◌, length, true, Ok}
-use Rattle.std.proofs.lemmas.Result.{err_from_is_err_and}
-use Rattle.psm_token.specs.declared.sign.Sign.TheVariants as s
-use Rattle.psm_grammar.specs.Readers.{starts}
-use Rattle.psm_grammar.proofs.Loops.{goes_on}
-use Rattle.psm_tree.specs.Kinds.{sign_code, kind}
-use Rattle.psm_parse_token.proofs.Repeating.{loop_halts}
-use Rattle.psm_parse_stmt.specs.PartReaders.{next_statement_info_read, next_statement_infos_read}
+use Rattle.std.proofs.Common.{rules, ◌≡◌, ◌-◌, false}
+use Rattle.psm_token.specs.Kinds.{kind}
+use Rattle.psm_grammar.specs.Readers.{first, starts}
+use Rattle.psm_tree.specs.StatementGrammar.{next_statement_info, next_statement_infos}
+use Rattle.psm_tree.proofs.Firsts.{first_next_statement_info}
+use Rattle.psm_tree.proofs.Repeating.{turns_end, turns_run_out}
+use Rattle.psm_parse_stmt.proofs.diagnostics.next_statement_infos.Goals.{else-loop-turn-test, then-loop-turn-test+then-not-at_sign}
 use Rattle.psm_parse_stmt.proofs.diagnostics.next_statement_infos.Goals as goal
 
-pub returns-in_err-information-clause-exact : goal.returns-in_err-information-clause-exact
-unfolding next_statement_infos_read
-returns-in_err-information-clause-exact c =
-    let p = err_from_is_err_and c.from_residual.result c.from_residual.ensures.1 in
-    let starts_so : starts kind (sign_code s.Comma ∷ []) c.loop-alloc.rest.now ≡ true = search rules in
-    rw (p.1, p.2) (loop_halts kind (sign_code s.Comma ∷ []) next_statement_info_read c.args.tokens.now c.loop-alloc.informations.items c.loop-alloc.rest.now c.in_err-information.field-0.0 c.loop-alloc.invariant starts_so c.in_err-information.ensures.exact)
-
-pub loop-alloc-preserved : goal.loop-alloc-preserved
-loop-alloc-preserved c =
-    let starts_so : starts kind (sign_code s.Comma ∷ []) c.loop-alloc.rest.now ≡ true = search rules in
-    let read_so : next_statement_info_read c.loop-alloc.rest.now ≡ Ok (c.in_ok-information.information, c.in_ok-information.next.now) = search rules in
-    let shorter : length c.in_ok-information.next.now < length c.loop-alloc.rest.now = search rules in
-    let pushed : c.push.new.self.items ≡ c.loop-alloc.informations.items ++ c.in_ok-information.information ∷ [] = search rules in
-    rw pushed (goes_on kind (sign_code s.Comma ∷ []) next_statement_info_read c.args.tokens.now c.loop-alloc.informations.items c.loop-alloc.rest.now c.in_ok-information.information c.in_ok-information.next.now c.loop-alloc.invariant starts_so read_so shorter)
+pub returns : goal.returns
+unfolding next_statement_infos
+returns c = rw c.of.ensures (elim c.loop-turn-test.branch [
+  | else-loop-turn-test w ↦ (let over : c.left-turn-end.result - c.loop-turn._turn ≡ 0 = search rules in
+      turns_run_out c.args.levels next_statement_info c.args.tokens.now.rest.now c.loop-turn.informations.items (c.left-turn-end.result - c.loop-turn._turn) c.loop-turn.tokens.rest.now c.loop-turn.invariant over)
+  | then-loop-turn-test+then-not-at_sign w ↦ (let away : starts kind (first next_statement_info) c.loop-turn.tokens.rest.now ≡ false = rw first_next_statement_info (search rules) in
+      turns_end c.args.levels next_statement_info c.args.tokens.now.rest.now c.loop-turn.informations.items (c.left-turn-end.result - c.loop-turn._turn) c.loop-turn.tokens.rest.now c.loop-turn.invariant away)
+])

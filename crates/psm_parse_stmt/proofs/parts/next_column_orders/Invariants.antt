@@ -1,12 +1,7 @@
-use Rattle.std.proofs.Common.{[], ◌∷◌, length}
-use Rattle.psm_token.specs.declared.sign.Sign.TheVariants as s
-use Rattle.psm_grammar.specs.Loop.{Looping}
-use Rattle.psm_tree.specs.Kinds.{sign_code, kind}
-use Rattle.psm_parse_stmt.specs.PartReaders.{next_column_order_read}
+use Rattle.std.proofs.Common.{◌-◌}
+use Rattle.psm_tree.specs.StatementGrammar.{next_column_order}
+use Rattle.psm_tree.specs.Readers.{Repeating}
 use Rattle.psm_parse_stmt.proofs.parts.next_column_orders.Given as goal
 
-abbrev pub invariant-loop-alloc : goal.invariant-loop-alloc
-invariant-loop-alloc l = Looping kind (sign_code s.Comma ∷ []) next_column_order_read l.tokens l.columns.items l.rest
-
-abbrev pub decreases-loop-alloc : goal.decreases-loop-alloc
-decreases-loop-alloc l = length l.rest
+abbrev pub invariant-loop-turn : goal.invariant-loop-turn
+invariant-loop-turn l = Repeating l.levels next_column_order l.initial.tokens.rest.now l.columns.items (l._turn-end - l._turn) l.tokens.rest.now
