@@ -4,7 +4,6 @@ use Rattle.std.proofs.Math.Dec.{ltb, leb}
 use Rattle.std.proofs.lemmas.Bool.{ltb-true, leb-true}
 use Rattle.std.proofs.lemmas.List.{length-map}
 use Rattle.psm_token.specs.declared.token.Placed.{Placed}
-use Rattle.psm_token.specs.declared.token.Token.{Token}
 use Rattle.psm_token.specs.declared.word.Word.{Word}
 use Rattle.psm_token.specs.declared.word.Word.TheVariants as w
 use Rattle.psm_token.specs.Words.{text_of}
@@ -19,7 +18,7 @@ use Rattle.psm_tree.specs.FileGrammar.{file}
 use Rattle.psm_tree.specs.declared.file.FileTree.{FileTree}
 use Rattle.psm_print.specs.FileTokens.{file_tokens}
 use Rattle.psm_print.proofs.Printed.{AllGood, Kept, Printed}
-use Rattle.psm_print.specs.Printing.{Derives, IsTreeOfFile, IsFileOfTree}
+use Rattle.psm_print.specs.Printing.{IsTreeOfFile, IsFileOfTree}
 use Rattle.psm_print.proofs.FilePrinted.{file_printed}
 
 some_letters : (x : Word) → ltb 0 (length (text_of x)) ≡ true
