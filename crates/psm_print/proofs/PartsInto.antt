@@ -1,14 +1,11 @@
 -- The parts of statements go over into printed ones.
-use Rattle.std.proofs.Common.{◌≡◌, [], ◌++◌, map, option_map, refl, sym, ap, subst, ◌∙◌}
-use Rattle.psm_list.specs.Several.{Several, several_map}
+use Rattle.std.proofs.Common.{◌≡◌, [], ◌++◌, refl, sym, subst, ◌∙◌}
+use Rattle.psm_list.specs.Several.{several_map}
 use Rattle.psm_token.specs.declared.word.Word.TheVariants as w
 use Rattle.psm_token.specs.declared.sign.Sign.TheVariants as s
-use Rattle.psm_tree.specs.StatementValues.{condition_diagnostics}
 use Rattle.psm_tree.specs.StatementGrammar
 use Rattle.psm_tree.specs.StatementGrammar.{state, direction, column_order, order, ordered_select, message, signalled, state_signalled, name_signalled, current, where_part, values, insert_source, assignment, statement_info, condition_info, condition_number, exception_diagnostics, diagnostics, for_state, insert_values, read_only_part, updatability, insensitive, atomic, handler_value, handler_values}
 use Rattle.psm_tree.specs.declared.statement.Updatability.{Updatability}
-use Rattle.psm_tree.specs.declared.statement.ConditionInformation.{ConditionInformation}
-use Rattle.psm_tree.specs.declared.statement.ConditionNumber.{ConditionNumber}
 use Rattle.psm_tree.specs.declared.statement.Diagnostics.{Diagnostics}
 use Rattle.psm_tree.specs.declared.statement.Diagnostics.TheVariants as diagnostic
 use Rattle.psm_tree.specs.declared.statement.InsertSource.{InsertSource}

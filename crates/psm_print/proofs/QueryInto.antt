@@ -1,6 +1,6 @@
 -- Queries, and what stands behind the opening token of an expression, go over into printed ones.
 use Rattle.std.proofs.Common.{◌≡◌, inl, inr, ℕ, ◌≤◌, List, [], ◌∷◌, ◌++◌, length, Option, Some, None, map, option_map, refl, sym, ap, subst, ◌∙◌}
-use Rattle.std.proofs.lemmas.List.{length-append, append-nil}
+use Rattle.std.proofs.lemmas.List.{length-append}
 use native.Mathlib.Omega.{arith}
 use Rattle.psm_list.specs.Several.{Several, several_map}
 use Rattle.psm_token.specs.declared.place.Place.{Place}
@@ -23,7 +23,7 @@ use Rattle.psm_tree.specs.declared.expr.Select.{Select}
 use Rattle.psm_tree.specs.declared.expr.Pick.{Pick}
 use Rattle.psm_tree.specs.declared.expr.TrimSide.{TrimSide}
 use Rattle.psm_tree.specs.declared.expr.TrimSide.TheVariants as sides
-use Rattle.psm_print.specs.Spelling.{Spelling, word, sign, perhaps, each, separated, listed, in_parens}
+use Rattle.psm_print.specs.Spelling.{Spelling, word, sign, perhaps, separated, listed, in_parens}
 use Rattle.psm_print.specs.ExprTokens.{name_tokens, type_tokens, set_function_tokens, side_tokens, alias_tokens, expr_tokens, pick_tokens, when_tokens, select_tokens}
 use Rattle.psm_print.proofs.Printed.{AllGood, Printed}
 use Rattle.psm_print.proofs.PartTokens.{inside_tokens, cases_tokens, part_tokens}

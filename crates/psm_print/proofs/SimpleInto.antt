@@ -1,6 +1,5 @@
 -- Simple statements go over into printed ones.
-use Rattle.std.proofs.Common.{[], ◌++◌, map, option_map, refl, sym, ap, ◌∙◌}
-use Rattle.psm_list.specs.Several.{several_map}
+use Rattle.std.proofs.Common.{[], ◌++◌, map, option_map, refl, sym, ap}
 use Rattle.psm_token.specs.declared.word.Word.TheVariants as w
 use Rattle.psm_token.specs.declared.sign.Sign.TheVariants as s
 use Rattle.psm_tree.specs.StatementGrammar

@@ -8,7 +8,6 @@ use Rattle.psm_tree.specs.Parts.{Statements, Body, WhileRest, RepeatRest, CaseSt
 use Rattle.psm_tree.specs.StatementValues.{listed}
 use Rattle.psm_tree.specs.StatementGrammar
 use Rattle.psm_tree.specs.StatementGrammar.{block, labelled_block, statement, ended_statement, ended_statements, statements, branch, if_end, if_rest, case_end, case_branches, case_statement_rest, loop_rest, while_rest, repeat_rest, for_cursor_part, for_rest, handler_rest}
-use Rattle.psm_tree.specs.declared.expr.Expr.{Expr}
 use Rattle.psm_print.specs.Spelling.{Spelling, word, sign, perhaps, each, separated, ended, all_of}
 use Rattle.psm_print.specs.ExprTokens.{name_tokens, expr_tokens}
 use Rattle.psm_print.specs.StatementTokens.{ordered_query_tokens, declaration_tokens, cursor_tokens, for_cursor_tokens, handled_tokens, atomic_tokens, else_tokens, block_tokens, statement_tokens, branch_tokens, handler_tokens}

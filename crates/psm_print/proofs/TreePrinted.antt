@@ -1,10 +1,9 @@
--- What is printed of the tree of a file is a file of the tree.
+-- What is printed of a tree that some tokens spell is a file of the tree.
 use Rattle.std.proofs.Common.{◌≡◌, ℕ, ◌≤◌, List, [], ◌∷◌, map, length, refl, sym, ap, subst, ◌∙◌, true, arith}
 use Rattle.std.proofs.Math.Dec.{ltb, leb}
 use Rattle.std.proofs.lemmas.Bool.{ltb-true, leb-true}
 use Rattle.std.proofs.lemmas.List.{length-map}
 use Rattle.psm_token.specs.declared.token.Placed.{Placed}
-use Rattle.psm_token.specs.declared.token.Token.{Token}
 use Rattle.psm_token.specs.declared.word.Word.{Word}
 use Rattle.psm_token.specs.declared.word.Word.TheVariants as w
 use Rattle.psm_token.specs.Words.{text_of}
@@ -19,7 +18,10 @@ use Rattle.psm_tree.specs.FileGrammar.{file}
 use Rattle.psm_tree.specs.declared.file.FileTree.{FileTree}
 use Rattle.psm_print.specs.FileTokens.{file_tokens}
 use Rattle.psm_print.proofs.Printed.{AllGood, Kept, Printed}
-use Rattle.psm_print.specs.Printing.{Derives, IsTreeOfFile, IsFileOfTree}
+use Rattle.psm_unplaced.specs.Unplaced.{origin, unplaced}
+use Rattle.psm_unplaced.proofs.FileCarried.{file_carried}
+use Rattle.psm_unplaced.proofs.Apart.{spelled_elsewhere}
+use Rattle.psm_print.specs.Printing.{Derives, IsSpelledTree, IsFileOfTree}
 use Rattle.psm_print.proofs.FilePrinted.{file_printed}
 
 some_letters : (x : Word) → ltb 0 (length (text_of x)) ≡ true
@@ -55,22 +57,32 @@ size w ts e = sym (length-map w (λ x. x.0)) ∙ ap length e
 short : (w : Words Placed) (n : ℕ) → length w ≤ n → {m : ℕ} → n ≡ m → m ≤ 2000000 → length (map (λ y. y.0.token) w) ≤ 2000000
 short w n h e l = let same : length (map (λ y. y.0.token) w) ≡ length w = length-map w (λ y. y.0.token) in omega (arith, same, h, e, l)
 
-spells_short : (bytes : List ℕ) (ts : Tokens) → Lexes bytes ts → length ts.tokens ≤ 2000000
-spells_short bytes ts l = l.reaches.limit
+-- tokens without places, by the tokens alone
+bare_apart : (ts : List Placed) → map unplaced ts ≡ map (λ t. record { token = t; place = origin }) (bare ts)
+bare_apart [] = refl
+bare_apart (t ∷ ts) = ap (λ us. unplaced t ∷ us) (bare_apart ts)
 
-pub tree_printed : (tree : FileTree) → IsTreeOfFile tree → (bytes : List ℕ) → (AreSpellable (file_tokens tree) → length (file_tokens tree) ≤ 2000000 → IsFileOf bytes (file_tokens tree)) → IsFileOfTree bytes tree
+same_apart : (ts us : List Placed) → bare ts ≡ bare us → map unplaced ts ≡ map unplaced us
+same_apart ts us e = bare_apart ts ∙ ap (map (λ t. record { token = t; place = origin })) e ∙ sym (bare_apart us)
+
+-- the tree of a file's tokens
+pub file_tree : (bytes : List ℕ) (ts : Tokens) → Lexes bytes ts → (tree : FileTree) → Derives ts.tokens tree → IsSpelledTree tree
+file_tree bytes ts l tree d = record { tokens = ts.tokens; spellable = spells_spellable bytes ts l; few = l.reaches.limit; derived = d }
+
+pub tree_printed : (tree : FileTree) → IsSpelledTree tree → (bytes : List ℕ) → (AreSpellable (file_tokens tree) → length (file_tokens tree) ≤ 2000000 → IsFileOf bytes (file_tokens tree)) → IsFileOfTree bytes tree
 tree_printed tree h bytes f =
     let d = h.derived in
-    let read : AreSpellable (bare h.tokens.tokens) = spells_spellable h.bytes h.tokens h.lexed in
-    let good : AllGood IsSpellable d.word = good_of d.word (subst (λ ts. AreSpellable (bare ts)) (sym d.whole) read) in
+    let good : AllGood IsSpellable d.word = good_of d.word (subst (λ ts. AreSpellable (bare ts)) (sym d.whole) h.spellable) in
     let p : Printed IsSpellable (λ u x. Spells productions 0 file u x) tree (file_tokens tree) (length d.word) = file_printed IsSpellable kept d.word tree d.spells good in
     let spellable : AreSpellable (file_tokens tree) = subst AreSpellable p.bare (of_good p.word p.kept) in
-    let few : length (file_tokens tree) ≤ 2000000 = subst (λ ts. length ts ≤ 2000000) p.bare (short p.word (length d.word) p.short (size d.word h.tokens.tokens d.whole) (spells_short h.bytes h.tokens h.lexed)) in
+    let few : length (file_tokens tree) ≤ 2000000 = subst (λ ts. length ts ≤ 2000000) p.bare (short p.word (length d.word) p.short (size d.word h.tokens d.whole) h.few) in
     let text = f spellable few in
+    let same : bare (toks p.word) ≡ bare text.0.tokens = bare_toks p.word ∙ p.bare ∙ sym text.2 in
     record {
       tokens = text.0;
       lexed = text.1;
+      read = spelled_elsewhere file_carried 0 p.word tree text.0.tokens p.spells (same_apart text.0.tokens (toks p.word) (sym same));
       own = toks p.word;
-      same = bare_toks p.word ∙ p.bare ∙ sym text.2;
+      same = same;
       derived = record { word = p.word; whole = refl; spells = p.spells };
     }

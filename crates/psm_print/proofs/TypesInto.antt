@@ -14,7 +14,7 @@ use Rattle.psm_tree.specs.ExprGrammar
 use Rattle.psm_tree.specs.ExprGrammar.{target, next_names, names, names_in_parens, targets, type_length, precision, numeric_type, varchar_type, plain_type, varying, char_length, char_type, data_type, constant}
 use Rattle.psm_tree.specs.declared.types.TypeForm.{TypeForm}
 use Rattle.psm_tree.specs.declared.types.TypeForm.TheVariants as forms
-use Rattle.psm_print.specs.Spelling.{word, sign, perhaps, each, in_parens}
+use Rattle.psm_print.specs.Spelling.{word, sign, perhaps, each}
 use Rattle.psm_print.specs.ExprTokens.{name_tokens, target_tokens, names_tokens, enclosed_names_tokens, targets_tokens, number_tokens, precision_tokens, length_tokens, type_tokens, constant_tokens}
 use Rattle.psm_print.proofs.Into.{Setting, Into, said, into_seq, into_seq_if, left_out, or_from, or_left, or_right, into_or, seq_or, into_image, into_nothing, into_perhaps, into_each}
 use Rattle.psm_print.proofs.Tokens.{into_word, behind_sign, into_parens, into_commas}

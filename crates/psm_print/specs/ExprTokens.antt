@@ -1,6 +1,6 @@
 -- The tokens that are printed for names, types, constants, expressions and queries: of each tree the shortest
 -- of its spellings, with every name delimited.
-use Rattle.std.specs.Prelude.{Bool, true, false, [], ◌∷◌, ◌++◌, Option, map, option_map}
+use Rattle.std.specs.Prelude.{Bool, true, false, [], ◌∷◌, ◌++◌, Option, option_map}
 use Rattle.psm_num.specs.Num.{Num}
 use Rattle.psm_list.specs.Several.{several_map}
 use Rattle.psm_token.specs.declared.word.Word.TheVariants as w

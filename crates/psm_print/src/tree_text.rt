@@ -1,6 +1,6 @@
 //! The text of a tree.
 ghost use Rattle.std.specs.Prelude.{IfOk, string_bytes};
-ghost use Rattle.psm_print.specs.Printing.{IsTreeOfFile, IsFileOfTree};
+ghost use Rattle.psm_print.specs.Printing.{IsSpelledTree, IsFileOfTree};
 
 use crate::files::file;
 use psm_spell::Writer;
@@ -11,13 +11,14 @@ use std::alloc::{AllocError, Global};
 /// that may be left out are left out, a line ends behind each semicolon, and a blank stands between two tokens
 /// else (ISO/IEC 9075-4:1996, module definitions).
 ///
-/// The tree is to be that of some file. The tokens of the text are, places apart, tokens that spell exactly
-/// the tree, so that reading the text gives the tree again but for the places.
+/// The tree is to be one that some tokens spell, wherever they stand: tokens that can be written, 2,000,000 at
+/// most. The tokens of the text spell a tree that is this one, places apart, so that reading the text gives
+/// the tree again but for the places; set where the tree has its parts, they spell exactly it.
 ///
 /// # Errors
 /// Want of memory alone.
 pub fn print(alloc: Global, tree: &FileTree) -> Result<String, AllocError>
-    requires { IsTreeOfFile tree.now }
+    requires { IsSpelledTree tree.now }
     ensures { IfOk result (λ text. IsFileOfTree (string_bytes text) tree.now) }
 {
     let mut out = Writer::new(alloc);

@@ -6,12 +6,14 @@ use Rattle.psm_grammar.specs.Grammar.{Spells}
 use Rattle.psm_grammar.specs.Places.{moved, Unnoticed}
 use Rattle.psm_grammar.proofs.Fitting.{Fit}
 use Rattle.psm_grammar.proofs.Moved.{spells_moved, one_apart}
+use Rattle.psm_grammar.proofs.Retold.{word_of, spells_retold}
 use Rattle.psm_tree.specs.Parts.{Part, Enclosed, Arguments, ExistsRest, CaseRest, CastRest, CoalesceRest, NullIfRest, FunctionRest, PositionRest, SubstringRest, TrimRest, BeginRest, LoopRest, WhileRest, RepeatRest, ForRest, IfRest, CaseStatementRest, HandlerRest, BodyRest, DeclareRest}
 use Rattle.psm_tree.specs.ExprGrammar.{Gram}
 use Rattle.psm_tree.specs.Productions.{productions}
 use Rattle.psm_tree.proofs.ExprFits.{after}
 use Rattle.psm_tree.proofs.Readable.{height, readable}
 use Rattle.psm_unplaced.specs.Unplaced.{unplaced}
+use Rattle.psm_unplaced.specs.Elsewhere.{SpellsApart}
 use Rattle.psm_unplaced.proofs.ValuesUnplaced.{part_unplaced}
 use Rattle.psm_unplaced.proofs.Carried.{Carried}
 use Rattle.psm_unplaced.proofs.ExprCarried.{enclosed_carried, arguments_carried, exists_carried, case_carried, cast_carried, coalesce_carried, nullif_carried, function_carried, position_carried, substring_carried, trim_carried}
@@ -51,3 +53,10 @@ spelled_apart {g} {h} {follow} fit carried depth = one_apart productions unplace
 -- tokens without places spell the value without places
 pub spelled_unplaced : {X : Type 0} {g : Gram X} {h : X → X} → Carried h g → (depth : ℕ) (w : Words Placed) (x : X) → Spells productions depth g w x → Spells productions depth g (moved unplaced w) (h x)
 spelled_unplaced {g} {h} carried depth = spells_moved productions unplaced part_unplaced unnoticed depth g h carried.holds
+
+-- tokens that are those of a word, places apart, spell a value that is the word's, places apart
+pub spelled_elsewhere : {X : Type 0} {g : Gram X} {h : X → X} → Carried h g → (depth : ℕ) (w : Words Placed) (x : X) (ts : List Placed) → Spells productions depth g w x → map unplaced ts ≡ map unplaced (toks w) → SpellsApart g h depth ts x
+spelled_elsewhere {g} {h} carried depth w x ts l m =
+    let u = word_of unplaced ts w m in
+    let r = spells_retold productions unplaced part_unplaced unnoticed depth g h carried.holds w x l u.0 u.2 in
+    record { word = u.0; whole = u.1; own = r.value; spells = r.spells; same = r.same }

@@ -1,5 +1,5 @@
 //! What holds of the grammar where places are forgotten.
-ghost use Rattle.std.specs.Prelude.{◌≡◌, ℕ, map};
+ghost use Rattle.std.specs.Prelude.{◌≡◌, ℕ, List, map};
 ghost use Rattle.psm_token.specs.declared.token.Placed.{Placed};
 ghost use Rattle.psm_grammar.specs.Language.{Words, toks};
 ghost use Rattle.psm_grammar.specs.Grammar.{Spells};
@@ -13,6 +13,7 @@ ghost use Rattle.psm_tree.specs.declared.statement.Statement.{Statement as State
 ghost use Rattle.psm_tree.specs.declared.file.FileTree.{FileTree as TheFile};
 ghost use Rattle.psm_tree.specs.declared.script.ScriptTree.{ScriptTree as TheScript};
 ghost use Rattle.psm_unplaced.specs.Unplaced.{unplaced};
+ghost use Rattle.psm_unplaced.specs.Elsewhere.{SpellsApart};
 ghost use Rattle.psm_unplaced.specs.ExprUnplaced.{expr_unplaced};
 ghost use Rattle.psm_unplaced.specs.StatementUnplaced.{statement_unplaced};
 ghost use Rattle.psm_unplaced.specs.FileUnplaced.{file_unplaced, script_unplaced};
@@ -33,4 +34,12 @@ pub fn trees_without_places()
     ensures of_script { (w : Words Placed) (x : TheScript) → Spells productions 0 script w x → Spells productions 0 script (moved unplaced w) (script_unplaced x) }
     ensures of_expr { (depth : ℕ) (w : Words Placed) (x : ExprTree) → Spells productions depth expr w x → Spells productions depth expr (moved unplaced w) (expr_unplaced x) }
     ensures of_statement { (depth : ℕ) (w : Words Placed) (x : StatementTree) → Spells productions depth statement w x → Spells productions depth statement (moved unplaced w) (statement_unplaced x) }
+{}
+
+/// Tokens that are those of a tree, places apart, spell a tree that is the same, places apart.
+pub fn trees_at_other_places()
+    ensures of_file { (w : Words Placed) (x : TheFile) (ts : List Placed) → Spells productions 0 file w x → map unplaced ts ≡ map unplaced (toks w) → SpellsApart file file_unplaced 0 ts x }
+    ensures of_script { (w : Words Placed) (x : TheScript) (ts : List Placed) → Spells productions 0 script w x → map unplaced ts ≡ map unplaced (toks w) → SpellsApart script script_unplaced 0 ts x }
+    ensures of_expr { (depth : ℕ) (w : Words Placed) (x : ExprTree) (ts : List Placed) → Spells productions depth expr w x → map unplaced ts ≡ map unplaced (toks w) → SpellsApart expr expr_unplaced depth ts x }
+    ensures of_statement { (depth : ℕ) (w : Words Placed) (x : StatementTree) (ts : List Placed) → Spells productions depth statement w x → map unplaced ts ≡ map unplaced (toks w) → SpellsApart statement statement_unplaced depth ts x }
 {}

@@ -1,5 +1,5 @@
 -- What FOR has written, by its equation.
-use Rattle.std.proofs.Common.{◌≡◌, ◌++◌, ◌∙◌, ap, arith}
+use Rattle.std.proofs.Common.{◌∙◌, ap, arith}
 use Rattle.std.proofs.lemmas.List.{append_assoc, append-nil}
 use Rattle.psm_print.specs.StatementTokens.{block_tokens}
 use Rattle.psm_print.proofs.Equations.{block-For}
