@@ -89,13 +89,32 @@ fn told_rows<S: Store, T: Store, L: Ledger>(
 {
     let mut told = String::new(alloc);
     'rows: for row in rows.lines() {
-        told.push_str(row)?;
-        if !row.starts_with('#') {
-            let answer = answer(alloc, row, alone, copies, journal, steps)?;
-            told.push_str(" | ")?;
-            told.push_str(answer.as_str())?;
-        }
+        let one = told_row(alloc, row, alone, copies, journal, steps)?;
+        told.push_str(one.as_str())?;
         told.push_str("\n")?;
     }
     Ok(told)
+}
+
+// A line that begins with `#` is told as it is.
+fn told_row<S: Store, T: Store, L: Ledger>(
+    alloc: Global,
+    row: &str,
+    alone: &mut Alone,
+    copies: &mut Bench<S>,
+    journal: &mut Bench<T>,
+    steps: &mut Steps<L>,
+) -> Result<String>
+    requires alone { IsAlone alone.old.table alone.old.left }
+    requires copies { IsBench (S.tables copies.old.store) (S.marks copies.old.store) (S.holds copies.old.store) copies.old.marks.items }
+    requires journal { IsBench (T.tables journal.old.store) (T.marks journal.old.store) (T.holds journal.old.store) journal.old.marks.items }
+    ensures alone { IsAlone alone.new.table alone.new.left }
+    ensures copies { IsBench (S.tables copies.new.store) (S.marks copies.new.store) (S.holds copies.new.store) copies.new.marks.items }
+    ensures journal { IsBench (T.tables journal.new.store) (T.marks journal.new.store) (T.holds journal.new.store) journal.new.marks.items }
+{
+    if row.starts_with('#') {
+        return Ok(String::from_str(alloc, row)?);
+    }
+    let answer = answer(alloc, row, alone, copies, journal, steps)?;
+    Ok(format!(in alloc; "{row} | {answer}")?)
 }
