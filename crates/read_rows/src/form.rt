@@ -1,6 +1,7 @@
 //! What a tree is, in a word or two.
 
-use psm_tree::{DataType, Expr, Junction, Pick, Simple, Statement, Target, TypeForm};
+use psm_list::{Boxed, OneOrMore};
+use psm_tree::{Block, DataType, Expr, Junction, Pick, Simple, Statement, Target, TypeForm};
 
 pub fn expression(expr: &Expr) -> &'static str {
     match expr {
@@ -35,10 +36,12 @@ pub fn expression(expr: &Expr) -> &'static str {
     }
 }
 
-pub fn picks(picks: &[Pick]) -> &'static str {
-    match picks {
-        [Pick::All { .. }] => "all columns",
-        [_] => "one item",
+pub fn picks(picks: &OneOrMore<Boxed<Pick>>) -> &'static str {
+    match picks.rest.items() {
+        [] => match picks.first.get() {
+            Pick::All { .. } => "all columns",
+            _ => "one item",
+        },
         _ => "items",
     }
 }
@@ -62,14 +65,20 @@ pub fn data_type(kind: &DataType) -> &'static str {
 
 pub fn statement(statement: &Statement) -> &'static str {
     match statement {
-        Statement::Compound { .. } => "compound",
-        Statement::Loop { .. } => "loop",
-        Statement::While { .. } => "while",
-        Statement::Repeat { .. } => "repeat",
-        Statement::For { .. } => "for",
+        Statement::Block { block, .. } => block_statement(block.get()),
         Statement::If { .. } => "if",
         Statement::Case { .. } => "case",
-        Statement::Simple(simple) => simple_statement(simple),
+        Statement::Simple(simple) => simple_statement(simple.get()),
+    }
+}
+
+fn block_statement(block: &Block) -> &'static str {
+    match block {
+        Block::Compound { .. } => "compound",
+        Block::Loop { .. } => "loop",
+        Block::While { .. } => "while",
+        Block::Repeat { .. } => "repeat",
+        Block::For { .. } => "for",
     }
 }
 

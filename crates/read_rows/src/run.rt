@@ -19,11 +19,11 @@ pub fn run(alloc: Global, list: &TokenList, part: Part, row: Row<'_>) -> Result<
     match part {
         Part::Expression => {
             let (expr, behind) = parse_expr(alloc, list, at, row.depth)?;
-            told(alloc, form::expression(&expr), behind)
+            told(alloc, form::expression(expr.get()), behind)
         }
         Part::Picks => {
             let (picks, behind) = parse_picks(alloc, list, at, row.depth)?;
-            told(alloc, form::picks(picks.items()), behind)
+            told(alloc, form::picks(&picks), behind)
         }
         Part::Target => {
             let (target, behind) = parse_target(alloc, list, at, row.depth)?;
@@ -35,7 +35,7 @@ pub fn run(alloc: Global, list: &TokenList, part: Part, row: Row<'_>) -> Result<
         }
         Part::Statement => {
             let (statement, behind) = parse_stmt(alloc, list, at, row.depth)?;
-            told(alloc, form::statement(&statement), behind)
+            told(alloc, form::statement(statement.get()), behind)
         }
     }
 }

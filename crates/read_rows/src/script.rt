@@ -1,6 +1,7 @@
 //! Scripts.
 
 use crate::fault::Fault;
+use psm_list::Boxed;
 use psm_parse_file::parse_script;
 use psm_token::TokenList;
 use psm_tree::{Command, Names};
@@ -33,14 +34,14 @@ fn put_command(alloc: Global, told: &mut String, command: &Command) -> Result<()
         Command::Insert {
             table,
             columns,
-            rest,
+            rows,
             ..
         } => {
             let insert = format!(in alloc;
                 " INSERT {} ({}) {}",
                 table.name.as_str(),
                 column_count(columns),
-                rest.items().len().saturating_add(1)
+                rows.rest.items().len().saturating_add(1)
             )?;
             told.push_str(insert.as_str())
         }
@@ -50,9 +51,9 @@ fn put_command(alloc: Global, told: &mut String, command: &Command) -> Result<()
     }
 }
 
-fn column_count(columns: &Option<Names>) -> usize {
+fn column_count(columns: &Option<Boxed<Names>>) -> usize {
     match columns {
         None => 0,
-        Some(names) => names.rest.items().len().saturating_add(1),
+        Some(names) => names.get().rest.items().len().saturating_add(1),
     }
 }
