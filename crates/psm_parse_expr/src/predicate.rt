@@ -1,7 +1,7 @@
 //! Predicates: a value, and what is asked of it (ISO/IEC 9075:1992, 8.1 to 8.6).
 ghost use Rattle.std.specs.Prelude.{◌≡◌, IfOk};
 ghost use Rattle.psm_grammar.specs.Forms.{optional};
-ghost use Rattle.psm_tree.specs.ExprGrammar.{between as between_part, next_sum as next_sum_part, next_sums as next_sums_part, sums_in_parens as sums_in_parens_part, in_list as in_list_part, escape as escape_part, like as like_part, is_null as is_null_part, compare as compare_part, negatable as negatable_part, negated_test as negated_test_part, test as test_part, predicate as predicate_part};
+ghost use Rattle.psm_tree.specs.ExprGrammar.{between as between_part, next_sum as next_sum_part, next_sums as next_sums_part, sums_in_parens as sums_in_parens_part, in_list as in_list_part, escape as escape_part, like as like_part, is_null as is_null_part, compare as compare_part, negatable as negatable_part, negated_test as negated_test_part, predicate_rest as predicate_rest_part, predicate as predicate_part};
 ghost use Rattle.psm_tree.specs.ExprValues.{predicate_of};
 ghost use Rattle.psm_tree.specs.Readers.{Takes, TakesAs, reading};
 ghost use Rattle.psm_parse_expr.specs.Views.{test_of};
@@ -210,9 +210,9 @@ pub(crate) fn negated_test(alloc: Global, tokens: &mut Tokens, levels: u32) -> R
 
 /// `[compare | is_null | negated_test | between | in_list | like]`
 #[cycle(expressions)]
-#[tactic(auto, using(psm_tree::proofs::Reading::steps, psm_tree::proofs::Firsts::first_compare, psm_tree::proofs::Firsts::first_is_null, psm_tree::proofs::Firsts::first_negated_test, psm_tree::proofs::Firsts::first_between, psm_tree::proofs::Firsts::first_in_list, psm_tree::proofs::Firsts::first_like), unfolding(psm_tree::specs::ExprGrammar::test))]
-pub(crate) fn perhaps_test(alloc: Global, tokens: &mut Tokens, levels: u32) -> Result<Test, Halt>
-    ensures { TakesAs test_of (reading levels test_part tokens.old.rest.now) result tokens.new.rest.now }
+#[tactic(auto, using(psm_tree::proofs::Reading::steps, psm_tree::proofs::Firsts::first_compare, psm_tree::proofs::Firsts::first_is_null, psm_tree::proofs::Firsts::first_negated_test, psm_tree::proofs::Firsts::first_between, psm_tree::proofs::Firsts::first_in_list, psm_tree::proofs::Firsts::first_like), unfolding(psm_tree::specs::ExprGrammar::predicate_rest))]
+pub(crate) fn predicate_rest(alloc: Global, tokens: &mut Tokens, levels: u32) -> Result<Test, Halt>
+    ensures { TakesAs test_of (reading levels predicate_rest_part tokens.old.rest.now) result tokens.new.rest.now }
 {
     if tokens.at_one_sign_of(&COMPARISONS) {
         return compare(alloc, tokens, levels);
@@ -243,7 +243,7 @@ pub(crate) fn perhaps_test(alloc: Global, tokens: &mut Tokens, levels: u32) -> R
     Ok(Test::Nothing)
 }
 
-/// `sum test` (ISO/IEC 9075:1992, 8.1).
+/// `sum predicate_rest` (ISO/IEC 9075:1992, 8.1).
 #[cycle(expressions)]
 #[tactic(auto, using(psm_tree::proofs::Reading::steps), unfolding(psm_tree::specs::ExprGrammar::predicate))]
 pub(crate) fn predicate(
@@ -254,7 +254,7 @@ pub(crate) fn predicate(
     ensures { Takes (reading levels predicate_part tokens.old.rest.now) result tokens.new.rest.now }
 {
     let value = sum(alloc, tokens, levels)?;
-    let test = perhaps_test(alloc, tokens, levels)?;
+    let test = predicate_rest(alloc, tokens, levels)?;
     Ok(asked(alloc, value, test)?)
 }
 

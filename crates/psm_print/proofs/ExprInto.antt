@@ -10,7 +10,7 @@ use Rattle.psm_grammar.specs.Language.{Words}
 use Rattle.psm_tree.specs.Parts.{Inside, Value, Query}
 use Rattle.psm_tree.specs.ExprValues.{several, target_of, expr_of, conjunction_of, Test, Nothing, Compare, IsNull, Between, In, Like, predicate_of, null_of, chain_of, NameRest, Bare, Dotted, Called, named, enclosed_of}
 use Rattle.psm_tree.specs.ExprGrammar
-use Rattle.psm_tree.specs.ExprGrammar.{name_rest, named_primary, worded_primary, primary, factor, next_factors, term, next_terms, sum, between, sums_in_parens, in_list, like, is_null, negatable, negated_test, test, predicate, negation, conjunction, expr, source, next_sources, sources}
+use Rattle.psm_tree.specs.ExprGrammar.{name_rest, named_primary, worded_primary, primary, factor, next_factors, term, next_terms, sum, between, sums_in_parens, in_list, like, is_null, negatable, negated_test, predicate_rest, predicate, negation, conjunction, expr, source, next_sources, sources}
 use Rattle.psm_tree.specs.declared.name.Identifier.{Identifier}
 use Rattle.psm_tree.specs.declared.expr.Expr.{Expr}
 use Rattle.psm_tree.specs.declared.expr.Junction.TheVariants as junctions
@@ -159,7 +159,7 @@ unfolding ExprGrammar.all_expressions
 is_null_into = into_seq_if test_tokens (λ x. word w.Is ++ behind_is x ≡ test_tokens x) (λ u x l. subst (λ x. word w.Is ++ behind_is x ≡ test_tokens x) (sym l.made) (null_test l.one l.two)) (into_word w.Is)
     (into_seq behind_is (into_perhaps [] (λ a. word w.Not) (into_word w.Not) (λ x. refl)) (into_word w.Null) null_told) (λ a x e. e)
 
-test_into : {z : Setting} → Into z test test test_tokens
+test_into : {z : Setting} → Into z predicate_rest predicate_rest test_tokens
 unfolding ExprGrammar.all_expressions
 test_into = into_or (into_seq test_tokens into_comparison sum_into (λ x y. refl)) (into_or is_null_into (into_or negated_into
     (into_or (into_image test_tokens between_into (λ x. refl)) (into_or (into_image test_tokens in_list_into (λ x. refl)) (into_or (into_image test_tokens like_into (λ x. refl)) (into_nothing test_tokens refl))))))

@@ -102,9 +102,9 @@ negated_test_fit : Fits behind_negation ExprGrammar.negated_test
 unfolding ExprGrammar.all_expressions
 negated_test_fit = fit_seq (fit_token refl) (fit_or refl refl (fit_image between_fit) (fit_or refl refl (fit_image in_list_fit) (fit_image like_fit)))
 
-test_fit : Fits behind_negation ExprGrammar.test
+predicate_rest_fit : Fits behind_negation ExprGrammar.predicate_rest
 unfolding ExprGrammar.all_expressions
-test_fit = fit_or refl refl (fit_seq (fit_token refl) (fit_fewer refl sum_fit))
+predicate_rest_fit = fit_or refl refl (fit_seq (fit_token refl) (fit_fewer refl sum_fit))
     (fit_or refl refl (record { holds = refl })
     (fit_or refl refl negated_test_fit
     (fit_or refl refl (fit_image between_fit)
@@ -113,7 +113,7 @@ test_fit = fit_or refl refl (fit_seq (fit_token refl) (fit_fewer refl sum_fit))
 
 predicate_fit : Fits behind_negation ExprGrammar.predicate
 unfolding ExprGrammar.all_expressions
-predicate_fit = fit_seq (fit_fewer refl sum_fit) test_fit
+predicate_fit = fit_seq (fit_fewer refl sum_fit) predicate_rest_fit
 
 negation_fit : Fits behind_negation ExprGrammar.negation
 unfolding ExprGrammar.all_expressions

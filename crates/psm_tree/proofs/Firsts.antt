@@ -168,9 +168,9 @@ pub first_negated_test : first ExprGrammar.negated_test ≡ word_kind w.Not ∷ 
 unfolding ExprGrammar.all_expressions
 first_negated_test = refl
 
-pub first_test : first ExprGrammar.test ≡ sign_kind s.Equal ∷ sign_kind s.NotEqual ∷ sign_kind s.Less ∷ sign_kind s.LessEqual ∷ sign_kind s.Greater ∷ sign_kind s.GreaterEqual ∷ word_kind w.Is ∷ word_kind w.Not ∷ word_kind w.Between ∷ word_kind w.In ∷ word_kind w.Like ∷ []
+pub first_predicate_rest : first ExprGrammar.predicate_rest ≡ sign_kind s.Equal ∷ sign_kind s.NotEqual ∷ sign_kind s.Less ∷ sign_kind s.LessEqual ∷ sign_kind s.Greater ∷ sign_kind s.GreaterEqual ∷ word_kind w.Is ∷ word_kind w.Not ∷ word_kind w.Between ∷ word_kind w.In ∷ word_kind w.Like ∷ []
 unfolding ExprGrammar.all_expressions
-first_test = refl
+first_predicate_rest = refl
 
 pub first_next_negation : first ExprGrammar.next_negation ≡ word_kind w.And ∷ []
 unfolding ExprGrammar.all_expressions
@@ -284,7 +284,7 @@ pub first_trim_rest : first ExprGrammar.trim_rest ≡ sign_kind s.LeftParen ∷ 
 unfolding ExprGrammar.all_expressions
 first_trim_rest = refl
 
-pub ruleset expr_firsts = (first_second_name, first_target, first_next_name, first_next_names, first_names, first_names_in_parens, first_next_target, first_next_targets, first_targets, first_type_length, first_scale, first_precision, first_numeric_type, first_varchar_type, first_plain_type, first_varying, first_char_length, first_char_rest, first_char_type, first_data_type, first_constant, first_name_rest, first_named_primary, first_worded_primary, first_next_factor, first_next_factors, first_next_term, first_next_terms, first_between, first_next_sum, first_next_sums, first_sums_in_parens, first_in_list, first_escape, first_like, first_is_null, first_compare, first_negatable, first_negated_test, first_test, first_next_negation, first_next_negations, first_next_conjunction, first_next_conjunctions, first_next_source, first_next_sources, first_count, first_aggregate, first_next_pick, first_next_picks, first_where_condition, first_from_table, first_select, first_exists_rest, first_when, first_next_whens, first_otherwise, first_all_whens, first_whens, first_cast_rest, first_coalesce_rest, first_nullif_rest, first_function_rest, first_position_rest, first_for_length, first_substring_rest, first_sided, first_trim_rest)
+pub ruleset expr_firsts = (first_second_name, first_target, first_next_name, first_next_names, first_names, first_names_in_parens, first_next_target, first_next_targets, first_targets, first_type_length, first_scale, first_precision, first_numeric_type, first_varchar_type, first_plain_type, first_varying, first_char_length, first_char_rest, first_char_type, first_data_type, first_constant, first_name_rest, first_named_primary, first_worded_primary, first_next_factor, first_next_factors, first_next_term, first_next_terms, first_between, first_next_sum, first_next_sums, first_sums_in_parens, first_in_list, first_escape, first_like, first_is_null, first_compare, first_negatable, first_negated_test, first_predicate_rest, first_next_negation, first_next_negations, first_next_conjunction, first_next_conjunctions, first_next_source, first_next_sources, first_count, first_aggregate, first_next_pick, first_next_picks, first_where_condition, first_from_table, first_select, first_exists_rest, first_when, first_next_whens, first_otherwise, first_all_whens, first_whens, first_cast_rest, first_coalesce_rest, first_nullif_rest, first_function_rest, first_position_rest, first_for_length, first_substring_rest, first_sided, first_trim_rest)
 
 pub first_state_text : first StatementGrammar.state_text ≡ word_kind w.Value ∷ text_kind ∷ []
 unfolding StatementGrammar.all_statements

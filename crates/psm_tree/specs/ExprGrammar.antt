@@ -219,9 +219,9 @@ negatable = or (image (between_of true) between)
 unfoldable pub negated_test : Gram Test
 negated_test = behind_token (word w.Not) negatable
 
--- test = [compare | is_null | negated_test | between | in_list | like]
-unfoldable pub test : Gram Test
-test = or compare
+-- predicate_rest = [compare | is_null | negated_test | between | in_list | like]
+unfoldable pub predicate_rest : Gram Test
+predicate_rest = or compare
     (or is_null
     (or negated_test
     (or (image (between_of false) between)
@@ -229,9 +229,9 @@ test = or compare
     (or (image (like_of false) like)
     (nothing Nothing))))))
 
--- predicate = sum test
+-- predicate = sum predicate_rest
 unfoldable pub predicate : Gram Expr
-predicate = seq predicate_of sum test
+predicate = seq predicate_of sum predicate_rest
 
 -- negation = [NOT] predicate
 unfoldable pub negation : Gram Expr
@@ -392,5 +392,5 @@ trim_rest = behind_token (sign s.LeftParen) trimmed
 -- ---- a name that opens every production of names, types, constants, expressions and queries
 
 unfoldable pub all_expressions : Unit {0}
-unfolding second_name target next_name next_names names names_in_parens next_target next_targets targets type_length scale precision numeric_type varchar_type plain_type varying char_length char_rest char_type data_type constant name_rest named_primary worded_primary primary factor next_factor next_factors term next_term next_terms sum between next_sum next_sums sums_in_parens in_list escape like is_null compare negatable negated_test test predicate negation next_negation next_negations conjunction next_conjunction next_conjunctions expr source next_source next_sources sources counted count aggregate item alias pick next_pick next_picks picks where_condition from_table select enclosed argument_list arguments exists_rest when next_whens otherwise all_whens whens case_rest cast_rest coalesce_rest nullif_rest function_rest position_rest for_length substring_rest sided trimmed trim_rest
+unfolding second_name target next_name next_names names names_in_parens next_target next_targets targets type_length scale precision numeric_type varchar_type plain_type varying char_length char_rest char_type data_type constant name_rest named_primary worded_primary primary factor next_factor next_factors term next_term next_terms sum between next_sum next_sums sums_in_parens in_list escape like is_null compare negatable negated_test predicate_rest predicate negation next_negation next_negations conjunction next_conjunction next_conjunctions expr source next_source next_sources sources counted count aggregate item alias pick next_pick next_picks picks where_condition from_table select enclosed argument_list arguments exists_rest when next_whens otherwise all_whens whens case_rest cast_rest coalesce_rest nullif_rest function_rest position_rest for_length substring_rest sided trimmed trim_rest
 all_expressions = tt

@@ -233,9 +233,9 @@ negated_test_carried = carried_behind (carried_or (carried_image between_carried
     (carried_or (carried_image in_list_carried (λ x. refl))
     (carried_image like_carried (λ x. refl))))
 
-test_carried : Carried test_unplaced ExprGrammar.test
+predicate_rest_carried : Carried test_unplaced ExprGrammar.predicate_rest
 unfolding ExprGrammar.all_expressions
-test_carried = carried_or compare_carried
+predicate_rest_carried = carried_or compare_carried
     (carried_or is_null_carried
     (carried_or negated_test_carried
     (carried_or (carried_image between_carried (λ x. refl))
@@ -259,7 +259,7 @@ negated_made place condition = sym (expr_rolled (layers.Not place condition))
 
 predicate_carried : Carried expr_unplaced ExprGrammar.predicate
 unfolding ExprGrammar.all_expressions
-predicate_carried = carried_seq sum_carried test_carried predicate_made
+predicate_carried = carried_seq sum_carried predicate_rest_carried predicate_made
 
 negation_carried : Carried expr_unplaced ExprGrammar.negation
 unfolding ExprGrammar.all_expressions

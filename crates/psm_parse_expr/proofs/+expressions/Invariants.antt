@@ -100,8 +100,8 @@ decreases-predicate::negatable l = 40 * l.levels + 13
 abbrev pub decreases-predicate::negated_test : goal.decreases-predicate::negated_test
 decreases-predicate::negated_test l = 40 * l.levels + 14
 
-abbrev pub decreases-predicate::perhaps_test : goal.decreases-predicate::perhaps_test
-decreases-predicate::perhaps_test l = 40 * l.levels + 15
+abbrev pub decreases-predicate::predicate_rest : goal.decreases-predicate::perhaps_test
+decreases-predicate::predicate_rest l = 40 * l.levels + 15
 
 abbrev pub decreases-predicate::predicate : goal.decreases-predicate::predicate
 decreases-predicate::predicate l = 40 * l.levels + 16
