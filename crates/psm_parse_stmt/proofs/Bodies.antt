@@ -6,11 +6,11 @@ use Rattle.psm_token.specs.declared.sign.Sign.TheVariants as s
 use Rattle.psm_token.specs.declared.token.Placed.{Placed}
 use Rattle.psm_token.specs.Kinds.{kind}
 use Rattle.psm_token.specs.Words.{word_kind}
-use Rattle.psm_grammar.specs.Grammar.{token, level, next, seq, or}
+use Rattle.psm_grammar.specs.Grammar.{token, next, seq, or}
 use Rattle.psm_grammar.specs.Forms.{earlier, later, optional, before_token}
 use Rattle.psm_grammar.specs.Readers.{Out, Reader, and_then, starts, one, both, made, first}
 use Rattle.psm_tree.specs.Tests.{At, word, sign, name, handler_kind}
-use Rattle.psm_tree.specs.Parts.{Phase, Declarations, Cursors, Handlers, HandlerRest, HandlerParts, BodyRest, DeclareRest, NamedRest, Variables, Condition, Cursor, Declared, Named, Handled, Body}
+use Rattle.psm_tree.specs.Parts.{Phase, Declarations, Cursors, Handlers, HandlerRest, HandlerParts, BodyRest, DeclareRest, NamedRest, Variables, Condition, Cursor, Declared, Handled, Body}
 use Rattle.psm_tree.specs.ExprValues.{pair}
 use Rattle.psm_tree.specs.ExprGrammar.{Gram, data_type}
 use Rattle.psm_tree.specs.StatementValues.{named_rest, declared, cursor_of, condition_of, variables_of, one_variable}

@@ -9,7 +9,7 @@ use Rattle.psm_grammar.specs.declared.halt.Halt.{Halt}
 use Rattle.psm_grammar.specs.Gives.{Halts}
 use Rattle.psm_grammar.specs.Grammar.{token, level, seq, or}
 use Rattle.psm_grammar.specs.Forms.{optional, before_token}
-use Rattle.psm_grammar.specs.Readers.{Out, Reader, and_then, one, made}
+use Rattle.psm_grammar.specs.Readers.{Reader, and_then, one, made}
 use Rattle.psm_tree.specs.Tests.{At, word, sign, name, handler_kind}
 use Rattle.psm_tree.specs.Parts.{Phase, Declarations, Cursors, Handlers, HandlerRest, HandlerParts, NamedRest, Variables, Condition, Cursor, Body}
 use Rattle.psm_tree.specs.ExprValues.{several}

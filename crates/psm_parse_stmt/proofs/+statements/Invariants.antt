@@ -1,5 +1,5 @@
 -- The levels that are left, and then who calls whom.
-use Rattle.std.proofs.Common.{ℕ, ◌+◌, ◌*◌, ◌-◌}
+use Rattle.std.proofs.Common.{◌+◌, ◌*◌, ◌-◌}
 use Rattle.psm_tree.specs.StatementGrammar.{ended_statement, elseif_branch, when_branch}
 use Rattle.psm_tree.specs.Readers.{Repeating}
 use Rattle.psm_parse_stmt.specs.Declaring.{Declaring}
