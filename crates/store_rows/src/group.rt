@@ -17,34 +17,40 @@ use std::alloc::Global;
 use std::marker::Brand;
 use std::sync::ledger::{Blank, Ledger};
 
-/// Prints each row of a group, which begins with empty tables, with what is answered to it.
-pub fn print_group(rt: &impl Print, alloc: Global, rows: &str) -> Result<()> {
-    let told = told_group::<Brand>(alloc, rows, Blank::new(1))?;
+/// Prints each row of the groups, which stand behind an empty line each, with what is answered to it.
+pub fn print_groups(rt: &impl Print, alloc: Global, text: String) -> Result<()> {
+    let told = told_groups::<Brand>(alloc, text, Blank::new(1))?;
     print!(rt; "{told}")?;
     Ok(())
 }
 
 // The row steps are counted, and nothing is done with their number.
-fn told_group<L: Ledger>(alloc: Global, rows: &str, blank: Blank) -> Result<String>
+fn told_groups<L: Ledger>(alloc: Global, text: String, blank: Blank) -> Result<String>
     requires name { blank.name ≡ L.name }
     requires parts { blank.parts ≡ L.parts }
     requires some { 0 < blank.parts }
 {
     let mut steps: Steps<L> = Steps::open(blank);
+    let mut told = String::new(alloc);
+    for (number, rows) in text.split("\n\n").enumerate() {
+        if number > 0 {
+            told.push_str("\n")?;
+        }
+        let group = told_group(alloc, rows, &mut steps)?;
+        told.push_str(group.as_str())?;
+    }
+    Ok(told)
+}
+
+// A group begins with empty tables.
+fn told_group<L: Ledger>(alloc: Global, rows: &str, steps: &mut Steps<L>) -> Result<String> {
     let Ok(mut alone) = Alone::new(alloc) else {
         bail!("no table");
     };
     let (Ok(mut copies), Ok(mut journal)) = (copying(alloc), journaling(alloc)) else {
         bail!("no store");
     };
-    told_rows(
-        alloc,
-        rows,
-        &mut alone,
-        &mut copies,
-        &mut journal,
-        &mut steps,
-    )
+    told_rows(alloc, rows, &mut alone, &mut copies, &mut journal, steps)
 }
 
 // A store of two tables that keeps copies.

@@ -23,17 +23,11 @@ mod told;
 mod walk;
 
 use anyhow::Result;
-use group::print_group;
+use group::print_groups;
 use std::io;
 
 fn main(rt: HostRuntime) -> Result<()> {
     let alloc = rt.alloc();
     let text = io::read_to_string(alloc, rt.reader())?;
-    for (number, rows) in text.split("\n\n").enumerate() {
-        if number > 0 {
-            println!(rt; "")?;
-        }
-        print_group(&rt, alloc, rows)?;
-    }
-    Ok(())
+    print_groups(&rt, alloc, text)
 }
