@@ -100,7 +100,7 @@ decreases-predicate::negatable l = 40 * l.levels + 13
 abbrev pub decreases-predicate::negated_test : goal.decreases-predicate::negated_test
 decreases-predicate::negated_test l = 40 * l.levels + 14
 
-abbrev pub decreases-predicate::predicate_rest : goal.decreases-predicate::perhaps_test
+abbrev pub decreases-predicate::predicate_rest : goal.decreases-predicate::predicate_rest
 decreases-predicate::predicate_rest l = 40 * l.levels + 15
 
 abbrev pub decreases-predicate::predicate : goal.decreases-predicate::predicate
