@@ -42,6 +42,7 @@ module _ (states : List State) (journal : List Entry) (marks : ℕ) (now : Undo)
   marked_undo h l = record {
     undoable = h.undoable;
     idle = λ e. let never : ⊥ = omega (arith, e) in absurd never;
+    tidy = λ e. let never : ⊥ = omega (arith, e) in absurd never;
     bound = omega (arith, l, same_marks);
   }
 
@@ -58,6 +59,7 @@ module _ (states : List State) (journal : List Entry) (marks : ℕ) (now : Undo)
   released_undo h mark held l = record {
     undoable = h.undoable;
     idle = λ e. let never : ⊥ = omega (arith, e, l) in absurd never;
+    tidy = λ e. let never : ⊥ = omega (arith, e, l) in absurd never;
     bound = omega (arith, h.bound, held.depth, same_marks);
   }
 
@@ -88,6 +90,7 @@ module _ (states : List State) (journal : List Entry) (marks : ℕ) (now : Undo)
       rolled_undo h g = record {
         undoable = g;
         idle = λ p. let never : ⊥ = omega (arith, p) in absurd never;
+        tidy = λ p. let never : ⊥ = omega (arith, p) in absurd never;
         bound = omega (arith, h.bound, held.depth, same_marks);
       }
 

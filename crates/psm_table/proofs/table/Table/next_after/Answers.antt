@@ -29,9 +29,9 @@ returns-in-Some-clause-fits c =
     ∙ ap (λ l. slice_get l 0) (sym (rows-above c.self.inside.def.key c.in-Some.key.now c.self.inside.rows.pairs c.self.invariant.keyed)) in
     subst (λ d. IfSome c.row_after.result (λ x. IsRow d x.now)) (ap (λ (s : State). s.contents.def) c.self.view_is)
     (listed_fits (IsRow c.self.inside.def) (rows_above c.self.inside.def.key c.in-Some.key.now (live_rows c.self.inside.rows.pairs)) 0 c.row_after.result
-    (All-filter (λ r. is_gt (row_order c.self.inside.def.key c.in-Some.key.now r)) (IsRow c.self.inside.def) (live_rows c.self.inside.rows.pairs) c.self.invariant.table.fit) read)
+    (All-filter (λ r. is_gt (row_order c.self.inside.def.key c.in-Some.key.now r)) (IsRow c.self.inside.def) (live_rows c.self.inside.rows.pairs) c.self.invariant.0.table.fit) read)
 
 pub returns-in-None-clause-fits : goal.returns-in-None-clause-fits
 returns-in-None-clause-fits c =
     subst (λ d. IfSome c.row_after-in-None.result (λ x. IsRow d x.now)) (ap (λ (s : State). s.contents.def) c.self.view_is)
-    (listed_fits (IsRow c.self.inside.def) (live_rows c.self.inside.rows.pairs) 0 c.row_after-in-None.result c.self.invariant.table.fit c.row_after-in-None.ensures)
+    (listed_fits (IsRow c.self.inside.def) (live_rows c.self.inside.rows.pairs) 0 c.row_after-in-None.result c.self.invariant.0.table.fit c.row_after-in-None.ensures)

@@ -28,9 +28,9 @@ returns-in-Some-clause-fits c =
     ∙ ap last_of (sym (rows-below c.self.inside.def.key c.in-Some.key.now c.self.inside.rows.pairs c.self.invariant.keyed)) in
     subst (λ d. IfSome c.row_before.result (λ x. IsRow d x.now)) (ap (λ (s : State). s.contents.def) c.self.view_is)
     (listed_fits (IsRow c.self.inside.def) (rows_below c.self.inside.def.key c.in-Some.key.now (live_rows c.self.inside.rows.pairs)) (length (rows_below c.self.inside.def.key c.in-Some.key.now (live_rows c.self.inside.rows.pairs)) - 1) c.row_before.result
-    (All-filter (λ r. is_lt (row_order c.self.inside.def.key c.in-Some.key.now r)) (IsRow c.self.inside.def) (live_rows c.self.inside.rows.pairs) c.self.invariant.table.fit) read)
+    (All-filter (λ r. is_lt (row_order c.self.inside.def.key c.in-Some.key.now r)) (IsRow c.self.inside.def) (live_rows c.self.inside.rows.pairs) c.self.invariant.0.table.fit) read)
 
 pub returns-in-None-clause-fits : goal.returns-in-None-clause-fits
 returns-in-None-clause-fits c =
     subst (λ d. IfSome c.row_before-in-None.result (λ x. IsRow d x.now)) (ap (λ (s : State). s.contents.def) c.self.view_is)
-    (listed_fits (IsRow c.self.inside.def) (live_rows c.self.inside.rows.pairs) (length (live_rows c.self.inside.rows.pairs) - 1) c.row_before-in-None.result c.self.invariant.table.fit c.row_before-in-None.ensures)
+    (listed_fits (IsRow c.self.inside.def) (live_rows c.self.inside.rows.pairs) (length (live_rows c.self.inside.rows.pairs) - 1) c.row_before-in-None.result c.self.invariant.0.table.fit c.row_before-in-None.ensures)
