@@ -72,12 +72,12 @@ module _ (x z : Key) (less : key_order x z ≡ Less) where
   others-has (y ∷ ys) h = others-has_step y ys (others x ys) (is_eq (key_order y z)) (is_eq (key_order y x)) refl (apart y) (others-has ys) h
 
 -- pairs in ascending order whose keys are all among some keys are no more than those
-pub ascending-within : {V : Type 0} (pairs : List (Pair V)) (keys : List Key) → AreAscending pairs → All (λ p. has_key keys p.key ≡ true) pairs → length pairs ≤ length keys
-ascending-within [] keys up h = omega arith
-ascending-within (p ∷ ps) keys up h =
-    let first = All-head (λ q. has_key keys q.key ≡ true) p ps h in
-    let rest : All (λ q. has_key (others p.key keys) q.key ≡ true) ps = λ k d l.
-    others-has p.key (get_or ps k d).key (AllPairs-first Rises p ps up k d l) keys (All-tail (λ q. has_key keys q.key ≡ true) p ps h k d l) in
+pub ascending-within : {V : Type 0} (pairs : List (Pair V)) (keys : List Key) → AreAscending pairs → All (λ (p : Pair V). has_key keys p.key ≡ true) pairs → length pairs ≤ length keys
+ascending-within {V} [] keys up h = omega arith
+ascending-within {V} (p ∷ ps) keys up h =
+    let first = All-head (λ (q : Pair V). has_key keys q.key ≡ true) p ps h in
+    let rest : All (λ (q : Pair V). has_key (others p.key keys) q.key ≡ true) ps = λ k d l.
+    others-has p.key (get_or ps k d).key (AllPairs-first Rises p ps up k d l) keys (All-tail (λ (q : Pair V). has_key keys q.key ≡ true) p ps h k d l) in
     omega (arith, ascending-within ps (others p.key keys) (AllPairs-rest Rises p ps up) rest, others-fewer p.key keys first)
 
 -- a row that is found has its entry among those of all rows
@@ -106,9 +106,9 @@ module _ (def : TableDef) (columns : List ℕ) (pairs : List Slot) (up : AreAsce
   -- so there are no more of them than rows
   pub current-within : (new old : List (Pair (Unit {0}))) → new ≡ filter (λ p. is_current def.key columns p.key (row_of (drop (length columns) p.key) pairs)) old → AreAscending new → length new ≤ length (live_rows pairs)
   current-within new old e ascend =
-      let among : All (λ p. has_key (map (entry_of def columns) (live_rows pairs)) p.key ≡ true) new =
-      subst (All (λ p. has_key (map (entry_of def columns) (live_rows pairs)) p.key ≡ true)) (sym e)
-      (filtered (λ p. is_current def.key columns p.key (row_of (drop (length columns) p.key) pairs)) (λ p. has_key (map (entry_of def columns) (live_rows pairs)) p.key ≡ true)
+      let among : All (λ (p : Pair (Unit {0})). has_key (map (entry_of def columns) (live_rows pairs)) p.key ≡ true) new =
+      subst (All (λ (p : Pair (Unit {0})). has_key (map (entry_of def columns) (live_rows pairs)) p.key ≡ true)) (sym e)
+      (filtered (λ (p : Pair (Unit {0})). is_current def.key columns p.key (row_of (drop (length columns) p.key) pairs)) (λ (p : Pair (Unit {0})). has_key (map (entry_of def columns) (live_rows pairs)) p.key ≡ true)
       (λ p c. current_found p.key (row_of (drop (length columns) p.key) pairs) refl c) old) in
       omega (arith, ascending-within new (map (entry_of def columns) (live_rows pairs)) ascend among, length-map (live_rows pairs) (entry_of def columns))
 
@@ -124,12 +124,12 @@ few-set n (x ∷ xs) (suc i) m l few h (suc k) d b = few-set n xs i m (omega (ar
 -- empty sets
 pub empty-pushed : (sets : Sets) (m : Mapped (Unit {0})) → m.pairs ≡ [] → All (λ es. length es ≤ 0) (entries_of sets) → All (λ es. length es ≤ 0) (entries_of (sets ++ m ∷ []))
 empty-pushed sets m e h =
-    subst (All (λ es. length es ≤ 0)) (sym (map-append (λ (x : Mapped (Unit {0})). keys_of x.pairs) sets (m ∷ [])))
-    (All-push (λ es. length es ≤ 0) (entries_of sets) (keys_of m.pairs) h (omega (arith, ap (λ ps. length (keys_of ps)) e)))
+    subst (All (λ (es : List Key). length es ≤ 0)) (sym (map-append (λ (x : Mapped (Unit {0})). keys_of x.pairs) sets (m ∷ [])))
+    (All-push (λ (es : List Key). length es ≤ 0) (entries_of sets) (keys_of m.pairs) h (omega (arith, ap (λ (ps : List (Pair (Unit {0}))). length (keys_of ps)) e)))
 
 pub counted-new : (def : TableDef) (rows : Mapped (Option (List Datum))) (sets : Sets) → rows.pairs ≡ [] → All (λ es. length es ≤ 0) (entries_of sets) → AreCounted (state_of def rows sets) 0
 counted-new def rows sets e none l = record {
-  places = omega (arith, ap (λ ps. length (keys_of ps)) e);
+  places = omega (arith, ap (λ (ps : List Slot). length (keys_of ps)) e);
   entries = λ k d m. omega (arith, none k d m);
 }
 
@@ -141,7 +141,7 @@ counted-kept old new left now f p e h l =
     let kept = h total.0 in
     record {
       places = omega (arith, kept.places, total.1, ap length p);
-      entries = subst (All (λ es. length es ≤ length new.contents.rows + now)) (sym e) (λ k d m. omega (arith, kept.entries k d m, total.1));
+      entries = subst (All (λ (es : List Key). length es ≤ length new.contents.rows + now)) (sym e) (λ k d m. omega (arith, kept.entries k d m, total.1));
     }
 
 -- a state that has at most one place more, and one entry more in each set
@@ -190,6 +190,6 @@ tidy-same old new e h = subst IsTidy (sym e) h
 
 pub tidy-new : (def : TableDef) (rows : Mapped (Option (List Datum))) (sets : Sets) → rows.pairs ≡ [] → All (λ es. length es ≤ 0) (entries_of sets) → IsTidy (state_of def rows sets)
 tidy-new def rows sets e none = record {
-  places = omega (arith, ap (λ ps. length (keys_of ps)) e);
+  places = omega (arith, ap (λ (ps : List Slot). length (keys_of ps)) e);
   entries = λ k d m. omega (arith, none k d m);
 }

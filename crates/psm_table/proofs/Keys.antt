@@ -91,8 +91,8 @@ around-within key [] = omega arith
 around-within key (p ∷ ps) = around-within_step p (pairs_below key ps) (pairs_above key ps) ps (key_order p.key key) (around-within key ps)
 
 pub keys-longer : {V : Type 0} (p : Pair V) (pairs : List (Pair V)) → length (keys_of (with_pair p pairs)) ≤ length (keys_of pairs) + 1
-keys-longer p pairs =
-    omega (arith, length-map (with_pair p pairs) (λ q. q.key), length-map pairs (λ q. q.key), length-append (pairs_below p.key pairs) (p ∷ pairs_above p.key pairs), around-within p.key pairs)
+keys-longer {V} p pairs =
+    omega (arith, length-map (with_pair p pairs) (λ (q : Pair V). q.key), length-map pairs (λ (q : Pair V). q.key), length-append (pairs_below p.key pairs) (p ∷ pairs_above p.key pairs), around-within p.key pairs)
 
 -- a row has the columns in which it has no null
 exist-first : (c : ℕ) (row : List Datum) → is_null (get_or row c Null) ≡ false → c < length row

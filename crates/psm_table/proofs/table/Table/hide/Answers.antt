@@ -12,7 +12,7 @@ pub invariant_of-self : goal.invariant_of-self
 invariant_of-self g c =
     let e : c.take_row.new.self.pairs ≡ with_value c.args.key.now None c.self.inside.rows.pairs = c.take_row.ensures.pairs ∙ ap (λ k. with_value k None c.self.inside.rows.pairs) c.values.ensures in
     let none : row_of c.args.key.now c.self.inside.rows.pairs ≡ None = ap (λ k. row_of k c.self.inside.rows.pairs) (sym c.values.ensures) ∙ sym c.in_err-row.ensures.row in
-    let same : c.take_row.new.self.pairs ≡ c.self.inside.rows.pairs = e ∙ with_value-none c.args.key.now c.self.inside.rows.pairs c.self.invariant.order none in
+    let same : c.take_row.new.self.pairs ≡ c.self.inside.rows.pairs = e ∙ with_value-none c.args.key.now c.self.inside.rows.pairs c.self.invariant.0.order none in
     (
       held-same c.self.inside.def c.self.inside.rows c.take_row.new.self c.self.inside.live c.self.inside.indexes.items c.self.inside.indexes.items same refl refl c.self.invariant.0,
       counted-same (state_of c.self.inside.def c.self.inside.rows c.self.inside.indexes.items) (state_of c.self.inside.def c.take_row.new.self c.self.inside.indexes.items) c.self.inside.left
@@ -33,14 +33,14 @@ pub returns-in_err-row-clause-none : goal.returns-in_err-row-clause-none
 returns-in_err-row-clause-none g c =
     let e : c.take_row.new.self.pairs ≡ with_value c.args.key.now None c.self.inside.rows.pairs = c.take_row.ensures.pairs ∙ ap (λ k. with_value k None c.self.inside.rows.pairs) c.values.ensures in
     let none : row_of c.args.key.now c.self.inside.rows.pairs ≡ None = ap (λ k. row_of k c.self.inside.rows.pairs) (sym c.values.ensures) ∙ sym c.in_err-row.ensures.row in
-    let same : c.take_row.new.self.pairs ≡ c.self.inside.rows.pairs = e ∙ with_value-none c.args.key.now c.self.inside.rows.pairs c.self.invariant.order none in
+    let same : c.take_row.new.self.pairs ≡ c.self.inside.rows.pairs = e ∙ with_value-none c.args.key.now c.self.inside.rows.pairs c.self.invariant.0.order none in
     if_none c.from_residual.result (state_of c.self.inside.def c.take_row.new.self c.self.inside.indexes.items ≡ c.args.self.now) (state-same c.self.inside.def c.self.inside.rows c.take_row.new.self c.self.inside.indexes.items c.self.inside.indexes.items same refl ∙ c.self.view_is)
 
 pub returns-in_err-row-clause-keeps : goal.returns-in_err-row-clause-keeps
 returns-in_err-row-clause-keeps g c =
     let e : c.take_row.new.self.pairs ≡ with_value c.args.key.now None c.self.inside.rows.pairs = c.take_row.ensures.pairs ∙ ap (λ k. with_value k None c.self.inside.rows.pairs) c.values.ensures in
     let none : row_of c.args.key.now c.self.inside.rows.pairs ≡ None = ap (λ k. row_of k c.self.inside.rows.pairs) (sym c.values.ensures) ∙ sym c.in_err-row.ensures.row in
-    let same : c.take_row.new.self.pairs ≡ c.self.inside.rows.pairs = e ∙ with_value-none c.args.key.now c.self.inside.rows.pairs c.self.invariant.order none in
+    let same : c.take_row.new.self.pairs ≡ c.self.inside.rows.pairs = e ∙ with_value-none c.args.key.now c.self.inside.rows.pairs c.self.invariant.0.order none in
     keeps-same c.args.self.now (state_of c.self.inside.def c.take_row.new.self c.self.inside.indexes.items) (state-same c.self.inside.def c.self.inside.rows c.take_row.new.self c.self.inside.indexes.items c.self.inside.indexes.items same refl ∙ c.self.view_is)
 
 pub overflow_sub-self : goal.overflow_sub-self
@@ -56,7 +56,7 @@ invariant_of-self-2 g c =
     (
       held-hidden c.self.inside.def c.self.inside.rows c.self.inside.live c.self.inside.indexes.items c.self.invariant.0 c.args.key.now c.in_ok-row.row c.take_row.new.self some e c.take_row.ensures.ordered,
       counted-hidden c.self.inside.def c.self.inside.rows c.self.inside.live c.self.inside.indexes.items c.self.invariant.0 c.args.key.now c.in_ok-row.row c.take_row.new.self some e c.take_row.ensures.ordered
-          c.self.inside.left c.saturating_add.result (λ l. omega (arith, l)) c.self.invariant.1,
+          c.self.inside.left c.saturating_add-self-inside.result (λ l. omega (arith, l, c.saturating_add-self-inside.ensures)) c.self.invariant.1,
     )
 
 pub returns-clause-row : goal.returns-clause-row

@@ -1,5 +1,7 @@
-use Rattle.std.proofs.Common.{length, ap, arith}
-use Rattle.psm_table.proofs.Counts.{counted-new, empty-pushed, tidy-new}
+use Rattle.std.proofs.Common.{length, length-append, List, [], ◌∷◌, ◌≤◌, ap, sym, subst, arith}
+use Rattle.std.specs.Prelude.{All}
+use Rattle.psm_table.specs.Held.{entries_of}
+use Rattle.psm_table.proofs.Counts.{Key, Sets, counted-new, empty-pushed, tidy-new}
 use Rattle.psm_table.proofs.Holds.{held-new}
 use Rattle.psm_table.proofs.table.Table.new.Goals as goal
 
@@ -11,7 +13,10 @@ invariant_of-result c = (
 )
 
 pub loop-preserved : goal.loop-preserved
-loop-preserved c = omega arith
+loop-preserved c = (
+  omega (arith, ap length c.in_ok-push.ensures.items, length-append c.loop.indexes.items (c.new.result ∷ []), c.loop.invariant.0),
+  subst (λ (s : Sets). All (λ (es : List Key). length es ≤ 0) (entries_of s)) (sym c.in_ok-push.ensures.items) (empty-pushed c.loop.indexes.items c.new.result c.new.ensures.pairs c.loop.invariant.1),
+)
 
 pub returns-clause-tidy : goal.returns-clause-tidy
 returns-clause-tidy c = tidy-new c.args.def c.new-2.result c.loop.indexes.items c.new-2.ensures.pairs c.loop.invariant.1

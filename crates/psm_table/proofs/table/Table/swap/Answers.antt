@@ -39,7 +39,7 @@ invariant_of-self-in-Some g c =
     let entered : IsEntered c.self.inside.def (entries_of c.enter.new.indexes.items) c.args.row = subst (λ (r : List Datum). IsEntered c.self.inside.def (entries_of c.enter.new.indexes.items) r) c.values-2.ensures c.in_ok-enter.ensures.entered in
     (
       held-over c.self.inside.def c.self.inside.rows c.self.inside.live c.self.inside.indexes.items c.self.invariant.0 c.args.row c.replace_row.new.self c.enter.new.indexes.items fits place e c.enter.ensures.lists c.enter.ensures.grow entered c.replace_row.ensures.ordered c.in-Some.was some,
-      counted-over c.self.inside.def c.self.inside.rows c.self.inside.live c.self.inside.indexes.items c.self.invariant.0 c.args.row c.replace_row.new.self c.enter.new.indexes.items fits place e c.enter.ensures.lists c.enter.ensures.grow entered c.replace_row.ensures.ordered c.in-Some.was some c.enter.ensures.one c.self.inside.left c.saturating_add.result (λ l. omega (arith, l)) c.self.invariant.1,
+      counted-over c.self.inside.def c.self.inside.rows c.self.inside.live c.self.inside.indexes.items c.self.invariant.0 c.args.row c.replace_row.new.self c.enter.new.indexes.items fits place e c.enter.ensures.lists c.enter.ensures.grow entered c.replace_row.ensures.ordered c.in-Some.was some c.enter.ensures.one c.self.inside.left c.saturating_add-self-inside.result (λ l. omega (arith, l, c.saturating_add-self-inside.ensures)) c.self.invariant.1,
     )
 
 pub invariant_of-self-in-None : goal.invariant_of-self-in-None
