@@ -1,4 +1,4 @@
-use Rattle.std.proofs.Common.{length, ap, sym, subst, ◌∙◌, ◌+◌, ◌*◌, arith}
+use Rattle.std.proofs.Common.{length, ap, subst, ◌∙◌, ◌+◌, ◌*◌, arith}
 use Rattle.psm_table.specs.Held.{live_rows, state_of}
 use Rattle.psm_table.specs.State.{few_left, IsTidy, State}
 use Rattle.psm_table.proofs.Counts.{tidy-few}
