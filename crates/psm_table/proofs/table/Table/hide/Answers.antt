@@ -12,8 +12,7 @@ pub invariant_of-self : goal.invariant_of-self
 invariant_of-self g c =
     let e : c.take_row.new.self.pairs ≡ with_value c.args.key.now None c.self.inside.rows.pairs = c.take_row.ensures.pairs ∙ ap (λ k. with_value k None c.self.inside.rows.pairs) c.values.ensures in
     let none : row_of c.args.key.now c.self.inside.rows.pairs ≡ None = ap (λ k. row_of k c.self.inside.rows.pairs) (sym c.values.ensures) ∙ sym c.in_err-row.ensures.row in
-    let same : c.take_row.new.self.pairs ≡ c.self.inside.rows.pairs = e ∙ with_value-none c.args.key.now c.self.inside.rows.pairs c.self.invariant.0.order none in
-    (
+    let same : c.take_row.new.self.pairs ≡ c.self.inside.rows.pairs = e ∙ with_value-none c.args.key.now c.self.inside.rows.pairs c.self.invariant.0.order none in (
       held-same c.self.inside.def c.self.inside.rows c.take_row.new.self c.self.inside.live c.self.inside.indexes.items c.self.inside.indexes.items same refl refl c.self.invariant.0,
       counted-same (state_of c.self.inside.def c.self.inside.rows c.self.inside.indexes.items) (state_of c.self.inside.def c.take_row.new.self c.self.inside.indexes.items) c.self.inside.left
           (state-same c.self.inside.def c.self.inside.rows c.take_row.new.self c.self.inside.indexes.items c.self.inside.indexes.items same refl) c.self.invariant.1,
@@ -52,8 +51,7 @@ overflow_sub-self g c =
 pub invariant_of-self-2 : goal.invariant_of-self-2
 invariant_of-self-2 g c =
     let e : c.take_row.new.self.pairs ≡ with_value c.args.key.now None c.self.inside.rows.pairs = c.take_row.ensures.pairs ∙ ap (λ k. with_value k None c.self.inside.rows.pairs) c.values.ensures in
-    let some : row_of c.args.key.now c.self.inside.rows.pairs ≡ Some c.in_ok-row.row = ap (λ k. row_of k c.self.inside.rows.pairs) (sym c.values.ensures) ∙ sym c.in_ok-row.ensures.row in
-    (
+    let some : row_of c.args.key.now c.self.inside.rows.pairs ≡ Some c.in_ok-row.row = ap (λ k. row_of k c.self.inside.rows.pairs) (sym c.values.ensures) ∙ sym c.in_ok-row.ensures.row in (
       held-hidden c.self.inside.def c.self.inside.rows c.self.inside.live c.self.inside.indexes.items c.self.invariant.0 c.args.key.now c.in_ok-row.row c.take_row.new.self some e c.take_row.ensures.ordered,
       counted-hidden c.self.inside.def c.self.inside.rows c.self.inside.live c.self.inside.indexes.items c.self.invariant.0 c.args.key.now c.in_ok-row.row c.take_row.new.self some e c.take_row.ensures.ordered
           c.self.inside.left c.saturating_add-self-inside.result (λ l. omega (arith, l, c.saturating_add-self-inside.ensures)) c.self.invariant.1,

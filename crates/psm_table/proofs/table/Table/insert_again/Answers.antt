@@ -29,8 +29,7 @@ invariant_of-self-2 g c =
     let room : length (contents_of c.self.inside.def c.self.inside.rows).rows < most_rows = subst (λ (s : State). length s.contents.rows < most_rows) (sym c.self.view_is) c.requires.room in
     let e : c.replace_row-none.new.self.pairs ≡ with_value (values_at c.self.inside.def.key c.args.row) (Some c.args.row) c.self.inside.rows.pairs =
     c.replace_row-none.ensures.pairs ∙ ap (λ (k : List ℕ). with_value (values_at k c.args.row) (Some c.args.row) c.self.inside.rows.pairs) c.items.ensures in
-    let entered : IsEntered c.self.inside.def (entries_of c.enter.new.indexes.items) c.args.row = subst (λ (r : List Datum). IsEntered c.self.inside.def (entries_of c.enter.new.indexes.items) r) c.values.ensures c.in_ok-enter.ensures.entered in
-    (
+    let entered : IsEntered c.self.inside.def (entries_of c.enter.new.indexes.items) c.args.row = subst (λ (r : List Datum). IsEntered c.self.inside.def (entries_of c.enter.new.indexes.items) r) c.values.ensures c.in_ok-enter.ensures.entered in (
       held-again c.self.inside.def c.self.inside.rows c.self.inside.live c.self.inside.indexes.items c.self.invariant.0 c.args.row c.replace_row-none.new.self c.enter.new.indexes.items fits place e c.enter.ensures.lists c.enter.ensures.grow entered c.replace_row-none.ensures.ordered none (room-again c.self.inside.def c.self.inside.rows c.self.inside.live c.self.inside.indexes.items c.self.invariant.0 c.args.row c.replace_row-none.new.self c.enter.new.indexes.items fits place e c.enter.ensures.lists c.enter.ensures.grow entered c.replace_row-none.ensures.ordered none room),
       counted-again c.self.inside.def c.self.inside.rows c.self.inside.live c.self.inside.indexes.items c.self.invariant.0 c.args.row c.replace_row-none.new.self c.enter.new.indexes.items fits place e c.enter.ensures.lists c.enter.ensures.grow entered c.replace_row-none.ensures.ordered none c.enter.ensures.one c.self.inside.left c.self.invariant.1,
     )

@@ -38,8 +38,7 @@ invariant_of-self-2 g c =
     let e : c.insert.new.self.pairs ≡ with_pair (record { key = values_at c.self.inside.def.key c.args.row; value = Some c.args.row }) c.self.inside.rows.pairs =
     c.insert.ensures.pairs ∙ ap (λ k. with_pair (record { key = k; value = Some c.args.row }) c.reserve.new.self.pairs) key
     ∙ ap (with_pair (record { key = values_at c.self.inside.def.key c.args.row; value = Some c.args.row })) c.reserve.ensures.pairs in
-    let entered : IsEntered c.self.inside.def (entries_of c.enter.new.indexes.items) c.args.row = subst (λ (r : List Datum). IsEntered c.self.inside.def (entries_of c.enter.new.indexes.items) r) c.values.ensures c.in_ok-enter.ensures.entered in
-    (
+    let entered : IsEntered c.self.inside.def (entries_of c.enter.new.indexes.items) c.args.row = subst (λ (r : List Datum). IsEntered c.self.inside.def (entries_of c.enter.new.indexes.items) r) c.values.ensures c.in_ok-enter.ensures.entered in (
       held-first c.self.inside.def c.self.inside.rows c.self.inside.live c.self.inside.indexes.items c.self.invariant.0 c.args.row c.insert.new.self c.enter.new.indexes.items fits absent e c.enter.ensures.lists c.enter.ensures.grow entered c.insert.ensures.ordered room,
       counted-first c.self.inside.def c.self.inside.rows c.self.inside.live c.self.inside.indexes.items c.self.invariant.0 c.args.row c.insert.new.self c.enter.new.indexes.items fits absent e c.enter.ensures.lists c.enter.ensures.grow entered c.insert.ensures.ordered c.enter.ensures.one c.self.inside.left c.self.invariant.1,
     )

@@ -40,8 +40,7 @@ invariant_of-self-else-is_none g c =
     let e : c.replace_row.new.self.pairs ≡ with_value (values_at c.self.inside.def.key c.args.row) (Some c.args.row) c.self.inside.rows.pairs =
     c.replace_row.ensures.pairs ∙ ap (λ (k : List ℕ). with_value (values_at k c.args.row) (Some c.args.row) c.self.inside.rows.pairs) c.items.ensures in
     let res : c.replace_row.result ≡ row_of (values_at c.self.inside.def.key c.args.row) c.self.inside.rows.pairs = c.replace_row.ensures.row ∙ ap (λ (k : List ℕ). row_of (values_at k c.args.row) c.self.inside.rows.pairs) c.items.ensures in
-    let was = some_is c.replace_row.result (c.is_none.ensures ∙ ap not c.if-is_none.false) in
-    (
+    let was = some_is c.replace_row.result (c.is_none.ensures ∙ ap not c.if-is_none.false) in (
       held-over c.self.inside.def c.self.inside.rows c.self.inside.live c.self.inside.indexes.items c.self.invariant.0 c.args.row c.replace_row.new.self c.self.inside.indexes.items fits place e refl (grow-same (entries_of c.self.inside.indexes.items) (entries_of c.self.inside.indexes.items) refl) kept.entries c.replace_row.ensures.ordered was.0 (sym res ∙ was.1),
       counted-back c.self.inside.def c.self.inside.rows c.self.inside.live c.self.inside.indexes.items c.self.invariant.0 c.args.row c.replace_row.new.self c.self.inside.indexes.items fits place e refl (grow-same (entries_of c.self.inside.indexes.items) (entries_of c.self.inside.indexes.items) refl) kept.entries c.replace_row.ensures.ordered was.0 (sym res ∙ was.1) refl c.self.inside.left c.self.invariant.1,
     )

@@ -36,8 +36,7 @@ invariant_of-self-in-Some g c =
     let place : IsSome (value_of (values_at c.self.inside.def.key c.args.row) c.self.inside.rows.pairs) = has_place (value_of (values_at c.self.inside.def.key c.args.row) c.self.inside.rows.pairs) c.in-Some.was some in
     let e : c.replace_row.new.self.pairs ≡ with_value (values_at c.self.inside.def.key c.args.row) (Some c.args.row) c.self.inside.rows.pairs =
     c.replace_row.ensures.pairs ∙ ap (λ (k : List ℕ). with_value (values_at k c.args.row) (Some c.args.row) c.self.inside.rows.pairs) c.items-2.ensures in
-    let entered : IsEntered c.self.inside.def (entries_of c.enter.new.indexes.items) c.args.row = subst (λ (r : List Datum). IsEntered c.self.inside.def (entries_of c.enter.new.indexes.items) r) c.values-2.ensures c.in_ok-enter.ensures.entered in
-    (
+    let entered : IsEntered c.self.inside.def (entries_of c.enter.new.indexes.items) c.args.row = subst (λ (r : List Datum). IsEntered c.self.inside.def (entries_of c.enter.new.indexes.items) r) c.values-2.ensures c.in_ok-enter.ensures.entered in (
       held-over c.self.inside.def c.self.inside.rows c.self.inside.live c.self.inside.indexes.items c.self.invariant.0 c.args.row c.replace_row.new.self c.enter.new.indexes.items fits place e c.enter.ensures.lists c.enter.ensures.grow entered c.replace_row.ensures.ordered c.in-Some.was some,
       counted-over c.self.inside.def c.self.inside.rows c.self.inside.live c.self.inside.indexes.items c.self.invariant.0 c.args.row c.replace_row.new.self c.enter.new.indexes.items fits place e c.enter.ensures.lists c.enter.ensures.grow entered c.replace_row.ensures.ordered c.in-Some.was some c.enter.ensures.one c.self.inside.left c.saturating_add-self-inside.result (λ l. omega (arith, l, c.saturating_add-self-inside.ensures)) c.self.invariant.1,
     )
