@@ -90,8 +90,8 @@ tidy_next states i w inside tidy h =
     (subst IsTidy (sym (get_or-set_same states i w w inside)) tidy)
 
 -- a refused change of a row leaves the table as it was
-pub refused_same : (old new : State) (row : List Datum) (before after : ℕ) (fault : RowFault) → Changes old new row before after (Err fault) → new ≡ old
-refused_same old new row before after Absent h = h.1.0
-refused_same old new row before after Memory h = h.0
-refused_same old new row before after Duplicate h = absurd h
-refused_same old new row before after Full h = absurd h
+pub refused_same : (old new : State) (row : List Datum) (first last : ℕ) (fault : RowFault) → Changes old new row first last (Err fault) → new ≡ old
+refused_same old new row first last Absent h = h.1
+refused_same old new row first last Memory h = h.0
+refused_same old new row first last Duplicate h = absurd h
+refused_same old new row first last Full h = absurd h

@@ -3,5 +3,5 @@ use Rattle.psm_table.specs.State.{IsTidy}
 use Rattle.psm_undostore.proofs.Calls.{refused_same}
 use Rattle.psm_undostore.proofs.plain.change_row.Goals as goal
 
-pub returns-in-Err-clause-tidy : goal.returns-in-Err-clause-tidy
-returns-in-Err-clause-tidy g c tidy = subst IsTidy (sym (refused_same _ _ _ _ _ c.in-Err.fault c.in-Err.ensures.answer)) tidy
+pub returns-clause-tidy : goal.returns-clause-tidy
+returns-clause-tidy g c tidy = subst IsTidy (sym (refused_same _ _ _ _ _ c.in-Err.fault c.in-Err.ensures.answer)) tidy
