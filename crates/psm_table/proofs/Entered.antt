@@ -8,13 +8,13 @@ use Rattle.psm_value.specs.declared.datum.Datum.{Datum}
 use Rattle.psm_table.specs.declared.definition.TableDef.{TableDef}
 use Rattle.psm_table.specs.declared.map.Pair.{Pair}
 use Rattle.psm_table.specs.Held.{entries_of, IsEntered}
-use Rattle.psm_table.specs.Index.{Grow, IsEnteredFrom}
+use Rattle.psm_table.specs.Index.{Grow, GrowByOne, IsEnteredFrom}
 use Rattle.psm_table.specs.Map.{keys_of, value_of, with_pair}
 use Rattle.psm_table.specs.Mapped.{Mapped}
 use Rattle.psm_table.specs.State.{entry_of, has_key, HasEntry}
 use Rattle.psm_table.specs.Unique.{has_null}
 use Rattle.psm_table.specs.Key.{values_at}
-use Rattle.psm_table.proofs.Keys.{has-grown, has-new, has_value}
+use Rattle.psm_table.proofs.Keys.{has-grown, has-new, has_value, keys-longer}
 
 abbrev pub Sets : Type 0
 Sets = List (Mapped (Unit {0}))
@@ -29,6 +29,9 @@ length-entries sets = length-map sets (λ (m : Mapped (Unit {0})). keys_of m.pai
 pub grow-same : (old : List (List (List Datum))) (new : List (List (List Datum))) → new ≡ old → Grow old new
 grow-same old new same k d e key l h =
     ap (λ (x : List (List Datum)). has_key x key) (ap (λ (s : List (List (List Datum))). get_or s k e) same ∙ get_or_default old k e d l) ∙ h
+
+pub one-same : (old new : List (List (List Datum))) → new ≡ old → GrowByOne old new
+one-same old new same k d l = omega (arith, ap (λ (s : List (List (List Datum))). length (get_or s k d)) same)
 
 pub grow-trans : (a b c : List (List (List Datum))) → length b ≡ length a → Grow a b → Grow b c → Grow a c
 grow-trans a b c long f g k d e key l h = g k d e key (omega (arith, l, long)) (f k d d key l h)
@@ -160,6 +163,22 @@ module _ (def : TableDef) (row : List Datum) (i : ℕ) (columns : List ℕ) (lon
             let inside_k : k < length between = omega (arith, l, length-entries old, same, length-set old i first) in
             ap (λ (s : List (List Datum)). has_key s key) (get-entries (set between i last) k last e (omega (arith, inside_k, length-set between i last)) ∙ ap (λ (m : Mapped (Unit {0})). keys_of m.pairs) (get-set_other between i k last last (λ f. other (sym f))) ∙ sym (get-entries between k last e inside_k))
             ∙ grow k d e key (omega (arith, l, ap length reserved)) (ap (λ (s : List (List (List Datum))). has_key (get_or s k d) key) reserved ∙ h)
+      ]
+
+      pub one_put : GrowByOne (entries_of (set old i first)) (entries_of between) → GrowByOne (entries_of old) (entries_of (set between i last))
+      one_put one k d l = elim (cases_eq k i) [
+        | inl is ↦
+            let was : get_or (entries_of old) k d ≡ keys_of first.pairs =
+            ap (λ j. get_or (entries_of old) j d) is ∙ ap (λ (s : List (List (List Datum))). get_or s i d) (sym reserved) ∙ get-entries (set old i first) i first d (omega (arith, inside, length-set old i first))
+            ∙ ap (λ (m : Mapped (Unit {0})). keys_of m.pairs) (get-set old i first first inside) in
+            let now : get_or (entries_of (set between i last)) k d ≡ keys_of last.pairs =
+            ap (λ j. get_or (entries_of (set between i last)) j d) is ∙ get-entries (set between i last) i last d (omega (arith, between-inside, length-set between i last)) ∙ ap (λ (m : Mapped (Unit {0})). keys_of m.pairs) (get-set between i last last between-inside) in
+            omega (arith, ap length was, ap length now, ap (λ (ps : List (Pair (Unit {0}))). length (keys_of ps)) put, keys-longer (record { key = entry_of def columns row; value = value }) first.pairs)
+        | inr other ↦
+            let inside_k : k < length between = omega (arith, l, length-entries old, same, length-set old i first) in
+            let now : get_or (entries_of (set between i last)) k d ≡ get_or (entries_of between) k d =
+            get-entries (set between i last) k last d (omega (arith, inside_k, length-set between i last)) ∙ ap (λ (m : Mapped (Unit {0})). keys_of m.pairs) (get-set_other between i k last last (λ f. other (sym f))) ∙ sym (get-entries between k last d inside_k) in
+            omega (arith, ap length now, ap (λ (s : List (List (List Datum))). length (get_or s k d)) reserved, one k d (omega (arith, l, ap length reserved)))
       ]
 
       pub entered_put : IsEnteredFrom (i + 1) def (entries_of between) row → IsEnteredFrom i def (entries_of (set between i last)) row

@@ -12,16 +12,17 @@ use Rattle.std.specs.Ordering.{is_eq}
 use Rattle.psm_value.specs.declared.datum.Datum.{Datum}
 use Rattle.psm_table.specs.declared.definition.TableDef.{TableDef}
 use Rattle.psm_table.specs.Definition.{IsDefinition, IsRow}
-use Rattle.psm_table.specs.Held.{contents_of, entries_of, live_rows, row_of, state_of, the_row, HasItsKey, IsEntered, IsHeld}
-use Rattle.psm_table.specs.Index.{AreEntered, Grow}
+use Rattle.psm_table.specs.Held.{contents_of, entries_of, full_count, live_rows, row_of, state_of, the_row, AreCounted, HasItsKey, IsEntered, IsHeld}
+use Rattle.psm_table.specs.Index.{AreEntered, Grow, GrowByOne}
 use Rattle.psm_table.specs.Key.{key_order, row_order, values_at}
 use Rattle.psm_table.specs.Map.{AreAscending, keys_of, pair_with, pairs_above, pairs_below, value_of, with_pair, with_value}
 use Rattle.psm_table.specs.Rows.{put, without}
-use Rattle.psm_table.specs.State.{has_key, KeepsRow, State, StillKeeps}
+use Rattle.psm_table.specs.State.{has_key, IsTidy, KeepsAtMost, KeepsRow, State, StillKeeps}
 use Rattle.psm_table.specs.Table.{IsTable, most_rows, with_row, without_row}
+use Rattle.psm_table.proofs.Counts.{counted-grown, counted-kept, keeps-more, settled-within, tidy-grown}
 use Rattle.psm_table.proofs.Entered.{entered-grow, length-entries}
 use Rattle.psm_table.proofs.Filters.{AllPairs-rest}
-use Rattle.psm_table.proofs.Keys.{has-grown}
+use Rattle.psm_table.proofs.Keys.{has-grown, keys-longer}
 use Rattle.psm_table.proofs.Lives.{keyed-with_pair, keyed-with_value, live-hidden, live-inserted, live-replaced}
 use Rattle.psm_table.proofs.Pairs.{Rises, after_equal, keys-with_value, with_value-greater}
 use Rattle.psm_table.proofs.Tables.{found-all, have_places, held-find, held-put, held-without, keeps-grow, length-around, length-hidden, length-over, length-put, row_kept, Sets, Slot, Slots}
@@ -135,6 +136,10 @@ module _ (def : TableDef) (rows : Slots) (live : ℕ) (sets : Sets) (h : IsHeld 
     pub keeps-hidden : StillKeeps (state_of def rows sets) (state_of def new sets)
     keeps-hidden = keeps-grow def rows new sets sets (λ k f. ap (λ ks. has_key ks k) same_keys ∙ f) refl (λ k d e key l f. ap (λ (x : List (List Datum)). has_key x key) (get_or_default (entries_of sets) k e d l) ∙ f)
 
+    pub counted-hidden : (left now : ℕ) → (now < full_count → now ≡ left + 1) → AreCounted (state_of def rows sets) left → AreCounted (state_of def new sets) now
+    counted-hidden left now step h =
+        counted-kept (state_of def rows sets) (state_of def new sets) left now (λ l. (omega (arith, l, step l), omega (arith, step l, fewer))) same_keys refl h
+
   -- a row is put where its key has a place
   module _ (row : List Datum) (new : Slots) (more : Sets) (fits : IsRow def row) (place : IsSome (value_of (values_at def.key row) rows.pairs))
       (e : new.pairs ≡ with_value (values_at def.key row) (Some row) rows.pairs) (long : length more ≡ length sets) (grow : Grow (entries_of sets) (entries_of more)) (entered : IsEntered def (entries_of more) row) (order : AreAscending new.pairs) where
@@ -165,7 +170,34 @@ module _ (def : TableDef) (rows : Slots) (live : ℕ) (sets : Sets) (h : IsHeld 
         row_kept def new more was (ap (λ ks. has_key ks (values_at def.key was)) same_places ∙ its_place (values_at def.key row) was s)
         (entered-grow def was (entries_of sets) (entries_of more) (omega (arith, long, length-entries sets, length-entries more)) grow (its_entries (values_at def.key row) was s))
 
+    same_count : (was : List Datum) → row_of (values_at def.key row) rows.pairs ≡ Some was → length (live_rows new.pairs) ≡ length (live_rows rows.pairs)
+    same_count was s =
+        ap (λ ps. length (live_rows ps)) e ∙ length-over (values_at def.key row) rows.pairs row was up (some_row (value_of (values_at def.key row) rows.pairs) was s)
+
+    pub counted-over : (was : List Datum) → row_of (values_at def.key row) rows.pairs ≡ Some was → GrowByOne (entries_of sets) (entries_of more) → (left now : ℕ) → (now < full_count → now ≡ left + 1)
+        → AreCounted (state_of def rows sets) left → AreCounted (state_of def new more) now
+    counted-over was s one left now step h =
+        counted-grown (state_of def rows sets) (state_of def new more) left now (λ l. (omega (arith, l, step l), omega (arith, step l, same_count was s)))
+        (omega (arith, ap length same_places)) (omega (arith, long, length-entries sets, length-entries more)) one h
+
+    -- a row that was kept
+    pub counted-back : (was : List Datum) → row_of (values_at def.key row) rows.pairs ≡ Some was → entries_of more ≡ entries_of sets → (left : ℕ) → AreCounted (state_of def rows sets) left → AreCounted (state_of def new more) left
+    counted-back was s same left h =
+        counted-kept (state_of def rows sets) (state_of def new more) left left (λ l. (l, omega (arith, same_count was s))) same_places same h
+
     -- where there was none
+    pub counted-again : row_of (values_at def.key row) rows.pairs ≡ None → GrowByOne (entries_of sets) (entries_of more) → (left : ℕ) → AreCounted (state_of def rows sets) left → AreCounted (state_of def new more) left
+    counted-again none growth left h =
+        let flagged : value_of (values_at def.key row) rows.pairs ≡ Some None = no_row_there (value_of (values_at def.key row) rows.pairs) place none in
+        let one : length (live_rows new.pairs) ≡ suc (length (live_rows rows.pairs)) = ap (λ ps. length (live_rows ps)) e ∙ length-put (values_at def.key row) rows.pairs row up flagged in
+        counted-grown (state_of def rows sets) (state_of def new more) left left (λ l. (l, omega (arith, one))) (omega (arith, ap length same_places)) (omega (arith, long, length-entries sets, length-entries more)) growth h
+
+    pub tidy-again : row_of (values_at def.key row) rows.pairs ≡ None → GrowByOne (entries_of sets) (entries_of more) → IsTidy (state_of def rows sets) → IsTidy (state_of def new more)
+    tidy-again none growth h =
+        let flagged : value_of (values_at def.key row) rows.pairs ≡ Some None = no_row_there (value_of (values_at def.key row) rows.pairs) place none in
+        let one : length (live_rows new.pairs) ≡ suc (length (live_rows rows.pairs)) = ap (λ ps. length (live_rows ps)) e ∙ length-put (values_at def.key row) rows.pairs row up flagged in
+        tidy-grown (state_of def rows sets) (state_of def new more) (omega (arith, one)) (omega (arith, ap length same_places)) (omega (arith, long, length-entries sets, length-entries more)) growth h
+
     pub held-again : row_of (values_at def.key row) rows.pairs ≡ None → length (put def.key row (live_rows rows.pairs)) ≤ most_rows → IsHeld def new (live + 1) more
     held-again none bound =
         let flagged : value_of (values_at def.key row) rows.pairs ≡ Some None = no_row_there (value_of (values_at def.key row) rows.pairs) place none in
@@ -198,6 +230,20 @@ module _ (def : TableDef) (rows : Slots) (live : ℕ) (sets : Sets) (h : IsHeld 
         held-put def rows live sets h row new (live + 1) more fits rows_first
         (subst (All (HasItsKey def.key)) (sym e) (keyed-with_pair def.key row rows.pairs h.keyed)) (omega (arith, h.count, one)) (omega (arith, one, room)) long grow entered order
 
+    pub counted-first : GrowByOne (entries_of sets) (entries_of more) → (left : ℕ) → AreCounted (state_of def rows sets) left → AreCounted (state_of def new more) left
+    counted-first growth left h =
+        let key = values_at def.key row in
+        let one : length (live_rows new.pairs) ≡ suc (length (live_rows rows.pairs)) = ap (λ ps. length (live_rows ps)) e ∙ length-with_pair key row rows.pairs absent in
+        counted-grown (state_of def rows sets) (state_of def new more) left left (λ l. (l, omega (arith, one)))
+        (omega (arith, ap (λ (ps : List Slot). length (keys_of ps)) e, keys-longer (record { key = key; value = Some row }) rows.pairs)) (omega (arith, long, length-entries sets, length-entries more)) growth h
+
+    pub tidy-first : GrowByOne (entries_of sets) (entries_of more) → IsTidy (state_of def rows sets) → IsTidy (state_of def new more)
+    tidy-first growth h =
+        let key = values_at def.key row in
+        let one : length (live_rows new.pairs) ≡ suc (length (live_rows rows.pairs)) = ap (λ ps. length (live_rows ps)) e ∙ length-with_pair key row rows.pairs absent in
+        tidy-grown (state_of def rows sets) (state_of def new more) (omega (arith, one))
+        (omega (arith, ap (λ (ps : List Slot). length (keys_of ps)) e, keys-longer (record { key = key; value = Some row }) rows.pairs)) (omega (arith, long, length-entries sets, length-entries more)) growth h
+
 -- the rows are those of the keys that have one
 settled-first : (p : Slot) (o : Option (List Datum)) (ps : List Slot) → p.value ≡ o → live_rows (cond (is_some o) (p ∷ ps) ps) ≡ cons_option o (live_rows ps)
 settled-first p None ps e = refl
@@ -223,6 +269,11 @@ held-settled def rows new live sets more h e long entered order =
       lists = long ∙ h.lists;
       entered = subst (λ r. AreEntered def r (entries_of more)) (sym same) entered;
     }
+
+pub counted-settled : (def : TableDef) (rows new : Slots) (more : Sets) → new.pairs ≡ filter (λ p. is_some p.value) rows.pairs → All (λ es. length es ≤ length (live_rows rows.pairs)) (entries_of more)
+    → (n : ℕ) → length (live_rows new.pairs) ≤ n → KeepsAtMost n (state_of def new more)
+counted-settled def rows new more e few n l =
+    keeps-more (state_of def new more) (length (live_rows rows.pairs)) n (omega (arith, l, ap (λ ps. length (live_rows ps)) e, ap length (live-settled rows.pairs))) (settled-within def rows new more e few)
 
 pub held-new : (def : TableDef) (rows : Slots) (sets : Sets) → IsDefinition def → rows.pairs ≡ [] → length sets ≡ length def.unique → IsHeld def rows 0 sets
 held-new def rows sets defined e long = record {
@@ -266,3 +317,9 @@ some_is (Some x) e = (x, refl)
 pub held-copy : (def other : TableDef) (rows new : Slots) (live : ℕ) (sets more : Sets) → other ≡ def → new.pairs ≡ rows.pairs → entries_of more ≡ entries_of sets → IsHeld def rows live sets → IsHeld other new live more
 held-copy def other rows new live sets more d e f h =
     subst (λ x. IsHeld x new live more) (sym d) (held-same def rows new live sets more e f (omega (arith, ap length f, length-entries sets, length-entries more)) h)
+
+pub counted-same : (old new : State) (left : ℕ) → new ≡ old → AreCounted old left → AreCounted new left
+counted-same old new left e h = subst (λ s. AreCounted s left) (sym e) h
+
+pub state-copy : (def other : TableDef) (rows new : Slots) (sets more : Sets) → other ≡ def → new.pairs ≡ rows.pairs → entries_of more ≡ entries_of sets → state_of other new more ≡ state_of def rows sets
+state-copy def other rows new sets more d e f = ap (λ (x : TableDef). state_of x new more) d ∙ state-same def rows new sets more e f

@@ -1,5 +1,5 @@
 -- Keys among the keys of a map.
-use Rattle.std.proofs.Common.{◌≡◌, ℕ, ◌<◌, List, [], ◌∷◌, ◌++◌, length, get_or, Bool, true, false, ◌||◌, refl, ap, sym, ◌∙◌, arith, Some, inl, inr}
+use Rattle.std.proofs.Common.{◌≡◌, ℕ, ◌+◌, ◌<◌, ◌≤◌, List, [], ◌∷◌, ◌++◌, length, length-append, get_or, Bool, true, false, ◌||◌, refl, ap, sym, ◌∙◌, arith, Some, inl, inr}
 use Rattle.std.specs.Prelude.{cond, Option, is_some, option_map, filter}
 use Rattle.std.proofs.lemmas.List.{length-map, get_or-map, get_or_past}
 use Rattle.std.proofs.lemmas.List.Elements.{All-nil, All-cons}
@@ -7,7 +7,7 @@ use Rattle.std.proofs.lemmas.List.Folds.{list_any_at, list_any-append}
 use Rattle.std.proofs.lemmas.Bool.{cases_lt}
 use Rattle.std.specs.declared.cmp.Ordering.{Ordering}
 use Rattle.std.specs.declared.cmp.Ordering.TheVariants.{Less, Equal, Greater}
-use Rattle.std.specs.Ordering.{is_eq}
+use Rattle.std.specs.Ordering.{is_eq, is_gt, is_lt}
 use Rattle.psm_value.specs.declared.datum.Datum.{Datum}
 use Rattle.psm_value.specs.declared.datum.Datum.TheVariants.{Null}
 use Rattle.psm_table.specs.declared.map.Pair.{Pair}
@@ -78,6 +78,21 @@ module _ {V : Type 0} (p : Pair V) (key : List Datum) where
 
   pub has-grown : (pairs : List (Pair V)) → has_key (keys_of pairs) key ≡ true → has_key (keys_of (with_pair p pairs)) key ≡ true
   has-grown pairs h = has-append (pairs_below p.key pairs) (p ∷ pairs_above p.key pairs) key ∙ grown-list pairs h
+
+-- a pair that is put in makes the pairs longer by one at most
+around-within_step : {V : Type 0} (p : Pair V) (low high ps : List (Pair V)) (c : Ordering) → length low + length high ≤ length ps
+    → length (cond (is_lt c) (p ∷ low) low) + length (cond (is_gt c) (p ∷ high) high) ≤ length (p ∷ ps)
+around-within_step p low high ps Less h = omega (arith, h)
+around-within_step p low high ps Equal h = omega (arith, h)
+around-within_step p low high ps Greater h = omega (arith, h)
+
+around-within : {V : Type 0} (key : List Datum) (pairs : List (Pair V)) → length (pairs_below key pairs) + length (pairs_above key pairs) ≤ length pairs
+around-within key [] = omega arith
+around-within key (p ∷ ps) = around-within_step p (pairs_below key ps) (pairs_above key ps) ps (key_order p.key key) (around-within key ps)
+
+pub keys-longer : {V : Type 0} (p : Pair V) (pairs : List (Pair V)) → length (keys_of (with_pair p pairs)) ≤ length (keys_of pairs) + 1
+keys-longer {V} p pairs =
+    omega (arith, length-map (with_pair p pairs) (λ (q : Pair V). q.key), length-map pairs (λ (q : Pair V). q.key), length-append (pairs_below p.key pairs) (p ∷ pairs_above p.key pairs), around-within p.key pairs)
 
 -- a row has the columns in which it has no null
 exist-first : (c : ℕ) (row : List Datum) → is_null (get_or row c Null) ≡ false → c < length row

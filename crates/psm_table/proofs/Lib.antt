@@ -1,3 +1,4 @@
+pub mod Counts
 pub mod Entered
 pub mod Filters
 pub mod Halves

@@ -87,7 +87,7 @@ pub pair_there : (entries : List Entry) (key : List Datum) (P : Entry → Type 0
 pair_there [] key P h a = cc
 pair_there (p ∷ ps) key P h a = some-pair p ps key P (is_eq (key_order p.key key)) refl h a (pair_there ps key P)
 
-and_true : (a b : Bool) → (a && b) ≡ true → (a ≡ true) × (b ≡ true)
+pub and_true : (a b : Bool) → (a && b) ≡ true → (a ≡ true) × (b ≡ true)
 and_true true b e = (refl, e)
 and_true false b e = cc
 

@@ -1,5 +1,5 @@
 -- What a table is made of: a map from keys to rows, and for each UNIQUE list the set of its entries.
-use Rattle.std.specs.Prelude.{◌≡◌, ℕ, List, length, map, All, Option, Some, None, IfSome}
+use Rattle.std.specs.Prelude.{◌≡◌, ℕ, ◌+◌, ◌<◌, List, length, map, All, Option, Some, None, IfSome}
 use Rattle.std.specs.declared.cmp.Ordering.TheVariants.{Equal}
 use Rattle.std.specs.List.{filter_map, AllZip}
 use Rattle.psm_value.specs.declared.datum.Datum.{Datum}
@@ -8,7 +8,7 @@ use Rattle.psm_table.specs.declared.map.Pair.{Pair}
 use Rattle.psm_table.specs.Key.{row_order}
 use Rattle.psm_table.specs.Map.{keys_of, value_of, AreAscending}
 use Rattle.psm_table.specs.Mapped.{Mapped}
-use Rattle.psm_table.specs.State.{State, HasEntry}
+use Rattle.psm_table.specs.State.{State, HasEntry, KeepsAtMost}
 use Rattle.psm_table.specs.Table.{Contents, IsTable}
 
 -- the rows of the keys that have one
@@ -52,3 +52,11 @@ pub record IsHeld (def : TableDef) (rows : Mapped (Option (List Datum))) (live :
   pub keyed : All (HasItsKey def.key) rows.pairs
   pub lists : length indexes ≡ length def.unique
   pub entered : All (IsEntered def (entries_of indexes)) (live_rows rows.pairs)
+
+-- the count of 64 bits that isn't raised any more
+abbrev pub full_count : ℕ
+full_count = 18446744073709551615
+
+-- unless the count of the rows that were left is full, no more is kept than the rows of the table and those
+abbrev pub AreCounted : State → ℕ → Type 0
+AreCounted s left = left < full_count → KeepsAtMost (length s.contents.rows + left) s

@@ -1,5 +1,5 @@
 -- The entries of UNIQUE lists: what is added to them and taken from them, and which tell of a row.
-use Rattle.std.specs.Prelude.{◌≡◌, ℕ, ◌≤◌, ◌<◌, Bool, true, false, not, ◌&&◌, ◌++◌, List, length, drop, All, Option, Some, None, slice_index_or}
+use Rattle.std.specs.Prelude.{◌≡◌, ℕ, ◌+◌, ◌≤◌, ◌<◌, Bool, true, false, not, ◌&&◌, ◌++◌, List, length, drop, All, Option, Some, None, slice_index_or}
 use Rattle.std.specs.Ordering.{is_eq}
 use Rattle.psm_value.specs.declared.datum.Datum.{Datum}
 use Rattle.psm_table.specs.declared.definition.TableDef.{TableDef}
@@ -13,6 +13,10 @@ use Rattle.psm_table.specs.Unique.{has_null, is_rival}
 -- no set loses an entry
 abbrev pub Grow : List (List (List Datum)) → List (List (List Datum)) → Type 0
 Grow old new = (k : ℕ) (d e : List (List Datum)) (key : List Datum) → k < length old → has_key (slice_index_or old k d) key ≡ true → has_key (slice_index_or new k e) key ≡ true
+
+-- no set has more than one entry more
+abbrev pub GrowByOne : List (List (List Datum)) → List (List (List Datum)) → Type 0
+GrowByOne old new = (k : ℕ) (d : List (List Datum)) → k < length old → length (slice_index_or new k d) ≤ length (slice_index_or old k d) + 1
 
 -- the entries of a row are in the sets from a place on
 abbrev pub IsEnteredFrom : ℕ → TableDef → List (List (List Datum)) → List Datum → Type 0

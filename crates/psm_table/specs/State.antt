@@ -1,5 +1,5 @@
 -- What a table keeps beside its contents, so that rows which were taken out can be put back without memory.
-use Rattle.std.specs.Prelude.{◌≡◌, Bool, true, false, ℕ, ◌+◌, ◌<◌, ◌++◌, List, length, Some, None, IsSome, Result, Ok, Err}
+use Rattle.std.specs.Prelude.{◌≡◌, Bool, true, false, ℕ, ◌+◌, ◌*◌, ◌<◌, ◌≤◌, ◌++◌, List, length, All, Some, None, IsSome, Result, Ok, Err}
 use Rattle.std.specs.List.{list_any, AllZip}
 use Rattle.std.specs.Ordering.{is_eq}
 use Rattle.psm_value.specs.declared.datum.Datum.{Datum}
@@ -37,6 +37,19 @@ pub record KeepsRow (s : State) (row : List Datum) : Type 0 where
 -- each row that was kept is kept
 abbrev pub StillKeeps : State → State → Type 0
 StillKeeps old new = (row : List Datum) → KeepsRow old row → KeepsRow new row
+
+-- no more keys have a place, and no UNIQUE list has more entries
+pub record KeepsAtMost (most : ℕ) (s : State) : Type 0 where
+  pub places : length s.places ≤ most
+  pub entries : All (λ es. length es ≤ most) s.entries
+
+-- so many rows that are not in the table may be kept at any size of it
+abbrev pub few_left : ℕ
+few_left = 64
+
+-- rows that were taken or put out are let go: no more is kept than twice the rows that the table has, and a few
+abbrev pub IsTidy : State → Type 0
+IsTidy s = KeepsAtMost (2 * length s.contents.rows + few_left) s
 
 -- an insertion of a row, which takes one row step: a full table comes before a row that has the key, and memory
 -- may run out at any time; a refusal changes nothing

@@ -4,7 +4,7 @@ ghost use Rattle.std.specs.Prelude.{◌≡◌, ◌≤◌, ◌++◌, length, take
 ghost use Rattle.std.specs.Bool.{OnTrue, OnFalse};
 ghost use Rattle.psm_value.specs.declared.datum.Datum.TheVariants.{Null};
 ghost use Rattle.psm_table.specs.Held.{entries_of, live_rows, row_of, HasItsKey, IsEntered};
-ghost use Rattle.psm_table.specs.Index.{is_current, is_entry, rival_at, AreEntered, AreHarmless, Grow, HaveKeys, IsEnteredFrom};
+ghost use Rattle.psm_table.specs.Index.{is_current, is_entry, rival_at, AreEntered, AreHarmless, Grow, GrowByOne, HaveKeys, IsEnteredFrom};
 ghost use Rattle.psm_table.specs.Key.{values_at, AreColumnsOf};
 ghost use Rattle.psm_table.specs.Map.{keys_of, prefix_order, AreAscending};
 ghost use Rattle.psm_table.specs.Rows.{IsAscending};
@@ -31,6 +31,7 @@ pub(crate) fn enter(
     ensures lists { length indexes.new.items ≡ length indexes.old.items }
     ensures entered { OnOk result (IsEntered def.now (entries_of indexes.new.items) row.now) }
     ensures grow { Grow (entries_of indexes.old.items) (entries_of indexes.new.items) }
+    ensures one { GrowByOne (entries_of indexes.old.items) (entries_of indexes.new.items) }
     ensures refused { OnErr result (entries_of indexes.new.items ≡ entries_of indexes.old.items) }
 {
     enter_from(alloc, indexes, 0, def, row)
@@ -51,6 +52,7 @@ fn enter_from(
     ensures before { take i indexes.new.items ≡ take i indexes.old.items }
     ensures entered { OnOk result (IsEnteredFrom i def.now (entries_of indexes.new.items) row.now) }
     ensures grow { Grow (entries_of indexes.old.items) (entries_of indexes.new.items) }
+    ensures one { GrowByOne (entries_of indexes.old.items) (entries_of indexes.new.items) }
     ensures refused { OnErr result (entries_of indexes.new.items ≡ entries_of indexes.old.items) }
 {
     if i == indexes.len() {
@@ -278,6 +280,7 @@ pub(crate) fn settle_entries(
     requires entered { AreEntered def.now (live_rows rows.now.pairs) (entries_of indexes.old.items) }
     ensures lists { length indexes.new.items ≡ length indexes.old.items }
     ensures entered { AreEntered def.now (live_rows rows.now.pairs) (entries_of indexes.new.items) }
+    ensures few { All (λ es. length es ≤ length (live_rows rows.now.pairs)) (entries_of indexes.new.items) }
 {
     for i in 0..indexes.len() {
         let columns = def.unique.items()[i].items();

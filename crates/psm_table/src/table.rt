@@ -4,7 +4,7 @@ ghost use Rattle.psm_table.specs.Definition.{IsDefinition, IsRow, IsKey, HasColu
 ghost use Rattle.psm_table.specs.Held.{entries_of};
 ghost use Rattle.psm_table.specs.Key.{values_at};
 ghost use Rattle.psm_table.specs.Rows.{row_after, row_before};
-ghost use Rattle.psm_table.specs.State.{has_key, Inserts, Changes, KeepsRow, StillKeeps};
+ghost use Rattle.psm_table.specs.State.{has_key, IsTidy, Inserts, Changes, KeepsRow, StillKeeps};
 ghost use Rattle.psm_table.specs.Table.{IsTable, empty_table, keyed, most_rows, namesake, with_row, without_row};
 ghost use Rattle.psm_table.specs.Unique.{clashes};
 
@@ -39,26 +39,28 @@ pub struct Table {
     live: u32,
     /// For each UNIQUE list the values of rows in it, each followed by the row's key.
     indexes: Vec<OrderedMap<()>>,
-    /// How many rows were taken out, or put out by others, since these were last let go.
+    /// How many rows were taken out, or put out by others, since these were last let go. It stops at its greatest
+    /// value, at which the next `settle` lets them go.
     left: u64,
 }
 
 impl Model for Table {
     ghost use Rattle.psm_table.specs.State.{State};
-    ghost use Rattle.psm_table.specs.Held.{IsHeld, state_of};
+    ghost use Rattle.psm_table.specs.Held.{AreCounted, IsHeld, state_of};
 
     ghost Value = { State };
 
     ghost view = { λ t. state_of t.def t.rows t.indexes.items };
 
-    ghost invariant = { λ t. IsHeld t.def t.rows t.live t.indexes.items };
+    ghost invariant = { λ t. IsHeld t.def t.rows t.live t.indexes.items × AreCounted (state_of t.def t.rows t.indexes.items) t.left };
 }
 
 impl Table {
     /// An empty table.
     pub fn new(alloc: Global, def: TableDef) -> Result<Table, AllocError>
         requires { IsDefinition def }
-        ensures { IfOk result (λ t. t.contents ≡ empty_table def) }
+        ensures empty { IfOk result (λ t. t.contents ≡ empty_table def) }
+        ensures tidy { IfOk result IsTidy }
     {
         let mut indexes = Vec::with_capacity(alloc, def.unique.items().len())?;
         for _ in def.unique.items() {
@@ -91,12 +93,14 @@ impl Table {
     }
 
     /// Puts a row in, which is one row step. `Full` comes exactly where there are 200,000 rows, and else
-    /// `Duplicate` exactly where a row has its key. `Memory` may come at any time. A refusal changes nothing.
+    /// `Duplicate` exactly where a row has its key. `Memory` may come at any time. A refusal changes nothing. A
+    /// tidy table stays tidy.
     pub fn insert<L: Ledger>(&mut self, row: Row, steps: &mut Steps<L>) -> Result<(), RowFault>
         requires { IsRow self.old.contents.def row }
         ensures answer { Inserts self.old self.new row steps.old steps.new result }
         ensures def { self.new.contents.def ≡ self.old.contents.def }
         ensures keeps { StillKeeps self.old self.new }
+        ensures tidy { IsTidy self.old → IsTidy self.new }
     {
         if self.live == MOST_ROWS {
             return Err(RowFault::Full);
@@ -116,26 +120,30 @@ impl Table {
         }
     }
 
-    /// Takes the row that has the key out, which is one row step. `None` comes exactly where no row has it.
+    /// Takes the row that has the key out, which is one row step, and settles the table. `None` comes exactly
+    /// where no row has it.
     pub fn erase<L: Ledger>(&mut self, key: &Key, steps: &mut Steps<L>) -> Option<Row>
         requires { IsKey self.old.contents.def key.now }
         ensures row { result ≡ keyed self.old.contents key.now }
         ensures fits { IfSome result (λ row. IsRow self.old.contents.def row) }
         ensures rows { self.new.contents ≡ without_row key.now self.old.contents }
         ensures steps { steps.new ≡ steps.old + (if is_some result then 1 else 0) }
+        ensures tidy { IsTidy self.new }
     {
         let row = self.hide(key, steps);
         self.settle();
         row
     }
 
-    /// Puts a row in the place of the row that has its key, and gives that one; this is one row step.
+    /// Puts a row in the place of the row that has its key, gives that one and settles the table; this is one
+    /// row step.
     /// `Absent` comes exactly where no row has the key. `Memory` may come at any time. A refusal changes nothing.
     pub fn change<L: Ledger>(&mut self, row: Row, steps: &mut Steps<L>) -> Result<Row, RowFault>
         requires { IsRow self.old.contents.def row }
         ensures answer { Changes self.old self.new row steps.old steps.new result }
         ensures def { self.new.contents.def ≡ self.old.contents.def }
         ensures fits { IfOk result (λ was. IsRow self.old.contents.def was) }
+        ensures tidy { IfOk result (λ was. IsTidy self.new) }
     {
         let was = self.swap(row, steps)?;
         self.settle();
@@ -206,10 +214,11 @@ impl Table {
         }
     }
 
-    /// Lets the rows go that were taken out: their places and entries may be used again. No row of the table
-    /// changes. It takes no memory.
+    /// Lets the rows go that were taken or put out, but for a few: what the table keeps after it is no more than
+    /// twice its rows and 64. No row of the table changes. It takes no memory.
     pub fn settle(&mut self)
-        ensures { self.new.contents ≡ self.old.contents }
+        ensures rows { self.new.contents ≡ self.old.contents }
+        ensures tidy { IsTidy self.new }
     {
         if self.left > u64::from(self.live) + FEW_LEFT {
             settle_entries(&self.def, &self.rows, &mut self.indexes);
@@ -312,6 +321,7 @@ impl Table {
         ensures answer { Inserts self.old self.new row steps.old steps.new result }
         ensures def { self.new.contents.def ≡ self.old.contents.def }
         ensures keeps { StillKeeps self.old self.new }
+        ensures tidy { IsTidy self.old → IsTidy self.new }
     {
         enter(self.alloc, &mut self.indexes, &self.def, row.values())?;
         let _none = self.rows.replace_row(self.def.key.items(), row);
@@ -328,6 +338,7 @@ impl Table {
         ensures answer { Inserts self.old self.new row steps.old steps.new result }
         ensures def { self.new.contents.def ≡ self.old.contents.def }
         ensures keeps { StillKeeps self.old self.new }
+        ensures tidy { IsTidy self.old → IsTidy self.new }
     {
         let key = Key::of_row(self.alloc, self.def.key.items(), &row)?;
         self.rows.reserve()?;

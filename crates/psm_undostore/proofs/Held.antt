@@ -1,16 +1,17 @@
 -- Marks of a store that undoes changes.
 use Rattle.std.proofs.Common.{◌≡◌, ℕ, ◌+◌, ◌^◌, ◌<◌, ◌≤◌, List, ◌++◌, length, drop, take, ap, sym, subst, ◌∙◌, arith}
-use Rattle.std.specs.Prelude.{IfSome, slice_get, Result}
+use Rattle.std.specs.Prelude.{All, IfSome, slice_get, Result}
 use Rattle.std.proofs.lemmas.List.{drop-append-le, length-take, take-append-drop}
+use Rattle.std.proofs.lemmas.List.Elements.{All-nil}
 use Rattle.psm_table.specs.declared.fault.RowFault.{RowFault}
-use Rattle.psm_table.specs.State.{State}
+use Rattle.psm_table.specs.State.{IsTidy, State}
 use Rattle.psm_table.specs.Table.{Contents}
 use Rattle.psm_store.specs.declared.store.Mark.{Mark}
 use Rattle.psm_store.specs.Marks.{IsNewMark, defs_of, most_marks}
 use Rattle.psm_store.specs.RowCalls.{after}
 use Rattle.psm_store.proofs.Changes.{defs-after}
 use Rattle.psm_undostore.specs.declared.entry.Entry.{Entry}
-use Rattle.psm_undostore.specs.Journal.{AreUndoable}
+use Rattle.psm_undostore.specs.Journal.{AreUndoable, IsReady}
 use Rattle.psm_undostore.specs.Undo.{IsHeld, IsUndo, Undo, stands_for, tables_of}
 use Rattle.psm_undostore.specs.Undone.{before, contents_of, undone_from}
 use Rattle.psm_undostore.proofs.UndoneLaws.{defs-undone_from, length-contents, undone_from-append}
@@ -42,6 +43,7 @@ module _ (states : List State) (journal : List Entry) (marks : ℕ) (now : Undo)
   marked_undo h l = record {
     undoable = h.undoable;
     idle = λ e. let never : ⊥ = omega (arith, e) in absurd never;
+    tidy = λ e. let never : ⊥ = omega (arith, e) in absurd never;
     bound = omega (arith, l, same_marks);
   }
 
@@ -58,7 +60,19 @@ module _ (states : List State) (journal : List Entry) (marks : ℕ) (now : Undo)
   released_undo h mark held l = record {
     undoable = h.undoable;
     idle = λ e. let never : ⊥ = omega (arith, e, l) in absurd never;
+    tidy = λ e. let never : ⊥ = omega (arith, e, l) in absurd never;
     bound = omega (arith, h.bound, held.depth, same_marks);
+  }
+
+  -- a row call without a mark
+  pub idle_undo : (new : List State) → IsUndo (undo_of states journal marks) → marks ≡ 0 → (All IsTidy states → All IsTidy new) → IsUndo (undo_of new journal marks)
+  idle_undo new h none tidy = record {
+    undoable =
+        subst (AreUndoable new) (sym (h.idle none))
+        (record { ready = All-nil (IsReady new); tables = λ k e d l. let never : ⊥ = omega (arith, l) in absurd never });
+    idle = h.idle;
+    tidy = λ e. tidy (h.tidy e);
+    bound = h.bound;
   }
 
   pub place_in : (mark : Mark) → IsHeld now mark → mark.place ≤ length journal
@@ -88,6 +102,7 @@ module _ (states : List State) (journal : List Entry) (marks : ℕ) (now : Undo)
       rolled_undo h g = record {
         undoable = g;
         idle = λ p. let never : ⊥ = omega (arith, p) in absurd never;
+        tidy = λ p. let never : ⊥ = omega (arith, p) in absurd never;
         bound = omega (arith, h.bound, held.depth, same_marks);
       }
 

@@ -1,6 +1,6 @@
 -- A store that undoes changes.
-use Rattle.std.specs.Prelude.{◌≡◌, ℕ, ◌+◌, ◌-◌, ◌<◌, ◌≤◌, List, [], length}
-use Rattle.psm_table.specs.State.{State}
+use Rattle.std.specs.Prelude.{◌≡◌, ℕ, ◌+◌, ◌-◌, ◌<◌, ◌≤◌, List, [], length, All}
+use Rattle.psm_table.specs.State.{State, IsTidy}
 use Rattle.psm_table.specs.Table.{Contents}
 use Rattle.psm_store.specs.declared.store.Mark.{Mark}
 use Rattle.psm_store.specs.Marks.{IsOutside, most_marks}
@@ -14,10 +14,15 @@ pub record Undo : Type 0 where
   pub entries : List Entry
   pub marks : ℕ
 
--- the changes can be undone, there are none without a mark, and the marks aren't too many
+-- where no mark is open, each table is tidy
+abbrev pub RestsTidy : Undo → Type 0
+RestsTidy s = s.marks ≡ 0 → All IsTidy s.states
+
+-- the changes can be undone, there are none without a mark, the tables are tidy then, and the marks aren't too many
 pub record IsUndo (s : Undo) : Type 0 where
   pub undoable : AreUndoable s.states s.entries
   pub idle : s.marks ≡ 0 → s.entries ≡ []
+  pub tidy : RestsTidy s
   pub bound : s.marks ≤ most_marks
 
 -- what is in the tables

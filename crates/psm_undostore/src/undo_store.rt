@@ -1,10 +1,11 @@
 //! A store that undoes changes.
 ghost use Rattle.std.specs.Prelude.{◌≡◌, ◌+◌, ◌*◌, ◌<◌, ◌≤◌, [], map, length, is_ok, if◌then◌else◌, All, Some, IfSome, IfOk, IsOk, slice_get};
 ghost use Rattle.psm_table.specs.Definition.{IsDefinition, IsRow, IsKey};
+ghost use Rattle.psm_table.specs.State.{IsTidy};
 ghost use Rattle.psm_table.specs.Table.{empty_table, keyed, namesake, with_row, without_row};
 ghost use Rattle.psm_store.specs.Marks.{AnyMark, IsNewMark, IsOutside, Keeps, defs_of, marks_after, most_marks};
 ghost use Rattle.psm_store.specs.RowCalls.{AnswersFound, AnswersInsert, after};
-ghost use Rattle.psm_undostore.specs.Undo.{HasFewerSince, HasMoreSince, IsHeld, since, stands_for, tables_of};
+ghost use Rattle.psm_undostore.specs.Undo.{HasFewerSince, HasMoreSince, IsHeld, RestsTidy, since, stands_for, tables_of};
 ghost use Rattle.psm_undostore.specs.Undone.{contents_of};
 
 use crate::journal::Journal;
@@ -18,7 +19,7 @@ use std::sync::ledger::Ledger;
 /// A store that keeps the changes of rows since the outermost open mark, and undoes them in a rollback.
 ///
 /// A mark, a rollback and a release take no memory, and what they cost doesn't depend on the size of a table.
-/// Without a mark nothing is kept.
+/// Without a mark no change is kept, and what each table keeps is no more than twice its rows and 64.
 #[derive(Drop)]
 pub struct UndoStore {
     tables: Vec<Table>,
@@ -42,6 +43,7 @@ impl UndoStore {
         requires { All IsDefinition defs.items }
         ensures tables { IfOk result (λ s. tables_of s ≡ map empty_table defs.items) }
         ensures marks { IfOk result (λ s. s.marks ≡ 0) }
+        ensures tidy { IfOk result RestsTidy }
     {
         let mut tables = Vec::new(alloc);
         for def in defs {
@@ -115,6 +117,7 @@ impl Store for UndoStore {
         ensures keeps { Keeps (IsOutside mark) (IsHeld self.old) (stands_for self.old) (IsHeld self.new) (stands_for self.new) }
         ensures others { HasFewerSince self.old self.new mark 0 }
         ensures idle { self.new.marks ≡ 0 → self.new.entries ≡ [] }
+        ensures tidy { RestsTidy self.new }
     {
         self.marks = mark.depth;
         if mark.depth > 0 {
@@ -133,6 +136,7 @@ impl Store for UndoStore {
         ensures marks { self.new.marks ≡ self.old.marks }
         ensures keeps { Keeps AnyMark (IsHeld self.old) (stands_for self.old) (IsHeld self.new) (stands_for self.new) }
         ensures since { HasMoreSince self.old self.new (if is_ok result then 1 else 0) }
+        ensures tidy { RestsTidy self.new }
     {
         if self.marks == 0 {
             return plain::insert(self.tables.as_mut_slice(), t, row);
@@ -150,6 +154,7 @@ impl Store for UndoStore {
         ensures marks { self.new.marks ≡ self.old.marks }
         ensures keeps { Keeps AnyMark (IsHeld self.old) (stands_for self.old) (IsHeld self.new) (stands_for self.new) }
         ensures since { HasMoreSince self.old self.new (if is_ok result then 1 else 0) }
+        ensures tidy { RestsTidy self.new }
     {
         if self.marks == 0 {
             return plain::erase(self.tables.as_mut_slice(), t, key);
@@ -166,6 +171,7 @@ impl Store for UndoStore {
         ensures marks { self.new.marks ≡ self.old.marks }
         ensures keeps { Keeps AnyMark (IsHeld self.old) (stands_for self.old) (IsHeld self.new) (stands_for self.new) }
         ensures since { HasMoreSince self.old self.new (if is_ok result then 1 else 0) }
+        ensures tidy { RestsTidy self.new }
     {
         if self.marks == 0 {
             return plain::change(self.tables.as_mut_slice(), t, row);
@@ -174,9 +180,10 @@ impl Store for UndoStore {
     }
 }
 
-/// Lets each table forget the rows that were taken or put out.
+/// Lets each table forget the rows that were taken or put out, but for a few.
 fn settle(tables: &mut [Table])
-    ensures { contents_of tables.new ≡ contents_of tables.old }
+    ensures contents { contents_of tables.new ≡ contents_of tables.old }
+    ensures tidy { All IsTidy tables.new }
 {
     for table in tables.iter_mut() {
         table.settle();

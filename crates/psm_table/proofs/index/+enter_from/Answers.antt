@@ -6,7 +6,7 @@ use Rattle.psm_table.specs.Key.{values_at}
 use Rattle.psm_table.specs.Map.{keys_of, with_pair}
 use Rattle.psm_table.specs.Mapped.{Mapped}
 use Rattle.psm_table.specs.State.{entry_of, has_key}
-use Rattle.psm_table.proofs.Entered.{entered-there, entered_put, entries-set, first_kept, grow-same, grow-trans, grow_put, none_there, on_err, on_ok, take-less, take-set}
+use Rattle.psm_table.proofs.Entered.{one-same, one_put, entered-there, entered_put, entries-set, first_kept, grow-same, grow-trans, grow_put, none_there, on_err, on_ok, take-less, take-set}
 use Rattle.psm_table.proofs.Keys.{columns_exist}
 use Rattle.psm_table.proofs.index.+enter_from.Goals as goal
 
@@ -142,3 +142,43 @@ returns-clause-grow t c =
     ∙ ap (λ (m : Mapped (Unit {0})). with_pair (record { key = entry_of c.args.def.now c.items-columns.result.now c.args.row.now; value = tt }) m.pairs) first in
     grow_put c.args.def.now c.args.row.now c.args.i c.items-columns.result.now long list c.args.indexes.now.items c.enter_from-2.new.indexes.items c.index_mut.result.now c.reserve.new.self c.insert.new.self tt
     c.index_mut.ensures.value inside c.reserve.ensures.pairs c.enter_from-2.ensures.lists c.enter_from-2.ensures.before put c.enter_from-2.ensures.grow
+
+pub returns-in_err-reserve-clause-one : goal.returns-in_err-reserve-clause-one
+returns-in_err-reserve-clause-one t c =
+    let long : c.args.i < length c.args.def.now.unique = omega (arith, c.requires.place, c.if-i-len.false, c.len.ensures, c.requires.lists) in
+    let inside : c.args.i < length c.args.indexes.now.items = omega (arith, long, c.requires.lists) in
+    let pairs : c.reserve.new.self.pairs ≡ (get_or c.args.indexes.now.items c.args.i c.index_mut.result.now).pairs =
+    c.reserve.ensures.pairs ∙ ap (λ (m : Mapped (Unit {0})). m.pairs) c.index_mut.ensures.value in
+    let same : entries_of (set c.args.indexes.now.items c.args.i c.reserve.new.self) ≡ entries_of c.args.indexes.now.items =
+    entries-set c.args.indexes.now.items c.args.i c.reserve.new.self c.index_mut.result.now inside pairs in
+    one-same (entries_of c.args.indexes.now.items) (entries_of (set c.args.indexes.now.items c.args.i c.reserve.new.self)) same
+
+pub returns-in_err-enter_from-clause-one : goal.returns-in_err-enter_from-clause-one
+returns-in_err-enter_from-clause-one t c =
+    let long : c.args.i < length c.args.def.now.unique = omega (arith, c.requires.place, c.if-i-len.false, c.len.ensures, c.requires.lists) in
+    let inside : c.args.i < length c.args.indexes.now.items = omega (arith, long, c.requires.lists) in
+    let pairs : c.reserve.new.self.pairs ≡ (get_or c.args.indexes.now.items c.args.i c.index_mut.result.now).pairs =
+    c.reserve.ensures.pairs ∙ ap (λ (m : Mapped (Unit {0})). m.pairs) c.index_mut.ensures.value in
+    let same : entries_of (set c.args.indexes.now.items c.args.i c.reserve.new.self) ≡ entries_of c.args.indexes.now.items =
+    entries-set c.args.indexes.now.items c.args.i c.reserve.new.self c.index_mut.result.now inside pairs in
+    one-same (entries_of c.args.indexes.now.items) (entries_of c.enter_from-2.new.indexes.items) (c.in_err-enter_from.ensures.refused ∙ same)
+
+pub returns-clause-one : goal.returns-clause-one
+returns-clause-one t c =
+    let long : c.args.i < length c.args.def.now.unique = omega (arith, c.requires.place, c.if-i-len.false, c.len.ensures, c.requires.lists) in
+    let inside : c.args.i < length c.args.indexes.now.items = omega (arith, long, c.requires.lists) in
+    let list : c.items-columns.result.now ≡ get_or c.args.def.now.unique c.args.i c.items-columns.result.now =
+    subst (λ (l : List ℕ). l ≡ get_or c.args.def.now.unique c.args.i l) (sym c.items-columns.ensures)
+    (subst (λ (ls : List (List ℕ)). c.index-items-i.result ≡ get_or ls c.args.i c.index-items-i.result) c.items.ensures c.index-items-i.is) in
+    let entry : c.in_ok-entry.entry ≡ entry_of c.args.def.now c.items-columns.result.now c.args.row.now =
+    c.in_ok-entry.ensures ∙ ap (λ (k : List ℕ). values_at c.items-columns.result.now c.args.row.now ++ values_at k c.args.row.now) c.items-key.ensures in
+    let first : c.index_mut-2.result.now ≡ c.reserve.new.self =
+    c.index_mut-2.ensures.value
+    ∙ first_kept c.args.def.now c.args.row.now c.args.i c.items-columns.result.now long list c.args.indexes.now.items c.enter_from-2.new.indexes.items c.index_mut.result.now c.reserve.new.self c.reserve.new.self tt
+    c.index_mut.ensures.value inside c.reserve.ensures.pairs c.enter_from-2.ensures.lists c.enter_from-2.ensures.before c.index_mut-2.result.now in
+    let put : c.insert.new.self.pairs ≡ with_pair (record { key = entry_of c.args.def.now c.items-columns.result.now c.args.row.now; value = tt }) c.reserve.new.self.pairs =
+    c.insert.ensures.pairs
+    ∙ ap (λ k. with_pair (record { key = k; value = tt }) c.index_mut-2.result.now.pairs) entry
+    ∙ ap (λ (m : Mapped (Unit {0})). with_pair (record { key = entry_of c.args.def.now c.items-columns.result.now c.args.row.now; value = tt }) m.pairs) first in
+    one_put c.args.def.now c.args.row.now c.args.i c.items-columns.result.now long list c.args.indexes.now.items c.enter_from-2.new.indexes.items c.index_mut.result.now c.reserve.new.self c.insert.new.self tt
+    c.index_mut.ensures.value inside c.reserve.ensures.pairs c.enter_from-2.ensures.lists c.enter_from-2.ensures.before put c.enter_from-2.ensures.one

@@ -1,7 +1,7 @@
 use Rattle.psm_table.specs.Definition.{IsKey}
 use Rattle.psm_table.specs.Table.{keyed, without_row}
 use Rattle.psm_store.specs.RowCalls.{AnswersFound}
-use Rattle.psm_undostore.proofs.Calls.{answered_at, called_at, contents_called}
+use Rattle.psm_undostore.proofs.Calls.{answered_at, called_at, contents_called, tidy_called}
 use Rattle.psm_undostore.proofs.plain.erase.Goals as goal
 
 pub erase_row-requires-clause-fits : goal.erase_row-requires-clause-fits
@@ -12,3 +12,6 @@ returns-clause-answer c = answered_at c.args.tables.now c.args.t c.index-tables-
 
 pub returns-clause-tables : goal.returns-clause-tables
 returns-clause-tables c = contents_called c.args.tables.now c.args.t c.index-tables-t.result c.requires.exists (without_row c.args.key.now) c.erase_row.result c.erase_row.new.table c.erase_row.ensures.table
+
+pub returns-clause-tidy : goal.returns-clause-tidy
+returns-clause-tidy c = tidy_called c.args.tables.now c.args.t c.index-tables-t.result c.erase_row.new.table c.requires.exists c.erase_row.ensures.tidy

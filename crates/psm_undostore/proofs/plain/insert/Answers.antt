@@ -1,7 +1,7 @@
 use Rattle.psm_table.specs.Definition.{IsRow}
 use Rattle.psm_table.specs.Table.{with_row}
 use Rattle.psm_store.specs.RowCalls.{AnswersInsert}
-use Rattle.psm_undostore.proofs.Calls.{answered_at, called_at, contents_called}
+use Rattle.psm_undostore.proofs.Calls.{answered_at, called_at, contents_called, tidy_called}
 use Rattle.psm_undostore.proofs.plain.insert.Goals as goal
 
 pub insert_row-requires-clause-fits : goal.insert_row-requires-clause-fits
@@ -12,3 +12,6 @@ returns-clause-answer c = answered_at c.args.tables.now c.args.t c.index-tables-
 
 pub returns-clause-tables : goal.returns-clause-tables
 returns-clause-tables c = contents_called c.args.tables.now c.args.t c.index-tables-t.result c.requires.exists (λ x. with_row x c.args.row) c.insert_row.result c.insert_row.new.table c.insert_row.ensures.table
+
+pub returns-clause-tidy : goal.returns-clause-tidy
+returns-clause-tidy c = tidy_called c.args.tables.now c.args.t c.index-tables-t.result c.insert_row.new.table c.requires.exists c.insert_row.ensures.tidy

@@ -4,11 +4,12 @@ use Rattle.psm_table.specs.Definition.{IsRow}
 use Rattle.psm_table.specs.Held.{contents_of, entries_of, state_of, IsEntered}
 use Rattle.psm_table.specs.Key.{values_at}
 use Rattle.psm_table.specs.Map.{value_of, with_pair}
-use Rattle.psm_table.specs.State.{has_key, State, StillKeeps}
+use Rattle.psm_table.specs.State.{has_key, IsTidy, State, StillKeeps}
 use Rattle.psm_table.specs.Table.{most_rows, namesake, with_row}
 use Rattle.psm_table.specs.Held.{the_row}
 use Rattle.psm_table.proofs.Entered.{none_there}
-use Rattle.psm_table.proofs.Holds.{contents-first, held-first, keeps-first, keeps-same, state-same}
+use Rattle.psm_table.proofs.Counts.{tidy-same}
+use Rattle.psm_table.proofs.Holds.{counted-first, tidy-first, contents-first, held-first, keeps-first, keeps-same, state-same}
 use Rattle.psm_table.proofs.Tables.{held-find}
 use Rattle.psm_table.proofs.table.Table.insert_first.Goals as goal
 
@@ -37,8 +38,10 @@ invariant_of-self-2 g c =
     let e : c.insert.new.self.pairs ≡ with_pair (record { key = values_at c.self.inside.def.key c.args.row; value = Some c.args.row }) c.self.inside.rows.pairs =
     c.insert.ensures.pairs ∙ ap (λ k. with_pair (record { key = k; value = Some c.args.row }) c.reserve.new.self.pairs) key
     ∙ ap (with_pair (record { key = values_at c.self.inside.def.key c.args.row; value = Some c.args.row })) c.reserve.ensures.pairs in
-    let entered : IsEntered c.self.inside.def (entries_of c.enter.new.indexes.items) c.args.row = subst (λ (r : List Datum). IsEntered c.self.inside.def (entries_of c.enter.new.indexes.items) r) c.values.ensures c.in_ok-enter.ensures.entered in
-    held-first c.self.inside.def c.self.inside.rows c.self.inside.live c.self.inside.indexes.items c.self.invariant c.args.row c.insert.new.self c.enter.new.indexes.items fits absent e c.enter.ensures.lists c.enter.ensures.grow entered c.insert.ensures.ordered room
+    let entered : IsEntered c.self.inside.def (entries_of c.enter.new.indexes.items) c.args.row = subst (λ (r : List Datum). IsEntered c.self.inside.def (entries_of c.enter.new.indexes.items) r) c.values.ensures c.in_ok-enter.ensures.entered in (
+      held-first c.self.inside.def c.self.inside.rows c.self.inside.live c.self.inside.indexes.items c.self.invariant.0 c.args.row c.insert.new.self c.enter.new.indexes.items fits absent e c.enter.ensures.lists c.enter.ensures.grow entered c.insert.ensures.ordered room,
+      counted-first c.self.inside.def c.self.inside.rows c.self.inside.live c.self.inside.indexes.items c.self.invariant.0 c.args.row c.insert.new.self c.enter.new.indexes.items fits absent e c.enter.ensures.lists c.enter.ensures.grow entered c.insert.ensures.ordered c.enter.ensures.one c.self.inside.left c.self.invariant.1,
+    )
 
 pub returns-clause-answer : goal.returns-clause-answer
 returns-clause-answer g c =
@@ -51,8 +54,8 @@ returns-clause-answer g c =
     ∙ ap (with_pair (record { key = values_at c.self.inside.def.key c.args.row; value = Some c.args.row })) c.reserve.ensures.pairs in
     let entered : IsEntered c.self.inside.def (entries_of c.enter.new.indexes.items) c.args.row = subst (λ (r : List Datum). IsEntered c.self.inside.def (entries_of c.enter.new.indexes.items) r) c.values.ensures c.in_ok-enter.ensures.entered in
     let missing : namesake c.args.self.now.contents c.args.row ≡ None =
-    subst (λ (s : State). namesake s.contents c.args.row ≡ None) c.self.view_is (sym (held-find c.self.inside.def c.self.inside.rows c.self.inside.live c.self.inside.indexes.items c.self.invariant (values_at c.self.inside.def.key c.args.row)) ∙ ap the_row absent) in
-    (c.requires.room, missing, contents-first c.self.inside.def c.self.inside.rows c.self.inside.live c.self.inside.indexes.items c.self.invariant c.args.row c.insert.new.self c.enter.new.indexes.items fits absent e c.enter.ensures.lists c.enter.ensures.grow entered c.insert.ensures.ordered ∙ ap (λ (s : State). with_row s.contents c.args.row) c.self.view_is, c.tick.ensures)
+    subst (λ (s : State). namesake s.contents c.args.row ≡ None) c.self.view_is (sym (held-find c.self.inside.def c.self.inside.rows c.self.inside.live c.self.inside.indexes.items c.self.invariant.0 (values_at c.self.inside.def.key c.args.row)) ∙ ap the_row absent) in
+    (c.requires.room, missing, contents-first c.self.inside.def c.self.inside.rows c.self.inside.live c.self.inside.indexes.items c.self.invariant.0 c.args.row c.insert.new.self c.enter.new.indexes.items fits absent e c.enter.ensures.lists c.enter.ensures.grow entered c.insert.ensures.ordered ∙ ap (λ (s : State). with_row s.contents c.args.row) c.self.view_is, c.tick.ensures)
 
 pub returns-clause-keeps : goal.returns-clause-keeps
 returns-clause-keeps g c =
@@ -64,4 +67,26 @@ returns-clause-keeps g c =
     c.insert.ensures.pairs ∙ ap (λ k. with_pair (record { key = k; value = Some c.args.row }) c.reserve.new.self.pairs) key
     ∙ ap (with_pair (record { key = values_at c.self.inside.def.key c.args.row; value = Some c.args.row })) c.reserve.ensures.pairs in
     let entered : IsEntered c.self.inside.def (entries_of c.enter.new.indexes.items) c.args.row = subst (λ (r : List Datum). IsEntered c.self.inside.def (entries_of c.enter.new.indexes.items) r) c.values.ensures c.in_ok-enter.ensures.entered in
-    subst (λ s. StillKeeps s (state_of c.self.inside.def c.insert.new.self c.enter.new.indexes.items)) c.self.view_is (keeps-first c.self.inside.def c.self.inside.rows c.self.inside.live c.self.inside.indexes.items c.self.invariant c.args.row c.insert.new.self c.enter.new.indexes.items fits absent e c.enter.ensures.lists c.enter.ensures.grow entered c.insert.ensures.ordered)
+    subst (λ s. StillKeeps s (state_of c.self.inside.def c.insert.new.self c.enter.new.indexes.items)) c.self.view_is (keeps-first c.self.inside.def c.self.inside.rows c.self.inside.live c.self.inside.indexes.items c.self.invariant.0 c.args.row c.insert.new.self c.enter.new.indexes.items fits absent e c.enter.ensures.lists c.enter.ensures.grow entered c.insert.ensures.ordered)
+
+pub returns-in_err-reserve-clause-tidy : goal.returns-in_err-reserve-clause-tidy
+returns-in_err-reserve-clause-tidy g c =
+    tidy-same c.args.self.now (state_of c.self.inside.def c.reserve.new.self c.self.inside.indexes.items)
+    (state-same c.self.inside.def c.self.inside.rows c.reserve.new.self c.self.inside.indexes.items c.self.inside.indexes.items c.reserve.ensures.pairs refl ∙ c.self.view_is)
+
+pub returns-in_err-enter-clause-tidy : goal.returns-in_err-enter-clause-tidy
+returns-in_err-enter-clause-tidy g c =
+    tidy-same c.args.self.now (state_of c.self.inside.def c.reserve.new.self c.enter.new.indexes.items)
+    (state-same c.self.inside.def c.self.inside.rows c.reserve.new.self c.self.inside.indexes.items c.enter.new.indexes.items c.reserve.ensures.pairs c.in_err-enter.ensures.refused ∙ c.self.view_is)
+
+pub returns-clause-tidy : goal.returns-clause-tidy
+returns-clause-tidy g c tidy =
+    let fits : IsRow c.self.inside.def c.args.row = subst (λ (s : State). IsRow s.contents.def c.args.row) (sym c.self.view_is) c.requires.fits in
+    let key : c.in_ok-key.key ≡ values_at c.self.inside.def.key c.args.row = c.in_ok-key.ensures ∙ ap (λ (k : List ℕ). values_at k c.args.row) c.items.ensures in
+    let absent : value_of (values_at c.self.inside.def.key c.args.row) c.self.inside.rows.pairs ≡ None =
+    none_there (values_at c.self.inside.def.key c.args.row) c.self.inside.rows.pairs (subst (λ (s : State). has_key s.places (values_at s.contents.def.key c.args.row) ≡ false) (sym c.self.view_is) c.requires.absent) in
+    let e : c.insert.new.self.pairs ≡ with_pair (record { key = values_at c.self.inside.def.key c.args.row; value = Some c.args.row }) c.self.inside.rows.pairs =
+    c.insert.ensures.pairs ∙ ap (λ k. with_pair (record { key = k; value = Some c.args.row }) c.reserve.new.self.pairs) key
+    ∙ ap (with_pair (record { key = values_at c.self.inside.def.key c.args.row; value = Some c.args.row })) c.reserve.ensures.pairs in
+    let entered : IsEntered c.self.inside.def (entries_of c.enter.new.indexes.items) c.args.row = subst (λ (r : List Datum). IsEntered c.self.inside.def (entries_of c.enter.new.indexes.items) r) c.values.ensures c.in_ok-enter.ensures.entered in
+    tidy-first c.self.inside.def c.self.inside.rows c.self.inside.live c.self.inside.indexes.items c.self.invariant.0 c.args.row c.insert.new.self c.enter.new.indexes.items fits absent e c.enter.ensures.lists c.enter.ensures.grow entered c.insert.ensures.ordered c.enter.ensures.one (subst IsTidy (sym c.self.view_is) tidy)
