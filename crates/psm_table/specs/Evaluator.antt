@@ -19,10 +19,14 @@ abbrev pub mapped : {A B : Type 0} → (A → B) → Result A SqlState → Resul
 mapped f (Ok a) = Ok (f a)
 mapped f (Err state) = Err state
 
+-- what is taken of each, from the left
+abbrev pub collected : {A B : Type 0} → (A → Result B SqlState) → List A → Result (List B) SqlState
+collected take [] = Ok []
+collected take (a ∷ others) = and_then (take a) (λ b. mapped (λ bs. b ∷ bs) (collected take others))
+
 -- the values of some expressions on a row, from the left
 abbrev pub values_of : {E : Type 0} → Evaluator E → List E → List Datum → Result (List Datum) SqlState
-values_of ev [] row = Ok []
-values_of ev (e ∷ es) row = and_then (ev.value e row) (λ v. mapped (λ vs. v ∷ vs) (values_of ev es row))
+values_of ev es row = collected (λ e. ev.value e row) es
 
 -- a test on a row; without a test it is true
 abbrev pub test_of : {E : Type 0} → Evaluator E → Option E → List Datum → Result Truth SqlState

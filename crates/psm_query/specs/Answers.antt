@@ -1,0 +1,19 @@
+-- What a query answers.
+use Rattle.std.specs.Prelude.{◌≡◌, Result, Ok, Err}
+use Rattle.psm_sqlstate.specs.declared.state.SqlState.{SqlState}
+use Rattle.psm_cond.specs.declared.fault.DataFault.{DataFault}
+use Rattle.psm_cond.specs.declared.fault.DataFault.TheVariants.{Raised, Memory}
+use Rattle.psm_cond.specs.Condition.{Entries, alone}
+use Rattle.psm_cond.specs.Entry.{entry_of}
+use Rattle.psm_table.specs.Queries.{Answer}
+
+-- the condition is that of the SQLSTATE which is raised, alone
+abbrev pub IsRaised : Result Answer SqlState → Entries → Type 0
+IsRaised (Ok answer) condition = ⊥
+IsRaised (Err state) condition = condition ≡ alone (entry_of state)
+
+-- the answer, or the condition, is the one that is due, but for want of memory
+abbrev pub Answers : Result Answer SqlState → Result Answer DataFault → Type 0
+Answers due (Ok answer) = due ≡ Ok answer
+Answers due (Err (Raised condition)) = IsRaised due condition
+Answers due (Err Memory) = Unit {0}
