@@ -1,4 +1,6 @@
 pub mod Answers
+pub mod Codes
+pub mod Counted
 pub mod Gathered
 pub mod Rows
 pub mod Suits
