@@ -1,46 +1,51 @@
--- Values that are added to tallies one after another.
-use Rattle.std.proofs.Common.{◌≡◌, ℕ, zero, suc, ◌+◌, ◌<◌, ◌≤◌, List, [], ◌∷◌, length, get_or, take, refl, ap, sym, subst, ◌∙◌, arith}
-use Rattle.std.specs.Prelude.{slice_set}
+-- Values that are added to tallies, the last one first.
+use Rattle.std.proofs.Common.{◌≡◌, ℕ, zero, suc, ◌+◌, ◌<◌, ◌≤◌, List, [], ◌∷◌, ◌++◌, length, get_or, refl, ap, sym, subst, ◌∙◌, arith}
+use Rattle.std.specs.Prelude.{All, slice_set}
 use Rattle.psm_value.specs.declared.datum.Datum.{Datum}
-use Rattle.psm_query.specs.Tallies.{added, with_value}
+use Rattle.psm_table.specs.Table.{most_rows}
+use Rattle.psm_query.specs.Tallies.{added, count_of, with_value}
 use Rattle.psm_query.specs.declared.tally.Tally.{Tally}
 
 pub added_none : (ts : List Tally) → added ts [] ≡ ts
 added_none [] = refl
 added_none (t ∷ ts) = refl
 
-pub length-added : (ts : List Tally) (vs : List Datum) → length (added ts vs) ≡ length ts
-length-added [] vs = refl
-length-added (t ∷ ts) [] = refl
-length-added (t ∷ ts) (v ∷ vs) = ap suc (length-added ts vs)
+-- the last value goes to the tally of its place
+pub added_last : (ts : List Tally) (vs : List Datum) (v : Datum) (d : Tally) → length vs < length ts
+    → added (slice_set ts (length vs) (with_value (get_or ts (length vs) d) v)) vs ≡ added ts (vs ++ v ∷ [])
+added_last [] vs v d l = absurd (omega (arith, l))
+added_last (t ∷ ts) [] v d l = ap (λ l. with_value t v ∷ l) (sym (added_none ts))
+added_last (t ∷ ts) (w ∷ vs) v d l = ap (λ l. with_value t w ∷ l) (added_last ts vs v d (omega (arith, l)))
 
--- a tally that has no value yet is as it was
-pub added_at : (ts : List Tally) (vs : List Datum) (at : ℕ) (d : Tally) → get_or (added ts (take at vs)) at d ≡ get_or ts at d
-added_at [] vs at d = refl
-added_at (t ∷ ts) [] zero d = refl
-added_at (t ∷ ts) [] (suc at) d = refl
-added_at (t ∷ ts) (v ∷ vs) zero d = refl
-added_at (t ∷ ts) (v ∷ vs) (suc at) d = added_at ts vs at d
+-- or to none
+pub added_past : (ts : List Tally) (vs : List Datum) (v : Datum) → length ts ≤ length vs → added ts vs ≡ added ts (vs ++ v ∷ [])
+added_past [] vs v l = refl
+added_past (t ∷ ts) [] v l = absurd (omega (arith, l))
+added_past (t ∷ ts) (w ∷ vs) v l = ap (λ l. with_value t w ∷ l) (added_past ts vs v (omega (arith, l)))
 
-set_suc : (ts : List Tally) (vs : List Datum) (at : ℕ) (v : Datum) (d : Tally) → at < length ts → at < length vs → v ≡ get_or vs at v
-    → slice_set (added ts (take at vs)) at (with_value (get_or ts at d) v) ≡ added ts (take (suc at) vs)
-set_suc [] vs at v d l m e = absurd (omega (arith, l))
-set_suc (t ∷ ts) [] at v d l m e = absurd (omega (arith, m))
-set_suc (t ∷ ts) (w ∷ vs) zero v d l m e = ap (λ u. with_value t u ∷ ts) e ∙ ap (λ l. with_value t w ∷ l) (sym (added_none ts))
-set_suc (t ∷ ts) (w ∷ vs) (suc at) v d l m e = ap (λ l. with_value t w ∷ l) (set_suc ts vs at v d (omega (arith, l)) (omega (arith, m)) e)
+-- the tallies of so many first places have room for one value more
+abbrev pub HaveRoom : ℕ → List Tally → Type 0
+HaveRoom n ts = (k : ℕ) (d : Tally) → k < n → k < length ts → count_of (get_or ts k d) < most_rows
 
-past_suc : (ts : List Tally) (vs : List Datum) (at : ℕ) → length ts ≤ at → added ts (take at vs) ≡ added ts (take (suc at) vs)
-past_suc [] vs at l = refl
-past_suc (t ∷ ts) vs zero l = absurd (omega (arith, l))
-past_suc (t ∷ ts) [] (suc at) l = refl
-past_suc (t ∷ ts) (v ∷ vs) (suc at) l = ap (λ l. with_value t v ∷ l) (past_suc ts vs at (omega (arith, l)))
+pub room_first : (n : ℕ) (ts : List Tally) → All (λ t. count_of t < most_rows) ts → HaveRoom n ts
+room_first n ts h k d l m = h k d m
 
-module _ (ts : List Tally) (vs : List Datum) (at : ℕ) where
-  next : suc at ≡ at + 1
-  next = omega arith
+set_before : (ts : List Tally) (i k : ℕ) (t d : Tally) → k < i → get_or (slice_set ts i t) k d ≡ get_or ts k d
+set_before [] i k t d l = refl
+set_before (s ∷ ts) zero k t d l = absurd (omega (arith, l))
+set_before (s ∷ ts) (suc i) zero t d l = refl
+set_before (s ∷ ts) (suc i) (suc k) t d l = set_before ts i k t d (omega (arith, l))
 
-  pub added_set : (v : Datum) (d : Tally) → at < length ts → at < length vs → v ≡ get_or vs at v → slice_set (added ts (take at vs)) at (with_value (get_or ts at d) v) ≡ added ts (take (at + 1) vs)
-  added_set v d l m e = set_suc ts vs at v d l m e ∙ ap (λ n. added ts (take n vs)) next
+length_set : (ts : List Tally) (i : ℕ) (t : Tally) → length (slice_set ts i t) ≡ length ts
+length_set [] i t = refl
+length_set (s ∷ ts) zero t = refl
+length_set (s ∷ ts) (suc i) t = ap suc (length_set ts i t)
 
-  pub added_past : length ts ≤ at → added ts (take at vs) ≡ added ts (take (at + 1) vs)
-  added_past l = past_suc ts vs at l ∙ ap (λ n. added ts (take n vs)) next
+pub room_set : (n : ℕ) (ts : List Tally) (t : Tally) → HaveRoom (n + 1) ts → HaveRoom n (slice_set ts n t)
+room_set n ts t h k d l m =
+    let inside : k < length ts = omega (arith, m, length_set ts n t) in
+    let room : count_of (get_or ts k d) < most_rows = h k d (omega (arith, l)) inside in
+    subst (λ s. count_of s < most_rows) (sym (set_before ts n k t d l)) room
+
+pub room_fewer : (n : ℕ) (ts : List Tally) → HaveRoom (n + 1) ts → HaveRoom n ts
+room_fewer n ts h k d l m = h k d (omega (arith, l)) m

@@ -4,5 +4,6 @@ pub mod Finished
 pub mod Fitting
 pub mod Follows
 pub mod Goes
+pub mod Means
 pub mod Results
 pub mod Tallied

@@ -52,7 +52,7 @@ impl Gathering {
         let mut stack = Vec::new(alloc);
         let mut gathering = Gathering::nothing(alloc, &query.items)?;
         let mut next = first(table, query.downward);
-        'rows: for _ in 0..table.len() {
+        for at in 0..table.len() {
             let Some(row) = next else {
                 break;
             };
@@ -110,7 +110,7 @@ impl Gathering {
             Items::Sets(_) => {
                 let mut rows = rows;
                 rows.clear();
-                rows.push(finish_all(alloc, tallies)?)?;
+                rows.push(finish_all(alloc, tallies.as_slice())?)?;
                 Ok(Answer::of(rows, skipped))
             }
         }
@@ -138,7 +138,9 @@ fn add_all(tallies: &mut Vec<Tally>, values: Vec<Datum>)
     requires { All (λ t. count_of t < most_rows) tallies.old.items }
     ensures { tallies.new.items ≡ added tallies.old.items values.items }
 {
-    for (at, value) in values.into_iter().enumerate() {
+    let mut values = values;
+    while let Some(value) = values.pop() {
+        let at = values.len();
         if at < tallies.len() {
             tallies[at].add(value);
         }
@@ -146,12 +148,12 @@ fn add_all(tallies: &mut Vec<Tally>, values: Vec<Datum>)
 }
 
 /// The row of the set functions; the first that is out of range raises its condition.
-fn finish_all(alloc: Global, tallies: Vec<Tally>) -> Result<Row, ValueFault>
-    ensures { Gives (collected finish_of tallies.items) result }
+fn finish_all(alloc: Global, tallies: &[Tally]) -> Result<Row, ValueFault>
+    ensures { Gives (collected finish_of tallies.now) result }
 {
     let mut values = Vec::new(alloc);
     for tally in tallies {
-        values.push(tally.finish()?)?;
+        values.push(tally.finish(alloc)?)?;
     }
     Ok(Row::of(values))
 }

@@ -1,14 +1,16 @@
 //! What is kept of a set function from row to row.
-ghost use Rattle.std.specs.Prelude.{◌≡◌, ◌<◌, Some};
+ghost use Rattle.std.specs.Prelude.{◌≡◌, ◌<◌, IfOk, Some};
+ghost use Rattle.psm_value.specs.Answer.{Gives};
 ghost use Rattle.psm_table.specs.Queries.{comes_before, comes_behind, whole as whole_number};
 ghost use Rattle.psm_table.specs.Table.{most_rows};
 ghost use Rattle.psm_table.specs.Unique.{is_null as is_null_value};
 ghost use Rattle.psm_query.specs.Codes.{set_function};
-ghost use Rattle.psm_query.specs.Tallies.{better, count_of, empty as empty_tally, finish as finish_of, or_null as value_or_null, precedes, with_value};
+ghost use Rattle.psm_query.specs.Tallies.{better, count_of, empty as empty_tally, finish as finish_of, or_null, precedes, with_value};
 
 use crate::total::Summing;
 use psm_exprcode::SetFunction;
-use psm_value::{Datum, Dec, SqlState};
+use psm_value::{Datum, Dec, ValueFault};
+use std::alloc::{AllocError, Global};
 
 /// What is known of a set function after some values.
 #[derive(Debug, Drop)]
@@ -51,16 +53,16 @@ impl Tally {
         }
     }
 
-    /// The set function.
-    pub(crate) fn finish(self) -> Result<Datum, SqlState>
-        ensures { result ≡ finish_of self }
+    /// The set function. A text that is kept is copied.
+    pub(crate) fn finish(&self, alloc: Global) -> Result<Datum, ValueFault>
+        ensures { Gives (finish_of self.now) result }
     {
         match self {
-            Tally::Count(count) => Ok(whole(count)),
-            Tally::Sum(sum) => sum.sum(),
-            Tally::Min(best) => Ok(or_null(best)),
-            Tally::Max(best) => Ok(or_null(best)),
-            Tally::Avg(sum) => sum.average(),
+            Tally::Count(count) => Ok(whole(*count)),
+            Tally::Sum(sum) => Ok(sum.sum()?),
+            Tally::Min(best) => Ok(copy_or_null(alloc, best)?),
+            Tally::Max(best) => Ok(copy_or_null(alloc, best)?),
+            Tally::Avg(sum) => Ok(sum.average()?),
         }
     }
 }
@@ -109,12 +111,12 @@ fn is_last(greatest: &Option<Datum>, value: &Datum) -> bool
     }
 }
 
-fn or_null(value: Option<Datum>) -> Datum
-    ensures { result ≡ value_or_null value }
+fn copy_or_null(alloc: Global, value: &Option<Datum>) -> Result<Datum, AllocError>
+    ensures { IfOk result (λ d. d ≡ or_null value.now) }
 {
     match value {
-        Some(value) => value,
-        None => Datum::Null,
+        Some(value) => value.copy(alloc),
+        None => Ok(Datum::Null),
     }
 }
 

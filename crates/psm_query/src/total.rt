@@ -1,5 +1,5 @@
 //! Sums of numbers, which grow beyond those that are values.
-ghost use Rattle.std.specs.Prelude.{◌≡◌, ◌<◌, ◌+ℤ◌, ◌^◌, unsigned_abs, Ok, Some};
+ghost use Rattle.std.specs.Prelude.{◌≡◌, ◌<◌, ◌≤◌, pos, int_div, ◌+ℤ◌, ◌^◌, unsigned_abs, Ok, Some};
 ghost use Rattle.psm_table.specs.Queries.{averaged, in_range, number_of as number_in, summed};
 ghost use Rattle.psm_table.specs.Table.{most_rows};
 ghost use Rattle.psm_value.specs.declared.datum.Datum.TheVariants as data_of;
@@ -115,11 +115,24 @@ impl Total {
     fn average(&self) -> Datum
         ensures { Ok result ≡ averaged (Some self.now.sum) self.now.count }
     {
-        match bounded(self.coef / i128::from(self.count), self.scale) {
-            Some(number) => Datum::Num(number),
-            None => unreachable!(),
-        }
+        Datum::Num(within(self.mean(), self.scale))
     }
+
+    #[tactic(auto, using(crate::proofs::Means::mean_small))]
+    fn mean(&self) -> i128
+        ensures value { result ≡ int_div self.now.sum.coef (pos self.now.count) }
+        ensures small { unsigned_abs result < 1000000000000000000 }
+    {
+        self.coef / i128::from(self.count)
+    }
+}
+
+fn within(coef: i128, scale: u8) -> Dec
+    requires digits { unsigned_abs coef < 1000000000000000000 }
+    requires bound { scale ≤ 18 }
+    ensures { result ≡ record { coef = coef; scale = scale } }
+{
+    Dec::new(coef as i64, scale).unwrap()
 }
 
 fn plus(left: i128, right: i64) -> i128

@@ -3,6 +3,7 @@ ghost use Rattle.std.specs.Prelude.{◌≡◌, ◌+◌, ℕ, slice_get, IfSome, 
 ghost use Rattle.std.specs.Option.{option_copied};
 ghost use Rattle.psm_table.specs.Definition.{IsRow};
 ghost use Rattle.psm_table.specs.Queries.{in_walk};
+ghost use Rattle.psm_table.specs.Table.{IsTable};
 
 use psm_table::{Row, Table};
 
@@ -24,11 +25,17 @@ pub(crate) fn following<'a>(table: &'a Table, downward: bool, row: &Row) -> Opti
     ensures here { (at : ℕ) → slice_get (in_walk downward table.now.contents.rows) at ≡ Some row.now → option_copied result ≡ slice_get (in_walk downward table.now.contents.rows) (at + 1) }
     ensures fits { IfSome result (λ row. IsRow table.now.contents.def row.now) }
 {
-    // The rows ascend.
-    let _rows = table.len();
+    ascends(table);
     if downward {
         table.row_before_row(row)
     } else {
         table.row_behind(row)
     }
+}
+
+// The rows of a table ascend by its key.
+fn ascends(table: &Table)
+    ensures { IsTable table.now.contents }
+{
+    let _rows = table.len();
 }
