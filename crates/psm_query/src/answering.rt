@@ -50,5 +50,8 @@ fn rows_of(
     requires { SuitsTable query.now vars.now table.now.contents.def }
     ensures { Gives (answer (over vars.now) (query_of query.now) table.now.contents.rows) result }
 {
-    Gathering::of_rows(alloc, table, query, vars)?.finish(alloc, &query.items)
+    match Gathering::of_rows(alloc, table, query, vars) {
+        Ok(gathering) => gathering.finish(alloc, &query.items),
+        Err(fault) => Err(fault),
+    }
 }

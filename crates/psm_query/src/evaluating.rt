@@ -1,9 +1,9 @@
 //! What a query takes of one row. The operand stack is lent, so that all rows need one.
-ghost use Rattle.std.specs.Prelude.{◌≡◌, map, All, IfSome};
+ghost use Rattle.std.specs.Prelude.{◌≡◌, All, IfSome};
 ghost use Rattle.psm_value.specs.Answer.{Gives};
-ghost use Rattle.psm_table.specs.Evaluator.{mapped, test_of, values_of};
-ghost use Rattle.psm_table.specs.Queries.{is_met, operand_of, operands_of, taken as taken_of};
-ghost use Rattle.psm_query.specs.Codes.{over, set_of, truth_in, value_in};
+ghost use Rattle.psm_table.specs.Evaluator.{collected, mapped, test_of, values_of};
+ghost use Rattle.psm_table.specs.Queries.{is_met, operand_of, taken as taken_of};
+ghost use Rattle.psm_query.specs.Codes.{over, truth_in, value_in};
 ghost use Rattle.psm_query.specs.Rows.{values_for};
 ghost use Rattle.psm_query.specs.Suits.{Runs, RunItems, SuitsRow};
 ghost use Rattle.psm_exprcode.specs.Evaluated.{evaluated};
@@ -138,7 +138,7 @@ fn operands(
     vars: &[Datum],
 ) -> Result<Row, ValueFault>
     requires { All (λ a. IfSome a.operand (Runs row.now vars.now)) sets.now }
-    ensures { Gives (operands_of (over vars.now) (map set_of sets.now) row.now) result }
+    ensures { Gives (collected (λ a. operand_of (over vars.now) a.operand row.now) sets.now) result }
 {
     let mut values = Vec::new(alloc);
     for set in sets {

@@ -4,11 +4,11 @@ use Rattle.psm_query.proofs.Added.{HaveRoom}
 use Rattle.psm_query.proofs.gathering.add_all.Given as goal
 
 -- with the values that are left, the tallies come to what all values make of the first
-invariant-loop-value : goal.invariant-loop-value
+abbrev pub invariant-loop-value : goal.invariant-loop-value
 invariant-loop-value l = record {
   so_far : added l.tallies.items l.values.items ≡ added l.initial.tallies.items l.initial.values.items;
   room : HaveRoom (length l.values.items) l.tallies.items
 }
 
-decreases-loop-value : goal.decreases-loop-value
+abbrev pub decreases-loop-value : goal.decreases-loop-value
 decreases-loop-value l = length l.values.items

@@ -10,7 +10,7 @@ use Rattle.psm_query.specs.Rows.{values_for}
 use Rattle.psm_query.proofs.Goes.{Goes}
 use Rattle.psm_query.proofs.gathering.Gathering.of_rows.Given as goal
 
-invariant-loop-at : goal.invariant-loop-at
+abbrev pub invariant-loop-at : goal.invariant-loop-at
 invariant-loop-at l = record {
   here : option_copied l.next ≡ slice_get (in_walk l.query.downward l.table.contents.rows) l.at;
   fits : IfSome l.next (λ row. IsRow l.table.contents.def row.now);
