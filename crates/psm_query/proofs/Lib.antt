@@ -1,4 +1,5 @@
 pub mod Added
+pub mod Answered
 pub mod Collecting
 pub mod Finished
 pub mod Fitting

@@ -25,13 +25,7 @@ pub(crate) fn taken(
     ensures { Gives (taken_of (test_of (over vars.now) query.now.test) (values_for vars.now query.now.items) row.now) result }
 {
     if meets(alloc, stack, &query.test, row.values(), vars)? {
-        Ok(Some(values_of_items(
-            alloc,
-            stack,
-            &query.items,
-            row.values(),
-            vars,
-        )?))
+        Ok(Some(values_of_items(alloc, stack, &query.items, row.values(), vars)?))
     } else {
         Ok(None)
     }

@@ -7,7 +7,7 @@ use Rattle.psm_query.proofs.gathering.add_all.Given as goal
 abbrev pub invariant-loop-value : goal.invariant-loop-value
 invariant-loop-value l = record {
   so_far : added l.tallies.items l.values.items ≡ added l.initial.tallies.items l.initial.values.items;
-  room : HaveRoom (length l.values.items) l.tallies.items
+  room : HaveRoom (length l.values.items) l.tallies.items;
 }
 
 abbrev pub decreases-loop-value : goal.decreases-loop-value

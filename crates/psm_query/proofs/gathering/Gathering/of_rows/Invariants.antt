@@ -15,5 +15,5 @@ invariant-loop-at l = record {
   here : option_copied l.next ≡ slice_get (in_walk l.query.downward l.table.contents.rows) l.at;
   fits : IfSome l.next (λ row. IsRow l.table.contents.def row.now);
   so_far : Goes l.query.items (nothing l.query.items) (test_of (over l.vars) l.query.test) (values_for l.vars l.query.items) (in_walk l.query.downward l.table.contents.rows) l.at l.gathering;
-  counts : AreUpTo l.at l.gathering.tallies
+  counts : AreUpTo l.at l.gathering.tallies;
 }
