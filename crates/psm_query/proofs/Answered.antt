@@ -1,5 +1,5 @@
 -- The answer of a query that is asked.
-use Rattle.std.proofs.Common.{◌≡◌, Option, Some, sym, subst, Result, Ok, Err}
+use Rattle.std.proofs.Common.{◌≡◌, Option, Some, sym, subst, Result, Err}
 use Rattle.std.specs.Prelude.{IfSome}
 use Rattle.psm_sqlstate.specs.declared.state.SqlState.{SqlState}
 use Rattle.psm_cond.specs.declared.fault.DataFault.{DataFault}

@@ -1,5 +1,5 @@
 -- What was kept after the last row comes to the answer.
-use Rattle.std.proofs.Common.{◌≡◌, List, [], ◌∷◌, ◌++◌, append_assoc, refl, ap, sym, subst, ◌∙◌, Option, Result, Ok, Err}
+use Rattle.std.proofs.Common.{◌≡◌, List, [], ◌∷◌, ◌++◌, append_assoc, refl, ap, sym, ◌∙◌, Option, Result, Ok, Err}
 use Rattle.std.specs.Prelude.{map, false}
 use Rattle.psm_sqlstate.specs.declared.state.SqlState.{SqlState}
 use Rattle.std.proofs.lemmas.List.{append-nil}
@@ -10,15 +10,14 @@ use Rattle.psm_exprcode.specs.declared.aggregate.Aggregate.{Aggregate}
 use Rattle.psm_exprcode.specs.declared.items.Items.{Items}
 use Rattle.psm_exprcode.specs.declared.items.Items.TheVariants.{Rows, Sets}
 use Rattle.psm_exprcode.specs.declared.op.Line.{Line}
-use Rattle.psm_table.specs.Evaluator.{and_then, collected, mapped, test_of}
+use Rattle.psm_table.specs.Evaluator.{and_then, mapped, test_of}
 use Rattle.psm_table.specs.Queries as q
 use Rattle.psm_table.specs.Queries.{Answer, answered, has_nulls, walked}
 use Rattle.psm_query.specs.Codes.{items_of, over, set_of}
 use Rattle.psm_query.specs.Gathered.{Gathered, finished, nothing, with_rows}
 use Rattle.psm_query.specs.Rows.{values_for}
-use Rattle.psm_query.specs.Tallies.{finish}
 use Rattle.psm_query.proofs.Results.{gives_by, gives_first}
-use Rattle.psm_query.proofs.Tallied.{finish-tallies, kept, kept-all}
+use Rattle.psm_query.proofs.Tallied.{finish-tallies, kept-all}
 
 rows-more : (codes : List (List Line)) (g : Gathered) (more : List (List Datum)) → (with_rows (Rows codes) g more).rows ≡ g.rows ++ more
 rows-more codes g [] = sym (append-nil g.rows)

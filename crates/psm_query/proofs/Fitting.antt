@@ -1,6 +1,6 @@
 -- A query that suits a table suits each of its rows.
-use Rattle.std.proofs.Common.{◌≡◌, suc, ◌<◌, List, [], ◌∷◌, length, get_or, Bool, true, false, ◌&&◌, refl, ap, sym, subst, ◌∙◌, arith, Option, Some, None}
-use Rattle.std.specs.Prelude.{All, IsTrue, IfSome, map}
+use Rattle.std.proofs.Common.{◌≡◌, List, [], ◌∷◌, length, get_or, Bool, true, false, ◌&&◌, refl, sym, ◌∙◌, arith, Option, Some, None}
+use Rattle.std.specs.Prelude.{IsTrue, IfSome, map}
 use Rattle.std.specs.List.{zip}
 use Rattle.std.proofs.lemmas.List.Elements.{All-head, All-tail}
 use Rattle.psm_value.specs.declared.datum.Datum.{Datum}
@@ -8,7 +8,6 @@ use Rattle.psm_value.specs.declared.datum.Datum.TheVariants.{Null, Num, Text}
 use Rattle.psm_value.specs.declared.sqltype.SqlType.{SqlType}
 use Rattle.psm_value.specs.declared.sqltype.SqlType.TheVariants.{SmallInt, Integer, Numeric, Char, VarChar}
 use Rattle.psm_value.specs.SqlType.{IsOfFamily}
-use Rattle.psm_exprcode.specs.declared.aggregate.Aggregate.{Aggregate}
 use Rattle.psm_exprcode.specs.declared.aggregate.SetFunction.{SetFunction}
 use Rattle.psm_exprcode.specs.declared.aggregate.SetFunction.TheVariants.{Count, Sum, Min, Max, Avg}
 use Rattle.psm_exprcode.specs.declared.items.Items.{Items}
@@ -17,7 +16,6 @@ use Rattle.psm_exprcode.specs.declared.op.Letter.{Letter}
 use Rattle.psm_exprcode.specs.declared.op.Letter.TheVariants.{N, B}
 use Rattle.psm_exprcode.specs.declared.op.Line.{Line}
 use Rattle.psm_exprcode.specs.declared.query.Query.{Query}
-use Rattle.psm_exprcode.specs.Evaluated as code
 use Rattle.psm_exprcode.specs.Kinds.{are_of, has_letter, letter_of}
 use Rattle.psm_exprcode.specs.WellFormed.{does_fit}
 use Rattle.psm_table.specs.Definition.{AreOfFamilies, IsRow, kinds_of}

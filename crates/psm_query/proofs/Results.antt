@@ -1,5 +1,5 @@
 -- Answers that are due, and what follows from them.
-use Rattle.std.proofs.Common.{◌≡◌, List, [], ◌++◌, Option, Some, refl, ap, sym, ◌∙◌, Result, Ok, Err}
+use Rattle.std.proofs.Common.{◌≡◌, Some, refl, ap, ◌∙◌, Result, Ok, Err}
 use Rattle.psm_sqlstate.specs.declared.state.SqlState.{SqlState}
 use Rattle.psm_value.specs.Answer.{Gives}
 use Rattle.psm_value.specs.declared.fault.ValueFault.{ValueFault}

@@ -1,16 +1,15 @@
 -- Tallies of all values, and of one value more.
-use Rattle.std.proofs.Common.{◌≡◌, ℕ, zero, suc, ◌+◌, Bool, true, false, ◌||◌, List, [], ◌∷◌, ◌++◌, length, get_or, drop, append_assoc, length-append, refl, ap, sym, subst, ◌∙◌, arith, Option, Some, None, Result, Ok, Err}
-use Rattle.std.specs.Prelude.{cond, filter, map, not, if◌then◌else◌}
+use Rattle.std.proofs.Common.{◌≡◌, ℕ, zero, suc, ◌+◌, Bool, true, false, ◌||◌, List, [], ◌∷◌, ◌++◌, length, get_or, drop, append_assoc, length-append, refl, ap, sym, ◌∙◌, arith, Option, Some, None}
+use Rattle.std.specs.Prelude.{cond, map, not, if◌then◌else◌}
 use Rattle.std.specs.List.{list_any}
 use Rattle.std.proofs.lemmas.List.{append-nil, map-append}
 use Rattle.std.proofs.lemmas.List.Elements.{filter-append}
 use Rattle.std.proofs.lemmas.List.Folds.{list_any-append}
 use Rattle.psm_num.specs.Num.{Num}
-use Rattle.psm_sqlstate.specs.declared.state.SqlState.{SqlState}
 use Rattle.psm_value.specs.declared.datum.Datum.{Datum}
 use Rattle.psm_value.specs.declared.datum.Datum.TheVariants.{Null}
 use Rattle.psm_exprcode.specs.declared.aggregate.Aggregate.{Aggregate}
-use Rattle.psm_exprcode.specs.declared.items.Items.TheVariants.{Rows, Sets}
+use Rattle.psm_exprcode.specs.declared.items.Items.TheVariants.{Sets}
 use Rattle.psm_table.specs.Evaluator.{and_then, collected, mapped}
 use Rattle.psm_table.specs.Queries as q
 use Rattle.psm_table.specs.Queries.{averaged, column, comes_before, comes_behind, first_by, function_of, has_nulls, known, number_of, plus, sum_of, summed}
@@ -21,7 +20,7 @@ use Rattle.psm_query.specs.Tallies.{added, average_in, better, counted, empty, f
 use Rattle.psm_query.specs.declared.tally.Tally.{Tally}
 use Rattle.psm_query.specs.declared.tally.Tally.TheVariants.{Count, Sum, Min, Max, Avg}
 use Rattle.psm_query.specs.declared.total.Summing.{Summing}
-use Rattle.psm_query.specs.declared.total.Summing.TheVariants.{Empty, OutOfRange, Of}
+use Rattle.psm_query.specs.declared.total.Summing.TheVariants.{Empty}
 
 -- ---- the tally of some values that aren't null
 

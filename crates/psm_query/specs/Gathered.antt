@@ -1,5 +1,5 @@
 -- What is kept of a query from row to row.
-use Rattle.std.specs.Prelude.{◌≤◌, Bool, true, false, ◌||◌, ℕ, List, [], ◌∷◌, ◌++◌, map, All, Option, Some, None, Result, Ok}
+use Rattle.std.specs.Prelude.{◌≤◌, Bool, false, ◌||◌, ℕ, List, [], ◌∷◌, ◌++◌, map, All, Option, Some, None, Result, Ok}
 use Rattle.std.specs.List.{list_any}
 use Rattle.psm_sqlstate.specs.declared.state.SqlState.{SqlState}
 use Rattle.psm_value.specs.declared.datum.Datum.{Datum}

@@ -1,7 +1,6 @@
 -- When a query may be asked: its codes fit the table's columns and the variables, and end with the letters that are due.
 use Rattle.std.specs.Prelude.{List, map, All, IsTrue, IfSome}
 use Rattle.psm_value.specs.declared.datum.Datum.{Datum}
-use Rattle.psm_exprcode.specs.declared.aggregate.Aggregate.{Aggregate}
 use Rattle.psm_exprcode.specs.declared.aggregate.SetFunction.{SetFunction}
 use Rattle.psm_exprcode.specs.declared.aggregate.SetFunction.TheVariants.{Count, Sum, Min, Max, Avg}
 use Rattle.psm_exprcode.specs.declared.items.Items.{Items}

@@ -1,5 +1,5 @@
 -- What is kept of a set function from row to row.
-use Rattle.std.specs.Prelude.{Bool, true, false, ℕ, ◌+◌, List, [], ◌∷◌, length, Option, Some, None, Result, Ok, Err, codes, if◌then◌else◌}
+use Rattle.std.specs.Prelude.{Bool, true, ℕ, ◌+◌, List, [], ◌∷◌, Option, Some, None, Result, Ok, if◌then◌else◌}
 use Rattle.psm_num.specs.Num.{Num}
 use Rattle.psm_sqlstate.specs.declared.state.SqlState.{SqlState}
 use Rattle.psm_value.specs.declared.datum.Datum.{Datum}
@@ -7,7 +7,6 @@ use Rattle.psm_value.specs.declared.datum.Datum.TheVariants.{Null}
 use Rattle.psm_table.specs.Queries as q
 use Rattle.psm_table.specs.Queries.{number_of, plus, sum_of, summed, averaged, comes_before, comes_behind, first_by, whole}
 use Rattle.psm_table.specs.Unique.{is_null}
-use Rattle.psm_query.specs.Counted.{Counted}
 use Rattle.psm_query.specs.declared.total.Summing.{Summing}
 use Rattle.psm_query.specs.declared.total.Summing.TheVariants.{Empty, OutOfRange, Of}
 use Rattle.psm_query.specs.declared.tally.Tally.{Tally}
