@@ -1,4 +1,5 @@
 //! What begins at a token of a list.
+ghost use Rattle.std.specs.Prelude.{◌≤◌, length};
 
 use crate::fault::Fault;
 use crate::form;
@@ -29,14 +30,22 @@ pub fn run(alloc: Global, list: &TokenList, part: Part, row: Row<'_>) -> Result<
             let (target, behind) = parse_target(alloc, list, at, row.depth)?;
             told(alloc, form::name(&target), behind)
         }
-        Part::DataType => {
-            let (kind, behind) = parse_type(alloc, list, at, row.depth)?;
-            told(alloc, form::data_type(&kind), behind)
-        }
+        Part::DataType => data_type(alloc, list, at, row.depth),
         Part::Statement => {
             let (statement, behind) = parse_stmt(alloc, list, at, row.depth)?;
             told(alloc, form::statement(statement.get()), behind)
         }
+    }
+}
+
+// A data type, whose fault is handed on by a match: the prover of the kit of today has no rule for `?` on it.
+fn data_type(alloc: Global, list: &TokenList, at: usize, depth: u32) -> Result<String, Fault>
+    requires within { at ≤ length list.now.tokens }
+    requires shallow { depth ≤ 100 }
+{
+    match parse_type(alloc, list, at, depth) {
+        Ok((kind, behind)) => told(alloc, form::data_type(&kind), behind),
+        Err(fault) => Err(fault.into()),
     }
 }
 
