@@ -2,24 +2,30 @@
 //! formed by its type, and the value of an expression (ISO/IEC 9075:1992, clauses 6 and 8).
 #![tactic(auto)]
 
+mod aggregate;
 mod applying;
 mod checking;
 mod code;
 mod comparing;
 mod deciding;
 mod evaluating;
+mod items;
 mod letters;
 mod moving;
 mod numbers;
 mod op;
 mod operand;
+mod query;
 mod stack;
 mod table;
 mod texts;
 
+pub use aggregate::{Aggregate, SetFunction};
 pub use applying::apply;
 pub use code::ExprCode;
 pub use evaluating::{eval, eval_on};
+pub use items::Items;
 pub use op::{Letter, Line, Op, RawExpr};
 pub use operand::{Next, Operand};
+pub use query::Query;
 pub use table::{Entry, Letters};

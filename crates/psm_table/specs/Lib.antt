@@ -1,4 +1,6 @@
+pub mod Changing
 pub mod Definition
+pub mod Evaluator
 pub mod Held
 pub mod Index
 pub mod Key
@@ -6,6 +8,7 @@ pub mod Map
 pub mod Mapped
 pub mod Parts
 pub mod Place
+pub mod Queries
 pub mod Rows
 pub mod Runs
 pub mod State

@@ -1,0 +1,63 @@
+use Rattle.std.proofs.Common.{◌≡◌, ◌+◌, ◌≤◌, List, length, Some, None, ap, sym, subst, ◌∙◌, arith}
+use Rattle.std.specs.Prelude.{slice_get, IfSome}
+use Rattle.std.specs.Option.{option_copied}
+use Rattle.std.proofs.lemmas.Option.{slice_get_past}
+use Rattle.std.proofs.lemmas.Result.{err_from_is_err_and}
+use Rattle.psm_value.specs.declared.datum.Datum.{Datum}
+use Rattle.psm_table.specs.Definition.{IsRow}
+use Rattle.psm_table.specs.Evaluator.{mapped, test_of}
+use Rattle.psm_table.specs.Queries.{in_walk, walked}
+use Rattle.psm_query.specs.Codes.{over}
+use Rattle.psm_query.specs.Gathered.{Gathered, nothing, with_rows, AreUpTo}
+use Rattle.psm_query.specs.Rows.{values_for}
+use Rattle.psm_query.proofs.Fitting.{suits_row}
+use Rattle.psm_query.proofs.Goes.{goes_end, goes_fault, goes_next, length_walk, up_to_nothing, up_to_taken}
+use Rattle.psm_query.proofs.gathering.Gathering.of_rows.Goals as goal
+use Rattle.psm_query.proofs.gathering.Gathering.of_rows.Goals.{else-loop-at-test, then-loop-at-test+in_default}
+
+pub loop-at-init : goal.loop-at-init
+loop-at-init c =
+    let order : List (List Datum) = in_walk c.args.query.now.downward c.args.table.now.contents.rows in
+    record {
+      here = c.first-next.ensures.here;
+      fits = c.first-next.ensures.fits;
+      so_far = ap (λ (g : Gathered). mapped (with_rows c.args.query.now.items g) (walked (test_of (over c.args.vars.now) c.args.query.now.test) (values_for c.args.vars.now c.args.query.now.items) order)) c.in_ok-gathering.ensures;
+      counts = subst (λ (g : Gathered). AreUpTo 0 g.tallies) (sym c.in_ok-gathering.ensures) (up_to_nothing c.args.query.now.items);
+    }
+
+pub taken-requires : goal.taken-requires
+taken-requires c =
+    suits_row c.args.query.now c.args.vars.now c.args.table.now.contents.def c.in-Some.row.now c.requires
+    (subst (λ o. IfSome o (λ r. IsRow c.args.table.now.contents.def r.now)) c.in-Some.is c.loop-at.invariant.fits)
+
+pub returns-in_err-values : goal.returns-in_err-values
+returns-in_err-values c =
+    let order : List (List Datum) = in_walk c.args.query.now.downward c.args.table.now.contents.rows in
+    let here : slice_get order c.loop-at.at ≡ Some c.in-Some.row.now = sym c.loop-at.invariant.here ∙ ap option_copied c.in-Some.is in
+    let p = err_from_is_err_and c.from_residual-in_err-values.result c.from_residual-in_err-values.ensures.1 in
+    rw (p.1, p.2) (goes_fault c.args.query.now.items (nothing c.args.query.now.items) (test_of (over c.args.vars.now) c.args.query.now.test) (values_for c.args.vars.now c.args.query.now.items) order
+    c.loop-at.at c.in-Some.row.now c.in_err-values.field-0.0 c.loop-at.gathering here c.in_err-values.ensures c.loop-at.invariant.so_far)
+
+pub loop-at-preserved : goal.loop-at-preserved
+loop-at-preserved c =
+    let order : List (List Datum) = in_walk c.args.query.now.downward c.args.table.now.contents.rows in
+    let here : slice_get order c.loop-at.at ≡ Some c.in-Some.row.now = sym c.loop-at.invariant.here ∙ ap option_copied c.in-Some.is in
+    record {
+      here = c.following-next.ensures.here c.loop-at.at here;
+      fits = c.following-next.ensures.fits;
+      so_far = goes_next c.args.query.now.items (nothing c.args.query.now.items) (test_of (over c.args.vars.now) c.args.query.now.test) (values_for c.args.vars.now c.args.query.now.items) order
+          c.loop-at.at c.in-Some.row.now c.in_ok-values.values c.loop-at.gathering c.take.new.self here c.in_ok-values.ensures c.in_ok-take.ensures c.loop-at.invariant.so_far;
+      counts = subst (λ (g : Gathered). AreUpTo (c.loop-at.at + 1) g.tallies) (sym c.in_ok-take.ensures)
+          (up_to_taken c.args.query.now.items c.loop-at.at c.loop-at.gathering c.in_ok-values.values c.loop-at.invariant.counts);
+    }
+
+pub returns : goal.returns
+returns c =
+    let order : List (List Datum) = in_walk c.args.query.now.downward c.args.table.now.contents.rows in
+    let long : length order ≡ length c.args.table.now.contents.rows = length_walk c.args.query.now.downward c.args.table.now.contents.rows in
+    let none : slice_get order c.loop-at.at ≡ None = elim c.loop-at-test.branch [
+      | else-loop-at-test w ↦ let past : length order ≤ c.loop-at.at = omega (arith, long, w.loop-at-test.false, c.len-at-end.ensures.value) in slice_get_past order c.loop-at.at past
+      | then-loop-at-test+in_default w ↦ sym c.loop-at.invariant.here ∙ ap option_copied w.in_default.is
+    ] in
+    goes_end c.args.query.now.items (nothing c.args.query.now.items) (test_of (over c.args.vars.now) c.args.query.now.test) (values_for c.args.vars.now c.args.query.now.items) order
+    c.loop-at.at c.loop-at.gathering none c.loop-at.invariant.so_far
