@@ -1,5 +1,5 @@
 -- The first fault of an expression or a query, and the shape of its value (ISO/IEC 9075:1992, clauses 6 to 8).
-use Rattle.std.specs.Prelude.{ℕ, suc, ◌≡◌, nat_eq, nat_le, nat_lt, Bool, true, false, not, ◌&&◌, ◌||◌, Option, Some, None, Result, Ok, Err, List, [], ◌∷◌, ◌++◌, map, length, option_map, if◌then◌else◌}
+use Rattle.std.specs.Prelude.{ℕ, suc, ◌≡◌, nat_eq, nat_le, nat_lt, Bool, true, false, not, ◌&&◌, ◌||◌, Option, Some, None, Result, Ok, Err, List, [], ◌∷◌, ◌++◌, map, length, drop, option_map, if◌then◌else◌}
 use Rattle.std.specs.List.{list_all, list_any, filter}
 use Rattle.psm_list.specs.Several.{Several}
 use Rattle.psm_num.specs.Num.{Num}
@@ -38,13 +38,21 @@ use Rattle.psm_rules.specs.View.{View, Variable, Columns, Function, signatures, 
 
 -- a name of a type; what is declared with a type at fault has no shape
 abbrev pub of_type : Place → Option SqlType → Found
-of_type place None = record { place = place; fault = None; shape = None }
+of_type place None = record { place = place; fault = None; shape = None; column = None }
 of_type place (Some t) = sound place (Value (typed t))
 
-abbrev pub of_meaning : Place → Option (Meaning Variable (Option SqlType)) → Found
-of_meaning place None = broken rule.UnknownName place
-of_meaning place (Some (lookup.Column i t)) = of_type place t
-of_meaning place (Some (lookup.Variable v)) = of_type place v.kind
+-- the name of a column without its table's
+abbrev pub last_name : Target → Spelling
+last_name t = name_after t.first t.second
+    where
+      name_after : Identifier → Option Identifier → Spelling
+      name_after first None = first.name
+      name_after first (Some second) = second.name
+
+abbrev pub of_meaning : Target → Option (Meaning Variable (Option SqlType)) → Found
+of_meaning t None = broken rule.UnknownName t.first.place
+of_meaning t (Some (lookup.Column i kind)) = record (of_type t.first.place kind) { column = Some (last_name t, kind) }
+of_meaning t (Some (lookup.Variable v)) = of_type t.first.place v.kind
 
 abbrev pub spelling : Option Identifier → Option Spelling
 spelling name = option_map (λ n. n.name) name
@@ -54,7 +62,7 @@ name_in view None t = lookup.as_variable (meant t.first.name (spelling t.second)
 name_in view (Some row) t = meant_on_row t.first.name (spelling t.second) row view.frames
 
 abbrev pub name_found : View → Target → Found
-name_found view t = of_meaning t.first.place (name_in view view.row t)
+name_found view t = of_meaning t (name_in view view.row t)
 
 -- ---- operators
 
@@ -152,7 +160,7 @@ results_of place (Some t) = sound place (Value t)
 
 abbrev pub results_agree : Place → List Shape → Option Place → Found
 results_agree place shapes None = results_of place (result_of shapes)
-results_agree place shapes (Some other) = record { place = place; fault = breaks rule.FamiliesMixed other; shape = None }
+results_agree place shapes (Some other) = record { place = place; fault = breaks rule.FamiliesMixed other; shape = None; column = None }
 
 abbrev pub results_found : Place → List Found → List Shape → Found
 results_found place results shapes = results_agree place shapes (differing Untyped results shapes)
@@ -164,7 +172,7 @@ coalesce_found place values = let sources = map as_value values in made_of place
 abbrev pub simple_test : Found → Found → Found
 simple_test operand test = let value = as_value test in
     let both = made_of operand.place (operand ∷ value ∷ []) (compared operand.place) in
-    record { place = value.place; fault = earlier value.fault both.fault; shape = both.shape }
+    record { place = value.place; fault = earlier value.fault both.fault; shape = both.shape; column = None }
 
 abbrev pub tests_of : Option Found → List Found → List Found
 tests_of None tests = map as_condition tests
@@ -179,7 +187,7 @@ abbrev pub case_found : Place → Option Found → List (Found × Found) → Opt
 case_found place operand whens otherwise =
     let tests = tests_of operand (map (λ w. w.0) whens) in
     let results = map (λ w. as_value w.1) whens ++ else_of otherwise in
-    made_of place tests (λ shapes. made_of place results (results_found place results))
+    made_of place (tests ++ results) (λ shapes. results_found place results (drop (length tests) shapes))
 
 -- ---- functions of the language
 
@@ -199,7 +207,7 @@ with_length (Some f) = (Numbers, f) ∷ []
 -- ---- types
 
 abbrev pub cast_type : Place → DataType → List Shape → Option SqlType → Found
-cast_type place to shapes None = record { place = place; fault = breaks rule.TypeOutOfRange to.place; shape = None }
+cast_type place to shapes None = record { place = place; fault = breaks rule.TypeOutOfRange to.place; shape = None; column = None }
 cast_type place to shapes (Some t) = sound place (Value (typed t))
 
 abbrev pub type_fault : DataType → Option SqlType → Option Fault
@@ -209,7 +217,7 @@ type_fault to (Some t) = None
 abbrev pub cast_found : Place → Found → DataType → Found
 cast_found place source to = let value = as_value source in
     let made = made_of place (value ∷ []) (λ shapes. cast_type place to shapes (type_of to)) in
-    record { place = place; fault = earlier made.fault (type_fault to (type_of to)); shape = made.shape }
+    record { place = place; fault = earlier made.fault (type_fault to (type_of to)); shape = made.shape; column = None }
 
 -- ---- items of a query
 
@@ -223,8 +231,6 @@ pub record PickFound : Type 0 where
   pub form : Picked
   pub found : Found
   pub alias : Option Spelling
-  -- the column that a bare or qualified name means, and its name
-  pub column : Option (Spelling × Option SqlType)
 
 abbrev pub is_set : Picked → Bool
 is_set All = false
@@ -357,8 +363,8 @@ only_shape (s ∷ t ∷ more) = None
 
 -- a subquery stands in a control expression alone
 abbrev pub without_fault : Place → Option Fault → Option Shape → Found
-without_fault place None shape = record { place = place; fault = None; shape = shape }
-without_fault place (Some f) shape = record { place = place; fault = Some f; shape = None }
+without_fault place None shape = record { place = place; fault = None; shape = shape; column = None }
+without_fault place (Some f) shape = record { place = place; fault = Some f; shape = None; column = None }
 
 abbrev pub scalar_found : Place → Option (RowTable (Option SqlType)) → QueryFound → Found
 scalar_found place None q = without_fault place (counted_fault 1 q) (only_shape (items_of q))
@@ -399,7 +405,7 @@ list_of None = []
 list_of (Some f) = f ∷ []
 
 abbrev pub found_with : Place → Found → Found
-found_with place f = record f { place = place }
+found_with place f = record f { place = place; column = None }
 
 -- a sign keeps the shape of its operand, which is a number
 abbrev pub signed_found : Place → Found → Found
@@ -451,7 +457,7 @@ abbrev pub when_layer : When-F (Of Found) PickPart LinkPart (Of QueryFound) When
 when_layer when view = (when.test view, when.result view)
 
 abbrev pub item : Picked → Found → Option Identifier → PickFound
-item form found alias = record { form = form; found = found; alias = spelling alias; column = None }
+item form found alias = record { form = form; found = found; alias = spelling alias }
 
 abbrev pub pick_layer : Pick-F (Of Found) PickPart LinkPart (Of QueryFound) WhenPart → PickPart
 pick_layer (layers.All place) view = item All (sound place Untyped) None

@@ -1,6 +1,8 @@
 -- What is found in a part of an expression: its place, the first fault in it, and its shape, which a part that has a fault
 -- in it, or that is declared with a type at fault, doesn't have.
 use Rattle.std.specs.Prelude.{◌≡◌, Bool, true, false, not, ◌&&◌, Option, Some, None, List, [], ◌∷◌, map, is_none, if◌then◌else◌}
+use Rattle.psm_value.specs.declared.sqltype.SqlType.{SqlType}
+use Rattle.psm_scope.specs.Frames.{Spelling}
 use Rattle.psm_token.specs.declared.place.Place.{Place}
 use Rattle.psm_rules.specs.declared.fault.Fault.{Fault}
 use Rattle.psm_rules.specs.declared.rule.Rule.{Rule}
@@ -12,14 +14,16 @@ pub record Found : Type 0 where
   pub place : Place
   pub fault : Option Fault
   pub shape : Option Shape
+  -- the column that it names, if it is a column's name and nothing else
+  pub column : Option (Spelling × Option SqlType)
 
 -- a part without a fault
 abbrev pub sound : Place → Shape → Found
-sound place shape = record { place = place; fault = None; shape = Some shape }
+sound place shape = record { place = place; fault = None; shape = Some shape; column = None }
 
 -- a part that breaks a rule itself
 abbrev pub broken : Rule → Place → Found
-broken rule place = record { place = place; fault = breaks rule place; shape = None }
+broken rule place = record { place = place; fault = breaks rule place; shape = None; column = None }
 
 -- ---- the sort that is due
 
@@ -61,7 +65,7 @@ shapes_in (f ∷ fs) = cons_shape f.shape (shapes_in fs)
 
 -- what is asked of the shapes of the parts, where each has one
 abbrev pub asked : Place → List Found → (List Shape → Found) → Option (List Shape) → Found
-asked place parts rule None = record { place = place; fault = faults_in parts; shape = None }
+asked place parts rule None = record { place = place; fault = faults_in parts; shape = None; column = None }
 asked place parts rule (Some shapes) = rule shapes
 
 abbrev pub made_of : Place → List Found → (List Shape → Found) → Found

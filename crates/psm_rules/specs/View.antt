@@ -4,6 +4,7 @@ use Rattle.psm_value.specs.declared.sqltype.SqlType.{SqlType}
 use Rattle.psm_scope.specs.Choice.{Signature}
 use Rattle.psm_scope.specs.Frames.{Spelling, Frame}
 use Rattle.psm_scope.specs.Lookup.{RowTable, named, place_named}
+use Rattle.psm_rules.specs.Shapes.{Shape}
 
 -- what was declared with a type at fault has none
 
@@ -13,13 +14,13 @@ pub record Variable : Type 0 where
   pub assignable : Bool
 
 pub record Cursor : Type 0 where
-  -- the table that it walks, where there is one of that name
-  pub table : Option Spelling
+  -- the name of the table that it walks
+  pub table : Spelling
   -- it is plain and not FOR READ ONLY
   pub updatable : Bool
   pub of_for : Bool
-  -- the types of its items, where they are known; none where its table isn't
-  pub items : Option (List (Option SqlType))
+  -- the shapes of its items, where it is known how many there are
+  pub items : Option (List (Option Shape))
 
 -- a condition counts by its name alone
 pub record DeclaredCondition : Type 0 where
