@@ -1,6 +1,6 @@
 -- The candidates that stay are the least in the order of their kinds, from the left, in the places whose argument isn't NULL. So
 -- one pass over the candidates finds them.
-use Rattle.std.proofs.Common.{◌≡◌, ℕ, suc, ◌<◌, ◌≤◌, Bool, true, false, ◌&&◌, nat_lt, nat_le, nat_eq, List, [], ◌∷◌, refl, ap, sym, ◌∙◌, subst, arith}
+use Rattle.std.proofs.Common.{◌≡◌, ℕ, suc, ◌<◌, ◌≤◌, Bool, true, false, ◌&&◌, nat_le, List, [], ◌∷◌, refl, ap, sym, ◌∙◌, subst, arith}
 use Rattle.std.specs.Prelude.{min, if◌then◌else◌}
 use Rattle.std.specs.List.{filter, list_all}
 use Rattle.std.specs.Ordering.{nat_cmp, ordering_then}
@@ -9,16 +9,14 @@ use Rattle.std.specs.declared.cmp.Ordering.TheVariants.{Less, Equal, Greater}
 use Rattle.std.proofs.lemmas.Bool.Decides.{nat_tests}
 use Rattle.psm_scope.specs.declared.kinds.ArgKind.{ArgKind}
 use Rattle.psm_scope.specs.declared.kinds.ArgKind.TheVariants.{SmallInt, Integer, Numeric, Char, VarChar, Null}
-use Rattle.psm_scope.specs.Choice.{Candidate, rank, rank_in, lowest, narrowed_by, narrowed, order, order_in}
+use Rattle.psm_scope.specs.Choice.{Candidate, rank, rank_in, lowest, narrowed}
+use Rattle.psm_scope.specs.Pass.{order, joined, added}
 
 -- ---- facts of each of a list
 
 abbrev Each : (Candidate → Type 0) → List Candidate → Type 0
 Each P [] = Unit {0}
 Each P (c ∷ cs) = P c × Each P cs
-
-keep : Bool → Candidate → List Candidate → List Candidate
-keep b c cs = if b then c ∷ cs else cs
 
 each_one : (P : Candidate → Type 0) (c : Candidate) (cs : List Candidate) (b : Bool) → (b ≡ true → P c) → Each P cs → Each P (if b then c ∷ cs else cs)
 each_one P c cs true p e = (p refl, e)
@@ -78,11 +76,6 @@ at_least place cs =
 
 -- ---- one candidate more, before the others
 
-abbrev pub joined : Ordering → Candidate → List Candidate → List Candidate
-joined Less c cs = c ∷ []
-joined Equal c cs = c ∷ cs
-joined Greater c cs = cs
-
 none_below : (place n : ℕ) (cs : List Candidate) → Each (λ c. n < rank_in place c) cs → upto place n cs ≡ []
 none_below place n [] e = refl
 none_below place n (c ∷ cs) e =
@@ -98,7 +91,7 @@ upto_more place c cs Less e =
     ap (λ n. upto place n (c ∷ cs)) m
     ∙ ap (λ b. if b then c ∷ upto place (rank_in place c) cs else upto place (rank_in place c) cs) t
     ∙ ap (λ l. c ∷ l) (none_below place (rank_in place c) cs
-        (each_map (λ d. least place cs ≤ rank_in place d) (λ d. rank_in place c < rank_in place d) (λ d p. omega (arith, below, p)) cs (above_least place cs)))
+    (each_map (λ d. least place cs ≤ rank_in place d) (λ d. rank_in place c < rank_in place d) (λ d p. omega (arith, below, p)) cs (above_least place cs)))
 upto_more place c cs Equal e =
     let m : least place (c ∷ cs) ≡ least place cs = grind (arith, nat_tests, e) in
     let t : nat_le (rank_in place c) (least place cs) ≡ true = grind (arith, nat_tests, e) in
@@ -160,11 +153,6 @@ none_narrowed place (a ∷ others) cs e = none_lowest place cs (none_narrowed (s
 
 -- ---- one candidate more
 
--- what stays once a candidate comes before the others, of which some stay: by its order beside the first of these
-abbrev pub added : ℕ → List ArgKind → Candidate → List Candidate → List Candidate
-added place args c [] = c ∷ []
-added place args c (b ∷ more) = joined (order place args c b) c (b ∷ more)
-
 -- the ranks in a place decide first
 abbrev decided : Ordering → ℕ → List ArgKind → Candidate → List Candidate → List Candidate
 decided Less place others c m = c ∷ []
@@ -172,13 +160,13 @@ decided Equal place others c m = added (suc place) others c m
 decided Greater place others c m = m
 
 decides : (place : ℕ) (others : List ArgKind) (c : Candidate) (n : ℕ) (o : Ordering) → nat_cmp (rank_in place c) n ≡ o → (b : Candidate) (more : List Candidate)
-    → rank_in place b ≡ n → joined (ordering_then (nat_cmp (rank_in place c) (rank_in place b)) (order (suc place) others c b)) c (b ∷ more) ≡ decided o place others c (b ∷ more)
+    → rank_in place b ≡ n → joined (ordering_then (nat_cmp (rank_in place c) (rank_in place b)) (order (suc place) others c.1 b.1)) c (b ∷ more) ≡ decided o place others c (b ∷ more)
 decides place others c n o p b more e =
-    ap (λ r. joined (ordering_then (nat_cmp (rank_in place c) r) (order (suc place) others c b)) c (b ∷ more)) e
-    ∙ ap (λ q. joined (ordering_then q (order (suc place) others c b)) c (b ∷ more)) p
+    ap (λ r. joined (ordering_then (nat_cmp (rank_in place c) r) (order (suc place) others c.1 b.1)) c (b ∷ more)) e
+    ∙ ap (λ q. joined (ordering_then q (order (suc place) others c.1 b.1)) c (b ∷ more)) p
     ∙ by o
   where
-    by : (o : Ordering) → joined (ordering_then o (order (suc place) others c b)) c (b ∷ more) ≡ decided o place others c (b ∷ more)
+    by : (o : Ordering) → joined (ordering_then o (order (suc place) others c.1 b.1)) c (b ∷ more) ≡ decided o place others c (b ∷ more)
     by Less = refl
     by Equal = refl
     by Greater = refl
@@ -214,8 +202,8 @@ narrowed_more place (a ∷ others) c cs =
     ap (λ l. narrowed (suc place) others l) (lowest_more place c cs)
     ∙ narrowed_by_order place others c l o (narrowed_more (suc place) others c l)
     ∙ sym (here (narrowed (suc place) others l)
-        (each_narrowed (λ d. rank_in place d ≡ least place cs) (suc place) others l (at_least place cs))
-        (λ e. ap (λ l. least place l) (none_lowest place cs (none_narrowed (suc place) others l e))))
+    (each_narrowed (λ d. rank_in place d ≡ least place cs) (suc place) others l (at_least place cs))
+    (λ e. ap (λ l. least place l) (none_lowest place cs (none_narrowed (suc place) others l e))))
   where
     here : (m : List Candidate) → Each (λ d. rank_in place d ≡ least place cs) m → (m ≡ [] → least place cs ≡ 2)
         → added place (a ∷ others) c m ≡ decided (nat_cmp (rank_in place c) (least place cs)) place others c m

@@ -1,9 +1,6 @@
 -- Which function a call means (ISO/IEC 9075-4:1996, subject routine determination).
-use Rattle.std.specs.Prelude.{ℕ, suc, Bool, true, false, ◌&&◌, nat_eq, nat_le, length, List, [], ◌∷◌, slice_index_or, Result, Ok, Err, if◌then◌else◌}
+use Rattle.std.specs.Prelude.{ℕ, suc, Bool, true, false, ◌&&◌, nat_eq, nat_le, List, [], ◌∷◌, slice_index_or, Result, Ok, Err, if◌then◌else◌}
 use Rattle.std.specs.List.{filter, list_all}
-use Rattle.std.specs.Ordering.{nat_cmp, ordering_then}
-use Rattle.std.specs.declared.cmp.Ordering.{Ordering}
-use Rattle.std.specs.declared.cmp.Ordering.TheVariants.{Equal}
 use Rattle.std.specs.Cmp.Lexicographic.{pointwise}
 use Rattle.psm_scope.specs.declared.fault.ChoiceFault.{ChoiceFault}
 use Rattle.psm_scope.specs.declared.fault.ChoiceFault.TheVariants.{NoRoutine, Ambiguous}
@@ -90,16 +87,6 @@ narrowed_by a place cs = lowest place cs
 abbrev pub narrowed : ℕ → List ArgKind → List Candidate → List Candidate
 narrowed place [] cs = cs
 narrowed place (a ∷ others) cs = narrowed (suc place) others (narrowed_by a place cs)
-
--- how two candidates compare by their kinds in a place
-abbrev pub order_in : ArgKind → ℕ → Candidate → Candidate → Ordering
-order_in Null place c d = Equal
-order_in a place c d = nat_cmp (rank_in place c) (rank_in place d)
-
--- how they compare from the left
-abbrev pub order : ℕ → List ArgKind → Candidate → Candidate → Ordering
-order place [] c d = Equal
-order place (a ∷ others) c d = ordering_then (order_in a place c d) (order (suc place) others c d)
 
 -- ---- the choice
 
