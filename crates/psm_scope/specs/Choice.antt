@@ -1,7 +1,9 @@
 -- Which function a call means (ISO/IEC 9075-4:1996, subject routine determination).
-use Rattle.std.specs.Prelude.{ℕ, suc, Bool, true, false, ◌&&◌, nat_eq, nat_le, length, List, [], ◌∷◌, slice_index_or, Result, Ok, Err, if◌then◌else◌}
+use Rattle.std.specs.Prelude.{ℕ, suc, Bool, true, false, ◌&&◌, nat_eq, nat_le, List, [], ◌∷◌, slice_index_or, Result, Ok, Err, if◌then◌else◌}
 use Rattle.std.specs.List.{filter, list_all}
 use Rattle.std.specs.Cmp.Lexicographic.{pointwise}
+use Rattle.psm_scope.specs.declared.fault.ChoiceFault.{ChoiceFault}
+use Rattle.psm_scope.specs.declared.fault.ChoiceFault.TheVariants.{NoRoutine, Ambiguous}
 use Rattle.psm_scope.specs.declared.kinds.ArgKind.{ArgKind}
 use Rattle.psm_scope.specs.declared.kinds.ArgKind.TheVariants.{SmallInt, Integer, Numeric, Char, VarChar, Null}
 
@@ -50,8 +52,8 @@ goes_to Null p = true
 abbrev pub all_go : List ArgKind → List ArgKind → Bool
 all_go [] [] = true
 all_go [] (p ∷ ps) = false
-all_go (a ∷ as) [] = false
-all_go (a ∷ as) (p ∷ ps) = goes_to a p && all_go as ps
+all_go (a ∷ others) [] = false
+all_go (a ∷ others) (p ∷ ps) = goes_to a p && all_go others ps
 
 -- ---- candidates
 
@@ -79,28 +81,20 @@ lowest place cs = filter (λ c. list_all (λ d. nat_le (rank_in place c) (rank_i
 -- NULL has no say
 abbrev pub narrowed_by : ArgKind → ℕ → List Candidate → List Candidate
 narrowed_by Null place cs = cs
-narrowed_by SmallInt place cs = lowest place cs
-narrowed_by Integer place cs = lowest place cs
-narrowed_by Numeric place cs = lowest place cs
-narrowed_by Char place cs = lowest place cs
-narrowed_by VarChar place cs = lowest place cs
+narrowed_by a place cs = lowest place cs
 
 -- for each argument from the left, those with the lowest kind in its place stay
 abbrev pub narrowed : ℕ → List ArgKind → List Candidate → List Candidate
 narrowed place [] cs = cs
-narrowed place (a ∷ as) cs = narrowed (suc place) as (narrowed_by a place cs)
+narrowed place (a ∷ others) cs = narrowed (suc place) others (narrowed_by a place cs)
 
 -- ---- the choice
 
--- why no function is chosen
-pub data NoChoice : Type 0 where
-  NoRoutine Ambiguous : NoChoice
-
-abbrev pub only : List Candidate → Result ℕ NoChoice
+abbrev pub only : List Candidate → Result ℕ ChoiceFault
 only [] = Err NoRoutine
 only (c ∷ []) = Ok c.0
 only (c ∷ d ∷ more) = Err Ambiguous
 
 -- the number of the function that a call means
-abbrev pub chosen : List Signature → List ℕ → List ArgKind → Result ℕ NoChoice
+abbrev pub chosen : List Signature → List ℕ → List ArgKind → Result ℕ ChoiceFault
 chosen routines name args = only (narrowed 0 args (candidates 0 name args routines))

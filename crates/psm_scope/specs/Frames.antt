@@ -1,6 +1,6 @@
 -- What is declared around a statement (ISO/IEC 9075-4:1996, compound statements): a frame for the routine, for each compound
 -- statement, loop and FOR statement, and for each action of a handler, the innermost first.
-use Rattle.std.specs.Prelude.{ℕ, Bool, true, false, Option, Some, None, nat_eq, List, [], ◌∷◌, if◌then◌else◌}
+use Rattle.std.specs.Prelude.{ℕ, Bool, Option, nat_eq, List, []}
 use Rattle.std.specs.Cmp.Lexicographic.{pointwise}
 
 -- a name, as the list of its characters

@@ -1,3 +1,5 @@
 pub mod Choice
 pub mod Frames
 pub mod Lookup
+pub mod Pass
+pub mod Signatures

@@ -1,6 +1,6 @@
 -- What a name means at a place.
 use Rattle.std.specs.Prelude.{ℕ, suc, Bool, true, false, ◌||◌, Option, Some, None, List, [], ◌∷◌, if◌then◌else◌}
-use Rattle.psm_scope.specs.Frames.{Spelling, is_spelled, Declared, declared_in, Frame, Routine, Compound, Loop, For, Action}
+use Rattle.psm_scope.specs.Frames.{Spelling, is_spelled, declared_in, Frame, Routine, Compound, Loop, For, Action}
 
 -- ---- among names
 

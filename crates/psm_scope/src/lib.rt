@@ -1,6 +1,13 @@
 //! What names mean: in the frames around a statement, in the table of a row expression, and as the function of a call.
 #![tactic(auto)]
 
+mod choice;
+mod fault;
+mod key;
 mod kinds;
+mod signatures;
 
+pub use choice::choose_routine;
+pub use fault::ChoiceFault;
 pub use kinds::ArgKind;
+pub use signatures::Signatures;

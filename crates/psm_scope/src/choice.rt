@@ -1,0 +1,174 @@
+//! The choice of the function that a call means.
+ghost use Rattle.std.specs.Prelude.{◌≡◌, ◌<◌, length, List as Seq};
+ghost use Rattle.psm_scope.specs.Choice.{Candidate, all_go, chosen, goes_to, is_number as number, is_text as text, only, rank};
+ghost use Rattle.psm_scope.specs.Pass.{IsAsLong, Sees, added, order, order_in};
+
+use crate::fault::ChoiceFault;
+use crate::kinds::ArgKind;
+use crate::signatures::Signatures;
+use psm_text::Name;
+use std::cmp::Ordering;
+
+/// The best candidate so far: its number, the kinds of its parameters, and whether another one is as good.
+#[derive(Clone, Copy)]
+struct Best<'a> {
+    number: u32,
+    kinds: &'a [ArgKind],
+    tied: bool,
+}
+
+/// The number of the function that a call with arguments of these kinds means (ISO/IEC 9075-4:1996, subject routine
+/// determination). A function is a candidate where it has the name and the number of arguments, and each argument's kind goes to
+/// the parameter's: upwards in SMALLINT, INTEGER, NUMERIC; upwards in CHAR, VARCHAR; NULL goes to all. For each argument that isn't
+/// NULL, from the left, the candidates with the lowest kind of parameter stay. `NoRoutine` comes exactly where there is no candidate,
+/// and `Ambiguous` exactly where more than one stays. It takes no memory, and looks only at functions of that name and number of
+/// parameters, each once.
+pub fn choose_routine(
+    routines: &Signatures,
+    name: &Name,
+    kinds: &[ArgKind],
+) -> Result<u32, ChoiceFault>
+    ensures { result ≡ chosen routines.now name.now kinds.now }
+{
+    let mut best = None;
+    let mut at = routines.last(name, kinds.len());
+    while let Some(number) = at {
+        let parameters = routines.kinds(number);
+        if all_go(kinds, parameters) {
+            best = Some(better(best, number, parameters, kinds));
+        }
+        at = routines.earlier(number);
+    }
+    only(best)
+}
+
+// The one that stays, where any does.
+fn only(best: Option<Best>) -> Result<u32, ChoiceFault>
+    ensures { (cs : Seq Candidate) → Sees best.entry cs → result ≡ only cs }
+{
+    match best {
+        None => Err(ChoiceFault::NoRoutine),
+        Some(best) => {
+            if best.tied {
+                Err(ChoiceFault::Ambiguous)
+            } else {
+                Ok(best.number)
+            }
+        }
+    }
+}
+
+// The best of those so far and one more candidate.
+fn better<'a>(
+    best: Option<Best<'a>>,
+    number: u32,
+    kinds: &'a [ArgKind],
+    args: &[ArgKind],
+) -> Best<'a>
+    requires kinds { length kinds.now ≡ length args.now }
+    requires best { IsAsLong (length args.now) best }
+    ensures seen { (cs : Seq Candidate) → Sees best.entry cs → Sees (Some result) (added 0 args.now (number, kinds.now) cs) }
+    ensures long { length result.kinds.now ≡ length args.now }
+{
+    let alone = Best {
+        number,
+        kinds,
+        tied: false,
+    };
+    match best {
+        None => alone,
+        Some(best) => match order(args, kinds, best.kinds) {
+            Ordering::Less => alone,
+            Ordering::Equal => Best {
+                number,
+                kinds,
+                tied: true,
+            },
+            Ordering::Greater => best,
+        },
+    }
+}
+
+// How the parameters of two functions compare: the first argument that isn't NULL and whose parameters differ decides.
+fn order(args: &[ArgKind], kinds: &[ArgKind], others: &[ArgKind]) -> Ordering
+    requires kinds { length kinds.now ≡ length args.now }
+    requires others { length others.now ≡ length args.now }
+    ensures { result ≡ order 0 args.now kinds.now others.now }
+{
+    for (place, arg) in args.iter().enumerate() {
+        match order_in(*arg, kinds[place], others[place]) {
+            Ordering::Equal => {}
+            decided => return decided,
+        }
+    }
+    Ordering::Equal
+}
+
+// Whether the arguments go to the parameters, one for one.
+fn all_go(args: &[ArgKind], kinds: &[ArgKind]) -> bool
+    requires { length kinds.now ≡ length args.now }
+    ensures { result ≡ all_go args.now kinds.now }
+{
+    for (place, arg) in args.iter().enumerate() {
+        if !goes_to(*arg, kinds[place]) {
+            return false;
+        }
+    }
+    true
+}
+
+// Whether an argument of a kind goes to a parameter.
+fn goes_to(arg: ArgKind, parameter: ArgKind) -> bool
+    ensures { result ≡ goes_to arg parameter }
+{
+    match arg {
+        ArgKind::SmallInt => is_number(parameter),
+        ArgKind::Integer => is_number(parameter) && rank(parameter) >= 1,
+        ArgKind::Numeric => is_number(parameter) && rank(parameter) >= 2,
+        ArgKind::Char => is_text(parameter),
+        ArgKind::VarChar => is_text(parameter) && rank(parameter) >= 1,
+        ArgKind::Null => true,
+    }
+}
+
+fn order_in(arg: ArgKind, kind: ArgKind, other: ArgKind) -> Ordering
+    ensures { result ≡ order_in arg kind other }
+{
+    match arg {
+        ArgKind::Null => Ordering::Equal,
+        ArgKind::SmallInt
+        | ArgKind::Integer
+        | ArgKind::Numeric
+        | ArgKind::Char
+        | ArgKind::VarChar => rank(kind).cmp(&rank(other)),
+    }
+}
+
+// How high a kind stands among those of its family.
+fn rank(kind: ArgKind) -> u8
+    ensures { result ≡ rank kind }
+{
+    match kind {
+        ArgKind::SmallInt | ArgKind::Char | ArgKind::Null => 0,
+        ArgKind::Integer | ArgKind::VarChar => 1,
+        ArgKind::Numeric => 2,
+    }
+}
+
+fn is_number(kind: ArgKind) -> bool
+    ensures { result ≡ number kind }
+{
+    match kind {
+        ArgKind::SmallInt | ArgKind::Integer | ArgKind::Numeric => true,
+        ArgKind::Char | ArgKind::VarChar | ArgKind::Null => false,
+    }
+}
+
+fn is_text(kind: ArgKind) -> bool
+    ensures { result ≡ text kind }
+{
+    match kind {
+        ArgKind::Char | ArgKind::VarChar => true,
+        ArgKind::SmallInt | ArgKind::Integer | ArgKind::Numeric | ArgKind::Null => false,
+    }
+}
