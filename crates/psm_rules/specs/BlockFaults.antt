@@ -7,12 +7,20 @@ use Rattle.psm_value.specs.declared.sqltype.SqlType.{SqlType}
 use Rattle.psm_value.specs.declared.sqltype.SqlType.TheVariants as types
 use Rattle.psm_scope.specs.Frames.{Spelling, is_spelled, Declared, Frame, undeclared}
 use Rattle.psm_scope.specs.Frames as frame
-use Rattle.psm_scope.specs.Lookup.{named}
+use Rattle.psm_scope.specs.Lookup.{Meaning, named}
+use Rattle.psm_scope.specs.Lookup as lookup
 use Rattle.psm_tree.specs.declared.name.Identifier.{Identifier}
 use Rattle.psm_tree.specs.Names.{Names}
 use Rattle.psm_tree.specs.declared.types.DataType.{DataType}
 use Rattle.psm_tree.specs.declared.types.State.{State}
-use Rattle.psm_tree.specs.declared.expr.Expr.{Expr}
+use Rattle.psm_tree.specs.declared.name.Target.{Target}
+use Rattle.psm_tree.specs.declared.expr.Expr.{Expr, out-Expr}
+use Rattle.psm_tree.specs.declared.expr.Expr.TheOpen.{Expr-F, Pick-F}
+use Rattle.psm_tree.specs.declared.expr.Expr.TheOpen as expr_layers
+use Rattle.psm_tree.specs.declared.expr.Pick.{Pick, out-Pick}
+use Rattle.psm_tree.specs.declared.expr.Link.{Link}
+use Rattle.psm_tree.specs.declared.expr.When.{When}
+use Rattle.psm_tree.specs.declared.expr.Select.{Select, out-Select}
 use Rattle.psm_tree.specs.declared.statement.Statement.{Statement}
 use Rattle.psm_tree.specs.declared.statement.Block.TheOpen.{Block-F, Statement-F, Branch-F, Handler-F}
 use Rattle.psm_tree.specs.declared.statement.Block.TheOpen as layers
@@ -34,14 +42,21 @@ use Rattle.psm_tree.specs.declared.statement.HandlerValue.{HandlerValue}
 use Rattle.psm_tree.specs.declared.statement.HandlerValue.TheVariants as handled
 use Rattle.psm_rules.specs.declared.fault.Fault.{Fault}
 use Rattle.psm_rules.specs.declared.rule.Rule.TheVariants as rule
-use Rattle.psm_rules.specs.ExprFaults.{PickFound, QueryFound, query_found, query_fault, parts_fault, sets_fault, table_fault, test_fault, items_of, is_all, columns_known, first_set, misplaced_set, simple_test}
+use Rattle.psm_rules.specs.ExprFaults.{PickFound, QueryFound, query_found, query_fault, parts_fault, sets_fault, table_fault, test_fault, items_of, is_all, columns_known, first_set, misplaced_set, simple_test, name_in, pick_found, row_of}
 use Rattle.psm_rules.specs.Faults.{breaks, breaks_if, earlier, first_of}
-use Rattle.psm_rules.specs.Found.{Found, as_value, as_condition}
-use Rattle.psm_rules.specs.Shapes.{Shape, Value, Untyped, Typed, Family, Numbers, Texts, family_of}
-use Rattle.psm_rules.specs.Shapes as shape
+use Rattle.psm_rules.specs.declared.found.Found.{Found}
+use Rattle.psm_rules.specs.Found.{as_value, as_condition}
+use Rattle.psm_rules.specs.declared.shape.Shape.{Shape}
+use Rattle.psm_rules.specs.declared.shape.Typed.{Typed}
+use Rattle.psm_rules.specs.declared.shape.Family.{Family}
+use Rattle.psm_rules.specs.declared.shape.Shape.TheVariants.{Value, Untyped}
+use Rattle.psm_rules.specs.declared.shape.Family.TheVariants.{Numbers, Texts}
+use Rattle.psm_rules.specs.Shapes.{family_of}
+use Rattle.psm_rules.specs.declared.shape.Shape.TheVariants as shape
+use Rattle.psm_rules.specs.Shapes as families
 use Rattle.psm_rules.specs.StatementFaults.{Context, inside, found, several, repeated, source_fault, state_fault, is_bad_state, declared_condition, name_of_condition_fault, label_of, label_name, simple_fault}
 use Rattle.psm_rules.specs.Types.{type_of}
-use Rattle.psm_rules.specs.View.{View, Frames, Variable, Cursor, DeclaredCondition, Columns}
+use Rattle.psm_rules.specs.View.{View, Frames, Variable, Cursor, DeclaredCondition, Columns, on_row}
 
 -- ---- declarations of variables and conditions
 
@@ -241,43 +256,72 @@ values_fault c before (v ∷ vs) = earlier (value_fault c v) (breaks_if (is_amon
 
 -- ---- FOR
 
-abbrev pub own_name : PickFound → Option Spelling
-own_name p = name_of p.alias p.found.column
-    where
-      name_of : Option Spelling → Option (Spelling × Option SqlType) → Option Spelling
-      name_of (Some alias) column = Some alias
-      name_of None None = None
-      name_of None (Some c) = Some c.0
+-- the column that an item names, if it is a name by itself
+abbrev pub last_name : Identifier → Option Identifier → Spelling
+last_name first None = first.name
+last_name first (Some second) = second.name
+
+abbrev pub column_named : Target → Option (Meaning Variable (Option SqlType)) → Option (Spelling × Option SqlType)
+column_named t None = None
+column_named t (Some (lookup.Column i kind)) = Some (last_name t.first t.second, kind)
+column_named t (Some (lookup.Variable v)) = None
+
+abbrev pub item_column : View → Expr-F Expr Pick Link Select When → Option (Spelling × Option SqlType)
+item_column view (expr_layers.Name t) = column_named t (name_in view view.row t)
+item_column view e = None
+
+abbrev pub pick_column : View → Pick-F Expr Pick Link Select When → Option (Spelling × Option SqlType)
+pick_column view (expr_layers.All place) = None
+pick_column view (expr_layers.Expr e alias) = item_column view (out-Expr e)
+pick_column view (expr_layers.CountRows place alias) = None
+pick_column view (expr_layers.Aggregate place function argument alias) = None
+
+-- an item of FOR, with the column that it names
+pub record ForItem : Type 0 where
+  pub pick : PickFound
+  pub column : Option (Spelling × Option SqlType)
+
+abbrev pub for_item : View → Pick → ForItem
+for_item view p = record { pick = pick_found p view; column = pick_column view (out-Pick p) }
+
+-- the name of an item: its alias, or else that of its column
+abbrev pub own_name : Option Spelling → Option (Spelling × Option SqlType) → Option Spelling
+own_name (Some alias) column = Some alias
+own_name None None = None
+own_name None (Some c) = Some c.0
+
+abbrev pub name_of_item : ForItem → Option Spelling
+name_of_item i = own_name i.pick.alias i.column
 
 -- a column has the column's type, another number NUMERIC(18, s) and another text VARCHAR(4000)
-abbrev pub wide_type : Shape → Option SqlType
-wide_type (Value t) = wide (family_of t.kind) t
-    where
-      wide : Family → Typed → Option SqlType
-      wide Numbers t = Some (types.Numeric 18 t.scale)
-      wide Texts t = Some (types.VarChar 4000)
-wide_type Untyped = None
-wide_type shape.Condition = None
+abbrev pub wide : Family → ℕ → SqlType
+wide Numbers s = types.Numeric 18 s
+wide Texts s = types.VarChar 4000
 
-abbrev pub type_of_item : PickFound → Option SqlType
-type_of_item p = item_type p.found.column (as_value p.found).shape
-    where
-      item_type : Option (Spelling × Option SqlType) → Option Shape → Option SqlType
-      item_type (Some c) s = c.1
-      item_type None None = None
-      item_type None (Some s) = wide_type s
+abbrev pub wide_type : Option Shape → Option SqlType
+wide_type None = None
+wide_type (Some (Value t)) = Some (wide (family_of t.kind) t.scale)
+wide_type (Some Untyped) = None
+wide_type (Some shape.Condition) = None
+
+abbrev pub item_type : Option (Spelling × Option SqlType) → Option Shape → Option SqlType
+item_type (Some c) s = c.1
+item_type None s = wide_type s
+
+abbrev pub type_of_item : ForItem → Option SqlType
+type_of_item i = item_type i.column (as_value i.pick.found).shape
 
 -- the variables of FOR; an item without a name has none
 abbrev pub item_variable : Option Spelling → Option SqlType → List (Spelling × Variable)
 item_variable None kind = []
 item_variable (Some n) kind = (n, local_variable kind) ∷ []
 
-abbrev pub variables_of : Columns → PickFound → List (Spelling × Variable)
-variables_of columns p = if is_all p.form then map (λ c. (c.0, local_variable c.1)) columns else item_variable (own_name p) (type_of_item p)
+abbrev pub variables_of : Columns → ForItem → List (Spelling × Variable)
+variables_of columns i = if is_all i.pick.form then map (λ c. (c.0, local_variable c.1)) columns else item_variable (name_of_item i) (type_of_item i)
 
-abbrev pub for_variables : Columns → List PickFound → List (Spelling × Variable)
+abbrev pub for_variables : Columns → List ForItem → List (Spelling × Variable)
 for_variables columns [] = []
-for_variables columns (p ∷ ps) = variables_of columns p ++ for_variables columns ps
+for_variables columns (i ∷ others) = variables_of columns i ++ for_variables columns others
 
 -- an item needs a name that no item before it has; that goes before the sort of the item
 abbrev pub named_fault : List (Spelling × Variable) → Place → Option Spelling → Option Fault
@@ -288,23 +332,27 @@ abbrev pub unless_broken : Option Fault → Found → Option Fault
 unless_broken None f = (as_value f).fault
 unless_broken (Some fault) f = earlier (Some fault) f.fault
 
-abbrev pub item_of_for : List (Spelling × Variable) → PickFound → Option Fault
-item_of_for before p = if is_all p.form then None else unless_broken (named_fault before p.found.place (own_name p)) p.found
+abbrev pub item_of_for : List (Spelling × Variable) → ForItem → Option Fault
+item_of_for before i = if is_all i.pick.form then None else unless_broken (named_fault before i.pick.found.place (name_of_item i)) i.pick.found
 
-abbrev pub for_items : Columns → List (Spelling × Variable) → List PickFound → List (Option Fault)
+abbrev pub for_items : Columns → List (Spelling × Variable) → List ForItem → List (Option Fault)
 for_items columns before [] = []
-for_items columns before (p ∷ ps) = item_of_for before p ∷ for_items columns (before ++ variables_of columns p) ps
+for_items columns before (i ∷ others) = item_of_for before i ∷ for_items columns (before ++ variables_of columns i) others
 
-abbrev pub for_fault : Context → QueryFound → Option Order → Option Fault
-for_fault c q order = first_of (first_of (for_items (columns_known q.columns) [] q.picks) ∷ misplaced_set true (first_set q.picks)
+-- the items of the query of FOR, on the rows of its table
+abbrev pub items_in : View → Select → List ForItem
+items_in view select = let s = out-Select select in let on = on_row view (row_of view s.table s.alias) in map (for_item on) (several s.picks)
+
+abbrev pub for_fault : Context → QueryFound → List ForItem → Option Order → Option Fault
+for_fault c q items order = first_of (first_of (for_items (columns_known q.columns) [] items) ∷ misplaced_set true (first_set q.picks)
     ∷ table_fault q.table q.columns ∷ test_fault q.test ∷ order_fault c q.table order ∷ [])
 
 abbrev pub for_cursors : QueryFound → Option ForCursor → List (Spelling × Cursor)
 for_cursors q None = []
 for_cursors q (Some cursor) = (cursor.name.name, cursor_on q (not cursor.insensitive) true) ∷ []
 
-abbrev pub for_frame : Option Spelling → Identifier → QueryFound → Option ForCursor → Frame Variable DeclaredCondition Cursor
-for_frame label name q cursor = frame.For label name.name (record { variables = for_variables (columns_known q.columns) q.picks; conditions = []; cursors = for_cursors q cursor })
+abbrev pub for_frame : Option Spelling → Identifier → QueryFound → List ForItem → Option ForCursor → Frame Variable DeclaredCondition Cursor
+for_frame label name q items cursor = frame.For label name.name (record { variables = for_variables (columns_known q.columns) items; conditions = []; cursors = for_cursors q cursor })
 
 -- ---- statements; the parts of a layer are their first faults where they stand
 
@@ -367,7 +415,8 @@ block_layer (layers.Loop place statements) label c = all (in_loop label c) (seve
 block_layer (layers.While place test statements) label c = earlier (test_part c test) (all (in_loop label c) (several statements))
 block_layer (layers.Repeat place statements until) label c = earlier (all (in_loop label c) (several statements)) (test_part c until)
 block_layer (layers.For place head statements) label c = let q = found_query c head.query in
-    earlier (for_fault c q head.query.order) (all (inside c (for_frame label head.name q head.cursor)) (several statements))
+    let items = items_in c.view head.query.query in
+    earlier (for_fault c q items head.query.order) (all (inside c (for_frame label head.name q items head.cursor)) (several statements))
 
 -- a searched CASE or an IF: each test is a condition
 abbrev pub searched : Context → List BranchPart → List (Option Fault)

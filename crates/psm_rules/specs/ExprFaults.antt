@@ -5,7 +5,9 @@ use Rattle.psm_list.specs.Several.{Several}
 use Rattle.psm_num.specs.Num.{Num}
 use Rattle.psm_token.specs.declared.place.Place.{Place}
 use Rattle.psm_value.specs.declared.sqltype.SqlType.{SqlType}
-use Rattle.psm_scope.specs.Choice.{NoChoice, NoRoutine, Ambiguous, chosen}
+use Rattle.psm_scope.specs.Choice.{chosen}
+use Rattle.psm_scope.specs.declared.fault.ChoiceFault.{ChoiceFault}
+use Rattle.psm_scope.specs.declared.fault.ChoiceFault.TheVariants.{NoRoutine, Ambiguous}
 use Rattle.psm_scope.specs.Frames.{Spelling, is_spelled}
 use Rattle.psm_scope.specs.Lookup.{RowTable, Meaning, Column, meant, meant_on_row}
 use Rattle.psm_scope.specs.Lookup as lookup
@@ -18,9 +20,10 @@ use Rattle.psm_tree.specs.declared.types.Sign.{Sign}
 use Rattle.psm_tree.specs.declared.expr.Expr.{Expr}
 use Rattle.psm_tree.specs.declared.expr.Expr.TheOpen.{Expr-F, Pick-F, Link-F, Select-F, When-F}
 use Rattle.psm_tree.specs.declared.expr.Expr.TheOpen as layers
-use Rattle.psm_tree.specs.declared.expr.Expr.TheFolds.{fold-Expr, fold-Select}
+use Rattle.psm_tree.specs.declared.expr.Expr.TheFolds.{fold-Expr, fold-Pick, fold-Select}
 use Rattle.psm_tree.specs.declared.expr.Operator.{Operator}
 use Rattle.psm_tree.specs.declared.expr.Operator.TheVariants as operators
+use Rattle.psm_tree.specs.declared.expr.Pick.{Pick}
 use Rattle.psm_tree.specs.declared.expr.Select.{Select}
 use Rattle.psm_tree.specs.declared.expr.SetFunction.{SetFunction}
 use Rattle.psm_tree.specs.declared.expr.SetFunction.TheVariants as sets
@@ -29,8 +32,14 @@ use Rattle.psm_tree.specs.declared.expr.TextFunction.TheVariants as texts
 use Rattle.psm_rules.specs.declared.fault.Fault.{Fault}
 use Rattle.psm_rules.specs.declared.rule.Rule.TheVariants as rule
 use Rattle.psm_rules.specs.Faults.{breaks, breaks_if, earlier, first_of}
-use Rattle.psm_rules.specs.Found.{Found, sound, broken, as_value, as_condition, asked, made_of, faults_in, of_family}
-use Rattle.psm_rules.specs.Shapes.{Shape, Value, Untyped, Condition, Family, Numbers, Texts, Typed, go_together, is_of, integer, character, varying, of_literal, typed, at_larger_scale, at_sum_of_scales, result_of}
+use Rattle.psm_rules.specs.declared.found.Found.{Found}
+use Rattle.psm_rules.specs.Found.{sound, broken, as_value, as_condition, asked, made_of, faults_in, of_family}
+use Rattle.psm_rules.specs.declared.shape.Shape.{Shape}
+use Rattle.psm_rules.specs.declared.shape.Family.{Family}
+use Rattle.psm_rules.specs.declared.shape.Typed.{Typed}
+use Rattle.psm_rules.specs.declared.shape.Shape.TheVariants.{Value, Untyped, Condition}
+use Rattle.psm_rules.specs.declared.shape.Family.TheVariants.{Numbers, Texts}
+use Rattle.psm_rules.specs.Shapes.{go_together, is_of, integer, character, varying, of_literal, typed, at_larger_scale, at_sum_of_scales, result_of}
 use Rattle.psm_rules.specs.Types.{type_of}
 use Rattle.psm_rules.specs.View.{View, Variable, Columns, Function, signatures, on_row, table_named}
 
@@ -38,21 +47,13 @@ use Rattle.psm_rules.specs.View.{View, Variable, Columns, Function, signatures, 
 
 -- a name of a type; what is declared with a type at fault has no shape
 abbrev pub of_type : Place → Option SqlType → Found
-of_type place None = record { place = place; fault = None; shape = None; column = None }
+of_type place None = record { place = place; fault = None; shape = None }
 of_type place (Some t) = sound place (Value (typed t))
 
--- the name of a column without its table's
-abbrev pub last_name : Target → Spelling
-last_name t = name_after t.first t.second
-    where
-      name_after : Identifier → Option Identifier → Spelling
-      name_after first None = first.name
-      name_after first (Some second) = second.name
-
-abbrev pub of_meaning : Target → Option (Meaning Variable (Option SqlType)) → Found
-of_meaning t None = broken rule.UnknownName t.first.place
-of_meaning t (Some (lookup.Column i kind)) = record (of_type t.first.place kind) { column = Some (last_name t, kind) }
-of_meaning t (Some (lookup.Variable v)) = of_type t.first.place v.kind
+abbrev pub of_meaning : Place → Option (Meaning Variable (Option SqlType)) → Found
+of_meaning place None = broken rule.UnknownName place
+of_meaning place (Some (lookup.Column i t)) = of_type place t
+of_meaning place (Some (lookup.Variable v)) = of_type place v.kind
 
 abbrev pub spelling : Option Identifier → Option Spelling
 spelling name = option_map (λ n. n.name) name
@@ -62,7 +63,7 @@ name_in view None t = lookup.as_variable (meant t.first.name (spelling t.second)
 name_in view (Some row) t = meant_on_row t.first.name (spelling t.second) row view.frames
 
 abbrev pub name_found : View → Target → Found
-name_found view t = of_meaning t (name_in view view.row t)
+name_found view t = of_meaning t.first.place (name_in view view.row t)
 
 -- ---- operators
 
@@ -130,7 +131,7 @@ result_type [] n = None
 result_type (f ∷ fs) 0 = f.result
 result_type (f ∷ fs) (suc n) = result_type fs n
 
-abbrev pub called : Place → List Function → Result ℕ NoChoice → Found
+abbrev pub called : Place → List Function → Result ℕ ChoiceFault → Found
 called place functions (Ok n) = of_type place (result_type functions n)
 called place functions (Err NoRoutine) = broken rule.NoFunction place
 called place functions (Err Ambiguous) = broken rule.AmbiguousFunction place
@@ -160,7 +161,7 @@ results_of place (Some t) = sound place (Value t)
 
 abbrev pub results_agree : Place → List Shape → Option Place → Found
 results_agree place shapes None = results_of place (result_of shapes)
-results_agree place shapes (Some other) = record { place = place; fault = breaks rule.FamiliesMixed other; shape = None; column = None }
+results_agree place shapes (Some other) = record { place = place; fault = breaks rule.FamiliesMixed other; shape = None }
 
 abbrev pub results_found : Place → List Found → List Shape → Found
 results_found place results shapes = results_agree place shapes (differing Untyped results shapes)
@@ -172,7 +173,7 @@ coalesce_found place values = let sources = map as_value values in made_of place
 abbrev pub simple_test : Found → Found → Found
 simple_test operand test = let value = as_value test in
     let both = made_of operand.place (operand ∷ value ∷ []) (compared operand.place) in
-    record { place = value.place; fault = earlier value.fault both.fault; shape = both.shape; column = None }
+    record { place = value.place; fault = earlier value.fault both.fault; shape = both.shape }
 
 abbrev pub tests_of : Option Found → List Found → List Found
 tests_of None tests = map as_condition tests
@@ -207,7 +208,7 @@ with_length (Some f) = (Numbers, f) ∷ []
 -- ---- types
 
 abbrev pub cast_type : Place → DataType → List Shape → Option SqlType → Found
-cast_type place to shapes None = record { place = place; fault = breaks rule.TypeOutOfRange to.place; shape = None; column = None }
+cast_type place to shapes None = record { place = place; fault = breaks rule.TypeOutOfRange to.place; shape = None }
 cast_type place to shapes (Some t) = sound place (Value (typed t))
 
 abbrev pub type_fault : DataType → Option SqlType → Option Fault
@@ -217,7 +218,7 @@ type_fault to (Some t) = None
 abbrev pub cast_found : Place → Found → DataType → Found
 cast_found place source to = let value = as_value source in
     let made = made_of place (value ∷ []) (λ shapes. cast_type place to shapes (type_of to)) in
-    record { place = place; fault = earlier made.fault (type_fault to (type_of to)); shape = made.shape; column = None }
+    record { place = place; fault = earlier made.fault (type_fault to (type_of to)); shape = made.shape }
 
 -- ---- items of a query
 
@@ -363,8 +364,8 @@ only_shape (s ∷ t ∷ more) = None
 
 -- a subquery stands in a control expression alone
 abbrev pub without_fault : Place → Option Fault → Option Shape → Found
-without_fault place None shape = record { place = place; fault = None; shape = shape; column = None }
-without_fault place (Some f) shape = record { place = place; fault = Some f; shape = None; column = None }
+without_fault place None shape = record { place = place; fault = None; shape = shape }
+without_fault place (Some f) shape = record { place = place; fault = Some f; shape = None }
 
 abbrev pub scalar_found : Place → Option (RowTable (Option SqlType)) → QueryFound → Found
 scalar_found place None q = without_fault place (counted_fault 1 q) (only_shape (items_of q))
@@ -405,7 +406,7 @@ list_of None = []
 list_of (Some f) = f ∷ []
 
 abbrev pub found_with : Place → Found → Found
-found_with place f = record f { place = place; column = None }
+found_with place f = record { place = place; fault = f.fault; shape = f.shape }
 
 -- a sign keeps the shape of its operand, which is a number
 abbrev pub signed_found : Place → Found → Found
@@ -471,6 +472,9 @@ select_layer select view = let inside = on_row view (row_of view select.table se
 
 abbrev pub expr_found : Expr → View → Found
 expr_found = fold-Expr (Of Found) PickPart LinkPart (Of QueryFound) WhenPart expr_layer pick_layer link_layer select_layer when_layer
+
+abbrev pub pick_found : Pick → View → PickFound
+pick_found = fold-Pick (Of Found) PickPart LinkPart (Of QueryFound) WhenPart expr_layer pick_layer link_layer select_layer when_layer
 
 abbrev pub query_found : Select → View → QueryFound
 query_found = fold-Select (Of Found) PickPart LinkPart (Of QueryFound) WhenPart expr_layer pick_layer link_layer select_layer when_layer

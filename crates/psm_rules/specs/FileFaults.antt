@@ -57,7 +57,9 @@ use Rattle.psm_rules.specs.BlockFaults.{statement_fault, type_fault}
 use Rattle.psm_rules.specs.ExprFaults.{expr_found}
 use Rattle.psm_rules.specs.Faults.{breaks, breaks_if, earlier, first_of}
 use Rattle.psm_rules.specs.Found.{as_condition}
-use Rattle.psm_rules.specs.Shapes.{Family, Numbers, Texts, is_family, family_of, typed}
+use Rattle.psm_rules.specs.declared.shape.Family.{Family}
+use Rattle.psm_rules.specs.declared.shape.Family.TheVariants.{Numbers, Texts}
+use Rattle.psm_rules.specs.Shapes.{is_family, family_of, typed}
 use Rattle.psm_rules.specs.StatementFaults.{Context, Within, several, repeated, columns_fault}
 use Rattle.psm_rules.specs.StatementFaults as within
 use Rattle.psm_rules.specs.Types.{type_of}
@@ -230,8 +232,8 @@ kind_number kind.Null = 5
 abbrev pub same_kinds : List ArgKind → List ArgKind → Bool
 same_kinds [] [] = true
 same_kinds [] (b ∷ bs) = false
-same_kinds (a ∷ as) [] = false
-same_kinds (a ∷ as) (b ∷ bs) = nat_eq (kind_number a) (kind_number b) && same_kinds as bs
+same_kinds (a ∷ others) [] = false
+same_kinds (a ∷ others) (b ∷ bs) = nat_eq (kind_number a) (kind_number b) && same_kinds others bs
 
 -- procedures of one name have different numbers of parameters
 abbrev pub same_procedures : Routine → Routine → Bool

@@ -5,25 +5,23 @@ use Rattle.psm_value.specs.declared.sqltype.SqlType.{SqlType}
 use Rattle.psm_scope.specs.Frames.{Spelling}
 use Rattle.psm_token.specs.declared.place.Place.{Place}
 use Rattle.psm_rules.specs.declared.fault.Fault.{Fault}
+use Rattle.psm_rules.specs.declared.found.Found.{Found}
 use Rattle.psm_rules.specs.declared.rule.Rule.{Rule}
 use Rattle.psm_rules.specs.declared.rule.Rule.TheVariants.{Misplaced, FamiliesMixed}
 use Rattle.psm_rules.specs.Faults.{breaks, breaks_if, earlier, first_of}
-use Rattle.psm_rules.specs.Shapes.{Shape, Value, Untyped, Condition, Family, is_of, Typed}
-
-pub record Found : Type 0 where
-  pub place : Place
-  pub fault : Option Fault
-  pub shape : Option Shape
-  -- the column that it names, if it is a column's name and nothing else
-  pub column : Option (Spelling × Option SqlType)
+use Rattle.psm_rules.specs.declared.shape.Shape.{Shape}
+use Rattle.psm_rules.specs.declared.shape.Family.{Family}
+use Rattle.psm_rules.specs.declared.shape.Typed.{Typed}
+use Rattle.psm_rules.specs.declared.shape.Shape.TheVariants.{Value, Untyped, Condition}
+use Rattle.psm_rules.specs.Shapes.{is_of}
 
 -- a part without a fault
 abbrev pub sound : Place → Shape → Found
-sound place shape = record { place = place; fault = None; shape = Some shape; column = None }
+sound place shape = record { place = place; fault = None; shape = Some shape }
 
 -- a part that breaks a rule itself
 abbrev pub broken : Rule → Place → Found
-broken rule place = record { place = place; fault = breaks rule place; shape = None; column = None }
+broken rule place = record { place = place; fault = breaks rule place; shape = None }
 
 -- ---- the sort that is due
 
@@ -65,7 +63,7 @@ shapes_in (f ∷ fs) = cons_shape f.shape (shapes_in fs)
 
 -- what is asked of the shapes of the parts, where each has one
 abbrev pub asked : Place → List Found → (List Shape → Found) → Option (List Shape) → Found
-asked place parts rule None = record { place = place; fault = faults_in parts; shape = None; column = None }
+asked place parts rule None = record { place = place; fault = faults_in parts; shape = None }
 asked place parts rule (Some shapes) = rule shapes
 
 abbrev pub made_of : Place → List Found → (List Shape → Found) → Found

@@ -7,23 +7,14 @@ use Rattle.psm_value.specs.declared.sqltype.SqlType.{SqlType}
 use Rattle.psm_value.specs.declared.sqltype.SqlType.TheVariants as types
 use Rattle.psm_scope.specs.Choice.{rank}
 use Rattle.psm_scope.specs.declared.kinds.ArgKind.{ArgKind}
+use Rattle.psm_rules.specs.declared.shape.Typed.{Typed}
+use Rattle.psm_rules.specs.declared.shape.Shape.{Shape}
+use Rattle.psm_rules.specs.declared.shape.Shape.TheVariants.{Value, Untyped, Condition}
+use Rattle.psm_rules.specs.declared.shape.Family.{Family}
+use Rattle.psm_rules.specs.declared.shape.Family.TheVariants.{Numbers, Texts}
 use Rattle.psm_scope.specs.declared.kinds.ArgKind.TheVariants.{SmallInt, Integer, Numeric, Char, VarChar, Null}
 
--- a kind, and the digits behind the point of a number
-pub record Typed : Type 0 where
-  pub kind : ArgKind
-  pub scale : ℕ
-
--- a value with its type, NULL, which has none, or a condition
-pub data Shape : Type 0 where
-  Value : Typed → Shape
-  Untyped : Shape
-  Condition : Shape
-
 -- ---- families
-
-pub data Family : Type 0 where
-  Numbers Texts : Family
 
 abbrev pub family_of : ArgKind → Family
 family_of SmallInt = Numbers

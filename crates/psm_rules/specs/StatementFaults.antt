@@ -63,9 +63,16 @@ use Rattle.psm_rules.specs.declared.rule.Rule.{Rule}
 use Rattle.psm_rules.specs.declared.rule.Rule.TheVariants as rule
 use Rattle.psm_rules.specs.ExprFaults.{PickFound, QueryFound, expr_found, query_found, query_fault, parts_fault, sets_fault, table_fault, test_fault, counted_fault, count_of, is_counted, items_of, is_set, is_all, column_shape, columns_known, first_set, misplaced_set, simple_test, spelling}
 use Rattle.psm_rules.specs.Faults.{breaks, breaks_if, earlier, first_of}
-use Rattle.psm_rules.specs.Found.{Found, as_value, as_condition, of_family}
-use Rattle.psm_rules.specs.Shapes.{Shape, Value, Untyped, Family, Numbers, Texts, Typed, family_of, is_of, typed}
-use Rattle.psm_rules.specs.Shapes as shape
+use Rattle.psm_rules.specs.declared.found.Found.{Found}
+use Rattle.psm_rules.specs.Found.{as_value, as_condition, of_family}
+use Rattle.psm_rules.specs.declared.shape.Shape.{Shape}
+use Rattle.psm_rules.specs.declared.shape.Family.{Family}
+use Rattle.psm_rules.specs.declared.shape.Typed.{Typed}
+use Rattle.psm_rules.specs.declared.shape.Shape.TheVariants.{Value, Untyped}
+use Rattle.psm_rules.specs.declared.shape.Family.TheVariants.{Numbers, Texts}
+use Rattle.psm_rules.specs.Shapes.{family_of, is_of, typed}
+use Rattle.psm_rules.specs.declared.shape.Shape.TheVariants as shape
+use Rattle.psm_rules.specs.Shapes as families
 use Rattle.psm_rules.specs.Types.{type_of}
 use Rattle.psm_rules.specs.View.{View, World, Frames, Variable, Cursor, DeclaredCondition, Columns, Procedure, Mode, In, Out, InOut, on_row, table_named}
 
@@ -193,7 +200,7 @@ condition_item_family condition_items.CursorName = Texts
 
 abbrev pub is_same_family : Option Family → Family → Bool
 is_same_family None f = true
-is_same_family (Some g) f = shape.is_family g f
+is_same_family (Some g) f = families.is_family g f
 
 -- an item for a target; where they don't fit the fault is at the item
 abbrev pub item_fault : Context → Target → Place → Family → Option Fault

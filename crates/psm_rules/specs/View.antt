@@ -4,7 +4,7 @@ use Rattle.psm_value.specs.declared.sqltype.SqlType.{SqlType}
 use Rattle.psm_scope.specs.Choice.{Signature}
 use Rattle.psm_scope.specs.Frames.{Spelling, Frame}
 use Rattle.psm_scope.specs.Lookup.{RowTable, named, place_named}
-use Rattle.psm_rules.specs.Shapes.{Shape}
+use Rattle.psm_rules.specs.declared.shape.Shape.{Shape}
 
 -- what was declared with a type at fault has none
 

@@ -2,7 +2,11 @@
 #![tactic(auto)]
 
 mod fault;
+mod found;
 mod rule;
+mod shape;
 
 pub use fault::{Fault, earlier};
+pub use found::Found;
 pub use rule::Rule;
+pub use shape::{Family, Shape, Typed};
