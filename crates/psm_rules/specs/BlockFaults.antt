@@ -214,10 +214,10 @@ good_state s = if is_bad_state s then None else Some (ByState s)
 abbrev pub of_declared : Spelling → Option DeclaredCondition → Option Handles
 of_declared n None = None
 of_declared n (Some d) = of_state d.state
-    where
-      of_state : Option Spelling → Option Handles
-      of_state None = Some (ByName n)
-      of_state (Some s) = good_state s
+  where
+    of_state : Option Spelling → Option Handles
+    of_state None = Some (ByName n)
+    of_state (Some s) = good_state s
 
 abbrev pub handles : Context → HandlerValue → Option Handles
 handles c (handled.State s) = good_state s.text
@@ -405,9 +405,9 @@ compound_fault label c atomic xs cursors handlers statements =
     let seen = inside c (compound label d) in
     let whole = inside c (compound label (with_cursors seen d cursors)) in
     first_of (repeated rule.DeclarationRepeated (variable_names xs) ∷ repeated rule.DeclarationRepeated (condition_names xs)
-        ∷ repeated rule.DeclarationRepeated (map (λ x. x.name) cursors) ∷ first_of (declarations_fault c label nothing xs)
-        ∷ first_of (map (cursor_fault seen) cursors) ∷ first_of (values_fault whole [] (all_values handlers))
-        ∷ first_of (handlers_fault whole atomic handlers) ∷ all whole statements ∷ [])
+    ∷ repeated rule.DeclarationRepeated (map (λ x. x.name) cursors) ∷ first_of (declarations_fault c label nothing xs)
+    ∷ first_of (map (cursor_fault seen) cursors) ∷ first_of (values_fault whole [] (all_values handlers))
+    ∷ first_of (handlers_fault whole atomic handlers) ∷ all whole statements ∷ [])
 
 abbrev pub block_layer : Block-F BlockPart Part BranchPart HandlerPart → BlockPart
 block_layer (layers.Compound place atomic xs cursors handlers statements) label c = compound_fault label c atomic xs cursors handlers statements

@@ -1,5 +1,5 @@
 -- The first fault of an expression or a query, and the shape of its value (ISO/IEC 9075:1992, clauses 6 to 8).
-use Rattle.std.specs.Prelude.{ℕ, suc, ◌≡◌, nat_eq, nat_le, nat_lt, Bool, true, false, not, ◌&&◌, ◌||◌, Option, Some, None, Result, Ok, Err, List, [], ◌∷◌, ◌++◌, map, length, drop, option_map, if◌then◌else◌}
+use Rattle.std.specs.Prelude.{ℕ, zero, suc, ◌≡◌, nat_eq, nat_le, nat_lt, Bool, true, false, not, ◌&&◌, ◌||◌, Option, Some, None, Result, Ok, Err, List, [], ◌∷◌, ◌++◌, map, length, drop, option_map, if◌then◌else◌}
 use Rattle.std.specs.List.{list_all, list_any, filter}
 use Rattle.psm_list.specs.Several.{Several}
 use Rattle.psm_num.specs.Num.{Num}
@@ -128,7 +128,7 @@ kind_of Condition = kind.Null
 
 abbrev pub result_type : List Function → ℕ → Option SqlType
 result_type [] n = None
-result_type (f ∷ fs) 0 = f.result
+result_type (f ∷ fs) zero = f.result
 result_type (f ∷ fs) (suc n) = result_type fs n
 
 abbrev pub called : Place → List Function → Result ℕ ChoiceFault → Found
@@ -334,10 +334,10 @@ count_with None ps = None
 
 abbrev pub count_of : QueryFound → Option ℕ
 count_of q = count_in q.columns q.picks
-    where
-      count_in : Option Columns → List PickFound → Option ℕ
-      count_in columns [] = Some 0
-      count_in columns (p ∷ ps) = count_with (pick_count columns p) ps
+  where
+    count_in : Option Columns → List PickFound → Option ℕ
+    count_in columns [] = Some 0
+    count_in columns (p ∷ ps) = count_with (pick_count columns p) ps
 
 abbrev pub is_counted : ℕ → Option ℕ → Bool
 is_counted n None = true
@@ -352,10 +352,10 @@ column_shape c = option_map (λ t. Value (typed t)) c.1
 
 abbrev pub items_of : QueryFound → List (Option Shape)
 items_of q = items_in (columns_known q.columns) q.picks
-    where
-      items_in : Columns → List PickFound → List (Option Shape)
-      items_in columns [] = []
-      items_in columns (p ∷ ps) = (if is_all p.form then map column_shape columns else (as_value p.found).shape ∷ []) ++ items_in columns ps
+  where
+    items_in : Columns → List PickFound → List (Option Shape)
+    items_in columns [] = []
+    items_in columns (p ∷ ps) = (if is_all p.form then map column_shape columns else (as_value p.found).shape ∷ []) ++ items_in columns ps
 
 abbrev pub only_shape : List (Option Shape) → Option Shape
 only_shape [] = None

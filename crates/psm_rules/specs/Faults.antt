@@ -8,7 +8,7 @@ use Rattle.psm_rules.specs.Texts.{number_of}
 abbrev pub precedes : Fault → Fault → Bool
 precedes a b = nat_lt a.place.line b.place.line ||
     (nat_eq a.place.line b.place.line && (nat_lt a.place.column b.place.column ||
-        (nat_eq a.place.column b.place.column && nat_lt (number_of a.rule) (number_of b.rule))))
+    (nat_eq a.place.column b.place.column && nat_lt (number_of a.rule) (number_of b.rule))))
 
 -- the first of two, where there is one
 abbrev pub earlier : Option Fault → Option Fault → Option Fault

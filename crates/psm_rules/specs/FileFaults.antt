@@ -1,5 +1,5 @@
 -- The first fault of a module file (ISO/IEC 9075:1992, 11.3, and ISO/IEC 9075-4:1996, module definitions).
-use Rattle.std.specs.Prelude.{ℕ, suc, negate, nat_eq, nat_le, Bool, true, false, not, ◌&&◌, ◌||◌, Option, Some, None, is_some, Result, Ok, Err, List, [], ◌∷◌, ◌++◌, map, length, option_map, slice_get, if◌then◌else◌}
+use Rattle.std.specs.Prelude.{ℕ, suc, nat_eq, nat_le, Bool, true, false, not, ◌&&◌, ◌||◌, Option, Some, None, is_some, Result, Ok, Err, List, [], ◌∷◌, ◌++◌, map, length, option_map, slice_get, if◌then◌else◌}
 use Rattle.std.specs.List.{list_all, list_any}
 use Rattle.psm_list.specs.Several.{Several}
 use Rattle.psm_num.specs.Num.{Num}
@@ -7,7 +7,7 @@ use Rattle.psm_num.specs.Arithmetic.{negated}
 use Rattle.psm_token.specs.declared.place.Place.{Place}
 use Rattle.psm_value.specs.Stored.{stored}
 use Rattle.psm_value.specs.declared.datum.Datum.{Datum}
-use Rattle.psm_value.specs.declared.datum.Datum.TheVariants as data
+use Rattle.psm_value.specs.declared.datum.Datum.TheVariants as datum
 use Rattle.psm_value.specs.declared.sqltype.SqlType.{SqlType}
 use Rattle.psm_value.specs.declared.sqltype.SqlType.TheVariants as types
 use Rattle.psm_scope.specs.Choice.{Signature}
@@ -86,14 +86,14 @@ signed (Some Plus) n = n
 signed (Some Minus) n = negated n
 
 abbrev pub datum_of : ConstantForm → Datum
-datum_of (constants.Number sign n) = data.Num (signed sign n)
-datum_of (constants.Text t) = data.Text t
-datum_of constants.Null = data.Null
+datum_of (constants.Number sign n) = datum.Num (signed sign n)
+datum_of (constants.Text t) = datum.Text t
+datum_of constants.Null = datum.Null
 
 abbrev pub fits_family : Family → Datum → Bool
-fits_family family data.Null = true
-fits_family family (data.Num n) = is_family family Numbers
-fits_family family (data.Text t) = is_family family Texts
+fits_family family datum.Null = true
+fits_family family (datum.Num n) = is_family family Numbers
+fits_family family (datum.Text t) = is_family family Texts
 
 abbrev pub is_stored : {A B : Type 0} → Result A B → Bool
 is_stored (Ok a) = true
@@ -133,12 +133,12 @@ element_fault v columns (elements.Rule r) = table_rule_fault v columns r.form
 abbrev pub own_keys : Spelling → List ColumnRule → List (List Spelling)
 own_keys n [] = []
 own_keys n (r ∷ rs) = key_of r.form ++ own_keys n rs
-    where
-      key_of : ColumnRuleForm → List (List Spelling)
-      key_of column_rules.NotNull = []
-      key_of column_rules.PrimaryKey = (n ∷ []) ∷ []
-      key_of column_rules.Unique = []
-      key_of (column_rules.Check e) = []
+  where
+    key_of : ColumnRuleForm → List (List Spelling)
+    key_of column_rules.NotNull = []
+    key_of column_rules.PrimaryKey = (n ∷ []) ∷ []
+    key_of column_rules.Unique = []
+    key_of (column_rules.Check e) = []
 
 abbrev pub rule_keys : TableRuleForm → List (List Spelling)
 rule_keys (table_rules.PrimaryKey names) = map (λ n. n.name) (several names) ∷ []
@@ -160,8 +160,11 @@ key_fault table keys = breaks_if (not (nat_eq (length keys) 1)) rule.NotOnePrima
 
 -- a CHECK sees the columns of its table alone
 abbrev pub alone : Spelling → Columns → View
-alone table columns = record { world = record { tables = []; keys = []; functions = []; procedures = [] }; frames = []
-    ; row = Some (record { name = table; alias = None; columns = columns }) }
+alone table columns = record {
+  world = record { tables = []; keys = []; functions = []; procedures = [] };
+  frames = [];
+  row = Some (record { name = table; alias = None; columns = columns });
+}
 
 abbrev pub table_elements : TableTree → List Element
 table_elements t = several t.elements
@@ -169,7 +172,7 @@ table_elements t = several t.elements
 abbrev pub table_fault : TableTree → Option Fault
 table_fault t = let es = table_elements t in let columns = columns_of es in
     first_of (repeated rule.ColumnRepeated (column_names es) ∷ too_many (slice_get (column_names es) 100)
-        ∷ key_fault t.name (keys_of es) ∷ map (element_fault (alone t.name.name columns) columns) es)
+    ∷ key_fault t.name (keys_of es) ∷ map (element_fault (alone t.name.name columns) columns) es)
 
 -- ---- routines
 
@@ -209,10 +212,10 @@ procedure_of r = record { name = r.name.name; parameters = map parameter_of r.pa
 abbrev pub functions_of : List Routine → List Function
 functions_of [] = []
 functions_of (r ∷ rs) = with_function r r.returns (functions_of rs)
-    where
-      with_function : Routine → Option DataType → List Function → List Function
-      with_function r None fs = fs
-      with_function r (Some t) fs = function_of r t ∷ fs
+  where
+    with_function : Routine → Option DataType → List Function → List Function
+    with_function r None fs = fs
+    with_function r (Some t) fs = function_of r t ∷ fs
 
 abbrev pub procedures_of : List Routine → List Procedure
 procedures_of [] = []
@@ -309,8 +312,8 @@ abbrev pub routine_frame : Routine → frame.Frame Variable view.DeclaredConditi
 routine_frame r = frame.Routine r.name.name (record { variables = map parameter_variable r.parameters; conditions = []; cursors = [] })
 
 abbrev pub kind_of_routine : Option DataType → Within
-kind_of_routine None = within.Procedure
-kind_of_routine (Some t) = within.Function (type_of t)
+kind_of_routine None = within.InProcedure
+kind_of_routine (Some t) = within.InFunction (type_of t)
 
 abbrev pub body_context : World → Routine → Context
 body_context world r = record { view = record { world = world; frames = routine_frame r ∷ []; row = None }; within = kind_of_routine r.returns }
@@ -336,11 +339,12 @@ first_key (k ∷ ks) = k
 
 -- what the tables and the routines of a file declare; each routine is known in the whole module
 abbrev pub world_of : FileTree → World
-world_of f = record
-  { tables = map (λ t. (t.name.name, columns_of (table_elements t))) f.tables
-  ; keys = map (λ t. (t.name.name, first_key (keys_of (table_elements t)))) f.tables
-  ; functions = functions_of f.«module».routines
-  ; procedures = procedures_of f.«module».routines }
+world_of f = record {
+  tables = map (λ t. (t.name.name, columns_of (table_elements t))) f.tables;
+  keys = map (λ t. (t.name.name, first_key (keys_of (table_elements t)))) f.tables;
+  functions = functions_of f.«module».routines;
+  procedures = procedures_of f.«module».routines;
+}
 
 -- the first fault of a module file; without one the file is accepted
 abbrev pub file_fault : FileTree → Option Fault

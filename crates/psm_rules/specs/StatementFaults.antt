@@ -79,9 +79,9 @@ use Rattle.psm_rules.specs.View.{View, World, Frames, Variable, Cursor, Declared
 -- ---- where a statement stands
 
 pub data Within : Type 0 where
-  Procedure : Within
+  InProcedure : Within
   -- a function with the type of its result, where that isn't at fault
-  Function : Option SqlType → Within
+  InFunction : Option SqlType → Within
 
 pub record Context : Type 0 where
   pub view : View
@@ -247,10 +247,10 @@ select_into_fault c q ts = first_of (query_fault q ∷ targets_fault c (several 
 
 abbrev pub type_of_column : Columns → Identifier → Option SqlType
 type_of_column columns n = column_type (named n.name columns)
-    where
-      column_type : Option (Option SqlType) → Option SqlType
-      column_type None = None
-      column_type (Some t) = t
+  where
+    column_type : Option (Option SqlType) → Option SqlType
+    column_type None = None
+    column_type (Some t) = t
 
 abbrev pub column_fault : Option Columns → Identifier → Option Fault
 column_fault None n = None
@@ -350,10 +350,10 @@ procedure_named name n (p ∷ ps) = if is_called name n p then Some p else proce
 -- a variable or parameter that can be assigned, by itself
 abbrev pub is_target : Context → Expr → Bool
 is_target c (exprs.Name t) = is_assigned (variable_of c t)
-    where
-      is_assigned : Option Variable → Bool
-      is_assigned None = true
-      is_assigned (Some v) = v.assignable
+  where
+    is_assigned : Option Variable → Bool
+    is_assigned None = true
+    is_assigned (Some v) = v.assignable
 is_target c e = false
 
 abbrev pub argument_fault : Context → (Mode × Option SqlType) → Expr → Option Fault
@@ -398,14 +398,14 @@ label_name l = option_map (λ l. l.start.name) l
 -- not in a function
 abbrev pub only_in_procedures : Context → Place → Option Fault
 only_in_procedures c place = outside c.within place
-    where
-      outside : Within → Place → Option Fault
-      outside Procedure place = None
-      outside (Function result) place = breaks rule.NotAllowedInFunction place
+  where
+    outside : Within → Place → Option Fault
+    outside InProcedure place = None
+    outside (InFunction result) place = breaks rule.NotAllowedInFunction place
 
 abbrev pub return_fault : Context → Within → Place → Expr → Option Fault
-return_fault c Procedure place e = breaks rule.ReturnOutsideFunction place
-return_fault c (Function result) place e = source_fault result (found c e)
+return_fault c InProcedure place e = breaks rule.ReturnOutsideFunction place
+return_fault c (InFunction result) place e = source_fault result (found c e)
 
 abbrev pub set_fault : Context → Target → Expr → Option Fault
 set_fault c t e = earlier (target_fault c t) (source_fault (target_type c t) (found c e))
@@ -413,7 +413,7 @@ set_fault c t e = earlier (target_fault c t) (source_fault (target_type c t) (fo
 abbrev pub update_fault : Context → Identifier → Option Columns → Several Assignment → Option Where → Option Fault
 update_fault c table columns assignments which = let view = on_table c table columns in
     first_of (table_fault table columns ∷ columns_fault columns (map (λ a. a.column) (several assignments))
-        ∷ first_of (map (assignment_fault view (columns_known columns)) (several assignments)) ∷ where_fault c view table which ∷ [])
+    ∷ first_of (map (assignment_fault view (columns_known columns)) (several assignments)) ∷ where_fault c view table which ∷ [])
 
 abbrev pub delete_fault : Context → Identifier → Option Columns → Option Where → Option Fault
 delete_fault c table columns which = earlier (table_fault table columns) (where_fault c (on_table c table columns) table which)
