@@ -2,7 +2,7 @@
 use Rattle.std.proofs.Common.{◌≡◌, ℕ, zero, suc, ◌+◌, ◌-◌, ◌<◌, ◌≤◌, Bool, true, false, ◌&&◌, nat_lt, List, [], ◌∷◌, ◌++◌, length, take, drop, get_or, map, refl, ap, sym, subst, ◌∙◌, arith, Option, Some, None, length-append, lt-ltb, ltb-true}
 use Rattle.std.specs.Prelude.{reverse, option_map, slice_get}
 use Rattle.std.proofs.lemmas.List.{get_or_append_left, get_or_push, get_or_default, reverse-append, reverse-reverse, take_more, take-append-drop, drop-map, drop_more, map-append}
-use Rattle.std.proofs.lemmas.List.Elements.{All-head, All-tail, All-weaker, All-push}
+use Rattle.std.proofs.lemmas.List.Elements.{All-head, All-tail}
 use Rattle.std.proofs.lemmas.Option.{slice_get-map, slice_get_within, get_or_from_slice_get}
 use Rattle.psm_num.proofs.Literals.{and_first, and_second}
 use Rattle.psm_exprcode.specs.declared.op.Letter.{Letter}
@@ -112,19 +112,7 @@ pub put_stacks : (stacks : List (List Letter)) (nodes new : List Node) (n : Node
 put_stacks stacks nodes new n e p =
     ap (stacks_with first_stacks) p ∙ stacks_with-push first_stacks nodes n ∙ ap (λ u. u ++ (n.letter ∷ stack_at u n.below) ∷ []) e
 
--- ---- more stacks
-
-pub extends_none : (stacks : List (List Letter)) → Extends stacks stacks
-extends_none stacks = record { longer = omega arith; same = λ n h. refl }
-
-pub extends_same : (old stacks new : List (List Letter)) → Extends old stacks → new ≡ stacks → Extends old new
-extends_same old stacks new h e = let F : List (List Letter) → Type 0 = λ u. Extends old u in subst F (sym e) h
-
-extends_push : (old stacks : List (List Letter)) (s : List Letter) → Extends old stacks → Extends old (stacks ++ s ∷ [])
-extends_push old stacks s h = record {
-  longer = omega (arith, h.longer, length-append stacks (s ∷ []));
-  same = λ n k. get_or_append_left stacks (s ∷ []) [] n (omega (arith, k, h.longer)) ∙ h.same n k;
-}
+-- ---- letters that are put
 
 -- some letters are put on a stack of those before
 pub record Putting (old new : List (List Letter)) (below number : ℕ) (put : List Letter) : Type 0 where
@@ -132,40 +120,12 @@ pub record Putting (old new : List (List Letter)) (below number : ℕ) (put : Li
   pub there : number < length new
   pub stack : stack_at new number ≡ reverse put ++ stack_at old below
 
-pub putting_none : (old : List (List Letter)) (below : ℕ) → below < length old → Putting old old below below []
-putting_none old below h = record { extends = extends_none old; there = h; stack = refl }
-
-putting_push : (old stacks : List (List Letter)) (below number : ℕ) (put : List Letter) (l : Letter) → Putting old stacks below number put
-    → Putting old (stacks ++ (l ∷ stack_at stacks number) ∷ []) below (length stacks) (put ++ l ∷ [])
-putting_push old stacks below number put l h =
-    let more : List (List Letter) = (l ∷ stack_at stacks number) ∷ [] in
-    record {
-      extends = extends_push old stacks (l ∷ stack_at stacks number) h.extends;
-      there = omega (arith, length-append stacks more);
-      stack = get_or_push stacks (l ∷ stack_at stacks number) [] (length stacks) refl ∙ ap (λ s. l ∷ s) h.stack ∙ ap (λ s. s ++ stack_at old below) (sym (reverse-append put (l ∷ [])));
-    }
-
-pub putting_more : (old stacks new : List (List Letter)) (below number next i : ℕ) (letters : List Letter) (l : Letter) → Putting old stacks below number (take i letters) → i < length letters → l ≡ get_or letters i l
-    → next ≡ length stacks → new ≡ stacks ++ (l ∷ stack_at stacks number) ∷ [] → Putting old new below next (take (i + 1) letters)
-putting_more old stacks new below number next i letters l h k e g p =
-    let put : take (i + 1) letters ≡ take i letters ++ l ∷ [] = take_more letters i l k ∙ ap (λ x. take i letters ++ x ∷ []) (sym e) in
-    let F : List (List Letter) → Type 0 = λ u. Putting old u below next (take (i + 1) letters) in
-    let G : ℕ → Type 0 = λ n. Putting old (stacks ++ (l ∷ stack_at stacks number) ∷ []) below n (take (i + 1) letters) in
-    let H : List Letter → Type 0 = λ s. Putting old (stacks ++ (l ∷ stack_at stacks number) ∷ []) below (length stacks) s in
-    subst F (sym p) (subst G (sym g) (subst H (sym put) (putting_push old stacks below number (take i letters) l h)))
-
 -- ---- letters that are counted
 
 pub record Counting (stacks : List (List Letter)) (number rest depth : ℕ) : Type 0 where
   pub there : rest < length stacks
   pub counted : depth + length (stack_at stacks rest) ≡ length (stack_at stacks number)
   pub few : depth + rest ≤ number
-
-pub counting_more : (stacks : List (List Letter)) (number rest below depth : ℕ) (l : Letter) → Counting stacks number rest depth → stack_at stacks rest ≡ l ∷ stack_at stacks below → below < rest
-    → Counting stacks number below (depth + 1)
-counting_more stacks number rest below depth l h e k =
-    let one : length (stack_at stacks rest) ≡ suc (length (stack_at stacks below)) = ap length e in
-    record { there = omega (arith, h.there, k); counted = omega (arith, h.counted, one); few = omega (arith, h.few, k) }
 
 -- ---- letters that are shared
 
@@ -177,24 +137,8 @@ pub record Sharing (stacks : List (List Letter)) (letters : List Letter) (rest s
   pub within : depth ≤ length letters → count ≤ length letters
   pub same : stack_at stacks rest ≡ reverse (take depth letters) → stack_at stacks shared ≡ reverse (take count letters)
 
-pub sharing_first : (stacks : List (List Letter)) (letters : List Letter) (like depth : ℕ) → like < length stacks → depth ≡ length (stack_at stacks like) → Sharing stacks letters like like depth depth
-sharing_first stacks letters like depth h e = record { rest_there = h; shared_there = h; deep = sym e; within = λ k. k; same = λ k. k }
-
 less_deep : (stacks : List (List Letter)) (rest below depth : ℕ) (l : Letter) → length (stack_at stacks rest) ≡ depth → stack_at stacks rest ≡ l ∷ stack_at stacks below → length (stack_at stacks below) + 1 ≡ depth
 less_deep stacks rest below depth l h e = let one : length (stack_at stacks rest) ≡ suc (length (stack_at stacks below)) = ap length e in omega (arith, h, one)
-
--- what stands above a letter that differs isn't shared
-pub sharing_other : (stacks : List (List Letter)) (letters : List Letter) (rest below shared depth count : ℕ) (l : Letter) → Sharing stacks letters rest shared depth count
-    → stack_at stacks rest ≡ l ∷ stack_at stacks below → below < rest → Sharing stacks letters below below (depth - 1) (depth - 1)
-sharing_other stacks letters rest below shared depth count l h e k =
-    let deep : length (stack_at stacks below) + 1 ≡ depth = less_deep stacks rest below depth l h.deep e in
-    record {
-      rest_there = omega (arith, h.rest_there, k);
-      shared_there = omega (arith, h.rest_there, k);
-      deep = omega (arith, deep);
-      within = λ k. k;
-      same = λ k. k;
-    }
 
 known_some : (l : Letter) (o : Option Letter) → is_known l o ≡ true → o ≡ Some l
 known_some l None h = absurd (cc)
@@ -222,16 +166,6 @@ sharing_same stacks letters rest below shared depth count l h e k g =
     let one : depth ≡ depth - 1 + 1 = omega (arith, deep) in
     sharing_kept stacks letters rest below shared depth (depth - 1) count l h e k one (known_some l (slice_get letters (depth - 1)) g)
 
--- nothing is left of the stack
-pub record Shared (stacks : List (List Letter)) (letters : List Letter) (shared count : ℕ) : Type 0 where
-  pub within : count ≤ length letters
-  pub same : stack_at stacks shared ≡ reverse (take count letters)
-
-pub sharing_all : (stacks : List (List Letter)) (letters : List Letter) (rest shared depth count : ℕ) → Sharing stacks letters rest shared depth count → stack_at stacks rest ≡ [] → Shared stacks letters shared count
-sharing_all stacks letters rest shared depth count h e =
-    let none : depth ≡ 0 = sym h.deep ∙ ap length e in
-    record { within = h.within (omega (arith, none)); same = h.same (e ∙ sym (ap (λ n. reverse (take n letters)) none)) }
-
 -- letters on those that are shared are all of them
 pub shared_put : (stacks new : List (List Letter)) (letters put : List Letter) (shared count number : ℕ) → stack_at stacks shared ≡ reverse (take count letters) → put ≡ drop count letters
     → stack_at new number ≡ reverse put ++ stack_at stacks shared → stack_at new number ≡ reverse letters
@@ -247,12 +181,6 @@ lines_kept old new (l ∷ lines) h k =
     let P : NumberedLine → Type 0 = λ l. l.stack < length old in
     let first : line_of new l ≡ line_of old l = ap (λ s. record { stack = reverse s; op = l.op }) (h.same l.stack (All-head P l lines k)) in
     ap (λ x. x ∷ lines_of new lines) first ∙ ap (λ u. line_of old l ∷ u) (lines_kept old new lines h (All-tail P l lines k))
-
-pub stated_kept : (old new : List (List Letter)) (lines : List NumberedLine) → Extends old new → AreStatedIn old lines → AreStatedIn new lines
-stated_kept old new lines h k =
-    let P : NumberedLine → Type 0 = λ l. l.stack < length old in
-    let Q : NumberedLine → Type 0 = λ l. l.stack < length new in
-    All-weaker P Q (λ l p. omega (arith, p, h.longer)) lines k
 
 pub letters_stated : (stacks : List (List Letter)) (l : NumberedLine) → reverse (line_of stacks l).stack ≡ stack_at stacks l.stack
 letters_stated stacks l = reverse-reverse (stack_at stacks l.stack)
@@ -279,12 +207,6 @@ lines_from stacks lines at l h e =
     ∙ ap (λ u. line_of stacks l ∷ u) (sym (drop-map (line_of stacks) (at + 1) lines))
 
 -- ---- a line more
-
-pub stated_push : (old new : List (List Letter)) (lines more : List NumberedLine) (n : NumberedLine) → Extends old new → AreStatedIn old lines → more ≡ lines ++ n ∷ [] → n.stack < length new → AreStatedIn new more
-stated_push old new lines more n h k e g =
-    let P : NumberedLine → Type 0 = λ l. l.stack < length new in
-    let F : List NumberedLine → Type 0 = λ u. AreStatedIn new u in
-    subst F (sym e) (All-push P lines n (stated_kept old new lines h k) g)
 
 pub lines_push : (old new : List (List Letter)) (lines more : List NumberedLine) (n : NumberedLine) (letters : List Letter) → Extends old new → AreStatedIn old lines → more ≡ lines ++ n ∷ []
     → stack_at new n.stack ≡ reverse letters → lines_of new more ≡ lines_of old lines ++ record { stack = letters; op = n.op } ∷ []

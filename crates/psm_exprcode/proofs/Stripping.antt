@@ -34,14 +34,6 @@ pub record Comparing (stacks : List (List Letter)) (stack other left right : ℕ
   pub right_there : right < length stacks
   pub same : same_stack (stack_at stacks left) (stack_at stacks right) ≡ same_stack (stack_at stacks stack) (stack_at stacks other)
 
-pub comparing_more : (stacks : List (List Letter)) (stack other left right below under : ℕ) (k l : Letter) → Comparing stacks stack other left right → stack_at stacks left ≡ k ∷ stack_at stacks below
-    → stack_at stacks right ≡ l ∷ stack_at stacks under → below < left → under < right → k ≡ l → Comparing stacks stack other below under
-comparing_more stacks stack other left right below under k l h e g i j p =
-    let equal : is_letter k l ≡ true = ap (λ x. is_letter k x) (sym p) ∙ is_letter-self k in
-    let whole : same_stack (stack_at stacks left) (stack_at stacks right) ≡ same_stack (stack_at stacks below) (stack_at stacks under) =
-    ap (λ s. same_stack s (stack_at stacks right)) e ∙ ap (λ s. same_stack (k ∷ stack_at stacks below) s) g ∙ ap (λ b. b && same_stack (stack_at stacks below) (stack_at stacks under)) equal in
-    record { left_there = omega (arith, h.left_there, i); right_there = omega (arith, h.right_there, j); same = sym whole ∙ h.same }
-
 pub comparing_all : (stacks : List (List Letter)) (stack other left right : ℕ) → Comparing stacks stack other left right → left ≡ right → true ≡ same_stack (stack_at stacks stack) (stack_at stacks other)
 comparing_all stacks stack other left right h e =
     sym (same_stack-self (stack_at stacks left)) ∙ ap (λ n. same_stack (stack_at stacks left) (stack_at stacks n)) e ∙ h.same

@@ -54,7 +54,6 @@ pub fn eval_on(
     answer
 }
 
-#[tactic(auto, using(crate::proofs::Running::evaluated_some))]
 fn run(
     alloc: Global,
     operands: &mut Vec<Operand>,
