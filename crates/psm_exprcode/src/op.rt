@@ -129,16 +129,10 @@ pub enum Op {
     JumpUnlessNull(u32),
 }
 
-/// A line of an expression: the operands that stand before the operation, the last one at the end, and
-/// the operation.
+/// A line of an expression, as contracts see it: the operands that stand before the operation, the last one at
+/// the end, and the operation. Code keeps its lines in less memory, see [`crate::RawExpr`].
 #[derive(Debug, Drop)]
 pub struct Line {
     pub stack: List<Letter>,
     pub op: Op,
-}
-
-/// Lines that may break a rule.
-#[derive(Debug, Drop)]
-pub struct RawExpr {
-    pub lines: List<Line>,
 }
