@@ -1,5 +1,6 @@
 pub mod Choice
 pub mod Frames
 pub mod Lookup
+pub mod Names
 pub mod Pass
 pub mod Signatures

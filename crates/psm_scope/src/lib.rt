@@ -5,9 +5,11 @@ mod choice;
 mod fault;
 mod key;
 mod kinds;
+mod names;
 mod signatures;
 
 pub use choice::choose_routine;
 pub use fault::ChoiceFault;
 pub use kinds::ArgKind;
+pub use names::Names;
 pub use signatures::Signatures;
