@@ -1,4 +1,5 @@
 pub mod Calls
+pub mod Headed
 pub mod Inward
 pub mod Linked
 pub mod Named

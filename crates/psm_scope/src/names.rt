@@ -37,6 +37,13 @@ impl<'a, T> Names<'a, T> {
         }
     }
 
+    /// How many names there are.
+    pub fn len(&self) -> u32
+        ensures { result ≡ length self.now }
+    {
+        self.known.len() as u32
+    }
+
     /// The place of a name, counted from 0.
     pub fn place(&self, name: &Name) -> Option<u32>
         ensures { result ≡ option_map (λ p. p.0) (place_named 0 name.now self.now) }
