@@ -1,5 +1,10 @@
 pub mod Choice
 pub mod Frames
 pub mod Lookup
+pub mod Names
 pub mod Pass
+pub mod Procedures
+pub mod Routines
+pub mod Rows
+pub mod Scopes
 pub mod Signatures

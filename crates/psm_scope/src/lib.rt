@@ -3,11 +3,29 @@
 
 mod choice;
 mod fault;
+mod frame;
+mod frames;
+mod functions;
 mod key;
 mod kinds;
+mod known;
+mod laws;
+mod names;
+mod procedures;
+mod row;
+mod scopes;
 mod signatures;
 
 pub use choice::choose_routine;
 pub use fault::ChoiceFault;
+pub use frame::FrameKind;
+pub use frames::Frames;
+pub use functions::Functions;
 pub use kinds::ArgKind;
+pub use known::{DeclaredCondition, DeclaredCursor, Variable};
+pub use laws::{narrowing_keeps_the_least, one_candidate_more};
+pub use names::Names;
+pub use procedures::{ParameterMode, ParameterScope, ProcedureScope, Procedures};
+pub use row::{Meant, RowScope, TableScope};
+pub use scopes::Scopes;
 pub use signatures::Signatures;
