@@ -7,6 +7,7 @@ pub mod Joined
 pub mod KeyLaws
 pub mod Keys
 pub mod Lives
+pub mod Ordered
 pub mod Orders
 pub mod Pairs
 pub mod Places
