@@ -8,7 +8,7 @@ use Rattle.psm_value.specs.Answer.{Gives}
 use Rattle.psm_value.specs.declared.fault.ValueFault.{ValueFault}
 use Rattle.psm_value.specs.declared.fault.ValueFault.TheVariants.{Condition, Memory}
 use Rattle.psm_table.specs.Evaluator.{and_then, collected, mapped}
-use Rattle.psm_query.proofs.Results.{mapped-same}
+use Rattle.psm_tablecode.proofs.Results.{mapped-same}
 
 -- with what is done, what is taken of the rest is what is taken of all
 abbrev pub Collects : {A B : Type 0} → (A → Result B SqlState) → List A → ℕ → List B → Type 0

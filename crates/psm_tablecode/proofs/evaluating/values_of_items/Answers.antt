@@ -6,12 +6,12 @@ use Rattle.psm_exprcode.specs.declared.items.Items.{Items}
 use Rattle.psm_exprcode.specs.declared.op.Line.{Line}
 use Rattle.psm_table.specs.Evaluator.{collected}
 use Rattle.psm_table.specs.Queries.{operand_of, operands_of}
-use Rattle.psm_query.specs.Codes.{over, set_of}
-use Rattle.psm_query.specs.Rows.{values_for}
-use Rattle.psm_query.specs.Suits.{Runs, RunItems}
-use Rattle.psm_query.proofs.Collecting.{collected-map}
-use Rattle.psm_query.proofs.Results.{gives_by}
-use Rattle.psm_query.proofs.evaluating.values_of_items.Goals as goal
+use Rattle.psm_tablecode.specs.Codes.{over, set_of}
+use Rattle.psm_tablecode.specs.Rows.{values_for}
+use Rattle.psm_tablecode.specs.Suits.{Runs, RunItems}
+use Rattle.psm_tablecode.proofs.Collecting.{collected-map}
+use Rattle.psm_tablecode.proofs.Results.{gives_by}
+use Rattle.psm_tablecode.proofs.evaluating.values_of_items.Goals as goal
 
 pub values-requires : goal.values-requires
 values-requires c =

@@ -6,7 +6,7 @@ use Rattle.psm_exprcode.specs.declared.items.Items.{Items}
 use Rattle.psm_exprcode.specs.declared.items.Items.TheVariants.{Rows, Sets}
 use Rattle.psm_table.specs.Evaluator.{values_of}
 use Rattle.psm_table.specs.Queries.{operands_of}
-use Rattle.psm_query.specs.Codes.{over, set_of}
+use Rattle.psm_tablecode.specs.Codes.{over, set_of}
 
 -- the values of its items, or what its set functions are of
 abbrev pub values_for : List Datum → Items → List Datum → Result (List Datum) SqlState

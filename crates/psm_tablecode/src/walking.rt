@@ -7,8 +7,8 @@ ghost use Rattle.psm_table.specs.Table.{IsTable};
 
 use psm_table::{Row, Table};
 
-/// The first row of a walk.
-pub(crate) fn first(table: &Table, downward: bool) -> Option<&Row>
+/// The first row of a walk in the order of the keys; downward, the last one. It takes no memory.
+pub fn first(table: &Table, downward: bool) -> Option<&Row>
     ensures here { option_copied result ≡ slice_get (in_walk downward table.now.contents.rows) 0 }
     ensures fits { IfSome result (λ row. IsRow table.now.contents.def row.now) }
 {
@@ -19,8 +19,8 @@ pub(crate) fn first(table: &Table, downward: bool) -> Option<&Row>
     }
 }
 
-/// The row that follows a row in a walk. No key is copied.
-pub(crate) fn following<'a>(table: &'a Table, downward: bool, row: &Row) -> Option<&'a Row>
+/// The row that follows a row of the table in a walk. It takes no memory, and copies no key.
+pub fn following<'a>(table: &'a Table, downward: bool, row: &Row) -> Option<&'a Row>
     requires { IsRow table.now.contents.def row.now }
     ensures here { (at : ℕ) → slice_get (in_walk downward table.now.contents.rows) at ≡ Some row.now → option_copied result ≡ slice_get (in_walk downward table.now.contents.rows) (at + 1) }
     ensures fits { IfSome result (λ row. IsRow table.now.contents.def row.now) }

@@ -1,11 +1,11 @@
-//! What a query takes of one row. The operand stack is lent, so that all rows need one.
+//! What code comes to on a row, and what a query takes of one. The operand stack is lent, so that many rows need one.
 ghost use Rattle.std.specs.Prelude.{◌≡◌, All, IfSome};
 ghost use Rattle.psm_value.specs.Answer.{Gives};
 ghost use Rattle.psm_table.specs.Evaluator.{collected, mapped, test_of, values_of};
 ghost use Rattle.psm_table.specs.Queries.{is_met, operand_of, taken as taken_of};
-ghost use Rattle.psm_query.specs.Codes.{over, truth_in, value_in};
-ghost use Rattle.psm_query.specs.Rows.{values_for};
-ghost use Rattle.psm_query.specs.Suits.{Runs, RunItems, SuitsRow};
+ghost use Rattle.psm_tablecode.specs.Codes.{over, truth_in, value_in};
+ghost use Rattle.psm_tablecode.specs.Rows.{values_for};
+ghost use Rattle.psm_tablecode.specs.Suits.{Runs, RunItems, SuitsRow};
 ghost use Rattle.psm_exprcode.specs.Evaluated.{evaluated};
 
 use psm_exprcode::{Aggregate, ExprCode, Items, Operand, Query, eval_on};
@@ -13,8 +13,9 @@ use psm_table::Row;
 use psm_value::{Datum, Dec, Truth, ValueFault};
 use std::alloc::Global;
 
-/// What the query takes of a row, if the row meets its test.
-pub(crate) fn taken(
+/// What the query takes of a row, if the row meets its test: the values of its items, or what its set functions are of,
+/// where one stands for the row that COUNT(*) counts. The test is evaluated first, then the items from the left.
+pub fn taken(
     alloc: Global,
     stack: &mut Vec<Operand>,
     query: &Query,
@@ -31,8 +32,8 @@ pub(crate) fn taken(
     }
 }
 
-// Whether a row meets a test. Unknown isn't true.
-fn meets(
+/// Whether a row meets a test: the test is true on it, and not unknown. Without a test each row does.
+pub fn meets(
     alloc: Global,
     stack: &mut Vec<Operand>,
     test: &Option<ExprCode>,
@@ -57,7 +58,9 @@ fn is_true(truth: Truth) -> bool
     }
 }
 
-fn truth(
+/// The truth value of a test on a row, or the condition that it raises. The code has to end with a truth value, and
+/// else it is unknown.
+pub fn truth(
     alloc: Global,
     stack: &mut Vec<Operand>,
     code: &ExprCode,
@@ -73,7 +76,9 @@ fn truth(
     }
 }
 
-fn value(
+/// The value of an expression on a row, or the condition that it raises. The code has to end with a value, and else
+/// it is null. An expression without columns has one on the empty row.
+pub fn value(
     alloc: Global,
     stack: &mut Vec<Operand>,
     code: &ExprCode,
@@ -105,8 +110,8 @@ fn values_of_items(
     }
 }
 
-// The values of some expressions, from the left.
-fn values(
+/// The values of some expressions on a row, from the left, or the first condition that one of them raises.
+pub fn values(
     alloc: Global,
     stack: &mut Vec<Operand>,
     codes: &[ExprCode],
