@@ -54,11 +54,11 @@ module _ (key : List ℕ) where
   both_step : (x r y : Row) (ys : List Row) (a b c : Bool) → is_before key x y ≡ a → is_before key y r ≡ b → is_before key x r ≡ c
       → placed_in key x (placed_behind r ys) ≡ placed_behind r (placed_in key x ys)
       → placed_in key x (placed_behind r (y ∷ ys)) ≡ placed_behind r (placed_in key x (y ∷ ys))
-  both_step x r y ys true true c e f g h = let k : is_before key x r ≡ true = before_chained x y r e f in rw (e, f, k, e, f) refl
-  both_step x r y ys true false true e f g h = rw (e, f, g, f) refl
+  both_step x r y ys true true c e f g h = let k : is_before key x r ≡ true = before_chained x y r e f in rw (e, f, k, e) refl
+  both_step x r y ys true false true e f g h = rw (e, f, g) refl
   both_step x r y ys true false false e f g h = rw (e, f, g, e) refl
-  both_step x r y ys false true c e f g h = rw (e, f, e, f) (ap (λ l. y ∷ l) h)
-  both_step x r y ys false false c e f g h = let k : is_before key x r ≡ false = after_chained x y r c e f g in rw (e, f, k, e, f) refl
+  both_step x r y ys false true c e f g h = rw (e, f, e) (ap (λ l. y ∷ l) h)
+  both_step x r y ys false false c e f g h = let k : is_before key x r ≡ false = after_chained x y r c e f g in rw (e, f, k, e) refl
 
   -- it is the same which of two rows is placed first, one before those with the same key and one behind them
   placed_both : (x r : Row) (ys : List Row) → placed_in key x (placed_behind r ys) ≡ placed_behind r (placed_in key x ys)
