@@ -31,7 +31,7 @@ module _ (columns : List ℕ) where
     abbrev Greaters : List Row → Type 0
     Greaters rows = All (λ r. row_order columns key r ≡ Greater) rows
 
-    after_equal : (x : Row) (xs : List Row) → IsAscending columns (x ∷ xs) → row_order columns key x ≡ Equal → Greaters xs
+    pub after_equal : (x : Row) (xs : List Row) → IsAscending columns (x ∷ xs) → row_order columns key x ≡ Equal → Greaters xs
     after_equal x xs up e k d l = greater_after_equal (values_at columns x) (values_at columns (get_or xs k d)) key (AllPairs-first Rises x xs up k d l) e
 
     pub after_greater : (x : Row) (xs : List Row) → IsAscending columns (x ∷ xs) → row_order columns key x ≡ Greater → Greaters xs

@@ -1,0 +1,4 @@
+pub mod Effects
+pub mod Judging
+pub mod Planned
+pub mod Walked

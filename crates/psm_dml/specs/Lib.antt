@@ -1,0 +1,4 @@
+pub mod Ends
+pub mod Judged
+pub mod Rows
+pub mod Suits
