@@ -81,7 +81,8 @@ keys_last keys key c = ap (λ r. record c { rows = r }) (without_last c.def.key 
 pub keys_next : (keys : List (List Datum)) (i : ℕ) (key : List Datum) (tables now new : List Contents) (t : ℕ) → i < length keys → key ≡ get_or keys i key
     → now ≡ changed_at (without_keys (take i keys)) tables t → new ≡ changed_at (without_row key) now t → new ≡ changed_at (without_keys (take (i + 1) keys)) tables t
 keys_next keys i key tables now new t l e n m =
-    let longer : take (i + 1) keys ≡ take i keys ++ key ∷ [] = ap (λ k. take k keys) (omega arith) ∙ take-suc keys i key l ∙ ap (λ k. take i keys ++ k ∷ []) (sym e) in
+    let later : i + 1 ≡ suc i = omega arith in
+    let longer : take (i + 1) keys ≡ take i keys ++ key ∷ [] = ap (λ k. take k keys) later ∙ take-suc keys i key l ∙ ap (λ k. take i keys ++ k ∷ []) (sym e) in
     m ∙ ap (λ l. changed_at (without_row key) l t) n
     ∙ changed_twice (without_keys (take i keys)) (without_row key) tables t
     ∙ changed_alike (λ c. without_row key (without_keys (take i keys) c)) (without_keys (take (i + 1) keys)) (λ c. sym (ap (λ ks. without_keys ks c) longer ∙ keys_last (take i keys) key c)) tables t

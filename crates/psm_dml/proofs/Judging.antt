@@ -1,5 +1,5 @@
 -- The row whose condition counts.
-use Rattle.std.proofs.Common.{◌≡◌, ℕ, ◌+◌, ◌<◌, List, [], ◌∷◌, ◌++◌, length, get_or, take, Bool, true, false, ◌&&◌, refl, ap, sym, subst, ◌∙◌, arith, inl, inr, Result, Ok, Err}
+use Rattle.std.proofs.Common.{◌≡◌, ℕ, suc, ◌+◌, ◌<◌, List, [], ◌∷◌, ◌++◌, length, get_or, take, Bool, true, false, ◌&&◌, refl, ap, sym, subst, ◌∙◌, arith, inl, inr, Result, Ok, Err}
 use Rattle.std.specs.Prelude.{All, AllPairs, ◌⊎◌, if◌then◌else◌}
 use Rattle.std.proofs.lemmas.List.Elements.{All-head, All-tail}
 use Rattle.std.proofs.Math.Seq.{take-suc}
@@ -19,12 +19,6 @@ Row = List Datum
 and_true : (b : Bool) → (b && true) ≡ b
 and_true true = refl
 and_true false = refl
-
-and_swap : (a b c : Bool) → (a && (b && c)) ≡ (b && (a && c))
-and_swap true b c = refl
-and_swap false true c = refl
-and_swap false false c = refl
-
 
 and_moved : (a b c : Bool) → (a && (b && c)) ≡ ((a && b) && c)
 and_moved true b c = refl
@@ -155,4 +149,6 @@ module _ {E : Type 0} (ev : Evaluator E) (checks : List E) (key : List ℕ) wher
 
 -- the rows seen so far, and the next
 pub seen_next : (rows : List Row) (at : ℕ) (row : Row) → at < length rows → row ≡ get_or rows at row → take (at + 1) rows ≡ take at rows ++ row ∷ []
-seen_next rows at row l e = ap (λ k. take k rows) (omega arith) ∙ take-suc rows at row l ∙ ap (λ r. take at rows ++ r ∷ []) (sym e)
+seen_next rows at row l e =
+    let n : at + 1 ≡ suc at = omega arith in
+    ap (λ k. take k rows) n ∙ take-suc rows at row l ∙ ap (λ r. take at rows ++ r ∷ []) (sym e)

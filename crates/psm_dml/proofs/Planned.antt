@@ -9,7 +9,7 @@ use Rattle.psm_sqlstate.specs.declared.state.SqlState.{SqlState}
 use Rattle.psm_value.specs.declared.datum.Datum.{Datum}
 use Rattle.psm_value.specs.declared.truth.Truth.{Truth}
 use Rattle.psm_value.specs.declared.truth.Truth.TheVariants.{True, False, Unknown}
-use Rattle.psm_table.specs.Changing.{deleted, divided, then_of, with_left, with_made, Changed, Division, Raised}
+use Rattle.psm_table.specs.Changing.{deleted, divided, then_of, with_left, with_made, Changed, Division, Failure, Raised}
 use Rattle.psm_table.specs.Evaluator.{Evaluator, and_then, mapped, test_of}
 use Rattle.psm_table.specs.Key.{key_order, row_order, values_at}
 use Rattle.psm_table.specs.Queries.{is_met, taken, walked}
@@ -103,11 +103,14 @@ module _ (columns : List ℕ) where
     abbrev kept : Row → Result Row SqlState
     kept row = Ok row
 
+    abbrev ending : Division → Result Changed Failure
+    ending p = Ok (record { rows = p.left; count = length p.made })
+
     keys_are : (rows : List Row) → walked (test_of ev test) (key_in columns) rows ≡ mapped (λ l. map (λ (c : Change). c.key) l) (walked (test_of ev test) (changing ev test kept) rows)
     keys_are rows = walked-map (test_of ev test) (changing ev test kept) (λ (c : Change). c.key) rows
 
     deleted_step : (rows : List Row) (keys : List (List Datum)) (w : Result (List Change) SqlState) → mapped (λ l. map (λ (c : Change). c.key) l) w ≡ Ok keys
-        → then_of (mapped (as_division ev test kept rows) w) (λ p. Ok (record { rows = p.left; count = length p.made })) ≡ Ok (record { rows = without_all columns keys rows; count = length keys })
+        → then_of (mapped (as_division ev test kept rows) w) ending ≡ Ok (record { rows = without_all columns keys rows; count = length keys })
     deleted_step rows keys (Ok cs) e =
         let same : map (λ (c : Change). c.key) cs ≡ keys = cc in
         ap (λ (n : ℕ). Ok (record { rows = without_all columns (map (λ (c : Change). c.key) cs) rows; count = n })) (length-map cs (λ (c : Change). c.made) ∙ sym (length-map cs (λ (c : Change). c.key)))
@@ -118,15 +121,15 @@ module _ (columns : List ℕ) where
     pub deleted_is : (rows : List Row) (keys : List (List Datum)) → IsAscending columns rows → walked (test_of ev test) (key_in columns) rows ≡ Ok keys
         → deleted ev test rows ≡ Ok (record { rows = without_all columns keys rows; count = length keys })
     deleted_is rows keys up e =
-        ap (λ r. then_of r (λ p. Ok (record { rows = p.left; count = length p.made }))) (divided_by ev test kept rows up)
+        ap (λ r. then_of r ending) (divided_by ev test kept rows up)
         ∙ deleted_step rows keys (walked (test_of ev test) (changing ev test kept) rows) (sym (keys_are rows) ∙ e)
 
     raised_step : (rows : List Row) (s : SqlState) (w : Result (List Change) SqlState) → mapped (λ l. map (λ (c : Change). c.key) l) w ≡ Err s
-        → then_of (mapped (as_division ev test kept rows) w) (λ p. Ok (record { rows = p.left; count = length p.made })) ≡ Err (Raised s)
+        → then_of (mapped (as_division ev test kept rows) w) ending ≡ Err (Raised s)
     raised_step rows s (Ok cs) e = cc
     raised_step rows s (Err q) e = let same : q ≡ s = cc in ap (λ x. Err (Raised x)) same
 
     pub deleted_raises : (rows : List Row) (s : SqlState) → IsAscending columns rows → walked (test_of ev test) (key_in columns) rows ≡ Err s → deleted ev test rows ≡ Err (Raised s)
     deleted_raises rows s up e =
-        ap (λ r. then_of r (λ p. Ok (record { rows = p.left; count = length p.made }))) (divided_by ev test kept rows up)
+        ap (λ r. then_of r ending) (divided_by ev test kept rows up)
         ∙ raised_step rows s (walked (test_of ev test) (changing ev test kept) rows) (sym (keys_are rows) ∙ e)

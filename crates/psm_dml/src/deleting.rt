@@ -33,7 +33,7 @@ pub fn delete<S: Store>(
     vars: &[Datum],
 ) -> Result<u32, DataFault>
     requires exists { t < length (S.tables store.old) }
-    requires suits { IfSome (slice_get (S.tables store.old) t) (λ c. SuitsTest (option_copied test.entry) vars.now c.def) }
+    requires suits { IfSome (slice_get (S.tables store.old) t) (λ c. SuitsTest (option_copied test) vars.now c.def) }
     requires room { S.marks store.old < most_marks }
     ensures answer { IfSome (slice_get (S.tables store.old) t) (λ c. Ends c (deleted (over vars.now) (option_copied test.entry) c.rows) (S.tables store.old) t (S.tables store.new) result) }
     ensures marks { S.marks store.new ≡ S.marks store.old }
@@ -43,8 +43,8 @@ pub fn delete<S: Store>(
         Ok(keys) => keys,
         Err(fault) => return Err(raised(alloc, &fault)),
     };
-    erase_rows(alloc, store, t, keys.as_slice())?;
-    Ok(keys.len() as u32)
+    erase_rows(alloc, store, t, keys.items())?;
+    Ok(keys.items().len() as u32)
 }
 
 /// Takes the row that has a key out of a table (DELETE WHERE CURRENT OF). Where memory runs out, the tables are as

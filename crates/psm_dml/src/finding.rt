@@ -12,7 +12,7 @@ ghost use Rattle.psm_dml.specs.Rows.{key_in, with_option};
 ghost use Rattle.psm_dml.specs.Suits.{SuitsTest};
 
 use psm_exprcode::{ExprCode, Operand};
-use psm_table::{Key, Row, Table};
+use psm_table::{Key, List, Row, Table};
 use psm_tablecode::{first, following, truth};
 use psm_value::{Datum, Truth, ValueFault};
 use std::alloc::{AllocError, Global};
@@ -23,11 +23,11 @@ pub(crate) fn met_keys(
     table: &Table,
     test: Option<&ExprCode>,
     vars: &[Datum],
-) -> Result<Vec<Key>, ValueFault>
-    requires { SuitsTest (option_copied test.entry) vars.now table.now.contents.def }
+) -> Result<List<Key>, ValueFault>
+    requires { SuitsTest (option_copied test) vars.now table.now.contents.def }
     ensures keys { Gives (walked (test_of (over vars.now) (option_copied test.entry)) (key_in table.now.contents.def.key) table.now.contents.rows) result }
-    ensures fit { IfOk result (λ keys. All (IsKey table.now.contents.def) keys.items) }
-    ensures bound { IfOk result (λ keys. length keys.items ≤ length table.now.contents.rows) }
+    ensures fit { IfOk result (λ keys. All (IsKey table.now.contents.def) keys) }
+    ensures bound { IfOk result (λ keys. length keys ≤ length table.now.contents.rows) }
 {
     let mut stack = Vec::new(alloc);
     let mut keys = Vec::new(alloc);
@@ -40,7 +40,7 @@ pub(crate) fn met_keys(
         add_key(&mut keys, key)?;
         next = following(table, false, row);
     }
-    Ok(keys)
+    Ok(List::of(keys))
 }
 
 // The key of a row, if the row meets the test.
@@ -53,7 +53,7 @@ fn met_key(
     vars: &[Datum],
 ) -> Result<Option<Key>, ValueFault>
     requires row { IsRow table.now.contents.def row.now }
-    requires runs { IfSome (option_copied test.entry) (Runs row.now vars.now) }
+    requires runs { IfSome (option_copied test) (Runs row.now vars.now) }
     ensures key { Gives (taken (test_of (over vars.now) (option_copied test.entry)) (key_in table.now.contents.def.key) row.now) result }
     ensures fits { IfOk result (λ key. IfSome key (IsKey table.now.contents.def)) }
 {
@@ -72,7 +72,7 @@ pub(crate) fn meets(
     row: &[Datum],
     vars: &[Datum],
 ) -> Result<bool, ValueFault>
-    requires { IfSome (option_copied test.entry) (Runs row.now vars.now) }
+    requires { IfSome (option_copied test) (Runs row.now vars.now) }
     ensures { Gives (mapped is_met (test_of (over vars.now) (option_copied test.entry) row.now)) result }
 {
     match test {

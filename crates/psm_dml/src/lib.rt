@@ -2,9 +2,16 @@
 #![tactic(auto)]
 
 mod applying;
+mod checking;
+mod comparing;
 mod deleting;
+mod ending;
+mod filling;
 mod finding;
+mod inserting;
+mod storing;
 
 pub use deleting::{delete, delete_at};
+pub use inserting::insert;
 pub use psm_cond::DataFault;
 pub use psm_exprcode::ExprCode;

@@ -1,5 +1,5 @@
 //! Whether a query may be asked. No call here but that for the letters of columns takes memory.
-ghost use Rattle.std.specs.Prelude.{◌≡◌, IfOk};
+ghost use Rattle.std.specs.Prelude.{◌≡◌, true, IfOk};
 ghost use Rattle.std.specs.List.{list_all};
 ghost use Rattle.std.specs.Option.{option_map_or};
 ghost use Rattle.psm_tablecode.specs.Suits.{fits_query, give_items, gives_operand as gives_operand_code, gives_set, gives_truth as gives_truth_code, gives_value as gives_value_code, letters_of};
