@@ -110,3 +110,9 @@ module _ (holds_a holds_b holds_c holds_d : Mark → Type 0) (at_a at_b at_c at_
       let depth : m.depth < mark.depth = omega (arith, below m h, new.deepest) in
       let r = k m q.0 (depth, new.last m h) in
       (r.0, r.1 ∙ q.1 ∙ p.1)
+
+-- what is said of each of a list is said of one
+pub one_of : (P : TableDef → List Datum → Type 0) (o : Option Contents) (rows : List (List Datum)) (i : ℕ) (row : List Datum) → i < length rows → row ≡ get_or rows i row
+    → IfSome o (λ c. All (P c.def) rows) → IfSome o (λ c. P c.def row)
+one_of P None rows i row l e h = tt
+one_of P (Some c) rows i row l e h = subst (P c.def) (sym e) (h i row l)
