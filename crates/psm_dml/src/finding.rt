@@ -6,6 +6,7 @@ ghost use Rattle.psm_value.specs.Answer.{Gives};
 ghost use Rattle.psm_table.specs.Definition.{IsKey, IsRow};
 ghost use Rattle.psm_table.specs.Evaluator.{mapped, test_of};
 ghost use Rattle.psm_table.specs.Queries.{is_met, taken, walked};
+ghost use Rattle.psm_table.specs.Table.{IsTable};
 ghost use Rattle.psm_tablecode.specs.Codes.{over};
 ghost use Rattle.psm_tablecode.specs.Suits.{Runs};
 ghost use Rattle.psm_dml.specs.Rows.{key_in, with_option};
@@ -28,6 +29,7 @@ pub(crate) fn met_keys(
     ensures keys { Gives (walked (test_of (over vars.now) (option_copied test.entry)) (key_in table.now.contents.def.key) table.now.contents.rows) result }
     ensures fit { IfOk result (λ keys. All (IsKey table.now.contents.def) keys) }
     ensures bound { IfOk result (λ keys. length keys ≤ length table.now.contents.rows) }
+    ensures table { IsTable table.now.contents }
 {
     let mut stack = Vec::new(alloc);
     let mut keys = Vec::new(alloc);
