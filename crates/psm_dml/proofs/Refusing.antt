@@ -1,6 +1,6 @@
 -- Why a row isn't put into a table.
 use Rattle.std.proofs.Common.{◌≡◌, ℕ, ◌+◌, ◌<◌, ◌≤◌, List, [], ◌∷◌, length, get_or, Bool, true, false, ◌&&◌, ◌||◌, refl, ap, sym, subst, ◌∙◌, arith, Option, Some, None, Result, Ok, Err}
-use Rattle.std.specs.Prelude.{◌≢◌, All, IfSome, IsSome, not, slice_get}
+use Rattle.std.specs.Prelude.{◌≢◌, All, IfOk, IfSome, IsSome, not, slice_get}
 use Rattle.std.specs.List.{list_all, zip}
 use Rattle.std.proofs.lemmas.List.Elements.{All-cons, All-nil}
 use Rattle.psm_value.specs.declared.datum.Datum.{Datum}
@@ -16,7 +16,10 @@ use Rattle.psm_table.specs.Table.{most_rows, namesake, Contents}
 use Rattle.psm_table.specs.Unique.{clashes, has_null, is_null}
 use Rattle.psm_table.proofs.Rules.{apart_from, first_true, second_true}
 use Rattle.psm_store.specs.RowCalls.{AnswersInsert}
-use Rattle.psm_dml.specs.Rows.{fits_in, IsWhole}
+use Rattle.std.specs.declared.alloc.AllocError.{AllocError}
+use Rattle.psm_store.specs.RowCalls.{after, changed_at}
+use Rattle.psm_table.specs.Table.{with_row}
+use Rattle.psm_dml.specs.Rows.{changed_if, done_of, fits_in, IsWhole}
 use Rattle.psm_dml.proofs.Putting.{apart, clashing, key_taken}
 
 -- ---- nulls
@@ -90,3 +93,27 @@ module _ (row : List Datum) (c : Contents) where
   turned_away Absent n l h = absurd h
   turned_away Full n l h = absurd (omega (arith, l, h))
   turned_away Memory n l h = absurd (n refl)
+
+  done_step : (r : Result (Unit {0}) RowFault) → may ≡ true → length c.rows < most_rows → AnswersInsert row r c → IfOk (done_of r) (λ b. b ≡ fits_in row c)
+  done_step (Ok u) e l h = sym (put_in e h.1)
+  done_step (Err Duplicate) e l h = sym (turned_away Duplicate (λ f. cc) l h)
+  done_step (Err Absent) e l h = absurd h
+  done_step (Err Full) e l h = sym (turned_away Full (λ f. cc) l h)
+  done_step (Err Memory) e l h = tt
+
+  -- the answer of an insertion into the table that is there
+  pub done_answer : (o : Option Contents) (r : Result (Unit {0}) RowFault) (result : Result Bool AllocError) → o ≡ Some c → may ≡ true → IfSome o (λ x. length x.rows < most_rows) → IfSome o (AnswersInsert row r) → result ≡ done_of r
+      → IfSome o (λ x. IfOk result (λ b. b ≡ fits_in row x))
+  done_answer o r result here e l h same =
+      let few : length c.rows < most_rows = subst (λ p. IfSome p (λ x. length x.rows < most_rows)) here l in
+      let answer : AnswersInsert row r c = subst (λ p. IfSome p (AnswersInsert row r)) here h in
+      subst (λ p. IfSome p (λ x. IfOk result (λ b. b ≡ fits_in row x))) (sym here) (subst (λ q. IfOk q (λ b. b ≡ fits_in row c)) (sym same) (done_step r e few answer))
+
+pub done_tables : (f : Contents → Contents) (r : Result (Unit {0}) RowFault) (result : Result Bool AllocError) (old new : List Contents) (t : ℕ) → result ≡ done_of r → new ≡ after r f old t → new ≡ changed_if result f old t
+done_tables f r result old new t same e = by r same e where
+  by : (q : Result (Unit {0}) RowFault) → result ≡ done_of q → new ≡ after q f old t → new ≡ changed_if result f old t
+  by (Ok u) s g = subst (λ z. new ≡ changed_if z f old t) (sym s) g
+  by (Err Duplicate) s g = subst (λ z. new ≡ changed_if z f old t) (sym s) g
+  by (Err Absent) s g = subst (λ z. new ≡ changed_if z f old t) (sym s) g
+  by (Err Full) s g = subst (λ z. new ≡ changed_if z f old t) (sym s) g
+  by (Err Memory) s g = subst (λ z. new ≡ changed_if z f old t) (sym s) g

@@ -1,5 +1,5 @@
 -- Rows that are taken out of a table by their keys, and rows that are put in.
-use Rattle.std.specs.Prelude.{ℕ, Bool, true, false, ◌&&◌, List, [], ◌∷◌, ◌++◌, Option, Some, None, Result, Ok, Err}
+use Rattle.std.specs.Prelude.{ℕ, Bool, true, false, ◌&&◌, List, [], ◌∷◌, ◌++◌, alloc_error, Option, Some, None, Result, Ok, Err}
 use Rattle.std.specs.List.{list_all}
 use Rattle.std.specs.declared.alloc.AllocError.{AllocError}
 use Rattle.psm_sqlstate.specs.declared.state.SqlState.{SqlState}
@@ -11,6 +11,8 @@ use Rattle.psm_table.specs.Key.{values_at}
 use Rattle.psm_table.specs.Rows.{without}
 use Rattle.psm_table.specs.Table.{with_row, Contents}
 use Rattle.psm_table.specs.declared.definition.TableDef.{TableDef}
+use Rattle.psm_table.specs.declared.fault.RowFault.{RowFault}
+use Rattle.psm_table.specs.declared.fault.RowFault.TheVariants.{Duplicate, Absent, Full, Memory}
 
 -- the key of a row
 abbrev pub key_in : List ℕ → List Datum → Result (List Datum) SqlState
@@ -54,3 +56,11 @@ abbrev pub changed_if : Result Bool AllocError → (Contents → Contents) → L
 changed_if (Ok true) change tables t = changed_at change tables t
 changed_if (Ok false) change tables t = tables
 changed_if (Err error) change tables t = tables
+
+-- whether a row was put in: it wasn't for any refusal but want of memory
+abbrev pub done_of : Result (Unit {0}) RowFault → Result Bool AllocError
+done_of (Ok u) = Ok true
+done_of (Err Duplicate) = Ok false
+done_of (Err Absent) = Ok false
+done_of (Err Full) = Ok false
+done_of (Err Memory) = Err alloc_error

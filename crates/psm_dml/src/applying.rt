@@ -6,7 +6,7 @@ ghost use Rattle.psm_table.specs.Table.{most_rows, with_row, without_row, IsTabl
 ghost use Rattle.psm_table.specs.Unique.{clashes};
 ghost use Rattle.psm_store.specs.Marks.{AnyMark, IsOutside, Keeps, defs_of, most_marks};
 ghost use Rattle.psm_store.specs.RowCalls.{changed_at};
-ghost use Rattle.psm_dml.specs.Rows.{changed_if, fit_in, fits_in, with_rows, without_keys, IsWhole};
+ghost use Rattle.psm_dml.specs.Rows.{changed_if, done_of, fit_in, fits_in, with_rows, without_keys, IsWhole};
 
 use crate::filling::is_filled;
 use psm_store::{Key, Mark, Row, RowFault, Steps, Store, Table};
@@ -203,10 +203,18 @@ pub(crate) fn put_row<S: Store>(
     if !may_go_in(store.table(t), &row) {
         return Ok(false);
     }
-    match store.insert(alloc, t, row) {
+    let answer = store.insert(alloc, t, row);
+    is_done(answer)
+}
+
+// Whether a row was put in.
+fn is_done(answer: Result<(), RowFault>) -> Result<bool, AllocError>
+    ensures { result ≡ done_of answer }
+{
+    match answer {
         Ok(()) => Ok(true),
         Err(RowFault::Memory) => Err(AllocError),
-        Err(_) => Ok(false),
+        Err(RowFault::Duplicate | RowFault::Absent | RowFault::Full) => Ok(false),
     }
 }
 
@@ -215,6 +223,5 @@ fn may_go_in(table: &Table, row: &Row) -> bool
     requires { IsWhole table.now.contents.def row.now }
     ensures { result ≡ (is_row_filled table.now.contents.def row.now && not (clashes table.now.contents.def row.now table.now.contents.rows)) }
 {
-    ascends(table);
     is_filled(table.def(), row.values()) && !table.clash(row)
 }
