@@ -1,6 +1,6 @@
 -- The row whose condition counts.
 use Rattle.std.proofs.Common.{◌≡◌, ℕ, suc, ◌+◌, ◌<◌, List, [], ◌∷◌, ◌++◌, length, get_or, take, Bool, true, false, ◌&&◌, refl, ap, sym, subst, ◌∙◌, arith, inl, inr, Result, Ok, Err}
-use Rattle.std.specs.Prelude.{All, AllPairs, ◌⊎◌, if◌then◌else◌}
+use Rattle.std.specs.Prelude.{All, AllPairs, IfOk, ◌⊎◌, if◌then◌else◌}
 use Rattle.std.proofs.lemmas.List.Elements.{All-head, All-tail}
 use Rattle.std.proofs.Math.Seq.{take-suc}
 use Rattle.psm_sqlstate.specs.declared.state.SqlState.{SqlState}
@@ -11,16 +11,21 @@ use Rattle.psm_table.proofs.Filters.{AllPairs-first, AllPairs-rest}
 use Rattle.psm_table.proofs.Ordered.{before_chained, in_order-last, in_order-ordered, placed_behind, AreOrdered}
 use Rattle.psm_dml.specs.declared.checking.Verdict.{Verdict}
 use Rattle.psm_dml.specs.declared.checking.Verdict.TheVariants.{Kept, Raised}
-use Rattle.psm_dml.specs.Judged.{verdict_with}
+use Rattle.std.specs.declared.alloc.AllocError.{AllocError}
+use Rattle.psm_value.specs.Answer.{Gives}
+use Rattle.psm_value.specs.declared.fault.ValueFault.{ValueFault}
+use Rattle.psm_value.specs.declared.fault.ValueFault.TheVariants as value_fault
+use Rattle.psm_dml.specs.declared.checking.Passed.{Passed}
+use Rattle.psm_dml.specs.Judged.{result_of, verdict_with, IsRefused, IsWithin}
 
 abbrev Row : Type 0
 Row = List Datum
 
-and_true : (b : Bool) → (b && true) ≡ b
+pub and_true : (b : Bool) → (b && true) ≡ b
 and_true true = refl
 and_true false = refl
 
-and_moved : (a b c : Bool) → (a && (b && c)) ≡ ((a && b) && c)
+pub and_moved : (a b c : Bool) → (a && (b && c)) ≡ ((a && b) && c)
 and_moved true b c = refl
 and_moved false b c = refl
 
@@ -152,3 +157,18 @@ pub seen_next : (rows : List Row) (at : ℕ) (row : Row) → at < length rows �
 seen_next rows at row l e =
     let n : at + 1 ≡ suc at = omega arith in
     ap (λ k. take k rows) n ∙ take-suc rows at row l ∙ ap (λ r. take at rows ++ r ∷ []) (sym e)
+
+pub within_next : (n : ℕ) (key : List ℕ) (rows : List Row) (v : Verdict) (at : ℕ) (r : Result Bool SqlState) → at < n → IsWithin n v → IsWithin n (verdict_with key rows v at r)
+within_next n key rows (Kept b) at (Ok c) l h = tt
+within_next n key rows (Kept b) at (Err t) l h = l
+within_next n key rows (Raised place s) at (Ok c) l h = h
+within_next n key rows (Raised place s) at (Err t) l h = within_step n place at s t (is_before key (get_or rows place []) (get_or rows at [])) l h where
+  within_step : (n place at : ℕ) (s t : SqlState) (b : Bool) → at < n → place < n → IsWithin n (if b then Raised place s else Raised at t)
+  within_step n place at s t true l h = h
+  within_step n place at s t false l h = l
+
+pub refused_is : (due : Result Bool SqlState) (fault : ValueFault) (result : Result Passed AllocError) → Gives due (Err fault) → IsRefused fault result → IfOk result (λ p. result_of p ≡ due)
+refused_is due (value_fault.Condition s) (Ok p) g h = ap result_of h ∙ sym g
+refused_is due (value_fault.Condition s) (Err e) g h = tt
+refused_is due value_fault.Memory (Ok p) g h = absurd h
+refused_is due value_fault.Memory (Err e) g h = tt

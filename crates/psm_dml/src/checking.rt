@@ -5,7 +5,7 @@ ghost use Rattle.psm_table.specs.Changing.{in_order, is_before as comes_before, 
 ghost use Rattle.psm_table.specs.Key.{AreColumnsOf};
 ghost use Rattle.psm_tablecode.specs.Codes.{over};
 ghost use Rattle.psm_tablecode.specs.Suits.{Runs};
-ghost use Rattle.psm_dml.specs.Judged.{verdict_with, IsWithin};
+ghost use Rattle.psm_dml.specs.Judged.{result_of, verdict_with, IsRefused, IsWithin};
 
 use crate::comparing::order;
 use psm_exprcode::{ExprCode, Operand};
@@ -25,6 +25,15 @@ pub(crate) enum Verdict {
     Raised(usize, SqlState),
 }
 
+/// What the CHECKs come to on a row.
+#[derive(Clone, Copy)]
+enum Passed {
+    /// Whether each holds.
+    Held(bool),
+    /// The condition that one raises.
+    Condition(SqlState),
+}
+
 /// Whether each CHECK holds on each of some rows, or the condition that one raises: of several rows on which one is
 /// raised the first by its key counts, and of equal keys the first row.
 pub(crate) fn judge(
@@ -40,8 +49,8 @@ pub(crate) fn judge(
     let mut stack = Vec::new(alloc);
     let mut verdict = Verdict::Kept(true);
     for (at, row) in rows.iter().enumerate() {
-        let passes = row_of(alloc, &mut stack, checks, row.values())?;
-        verdict = next(verdict, key, rows, at, passes);
+        let passed = row_of(alloc, &mut stack, checks, row.values())?;
+        verdict = next(verdict, key, rows, at, passed);
     }
     match verdict {
         Verdict::Kept(kept) => Ok(kept),
@@ -55,21 +64,21 @@ fn next(
     key: &[u32],
     rows: &[Row],
     at: usize,
-    passes: Result<bool, SqlState>,
+    passed: Passed,
 ) -> Verdict
     requires at { at < length rows.now }
     requires within { IsWithin (length rows.now) verdict }
     requires key { All (λ row. AreColumnsOf row key.now) rows.now }
-    ensures { result ≡ verdict_with key.now rows.now verdict at passes }
+    ensures { result ≡ verdict_with key.now rows.now verdict at (result_of passed) }
 {
     match verdict {
-        Verdict::Kept(kept) => match passes {
-            Ok(holds) => Verdict::Kept(kept & holds),
-            Err(state) => Verdict::Raised(at, state),
+        Verdict::Kept(kept) => match passed {
+            Passed::Held(holds) => Verdict::Kept(kept & holds),
+            Passed::Condition(state) => Verdict::Raised(at, state),
         },
-        Verdict::Raised(place, state) => match passes {
-            Ok(_) => Verdict::Raised(place, state),
-            Err(other) => {
+        Verdict::Raised(place, state) => match passed {
+            Passed::Held(_) => Verdict::Raised(place, state),
+            Passed::Condition(other) => {
                 if is_before(key, &rows[place], &rows[at]) {
                     Verdict::Raised(place, state)
                 } else {
@@ -94,14 +103,22 @@ fn row_of(
     stack: &mut Vec<Operand>,
     checks: &[ExprCode],
     row: &[Datum],
-) -> Result<Result<bool, SqlState>, AllocError>
+) -> Result<Passed, AllocError>
     requires { All (Runs row.now []) checks.now }
-    ensures { IfOk result (λ passes. passes ≡ row_passes (over []) checks.now row.now) }
+    ensures { IfOk result (λ passed. result_of passed ≡ row_passes (over []) checks.now row.now) }
 {
     match holds(alloc, stack, checks, row) {
-        Ok(holds) => Ok(Ok(holds)),
-        Err(ValueFault::Condition(state)) => Ok(Err(state)),
-        Err(ValueFault::Memory) => Err(AllocError),
+        Ok(holds) => Ok(Passed::Held(holds)),
+        Err(fault) => condition_of(&fault),
+    }
+}
+
+fn condition_of(fault: &ValueFault) -> Result<Passed, AllocError>
+    ensures { IsRefused fault.now result }
+{
+    match fault {
+        ValueFault::Condition(state) => Ok(Passed::Condition(*state)),
+        ValueFault::Memory => Err(AllocError),
     }
 }
 

@@ -2,7 +2,7 @@
 ghost use Rattle.std.specs.Prelude.{◌≡◌, ◌+◌, ◌<◌, ◌≤◌, ◌++◌, [], All, IfSome, codes, length, slice_get};
 ghost use Rattle.psm_table.specs.Changing.{counting, ended, in_order, rows_pass, IsLegal};
 ghost use Rattle.psm_table.specs.Definition.{IsKey};
-ghost use Rattle.psm_table.specs.Table.{most_rows};
+ghost use Rattle.psm_table.specs.Table.{most_rows, IsTable};
 ghost use Rattle.psm_store.specs.Marks.{AnyMark, Keeps, most_marks};
 ghost use Rattle.psm_tablecode.specs.Codes.{over};
 ghost use Rattle.psm_dml.specs.Ends.{schema_of, Bears, Ends, Passes};
@@ -60,7 +60,8 @@ fn check(
 ) -> Result<(), DataFault>
     requires suits { SuitChecks checks.now table.now.contents.def }
     requires rows { All (IsWhole table.now.contents.def) rows.now }
-    ensures { Passes table.now.contents.def (rows_pass (over []) checks.now (in_order table.now.contents.def.key rows.now)) result }
+    ensures passes { Passes table.now.contents.def (rows_pass (over []) checks.now (in_order table.now.contents.def.key rows.now)) result }
+    ensures table { IsTable table.now.contents }
 {
     match judge(alloc, checks, table.def().key.items(), rows) {
         Ok(true) => Ok(()),

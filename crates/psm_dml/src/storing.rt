@@ -34,8 +34,9 @@ fn stored_row(alloc: Global, columns: &[Column], values: &[Datum]) -> Result<Row
     ensures { Gives (row_as_stored (kinds_of columns.now) values.now) result }
 {
     let mut stored = Vec::new(alloc);
-    for (at, column) in columns.iter().enumerate() {
-        stored.push(stored_value(alloc, column, &values[at])?)?;
+    for at in 0..columns.len() {
+        let value = stored_value(alloc, &columns[at], &values[at])?;
+        stored.push(value)?;
     }
     Ok(Row::of(stored))
 }
