@@ -1,11 +1,4 @@
 pub mod Answering
 pub mod Effects
-pub mod Finished
-pub mod Finishing
-pub mod Holding
-pub mod Judging
 pub mod Planned
-pub mod Putting
-pub mod Refusing
-pub mod Storings
 pub mod Walked

@@ -73,7 +73,7 @@ module _ (columns : List ℕ) where
     divide_step : (row : Row) (rows : List Row) (t : Result Truth SqlState) (m : Result Row SqlState) (w : Result (List Change) SqlState) (d : Result Division SqlState)
         → IsAscending columns (row ∷ rows) → ((cs : List Change) → w ≡ Ok cs → All (λ (c : Change). row_order columns c.key row ≡ Less) cs) → d ≡ mapped (as_division rows) w
         → and_then t (λ met. if is_met met then and_then m (λ new. mapped (with_made new) d) else mapped (with_left row) d)
-          ≡ mapped (as_division (row ∷ rows)) (and_then (and_then t (λ met. if is_met met then mapped (λ c. Some c) (mapped (λ new. record { key = values_at columns row; made = new }) m) else Ok None)) (λ a. mapped (λ more. cons_option a more) w))
+        ≡ mapped (as_division (row ∷ rows)) (and_then (and_then t (λ met. if is_met met then mapped (λ c. Some c) (mapped (λ new. record { key = values_at columns row; made = new }) m) else Ok None)) (λ a. mapped (λ more. cons_option a more) w))
     divide_step row rows (Ok True) (Ok new) (Ok cs) d up h e =
         ap (mapped (with_made new)) e
         ∙ ap (λ (l : List Row). Ok (record { left = l; made = new ∷ map (λ (c : Change). c.made) cs })) (ap (without_all columns (map (λ (c : Change). c.key) cs)) (sym (first_out row rows up)))

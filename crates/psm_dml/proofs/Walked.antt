@@ -94,7 +94,7 @@ module _ {A : Type 0} (test : List Datum → Result Truth SqlState) (take : List
 module _ {A B : Type 0} (test : List Datum → Result Truth SqlState) (take : List Datum → Result A SqlState) (f : A → B) where
   map_step : (row : List Datum) (t : Result Truth SqlState) (m : Result A SqlState) (w : Result (List A) SqlState) (v : Result (List B) SqlState) → v ≡ mapped (λ l. map f l) w
       → and_then (and_then t (λ met. if is_met met then mapped (λ b. Some b) (mapped f m) else Ok None)) (λ b. mapped (λ found. cons_option b found) v)
-        ≡ mapped (λ l. map f l) (and_then (and_then t (λ met. if is_met met then mapped (λ a. Some a) m else Ok None)) (λ a. mapped (λ found. cons_option a found) w))
+      ≡ mapped (λ l. map f l) (and_then (and_then t (λ met. if is_met met then mapped (λ a. Some a) m else Ok None)) (λ a. mapped (λ found. cons_option a found) w))
   map_step row (Ok True) (Ok a) (Ok found) v e = ap (mapped (λ found. f a ∷ found)) e
   map_step row (Ok True) (Ok a) (Err s) v e = ap (mapped (λ found. f a ∷ found)) e
   map_step row (Ok True) (Err s) w v e = refl

@@ -1,14 +1,12 @@
 -- How a statement on one table of a store ends.
-use Rattle.std.specs.Prelude.{◌≡◌, ℕ, Bool, true, false, List, codes, slice_set, Result, Ok, Err}
+use Rattle.std.specs.Prelude.{◌≡◌, ℕ, List, slice_set, Result, Ok, Err}
 use Rattle.psm_cond.specs.Condition.{Entries, alone}
 use Rattle.psm_cond.specs.Entry.{entry_of, name_text}
 use Rattle.psm_cond.specs.declared.fault.DataFault.{DataFault}
 use Rattle.psm_cond.specs.declared.fault.DataFault.TheVariants as fault
-use Rattle.psm_exprcode.specs.declared.op.Line.{Line}
-use Rattle.psm_sqlstate.specs.declared.state.SqlState.{SqlState}
 use Rattle.psm_value.specs.declared.datum.Datum.{Datum}
 use Rattle.psm_table.specs.declared.definition.TableDef.{TableDef}
-use Rattle.psm_table.specs.Changing.{Changed, Failure, OfTable, Raised, Schema}
+use Rattle.psm_table.specs.Changing.{Changed, Failure, OfTable, Raised}
 use Rattle.psm_table.specs.Table.{Contents}
 
 -- the condition is that of the SQLSTATE alone, and bears the name of the table where it is one of the table
@@ -20,27 +18,6 @@ IsOf def (OfTable state) condition = condition ≡ alone (record (entry_of state
 abbrev pub IsDue : {A : Type 0} → TableDef → Result A Failure → Entries → Type 0
 IsDue def (Ok a) condition = ⊥
 IsDue def (Err failure) condition = IsOf def failure condition
-
--- a table's definition, with CHECKs that are code
-abbrev pub schema_of : TableDef → List (List Line) → Schema (List Line)
-schema_of def checks = record { def = def; checks = checks }
-
--- the fault bears the SQLSTATE and the name of the table, but for want of memory
-abbrev pub Bears : List ℕ → TableDef → DataFault → Type 0
-Bears state def (fault.Raised condition) = IsOf def (OfTable state) condition
-Bears state def fault.Memory = Unit {0}
-
--- what is due where CHECKs come to that
-abbrev pub checked : Result Bool SqlState → Result (Unit {0}) Failure
-checked (Ok true) = Ok tt
-checked (Ok false) = Err (OfTable (codes "23000"))
-checked (Err state) = Err (Raised state)
-
--- the CHECKs hold, or the condition is the one that is due, but for want of memory
-abbrev pub Passes : TableDef → Result Bool SqlState → Result (Unit {0}) DataFault → Type 0
-Passes def passed (Ok u) = passed ≡ Ok true
-Passes def passed (Err (fault.Raised condition)) = IsDue def (checked passed) condition
-Passes def passed (Err fault.Memory) = Unit {0}
 
 -- A statement on table t, which was c, is due to leave some rows and to be about so many. It does; or it raises the condition
 -- that is due, or memory runs out, and then all tables are as before.

@@ -1,4 +1,3 @@
 pub mod Ends
-pub mod Judged
 pub mod Rows
 pub mod Suits

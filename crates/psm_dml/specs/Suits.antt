@@ -1,6 +1,5 @@
 -- When a statement may be carried out: its codes fit the table's columns and the variables.
-use Rattle.std.specs.Prelude.{true, List, [], Option, IsTrue}
-use Rattle.std.specs.List.{list_all}
+use Rattle.std.specs.Prelude.{true, List, Option, IsTrue}
 use Rattle.std.specs.Option.{option_map_or}
 use Rattle.psm_value.specs.declared.datum.Datum.{Datum}
 use Rattle.psm_exprcode.specs.declared.op.Letter.{Letter}
@@ -14,7 +13,3 @@ pub record SuitsTest (test : Option (List Line)) (vars : List Datum) (def : Tabl
   pub variables : List Letter
   pub kinds : IsTrue (are_of variables vars)
   pub fits : IsTrue (option_map_or (gives_truth (letters_of def) variables) test true)
-
--- CHECKs, which see the columns alone, end with truth values
-abbrev pub SuitChecks : List (List Line) → TableDef → Type 0
-SuitChecks checks def = IsTrue (list_all (gives_truth (letters_of def) []) checks)

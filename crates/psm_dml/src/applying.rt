@@ -1,15 +1,12 @@
 //! Changes of several rows of one table of a store, all of them or none.
-ghost use Rattle.std.specs.Prelude.{◌≡◌, ◌+◌, ◌<◌, ◌≤◌, ◌&&◌, not, true, IfOk, IfSome, OnErr, OnOk, All, length, slice_get};
-ghost use Rattle.psm_table.specs.Changing.{is_filled as is_row_filled};
+ghost use Rattle.std.specs.Prelude.{◌≡◌, ◌<◌, IfSome, OnErr, OnOk, All, length, slice_get};
 ghost use Rattle.psm_table.specs.Definition.{IsKey};
-ghost use Rattle.psm_table.specs.Table.{most_rows, with_row, without_row, IsTable};
-ghost use Rattle.psm_table.specs.Unique.{clashes};
+ghost use Rattle.psm_table.specs.Table.{without_row, IsTable};
 ghost use Rattle.psm_store.specs.Marks.{AnyMark, IsOutside, Keeps, defs_of, most_marks};
 ghost use Rattle.psm_store.specs.RowCalls.{changed_at};
-ghost use Rattle.psm_dml.specs.Rows.{changed_if, done_of, fit_in, fits_in, with_rows, without_keys, IsWhole};
+ghost use Rattle.psm_dml.specs.Rows.{without_keys};
 
-use crate::filling::is_filled;
-use psm_store::{Key, Mark, Row, RowFault, Steps, Store, Table};
+use psm_store::{Key, Mark, RowFault, Steps, Store, Table};
 use std::alloc::{AllocError, Global};
 use std::marker::Brand;
 use std::sync::ledger::{Blank, Ledger};
@@ -109,119 +106,4 @@ pub(crate) fn undo<S: Store, L: Ledger>(store: &mut S, mark: Mark, blank: Blank)
     let mut steps: Steps<L> = Steps::open(blank);
     store.rollback(mark, &mut steps);
     store.release(mark);
-}
-
-/// Takes the rows of some keys out of a table and puts rows in, if these keep the rules there. `false` comes exactly
-/// where one doesn't. Then, and where memory runs out, the tables are as before.
-pub(crate) fn replace_rows<S: Store>(
-    alloc: Global,
-    store: &mut S,
-    t: u32,
-    keys: &[Key],
-    rows: Vec<Row>,
-) -> Result<bool, AllocError>
-    requires exists { t < length (S.tables store.old) }
-    requires fit { IfSome (slice_get (S.tables store.old) t) (λ c. All (IsKey c.def) keys.now) }
-    requires rows { IfSome (slice_get (S.tables store.old) t) (λ c. All (IsWhole c.def) rows.items) }
-    requires few { IfSome (slice_get (S.tables store.old) t) (λ c. length (without_keys keys.now c).rows + length rows.items ≤ most_rows) }
-    requires room { S.marks store.old < most_marks }
-    ensures answer { IfSome (slice_get (S.tables store.old) t) (λ c. IfOk result (λ b. b ≡ fit_in rows.items (without_keys keys.now c))) }
-    ensures tables { S.tables store.new ≡ changed_if result (λ c. with_rows rows.items (without_keys keys.now c)) (S.tables store.old) t }
-    ensures marks { S.marks store.new ≡ S.marks store.old }
-    ensures keeps { Keeps AnyMark (S.holds store.old) (S.at store.old) (S.holds store.new) (S.at store.new) }
-{
-    let mark = store.mark(alloc)?;
-    let done = replace_each(alloc, store, t, keys, rows);
-    match done {
-        Ok(true) => store.release(mark),
-        _ => undo::<S, Brand>(store, mark, Blank::new(1)),
-    }
-    done
-}
-
-// The same without a mark: where a row doesn't keep the rules, those before it are in.
-fn replace_each<S: Store>(
-    alloc: Global,
-    store: &mut S,
-    t: u32,
-    keys: &[Key],
-    rows: Vec<Row>,
-) -> Result<bool, AllocError>
-    requires exists { t < length (S.tables store.old) }
-    requires fit { IfSome (slice_get (S.tables store.old) t) (λ c. All (IsKey c.def) keys.now) }
-    requires rows { IfSome (slice_get (S.tables store.old) t) (λ c. All (IsWhole c.def) rows.items) }
-    requires few { IfSome (slice_get (S.tables store.old) t) (λ c. length (without_keys keys.now c).rows + length rows.items ≤ most_rows) }
-    ensures answer { IfSome (slice_get (S.tables store.old) t) (λ c. IfOk result (λ b. b ≡ fit_in rows.items (without_keys keys.now c))) }
-    ensures tables { IfOk result (λ b. b ≡ true → S.tables store.new ≡ changed_at (λ c. with_rows rows.items (without_keys keys.now c)) (S.tables store.old) t) }
-    ensures marks { S.marks store.new ≡ S.marks store.old }
-    ensures keeps { Keeps AnyMark (S.holds store.old) (S.at store.old) (S.holds store.new) (S.at store.new) }
-{
-    erase_each(alloc, store, t, keys)?;
-    put_each(alloc, store, t, rows)
-}
-
-// Puts rows into a table one after another, until one doesn't keep the rules there.
-fn put_each<S: Store>(
-    alloc: Global,
-    store: &mut S,
-    t: u32,
-    rows: Vec<Row>,
-) -> Result<bool, AllocError>
-    requires exists { t < length (S.tables store.old) }
-    requires rows { IfSome (slice_get (S.tables store.old) t) (λ c. All (IsWhole c.def) rows.items) }
-    requires few { IfSome (slice_get (S.tables store.old) t) (λ c. length c.rows + length rows.items ≤ most_rows) }
-    ensures answer { IfSome (slice_get (S.tables store.old) t) (λ c. IfOk result (λ b. b ≡ fit_in rows.items c)) }
-    ensures tables { IfOk result (λ b. b ≡ true → S.tables store.new ≡ changed_at (with_rows rows.items) (S.tables store.old) t) }
-    ensures marks { S.marks store.new ≡ S.marks store.old }
-    ensures keeps { Keeps AnyMark (S.holds store.old) (S.at store.old) (S.holds store.new) (S.at store.new) }
-{
-    for row in rows {
-        if !put_row(alloc, store, t, row)? {
-            return Ok(false);
-        }
-    }
-    Ok(true)
-}
-
-/// Puts a row into a table, if it keeps the rules beside the others. `false` comes exactly where it doesn't. Then, and
-/// where memory runs out, nothing changes.
-pub(crate) fn put_row<S: Store>(
-    alloc: Global,
-    store: &mut S,
-    t: u32,
-    row: Row,
-) -> Result<bool, AllocError>
-    requires exists { t < length (S.tables store.old) }
-    requires row { IfSome (slice_get (S.tables store.old) t) (λ c. IsWhole c.def row) }
-    requires few { IfSome (slice_get (S.tables store.old) t) (λ c. length c.rows < most_rows) }
-    ensures answer { IfSome (slice_get (S.tables store.old) t) (λ c. IfOk result (λ b. b ≡ fits_in row c)) }
-    ensures tables { S.tables store.new ≡ changed_if result (λ c. with_row c row) (S.tables store.old) t }
-    ensures defs { defs_of (S.tables store.new) ≡ defs_of (S.tables store.old) }
-    ensures marks { S.marks store.new ≡ S.marks store.old }
-    ensures keeps { Keeps AnyMark (S.holds store.old) (S.at store.old) (S.holds store.new) (S.at store.new) }
-{
-    if !may_go_in(store.table(t), &row) {
-        return Ok(false);
-    }
-    let answer = store.insert(alloc, t, row);
-    is_done(answer)
-}
-
-// Whether a row was put in.
-fn is_done(answer: Result<(), RowFault>) -> Result<bool, AllocError>
-    ensures { result ≡ done_of answer }
-{
-    match answer {
-        Ok(()) => Ok(true),
-        Err(RowFault::Memory) => Err(AllocError),
-        Err(RowFault::Duplicate | RowFault::Absent | RowFault::Full) => Ok(false),
-    }
-}
-
-// Whether a row has no null where that is refused, and doesn't clash with one of another key.
-fn may_go_in(table: &Table, row: &Row) -> bool
-    requires { IsWhole table.now.contents.def row.now }
-    ensures { result ≡ (is_row_filled table.now.contents.def row.now && not (clashes table.now.contents.def row.now table.now.contents.rows)) }
-{
-    is_filled(table.def(), row.values()) && !table.clash(row)
 }

@@ -47,18 +47,13 @@ pub fn delete<S: Store>(
     Ok(keys.items().len() as u32)
 }
 
-/// Takes the row that has a key out of a table (DELETE WHERE CURRENT OF). Where memory runs out, the tables are as
-/// before.
+/// Takes the row that has a key out of a table (DELETE WHERE CURRENT OF, ISO/IEC 9075:1992, 13.6). A key without a row
+/// changes nothing. Where memory runs out, the tables are as before.
 ///
-/// The table has to be there, and a row has to have the key. Marks stay as they are.
-pub fn delete_at<S: Store>(
-    alloc: Global,
-    store: &mut S,
-    t: u32,
-    key: &Key,
-) -> Result<(), DataFault>
+/// The table has to be there. Marks stay as they are, and none is opened.
+pub fn delete_at<S: Store>(alloc: Global, store: &mut S, t: u32, key: &Key) -> Result<(), DataFault>
     requires exists { t < length (S.tables store.old) }
-    requires live { IfSome (slice_get (S.tables store.old) t) (λ c. IsKey c.def key.now) }
+    requires fits { IfSome (slice_get (S.tables store.old) t) (λ c. IsKey c.def key.now) }
     ensures ok { OnOk result (S.tables store.new ≡ changed_at (without_row key.now) (S.tables store.old) t) }
     ensures err { OnErr result (S.tables store.new ≡ S.tables store.old) }
     ensures marks { S.marks store.new ≡ S.marks store.old }

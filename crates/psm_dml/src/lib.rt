@@ -1,17 +1,10 @@
-//! INSERT, UPDATE and DELETE over the tables of a store (ISO/IEC 9075:1992, 13.6 to 13.10).
+//! DELETE over the tables of a store (ISO/IEC 9075:1992, 13.6 and 13.7).
 #![tactic(auto)]
 
 mod applying;
-mod checking;
-mod comparing;
 mod deleting;
-mod ending;
-mod filling;
 mod finding;
-mod inserting;
-mod storing;
 
 pub use deleting::{delete, delete_at};
-pub use inserting::insert;
 pub use psm_cond::DataFault;
 pub use psm_exprcode::ExprCode;
