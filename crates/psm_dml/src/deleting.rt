@@ -1,5 +1,5 @@
 //! DELETE (ISO/IEC 9075:1992, 13.6 and 13.7).
-ghost use Rattle.std.specs.Prelude.{◌≡◌, ◌<◌, IfSome, OnErr, OnOk, length, slice_get};
+ghost use Rattle.std.specs.Prelude.{◌≡◌, ◌<◌, IfErr, IfSome, OnErr, OnOk, length, slice_get};
 ghost use Rattle.std.specs.Option.{option_copied};
 ghost use Rattle.psm_table.specs.Changing.{deleted};
 ghost use Rattle.psm_table.specs.Definition.{IsKey};
@@ -55,6 +55,7 @@ pub fn delete_at<S: Store>(alloc: Global, store: &mut S, t: u32, key: &Key) -> R
     requires exists { t < length (S.tables store.old) }
     requires fits { IfSome (slice_get (S.tables store.old) t) (λ c. IsKey c.def key.now) }
     ensures ok { OnOk result (S.tables store.new ≡ changed_at (without_row key.now) (S.tables store.old) t) }
+    ensures fault { IfErr result (λ fault. fault ≡ DataFault.Memory) }
     ensures err { OnErr result (S.tables store.new ≡ S.tables store.old) }
     ensures marks { S.marks store.new ≡ S.marks store.old }
     ensures keeps { Keeps AnyMark (S.holds store.old) (S.at store.old) (S.holds store.new) (S.at store.new) }
