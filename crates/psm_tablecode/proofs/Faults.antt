@@ -1,5 +1,5 @@
 -- The answer of a statement whose evaluation fails.
-use Rattle.std.proofs.Common.{◌≡◌, sym, subst, Result, Err}
+use Rattle.std.proofs.Common.{sym, subst, Result, Err}
 use Rattle.psm_sqlstate.specs.declared.state.SqlState.{SqlState}
 use Rattle.psm_cond.specs.declared.fault.DataFault.{DataFault}
 use Rattle.psm_cond.specs.declared.fault.DataFault.TheVariants.{Raised, Memory}
