@@ -1,3 +1,4 @@
+pub mod Checks
 pub mod Counts
 pub mod Entered
 pub mod Filters
@@ -6,13 +7,16 @@ pub mod Holds
 pub mod Joined
 pub mod KeyLaws
 pub mod Keys
+pub mod Legal
 pub mod Lives
+pub mod Ordered
 pub mod Orders
 pub mod Pairs
 pub mod Places
 pub mod Prefixes
 pub mod Rivals
 pub mod RowOrders
+pub mod Rules
 pub mod Searches
 pub mod Tables
 pub mod Turns

@@ -31,16 +31,16 @@ module _ (columns : List ℕ) where
     abbrev Greaters : List Row → Type 0
     Greaters rows = All (λ r. row_order columns key r ≡ Greater) rows
 
-    after_equal : (x : Row) (xs : List Row) → IsAscending columns (x ∷ xs) → row_order columns key x ≡ Equal → Greaters xs
+    pub after_equal : (x : Row) (xs : List Row) → IsAscending columns (x ∷ xs) → row_order columns key x ≡ Equal → Greaters xs
     after_equal x xs up e k d l = greater_after_equal (values_at columns x) (values_at columns (get_or xs k d)) key (AllPairs-first Rises x xs up k d l) e
 
-    after_greater : (x : Row) (xs : List Row) → IsAscending columns (x ∷ xs) → row_order columns key x ≡ Greater → Greaters xs
+    pub after_greater : (x : Row) (xs : List Row) → IsAscending columns (x ∷ xs) → row_order columns key x ≡ Greater → Greaters xs
     after_greater x xs up e k d l = greater_after_greater (values_at columns x) (values_at columns (get_or xs k d)) key (AllPairs-first Rises x xs up k d l) e
 
-    none-below : (xs : List Row) → Greaters xs → rows_below columns key xs ≡ []
+    pub none-below : (xs : List Row) → Greaters xs → rows_below columns key xs ≡ []
     none-below xs g = filter-empty (λ r. is_lt (row_order columns key r)) xs (λ k d l. ap is_lt (g k d l))
 
-    all-above : (xs : List Row) → Greaters xs → rows_above columns key xs ≡ xs
+    pub all-above : (xs : List Row) → Greaters xs → rows_above columns key xs ≡ xs
     all-above xs g = filter-whole (λ r. is_gt (row_order columns key r)) xs (λ k d l. ap is_gt (g k d l))
 
     -- rows without and with a row of the key, put together again
@@ -54,7 +54,7 @@ module _ (columns : List ℕ) where
         let g = after_greater x xs up e in
         ap (λ l. l ++ x ∷ rows_above columns key xs) (none-below xs g) ∙ ap (λ l. x ∷ l) (all-above xs g)
 
-    whole : (rows : List Row) → IsAscending columns rows → row_with columns key rows ≡ None → rows_below columns key rows ++ rows_above columns key rows ≡ rows
+    pub whole : (rows : List Row) → IsAscending columns rows → row_with columns key rows ≡ None → rows_below columns key rows ++ rows_above columns key rows ≡ rows
     whole [] up n = refl
     whole (x ∷ xs) up n = whole-step x xs (row_order columns key x) up refl (whole xs (AllPairs-rest Rises x xs up)) n
 

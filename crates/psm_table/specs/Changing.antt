@@ -3,7 +3,7 @@
 use Rattle.std.specs.Prelude.{◌≡◌, Bool, true, false, ℕ, ◌+◌, List, [], ◌∷◌, ◌++◌, length, map, codes, nat_lt, not, ◌&&◌, Option, Some, None, Result, Ok, Err, slice_index_or, slice_set, if◌then◌else◌, zip}
 use Rattle.psm_sqlstate.specs.declared.state.SqlState.{SqlState}
 use Rattle.std.specs.List.{list_all}
-use Rattle.std.specs.Ordering.{is_le, is_eq}
+use Rattle.std.specs.Ordering.{is_le, is_eq, is_ne}
 use Rattle.psm_value.specs.Stored.{stored}
 use Rattle.psm_value.specs.declared.datum.Datum.{Datum}
 use Rattle.psm_value.specs.declared.datum.Datum.TheVariants.{Null}
@@ -11,9 +11,10 @@ use Rattle.psm_value.specs.declared.sqltype.SqlType.{SqlType}
 use Rattle.psm_value.specs.declared.truth.Truth.{Truth}
 use Rattle.psm_value.specs.declared.truth.Truth.TheVariants.{True, False, Unknown}
 use Rattle.psm_table.specs.Definition.{kinds_of}
-use Rattle.psm_table.specs.Evaluator.{Evaluator, and_then, mapped, test_of}
+use Rattle.psm_table.specs.Evaluator.{Evaluator, and_then, collected, mapped, test_of}
 use Rattle.psm_table.specs.Key.{values_at, key_order}
 use Rattle.psm_table.specs.Queries.{is_met}
+use Rattle.psm_table.specs.Rows.{without}
 use Rattle.psm_table.specs.Table.{most_rows}
 use Rattle.psm_table.specs.Unique.{conflict, is_null, has_null}
 use Rattle.psm_table.specs.declared.definition.Column.{Column}
@@ -106,6 +107,7 @@ abbrev pub ended_with : TableDef → List (List Datum) → Bool → Result (List
 ended_with def rows true = Ok rows
 ended_with def rows false = Err (OfTable (codes "23000"))
 
+-- the old rows among them stand before the new ones, so that they go first where keys are equal
 abbrev pub ended : {E : Type 0} → Evaluator E → Schema E → List (List Datum) → Result (List (List Datum)) Failure
 ended ev schema rows = if nat_lt most_rows (length rows) then Err (OfTable (codes "X0002"))
     else then_of (rows_pass ev schema.checks (in_order schema.def.key rows)) (λ ok. ended_with schema.def (in_order schema.def.key rows) (ok && keep_rules schema.def rows))
@@ -131,13 +133,13 @@ pub record SetItem (E : Type 0) : Type 0 where
 
 -- the new values of SET over an old row, all evaluated before the first is stored
 abbrev pub new_values : {E : Type 0} → Evaluator E → List (SetItem E) → List Datum → Result (List Datum) SqlState
-new_values ev [] row = Ok []
-new_values ev (s ∷ sets) row = and_then (ev.value s.source row) (λ v. mapped (λ vs. v ∷ vs) (new_values ev sets row))
+new_values ev sets row = collected (λ s. ev.value s.source row) sets
 
 -- the type of a column
 abbrev pub kind_of : TableDef → ℕ → SqlType
 kind_of def c = slice_index_or (kinds_of def.columns) c SqlType.SmallInt
 
+-- the row with the values stored in their columns, from the left
 abbrev pub with_values : {E : Type 0} → TableDef → List (SetItem E) → List Datum → List Datum → Result (List Datum) SqlState
 with_values def [] vs row = Ok row
 with_values def (s ∷ sets) [] row = Ok row
@@ -147,23 +149,51 @@ with_values def (s ∷ sets) (v ∷ vs) row = and_then (stored (kind_of def s.co
 abbrev pub set_row : {E : Type 0} → Evaluator E → TableDef → List (SetItem E) → List Datum → Result (List Datum) SqlState
 set_row ev def sets row = and_then (new_values ev sets row) (λ vs. with_values def sets vs row)
 
--- the rows with those that meet the test replaced, row by row, and how many these are
-abbrev pub replaced : {E : Type 0} → Evaluator E → Option E → (List Datum → Result (List Datum) SqlState) → List (List Datum) → Result Changed SqlState
-replaced ev test make [] = Ok (record { rows = []; count = 0 })
-replaced ev test make (row ∷ rows) = and_then (test_of ev test row) (λ met. if is_met met
-    then and_then (make row) (λ new. mapped (λ c. record { rows = new ∷ c.rows; count = c.count + 1 }) (replaced ev test make rows))
-    else mapped (λ c. record { rows = row ∷ c.rows; count = c.count }) (replaced ev test make rows))
+-- the rows that don't meet a test, and what is made of each that does
+pub record Division : Type 0 where
+  pub left : List (List Datum)
+  pub made : List (List Datum)
+
+abbrev pub with_left : List Datum → Division → Division
+with_left row p = record { left = row ∷ p.left; made = p.made }
+
+abbrev pub with_made : List Datum → Division → Division
+with_made row p = record { left = p.left; made = row ∷ p.made }
+
+-- row by row: the test, and then what is made of the row if it meets it
+abbrev pub divided : {E : Type 0} → Evaluator E → Option E → (List Datum → Result (List Datum) SqlState) → List (List Datum) → Result Division SqlState
+divided ev test make [] = Ok (record { left = []; made = [] })
+divided ev test make (row ∷ rows) = and_then (test_of ev test row) (λ met. if is_met met
+    then and_then (make row) (λ new. mapped (with_made new) (divided ev test make rows))
+    else mapped (with_left row) (divided ev test make rows))
 
 -- UPDATE of the rows that meet the test: all are evaluated over the old rows, in the order of their keys
 abbrev pub updated : {E : Type 0} → Evaluator E → Schema E → List (SetItem E) → Option E → List (List Datum) → Result Changed Failure
-updated ev schema sets test rows = then_of (replaced ev test (set_row ev schema.def sets) rows) (λ c. counting c.count (ended ev schema c.rows))
-
--- the rows that don't meet the test, and how many do
-abbrev pub kept : {E : Type 0} → Evaluator E → Option E → List (List Datum) → Result Changed SqlState
-kept ev test [] = Ok (record { rows = []; count = 0 })
-kept ev test (row ∷ rows) = and_then (test_of ev test row) (λ met. mapped (λ c. if is_met met
-    then record { rows = c.rows; count = c.count + 1 } else record { rows = row ∷ c.rows; count = c.count }) (kept ev test rows))
+updated ev schema sets test rows = then_of (divided ev test (set_row ev schema.def sets) rows) (λ p. counting (length p.made) (ended ev schema (p.left ++ p.made)))
 
 -- DELETE of the rows that meet the test: what is left keeps the rules that the table kept
 abbrev pub deleted : {E : Type 0} → Evaluator E → Option E → List (List Datum) → Result Changed Failure
-deleted ev test rows = then_of (kept ev test rows) (λ c. Ok c)
+deleted ev test rows = then_of (divided ev test (λ row. Ok row) rows) (λ p. Ok (record { rows = p.left; count = length p.made }))
+
+-- ---- positioned statements, of one row of the table
+
+-- the rows without one of them
+abbrev pub rows_but : TableDef → List Datum → List (List Datum) → List (List Datum)
+rows_but def row rows = without def.key (values_at def.key row) rows
+
+-- whether two rows have different keys
+abbrev pub has_moved : TableDef → List Datum → List Datum → Bool
+has_moved def old new = is_ne (key_order (values_at def.key old) (values_at def.key new))
+
+-- the rows that are left, and whether the row has another key now
+pub record Moved : Type 0 where
+  pub rows : List (List Datum)
+  pub moved : Bool
+
+abbrev pub moving : Bool → Result (List (List Datum)) Failure → Result Moved Failure
+moving b (Ok rows) = Ok (record { rows = rows; moved = b })
+moving b (Err failure) = Err failure
+
+-- UPDATE of the row
+abbrev pub updated_at : {E : Type 0} → Evaluator E → Schema E → List (SetItem E) → List Datum → List (List Datum) → Result Moved Failure
+updated_at ev schema sets row rows = then_of (set_row ev schema.def sets row) (λ new. moving (has_moved schema.def row new) (ended ev schema (rows_but schema.def row rows ++ new ∷ [])))

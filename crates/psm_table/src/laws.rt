@@ -1,7 +1,12 @@
 //! Laws of tables.
-ghost use Rattle.std.specs.Prelude.{◌≡◌, false, All, List, None, Some};
+ghost use Rattle.std.specs.Prelude.{◌≡◌, ◌&&◌, ◌∷◌, ◌++◌, [], ℕ, true, All, AllPairs, List, None, Option, Some, false};
+ghost use Rattle.std.specs.List.{list_all};
 ghost use Rattle.psm_value.specs.declared.datum.Datum.{Datum};
+ghost use Rattle.psm_table.specs.declared.definition.TableDef.{TableDef};
+ghost use Rattle.psm_table.specs.Changing.{are_apart, deleted, in_order, inserted, is_before, is_filled, keep_rules, rows_pass, updated, updated_at, Changed, IsLegal, Moved, Schema, SetItem};
+ghost use Rattle.psm_table.specs.Evaluator.{Evaluator};
 ghost use Rattle.psm_table.specs.Key.{values_at};
+ghost use Rattle.psm_table.specs.Rows.{put, row_with, IsAscending};
 ghost use Rattle.psm_table.specs.Table.{keyed, namesake, with_row, without_row, Contents, IsTable};
 ghost use Rattle.psm_table.specs.Unique.{clashes, AreUnique};
 
@@ -18,4 +23,28 @@ pub fn undo_laws()
     ensures inserted { (t : Contents) (row : List Datum) → IsTable t → namesake t row ≡ None → without_row (values_at t.def.key row) (with_row t row) ≡ t }
     ensures erased { (t : Contents) (key row : List Datum) → IsTable t → keyed t key ≡ Some row → with_row (without_row key t) row ≡ t }
     ensures changed { (t : Contents) (row was : List Datum) → IsTable t → namesake t row ≡ Some was → with_row (with_row t row) was ≡ t }
+{}
+
+/// What a statement has to look at on a table that is legal for its CHECKs (ISO/IEC 9075:1992, 11.7 to 11.9): the CHECKs of
+/// its new rows alone, in the order of their keys, and each new row against all others. Rows that it leaves alone
+/// add nothing. An expression is named by a number here, whatever it is.
+pub fn legal_rows_add_nothing()
+    ensures checks { (ev : Evaluator ℕ) (schema : Schema ℕ) (old new : List (List Datum)) → IsLegal ev schema old → rows_pass ev schema.checks (in_order schema.def.key (old ++ new)) ≡ rows_pass ev schema.checks (in_order schema.def.key new) }
+    ensures rules { (def : TableDef) (old : List (List Datum)) (row : List Datum) → keep_rules def old ≡ true → keep_rules def (old ++ row ∷ []) ≡ (is_filled def row && list_all (λ other. are_apart def other row) old) }
+{}
+
+/// The order of rows by their keys, nulls first: each row is before each later one, and rows of a table are in order.
+pub fn order_of_rows()
+    ensures ordered { (key : List ℕ) (rows : List (List Datum)) → AllPairs (λ a b. is_before key a b ≡ true) (in_order key rows) }
+    ensures ascending { (key : List ℕ) (rows : List (List Datum)) → IsAscending key rows → in_order key rows ≡ rows }
+    ensures last { (key : List ℕ) (rows : List (List Datum)) (row : List Datum) → IsAscending key rows → row_with key (values_at key row) rows ≡ None → in_order key (rows ++ row ∷ []) ≡ put key row rows }
+{}
+
+/// A statement that ended leaves the table legal for its CHECKs (ISO/IEC 9075:1992, 11.7 to 11.9): after INSERT and UPDATE
+/// whatever it was, after DELETE if it was so.
+pub fn statements_leave_legal_tables()
+    ensures inserted { (ev : Evaluator ℕ) (schema : Schema ℕ) (new rows : List (List Datum)) (c : Changed) → inserted ev schema new rows ≡ Ok c → IsLegal ev schema c.rows }
+    ensures updated { (ev : Evaluator ℕ) (schema : Schema ℕ) (sets : List (SetItem ℕ)) (test : Option ℕ) (rows : List (List Datum)) (c : Changed) → updated ev schema sets test rows ≡ Ok c → IsLegal ev schema c.rows }
+    ensures deleted { (ev : Evaluator ℕ) (schema : Schema ℕ) (test : Option ℕ) (rows : List (List Datum)) (c : Changed) → IsLegal ev schema rows → deleted ev test rows ≡ Ok c → IsLegal ev schema c.rows }
+    ensures updated_at { (ev : Evaluator ℕ) (schema : Schema ℕ) (sets : List (SetItem ℕ)) (row : List Datum) (rows : List (List Datum)) (m : Moved) → updated_at ev schema sets row rows ≡ Ok m → IsLegal ev schema m.rows }
 {}

@@ -16,7 +16,9 @@ mod table;
 pub use definition::{Column, TableDef};
 pub use fault::RowFault;
 pub use key::Key;
-pub use laws::{undo_laws, unique_laws};
+pub use laws::{
+    legal_rows_add_nothing, order_of_rows, statements_leave_legal_tables, undo_laws, unique_laws,
+};
 pub use psm_list::List;
 pub use psm_text::Name;
 pub use psm_value::{Datum, SqlType, Steps};

@@ -1,0 +1,118 @@
+-- What calls of a store do, one after another.
+use Rattle.std.proofs.Common.{◌≡◌, ℕ, zero, suc, ◌+◌, ◌<◌, ◌≤◌, List, [], ◌∷◌, ◌++◌, length, get_or, take, drop, refl, ap, sym, subst, ◌∙◌, arith, Option, Some, None, Result, Ok, Err}
+use Rattle.std.specs.Prelude.{All, IfSome, IsSome, option_map, slice_get, slice_set}
+use Rattle.std.proofs.Math.Seq.{take-suc}
+use Rattle.psm_value.specs.declared.datum.Datum.{Datum}
+use Rattle.psm_table.specs.declared.definition.TableDef.{TableDef}
+use Rattle.psm_table.specs.declared.fault.RowFault.{RowFault}
+use Rattle.psm_table.specs.Definition.{IsKey}
+use Rattle.psm_table.specs.Rows.{row_with, without, IsAscending}
+use Rattle.psm_table.specs.Table.{keyed, without_row, Contents, IsTable}
+use Rattle.psm_table.proofs.Undo.{whole}
+use Rattle.psm_store.specs.declared.store.Mark.{Mark}
+use Rattle.psm_store.specs.Marks.{defs_of, AnyMark, IsNewMark, IsOutside, Keeps}
+use Rattle.psm_store.specs.RowCalls.{after, changed_at, put_table}
+use Rattle.psm_store.proofs.Changes.{changed_twice, get-changed_at}
+use Rattle.psm_dml.specs.Rows.{without_all, without_keys}
+
+-- ---- one table of several
+
+-- changes that do the same to each table
+pub changed_alike : (f g : Contents → Contents) → ((c : Contents) → f c ≡ g c) → (tables : List Contents) (t : ℕ) → changed_at f tables t ≡ changed_at g tables t
+changed_alike f g h tables t = alike (slice_get tables t) where
+  alike : (o : Option Contents) → put_table tables t (option_map f o) ≡ put_table tables t (option_map g o)
+  alike None = refl
+  alike (Some c) = ap (λ x. slice_set tables t x) (h c)
+
+-- a change of the table that is there
+pub changed_is : (f : Contents → Contents) (tables : List Contents) (t : ℕ) (c : Contents) → slice_get tables t ≡ Some c → changed_at f tables t ≡ slice_set tables t (f c)
+changed_is f tables t c e = ap (λ o. put_table tables t (option_map f o)) e
+
+-- one that changes nothing
+set_same : (tables : List Contents) (t : ℕ) (c : Contents) → slice_get tables t ≡ Some c → slice_set tables t c ≡ tables
+set_same [] zero c e = refl
+set_same [] (suc t) c e = refl
+set_same (x ∷ xs) zero c e = let same : x ≡ c = cc in ap (λ y. y ∷ xs) (sym same)
+set_same (x ∷ xs) (suc t) c e = ap (λ l. x ∷ l) (set_same xs t c e)
+
+pub unchanged : (f : Contents → Contents) (tables : List Contents) (t : ℕ) (c : Contents) → slice_get tables t ≡ Some c → f c ≡ c → changed_at f tables t ≡ tables
+unchanged f tables t c e h = changed_is f tables t c e ∙ ap (λ x. slice_set tables t x) h ∙ set_same tables t c e
+
+-- the definition of a table stays
+def_step : (a b : List Contents) (t : ℕ) (c : Contents) → defs_of a ≡ defs_of b → slice_get a t ≡ Some c → (d : Contents) × (slice_get b t ≡ Some d) × (c.def ≡ d.def)
+def_step [] b t c e g = absurd (cc)
+def_step (x ∷ xs) [] t c e g = absurd (cc)
+def_step (x ∷ xs) (y ∷ ys) zero c e g =
+    let same : x.def ≡ y.def = cc in
+    let this : x ≡ c = cc in
+    (y, refl, ap (λ (z : Contents). z.def) (sym this) ∙ same)
+def_step (x ∷ xs) (y ∷ ys) (suc t) c e g = let rest : defs_of xs ≡ defs_of ys = cc in def_step xs ys t c rest g
+
+-- what was said of a table's definition still holds where the definitions stayed
+pub still : (P : TableDef → Type 0) (old new : List Contents) (t : ℕ) → defs_of new ≡ defs_of old → IfSome (slice_get old t) (λ c. P c.def) → IfSome (slice_get new t) (λ c. P c.def)
+still P old new t e h = found (slice_get new t) refl where
+  found : (o : Option Contents) → slice_get new t ≡ o → IfSome o (λ c. P c.def)
+  found None g = tt
+  found (Some c) g =
+      let d = def_step new old t c e g in
+      let p : P d.0.def = subst (λ o. IfSome o (λ x. P x.def)) d.1 h in
+      subst P (sym d.2) p
+
+pub length-defs : (old new : List Contents) → defs_of new ≡ defs_of old → length new ≡ length old
+length-defs [] [] e = refl
+length-defs [] (y ∷ ys) e = absurd (cc)
+length-defs (x ∷ xs) [] e = absurd (cc)
+length-defs (x ∷ xs) (y ∷ ys) e = let rest : defs_of ys ≡ defs_of xs = cc in ap suc (length-defs xs ys rest)
+
+-- ---- keys that are taken out
+
+-- a key without a row
+pub absent : (c : Contents) (key : List Datum) → IsTable c → keyed c key ≡ None → without_row key c ≡ c
+absent c key h n = ap (λ r. record c { rows = r }) (whole c.def.key key c.rows h.ascend n)
+
+without_last : (columns : List ℕ) (keys : List (List Datum)) (key : List Datum) (rows : List (List Datum)) → without_all columns (keys ++ key ∷ []) rows ≡ without columns key (without_all columns keys rows)
+without_last columns [] key rows = refl
+without_last columns (k ∷ keys) key rows = without_last columns keys key (without columns k rows)
+
+pub keys_last : (keys : List (List Datum)) (key : List Datum) (c : Contents) → without_keys (keys ++ key ∷ []) c ≡ without_row key (without_keys keys c)
+keys_last keys key c = ap (λ r. record c { rows = r }) (without_last c.def.key keys key c.rows)
+
+-- one more of them
+pub keys_next : (keys : List (List Datum)) (i : ℕ) (key : List Datum) (tables now new : List Contents) (t : ℕ) → i < length keys → key ≡ get_or keys i key
+    → now ≡ changed_at (without_keys (take i keys)) tables t → new ≡ changed_at (without_row key) now t → new ≡ changed_at (without_keys (take (i + 1) keys)) tables t
+keys_next keys i key tables now new t l e n m =
+    let later : i + 1 ≡ suc i = omega arith in
+    let longer : take (i + 1) keys ≡ take i keys ++ key ∷ [] = ap (λ k. take k keys) later ∙ take-suc keys i key l ∙ ap (λ k. take i keys ++ k ∷ []) (sym e) in
+    m ∙ ap (λ l. changed_at (without_row key) l t) n
+    ∙ changed_twice (without_keys (take i keys)) (without_row key) tables t
+    ∙ changed_alike (λ c. without_row key (without_keys (take i keys) c)) (without_keys (take (i + 1) keys)) (λ c. sym (ap (λ ks. without_keys ks c) longer ∙ keys_last (take i keys) key c)) tables t
+
+-- none yet
+pub keys_none : (tables : List Contents) (t : ℕ) → tables ≡ changed_at (without_keys []) tables t
+keys_none tables t = none (slice_get tables t) refl where
+  none : (o : Option Contents) → slice_get tables t ≡ o → tables ≡ put_table tables t (option_map (without_keys []) o)
+  none None e = refl
+  none (Some c) e = sym (set_same tables t c e)
+
+-- ---- marks
+
+module _ (holds_a holds_b holds_c : Mark → Type 0) (at_a at_b at_c : Mark → List Contents) where
+  pub keeps_on : (These : Mark → Type 0) → Keeps These holds_a at_a holds_b at_b → Keeps These holds_b at_b holds_c at_c → Keeps These holds_a at_a holds_c at_c
+  keeps_on These f g m h t = let p = f m h t in let q = g m p.0 t in (q.0, q.1 ∙ p.1)
+
+-- the calls between a new mark and where it is closed keep each mark that was held
+module _ (holds_a holds_b holds_c holds_d : Mark → Type 0) (at_a at_b at_c at_d : Mark → List Contents) (count : ℕ) (tables : List Contents) (mark : Mark) where
+  pub keeps_within : ((m : Mark) → holds_a m → m.depth < count) → IsNewMark count tables holds_a holds_b at_b mark → Keeps AnyMark holds_a at_a holds_b at_b → Keeps AnyMark holds_b at_b holds_c at_c
+      → Keeps (IsOutside mark) holds_c at_c holds_d at_d → Keeps AnyMark holds_a at_a holds_d at_d
+  keeps_within below new f g k m h t =
+      let p = f m h tt in
+      let q = g m p.0 tt in
+      let depth : m.depth < mark.depth = omega (arith, below m h, new.deepest) in
+      let r = k m q.0 (depth, new.last m h) in
+      (r.0, r.1 ∙ q.1 ∙ p.1)
+
+-- what is said of each of a list is said of one
+pub one_of : (P : TableDef → List Datum → Type 0) (o : Option Contents) (rows : List (List Datum)) (i : ℕ) (row : List Datum) → i < length rows → row ≡ get_or rows i row
+    → IfSome o (λ c. All (P c.def) rows) → IfSome o (λ c. P c.def row)
+one_of P None rows i row l e h = tt
+one_of P (Some c) rows i row l e h = subst (P c.def) (sym e) (h i row l)

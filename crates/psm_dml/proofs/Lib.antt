@@ -1,0 +1,4 @@
+pub mod Answering
+pub mod Effects
+pub mod Planned
+pub mod Walked

@@ -1,0 +1,14 @@
+use Rattle.psm_table.proofs.Legal.{legal_deleted, legal_inserted, legal_updated, legal_updated_at}
+use Rattle.psm_table.proofs.laws.statements_leave_legal_tables.Goals as goal
+
+pub returns-clause-inserted : goal.returns-clause-inserted
+returns-clause-inserted c = legal_inserted
+
+pub returns-clause-updated : goal.returns-clause-updated
+returns-clause-updated c = legal_updated
+
+pub returns-clause-deleted : goal.returns-clause-deleted
+returns-clause-deleted c = legal_deleted
+
+pub returns-clause-updated_at : goal.returns-clause-updated_at
+returns-clause-updated_at c = legal_updated_at
