@@ -26,7 +26,7 @@ pub fn made(alloc: Global, row: &mut Row<'_>) -> Result<String, Fault> {
         Ok(others) => others,
         Err(fault) => return refused(alloc, fault),
     };
-    match Condition::new(first, List::of(others), true) {
+    match Condition::try_new(first, List::of(others), true) {
         Some(condition) => Ok(format!(in alloc; "{} entries", condition.count())?),
         None => Ok(String::from_str(alloc, "none")?),
     }

@@ -42,7 +42,7 @@ impl Model for Condition {
 impl Condition {
     /// The condition of these entries; `more` tells that others were dropped. `None` comes exactly where there
     /// are more than three behind the first one.
-    pub fn new(first: Entry, others: List<Entry>, more: bool) -> Option<Condition>
+    pub fn try_new(first: Entry, others: List<Entry>, more: bool) -> Option<Condition>
         ensures { SomeIff result (length others ≤ 3) (record { first = first; others = others; more = more }) }
     {
         if others.items().len() > MOST_OTHERS {
