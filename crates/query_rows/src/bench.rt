@@ -24,7 +24,7 @@ pub fn put<S: Store>(alloc: Global, store: &mut S, row: Row) -> Result<String, F
 }
 
 /// The answer of a query, or the SQLSTATE of the condition that it raises, if it fits the table and the variables.
-#[tactic(auto, using(crate::proofs::Benches::table_is_there, crate::proofs::Benches::query_suits))]
+#[tactic(auto, using(crate::proofs::Benches::table_is_there))]
 pub fn asked<S: Store>(alloc: Global, store: &S, query: &Query) -> Result<String, Fault>
     requires bench { IsBench (defs_of (S.tables store.now)) }
     requires table { query.now.table ≡ 0 }

@@ -11,7 +11,6 @@ use psm_value::{Datum, Dec};
 use std::alloc::Global;
 
 /// The row of a number, a name and an amount.
-#[tactic(auto, using(crate::proofs::Benches::row_of_items))]
 pub fn row(alloc: Global, words: &str) -> Result<Row, Fault>
     ensures { IfOk result IsItemsRow }
 {
