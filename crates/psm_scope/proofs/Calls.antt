@@ -17,7 +17,7 @@ abbrev pub behind : List Signature → List ℕ → List ArgKind → Option ℕ 
 behind routines name args None = candidates 0 name args routines
 behind routines name args (Some k) = candidates (suc k) name args (drop (suc k) routines)
 
-dropped : {A : Type 0} (xs : List A) (x : A) (k : ℕ) → slice_get xs k ≡ Some x → drop k xs ≡ x ∷ drop (suc k) xs
+pub dropped : {A : Type 0} (xs : List A) (x : A) (k : ℕ) → slice_get xs k ≡ Some x → drop k xs ≡ x ∷ drop (suc k) xs
 dropped [] x k e = cc
 dropped (y ∷ ys) x zero e = let h : y ≡ x = cc in ap (λ y. y ∷ ys) h
 dropped (y ∷ ys) x (suc k) e = dropped ys x k e

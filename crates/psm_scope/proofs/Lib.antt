@@ -1,3 +1,5 @@
 pub mod Calls
+pub mod Inward
 pub mod Linked
+pub mod Named
 pub mod Narrowing

@@ -1,5 +1,5 @@
 -- What a name means at a place.
-use Rattle.std.specs.Prelude.{ℕ, suc, Bool, true, false, ◌||◌, Option, Some, None, List, [], ◌∷◌, if◌then◌else◌}
+use Rattle.std.specs.Prelude.{ℕ, suc, Bool, true, false, ◌&&◌, ◌||◌, Option, Some, None, List, [], ◌∷◌, if◌then◌else◌}
 use Rattle.psm_scope.specs.Frames.{Spelling, is_spelled, declared_in, Frame, Routine, Compound, Loop, For, Action}
 
 -- ---- among names
@@ -39,11 +39,11 @@ abbrev pub is_label : Spelling → Option Spelling → Bool
 is_label l None = false
 is_label l (Some label) = is_spelled l label
 
--- the labels that are seen, innermost first, each with whether it is a loop's; an action sees none from outside
 abbrev pub seen_label : Bool → Option Spelling → List (Spelling × Bool) → List (Spelling × Bool)
 seen_label loops None more = more
 seen_label loops (Some label) more = (label, loops) ∷ more
 
+-- the labels that are seen, innermost first, each with whether it is a loop's; an action sees none from outside
 abbrev pub labels : {V C K : Type 0} → List (Frame V C K) → List (Spelling × Bool)
 labels [] = []
 labels (Routine name d ∷ outer) = labels outer
@@ -55,14 +55,24 @@ labels (Action ∷ outer) = []
 -- ---- qualified names: q is the label of a compound statement, the name of a FOR statement or of the routine. In an action
 -- the labels outside it aren't seen, but those names are. The innermost that is called q decides.
 
+abbrev pub is_called : {V C K : Type 0} → Bool → Spelling → Frame V C K → Bool
+is_called sees q (Routine name d) = is_spelled q name
+is_called sees q (Compound label d) = sees && is_label q label
+is_called sees q (Loop label) = false
+is_called sees q (For label name d) = is_spelled q name
+is_called sees q Action = false
+
+-- whether the labels outside a frame are seen
+abbrev pub sees_past : {V C K : Type 0} → Bool → Frame V C K → Bool
+sees_past sees (Routine name d) = sees
+sees_past sees (Compound label d) = sees
+sees_past sees (Loop label) = sees
+sees_past sees (For label name d) = sees
+sees_past sees Action = false
+
 abbrev pub variables_called : {V C K : Type 0} → Bool → Spelling → List (Frame V C K) → Option (List (Spelling × V))
 variables_called sees q [] = None
-variables_called sees q (Routine name d ∷ outer) = if is_spelled q name then Some d.variables else variables_called sees q outer
-variables_called true q (Compound label d ∷ outer) = if is_label q label then Some d.variables else variables_called true q outer
-variables_called false q (Compound label d ∷ outer) = variables_called false q outer
-variables_called sees q (Loop label ∷ outer) = variables_called sees q outer
-variables_called sees q (For label name d ∷ outer) = if is_spelled q name then Some d.variables else variables_called sees q outer
-variables_called sees q (Action ∷ outer) = variables_called false q outer
+variables_called sees q (f ∷ outer) = if is_called sees q f then Some (declared_in f).variables else variables_called (sees_past sees f) q outer
 
 abbrev pub named_among : {A : Type 0} → Spelling → Option (List (Spelling × A)) → Option A
 named_among n None = None

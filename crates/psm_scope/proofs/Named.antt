@@ -1,0 +1,106 @@
+-- Names found by a map.
+use Rattle.std.proofs.Common.{◌≡◌, ℕ, suc, ◌+◌, Bool, true, false, cond, not, nat_lt, is_some, true≢false, length, map, position, List, [], ◌∷◌, ◌++◌, refl, ap, sym, ◌∙◌, arith}
+use Rattle.std.specs.Prelude.{Option, Some, None, if◌then◌else◌}
+use Rattle.std.specs.Map.{lookup, keys_of}
+use Rattle.std.specs.Option.{option_map}
+use Rattle.std.specs.List.{position_or_len}
+use Rattle.std.proofs.lemmas.Bool.Decides.{nat_tests}
+use Rattle.psm_scope.specs.declared.key.NameKey.{NameKey}
+use Rattle.psm_scope.specs.Frames.{Spelling, is_spelled}
+use Rattle.psm_scope.specs.Lookup.{named, place_named}
+use Rattle.psm_scope.specs.Names.{spelled}
+
+abbrev pub is_key : Spelling → NameKey → Bool
+is_key n k = is_spelled n k.name.now
+
+pub looked_up : {A : Type 0} (n : Spelling) (es : List (NameKey × A)) → lookup (is_key n) es ≡ named n (map spelled es)
+looked_up n [] = refl
+looked_up n (e ∷ es) = ap (λ o. if is_key n e.0 then Some e.1 else o) (looked_up n es)
+
+pub map_last : {A B : Type 0} (f : A → B) (xs : List A) (x : A) → map f (xs ++ x ∷ []) ≡ map f xs ++ f x ∷ []
+map_last f [] x = refl
+map_last f (y ∷ ys) x = ap (λ l. f y ∷ l) (map_last f ys x)
+
+-- ---- places
+
+position_more : {A : Type 0} (p : A → Bool) (x : A) (xs : List A) → position p (x ∷ xs) ≡ (if p x then Some 0 else option_map suc (position p xs))
+position_more p x xs = by (p x)
+  where
+    n : ℕ
+    n = position_or_len p xs
+
+    shifted : (b : Bool) → cond b (Some (1 + n)) None ≡ option_map suc (cond b (Some n) None)
+    shifted true = let e : 1 + n ≡ suc n = omega arith in ap Some e
+    shifted false = refl
+
+    by : (b : Bool)
+        → cond (nat_lt (if not b then 1 + n else 0) (suc (length xs))) (Some (if not b then 1 + n else 0)) None ≡ (if b then Some 0 else option_map suc (position p xs))
+    by true = let t : nat_lt 0 (suc (length xs)) ≡ true = grind (arith, nat_tests) in ap (λ b. cond b (Some 0) None) t
+    by false =
+        let t : nat_lt (1 + n) (suc (length xs)) ≡ nat_lt n (length xs) = grind (arith, nat_tests) in
+        ap (λ b. cond b (Some (1 + n)) None) t ∙ shifted (nat_lt n (length xs))
+
+abbrev pub both : {A : Type 0} → ℕ → Option ℕ → Option A → Option (ℕ × A)
+both i None x = None
+both i (Some k) None = None
+both i (Some k) (Some x) = Some (i + k, x)
+
+both_suc : {A : Type 0} (i : ℕ) (k : Option ℕ) (x : Option A) → both (suc i) k x ≡ both i (option_map suc k) x
+both_suc i None x = refl
+both_suc i (Some k) None = refl
+both_suc {A} i (Some k) (Some x) = let e : suc i + k ≡ i + suc k = omega arith in ap {B = Option (ℕ × A)} (λ n. Some (n, x)) e
+
+pub placed : {A : Type 0} (i : ℕ) (n : Spelling) (es : List (NameKey × A))
+    → place_named i n (map spelled es) ≡ both i (position (is_key n) (keys_of es)) (lookup (is_key n) es)
+placed i n [] = refl
+placed {A} i n (e ∷ es) =
+    by (is_key n e.0) (placed (suc i) n es ∙ both_suc i (position (is_key n) (keys_of es)) (lookup (is_key n) es))
+    ∙ ap (λ k. both i k (if is_key n e.0 then Some e.1 else lookup (is_key n) es)) (sym (position_more (is_key n) e.0 (keys_of es)))
+  where
+    by : (b : Bool) → place_named (suc i) n (map spelled es) ≡ both i (option_map suc (position (is_key n) (keys_of es))) (lookup (is_key n) es)
+        → ◌≡◌ {A = Option (ℕ × A)} (if b then Some (i, e.1) else place_named (suc i) n (map spelled es))
+        (both i (if b then Some 0 else option_map suc (position (is_key n) (keys_of es))) (if b then Some e.1 else lookup (is_key n) es))
+    by true rec = let z : i ≡ i + 0 = omega arith in ap {B = Option (ℕ × A)} (λ n. Some (n, e.1)) z
+    by false rec = rec
+
+module _ {A : Type 0} (n : Spelling) (es : List (NameKey × A)) (known : List (Spelling × A)) (view : map spelled es ≡ known) where
+  pub get_named : (r : Option A) → r ≡ lookup (is_key n) es → r ≡ named n known
+  get_named r e = e ∙ looked_up n es ∙ ap (λ l. named n l) view
+
+  pub is_there : is_some (lookup (is_key n) es) ≡ true → is_some (named n known) ≡ true
+  is_there e = ap is_some (sym (looked_up n es ∙ ap (λ l. named n l) view)) ∙ e
+
+  pub looked_none : is_some (lookup (is_key n) es) ≡ false → lookup (is_key n) es ≡ None
+  looked_none e = none (lookup (is_key n) es) e
+    where
+      none : (o : Option A) → is_some o ≡ false → o ≡ None
+      none None e = refl
+      none (Some x) e = absurd (true≢false e)
+
+  pub is_new : lookup (is_key n) es ≡ None → named n known ≡ None
+  is_new e = sym (looked_up n es ∙ ap (λ l. named n l) view) ∙ e
+
+  pub place_absent : None ≡ position (is_key n) (keys_of es) → ◌≡◌ {A = Option (ℕ × A)} None (place_named 0 n known)
+  place_absent e = ap {B = Option (ℕ × A)} (λ k. both 0 k (lookup (is_key n) es)) e ∙ sym (placed 0 n es) ∙ ap (λ l. place_named 0 n l) view
+
+  pub place_present : (k : ℕ) (x : A) → Some k ≡ position (is_key n) (keys_of es) → Some x ≡ lookup (is_key n) es → ◌≡◌ {A = Option (ℕ × A)} (Some (k, x)) (place_named 0 n known)
+  place_present k x e f =
+      let z : k ≡ 0 + k = omega arith in
+      ap {B = Option (ℕ × A)} (λ k. Some (k, x)) z
+      ∙ ap {B = Option (ℕ × A)} (λ k. both 0 k (Some x)) e
+      ∙ ap {B = Option (ℕ × A)} (λ x. both 0 (position (is_key n) (keys_of es)) x) f
+      ∙ sym (placed 0 n es) ∙ ap (λ l. place_named 0 n l) view
+
+  pub place_only : (k : ℕ) → Some k ≡ position (is_key n) (keys_of es) → is_some (lookup (is_key n) es) ≡ true → Some k ≡ option_map {T = ℕ × A} {U = ℕ} (λ p. p.0) (place_named 0 n known)
+  place_only k e f =
+      first (lookup (is_key n) es) f
+      ∙ ap (λ k. option_map {T = ℕ × A} {U = ℕ} (λ p. p.0) (both 0 k (lookup (is_key n) es))) e
+      ∙ ap (option_map {T = ℕ × A} {U = ℕ} (λ p. p.0)) (sym (placed 0 n es) ∙ ap (λ l. place_named 0 n l) view)
+    where
+      first : (o : Option A) → is_some o ≡ true → Some k ≡ option_map {T = ℕ × A} {U = ℕ} (λ p. p.0) (both 0 (Some k) o)
+      first None e = absurd (true≢false (sym e))
+      first (Some x) e = let z : k ≡ 0 + k = omega arith in ap Some z
+
+pub last_named : {A : Type 0} (es : List (NameKey × A)) (new : List (NameKey × A)) (known : List (Spelling × A)) (k : NameKey) (x : A) → map spelled es ≡ known
+    → new ≡ es ++ (k, x) ∷ [] → map spelled new ≡ known ++ (k.name.now, x) ∷ []
+last_named {A} es new known k x view e = ap (map spelled) e ∙ map_last spelled es (k, x) ∙ ap (λ l. l ++ (k.name.now, x) ∷ []) view
