@@ -37,6 +37,24 @@ impl<'a, T> Names<'a, T> {
         }
     }
 
+    /// How many names there are.
+    pub fn len(&self) -> u32
+        ensures { result ≡ length self.now }
+    {
+        self.known.len() as u32
+    }
+
+    /// The name in a place.
+    pub fn name(&self, place: u32) -> &'a Name
+        requires { place < length self.now }
+        ensures { option_map (λ p. p.0) (slice_get self.now place) ≡ Some result.now }
+    {
+        match self.known.get_index(place as usize) {
+            None => unreachable!(),
+            Some((key, _)) => key.name,
+        }
+    }
+
     /// The place of a name, counted from 0.
     pub fn place(&self, name: &Name) -> Option<u32>
         ensures { result ≡ option_map (λ p. p.0) (place_named 0 name.now self.now) }
