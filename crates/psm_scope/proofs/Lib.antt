@@ -1,5 +1,7 @@
 pub mod Calls
+pub mod Headed
 pub mod Inward
+pub mod Least
 pub mod Linked
 pub mod Named
 pub mod Narrowing

@@ -1,9 +1,10 @@
 -- Names found by a map.
-use Rattle.std.proofs.Common.{◌≡◌, ℕ, suc, ◌+◌, Bool, true, false, cond, not, nat_lt, is_some, true≢false, length, map, position, List, [], ◌∷◌, ◌++◌, refl, ap, sym, ◌∙◌, arith}
-use Rattle.std.specs.Prelude.{Option, Some, None, if◌then◌else◌}
+use Rattle.std.proofs.Common.{◌≡◌, ℕ, suc, ◌+◌, Bool, true, false, cond, not, nat_lt, is_some, true≢false, length, map, position, List, [], ◌∷◌, ◌++◌, refl, ap, sym, ◌∙◌, arith, ◌<◌}
+use Rattle.std.specs.Prelude.{Option, Some, None, slice_get, if◌then◌else◌}
 use Rattle.std.specs.Map.{lookup, keys_of}
 use Rattle.std.specs.Option.{option_map}
 use Rattle.std.specs.List.{position_or_len}
+use Rattle.std.proofs.lemmas.Option.{some_pair_parts}
 use Rattle.std.proofs.lemmas.Bool.Decides.{nat_tests}
 use Rattle.psm_scope.specs.declared.key.NameKey.{NameKey}
 use Rattle.psm_scope.specs.Frames.{Spelling, is_spelled}
@@ -20,6 +21,10 @@ looked_up n (e ∷ es) = ap (λ o. if is_key n e.0 then Some e.1 else o) (looked
 pub map_last : {A B : Type 0} (f : A → B) (xs : List A) (x : A) → map f (xs ++ x ∷ []) ≡ map f xs ++ f x ∷ []
 map_last f [] x = refl
 map_last f (y ∷ ys) x = ap (λ l. f y ∷ l) (map_last f ys x)
+
+pub is_none : {A : Type 0} (o : Option A) → is_some o ≡ false → o ≡ None
+is_none None e = refl
+is_none (Some x) e = absurd (true≢false e)
 
 -- ---- places
 
@@ -67,15 +72,11 @@ module _ {A : Type 0} (n : Spelling) (es : List (NameKey × A)) (known : List (S
   pub get_named : (r : Option A) → r ≡ lookup (is_key n) es → r ≡ named n known
   get_named r e = e ∙ looked_up n es ∙ ap (λ l. named n l) view
 
-  pub is_there : is_some (lookup (is_key n) es) ≡ true → is_some (named n known) ≡ true
-  is_there e = ap is_some (sym (looked_up n es ∙ ap (λ l. named n l) view)) ∙ e
+  pub is_there : true ≡ is_some (lookup (is_key n) es) → is_some (named n known) ≡ true
+  is_there e = ap is_some (sym (looked_up n es ∙ ap (λ l. named n l) view)) ∙ sym e
 
-  pub looked_none : is_some (lookup (is_key n) es) ≡ false → lookup (is_key n) es ≡ None
-  looked_none e = none (lookup (is_key n) es) e
-    where
-      none : (o : Option A) → is_some o ≡ false → o ≡ None
-      none None e = refl
-      none (Some x) e = absurd (true≢false e)
+  pub looked_none : false ≡ is_some (lookup (is_key n) es) → lookup (is_key n) es ≡ None
+  looked_none e = is_none (lookup (is_key n) es) (sym e)
 
   pub is_new : lookup (is_key n) es ≡ None → named n known ≡ None
   is_new e = sym (looked_up n es ∙ ap (λ l. named n l) view) ∙ e
@@ -104,3 +105,50 @@ module _ {A : Type 0} (n : Spelling) (es : List (NameKey × A)) (known : List (S
 pub last_named : {A : Type 0} (es : List (NameKey × A)) (new : List (NameKey × A)) (known : List (Spelling × A)) (k : NameKey) (x : A) → map spelled es ≡ known
     → new ≡ es ++ (k, x) ∷ [] → map spelled new ≡ known ++ (k.name.now, x) ∷ []
 last_named {A} es new known k x view e = ap (map spelled) e ∙ map_last spelled es (k, x) ∙ ap (λ l. l ++ (k.name.now, x) ∷ []) view
+
+-- ---- the name in a place
+
+numbered : {A : Type 0} (k : ℕ) (o : Option (ℕ × A)) → Some k ≡ option_map {T = ℕ × A} {U = ℕ} (λ p. p.0) o → (x : A) × ◌≡◌ {A = Option (ℕ × A)} o (Some (k, x))
+numbered k None e = cc
+numbered {A} k (Some p) e = let h : p.0 ≡ k = cc in (p.1, ap {B = Option (ℕ × A)} (λ k. Some (k, p.1)) h)
+
+record Placed {A : Type 0} (i k : ℕ) (x : A) (xs : List (Spelling × A)) : Type 0 where
+  behind : ℕ
+  sum : k ≡ i + behind
+  within : behind < length xs
+  known : option_map {T = Spelling × A} {U = A} (λ p. p.1) (slice_get xs behind) ≡ Some x
+
+place_there : {A : Type 0} (i : ℕ) (n : Spelling) (xs : List (Spelling × A)) (k : ℕ) (x : A) → ◌≡◌ {A = Option (ℕ × A)} (place_named i n xs) (Some (k, x)) → Placed i k x xs
+place_there i n [] k x e = cc
+place_there {A} i n (p ∷ more) k x e = by (is_spelled n p.0) e (λ e. place_there (suc i) n more k x e)
+  where
+    by : (b : Bool) → ◌≡◌ {A = Option (ℕ × A)} (if b then Some (i, p.1) else place_named (suc i) n more) (Some (k, x))
+        → (◌≡◌ {A = Option (ℕ × A)} (place_named (suc i) n more) (Some (k, x)) → Placed (suc i) k x more) → Placed i k x (p ∷ more)
+    by true e rec =
+        let same = some_pair_parts i k p.1 x e in
+        let first : i ≡ k = same.0 in
+        record { behind = 0; sum = omega (arith, first); within = omega arith; known = ap Some same.1 }
+    by false e rec =
+        let r = rec e in
+        let s : k ≡ suc i + r.behind = r.sum in
+        let w : r.behind < length more = r.within in
+        record { behind = suc r.behind; sum = omega (arith, s); within = omega (arith, w); known = r.known }
+
+module _ {A : Type 0} (n : Spelling) (xs : List (Spelling × A)) (k : ℕ) (e : Some k ≡ option_map {T = ℕ × A} {U = ℕ} (λ p. p.0) (place_named 0 n xs)) where
+  pub place_within : k < length xs
+  place_within =
+      let f = numbered k (place_named 0 n xs) e in
+      let r = place_there 0 n xs k f.0 f.1 in
+      let s : k ≡ 0 + r.behind = r.sum in
+      let w : r.behind < length xs = r.within in
+      omega (arith, s, w)
+
+  pub place_known : (x : A) → option_map {T = Spelling × A} {U = A} (λ p. p.1) (slice_get xs k) ≡ Some x → ◌≡◌ {A = Option (ℕ × A)} (Some (k, x)) (place_named 0 n xs)
+  place_known x g =
+      let f = numbered k (place_named 0 n xs) e in
+      let r = place_there 0 n xs k f.0 f.1 in
+      let s : k ≡ 0 + r.behind = r.sum in
+      let j : r.behind ≡ k = omega (arith, s) in
+      let both : Some f.0 ≡ Some x = sym r.known ∙ ap (λ j. option_map {T = Spelling × A} {U = A} (λ p. p.1) (slice_get xs j)) j ∙ g in
+      let same : x ≡ f.0 = cc in
+      ap {B = Option (ℕ × A)} (λ x. Some (k, x)) same ∙ sym f.1

@@ -14,7 +14,7 @@ use Rattle.psm_scope.specs.Pass.{order, joined, added}
 
 -- ---- facts of each of a list
 
-abbrev Each : (Candidate → Type 0) → List Candidate → Type 0
+abbrev pub Each : (Candidate → Type 0) → List Candidate → Type 0
 Each P [] = Unit {0}
 Each P (c ∷ cs) = P c × Each P cs
 
@@ -26,13 +26,13 @@ each_kept : (P Q : Candidate → Type 0) (p : Candidate → Bool) → ((c : Cand
 each_kept P Q p h [] e = tt
 each_kept P Q p h (c ∷ cs) e = each_one P c (filter p cs) (p c) (λ is. h c e.0 is) (each_kept P Q p h cs e.1)
 
-each_map : (P Q : Candidate → Type 0) → ((c : Candidate) → P c → Q c) → (cs : List Candidate) → Each P cs → Each Q cs
+pub each_map : (P Q : Candidate → Type 0) → ((c : Candidate) → P c → Q c) → (cs : List Candidate) → Each P cs → Each Q cs
 each_map P Q h [] e = tt
 each_map P Q h (c ∷ cs) e = (h c e.0, each_map P Q h cs e.1)
 
 -- ---- the lowest rank in a place; a rank is at most 2
 
-abbrev least : ℕ → List Candidate → ℕ
+abbrev pub least : ℕ → List Candidate → ℕ
 least place [] = 2
 least place (c ∷ cs) = min (rank_in place c) (least place cs)
 
@@ -44,24 +44,24 @@ rank_small Char = omega arith
 rank_small VarChar = omega arith
 rank_small Null = omega arith
 
-rank_in_small : (place : ℕ) (c : Candidate) → rank_in place c ≤ 2
+pub rank_in_small : (place : ℕ) (c : Candidate) → rank_in place c ≤ 2
 rank_in_small place c = rank_small _
 
 both_least : (n r l : ℕ) (b : Bool) → b ≡ nat_le n l → (nat_le n r && b) ≡ nat_le n (min r l)
 both_least n r l b e = grind (arith, nat_tests, e)
 
-all_least : (place n : ℕ) (cs : List Candidate) → n ≤ 2 → list_all (λ d. nat_le n (rank_in place d)) cs ≡ nat_le n (least place cs)
+pub all_least : (place n : ℕ) (cs : List Candidate) → n ≤ 2 → list_all (λ d. nat_le n (rank_in place d)) cs ≡ nat_le n (least place cs)
 all_least place n [] h = grind (arith, nat_tests, h)
 all_least place n (c ∷ cs) h = both_least n (rank_in place c) (least place cs) (list_all (λ d. nat_le n (rank_in place d)) cs) (all_least place n cs h)
 
 -- those whose rank in a place is at most n
-abbrev upto : ℕ → ℕ → List Candidate → List Candidate
+abbrev pub upto : ℕ → ℕ → List Candidate → List Candidate
 upto place n cs = filter (λ c. nat_le (rank_in place c) n) cs
 
-lowest_is : (place : ℕ) (cs : List Candidate) → lowest place cs ≡ upto place (least place cs) cs
+pub lowest_is : (place : ℕ) (cs : List Candidate) → lowest place cs ≡ upto place (least place cs) cs
 lowest_is place cs = λ i. filter (λ c. all_least place (rank_in place c) cs (rank_in_small place c) i) cs
 
-above_least : (place : ℕ) (cs : List Candidate) → Each (λ c. least place cs ≤ rank_in place c) cs
+pub above_least : (place : ℕ) (cs : List Candidate) → Each (λ c. least place cs ≤ rank_in place c) cs
 above_least place [] = tt
 above_least place (c ∷ cs) = (
   grind arith,

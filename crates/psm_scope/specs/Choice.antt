@@ -2,6 +2,8 @@
 use Rattle.std.specs.Prelude.{ℕ, suc, Bool, true, false, ◌&&◌, nat_eq, nat_le, List, [], ◌∷◌, slice_index_or, Result, Ok, Err, if◌then◌else◌}
 use Rattle.std.specs.List.{filter, list_all}
 use Rattle.std.specs.Cmp.Lexicographic.{pointwise}
+use Rattle.psm_value.specs.declared.sqltype.SqlType.{SqlType}
+use Rattle.psm_value.specs.declared.sqltype.SqlType.TheVariants as of_type
 use Rattle.psm_scope.specs.declared.fault.ChoiceFault.{ChoiceFault}
 use Rattle.psm_scope.specs.declared.fault.ChoiceFault.TheVariants.{NoRoutine, Ambiguous}
 use Rattle.psm_scope.specs.declared.kinds.ArgKind.{ArgKind}
@@ -13,6 +15,13 @@ pub record Signature : Type 0 where
   pub kinds : List ArgKind
 
 -- ---- kinds
+
+abbrev pub kind_of : SqlType → ArgKind
+kind_of of_type.SmallInt = SmallInt
+kind_of of_type.Integer = Integer
+kind_of (of_type.Numeric p s) = Numeric
+kind_of (of_type.Char n) = Char
+kind_of (of_type.VarChar n) = VarChar
 
 -- how high a kind stands among those of its family
 abbrev pub rank : ArgKind → ℕ

@@ -3,5 +3,8 @@ pub mod Frames
 pub mod Lookup
 pub mod Names
 pub mod Pass
+pub mod Procedures
+pub mod Routines
+pub mod Rows
 pub mod Scopes
 pub mod Signatures

@@ -1,5 +1,6 @@
 -- One pass over the candidates of a call. Those that stay are the least in one order.
-use Rattle.std.specs.Prelude.{◌≡◌, ℕ, suc, Bool, true, false, length, slice_index_or, List, [], ◌∷◌, Option, Some, None}
+use Rattle.std.specs.Prelude.{◌≡◌, ℕ, suc, Bool, true, false, not, length, slice_index_or, List, [], ◌∷◌, Option, Some, None}
+use Rattle.std.specs.List.{filter, list_all}
 use Rattle.std.specs.Ordering.{nat_cmp, ordering_then}
 use Rattle.std.specs.declared.cmp.Ordering.{Ordering}
 use Rattle.std.specs.declared.cmp.Ordering.TheVariants.{Less, Equal, Greater}
@@ -17,6 +18,15 @@ order_in a k l = nat_cmp (rank k) (rank l)
 abbrev pub order : ℕ → List ArgKind → List ArgKind → List ArgKind → Ordering
 order place [] ks ls = Equal
 order place (a ∷ others) ks ls = ordering_then (order_in a (slice_index_or ks place Null) (slice_index_or ls place Null)) (order (suc place) others ks ls)
+
+-- those before which no other one comes
+abbrev pub is_behind : Ordering → Bool
+is_behind Less = false
+is_behind Equal = false
+is_behind Greater = true
+
+abbrev pub least_in_order : ℕ → List ArgKind → List Candidate → List Candidate
+least_in_order place args cs = filter (λ c. list_all (λ d. not (is_behind (order place args c.1 d.1))) cs) cs
 
 -- what stays of a candidate before others that are alike, by its order beside them
 abbrev pub joined : Ordering → Candidate → List Candidate → List Candidate

@@ -171,7 +171,7 @@ impl<'a> Frame<'a> {
 }
 
 // Whether a name is that label.
-fn is_label(name: &Name, label: Option<&Name>) -> bool
+pub(crate) fn is_label(name: &Name, label: Option<&Name>) -> bool
     ensures { result ≡ is_label name.now (option_copied label.entry) }
 {
     match label {

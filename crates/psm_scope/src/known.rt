@@ -30,8 +30,6 @@ pub struct DeclaredCursor {
     pub number: u32,
     /// The number of its table. `None` where there is no such table.
     pub table: Option<u32>,
-    /// How many columns its query has.
-    pub width: u32,
     /// Whether positioned statements may use it.
     pub updatable: bool,
     /// Whether it is a FOR statement's, which OPEN, FETCH and CLOSE may not name.

@@ -1,0 +1,16 @@
+//! What holds of the choice of a function.
+ghost use Rattle.std.specs.Prelude.{◌≡◌, List, ◌∷◌};
+ghost use Rattle.psm_scope.specs.declared.kinds.ArgKind.{ArgKind};
+ghost use Rattle.psm_scope.specs.Choice.{Candidate, narrowed};
+ghost use Rattle.psm_scope.specs.Pass.{added, least_in_order};
+
+/// Narrowing place by place keeps the least candidates in one order: that of their kinds, from the left, in the places whose argument
+/// isn't NULL.
+pub fn narrowing_keeps_the_least()
+    ensures { (args : List ArgKind) (cs : List Candidate) → narrowed 0 args cs ≡ least_in_order 0 args cs }
+{}
+
+/// So one more candidate is compared with one of those that stay, and stays alone, stays with them, or is passed over.
+pub fn one_candidate_more()
+    ensures { (args : List ArgKind) (c : Candidate) (cs : List Candidate) → narrowed 0 args (c ∷ cs) ≡ added 0 args c (narrowed 0 args cs) }
+{}
