@@ -1,6 +1,6 @@
 //! Declared names.
 ghost use Rattle.std.specs.Prelude.{◌≡◌, ◌<◌, [], Some, length, slice_get};
-ghost use Rattle.std.specs.Option.{option_map};
+ghost use Rattle.std.specs.Option.{option_copied, option_map};
 ghost use Rattle.psm_scope.specs.Lookup.{named, place_named};
 ghost use Rattle.psm_scope.specs.Names.{Adds};
 
@@ -73,6 +73,18 @@ impl<'a, T> Names<'a, T> {
         match self.known.get_index(place as usize) {
             None => unreachable!(),
             Some((_, known)) => known,
+        }
+    }
+}
+
+impl<'a, T> Names<'a, T> {
+    /// What is known of a name.
+    pub fn lent(&self, name: &Name) -> Option<&T>
+        ensures { option_copied result ≡ named name.now self.now }
+    {
+        match self.place(name) {
+            None => None,
+            Some(place) => Some(self.at(place)),
         }
     }
 }
