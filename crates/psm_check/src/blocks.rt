@@ -2,21 +2,21 @@
 
 use crate::conditions::{condition_name_fault, good_state, state_fault};
 use crate::cursors::declared_cursor;
-use crate::exprs::{expr_found, simple_test};
+use crate::exprs::expr_found;
+use crate::operators::simple_test;
 use crate::found::{as_condition, as_value, breaks_if};
-use crate::frame::{Frame, FrameKind};
-use crate::frames::Frames;
-use crate::keys::same_name;
-use crate::known::{DeclaredCondition, local_variable};
-use crate::loops::for_frame;
+use crate::known::{Frames, local_variable};
+use crate::loops::for_fault;
 use crate::repeated::Repeats;
 use crate::sources::source_fault;
 use crate::statements::{Context, simple_fault};
 use crate::types::{type_fault, type_of};
+use crate::view::same_name;
 use indexmap::IndexSet;
 use psm_list::{Boxed, List, OneOrMore};
 use psm_rules::{Fault, Found, Rule, earlier};
-use psm_scope::Names;
+use psm_scope::{DeclaredCondition, FrameKind, Names};
+use psm_sqlstate::SqlState;
 use psm_text::Name;
 use psm_token::Place;
 use psm_tree::{
@@ -224,8 +224,7 @@ fn block_fault<'w, 'a>(
             statements,
             ..
         } => {
-            let (own, frame) = for_frame(c, frames, label, head.get())?;
-            frames.push(frame)?;
+            let own = for_fault(c, frames, label, head.get())?;
             let fault = several(statements, c, frames)?;
             frames.pop();
             Ok(earlier(own, fault))
@@ -249,7 +248,7 @@ fn loop_fault<'w, 'a>(
     frames: &mut Frames<'a>,
     label: Option<&'a Name>,
 ) -> Result<Option<Fault>, AllocError> {
-    frames.push(Frame::new(c.alloc, FrameKind::Loop(label)))?;
+    frames.push(FrameKind::Loop(label))?;
     let fault = several(statements, c, frames)?;
     frames.pop();
     Ok(fault)
@@ -265,7 +264,7 @@ fn declared_fault<'w, 'a>(
     declarations: &'a List<Boxed<Declaration>>,
     cursors: &'a List<Boxed<CursorDeclaration>>,
 ) -> Result<Option<Fault>, AllocError> {
-    frames.push(Frame::new(c.alloc, FrameKind::Compound(label)))?;
+    frames.push(FrameKind::Compound(label))?;
     let mut fault = None;
     let mut variables = Repeats::new(c.alloc, Rule::DeclarationRepeated);
     let mut conditions = Repeats::new(c.alloc, Rule::DeclarationRepeated);
@@ -279,7 +278,7 @@ fn declared_fault<'w, 'a>(
             }
             Declaration::Condition { name, .. } => conditions.add(name)?,
         }
-        declare(frames, declaration.get())?;
+        declare(c.alloc, frames, declaration.get())?;
     }
     let repeated = earlier(variables.fault(), conditions.fault());
     let cursors = cursors_fault(c, frames, cursors)?;
@@ -306,32 +305,30 @@ fn declaration_fault<'w, 'a>(
         }
         Declaration::Condition { state, .. } => match state {
             None => Ok(None),
-            Some(state) => Ok(state_fault(state)),
+            Some(state) => state_fault(c.alloc, state),
         },
     }
 }
 
-fn declare<'a>(frames: &mut Frames<'a>, declaration: &'a Declaration) -> Result<(), AllocError> {
-    let frame = match frames.innermost() {
-        None => return Ok(()),
-        Some(frame) => frame,
-    };
+fn declare<'a>(
+    alloc: Global,
+    frames: &mut Frames<'a>,
+    declaration: &'a Declaration,
+) -> Result<(), AllocError> {
     match declaration {
         Declaration::Variables { names, kind, .. } => {
             let known = local_variable(type_of(*kind));
-            frame.variables.add(&names.first.name, known)?;
+            frames.declare_variable(&names.first.name, known)?;
             for name in names.rest.items() {
-                frame.variables.add(&name.name, known)?;
+                frames.declare_variable(&name.name, known)?;
             }
         }
         Declaration::Condition { name, state, .. } => {
             let state = match state {
                 None => None,
-                Some(state) => Some(&state.text),
+                Some(state) => good_state(alloc, &state.text)?,
             };
-            frame
-                .conditions
-                .add(&name.name, DeclaredCondition { state })?;
+            frames.declare_condition(&name.name, 0, state)?;
         }
     }
     Ok(())
@@ -350,9 +347,7 @@ fn cursors_fault<'w, 'a>(
         names.add(&declared.name)?;
         let (own, cursor) = declared_cursor(c.alloc, declared, c.view(frames))?;
         fault = earlier(fault, own);
-        if let Some(frame) = frames.innermost() {
-            frame.cursors.add(&declared.name.name, cursor)?;
-        }
+        frames.declare_cursor(&declared.name.name, cursor)?;
     }
     Ok(earlier(names.fault(), fault))
 }
@@ -387,16 +382,35 @@ fn handler_fault<'w, 'a>(
         Rule::UndoNeedsAtomic,
         handler.at,
     );
-    frames.push(Frame::new(c.alloc, FrameKind::Action))?;
+    frames.push(FrameKind::Action)?;
     let fault = statement_fault(handler.action.get(), c, frames)?;
     frames.pop();
     Ok(earlier(undo, fault))
 }
 
+/// The five characters of an SQLSTATE, as a key.
+#[derive(Clone, Copy, PartialEq, Eq, Hash)]
+struct StateKey {
+    first: u32,
+    last: u8,
+}
+
+impl StateKey {
+    fn of(state: SqlState) -> StateKey {
+        match state.text().as_bytes() {
+            [a, b, c, d, e] => StateKey {
+                first: u32::from_be_bytes([*a, *b, *c, *d]),
+                last: *e,
+            },
+            _ => StateKey { first: 0, last: 0 },
+        }
+    }
+}
+
 /// What the handlers of a block handle so far.
 #[derive(Drop)]
 struct Handled<'a> {
-    states: IndexSet<[char; 5]>,
+    states: IndexSet<StateKey>,
     names: Names<'a, ()>,
     exceptions: bool,
     warnings: bool,
@@ -415,15 +429,20 @@ impl<'a> Handled<'a> {
     }
 
     // Whether a value stands before; it then stands too.
-    fn repeats(&mut self, frames: &Frames, value: &'a HandlerValue) -> Result<bool, AllocError> {
+    fn repeats(
+        &mut self,
+        alloc: Global,
+        frames: &Frames,
+        value: &'a HandlerValue,
+    ) -> Result<bool, AllocError> {
         match value {
-            HandlerValue::State(state) => self.repeats_state(good_state(&state.text)),
+            HandlerValue::State(state) => self.repeats_state(good_state(alloc, &state.text)?),
             HandlerValue::Name(name) => match frames.condition(&name.name) {
                 None => Ok(false),
-                Some(DeclaredCondition { state: Some(text) }) => {
-                    self.repeats_state(good_state(text))
-                }
-                Some(DeclaredCondition { state: None }) => {
+                Some(DeclaredCondition {
+                    state: Some(state), ..
+                }) => self.repeats_state(Some(state)),
+                Some(DeclaredCondition { state: None, .. }) => {
                     let added = self.names.add(&name.name, ())?;
                     Ok(!added)
                 }
@@ -446,11 +465,11 @@ impl<'a> Handled<'a> {
         }
     }
 
-    fn repeats_state(&mut self, state: Option<[char; 5]>) -> Result<bool, AllocError> {
+    fn repeats_state(&mut self, state: Option<SqlState>) -> Result<bool, AllocError> {
         match state {
             None => Ok(false),
             Some(state) => {
-                let added = self.states.insert(state)?;
+                let added = self.states.insert(StateKey::of(state))?;
                 Ok(!added)
             }
         }
@@ -467,27 +486,28 @@ fn values_fault<'a>(
     let mut fault = None;
     for handler in handlers {
         let values = &handler.get().values;
-        fault = earlier(fault, value_fault(frames, &values.first, &mut handled)?);
+        fault = earlier(fault, value_fault(alloc, frames, &values.first, &mut handled)?);
         for value in values.rest.items() {
-            fault = earlier(fault, value_fault(frames, value, &mut handled)?);
+            fault = earlier(fault, value_fault(alloc, frames, value, &mut handled)?);
         }
     }
     Ok(fault)
 }
 
 fn value_fault<'a>(
+    alloc: Global,
     frames: &Frames,
     value: &'a HandlerValue,
     handled: &mut Handled<'a>,
 ) -> Result<Option<Fault>, AllocError> {
     let own = match value {
-        HandlerValue::State(state) => state_fault(state),
+        HandlerValue::State(state) => state_fault(alloc, state)?,
         HandlerValue::Name(name) => condition_name_fault(frames, name),
         HandlerValue::SqlException { .. }
         | HandlerValue::SqlWarning { .. }
         | HandlerValue::NotFound { .. } => None,
     };
-    let repeats = handled.repeats(frames, value)?;
+    let repeats = handled.repeats(alloc, frames, value)?;
     let place: Place = value.place();
     Ok(earlier(own, breaks_if(repeats, Rule::ConditionValueRepeated, place)))
 }

@@ -2,10 +2,11 @@
 
 use crate::exprs::expr_found;
 use crate::found::{as_value, breaks, breaks_if, of_family};
-use crate::frames::Frames;
+use crate::known::Frames;
 use crate::sources::{assigned_type, family_due, target_fault, variable_of};
 use crate::view::View;
 use psm_rules::{Family, Fault, Rule, earlier};
+use psm_sqlstate::SqlState;
 use psm_text::Text;
 use psm_token::Place;
 use psm_tree::{
@@ -14,32 +15,31 @@ use psm_tree::{
 };
 use std::alloc::{AllocError, Global};
 
-/// The five characters of an SQLSTATE that isn't of success.
-pub(crate) fn good_state(text: &Text) -> Option<[char; 5]> {
-    match text.chars() {
-        [a, b, c, d, e] => {
-            let state = [*a, *b, *c, *d, *e];
-            if !state.iter().all(|c| is_state_character(*c)) || *a == '0' && *b == '0' {
-                None
+/// The SQLSTATE of a text that is one, and not one of success.
+pub(crate) fn good_state(alloc: Global, text: &Text) -> Result<Option<SqlState>, AllocError> {
+    let mut spelled = String::new(alloc);
+    if text.chars().len() != 5 {
+        return Ok(None);
+    }
+    for c in text.chars() {
+        spelled.push(*c)?;
+    }
+    match SqlState::read(spelled.as_str()) {
+        None => Ok(None),
+        Some(state) => {
+            if state.text().starts_with("00") {
+                Ok(None)
             } else {
-                Some(state)
+                Ok(Some(state))
             }
         }
-        _ => None,
     }
 }
 
-fn is_state_character(c: char) -> bool {
-    c.is_ascii_digit() || c.is_ascii_uppercase()
-}
-
 /// A text that is no SQLSTATE, or one of success.
-pub(crate) fn state_fault(state: &State) -> Option<Fault> {
-    breaks_if(
-        good_state(&state.text).is_none(),
-        Rule::BadSqlState,
-        state.at,
-    )
+pub(crate) fn state_fault(alloc: Global, state: &State) -> Result<Option<Fault>, AllocError> {
+    let good = good_state(alloc, &state.text)?;
+    Ok(breaks_if(good.is_none(), Rule::BadSqlState, state.at))
 }
 
 /// A condition that isn't declared.
@@ -51,10 +51,14 @@ pub(crate) fn condition_name_fault(frames: &Frames, name: &Identifier) -> Option
     )
 }
 
-fn condition_fault(frames: &Frames, condition: &Condition) -> Option<Fault> {
+fn condition_fault(
+    alloc: Global,
+    frames: &Frames,
+    condition: &Condition,
+) -> Result<Option<Fault>, AllocError> {
     match condition {
-        Condition::Name(name) => condition_name_fault(frames, name),
-        Condition::State(state) => state_fault(state),
+        Condition::Name(name) => Ok(condition_name_fault(frames, name)),
+        Condition::State(state) => state_fault(alloc, state),
     }
 }
 
@@ -64,7 +68,7 @@ pub(crate) fn signalled_fault(
     signalled: &Signalled,
     view: View,
 ) -> Result<Option<Fault>, AllocError> {
-    let fault = condition_fault(view.frames, &signalled.condition);
+    let fault = condition_fault(alloc, view.frames, &signalled.condition)?;
     match &signalled.message {
         None => Ok(fault),
         Some(message) => {

@@ -1,12 +1,11 @@
 //! Cursors, and the order of a query.
 
 use crate::found::{breaks, breaks_if};
-use crate::frames::Frames;
-use crate::keys::same_name;
-use crate::known::CheckedCursor;
-use crate::queries::{QueryFound, first_set, misplaced_set, query_found};
+use crate::known::{CheckedCursor, Frames};
+use crate::exprs::query_found;
+use crate::queries::{QueryFound, first_set, misplaced_set};
 use crate::sources::{family_due, mixed_at, target_type};
-use crate::view::View;
+use crate::view::{View, same_name};
 use crate::world::{Key, World};
 use psm_list::List;
 use psm_rules::{Fault, Rule, Shape, earlier};
@@ -98,7 +97,7 @@ pub(crate) fn cursor_on<'a>(
         None => None,
         Some(items) => {
             let mut shapes = Vec::new(alloc);
-            for item in &items {
+            for item in items.items() {
                 shapes.push(item.shape)?;
             }
             Some(List::of(shapes))

@@ -1,27 +1,33 @@
 //! The first fault of an expression, and the shape of its value.
+ghost use Rattle.std.specs.Prelude.{◌≡◌, ◌∷◌, ◌++◌, [], IfOk, None, Some, map, option_map};
+ghost use Rattle.psm_list.specs.Several.{several_map};
+ghost use Rattle.psm_scope.specs.Routines.{function};
+ghost use Rattle.psm_rules.specs.Found.{as_condition, as_value, shape_of};
+ghost use Rattle.psm_rules.specs.ExprFaults.{call_found, called, case_found, chained, else_of, expr_found, junction_of, kind_of, link_found, name_found, pick_found, query_found, seen, seen_in, seen_option, simple_test, when_found};
+ghost use Rattle.psm_check.specs.Seen.{pick_of, seen_in_view};
 
-use crate::found::{
-    all_of, are_shaped, as_condition, as_value, breaks, broken, faults_in, made_of, of_family,
-    shape_of, sound,
+use crate::found::{as_condition, as_value, broken, made_of, shape_of, sound};
+use crate::operators::{
+    argument, cast_found, compares, found_with, function_found, junction_of, like_found, linked,
+    null_if_found, null_test, of_type, signed_found, simple_test, text_result,
 };
-use crate::queries::{exists_found, query_found, scalar_found};
-use crate::shapes::{
-    CHARACTER, INTEGER, VARYING, at_larger_scale, family_of, higher, is_of, joined, of_literal,
-    typed,
-};
-use crate::types::{type_fault, type_of};
-use crate::view::{Meaning, View};
-use psm_list::{Boxed, OneOrMore};
-use psm_rules::{Family, Fault, Found, Rule, Shape, Typed, earlier};
-use psm_scope::{ArgKind, ChoiceFault, choose_routine};
+use crate::queries::{PickFound, QueryFound, exists_found, pick_item, row_of, scalar_found, set_found};
+use crate::results::{case_of, coalesce_found};
+use crate::shapes::{CHARACTER, INTEGER, VARYING, of_literal};
+use crate::view::{View, name_in, on_row};
+use psm_list::{Boxed, List, OneOrMore};
+use psm_rules::{Family, Found, Picked, Rule, Shape};
+use psm_scope::{ArgKind, ChoiceFault, Meant};
 use psm_token::Place;
-use psm_tree::{DataType, Expr, Identifier, Link, Operator, Target, TextFunction, When};
-use psm_value::SqlType;
+use psm_tree::{Expr, Identifier, Link, Pick, Select, Target, When};
 use std::alloc::{AllocError, Global};
 
 /// What is found in an expression.
 #[cycle(expression)]
-pub(crate) fn expr_found(alloc: Global, e: &Expr, view: View) -> Result<Found, AllocError> {
+#[tactic(auto, using(crate::proofs::Equations::expr_equations))]
+pub(crate) fn expr_found(alloc: Global, e: &Expr, view: View) -> Result<Found, AllocError>
+    ensures { IfOk result (λ f. f ≡ expr_found e.now (seen_in_view view.entry)) }
+{
     match e {
         Expr::Null { place } => Ok(sound(*place, Shape::Untyped)),
         Expr::Number { place, value } => Ok(sound(*place, Shape::Value(of_literal(*value)))),
@@ -39,14 +45,10 @@ pub(crate) fn expr_found(alloc: Global, e: &Expr, view: View) -> Result<Found, A
         }
         Expr::IsNull { value, .. } => {
             let found = expr_found(alloc, value.get(), view)?;
-            let whole = sound(found.place, Shape::Condition);
-            Ok(made_of(found.place, &[as_value(found)], whole))
+            Ok(null_test(found))
         }
         Expr::Between {
-            value,
-            low,
-            high,
-            ..
+            value, low, high, ..
         } => {
             let first = expr_found(alloc, value.get(), view)?;
             let second = expr_found(alloc, low.get(), view)?;
@@ -58,9 +60,9 @@ pub(crate) fn expr_found(alloc: Global, e: &Expr, view: View) -> Result<Found, A
         }
         Expr::In { value, list, .. } => {
             let first = expr_found(alloc, value.get(), view)?;
-            let mut values = vec![in alloc; as_value(first)]?;
-            push_value(alloc, list.first.get(), view, &mut values)?;
-            push_values(alloc, list.rest.items(), view, &mut values)?;
+            let mut values = Vec::new(alloc);
+            values.push(as_value(first))?;
+            push_several(alloc, list, view, &mut values)?;
             Ok(compares(first.place, values.as_slice()))
         }
         Expr::Like {
@@ -70,18 +72,15 @@ pub(crate) fn expr_found(alloc: Global, e: &Expr, view: View) -> Result<Found, A
             ..
         } => {
             let first = expr_found(alloc, value.get(), view)?;
-            let mut values = vec![in alloc; as_value(first)]?;
+            let mut values = Vec::new(alloc);
+            values.push(as_value(first))?;
             push_value(alloc, pattern.get(), view, &mut values)?;
             push_optional(alloc, escape, view, &mut values)?;
-            Ok(made_of(
-                first.place,
-                values.as_slice(),
-                all_texts(first.place, values.as_slice()),
-            ))
+            Ok(like_found(first.place, values.as_slice()))
         }
         Expr::Chain { first, links } => {
             let first = expr_found(alloc, first.get(), view)?;
-            chain_found(alloc, links.items(), view, as_value(first))
+            chain_found(alloc, links, view, as_value(first))
         }
         Expr::Signed { place, operand, .. } => {
             let found = expr_found(alloc, operand.get(), view)?;
@@ -90,7 +89,7 @@ pub(crate) fn expr_found(alloc: Global, e: &Expr, view: View) -> Result<Found, A
         Expr::Call {
             function,
             arguments,
-        } => call_found(alloc, arguments.items(), view, function),
+        } => call_found(alloc, arguments, view, function),
         Expr::Parenthesized { place, expr } => {
             let found = expr_found(alloc, expr.get(), view)?;
             Ok(found_with(*place, found))
@@ -117,8 +116,8 @@ pub(crate) fn expr_found(alloc: Global, e: &Expr, view: View) -> Result<Found, A
         } => match operand {
             None => searched_found(alloc, whens, otherwise, view, *place),
             Some(operand) => {
-                let value = as_value(expr_found(alloc, operand.get(), view)?);
-                simple_found(alloc, whens, otherwise, view, *place, value)
+                let found = expr_found(alloc, operand.get(), view)?;
+                simple_found(alloc, whens, otherwise, view, *place, found)
             }
         },
         Expr::Cast { place, source, to } => {
@@ -127,13 +126,8 @@ pub(crate) fn expr_found(alloc: Global, e: &Expr, view: View) -> Result<Found, A
         }
         Expr::Coalesce { place, values } => {
             let mut found = Vec::new(alloc);
-            push_value(alloc, values.first.get(), view, &mut found)?;
-            push_values(alloc, values.rest.items(), view, &mut found)?;
-            Ok(made_of(
-                *place,
-                found.as_slice(),
-                results_found(*place, found.as_slice()),
-            ))
+            push_several(alloc, values, view, &mut found)?;
+            Ok(coalesce_found(*place, found.as_slice()))
         }
         Expr::NullIf { place, left, right } => {
             let first = expr_found(alloc, left.get(), view)?;
@@ -143,17 +137,17 @@ pub(crate) fn expr_found(alloc: Global, e: &Expr, view: View) -> Result<Found, A
         Expr::Function {
             place,
             function,
-            argument,
+            argument: text,
         } => {
-            let found = expr_found(alloc, argument.get(), view)?;
-            let argument = of_family(Family::Texts, as_value(found));
-            Ok(function_found(*place, text_result(*function), &[argument]))
+            let found = expr_found(alloc, text.get(), view)?;
+            let text = argument(Family::Texts, found);
+            Ok(function_found(*place, text_result(*function), &[text]))
         }
         Expr::Position { place, part, whole } => {
             let first = expr_found(alloc, part.get(), view)?;
             let second = expr_found(alloc, whole.get(), view)?;
-            let part = of_family(Family::Texts, as_value(first));
-            let whole = of_family(Family::Texts, as_value(second));
+            let part = argument(Family::Texts, first);
+            let whole = argument(Family::Texts, second);
             Ok(function_found(*place, INTEGER, &[part, whole]))
         }
         Expr::Substring {
@@ -164,20 +158,20 @@ pub(crate) fn expr_found(alloc: Global, e: &Expr, view: View) -> Result<Found, A
         } => {
             let first = expr_found(alloc, text.get(), view)?;
             let second = expr_found(alloc, from.get(), view)?;
-            let text = of_family(Family::Texts, as_value(first));
-            let from = of_family(Family::Numbers, as_value(second));
+            let text = argument(Family::Texts, first);
+            let from = argument(Family::Numbers, second);
             match length {
                 None => Ok(function_found(*place, VARYING, &[text, from])),
                 Some(length) => {
                     let third = expr_found(alloc, length.get(), view)?;
-                    let length = of_family(Family::Numbers, as_value(third));
+                    let length = argument(Family::Numbers, third);
                     Ok(function_found(*place, VARYING, &[text, from, length]))
                 }
             }
         }
         Expr::Trim { place, text, .. } => {
             let found = expr_found(alloc, text.get(), view)?;
-            let text = of_family(Family::Texts, as_value(found));
+            let text = argument(Family::Texts, found);
             Ok(function_found(*place, VARYING, &[text]))
         }
     }
@@ -191,7 +185,9 @@ fn push_value(
     e: &Expr,
     view: View,
     values: &mut Vec<Found>,
-) -> Result<(), AllocError> {
+) -> Result<(), AllocError>
+    ensures { IfOk result (λ _. values.new.items ≡ values.old.items ++ as_value (expr_found e.now (seen_in_view view.entry)) ∷ []) }
+{
     let found = expr_found(alloc, e, view)?;
     values.push(as_value(found))?;
     Ok(())
@@ -203,7 +199,9 @@ fn push_optional(
     e: &Option<Boxed<Expr>>,
     view: View,
     values: &mut Vec<Found>,
-) -> Result<(), AllocError> {
+) -> Result<(), AllocError>
+    ensures { IfOk result (λ _. values.new.items ≡ values.old.items ++ else_of (seen_option (seen_in_view view.entry) (option_map expr_found e.now))) }
+{
     match e {
         None => Ok(()),
         Some(e) => push_value(alloc, e.get(), view, values),
@@ -213,196 +211,93 @@ fn push_optional(
 #[cycle(expression)]
 fn push_values(
     alloc: Global,
-    list: &[Boxed<Expr>],
+    list: &List<Boxed<Expr>>,
     view: View,
     values: &mut Vec<Found>,
-) -> Result<(), AllocError> {
-    for e in list {
+) -> Result<(), AllocError>
+    ensures { IfOk result (λ _. values.new.items ≡ values.old.items ++ map as_value (seen (seen_in_view view.entry) (map expr_found list.now))) }
+{
+    for e in list.items() {
         push_value(alloc, e.get(), view, values)?;
     }
     Ok(())
 }
 
 #[cycle(expression)]
+fn push_several(
+    alloc: Global,
+    list: &OneOrMore<Boxed<Expr>>,
+    view: View,
+    values: &mut Vec<Found>,
+) -> Result<(), AllocError>
+    ensures { IfOk result (λ _. values.new.items ≡ values.old.items ++ map as_value (seen_in (seen_in_view view.entry) (several_map expr_found list.now))) }
+{
+    push_value(alloc, list.first.get(), view, values)?;
+    push_values(alloc, &list.rest, view, values)
+}
+
+#[cycle(expression)]
 fn push_conditions(
     alloc: Global,
-    list: &[Boxed<Expr>],
+    list: &List<Boxed<Expr>>,
     view: View,
     conditions: &mut Vec<Found>,
-) -> Result<(), AllocError> {
-    for e in list {
+) -> Result<(), AllocError>
+    ensures { IfOk result (λ _. conditions.new.items ≡ conditions.old.items ++ map as_condition (seen (seen_in_view view.entry) (map expr_found list.now))) }
+{
+    for e in list.items() {
         let found = expr_found(alloc, e.get(), view)?;
         conditions.push(as_condition(found))?;
     }
     Ok(())
 }
 
-// ---- names
-
-/// What is found in a name.
-pub(crate) fn name_found(view: View, target: &Target) -> Found {
-    let place = target.place();
-    match view.name_in(target) {
-        None => broken(Rule::UnknownName, place),
-        Some(Meaning::Column(kind)) => of_type(place, kind),
-        Some(Meaning::Variable(known)) => of_type(place, known.kind),
-    }
-}
-
-/// What is declared with a type; one at fault has no shape.
-fn of_type(place: Place, kind: Option<SqlType>) -> Found {
-    match kind {
-        None => Found {
-            place,
-            fault: None,
-            shape: None,
-        },
-        Some(t) => sound(place, Shape::Value(typed(t))),
-    }
-}
-
-// ---- operators
-
 #[cycle(expression)]
 fn junction_found(
     alloc: Global,
     operands: &OneOrMore<Boxed<Expr>>,
     view: View,
-) -> Result<Found, AllocError> {
+) -> Result<Found, AllocError>
+    ensures { IfOk result (λ f. f ≡ junction_of (expr_found operands.now.first (seen_in_view view.entry)).place (map as_condition (seen_in (seen_in_view view.entry) (several_map expr_found operands.now)))) }
+{
     let first = expr_found(alloc, operands.first.get(), view)?;
-    let mut conditions = vec![in alloc; as_condition(first)]?;
-    push_conditions(alloc, operands.rest.items(), view, &mut conditions)?;
+    let mut conditions = Vec::new(alloc);
+    conditions.push(as_condition(first))?;
+    push_conditions(alloc, &operands.rest, view, &mut conditions)?;
     Ok(junction_of(first.place, conditions.as_slice()))
 }
 
-// Conditions with AND, OR or NOT.
-fn junction_of(place: Place, conditions: &[Found]) -> Found {
-    made_of(place, conditions, sound(place, Shape::Condition))
-}
+// ---- names
 
-// Values of one family are compared.
-fn compared(place: Place, values: &[Found]) -> Found {
-    if all_of(Family::Numbers, values) || all_of(Family::Texts, values) {
-        sound(place, Shape::Condition)
-    } else {
-        broken(Rule::FamiliesMixed, place)
+/// What is found in a name.
+pub(crate) fn name_found(view: View, target: &Target) -> Found
+    ensures { result ≡ name_found (seen_in_view view.entry) target.now }
+{
+    match name_in(view, target) {
+        None => broken(Rule::UnknownName, target.place()),
+        Some(Meant::Column(_, kind)) => of_type(target.place(), kind),
+        Some(Meant::Variable(known)) => of_type(target.place(), known.kind),
     }
 }
 
-fn compares(place: Place, values: &[Found]) -> Found {
-    made_of(place, values, compared(place, values))
-}
-
-fn all_texts(place: Place, values: &[Found]) -> Found {
-    if all_of(Family::Texts, values) {
-        sound(place, Shape::Condition)
-    } else {
-        broken(Rule::FamiliesMixed, place)
-    }
-}
+// ---- chains
 
 #[cycle(expression)]
+#[tactic(auto, using(crate::proofs::Equations::found_link))]
 fn chain_found(
     alloc: Global,
-    links: &[Link],
+    links: &List<Link>,
     view: View,
     first: Found,
-) -> Result<Found, AllocError> {
+) -> Result<Found, AllocError>
+    ensures { IfOk result (λ f. f ≡ chained first (seen (seen_in_view view.entry) (map link_found links.now))) }
+{
     let mut left = first;
-    for link in links {
+    for link in links.items() {
         let found = expr_found(alloc, link.operand.get(), view)?;
         left = linked(left, link.operator, as_value(found));
     }
     Ok(left)
-}
-
-// A chain so far with one operator more.
-fn linked(left: Found, operator: Operator, value: Found) -> Found {
-    let place = left.place;
-    let whole = operated(operator, place, shape_of(left), shape_of(value));
-    made_of(place, &[left, value], whole)
-}
-
-fn operated(operator: Operator, place: Place, a: Shape, b: Shape) -> Found {
-    match operator {
-        Operator::Concatenate => {
-            if is_of(Family::Texts, a) && is_of(Family::Texts, b) {
-                sound(place, Shape::Value(VARYING))
-            } else {
-                broken(Rule::FamiliesMixed, place)
-            }
-        }
-        Operator::Add | Operator::Subtract | Operator::Divide => match (
-            number_in(a),
-            number_in(b),
-        ) {
-            (Some(a), Some(b)) => sound(place, Shape::Value(at_larger_scale(a, b))),
-            _ => broken(Rule::FamiliesMixed, place),
-        },
-        Operator::Multiply => match (number_in(a), number_in(b)) {
-            (Some(a), Some(b)) => product_of(place, a, b),
-            _ => broken(Rule::FamiliesMixed, place),
-        },
-    }
-}
-
-// The type of a number; NULL isn't one.
-fn number_in(shape: Shape) -> Option<Typed> {
-    match shape {
-        Shape::Value(t) => match family_of(t.kind) {
-            Family::Numbers => Some(t),
-            Family::Texts => None,
-        },
-        Shape::Untyped | Shape::Condition => None,
-    }
-}
-
-fn product_of(place: Place, a: Typed, b: Typed) -> Found {
-    let scale = a.scale as u16 + b.scale as u16;
-    if scale <= 18 {
-        let kind = higher(a.kind, b.kind);
-        let scale = scale as u8;
-        sound(place, Shape::Value(Typed { kind, scale }))
-    } else {
-        broken(Rule::ScaleAboveMost, place)
-    }
-}
-
-// A sign keeps the shape of its operand, which is a number.
-fn signed_found(place: Place, operand: Found) -> Found {
-    found_with(place, of_family(Family::Numbers, as_value(operand)))
-}
-
-fn found_with(place: Place, f: Found) -> Found {
-    Found {
-        place,
-        fault: f.fault,
-        shape: f.shape,
-    }
-}
-
-// NULLIF has the shape of its first operand.
-fn null_if_found(place: Place, left: Found, right: Found) -> Found {
-    let values = [left, right];
-    let test = compared(left.place, &values);
-    let whole = without_fault(place, test.fault, Some(shape_of(left)));
-    made_of(place, &values, whole)
-}
-
-/// A part with a shape, unless there is a fault in it.
-pub(crate) fn without_fault(place: Place, fault: Option<Fault>, shape: Option<Shape>) -> Found {
-    match fault {
-        None => Found {
-            place,
-            fault: None,
-            shape,
-        },
-        Some(fault) => Found {
-            place,
-            fault: Some(fault),
-            shape: None,
-        },
-    }
 }
 
 // ---- calls
@@ -410,80 +305,102 @@ pub(crate) fn without_fault(place: Place, fault: Option<Fault>, shape: Option<Sh
 #[cycle(expression)]
 fn call_found(
     alloc: Global,
-    arguments: &[Boxed<Expr>],
+    arguments: &List<Boxed<Expr>>,
     view: View,
     function: &Identifier,
-) -> Result<Found, AllocError> {
-    if view.row.is_some() {
-        return Ok(broken(Rule::NotAllowedOnRow, function.place));
+) -> Result<Found, AllocError>
+    ensures { IfOk result (λ f. f ≡ call_found (seen_in_view view.entry) (seen_in_view view.entry).row function.now (map as_value (seen (seen_in_view view.entry) (map expr_found arguments.now)))) }
+{
+    match view.row {
+        Some(_) => Ok(broken(Rule::NotAllowedOnRow, function.place)),
+        None => {
+            let mut values = Vec::new(alloc);
+            push_values(alloc, arguments, view, &mut values)?;
+            let whole = called(alloc, view, function, values.as_slice())?;
+            Ok(made_of(function.place, values.as_slice(), whole))
+        }
     }
-    let mut values = Vec::new(alloc);
-    push_values(alloc, arguments, view, &mut values)?;
-    let whole = called(alloc, view, function, values.as_slice())?;
-    Ok(made_of(function.place, values.as_slice(), whole))
 }
 
+// What a call of a function with these values comes to.
 fn called(
     alloc: Global,
     view: View,
-    function: &Identifier,
+    name: &Identifier,
     values: &[Found],
-) -> Result<Found, AllocError> {
-    let place = function.place;
+) -> Result<Found, AllocError>
+    ensures { IfOk result (λ f. f ≡ called name.now.place (function view.entry.world.now.functions name.now.name (map (λ f. kind_of (shape_of f)) values.now))) }
+{
+    let kinds = kinds_of(alloc, values)?;
+    match view.world.functions.function(&name.name, kinds.as_slice()) {
+        Ok((_, returned)) => Ok(of_type(name.place, returned)),
+        Err(ChoiceFault::NoRoutine) => Ok(broken(Rule::NoFunction, name.place)),
+        Err(ChoiceFault::Ambiguous) => Ok(broken(Rule::AmbiguousFunction, name.place)),
+    }
+}
+
+fn kinds_of(alloc: Global, values: &[Found]) -> Result<Vec<ArgKind>, AllocError>
+    ensures { IfOk result (λ ks. ks.items ≡ map (λ f. kind_of (shape_of f)) values.now) }
+{
     let mut kinds = Vec::new(alloc);
     for value in values {
         kinds.push(kind_of(shape_of(*value)))?;
     }
-    match choose_routine(&view.world.functions, &function.name, kinds.as_slice()) {
-        Ok(number) => Ok(of_type(place, view.world.result(number))),
-        Err(ChoiceFault::NoRoutine) => Ok(broken(Rule::NoFunction, place)),
-        Err(ChoiceFault::Ambiguous) => Ok(broken(Rule::AmbiguousFunction, place)),
-    }
+    Ok(kinds)
 }
 
-fn kind_of(shape: Shape) -> ArgKind {
+fn kind_of(shape: Shape) -> ArgKind
+    ensures { result ≡ kind_of shape }
+{
     match shape {
         Shape::Value(t) => t.kind,
         Shape::Untyped | Shape::Condition => ArgKind::Null,
     }
 }
 
-// ---- CASE and COALESCE
+// ---- CASE
 
-// The tests, and behind them the results, of a CASE without an operand.
 #[cycle(expression)]
+#[tactic(auto, using(crate::proofs::Equations::found_when))]
 fn searched_found(
     alloc: Global,
     whens: &OneOrMore<Boxed<When>>,
     otherwise: &Option<Boxed<Expr>>,
     view: View,
     place: Place,
-) -> Result<Found, AllocError> {
+) -> Result<Found, AllocError>
+    ensures { IfOk result (λ f. f ≡ case_found place None (seen_in (seen_in_view view.entry) (several_map when_found whens.now)) (seen_option (seen_in_view view.entry) (option_map expr_found otherwise.now))) }
+{
     let mut tests = Vec::new(alloc);
     let mut results = Vec::new(alloc);
-    searched_when(alloc, whens.first.get(), view, &mut tests, &mut results)?;
+    push_searched(alloc, whens.first.get(), view, &mut tests, &mut results)?;
     for when in whens.rest.items() {
-        searched_when(alloc, when.get(), view, &mut tests, &mut results)?;
+        push_searched(alloc, when.get(), view, &mut tests, &mut results)?;
     }
     push_optional(alloc, otherwise, view, &mut results)?;
-    Ok(case_found(place, tests.as_slice(), results.as_slice()))
+    Ok(case_of(place, tests.as_slice(), results.as_slice()))
 }
 
+// A WHEN without an operand.
 #[cycle(expression)]
-fn searched_when(
+#[tactic(auto, using(crate::proofs::Equations::found_when))]
+fn push_searched(
     alloc: Global,
     when: &When,
     view: View,
     tests: &mut Vec<Found>,
     results: &mut Vec<Found>,
-) -> Result<(), AllocError> {
+) -> Result<(), AllocError>
+    ensures tests { IfOk result (λ _. tests.new.items ≡ tests.old.items ++ as_condition (when_found when.now (seen_in_view view.entry)).0 ∷ []) }
+    ensures results { IfOk result (λ _. results.new.items ≡ results.old.items ++ as_value (when_found when.now (seen_in_view view.entry)).1 ∷ []) }
+{
     let test = expr_found(alloc, when.test.get(), view)?;
     tests.push(as_condition(test))?;
     push_value(alloc, when.result.get(), view, results)
 }
 
-// The same of a CASE with an operand.
 #[cycle(expression)]
+#[tactic(auto, using(crate::proofs::Equations::found_when))]
 fn simple_found(
     alloc: Global,
     whens: &OneOrMore<Boxed<When>>,
@@ -491,120 +408,131 @@ fn simple_found(
     view: View,
     place: Place,
     operand: Found,
-) -> Result<Found, AllocError> {
-    let mut tests = vec![in alloc; operand]?;
+) -> Result<Found, AllocError>
+    ensures { IfOk result (λ f. f ≡ case_found place (Some operand) (seen_in (seen_in_view view.entry) (several_map when_found whens.now)) (seen_option (seen_in_view view.entry) (option_map expr_found otherwise.now))) }
+{
+    let value = as_value(operand);
+    let mut tests = Vec::new(alloc);
+    tests.push(value)?;
     let mut results = Vec::new(alloc);
     let first = whens.first.get();
-    simple_when(alloc, first, view, operand, &mut tests, &mut results)?;
+    push_simple(alloc, first, view, value, &mut tests, &mut results)?;
     for when in whens.rest.items() {
-        simple_when(alloc, when.get(), view, operand, &mut tests, &mut results)?;
+        push_simple(alloc, when.get(), view, value, &mut tests, &mut results)?;
     }
     push_optional(alloc, otherwise, view, &mut results)?;
-    Ok(case_found(place, tests.as_slice(), results.as_slice()))
+    Ok(case_of(place, tests.as_slice(), results.as_slice()))
 }
 
+// A WHEN with an operand.
 #[cycle(expression)]
-fn simple_when(
+#[tactic(auto, using(crate::proofs::Equations::found_when))]
+fn push_simple(
     alloc: Global,
     when: &When,
     view: View,
     operand: Found,
     tests: &mut Vec<Found>,
     results: &mut Vec<Found>,
-) -> Result<(), AllocError> {
+) -> Result<(), AllocError>
+    ensures tests { IfOk result (λ _. tests.new.items ≡ tests.old.items ++ simple_test operand (when_found when.now (seen_in_view view.entry)).0 ∷ []) }
+    ensures results { IfOk result (λ _. results.new.items ≡ results.old.items ++ as_value (when_found when.now (seen_in_view view.entry)).1 ∷ []) }
+{
     let test = expr_found(alloc, when.test.get(), view)?;
     tests.push(simple_test(operand, test))?;
     push_value(alloc, when.result.get(), view, results)
 }
 
-/// The operand of a simple CASE with a WHEN by itself, at the operand.
-pub(crate) fn simple_test(operand: Found, test: Found) -> Found {
-    let value = as_value(test);
-    let both = compares(operand.place, &[operand, value]);
-    Found {
-        place: value.place,
-        fault: earlier(value.fault, both.fault),
-        shape: both.shape,
-    }
+// ---- queries
+
+/// What is found in a query.
+#[cycle(expression)]
+#[tactic(auto, using(crate::proofs::Equations::found_query))]
+pub(crate) fn query_found<'q, 'v, 'a>(
+    alloc: Global,
+    query: &'q Select,
+    view: View<'v, 'a>,
+) -> Result<QueryFound<'q, 'v, 'a>, AllocError>
+    ensures { IfOk result (λ q. q ≡ query_found query.now (seen_in_view view.entry)) }
+{
+    let columns = view.world.columns(&query.table.name);
+    let inside = on_row(view, row_of(query, columns));
+    let picks = picks_found(alloc, &query.picks, inside)?;
+    let test = optional_found(alloc, &query.condition, inside)?;
+    Ok(QueryFound {
+        picks,
+        table: &query.table,
+        columns,
+        test,
+    })
 }
 
-// The rules on the results are asked where no part, a test among them, is at fault.
-fn case_found(place: Place, tests: &[Found], results: &[Found]) -> Found {
-    if are_shaped(tests) && are_shaped(results) {
-        results_found(place, results)
-    } else {
-        Found {
-            place,
-            fault: earlier(faults_in(tests), faults_in(results)),
-            shape: None,
+#[cycle(expression)]
+fn optional_found(
+    alloc: Global,
+    e: &Option<Boxed<Expr>>,
+    view: View,
+) -> Result<Option<Found>, AllocError>
+    ensures { IfOk result (λ f. f ≡ seen_option (seen_in_view view.entry) (option_map expr_found e.now)) }
+{
+    match e {
+        None => Ok(None),
+        Some(e) => {
+            let found = expr_found(alloc, e.get(), view)?;
+            Ok(Some(found))
         }
     }
 }
 
-fn results_found(place: Place, results: &[Found]) -> Found {
-    match differing(results) {
-        Some(other) => Found {
-            place,
-            fault: breaks(Rule::FamiliesMixed, other),
-            shape: None,
-        },
-        None => match result_of(results) {
-            None => broken(Rule::NullWithoutType, place),
-            Some(t) => sound(place, Shape::Value(t)),
-        },
+#[cycle(expression)]
+fn picks_found<'q>(
+    alloc: Global,
+    list: &'q OneOrMore<Boxed<Pick>>,
+    view: View,
+) -> Result<Vec<PickFound<'q>>, AllocError>
+    ensures { IfOk result (λ ps. map pick_of ps.items ≡ seen_in (seen_in_view view.entry) (several_map pick_found list.now)) }
+{
+    let mut picks = Vec::new(alloc);
+    let first = pick_found(alloc, list.first.get(), view)?;
+    picks.push(first)?;
+    for pick in list.rest.items() {
+        let found = pick_found(alloc, pick.get(), view)?;
+        picks.push(found)?;
     }
+    Ok(picks)
 }
 
-// The first of the results whose family differs from that of the first that isn't NULL.
-fn differing(results: &[Found]) -> Option<Place> {
-    let mut family = None;
-    for result in results {
-        if let Shape::Value(t) = shape_of(*result) {
-            let own = family_of(t.kind);
-            match family {
-                None => family = Some(own),
-                Some(due) => {
-                    if own != due {
-                        return Some(result.place);
-                    }
-                }
-            }
+#[cycle(expression)]
+#[tactic(auto, using(crate::proofs::Equations::pick_equations))]
+fn pick_found<'q>(
+    alloc: Global,
+    pick: &'q Pick,
+    view: View,
+) -> Result<PickFound<'q>, AllocError>
+    ensures { IfOk result (λ p. pick_of p ≡ pick_found pick.now (seen_in_view view.entry)) }
+{
+    match pick {
+        Pick::All { place } => Ok(PickFound {
+            form: Picked::All,
+            found: sound(*place, Shape::Untyped),
+            alias: None,
+        }),
+        Pick::Expr { expr, alias } => {
+            let found = expr_found(alloc, expr.get(), view)?;
+            Ok(pick_item(Picked::Plain, found, alias))
         }
-    }
-    None
-}
-
-// The highest kind and the largest scale.
-fn result_of(results: &[Found]) -> Option<Typed> {
-    let mut so_far = None;
-    for result in results {
-        so_far = joined(so_far, shape_of(*result));
-    }
-    so_far
-}
-
-// ---- functions and types of the language
-
-fn text_result(function: TextFunction) -> Typed {
-    match function {
-        TextFunction::CharLength => INTEGER,
-        TextFunction::Upper | TextFunction::Lower => VARYING,
-    }
-}
-
-fn function_found(place: Place, typed: Typed, arguments: &[Found]) -> Found {
-    made_of(place, arguments, sound(place, Shape::Value(typed)))
-}
-
-fn cast_found(place: Place, source: Found, to: DataType) -> Found {
-    let value = as_value(source);
-    let kind = type_of(to);
-    Found {
-        place,
-        fault: earlier(value.fault, type_fault(to, kind)),
-        shape: match (value.shape, kind) {
-            (Some(_), Some(t)) => Some(Shape::Value(typed(t))),
-            _ => None,
-        },
+        Pick::CountRows { place, alias } => {
+            let found = sound(*place, Shape::Value(INTEGER));
+            Ok(pick_item(Picked::Set, found, alias))
+        }
+        Pick::Aggregate {
+            place,
+            function,
+            argument,
+            alias,
+        } => {
+            let found = expr_found(alloc, argument.get(), view)?;
+            Ok(pick_item(Picked::Set, set_found(*place, *function, found), alias))
+        }
     }
 }

@@ -2,7 +2,7 @@
 ghost use Rattle.std.specs.Prelude.{◌≡◌};
 ghost use Rattle.std.specs.List.{list_all};
 ghost use Rattle.psm_rules.specs.Faults.{breaks, breaks_if};
-ghost use Rattle.psm_rules.specs.Found.{all_of, as_condition, as_value, broken, faults_in, made_of, of_family, shape_of, sound};
+ghost use Rattle.psm_rules.specs.Found.{all_of, as_condition, as_value, broken, faults_in, is_shaped, made_of, of_family, shape_of, sound};
 
 use crate::shapes::is_of;
 use psm_rules::{Family, Fault, Found, Rule, Shape, earlier};

@@ -1,29 +1,26 @@
 //! What is known of declared names.
+ghost use Rattle.std.specs.Prelude.{◌≡◌};
+ghost use Rattle.psm_rules.specs.BlockFaults.{local_variable};
 
 use psm_list::List;
 use psm_rules::Shape;
-use psm_text::{Name, Text};
+use psm_scope::Variable;
+use psm_text::Name;
 use psm_value::SqlType;
+use std::marker::Model;
 
-/// What is known of a variable or a parameter: its type, where that isn't at fault, and whether it can be assigned.
-#[derive(Clone, Copy, Debug)]
-pub(crate) struct Variable {
-    pub(crate) kind: Option<SqlType>,
-    pub(crate) assignable: bool,
-}
+/// The frames around a statement.
+pub(crate) type Frames<'a> = psm_scope::Frames<'a, CheckedCursor<'a>>;
 
 /// The variable of a block, which can be assigned.
-pub(crate) fn local_variable(kind: Option<SqlType>) -> Variable {
+pub(crate) fn local_variable(kind: Option<SqlType>) -> Variable
+    ensures { result ≡ local_variable kind }
+{
     Variable {
         kind,
+        slot: 0,
         assignable: true,
     }
-}
-
-/// A declared condition, with the text that stands behind FOR SQLSTATE.
-#[derive(Clone, Copy, Debug)]
-pub(crate) struct DeclaredCondition<'a> {
-    pub(crate) state: Option<&'a Text>,
 }
 
 /// What is known of a cursor.
@@ -34,6 +31,14 @@ pub(crate) struct CheckedCursor<'a> {
     /// It is plain and not FOR READ ONLY.
     pub(crate) updatable: bool,
     pub(crate) of_for: bool,
-    /// The shapes of its items, where it is known how many there are.
+    /// The shapes of its items, where these are known.
     pub(crate) items: Option<List<Option<Shape>>>,
+}
+
+impl<'a> Model for CheckedCursor<'a> {
+    ghost use Rattle.psm_rules.specs.View.{Cursor};
+
+    ghost Value = { Cursor };
+
+    ghost view = { λ c. record { table = c.table.now; updatable = c.updatable; of_for = c.of_for; items = c.items } };
 }

@@ -2,20 +2,20 @@
 
 use crate::cursors::{cursor_on, order_fault};
 use crate::found::{as_value, breaks};
-use crate::frame::{Frame, FrameKind};
-use crate::frames::Frames;
-use crate::known::local_variable;
+use crate::exprs::query_found;
+use crate::known::{Frames, local_variable};
 use crate::queries::{
-    PickFound, Picked, QueryFound, first_set, misplaced_set, query_found, row_of, table_fault,
-    test_fault,
+    PickFound, QueryFound, first_set, misplaced_set, row_of, table_fault, test_fault,
 };
 use crate::shapes::family_of;
 use crate::statements::Context;
-use crate::view::{Meaning, View};
+use crate::view::{View, name_in};
 use crate::world::Columns;
-use psm_rules::{Family, Fault, Rule, Shape, earlier};
+use psm_list::List;
+use psm_rules::{Family, Fault, Picked, Rule, Shape, earlier};
+use psm_scope::{FrameKind, Meant};
 use psm_text::Name;
-use psm_tree::{Expr, ForHead, Pick, Target};
+use psm_tree::{Expr, ForHead, Pick, Select, Target};
 use psm_value::SqlType;
 use std::alloc::AllocError;
 
@@ -26,37 +26,69 @@ struct NamedColumn<'a> {
     kind: Option<SqlType>,
 }
 
-/// The first fault of FOR's head, and the frame of its statements.
-pub(crate) fn for_frame<'w, 'a>(
+/// The first fault of FOR's head. Goes into the frame of its statements.
+pub(crate) fn for_fault<'w, 'a>(
     c: Context<'w, 'a>,
-    frames: &Frames<'a>,
+    frames: &mut Frames<'a>,
     label: Option<&'a Name>,
     head: &'a ForHead,
-) -> Result<(Option<Fault>, Frame<'a>), AllocError> {
+) -> Result<Option<Fault>, AllocError> {
+    let select = head.query.query.get();
+    let query = query_found(c.alloc, select, c.view(frames))?;
+    let items = for_items(c, frames, select, &query)?;
+    let cursor = match &head.cursor {
+        None => None,
+        Some(cursor) => {
+            let updatable = !cursor.insensitive;
+            Some(cursor_on(c.alloc, &select.table, &query, updatable, true)?)
+        }
+    };
+    let others = other_faults(&query);
+    let order = order_fault(c.world, &select.table, &head.query.order);
+    frames.push(FrameKind::For(label, &head.name.name))?;
+    let columns = c.world.columns(&select.table.name);
+    let own = items_fault(frames, items.items(), columns)?;
+    if let (Some(cursor), Some(known)) = (&head.cursor, cursor) {
+        frames.declare_cursor(&cursor.name.name, known)?;
+    }
+    Ok(earlier(earlier(own, others), order))
+}
+
+/// An item of FOR, with the column that it names.
+#[derive(Clone, Copy)]
+struct ForItem<'a> {
+    pick: PickFound<'a>,
+    column: Option<NamedColumn<'a>>,
+}
+
+// The items of the query, on the rows of its table.
+fn for_items<'a>(
+    c: Context<'_, 'a>,
+    frames: &Frames<'a>,
+    select: &'a Select,
+    query: &QueryFound<'a, '_, 'a>,
+) -> Result<List<ForItem<'a>>, AllocError> {
     let view = View {
         world: c.world,
         frames,
-        row: None,
+        row: Some(row_of(select, query.columns)),
     };
-    let select = head.query.query.get();
-    let query = query_found(c.alloc, select, view)?;
-    let inside = view.on_row(row_of(select, query.columns));
-    let mut frame = Frame::new(c.alloc, FrameKind::For(label, &head.name.name));
-    let mut fault = other_faults(&query);
-    let order = order_fault(c.world, &select.table, &head.query.order);
-    fault = earlier(fault, order);
-    let own = item_fault(inside, select.picks.first.get(), 0, &query, &mut frame)?;
-    fault = earlier(fault, own);
-    for (number, pick) in select.picks.rest.items().iter().enumerate() {
-        let own = item_fault(inside, pick.get(), number + 1, &query, &mut frame)?;
-        fault = earlier(fault, own);
+    let mut items = Vec::new(c.alloc);
+    for (number, pick) in query.picks.iter().enumerate() {
+        let tree = if number == 0 {
+            select.picks.first.get()
+        } else {
+            match select.picks.rest.items().get(number - 1) {
+                None => continue,
+                Some(tree) => tree.get(),
+            }
+        };
+        items.push(ForItem {
+            pick: *pick,
+            column: pick_column(view, tree),
+        })?;
     }
-    if let Some(cursor) = &head.cursor {
-        let updatable = !cursor.insensitive;
-        let known = cursor_on(c.alloc, &select.table, &query, updatable, true)?;
-        frame.cursors.add(&cursor.name.name, known)?;
-    }
-    Ok((fault, frame))
+    Ok(List::of(items))
 }
 
 // The faults beside those of the items: no set function stands in FOR.
@@ -66,33 +98,41 @@ fn other_faults(query: &QueryFound) -> Option<Fault> {
     earlier(earlier(sets, table), test_fault(query.test))
 }
 
-// The fault of an item, whose variables are declared.
-fn item_fault<'a>(
-    view: View,
-    pick: &'a Pick,
-    number: usize,
-    query: &QueryFound<'a, '_, 'a>,
-    frame: &mut Frame<'a>,
+// The faults of the items, whose variables are declared.
+fn items_fault<'a>(
+    frames: &mut Frames<'a>,
+    items: &[ForItem<'a>],
+    columns: Option<&Columns<'a>>,
 ) -> Result<Option<Fault>, AllocError> {
-    let found = match query.picks.get(number) {
-        None => return Ok(None),
-        Some(found) => *found,
-    };
-    if found.form == Picked::All {
-        declare_columns(query.columns, frame)?;
-        return Ok(None);
+    let mut fault = None;
+    for item in items {
+        let own = item_fault(frames, *item, columns)?;
+        fault = earlier(fault, own);
     }
-    let column = pick_column(view, pick);
-    match own_name(found, column) {
-        None => Ok(unnamed_fault(found)),
-        Some(name) => {
-            let known = local_variable(item_type(found, column));
-            if frame.variables.add(name, known)? {
-                Ok(as_value(found.found).fault)
-            } else {
-                Ok(unnamed_fault(found))
-            }
+    Ok(fault)
+}
+
+fn item_fault<'a>(
+    frames: &mut Frames<'a>,
+    item: ForItem<'a>,
+    columns: Option<&Columns<'a>>,
+) -> Result<Option<Fault>, AllocError> {
+    match item.pick.form {
+        Picked::All => {
+            declare_columns(columns, frames)?;
+            Ok(None)
         }
+        Picked::Plain | Picked::Set => match own_name(item.pick, item.column) {
+            None => Ok(unnamed_fault(item.pick)),
+            Some(name) => {
+                let known = local_variable(item_type(item.pick, item.column));
+                if frames.declare_variable(name, known)? {
+                    Ok(as_value(item.pick.found).fault)
+                } else {
+                    Ok(unnamed_fault(item.pick))
+                }
+            }
+        },
     }
 }
 
@@ -104,12 +144,12 @@ fn unnamed_fault(found: PickFound) -> Option<Fault> {
 
 fn declare_columns<'a>(
     columns: Option<&Columns<'a>>,
-    frame: &mut Frame<'a>,
+    frames: &mut Frames<'a>,
 ) -> Result<(), AllocError> {
     if let Some(columns) = columns {
         for number in 0..columns.len() {
             let known = local_variable(*columns.at(number));
-            frame.variables.add(columns.name(number), known)?;
+            frames.declare_variable(columns.name(number), known)?;
         }
     }
     Ok(())
@@ -144,12 +184,12 @@ fn item_type(found: PickFound, column: Option<NamedColumn>) -> Option<SqlType> {
 fn pick_column<'a>(view: View, pick: &'a Pick) -> Option<NamedColumn<'a>> {
     match pick {
         Pick::Expr { expr, .. } => match expr.get() {
-            Expr::Name(target) => match view.name_in(target) {
-                Some(Meaning::Column(kind)) => Some(NamedColumn {
+            Expr::Name(target) => match name_in(view, target) {
+                Some(Meant::Column(_, kind)) => Some(NamedColumn {
                     name: last_name(target),
                     kind,
                 }),
-                Some(Meaning::Variable(_)) | None => None,
+                Some(Meant::Variable(_)) | None => None,
             },
             _ => None,
         },

@@ -1,29 +1,27 @@
-//! The first fault of a query, and the shapes of its items.
+//! The first fault of a query, and its items.
+ghost use Rattle.std.specs.Prelude.{◌≡◌, ◌++◌, IfOk, None, Some, map, option_map, if◌then◌else◌};
+ghost use Rattle.std.specs.Option.{option_copied};
+ghost use Rattle.psm_rules.specs.ExprFaults.{column_item, columns_known, counted_fault, first_set, is_set, item_of, items_fault, items_of, items_of_pick, joined_items, may_be, miscounted_fault, misplaced_set, only_shape, other_faults, parts_fault, pick_item, query_fault, set_argument, set_found, set_result, set_shape, sets_fault, spelling, table_fault, test_fault, without_fault};
+ghost use Rattle.psm_rules.specs.Shapes.{typed};
+ghost use Rattle.psm_rules.specs.declared.shape.Shape.TheVariants.{Condition, Value};
+ghost use Rattle.std.specs.List.{list_all};
+ghost use Rattle.psm_tree.specs.declared.expr.Select.{out-Select};
+ghost use Rattle.psm_check.specs.Seen.{pick_of, row_table};
 
-use crate::exprs::{expr_found, without_fault};
-use crate::found::{
-    as_condition, as_value, breaks, breaks_if, made_of, of_family, shape_of, sound,
-};
+use crate::found::{as_condition, as_value, breaks, breaks_if, made_of, of_family, shape_of, sound};
+use crate::operators::without_fault;
 use crate::shapes::{INTEGER, typed};
-use crate::view::{RowTable, View, spelling};
+use crate::view::{RowTable, spelling};
 use crate::world::Columns;
-use psm_list::Boxed;
-use psm_rules::{Family, Fault, Found, Rule, Shape, Typed, earlier};
+use psm_list::List;
+use psm_rules::{Family, Fault, Found, Item, Picked, Rule, Shape, Typed, earlier};
 use psm_scope::ArgKind;
 use psm_text::Name;
 use psm_token::Place;
-use psm_tree::{Expr, Identifier, Pick, Select, SetFunction};
+use psm_tree::{Identifier, Select, SetFunction};
 use psm_value::SqlType;
 use std::alloc::{AllocError, Global};
-
-/// The form of an item.
-#[derive(Clone, Copy, Debug, PartialEq, Eq)]
-pub(crate) enum Picked {
-    /// All columns.
-    All,
-    Item,
-    Set,
-}
+use std::marker::Model;
 
 /// What is found in an item of a query.
 #[derive(Clone, Copy)]
@@ -31,13 +29,6 @@ pub(crate) struct PickFound<'q> {
     pub(crate) form: Picked,
     pub(crate) found: Found,
     pub(crate) alias: Option<&'q Name>,
-}
-
-/// An item of a query, or a column of all columns: its place and its shape.
-#[derive(Clone, Copy, Debug)]
-pub(crate) struct Item {
-    pub(crate) place: Place,
-    pub(crate) shape: Option<Shape>,
 }
 
 /// What is found in a query.
@@ -51,11 +42,24 @@ pub(crate) struct QueryFound<'q, 'v, 'a> {
     pub(crate) test: Option<Found>,
 }
 
+impl<'q, 'v, 'a> Model for QueryFound<'q, 'v, 'a> {
+    ghost use Rattle.std.specs.Prelude.{map};
+    ghost use Rattle.std.specs.Option.{option_copied};
+    ghost use Rattle.psm_rules.specs.ExprFaults.{QueryFound as Seen};
+    ghost use Rattle.psm_check.specs.Seen.{pick_of};
+
+    ghost Value = { Seen };
+
+    ghost view = { λ q. record { picks = map pick_of q.picks.items; table = q.table.now; columns = option_copied q.columns; test = q.test } };
+}
+
 /// The row of a query's table, which has these columns.
 pub(crate) fn row_of<'r, 'a>(
     query: &'r Select,
     columns: Option<&'r Columns<'a>>,
-) -> RowTable<'r, 'a> {
+) -> RowTable<'r, 'a>
+    ensures { row_table result ≡ record { name = (out-Select query.now).table.name; alias = spelling (out-Select query.now).alias; columns = columns_known (option_copied columns.entry) } }
+{
     RowTable {
         name: &query.table.name,
         alias: spelling(&query.alias),
@@ -63,104 +67,53 @@ pub(crate) fn row_of<'r, 'a>(
     }
 }
 
-/// What is found in a query.
-#[cycle(expression)]
-pub(crate) fn query_found<'q, 'v, 'a>(
-    alloc: Global,
-    query: &'q Select,
-    view: View<'v, 'a>,
-) -> Result<QueryFound<'q, 'v, 'a>, AllocError> {
-    let columns = view.world.columns(&query.table.name);
-    let inside = view.on_row(row_of(query, columns));
-    let mut picks = Vec::new(alloc);
-    push_pick(alloc, query.picks.first.get(), inside, &mut picks)?;
-    for pick in query.picks.rest.items() {
-        push_pick(alloc, pick.get(), inside, &mut picks)?;
+/// An item with its own name, where it has one.
+pub(crate) fn pick_item<'q>(
+    form: Picked,
+    found: Found,
+    alias: &'q Option<Identifier>,
+) -> PickFound<'q>
+    ensures { pick_of result ≡ pick_item form found alias.now }
+{
+    PickFound {
+        form,
+        found,
+        alias: spelling(alias),
     }
-    let test = optional_found(alloc, &query.condition, inside)?;
-    Ok(QueryFound {
-        picks,
-        table: &query.table,
-        columns,
-        test,
-    })
-}
-
-#[cycle(expression)]
-fn optional_found(
-    alloc: Global,
-    e: &Option<Boxed<Expr>>,
-    view: View,
-) -> Result<Option<Found>, AllocError> {
-    match e {
-        None => Ok(None),
-        Some(e) => {
-            let found = expr_found(alloc, e.get(), view)?;
-            Ok(Some(found))
-        }
-    }
-}
-
-#[cycle(expression)]
-fn push_pick<'q>(
-    alloc: Global,
-    pick: &'q Pick,
-    view: View,
-    picks: &mut Vec<PickFound<'q>>,
-) -> Result<(), AllocError> {
-    let found = pick_found(alloc, pick, view)?;
-    picks.push(found)?;
-    Ok(())
-}
-
-#[cycle(expression)]
-fn pick_found<'q>(alloc: Global, pick: &'q Pick, view: View) -> Result<PickFound<'q>, AllocError> {
-    match pick {
-        Pick::All { place } => Ok(pick_item(Picked::All, sound(*place, Shape::Untyped), None)),
-        Pick::Expr { expr, alias } => {
-            let found = expr_found(alloc, expr.get(), view)?;
-            Ok(pick_item(Picked::Item, found, spelling(alias)))
-        }
-        Pick::CountRows { place, alias } => {
-            let found = sound(*place, Shape::Value(INTEGER));
-            Ok(pick_item(Picked::Set, found, spelling(alias)))
-        }
-        Pick::Aggregate {
-            place,
-            function,
-            argument,
-            alias,
-        } => {
-            let found = expr_found(alloc, argument.get(), view)?;
-            let found = set_found(*place, *function, found);
-            Ok(pick_item(Picked::Set, found, spelling(alias)))
-        }
-    }
-}
-
-fn pick_item<'q>(form: Picked, found: Found, alias: Option<&'q Name>) -> PickFound<'q> {
-    PickFound { form, found, alias }
 }
 
 // ---- set functions
 
-fn set_found(place: Place, function: SetFunction, argument: Found) -> Found {
+/// A set function over its argument.
+pub(crate) fn set_found(place: Place, function: SetFunction, argument: Found) -> Found
+    ensures { result ≡ set_found place function argument }
+{
     let value = set_argument(function, argument);
-    let whole = match shape_of(value) {
-        Shape::Value(t) => sound(place, Shape::Value(set_result(function, t))),
-        Shape::Untyped | Shape::Condition => sound(place, Shape::Untyped),
-    };
+    let whole = set_shape(place, function, shape_of(value));
     made_of(place, &[value], whole)
 }
 
-fn set_argument(function: SetFunction, argument: Found) -> Found {
+fn set_shape(place: Place, function: SetFunction, shape: Shape) -> Found
+    ensures { result ≡ set_shape place function shape }
+{
+    match shape {
+        Shape::Value(t) => sound(place, Shape::Value(set_result(function, t))),
+        Shape::Untyped | Shape::Condition => sound(place, Shape::Untyped),
+    }
+}
+
+fn set_argument(function: SetFunction, argument: Found) -> Found
+    ensures { result ≡ set_argument function argument }
+{
     match function {
         SetFunction::Sum | SetFunction::Avg => of_family(Family::Numbers, as_value(argument)),
         SetFunction::Count | SetFunction::Min | SetFunction::Max => as_value(argument),
     }
 }
 
-fn set_result(function: SetFunction, t: Typed) -> Typed {
+fn set_result(function: SetFunction, t: Typed) -> Typed
+    ensures { result ≡ set_result function t }
+{
     match function {
         SetFunction::Count => INTEGER,
         SetFunction::Sum | SetFunction::Avg => Typed {
@@ -174,30 +127,58 @@ fn set_result(function: SetFunction, t: Typed) -> Typed {
 // ---- the faults of a query
 
 /// A table that isn't there.
-pub(crate) fn table_fault(table: &Identifier, columns: Option<&Columns>) -> Option<Fault> {
+pub(crate) fn table_fault(table: &Identifier, columns: Option<&Columns>) -> Option<Fault>
+    ensures { result ≡ table_fault table.now (option_copied columns.entry) }
+{
     breaks_if(columns.is_none(), Rule::UnknownTable, table.place)
 }
 
 /// The fault of WHERE.
-pub(crate) fn test_fault(test: Option<Found>) -> Option<Fault> {
+pub(crate) fn test_fault(test: Option<Found>) -> Option<Fault>
+    ensures { result ≡ test_fault test }
+{
     match test {
         None => None,
         Some(test) => as_condition(test).fault,
     }
 }
 
+fn is_set(form: Picked) -> bool
+    ensures { result ≡ is_set form }
+{
+    match form {
+        Picked::Set => true,
+        Picked::All | Picked::Plain => false,
+    }
+}
+
 /// The place of the first set function.
-pub(crate) fn first_set(picks: &[PickFound]) -> Option<Place> {
+pub(crate) fn first_set(picks: &[PickFound]) -> Option<Place>
+    ensures { result ≡ first_set (map pick_of picks.now) }
+{
     for pick in picks {
-        if pick.form == Picked::Set {
+        if is_set(pick.form) {
             return Some(pick.found.place);
         }
     }
     None
 }
 
+fn are_all_sets(picks: &[PickFound]) -> bool
+    ensures { result ≡ list_all (λ p. is_set p.form) (map pick_of picks.now) }
+{
+    for pick in picks {
+        if !is_set(pick.form) {
+            return false;
+        }
+    }
+    true
+}
+
 /// A set function that may not stand there.
-pub(crate) fn misplaced_set(misplaced: bool, place: Option<Place>) -> Option<Fault> {
+pub(crate) fn misplaced_set(misplaced: bool, place: Option<Place>) -> Option<Fault>
+    ensures { result ≡ misplaced_set misplaced place }
+{
     match place {
         None => None,
         Some(place) => breaks_if(misplaced, Rule::SetFunctionMisplaced, place),
@@ -205,12 +186,15 @@ pub(crate) fn misplaced_set(misplaced: bool, place: Option<Place>) -> Option<Fau
 }
 
 // A set function beside other items.
-fn sets_fault(picks: &[PickFound]) -> Option<Fault> {
-    let alone = picks.iter().all(|p| p.form == Picked::Set);
-    misplaced_set(!alone, first_set(picks))
+fn sets_fault(picks: &[PickFound]) -> Option<Fault>
+    ensures { result ≡ sets_fault (map pick_of picks.now) }
+{
+    misplaced_set(!are_all_sets(picks), first_set(picks))
 }
 
-fn items_fault(picks: &[PickFound]) -> Option<Fault> {
+fn items_fault(picks: &[PickFound]) -> Option<Fault>
+    ensures { result ≡ items_fault (map pick_of picks.now) }
+{
     let mut first = None;
     for pick in picks {
         first = earlier(first, as_value(pick.found).fault);
@@ -219,7 +203,9 @@ fn items_fault(picks: &[PickFound]) -> Option<Fault> {
 }
 
 // The faults of items whose sort isn't asked.
-fn parts_fault(picks: &[PickFound]) -> Option<Fault> {
+fn parts_fault(picks: &[PickFound]) -> Option<Fault>
+    ensures { result ≡ parts_fault (map pick_of picks.now) }
+{
     let mut first = None;
     for pick in picks {
         first = earlier(first, pick.found.fault);
@@ -229,19 +215,25 @@ fn parts_fault(picks: &[PickFound]) -> Option<Fault> {
 
 impl<'q, 'v, 'a> QueryFound<'q, 'v, 'a> {
     // The faults beside those of the items.
-    fn other_faults(&self) -> Option<Fault> {
+    fn other_faults(&self) -> Option<Fault>
+        ensures { result ≡ other_faults self.now }
+    {
         let sets = sets_fault(self.picks.as_slice());
         let table = table_fault(self.table, self.columns);
         earlier(earlier(sets, table), test_fault(self.test))
     }
 
     /// The first fault, where its items are counted right.
-    pub(crate) fn fault(&self) -> Option<Fault> {
+    pub(crate) fn fault(&self) -> Option<Fault>
+        ensures { result ≡ query_fault self.now }
+    {
         earlier(items_fault(self.picks.as_slice()), self.other_faults())
     }
 
-    // The first fault where they aren't: that goes before the sort of an item.
-    fn miscounted_fault(&self) -> Option<Fault> {
+    /// The first fault where they aren't: that goes before the sort of an item.
+    pub(crate) fn miscounted_fault(&self) -> Option<Fault>
+        ensures { result ≡ miscounted_fault self.now }
+    {
         let first = match self.picks.first() {
             None => self.table.place,
             Some(pick) => pick.found.place,
@@ -252,7 +244,10 @@ impl<'q, 'v, 'a> QueryFound<'q, 'v, 'a> {
     }
 
     /// The first fault, where so many items are due.
-    pub(crate) fn counted_fault(&self, count: usize, items: &Option<Vec<Item>>) -> Option<Fault> {
+    pub(crate) fn counted_fault(&self, count: usize, items: &Option<List<Item>>) -> Option<Fault>
+        requires { items.now ≡ items_of self.now }
+        ensures { result ≡ counted_fault count self.now }
+    {
         if may_be(count, items) {
             self.fault()
         } else {
@@ -261,34 +256,54 @@ impl<'q, 'v, 'a> QueryFound<'q, 'v, 'a> {
     }
 
     /// Its items, all columns one by one. They aren't known where these are of an unknown table.
-    pub(crate) fn items(&self, alloc: Global) -> Result<Option<Vec<Item>>, AllocError> {
+    pub(crate) fn items(&self, alloc: Global) -> Result<Option<List<Item>>, AllocError>
+        ensures { IfOk result (λ items. items ≡ items_of self.now) }
+    {
         let mut items = Vec::new(alloc);
         for pick in &self.picks {
-            match pick.form {
-                Picked::All => match self.columns {
-                    None => return Ok(None),
-                    Some(columns) => push_columns(pick.found.place, columns, &mut items)?,
-                },
-                Picked::Item | Picked::Set => {
-                    let shape = as_value(pick.found).shape;
-                    let place = pick.found.place;
-                    items.push(Item { place, shape })?;
-                }
+            if !push_items(self.columns, *pick, &mut items)? {
+                return Ok(None);
             }
         }
-        Ok(Some(items))
+        Ok(Some(List::of(items)))
     }
 }
 
-/// Whether items may be so many: how many isn't known where they aren't.
-pub(crate) fn may_be(count: usize, items: &Option<Vec<Item>>) -> bool {
-    match items {
-        None => true,
-        Some(items) => items.len() == count,
+// The items of a pick, or `false` where they aren't known.
+fn push_items(
+    columns: Option<&Columns>,
+    pick: PickFound,
+    items: &mut Vec<Item>,
+) -> Result<bool, AllocError>
+    ensures { IfOk result (λ known. joined_items (Some items.old.items) (items_of_pick (option_copied columns.entry) (pick_of pick.entry)) ≡ (if known then Some items.new.items else None)) }
+{
+    match pick.form {
+        Picked::All => match columns {
+            None => Ok(false),
+            Some(columns) => {
+                push_columns(pick.found.place, columns, items)?;
+                Ok(true)
+            }
+        },
+        Picked::Plain | Picked::Set => {
+            items.push(item_of(pick.found))?;
+            Ok(true)
+        }
     }
 }
 
-fn push_columns(place: Place, columns: &Columns, items: &mut Vec<Item>) -> Result<(), AllocError> {
+fn item_of(found: Found) -> Item
+    ensures { result ≡ item_of found }
+{
+    Item {
+        place: found.place,
+        shape: as_value(found).shape,
+    }
+}
+
+fn push_columns(place: Place, columns: &Columns, items: &mut Vec<Item>) -> Result<(), AllocError>
+    ensures { IfOk result (λ _. items.new.items ≡ items.old.items ++ map (column_item place) columns.now) }
+{
     for number in 0..columns.len() {
         let shape = column_shape(*columns.at(number));
         items.push(Item { place, shape })?;
@@ -296,10 +311,22 @@ fn push_columns(place: Place, columns: &Columns, items: &mut Vec<Item>) -> Resul
     Ok(())
 }
 
-fn column_shape(kind: Option<SqlType>) -> Option<Shape> {
+fn column_shape(kind: Option<SqlType>) -> Option<Shape>
+    ensures { result ≡ option_map (λ t. Value (typed t)) kind }
+{
     match kind {
         None => None,
         Some(t) => Some(Shape::Value(typed(t))),
+    }
+}
+
+/// Whether items may be so many: how many isn't known where they aren't.
+pub(crate) fn may_be(count: usize, items: &Option<List<Item>>) -> bool
+    ensures { result ≡ may_be count items.now }
+{
+    match items {
+        None => true,
+        Some(items) => items.items().len() == count,
     }
 }
 
@@ -310,17 +337,21 @@ pub(crate) fn scalar_found(
     alloc: Global,
     place: Place,
     query: &QueryFound,
-) -> Result<Found, AllocError> {
+) -> Result<Found, AllocError>
+    ensures { IfOk result (λ f. f ≡ without_fault place (counted_fault 1 query.now) (only_shape (items_of query.now))) }
+{
     let items = query.items(alloc)?;
     let fault = query.counted_fault(1, &items);
     Ok(without_fault(place, fault, only_shape(&items)))
 }
 
 // The shape of a lone item.
-fn only_shape(items: &Option<Vec<Item>>) -> Option<Shape> {
+fn only_shape(items: &Option<List<Item>>) -> Option<Shape>
+    ensures { result ≡ only_shape items.now }
+{
     match items {
         None => None,
-        Some(items) => match items.as_slice() {
+        Some(items) => match items.items() {
             [item] => item.shape,
             _ => None,
         },
@@ -328,6 +359,8 @@ fn only_shape(items: &Option<Vec<Item>>) -> Option<Shape> {
 }
 
 /// EXISTS with a query.
-pub(crate) fn exists_found(place: Place, query: &QueryFound) -> Found {
+pub(crate) fn exists_found(place: Place, query: &QueryFound) -> Found
+    ensures { result ≡ without_fault place (query_fault query.now) (Some Condition) }
+{
     without_fault(place, query.fault(), Some(Shape::Condition))
 }

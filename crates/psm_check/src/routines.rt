@@ -2,18 +2,17 @@
 
 use crate::blocks::statement_fault;
 use crate::found::breaks_if;
-use crate::frame::{Frame, FrameKind};
-use crate::frames::Frames;
-use crate::keys::{CallKey, NameKey};
-use crate::known::Variable;
+use crate::known::Frames;
 use crate::repeated::Repeats;
 use crate::statements::{Context, Within};
 use crate::types::{type_fault, type_of};
-use crate::world::{ParameterType, World};
+use crate::world::World;
 use indexmap::IndexSet;
 use psm_list::{Boxed, List, OneOrMore};
 use psm_rules::{Fault, Rule, earlier};
-use psm_scope::ArgKind;
+use psm_scope::{
+    ArgKind, FrameKind, ParameterMode, ParameterScope, ProcedureScope, Procedures, Variable,
+};
 use psm_tree::{
     Block, Branch, Handler, Mode, Note, NoteForm, Parameter, Routine, Simple, Statement, TypeForm,
 };
@@ -40,14 +39,22 @@ fn kinds_of(alloc: Global, parameters: &[Parameter]) -> Result<List<ArgKind>, Al
     Ok(List::of(kinds))
 }
 
+fn mode_of(mode: Mode) -> ParameterMode {
+    match mode {
+        Mode::In => ParameterMode::In,
+        Mode::Out => ParameterMode::Out,
+        Mode::InOut => ParameterMode::InOut,
+    }
+}
+
 fn parameters_of(
     alloc: Global,
     parameters: &[Parameter],
-) -> Result<List<ParameterType>, AllocError> {
+) -> Result<List<ParameterScope>, AllocError> {
     let mut types = Vec::new(alloc);
     for parameter in parameters {
-        types.push(ParameterType {
-            mode: parameter.mode,
+        types.push(ParameterScope {
+            mode: mode_of(parameter.mode),
             kind: type_of(parameter.kind),
         })?;
     }
@@ -66,12 +73,15 @@ pub(crate) fn declare_routines<'a>(
         match routine.returns {
             None => {
                 let parameters = parameters_of(alloc, parameters)?;
-                world.declare_procedure(name, parameters)?;
+                let known = ProcedureScope {
+                    number: 0,
+                    parameters,
+                };
+                world.procedures.add(name, known)?;
             }
             Some(t) => {
                 let kinds = kinds_of(alloc, parameters)?;
-                world.functions.push(name, kinds)?;
-                world.results.push(type_of(t))?;
+                world.functions.push(name, kinds, type_of(t))?;
             }
         }
     }
@@ -80,39 +90,42 @@ pub(crate) fn declare_routines<'a>(
 
 // ---- routines that can't be told apart
 
-/// The name and the kinds of the parameters of a function, as a key.
+/// The name of a function as it is kept in a set of functions.
 #[derive(PartialEq, Eq, Hash, Drop)]
-struct FunctionKey<'a> {
-    name: NameKey<'a>,
+struct FunctionKey {
+    name: String,
     kinds: Vec<u8>,
 }
 
 /// The routines so far.
 #[derive(Drop)]
 pub(crate) struct Told<'a> {
-    procedures: IndexSet<CallKey<'a>>,
-    functions: IndexSet<FunctionKey<'a>>,
+    procedures: Procedures<'a>,
+    functions: IndexSet<FunctionKey>,
 }
 
 impl<'a> Told<'a> {
     pub(crate) fn new(alloc: Global) -> Told<'a> {
         Told {
-            procedures: IndexSet::new(alloc),
+            procedures: Procedures::new(alloc),
             functions: IndexSet::new(alloc),
         }
     }
 
     // Procedures of one name have different numbers of parameters, functions of one name different kinds.
     fn fault(&mut self, alloc: Global, r: &'a Routine) -> Result<Option<Fault>, AllocError> {
-        let name = NameKey { name: &r.name.name };
         let parameters = r.parameters.items();
         if r.returns.is_some() {
             let kinds = kind_numbers(alloc, parameters)?;
+            let name = String::from_str(alloc, r.name.name.as_str())?;
             let added = self.functions.insert(FunctionKey { name, kinds })?;
             Ok(breaks_if(!added, Rule::FunctionsNotDistinct, r.name.place))
         } else {
-            let count = parameters.len();
-            let added = self.procedures.insert(CallKey { name, count })?;
+            let known = ProcedureScope {
+                number: 0,
+                parameters: parameters_of(alloc, parameters)?,
+            };
+            let added = self.procedures.add(&r.name.name, known)?;
             Ok(breaks_if(!added, Rule::ProcedureRepeated, r.name.place))
         }
     }
@@ -271,15 +284,17 @@ pub(crate) fn routine_fault<'a>(
         breaks_if(without, Rule::FunctionWithoutReturn, r.name.place),
     );
     let mut names = Repeats::new(alloc, Rule::ParameterRepeated);
-    let mut frame = Frame::new(alloc, FrameKind::Routine(&r.name.name));
+    let mut frames = Frames::new(alloc);
+    frames.push(FrameKind::Routine(&r.name.name))?;
     for parameter in r.parameters.items() {
         names.add(&parameter.name)?;
         fault = earlier(fault, parameter_fault(of_function, parameter));
         let known = Variable {
             kind: type_of(parameter.kind),
+            slot: 0,
             assignable: parameter.mode != Mode::In,
         };
-        frame.variables.add(&parameter.name.name, known)?;
+        frames.declare_variable(&parameter.name.name, known)?;
     }
     fault = earlier(fault, names.fault());
     let within = match r.returns {
@@ -290,8 +305,6 @@ pub(crate) fn routine_fault<'a>(
         }
     };
     fault = earlier(fault, notes_fault(r.notes.items()));
-    let mut frames = Frames::new(alloc);
-    frames.push(frame)?;
     let c = Context {
         alloc,
         world,

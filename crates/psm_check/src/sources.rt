@@ -1,11 +1,11 @@
 //! Sources, and the targets that they go into.
 
 use crate::found::{as_value, breaks, breaks_if};
-use crate::frames::Frames;
-use crate::known::Variable;
+use crate::known::Frames;
 use crate::shapes::{family_of, is_of, typed};
 use crate::view::spelling;
 use psm_rules::{Family, Fault, Found, Rule, Shape, earlier};
+use psm_scope::Variable;
 use psm_token::Place;
 use psm_tree::{Target, Targets};
 use psm_value::SqlType;

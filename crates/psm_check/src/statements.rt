@@ -2,22 +2,23 @@
 
 use crate::conditions::{diagnostics_fault, signalled_fault};
 use crate::cursors::{fetch_fault, opened_fault, positioned_fault};
-use crate::exprs::expr_found;
+use crate::exprs::{expr_found, query_found};
 use crate::found::{as_condition, breaks, breaks_if};
-use crate::frames::Frames;
-use crate::queries::{QueryFound, may_be, query_found, table_fault};
+use crate::known::Frames;
+use crate::queries::{QueryFound, may_be, table_fault};
 use crate::repeated::Repeats;
 use crate::sources::{
     assigned_type, family_due, mixed_at, source_fault, target_fault, target_type, targets_fault,
     variable_of,
 };
-use crate::view::{RowTable, View, column_named};
-use crate::world::{Columns, ParameterType, World};
-use psm_list::{Boxed, OneOrMore};
-use psm_rules::{Fault, Found, Rule, earlier};
+use crate::view::{RowTable, View, column_named, on_row};
+use crate::world::{Columns, World};
+use psm_list::{Boxed, List, OneOrMore};
+use psm_rules::{Fault, Found, Item, Rule, earlier};
+use psm_scope::{ParameterMode, ParameterScope};
 use psm_token::Place;
 use psm_tree::{
-    Assignment, Expr, Identifier, InsertSource, Mode, Names, Select, Simple, Target, Targets,
+    Assignment, Expr, Identifier, InsertSource, Names, Select, Simple, Target, Targets,
     Values, Where,
 };
 use psm_value::SqlType;
@@ -181,11 +182,11 @@ fn call_fault(
     procedure: &Identifier,
     arguments: &[Boxed<Expr>],
 ) -> Result<Option<Fault>, AllocError> {
-    match view.world.procedure(&procedure.name, arguments.len()) {
+    match view.world.procedures.procedure(&procedure.name, arguments.len()) {
         None => Ok(breaks(Rule::UnknownProcedure, procedure.place)),
-        Some(parameters) => {
+        Some(known) => {
             let mut fault = None;
-            for (argument, parameter) in arguments.iter().zip(parameters) {
+            for (argument, parameter) in arguments.iter().zip(known.parameters.items()) {
                 let own = argument_fault(alloc, view, argument.get(), *parameter)?;
                 fault = earlier(fault, own);
             }
@@ -198,12 +199,12 @@ fn argument_fault(
     alloc: Global,
     view: View,
     argument: &Expr,
-    parameter: ParameterType,
+    parameter: ParameterScope,
 ) -> Result<Option<Fault>, AllocError> {
     let found = expr_found(alloc, argument, view)?;
     let fits = match parameter.mode {
-        Mode::In => true,
-        Mode::Out | Mode::InOut => is_target(view.frames, argument),
+        ParameterMode::In => true,
+        ParameterMode::Out | ParameterMode::InOut => is_target(view.frames, argument),
     };
     if fits {
         Ok(source_fault(parameter.kind, found))
@@ -249,12 +250,12 @@ fn select_into_fault(
 
 // Each item goes into its target; the fault is at the item.
 fn items_into(
-    items: &Option<Vec<crate::queries::Item>>,
+    items: &Option<List<Item>>,
     kinds: &[Option<SqlType>],
 ) -> Option<Fault> {
     let mut fault = None;
     if let Some(items) = items {
-        for (item, kind) in items.iter().zip(kinds) {
+        for (item, kind) in items.items().iter().zip(kinds) {
             fault = earlier(fault, mixed_at(item.place, family_due(*kind), item.shape));
         }
     }
@@ -294,7 +295,7 @@ pub(crate) fn columns_fault(
 fn type_of_column(columns: Option<&Columns>, name: &Identifier) -> Option<SqlType> {
     match column_named(columns, &name.name) {
         None => None,
-        Some(kind) => kind,
+        Some((_, kind)) => kind,
     }
 }
 
@@ -410,11 +411,11 @@ fn query_for(
         None => Ok(query.fault()),
         Some(kinds) => {
             let items = query.items(alloc)?;
-            let fault = query.counted_fault(kinds.len(), &items);
             if may_be(kinds.len(), &items) {
-                Ok(earlier(fault, items_into(&items, kinds.as_slice())))
+                let into = items_into(&items, kinds.as_slice());
+                Ok(earlier(query.fault(), into))
             } else {
-                Ok(fault)
+                Ok(query.miscounted_fault())
             }
         }
     }
@@ -459,11 +460,12 @@ fn on_table<'v, 'a>(
     table: &'v Identifier,
     columns: Option<&'v Columns<'a>>,
 ) -> View<'v, 'a> {
-    view.on_row(RowTable {
+    let row = RowTable {
         name: &table.name,
         alias: None,
         columns,
-    })
+    };
+    on_row(view, row)
 }
 
 fn where_fault(

@@ -2,7 +2,7 @@
 
 use crate::exprs::expr_found;
 use crate::found::{as_condition, breaks, breaks_if};
-use crate::frames::Frames;
+use crate::known::Frames;
 use crate::repeated::Repeats;
 use crate::shapes::{family_of, typed};
 use crate::statements::columns_fault;

@@ -1,7 +1,7 @@
 //! Declared types.
 ghost use Rattle.std.specs.Prelude.{◌≡◌, ℕ};
-ghost use Rattle.psm_rules.specs.Types.{decimals, digits_within, length_in, type_in, type_of, whole};
-ghost use Rattle.psm_rules.specs.BlockFaults.{type_fault};
+ghost use Rattle.psm_rules.specs.Types.{decimals, digits_within, length_in, type_of, whole};
+ghost use Rattle.psm_rules.specs.ExprFaults.{type_fault};
 
 use crate::found::breaks_if;
 use psm_num::Dec;

@@ -42,7 +42,7 @@ use Rattle.psm_tree.specs.declared.statement.HandlerValue.{HandlerValue}
 use Rattle.psm_tree.specs.declared.statement.HandlerValue.TheVariants as handled
 use Rattle.psm_rules.specs.declared.fault.Fault.{Fault}
 use Rattle.psm_rules.specs.declared.rule.Rule.TheVariants as rule
-use Rattle.psm_rules.specs.ExprFaults.{PickFound, QueryFound, query_found, query_fault, parts_fault, sets_fault, table_fault, test_fault, items_of, is_all, columns_known, first_set, misplaced_set, simple_test, name_in, pick_found, row_of}
+use Rattle.psm_rules.specs.ExprFaults.{PickFound, QueryFound, query_found, query_fault, table_fault, test_fault, type_fault, items_of, is_all, columns_known, first_set, misplaced_set, simple_test, name_in, pick_found, row_of}
 use Rattle.psm_rules.specs.Faults.{breaks, breaks_if, earlier, first_of}
 use Rattle.psm_rules.specs.declared.found.Found.{Found}
 use Rattle.psm_rules.specs.Found.{as_value, as_condition}
@@ -54,9 +54,11 @@ use Rattle.psm_rules.specs.declared.shape.Family.TheVariants.{Numbers, Texts}
 use Rattle.psm_rules.specs.Shapes.{family_of}
 use Rattle.psm_rules.specs.declared.shape.Shape.TheVariants as shape
 use Rattle.psm_rules.specs.Shapes as families
-use Rattle.psm_rules.specs.StatementFaults.{Context, inside, found, several, repeated, source_fault, state_fault, is_bad_state, declared_condition, name_of_condition_fault, label_of, label_name, simple_fault}
+use Rattle.psm_rules.specs.StatementFaults.{Context, inside, found, several, repeated, source_fault, state_fault, good_state, declared_condition, name_of_condition_fault, label_of, label_name, simple_fault}
 use Rattle.psm_rules.specs.Types.{type_of}
-use Rattle.psm_rules.specs.View.{View, Frames, Variable, Cursor, DeclaredCondition, Columns, on_row}
+use Rattle.psm_scope.specs.declared.known.Variable.{Variable}
+use Rattle.psm_scope.specs.declared.known.DeclaredCondition.{DeclaredCondition}
+use Rattle.psm_rules.specs.View.{View, Cursor, Columns, on_row}
 
 -- ---- declarations of variables and conditions
 
@@ -64,23 +66,26 @@ use Rattle.psm_rules.specs.View.{View, Frames, Variable, Cursor, DeclaredConditi
 abbrev pub Declares : Type 0
 Declares = Declared Variable DeclaredCondition Cursor
 
+-- a name that is declared again stays what it is
+abbrev pub declared_once : {A : Type 0} → List (Spelling × A) → Spelling → A → List (Spelling × A)
+declared_once xs n x = if is_some (named n xs) then xs else xs ++ (n, x) ∷ []
+
+abbrev pub all_declared : {A : Type 0} → List (Spelling × A) → List Identifier → A → List (Spelling × A)
+all_declared xs [] x = xs
+all_declared xs (n ∷ ns) x = all_declared (declared_once xs n.name x) ns x
+
 abbrev pub local_variable : Option SqlType → Variable
-local_variable kind = record { kind = kind; assignable = true }
+local_variable kind = record { kind = kind; slot = 0; assignable = true }
 
-abbrev pub with_variables : Declares → List Identifier → Option SqlType → Declares
-with_variables d names kind = record d { variables = d.variables ++ map (λ n. (n.name, local_variable kind)) names }
-
-abbrev pub state_text : Option State → Option Spelling
-state_text state = option_map (λ s. s.text) state
+-- the SQLSTATE that a condition is another name of; a bad one doesn't count
+abbrev pub state_of : Option State → Option Spelling
+state_of None = None
+state_of (Some s) = good_state s.text
 
 -- what stands declared behind a declaration
 abbrev pub behind : Declares → Declaration → Declares
-behind d (declarations.Variables place names kind default) = with_variables d (several names) (type_of kind)
-behind d (declarations.Condition place name state) = record d { conditions = d.conditions ++ ((name.name, record { state = state_text state }) ∷ []) }
-
-abbrev pub type_fault : DataType → Option SqlType → Option Fault
-type_fault t None = breaks rule.TypeOutOfRange t.place
-type_fault t (Some kind) = None
+behind d (declarations.Variables place names kind default) = record d { variables = all_declared d.variables (several names) (local_variable (type_of kind)) }
+behind d (declarations.Condition place name state) = record d { conditions = declared_once d.conditions name.name (record { number = 0; state = state_of state }) }
 
 abbrev pub default_fault : Context → Option SqlType → Option Expr → Option Fault
 default_fault c kind None = None
@@ -139,24 +144,13 @@ order_fault c table (Some order) = order_of (named table.name c.view.world.keys)
 
 -- ---- cursors; no set function stands in one
 
-abbrev pub types_of_items : Option Columns → List (Option Shape) → Option (List (Option Shape))
-types_of_items None shapes = None
-types_of_items (Some columns) shapes = Some shapes
-
-abbrev pub no_all : List PickFound → Bool
-no_all picks = list_all (λ p. not (is_all p.form)) picks
-
--- the items of a cursor; how many they are isn't known of all columns of an unknown table
-abbrev pub items_known : QueryFound → Option (List (Option Shape))
-items_known q = if no_all q.picks then Some (items_of q) else types_of_items q.columns (items_of q)
-
 abbrev pub is_updatable : Bool → Option Updatability → Bool
 is_updatable insensitive None = not insensitive
 is_updatable insensitive (Some updatability.ReadOnly) = false
 is_updatable insensitive (Some updatability.Update) = not insensitive
 
 abbrev pub cursor_on : QueryFound → Bool → Bool → Cursor
-cursor_on q updatable of_for = record { table = q.table.name; updatable = updatable; of_for = of_for; items = items_known q }
+cursor_on q updatable of_for = record { table = q.table.name; updatable = updatable; of_for = of_for; items = option_map (map (λ i. i.shape)) (items_of q) }
 
 abbrev pub found_query : Context → OrderedQuery → QueryFound
 found_query c q = query_found q.query c.view
@@ -166,11 +160,16 @@ cursor_fault c x = let q = found_query c x.query in
     first_of (query_fault q ∷ misplaced_set true (first_set q.picks) ∷ order_fault c q.table x.query.order ∷ [])
 
 abbrev pub with_cursor : Context → Declares → CursorDeclaration → Declares
-with_cursor c d x = record d { cursors = d.cursors ++ ((x.name.name, cursor_on (found_query c x.query) (is_updatable x.insensitive x.updatability) false) ∷ []) }
+with_cursor c d x = record d { cursors = declared_once d.cursors x.name.name (cursor_on (found_query c x.query) (is_updatable x.insensitive x.updatability) false) }
 
-abbrev pub with_cursors : Context → Declares → List CursorDeclaration → Declares
-with_cursors c d [] = d
-with_cursors c d (x ∷ xs) = with_cursors c (with_cursor c d x) xs
+-- each sees what stands before it
+abbrev pub cursors_fault : Context → Option Spelling → Declares → List CursorDeclaration → List (Option Fault)
+cursors_fault c label d [] = []
+cursors_fault c label d (x ∷ xs) = let seen = inside c (compound label d) in cursor_fault seen x ∷ cursors_fault c label (with_cursor seen d x) xs
+
+abbrev pub with_cursors : Context → Option Spelling → Declares → List CursorDeclaration → Declares
+with_cursors c label d [] = d
+with_cursors c label d (x ∷ xs) = with_cursors c label (with_cursor (inside c (compound label d)) d x) xs
 
 -- ---- handlers
 
@@ -207,21 +206,14 @@ same_value NoData Exceptions = false
 same_value NoData Warnings = false
 same_value NoData NoData = true
 
-abbrev pub good_state : Spelling → Option Handles
-good_state s = if is_bad_state s then None else Some (ByState s)
-
 -- a name that is declared FOR an SQLSTATE is that SQLSTATE
-abbrev pub of_declared : Spelling → Option DeclaredCondition → Option Handles
-of_declared n None = None
-of_declared n (Some d) = of_state d.state
-  where
-    of_state : Option Spelling → Option Handles
-    of_state None = Some (ByName n)
-    of_state (Some s) = good_state s
+abbrev pub named_value : Spelling → Option Spelling → Handles
+named_value n None = ByName n
+named_value n (Some s) = ByState s
 
 abbrev pub handles : Context → HandlerValue → Option Handles
-handles c (handled.State s) = good_state s.text
-handles c (handled.Name n) = of_declared n.name (declared_condition c n)
+handles c (handled.State s) = option_map (λ s. ByState s) (good_state s.text)
+handles c (handled.Name n) = option_map (λ d. named_value n.name d.state) (declared_condition c n)
 handles c (handled.SqlException place) = Some Exceptions
 handles c (handled.SqlWarning place) = Some Warnings
 handles c (handled.NotFound place) = Some NoData
@@ -311,17 +303,21 @@ item_type None s = wide_type s
 abbrev pub type_of_item : ForItem → Option SqlType
 type_of_item i = item_type i.column (as_value i.pick.found).shape
 
--- the variables of FOR; an item without a name has none
-abbrev pub item_variable : Option Spelling → Option SqlType → List (Spelling × Variable)
-item_variable None kind = []
-item_variable (Some n) kind = (n, local_variable kind) ∷ []
+-- the variables of FOR, each name once; an item without a name has none
+abbrev pub with_columns : List (Spelling × Variable) → Columns → List (Spelling × Variable)
+with_columns before [] = before
+with_columns before (c ∷ columns) = with_columns (declared_once before c.0 (local_variable c.1)) columns
 
-abbrev pub variables_of : Columns → ForItem → List (Spelling × Variable)
-variables_of columns i = if is_all i.pick.form then map (λ c. (c.0, local_variable c.1)) columns else item_variable (name_of_item i) (type_of_item i)
+abbrev pub with_named : List (Spelling × Variable) → Option Spelling → Option SqlType → List (Spelling × Variable)
+with_named before None kind = before
+with_named before (Some n) kind = declared_once before n (local_variable kind)
 
-abbrev pub for_variables : Columns → List ForItem → List (Spelling × Variable)
-for_variables columns [] = []
-for_variables columns (i ∷ others) = variables_of columns i ++ for_variables columns others
+abbrev pub with_item : Columns → List (Spelling × Variable) → ForItem → List (Spelling × Variable)
+with_item columns before i = if is_all i.pick.form then with_columns before columns else with_named before (name_of_item i) (type_of_item i)
+
+abbrev pub for_variables : Columns → List (Spelling × Variable) → List ForItem → List (Spelling × Variable)
+for_variables columns before [] = before
+for_variables columns before (i ∷ others) = for_variables columns (with_item columns before i) others
 
 -- an item needs a name that no item before it has; that goes before the sort of the item
 abbrev pub named_fault : List (Spelling × Variable) → Place → Option Spelling → Option Fault
@@ -337,7 +333,7 @@ item_of_for before i = if is_all i.pick.form then None else unless_broken (named
 
 abbrev pub for_items : Columns → List (Spelling × Variable) → List ForItem → List (Option Fault)
 for_items columns before [] = []
-for_items columns before (i ∷ others) = item_of_for before i ∷ for_items columns (before ++ variables_of columns i) others
+for_items columns before (i ∷ others) = item_of_for before i ∷ for_items columns (with_item columns before i) others
 
 -- the items of the query of FOR, on the rows of its table
 abbrev pub items_in : View → Select → List ForItem
@@ -352,7 +348,7 @@ for_cursors q None = []
 for_cursors q (Some cursor) = (cursor.name.name, cursor_on q (not cursor.insensitive) true) ∷ []
 
 abbrev pub for_frame : Option Spelling → Identifier → QueryFound → List ForItem → Option ForCursor → Frame Variable DeclaredCondition Cursor
-for_frame label name q items cursor = frame.For label name.name (record { variables = for_variables (columns_known q.columns) items; conditions = []; cursors = for_cursors q cursor })
+for_frame label name q items cursor = frame.For label name.name (record { variables = for_variables (columns_known q.columns) [] items; conditions = []; cursors = for_cursors q cursor })
 
 -- ---- statements; the parts of a layer are their first faults where they stand
 
@@ -402,11 +398,10 @@ nothing = undeclared
 abbrev pub compound_fault : Option Spelling → Context → Bool → List Declaration → List CursorDeclaration → List HandlerPart → List Part → Option Fault
 compound_fault label c atomic xs cursors handlers statements =
     let d = declared_by nothing xs in
-    let seen = inside c (compound label d) in
-    let whole = inside c (compound label (with_cursors seen d cursors)) in
+    let whole = inside c (compound label (with_cursors c label d cursors)) in
     first_of (repeated rule.DeclarationRepeated (variable_names xs) ∷ repeated rule.DeclarationRepeated (condition_names xs)
     ∷ repeated rule.DeclarationRepeated (map (λ x. x.name) cursors) ∷ first_of (declarations_fault c label nothing xs)
-    ∷ first_of (map (cursor_fault seen) cursors) ∷ first_of (values_fault whole [] (all_values handlers))
+    ∷ first_of (cursors_fault c label d cursors) ∷ first_of (values_fault whole [] (all_values handlers))
     ∷ first_of (handlers_fault whole atomic handlers) ∷ all whole statements ∷ [])
 
 abbrev pub block_layer : Block-F BlockPart Part BranchPart HandlerPart → BlockPart

@@ -16,10 +16,13 @@ earlier None b = b
 earlier (Some a) None = Some a
 earlier (Some a) (Some b) = Some (if precedes b a then b else a)
 
--- the first of some
+-- the first of some, and of one before them
+abbrev pub first_from : Option Fault → List (Option Fault) → Option Fault
+first_from f [] = f
+first_from f (g ∷ gs) = first_from (earlier f g) gs
+
 abbrev pub first_of : List (Option Fault) → Option Fault
-first_of [] = None
-first_of (f ∷ fs) = earlier f (first_of fs)
+first_of fs = first_from None fs
 
 -- the fault of a rule at a place
 abbrev pub breaks : Rule → Place → Option Fault

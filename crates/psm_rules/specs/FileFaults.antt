@@ -53,8 +53,8 @@ use Rattle.psm_tree.specs.declared.file.Routine.{Routine}
 use Rattle.psm_rules.specs.declared.fault.Fault.{Fault}
 use Rattle.psm_rules.specs.declared.rule.Rule.{Rule}
 use Rattle.psm_rules.specs.declared.rule.Rule.TheVariants as rule
-use Rattle.psm_rules.specs.BlockFaults.{statement_fault, type_fault}
-use Rattle.psm_rules.specs.ExprFaults.{expr_found}
+use Rattle.psm_rules.specs.BlockFaults.{declared_once, statement_fault}
+use Rattle.psm_rules.specs.ExprFaults.{expr_found, type_fault}
 use Rattle.psm_rules.specs.Faults.{breaks, breaks_if, earlier, first_of}
 use Rattle.psm_rules.specs.Found.{as_condition}
 use Rattle.psm_rules.specs.declared.shape.Family.{Family}
@@ -63,15 +63,29 @@ use Rattle.psm_rules.specs.Shapes.{is_family, family_of, typed}
 use Rattle.psm_rules.specs.StatementFaults.{Context, Within, several, repeated, columns_fault}
 use Rattle.psm_rules.specs.StatementFaults as within
 use Rattle.psm_rules.specs.Types.{type_of}
-use Rattle.psm_rules.specs.View.{View, World, Variable, Columns, Function, Procedure}
+use Rattle.psm_rules.specs.View.{View, World, Columns}
+use Rattle.psm_scope.specs.Routines.{Callable, Header, procedure}
+use Rattle.psm_scope.specs.declared.known.Variable.{Variable}
+use Rattle.psm_scope.specs.declared.known.DeclaredCondition.{DeclaredCondition}
+use Rattle.psm_scope.specs.declared.procedures.ProcedureScope.{ProcedureScope}
+use Rattle.psm_scope.specs.declared.procedures.ParameterScope.{ParameterScope}
+use Rattle.psm_scope.specs.declared.procedures.ParameterMode.{ParameterMode}
+use Rattle.psm_scope.specs.declared.procedures.ParameterMode.TheVariants as scope_modes
 use Rattle.psm_rules.specs.View as view
 
 -- ---- columns of a table
 
+-- the columns, each name once
+abbrev pub with_column : Columns → Element → Columns
+with_column columns (elements.Column name kind default rules) = declared_once columns name.name (type_of kind)
+with_column columns (elements.Rule rule) = columns
+
+abbrev pub columns_from : Columns → List Element → Columns
+columns_from columns [] = columns
+columns_from columns (e ∷ es) = columns_from (with_column columns e) es
+
 abbrev pub columns_of : List Element → Columns
-columns_of [] = []
-columns_of (elements.Column name kind default rules ∷ es) = (name.name, type_of kind) ∷ columns_of es
-columns_of (elements.Rule rule ∷ es) = columns_of es
+columns_of es = columns_from [] es
 
 abbrev pub column_names : List Element → List Identifier
 column_names [] = []
@@ -158,10 +172,13 @@ too_many (Some n) = breaks rule.TooManyColumns n.place
 abbrev pub key_fault : Identifier → List (List Spelling) → Option Fault
 key_fault table keys = breaks_if (not (nat_eq (length keys) 1)) rule.NotOnePrimaryKey table.place
 
+abbrev pub no_world : World
+no_world = record { tables = []; keys = []; functions = record { signatures = []; results = [] }; procedures = [] }
+
 -- a CHECK sees the columns of its table alone
 abbrev pub alone : Spelling → Columns → View
 alone table columns = record {
-  world = record { tables = []; keys = []; functions = []; procedures = [] };
+  world = no_world;
   frames = [];
   row = Some (record { name = table; alias = None; columns = columns });
 }
@@ -176,10 +193,10 @@ table_fault t = let es = table_elements t in let columns = columns_of es in
 
 -- ---- routines
 
-abbrev pub mode_of : Mode → view.Mode
-mode_of modes.In = view.In
-mode_of modes.Out = view.Out
-mode_of modes.InOut = view.InOut
+abbrev pub mode_of : Mode → ParameterMode
+mode_of modes.In = scope_modes.In
+mode_of modes.Out = scope_modes.Out
+mode_of modes.InOut = scope_modes.InOut
 
 abbrev pub is_in : Mode → Bool
 is_in modes.In = true
@@ -189,8 +206,8 @@ is_in modes.InOut = false
 abbrev pub is_function : Routine → Bool
 is_function r = is_some r.returns
 
-abbrev pub parameter_of : Parameter → (view.Mode × Option SqlType)
-parameter_of p = (mode_of p.mode, type_of p.kind)
+abbrev pub parameter_of : Parameter → ParameterScope
+parameter_of p = record { mode = mode_of p.mode; kind = type_of p.kind }
 
 -- the kind of a type, also of one that is out of range
 abbrev pub kind_of : TypeForm → ArgKind
@@ -203,23 +220,32 @@ kind_of (forms.VarChar n) = kind.VarChar
 abbrev pub kinds_of : Routine → List ArgKind
 kinds_of r = map (λ p. kind_of p.kind.form) r.parameters
 
-abbrev pub function_of : Routine → DataType → Function
-function_of r t = record { signature = record { name = r.name.name; kinds = kinds_of r }; result = type_of t }
+-- each function
+abbrev pub with_function : Callable → Routine → Option DataType → Callable
+with_function fs r None = fs
+with_function fs r (Some t) = record {
+  signatures = fs.signatures ++ record { name = r.name.name; kinds = kinds_of r } ∷ [];
+  results = fs.results ++ type_of t ∷ [];
+}
 
-abbrev pub procedure_of : Routine → Procedure
-procedure_of r = record { name = r.name.name; parameters = map parameter_of r.parameters }
+-- the first procedure of each name and number of parameters
+abbrev pub Procedures : Type 0
+Procedures = List (Header × ProcedureScope)
 
-abbrev pub functions_of : List Routine → List Function
-functions_of [] = []
-functions_of (r ∷ rs) = with_function r r.returns (functions_of rs)
-  where
-    with_function : Routine → Option DataType → List Function → List Function
-    with_function r None fs = fs
-    with_function r (Some t) fs = function_of r t ∷ fs
+abbrev pub with_first : Procedures → Spelling → List ParameterScope → Procedures
+with_first ps n parameters = if is_some (procedure n (length parameters) ps) then ps
+    else ps ++ ((n, length parameters), record { number = 0; parameters = parameters }) ∷ []
 
-abbrev pub procedures_of : List Routine → List Procedure
-procedures_of [] = []
-procedures_of (r ∷ rs) = if is_function r then procedures_of rs else procedure_of r ∷ procedures_of rs
+abbrev pub with_procedure : Procedures → Routine → Procedures
+with_procedure ps r = if is_function r then ps else with_first ps r.name.name (map parameter_of r.parameters)
+
+abbrev pub functions_of : Callable → List Routine → Callable
+functions_of fs [] = fs
+functions_of fs (r ∷ rs) = functions_of (with_function fs r r.returns) rs
+
+abbrev pub procedures_of : Procedures → List Routine → Procedures
+procedures_of ps [] = ps
+procedures_of ps (r ∷ rs) = procedures_of (with_procedure ps r) rs
 
 -- ---- routines that can't be told apart
 
@@ -305,11 +331,15 @@ mode_fault of_function p = breaks_if (of_function && not (is_in p.mode)) rule.Mo
 abbrev pub parameter_fault : Bool → Parameter → Option Fault
 parameter_fault of_function p = earlier (mode_fault of_function p) (type_fault p.kind (type_of p.kind))
 
-abbrev pub parameter_variable : Parameter → (Spelling × Variable)
-parameter_variable p = (p.name.name, record { kind = type_of p.kind; assignable = not (is_in p.mode) })
+abbrev pub parameter_variable : Parameter → Variable
+parameter_variable p = record { kind = type_of p.kind; slot = 0; assignable = not (is_in p.mode) }
 
-abbrev pub routine_frame : Routine → frame.Frame Variable view.DeclaredCondition view.Cursor
-routine_frame r = frame.Routine r.name.name (record { variables = map parameter_variable r.parameters; conditions = []; cursors = [] })
+abbrev pub with_parameters : List (Spelling × Variable) → List Parameter → List (Spelling × Variable)
+with_parameters before [] = before
+with_parameters before (p ∷ ps) = with_parameters (declared_once before p.name.name (parameter_variable p)) ps
+
+abbrev pub routine_frame : Routine → frame.Frame Variable DeclaredCondition view.Cursor
+routine_frame r = frame.Routine r.name.name (record { variables = with_parameters [] r.parameters; conditions = []; cursors = [] })
 
 abbrev pub kind_of_routine : Option DataType → Within
 kind_of_routine None = within.InProcedure
@@ -337,13 +367,21 @@ abbrev pub first_key : List (List Spelling) → List Spelling
 first_key [] = []
 first_key (k ∷ ks) = k
 
--- what the tables and the routines of a file declare; each routine is known in the whole module
+abbrev pub tables_from : List (Spelling × Columns) → List TableTree → List (Spelling × Columns)
+tables_from before [] = before
+tables_from before (t ∷ ts) = tables_from (declared_once before t.name.name (columns_of (table_elements t))) ts
+
+abbrev pub keys_from : List (Spelling × List Spelling) → List TableTree → List (Spelling × List Spelling)
+keys_from before [] = before
+keys_from before (t ∷ ts) = keys_from (declared_once before t.name.name (first_key (keys_of (table_elements t)))) ts
+
+-- what the tables and the routines of a file declare, each table once; each routine is known in the whole module
 abbrev pub world_of : FileTree → World
 world_of f = record {
-  tables = map (λ t. (t.name.name, columns_of (table_elements t))) f.tables;
-  keys = map (λ t. (t.name.name, first_key (keys_of (table_elements t)))) f.tables;
-  functions = functions_of f.«module».routines;
-  procedures = procedures_of f.«module».routines;
+  tables = tables_from [] f.tables;
+  keys = keys_from [] f.tables;
+  functions = functions_of (record { signatures = []; results = [] }) f.«module».routines;
+  procedures = procedures_of [] f.«module».routines;
 }
 
 -- the first fault of a module file; without one the file is accepted

@@ -1,6 +1,7 @@
 -- What is found in a part of an expression: its place, the first fault in it, and its shape, which a part that has a fault
 -- in it, or that is declared with a type at fault, doesn't have.
-use Rattle.std.specs.Prelude.{◌≡◌, Bool, true, false, not, ◌&&◌, Option, Some, None, List, [], ◌∷◌, map, is_none, if◌then◌else◌}
+use Rattle.std.specs.Prelude.{◌≡◌, Bool, true, false, not, ◌&&◌, Option, Some, None, List, [], ◌∷◌, map, is_some, if◌then◌else◌}
+use Rattle.std.specs.List.{list_all}
 use Rattle.psm_value.specs.declared.sqltype.SqlType.{SqlType}
 use Rattle.psm_scope.specs.Frames.{Spelling}
 use Rattle.psm_token.specs.declared.place.Place.{Place}
@@ -51,23 +52,20 @@ as_condition f = with_shape condition_shape f f.shape
 abbrev pub faults_in : List Found → Option Fault
 faults_in parts = first_of (map (λ f. f.fault) parts)
 
--- the shapes of all, where each has one
-abbrev pub cons_shape : Option Shape → Option (List Shape) → Option (List Shape)
-cons_shape None ss = None
-cons_shape (Some s) None = None
-cons_shape (Some s) (Some ss) = Some (s ∷ ss)
+abbrev pub is_shaped : Found → Bool
+is_shaped f = is_some f.shape
 
-abbrev pub shapes_in : List Found → Option (List Shape)
-shapes_in [] = Some []
-shapes_in (f ∷ fs) = cons_shape f.shape (shapes_in fs)
+-- the shape of a part that has one
+abbrev pub shown : Option Shape → Shape
+shown None = Untyped
+shown (Some s) = s
 
--- what is asked of the shapes of the parts, where each has one
-abbrev pub asked : Place → List Found → (List Shape → Found) → Option (List Shape) → Found
-asked place parts rule None = record { place = place; fault = faults_in parts; shape = None }
-asked place parts rule (Some shapes) = rule shapes
+abbrev pub shape_of : Found → Shape
+shape_of f = shown f.shape
 
-abbrev pub made_of : Place → List Found → (List Shape → Found) → Found
-made_of place parts rule = asked place parts rule (shapes_in parts)
+-- what the whole is where each part has a shape
+abbrev pub made_of : Place → List Found → Found → Found
+made_of place parts whole = if list_all is_shaped parts then whole else record { place = place; fault = faults_in parts; shape = None }
 
 -- ---- families
 
@@ -77,3 +75,7 @@ family_shape family place shape = if is_of family shape then sound place shape e
 
 abbrev pub of_family : Family → Found → Found
 of_family family f = with_shape (family_shape family) f f.shape
+
+-- whether all parts are of a family
+abbrev pub all_of : Family → List Found → Bool
+all_of family parts = list_all (λ f. is_of family (shape_of f)) parts

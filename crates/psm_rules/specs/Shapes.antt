@@ -36,11 +36,27 @@ is_of family (Value t) = is_family family (family_of t.kind)
 is_of family Untyped = true
 is_of family Condition = false
 
--- whether two values are of one family; NULL goes with both
-abbrev pub go_together : Shape → Shape → Bool
-go_together (Value t) other = is_of (family_of t.kind) other
-go_together Untyped other = true
-go_together Condition other = false
+-- the family of a value, which NULL doesn't have
+abbrev pub family_in : Shape → Option Family
+family_in (Value t) = Some (family_of t.kind)
+family_in Untyped = None
+family_in Condition = None
+
+-- two families that aren't one
+abbrev pub clashes : Option Family → Option Family → Bool
+clashes None other = false
+clashes (Some a) None = false
+clashes (Some a) (Some b) = not (is_family a b)
+
+-- the type of a number; NULL isn't one
+abbrev pub number_of : Typed → Family → Option Typed
+number_of t Numbers = Some t
+number_of t Texts = None
+
+abbrev pub number_in : Shape → Option Typed
+number_in (Value t) = number_of t (family_of t.kind)
+number_in Untyped = None
+number_in Condition = None
 
 -- ---- types
 
@@ -85,10 +101,3 @@ joined None (Value t) = Some t
 joined (Some u) (Value t) = Some (at_larger_scale u t)
 joined u Untyped = u
 joined u Condition = u
-
-abbrev pub joined_all : Option Typed → List Shape → Option Typed
-joined_all u [] = u
-joined_all u (s ∷ others) = joined_all (joined u s) others
-
-abbrev pub result_of : List Shape → Option Typed
-result_of shapes = joined_all None shapes

@@ -61,7 +61,7 @@ use Rattle.psm_tree.specs.declared.statement.Simple.TheVariants as simples
 use Rattle.psm_rules.specs.declared.fault.Fault.{Fault}
 use Rattle.psm_rules.specs.declared.rule.Rule.{Rule}
 use Rattle.psm_rules.specs.declared.rule.Rule.TheVariants as rule
-use Rattle.psm_rules.specs.ExprFaults.{PickFound, QueryFound, expr_found, query_found, query_fault, parts_fault, sets_fault, table_fault, test_fault, counted_fault, count_of, is_counted, items_of, is_set, is_all, column_shape, columns_known, first_set, misplaced_set, simple_test, spelling}
+use Rattle.psm_rules.specs.ExprFaults.{QueryFound, expr_found, query_found, query_fault, miscounted_fault, table_fault, items_of, may_be, columns_known, spelling}
 use Rattle.psm_rules.specs.Faults.{breaks, breaks_if, earlier, first_of}
 use Rattle.psm_rules.specs.declared.found.Found.{Found}
 use Rattle.psm_rules.specs.Found.{as_value, as_condition, of_family}
@@ -74,7 +74,15 @@ use Rattle.psm_rules.specs.Shapes.{family_of, is_of, typed}
 use Rattle.psm_rules.specs.declared.shape.Shape.TheVariants as shape
 use Rattle.psm_rules.specs.Shapes as families
 use Rattle.psm_rules.specs.Types.{type_of}
-use Rattle.psm_rules.specs.View.{View, World, Frames, Variable, Cursor, DeclaredCondition, Columns, Procedure, Mode, In, Out, InOut, on_row, table_named}
+use Rattle.psm_scope.specs.Routines as routines
+use Rattle.psm_scope.specs.declared.known.Variable.{Variable}
+use Rattle.psm_scope.specs.declared.known.DeclaredCondition.{DeclaredCondition}
+use Rattle.psm_scope.specs.declared.procedures.ProcedureScope.{ProcedureScope}
+use Rattle.psm_scope.specs.declared.procedures.ParameterScope.{ParameterScope}
+use Rattle.psm_scope.specs.declared.procedures.ParameterMode.{ParameterMode}
+use Rattle.psm_scope.specs.declared.procedures.ParameterMode.TheVariants.{In, Out, InOut}
+use Rattle.psm_rules.specs.declared.query.Item.{Item}
+use Rattle.psm_rules.specs.View.{View, Cursor, Columns, on_row, table_named}
 
 -- ---- where a statement stands
 
@@ -107,12 +115,6 @@ abbrev pub several : {A : Type 0} → Several A → List A
 several s = s.first ∷ s.rest
 
 -- ---- sources and targets
-
-abbrev pub family_in : Option Shape → Option Family
-family_in None = None
-family_in (Some (Value t)) = Some (family_of t.kind)
-family_in (Some Untyped) = None
-family_in (Some shape.Condition) = None
 
 -- a value where one of a type is due, if that is known: the fault is at a place
 abbrev pub mixed_at : Place → Option Family → Option Shape → Option Fault
@@ -161,6 +163,9 @@ is_state s = nat_eq (length s) 5 && list_all is_state_character s
 
 abbrev pub is_bad_state : Spelling → Bool
 is_bad_state s = not (is_state s) || is_success s
+
+abbrev pub good_state : Spelling → Option Spelling
+good_state s = if is_bad_state s then None else Some s
 
 abbrev pub state_fault : State → Option Fault
 state_fault s = breaks_if (is_bad_state s.text) rule.BadSqlState s.«at»
@@ -221,24 +226,19 @@ diagnostics_fault c (diagnostics.Condition number items) = earlier (number_fault
 
 -- ---- queries with their targets
 
--- a place for each item: that of its pick
-abbrev pub item_places : Columns → List PickFound → List Place
-item_places columns [] = []
-item_places columns (p ∷ ps) = (if is_all p.form then map (λ c. p.found.place) columns else p.found.place ∷ []) ++ item_places columns ps
-
 -- each item goes into its target; the fault is at the item
-abbrev pub pairs_fault : List Place → List (Option Shape) → List (Option SqlType) → List (Option Fault)
-pairs_fault [] shapes kinds = []
-pairs_fault (place ∷ places) [] kinds = []
-pairs_fault (place ∷ places) (s ∷ shapes) [] = []
-pairs_fault (place ∷ places) (s ∷ shapes) (k ∷ kinds) = mixed_at place (family_due k) s ∷ pairs_fault places shapes kinds
+abbrev pub pairs_fault : List Item → List (Option SqlType) → List (Option Fault)
+pairs_fault [] kinds = []
+pairs_fault (i ∷ others) [] = []
+pairs_fault (i ∷ others) (k ∷ kinds) = mixed_at i.place (family_due k) i.shape ∷ pairs_fault others kinds
 
-abbrev pub items_into : QueryFound → List (Option SqlType) → Option Fault
-items_into q kinds = first_of (pairs_fault (item_places (columns_known q.columns) q.picks) (items_of q) kinds)
+abbrev pub items_into : Option (List Item) → List (Option SqlType) → Option Fault
+items_into None kinds = None
+items_into (Some items) kinds = first_of (pairs_fault items kinds)
 
 -- as many items as targets; else no pair is asked
 abbrev pub into_fault : QueryFound → Place → List (Option SqlType) → Option Fault
-into_fault q first kinds = if is_counted (length kinds) (count_of q) then items_into q kinds else breaks rule.CountsDiffer first
+into_fault q first kinds = if may_be (length kinds) (items_of q) then items_into (items_of q) kinds else breaks rule.CountsDiffer first
 
 abbrev pub select_into_fault : Context → QueryFound → Targets → Option Fault
 select_into_fault c q ts = first_of (query_fault q ∷ targets_fault c (several ts) ∷ into_fault q ts.first.first.place (map (target_type c) (several ts)) ∷ [])
@@ -286,7 +286,7 @@ row_fault c kinds row = values_for (found c row.values.first).place (map (found 
 
 abbrev pub query_for : QueryFound → Option (List (Option SqlType)) → Option Fault
 query_for q None = query_fault q
-query_for q (Some kinds) = if is_counted (length kinds) (count_of q) then earlier (query_fault q) (items_into q kinds) else counted_fault (length kinds) q
+query_for q (Some kinds) = if may_be (length kinds) (items_of q) then earlier (query_fault q) (items_into (items_of q) kinds) else miscounted_fault q
 
 abbrev pub insert_source_fault : Context → Option (List (Option SqlType)) → InsertSource → Option Fault
 insert_source_fault c kinds (sources.Values rows) = first_of (map (row_fault c kinds) (several rows))
@@ -339,14 +339,6 @@ fetch_fault c ts (Some cursor) = if cursor.of_for then None else fetch_items c t
 
 -- ---- CALL
 
-abbrev pub is_called : Spelling → ℕ → Procedure → Bool
-is_called name n p = is_spelled name p.name && nat_eq n (length p.parameters)
-
--- the first procedure of the name with that number of parameters
-abbrev pub procedure_named : Spelling → ℕ → List Procedure → Option Procedure
-procedure_named name n [] = None
-procedure_named name n (p ∷ ps) = if is_called name n p then Some p else procedure_named name n ps
-
 -- a variable or parameter that can be assigned, by itself
 abbrev pub is_target : Context → Expr → Bool
 is_target c (exprs.Name t) = is_assigned (variable_of c t)
@@ -356,17 +348,20 @@ is_target c (exprs.Name t) = is_assigned (variable_of c t)
     is_assigned (Some v) = v.assignable
 is_target c e = false
 
-abbrev pub argument_fault : Context → (Mode × Option SqlType) → Expr → Option Fault
-argument_fault c (In, kind) e = source_fault kind (found c e)
-argument_fault c (Out, kind) e = if is_target c e then source_fault kind (found c e) else earlier (breaks rule.NotAssignable (found c e).place) (found c e).fault
-argument_fault c (InOut, kind) e = if is_target c e then source_fault kind (found c e) else earlier (breaks rule.NotAssignable (found c e).place) (found c e).fault
+abbrev pub is_passed : Context → ParameterMode → Expr → Bool
+is_passed c In e = true
+is_passed c Out e = is_target c e
+is_passed c InOut e = is_target c e
 
-abbrev pub arguments_fault : Context → List (Mode × Option SqlType) → List Expr → List (Option Fault)
+abbrev pub argument_fault : Context → ParameterScope → Expr → Option Fault
+argument_fault c p e = if is_passed c p.mode e then source_fault p.kind (found c e) else earlier (breaks rule.NotAssignable (found c e).place) (found c e).fault
+
+abbrev pub arguments_fault : Context → List ParameterScope → List Expr → List (Option Fault)
 arguments_fault c [] es = []
 arguments_fault c (p ∷ ps) [] = []
 arguments_fault c (p ∷ ps) (e ∷ es) = argument_fault c p e ∷ arguments_fault c ps es
 
-abbrev pub call_fault : Context → Identifier → List Expr → Option Procedure → Option Fault
+abbrev pub call_fault : Context → Identifier → List Expr → Option ProcedureScope → Option Fault
 call_fault c n es None = breaks rule.UnknownProcedure n.place
 call_fault c n es (Some p) = first_of (arguments_fault c p.parameters es)
 
@@ -428,7 +423,7 @@ resignal_fault c (Some s) = signalled_fault c s
 abbrev pub simple_fault : Context → Simple → Option Fault
 simple_fault c (simples.Set place target source) = set_fault c target source
 simple_fault c (simples.Call place procedure arguments) = earlier (only_in_procedures c place)
-    (call_fault c procedure arguments (procedure_named procedure.name (length arguments) c.view.world.procedures))
+    (call_fault c procedure arguments (routines.procedure procedure.name (length arguments) c.view.world.procedures))
 simple_fault c (simples.Return place source) = return_fault c c.within place source
 simple_fault c (simples.Leave place label) = label_fault c label
 simple_fault c (simples.Iterate place label) = loop_label_fault c label

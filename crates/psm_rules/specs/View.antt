@@ -1,17 +1,15 @@
 -- What the checker sees at a place.
-use Rattle.std.specs.Prelude.{ℕ, Bool, Option, Some, None, List, [], ◌∷◌, map}
+use Rattle.std.specs.Prelude.{Bool, Option, Some, List}
 use Rattle.psm_value.specs.declared.sqltype.SqlType.{SqlType}
-use Rattle.psm_scope.specs.Choice.{Signature}
 use Rattle.psm_scope.specs.Frames.{Spelling, Frame}
-use Rattle.psm_scope.specs.Lookup.{RowTable, named, place_named}
+use Rattle.psm_scope.specs.Lookup.{RowTable, named}
+use Rattle.psm_scope.specs.Routines.{Callable, Header}
+use Rattle.psm_scope.specs.declared.known.Variable.{Variable}
+use Rattle.psm_scope.specs.declared.known.DeclaredCondition.{DeclaredCondition}
+use Rattle.psm_scope.specs.declared.procedures.ProcedureScope.{ProcedureScope}
 use Rattle.psm_rules.specs.declared.shape.Shape.{Shape}
 
--- what was declared with a type at fault has none
-
-pub record Variable : Type 0 where
-  pub kind : Option SqlType
-  -- an IN parameter isn't
-  pub assignable : Bool
+-- What was declared with a type at fault has none. Slots and numbers play no part here: they are 0.
 
 pub record Cursor : Type 0 where
   -- the name of the table that it walks
@@ -19,12 +17,8 @@ pub record Cursor : Type 0 where
   -- it is plain and not FOR READ ONLY
   pub updatable : Bool
   pub of_for : Bool
-  -- the shapes of its items, where it is known how many there are
+  -- the shapes of its items, where these are known
   pub items : Option (List (Option Shape))
-
--- a condition counts by its name alone
-pub record DeclaredCondition : Type 0 where
-  pub state : Option Spelling
 
 abbrev pub Frames : Type 0
 Frames = List (Frame Variable DeclaredCondition Cursor)
@@ -32,26 +26,13 @@ Frames = List (Frame Variable DeclaredCondition Cursor)
 abbrev pub Columns : Type 0
 Columns = List (Spelling × Option SqlType)
 
-pub record Function : Type 0 where
-  pub signature : Signature
-  pub result : Option SqlType
-
-abbrev pub signatures : List Function → List Signature
-signatures fs = map (λ f. f.signature) fs
-
-pub data Mode : Type 0 where
-  In Out InOut : Mode
-
-pub record Procedure : Type 0 where
-  pub name : Spelling
-  pub parameters : List (Mode × Option SqlType)
-
--- the tables and routines of the file
+-- the tables and routines of the file: each name once, and each procedure once by its name and number of parameters
 pub record World : Type 0 where
   pub tables : List (Spelling × Columns)
+  -- the columns of each table's key
   pub keys : List (Spelling × List Spelling)
-  pub functions : List Function
-  pub procedures : List Procedure
+  pub functions : Callable
+  pub procedures : List (Header × ProcedureScope)
 
 pub record View : Type 0 where
   pub world : World

@@ -3,10 +3,12 @@
 
 mod fault;
 mod found;
+mod query;
 mod rule;
 mod shape;
 
 pub use fault::{Fault, earlier};
 pub use found::Found;
+pub use query::{Item, Picked};
 pub use rule::Rule;
 pub use shape::{Family, Shape, Typed};
