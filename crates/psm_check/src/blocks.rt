@@ -293,8 +293,8 @@ fn declaration_fault<'w, 'a>(
 ) -> Result<Option<Fault>, AllocError> {
     match declaration {
         Declaration::Variables { kind, default, .. } => {
-            let known = type_of(*kind);
-            let fault = type_fault(*kind, known);
+            let known = type_of(kind);
+            let fault = type_fault(kind, known);
             match default {
                 None => Ok(fault),
                 Some(e) => {
@@ -317,7 +317,7 @@ fn declare<'a>(
 ) -> Result<(), AllocError> {
     match declaration {
         Declaration::Variables { names, kind, .. } => {
-            let known = local_variable(type_of(*kind));
+            let known = local_variable(type_of(kind));
             frames.declare_variable(&names.first.name, known)?;
             for name in names.rest.items() {
                 frames.declare_variable(&name.name, known)?;

@@ -122,7 +122,7 @@ pub(crate) fn expr_found(alloc: Global, e: &Expr, view: View) -> Result<Found, A
         },
         Expr::Cast { place, source, to } => {
             let found = expr_found(alloc, source.get(), view)?;
-            Ok(cast_found(*place, found, *to))
+            Ok(cast_found(*place, found, to))
         }
         Expr::Coalesce { place, values } => {
             let mut found = Vec::new(alloc);

@@ -233,8 +233,8 @@ pub(crate) fn function_found(place: Place, typed: Typed, arguments: &[Found]) ->
 }
 
 /// CAST of a source to a type.
-pub(crate) fn cast_found(place: Place, source: Found, to: DataType) -> Found
-    ensures { result ≡ cast_found place source to }
+pub(crate) fn cast_found(place: Place, source: Found, to: &DataType) -> Found
+    ensures { result ≡ cast_found place source to.now }
 {
     let value = as_value(source);
     let known = type_of(to);

@@ -21,7 +21,7 @@ use std::alloc::{AllocError, Global};
 // ---- what routines declare
 
 // The kind of a type, also of one that is out of range.
-fn kind_of(form: TypeForm) -> ArgKind {
+fn kind_of(form: &TypeForm) -> ArgKind {
     match form {
         TypeForm::SmallInt => ArgKind::SmallInt,
         TypeForm::Integer => ArgKind::Integer,
@@ -34,7 +34,7 @@ fn kind_of(form: TypeForm) -> ArgKind {
 fn kinds_of(alloc: Global, parameters: &[Parameter]) -> Result<List<ArgKind>, AllocError> {
     let mut kinds = Vec::new(alloc);
     for parameter in parameters {
-        kinds.push(kind_of(parameter.kind.form))?;
+        kinds.push(kind_of(&parameter.kind.form))?;
     }
     Ok(List::of(kinds))
 }
@@ -55,7 +55,7 @@ fn parameters_of(
     for parameter in parameters {
         types.push(ParameterScope {
             mode: mode_of(parameter.mode),
-            kind: type_of(parameter.kind),
+            kind: type_of(&parameter.kind),
         })?;
     }
     Ok(List::of(types))
@@ -70,7 +70,7 @@ pub(crate) fn declare_routines<'a>(
     for routine in routines {
         let parameters = routine.parameters.items();
         let name = &routine.name.name;
-        match routine.returns {
+        match &routine.returns {
             None => {
                 let parameters = parameters_of(alloc, parameters)?;
                 let known = ProcedureScope {
@@ -134,7 +134,7 @@ impl<'a> Told<'a> {
 fn kind_numbers(alloc: Global, parameters: &[Parameter]) -> Result<Vec<u8>, AllocError> {
     let mut numbers = Vec::new(alloc);
     for parameter in parameters {
-        numbers.push(kind_number(kind_of(parameter.kind.form)))?;
+        numbers.push(kind_number(kind_of(&parameter.kind.form)))?;
     }
     Ok(numbers)
 }
@@ -266,7 +266,7 @@ fn parameter_fault(of_function: bool, parameter: &Parameter) -> Option<Fault> {
         Rule::ModeNotAllowed,
         parameter.place,
     );
-    earlier(mode, type_fault(parameter.kind, type_of(parameter.kind)))
+    earlier(mode, type_fault(&parameter.kind, type_of(&parameter.kind)))
 }
 
 /// The first fault of a routine.
@@ -290,14 +290,14 @@ pub(crate) fn routine_fault<'a>(
         names.add(&parameter.name)?;
         fault = earlier(fault, parameter_fault(of_function, parameter));
         let known = Variable {
-            kind: type_of(parameter.kind),
+            kind: type_of(&parameter.kind),
             slot: 0,
             assignable: parameter.mode != Mode::In,
         };
         frames.declare_variable(&parameter.name.name, known)?;
     }
     fault = earlier(fault, names.fault());
-    let within = match r.returns {
+    let within = match &r.returns {
         None => Within::Procedure,
         Some(t) => {
             fault = earlier(fault, type_fault(t, type_of(t)));

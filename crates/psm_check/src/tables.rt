@@ -35,7 +35,7 @@ pub(crate) fn columns_of<'a>(
 fn push_column<'a>(columns: &mut Columns<'a>, element: &'a Element) -> Result<(), AllocError> {
     match element {
         Element::Column { name, kind, .. } => {
-            columns.add(&name.name, type_of(*kind))?;
+            columns.add(&name.name, type_of(kind))?;
             Ok(())
         }
         Element::Rule(_) => Ok(()),
@@ -220,7 +220,7 @@ fn element_fault(
             default,
             rules,
             ..
-        } => column_fault(alloc, view, *kind, default, rules.items()),
+        } => column_fault(alloc, view, kind, default, rules.items()),
         Element::Rule(rule) => match &rule.form {
             TableRuleForm::PrimaryKey(names) | TableRuleForm::Unique(names) => {
                 columns_fault(alloc, Some(columns), names)
@@ -233,7 +233,7 @@ fn element_fault(
 fn column_fault(
     alloc: Global,
     view: View,
-    kind: DataType,
+    kind: &DataType,
     default: &Option<Constant>,
     rules: &[ColumnRule],
 ) -> Result<Option<Fault>, AllocError> {

@@ -10,21 +10,21 @@ use psm_tree::{DataType, TypeForm};
 use psm_value::SqlType;
 
 /// The type, where it is within bounds.
-pub(crate) fn type_of(t: DataType) -> Option<SqlType>
-    ensures { result ≡ type_of t }
+pub(crate) fn type_of(t: &DataType) -> Option<SqlType>
+    ensures { result ≡ type_of t.now }
 {
-    match t.form {
+    match &t.form {
         TypeForm::SmallInt => Some(SqlType::SmallInt),
         TypeForm::Integer => Some(SqlType::Integer),
         TypeForm::Numeric(None) => Some(SqlType::Numeric { p: 18, s: 0 }),
         TypeForm::Numeric(Some(p)) => digits_within(p.precision, p.scale),
         TypeForm::Char(None) => Some(SqlType::Char { n: 1 }),
         TypeForm::Char(Some(n)) => {
-            let n = length_in(n)?;
+            let n = length_in(*n)?;
             Some(SqlType::Char { n })
         }
         TypeForm::VarChar(n) => {
-            let n = length_in(n)?;
+            let n = length_in(*n)?;
             Some(SqlType::VarChar { n })
         }
     }
@@ -82,8 +82,8 @@ fn digits_within(precision: Dec, scale: Option<Dec>) -> Option<SqlType>
 }
 
 /// A type that isn't within bounds is a fault.
-pub(crate) fn type_fault(t: DataType, known: Option<SqlType>) -> Option<Fault>
-    ensures { result ≡ type_fault t known }
+pub(crate) fn type_fault(t: &DataType, known: Option<SqlType>) -> Option<Fault>
+    ensures { result ≡ type_fault t.now known }
 {
     breaks_if(known.is_none(), Rule::TypeOutOfRange, t.place)
 }
