@@ -3,10 +3,10 @@
 use crate::conditions::{condition_name_fault, good_state, state_fault};
 use crate::cursors::declared_cursor;
 use crate::exprs::expr_found;
-use crate::operators::simple_test;
 use crate::found::{as_condition, as_value, breaks_if};
 use crate::known::{Frames, local_variable};
 use crate::loops::for_fault;
+use crate::operators::simple_test;
 use crate::repeated::Repeats;
 use crate::sources::source_fault;
 use crate::statements::{Context, simple_fault};
@@ -439,9 +439,12 @@ impl<'a> Handled<'a> {
             HandlerValue::State(state) => self.repeats_state(good_state(alloc, &state.text)?),
             HandlerValue::Name(name) => match frames.condition(&name.name) {
                 None => Ok(false),
-                Some(DeclaredCondition {
-                    state: Some(state), ..
-                }) => self.repeats_state(Some(state)),
+                Some(
+                    DeclaredCondition {
+                        state: Some(state),
+                        ..
+                    },
+                ) => self.repeats_state(Some(state)),
                 Some(DeclaredCondition { state: None, .. }) => {
                     let added = self.names.add(&name.name, ())?;
                     Ok(!added)
@@ -486,7 +489,10 @@ fn values_fault<'a>(
     let mut fault = None;
     for handler in handlers {
         let values = &handler.get().values;
-        fault = earlier(fault, value_fault(alloc, frames, &values.first, &mut handled)?);
+        fault = earlier(
+            fault,
+            value_fault(alloc, frames, &values.first, &mut handled)?,
+        );
         for value in values.rest.items() {
             fault = earlier(fault, value_fault(alloc, frames, value, &mut handled)?);
         }

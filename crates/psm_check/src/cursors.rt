@@ -1,8 +1,8 @@
 //! Cursors, and the order of a query.
 
+use crate::exprs::query_found;
 use crate::found::{breaks, breaks_if};
 use crate::known::{CheckedCursor, Frames};
-use crate::exprs::query_found;
 use crate::queries::{QueryFound, first_set, misplaced_set};
 use crate::sources::{family_due, mixed_at, target_type};
 use crate::view::{View, same_name};

@@ -11,7 +11,9 @@ use crate::operators::{
     argument, cast_found, compares, found_with, function_found, junction_of, like_found, linked,
     null_if_found, null_test, of_type, signed_found, simple_test, text_result,
 };
-use crate::queries::{PickFound, QueryFound, exists_found, pick_item, row_of, scalar_found, set_found};
+use crate::queries::{
+    PickFound, QueryFound, exists_found, pick_item, row_of, scalar_found, set_found,
+};
 use crate::results::{case_of, coalesce_found};
 use crate::shapes::{CHARACTER, INTEGER, VARYING, of_literal};
 use crate::view::{View, name_in, on_row};
@@ -48,7 +50,10 @@ pub(crate) fn expr_found(alloc: Global, e: &Expr, view: View) -> Result<Found, A
             Ok(null_test(found))
         }
         Expr::Between {
-            value, low, high, ..
+            value,
+            low,
+            high,
+            ..
         } => {
             let first = expr_found(alloc, value.get(), view)?;
             let second = expr_found(alloc, low.get(), view)?;
@@ -332,7 +337,8 @@ fn called(
     ensures { IfOk result (λ f. f ≡ called name.now.place (function view.entry.world.now.functions name.now.name (map (λ f. kind_of (shape_of f)) values.now))) }
 {
     let kinds = kinds_of(alloc, values)?;
-    match view.world.functions.function(&name.name, kinds.as_slice()) {
+    let world = view.world;
+    match world.functions.function(&name.name, kinds.as_slice()) {
         Ok((_, returned)) => Ok(of_type(name.place, returned)),
         Err(ChoiceFault::NoRoutine) => Ok(broken(Rule::NoFunction, name.place)),
         Err(ChoiceFault::Ambiguous) => Ok(broken(Rule::AmbiguousFunction, name.place)),
@@ -504,11 +510,7 @@ fn picks_found<'q>(
 
 #[cycle(expression)]
 #[tactic(auto, using(crate::proofs::Equations::pick_equations))]
-fn pick_found<'q>(
-    alloc: Global,
-    pick: &'q Pick,
-    view: View,
-) -> Result<PickFound<'q>, AllocError>
+fn pick_found<'q>(alloc: Global, pick: &'q Pick, view: View) -> Result<PickFound<'q>, AllocError>
     ensures { IfOk result (λ p. pick_of p ≡ pick_found pick.now (seen_in_view view.entry)) }
 {
     match pick {

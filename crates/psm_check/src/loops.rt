@@ -1,8 +1,8 @@
 //! FOR: its query, and the variables that it declares.
 
 use crate::cursors::{cursor_on, order_fault};
-use crate::found::{as_value, breaks};
 use crate::exprs::query_found;
+use crate::found::{as_value, breaks};
 use crate::known::{Frames, local_variable};
 use crate::queries::{
     PickFound, QueryFound, first_set, misplaced_set, row_of, table_fault, test_fault,

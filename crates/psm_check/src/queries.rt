@@ -8,7 +8,9 @@ ghost use Rattle.std.specs.List.{list_all};
 ghost use Rattle.psm_tree.specs.declared.expr.Select.{out-Select};
 ghost use Rattle.psm_check.specs.Seen.{pick_of, row_table};
 
-use crate::found::{as_condition, as_value, breaks, breaks_if, made_of, of_family, shape_of, sound};
+use crate::found::{
+    as_condition, as_value, breaks, breaks_if, made_of, of_family, shape_of, sound,
+};
 use crate::operators::without_fault;
 use crate::shapes::{INTEGER, typed};
 use crate::view::{RowTable, spelling};

@@ -18,8 +18,8 @@ use psm_rules::{Fault, Found, Item, Rule, earlier};
 use psm_scope::{ParameterMode, ParameterScope};
 use psm_token::Place;
 use psm_tree::{
-    Assignment, Expr, Identifier, InsertSource, Names, Select, Simple, Target, Targets,
-    Values, Where,
+    Assignment, Expr, Identifier, InsertSource, Names, Select, Simple, Target, Targets, Values,
+    Where,
 };
 use psm_value::SqlType;
 use std::alloc::{AllocError, Global};
@@ -182,7 +182,11 @@ fn call_fault(
     procedure: &Identifier,
     arguments: &[Boxed<Expr>],
 ) -> Result<Option<Fault>, AllocError> {
-    match view.world.procedures.procedure(&procedure.name, arguments.len()) {
+    match view
+        .world
+        .procedures
+        .procedure(&procedure.name, arguments.len())
+    {
         None => Ok(breaks(Rule::UnknownProcedure, procedure.place)),
         Some(known) => {
             let mut fault = None;
@@ -249,10 +253,7 @@ fn select_into_fault(
 }
 
 // Each item goes into its target; the fault is at the item.
-fn items_into(
-    items: &Option<List<Item>>,
-    kinds: &[Option<SqlType>],
-) -> Option<Fault> {
+fn items_into(items: &Option<List<Item>>, kinds: &[Option<SqlType>]) -> Option<Fault> {
     let mut fault = None;
     if let Some(items) = items {
         for (item, kind) in items.items().iter().zip(kinds) {

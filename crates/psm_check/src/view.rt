@@ -66,11 +66,7 @@ fn variable_in(frames: &Frames, first: &Name, second: Option<&Name>) -> Option<M
 }
 
 // The column that a name means.
-fn column_in(
-    row: RowTable,
-    first: &Name,
-    second: Option<&Name>,
-) -> Option<(u32, Option<SqlType>)>
+fn column_in(row: RowTable, first: &Name, second: Option<&Name>) -> Option<(u32, Option<SqlType>)>
     ensures { result ≡ column_meant first.now (option_copied second.entry) (row_table row.entry) }
 {
     match second {
