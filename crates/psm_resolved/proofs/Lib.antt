@@ -1,1 +1,4 @@
 pub mod Examples
+pub mod Equations
+pub mod Lines
+pub mod Operations

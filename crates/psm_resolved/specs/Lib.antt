@@ -1,3 +1,5 @@
 pub mod Outcomes
 pub mod RowValue
 pub mod Sort
+pub mod Blocks
+pub mod Written
