@@ -1,13 +1,11 @@
 -- Lines that are written, and what they stand for.
 use Rattle.std.specs.Prelude.{◌≡◌, ℕ, Bool, true, List, [], ◌∷◌, ◌++◌, length, drop, reverse}
-use Rattle.psm_value.specs.declared.datum.Datum.{Datum}
 use Rattle.psm_exprcode.specs.declared.op.Letter.{Letter}
 use Rattle.psm_exprcode.specs.declared.op.Line.{Line}
 use Rattle.psm_exprcode.specs.declared.op.Op.{Op}
-use Rattle.psm_exprcode.specs.Evaluated.{Outcome}
 use Rattle.psm_exprcode.specs.WellFormed.{is_of_kind}
 use Rattle.psm_resolved.specs.declared.expr.ResolvedExpr.{ResolvedExpr}
-use Rattle.psm_resolved.specs.Blocks.{Block, put}
+use Rattle.psm_resolved.specs.Blocks.{Move, Block, put}
 use Rattle.psm_resolved.specs.RowValue.{row_value}
 use Rattle.psm_resolved.specs.Sort.{is_of, given, sort_of}
 
@@ -24,17 +22,22 @@ with_line w o stack = record { lines = w.lines ++ record { stack = reverse w.sta
 abbrev pub with_op : Written → Op → ℕ → Letter → Written
 with_op w o takes puts = with_line w o (puts ∷ drop takes w.stack)
 
--- lines are written behind those that there are, and put the outcome, of that letter, on the operands
-pub record Adds (may : Op → Letter → Bool) (k : Letter) (value : List Datum → List Datum → Outcome) (old new : Written) : Type 0 where
+-- Lines are written behind those that there are. They put operands of the letters ks, the last one first, on those that
+-- there are, as the move says.
+pub record Adds (may : Op → Letter → Bool) (ks : List Letter) (move : Move) (old new : Written) : Type 0 where
   pub lines : List Line
   pub added : new.lines ≡ old.lines ++ lines
-  pub letters : new.stack ≡ k ∷ old.stack
-  pub block : Block may old.stack (k ∷ old.stack) (length old.lines) (length new.lines) lines (λ row vars os. put (value row vars) os)
+  pub letters : new.stack ≡ ks ++ old.stack
+  pub block : Block may old.stack (ks ++ old.stack) (length old.lines) (length new.lines) lines move
+
+-- what the expression comes to is put on the operands
+abbrev pub puts_value : ResolvedExpr → Move
+puts_value e row vars os = put (row_value row vars e) os
 
 -- the lines of an expression, if it is one of a letter
 abbrev pub Writes : List Letter → List Letter → ResolvedExpr → Written → Written → Type 0
-Writes columns variables e old new = (k : Letter) → is_of k (sort_of columns variables e) ≡ true → Adds (is_of_kind columns variables) k (λ row vars. row_value row vars e) old new
+Writes columns variables e old new = (k : Letter) → is_of k (sort_of columns variables e) ≡ true → Adds (is_of_kind columns variables) (k ∷ []) (puts_value e) old new
 
 -- the same where NULL is a value of the letter w
 abbrev pub WritesSource : List Letter → List Letter → Letter → ResolvedExpr → Written → Written → Type 0
-WritesSource columns variables w e old new = (k : Letter) → is_of k (given w (sort_of columns variables e)) ≡ true → Adds (is_of_kind columns variables) k (λ row vars. row_value row vars e) old new
+WritesSource columns variables w e old new = (k : Letter) → is_of k (given w (sort_of columns variables e)) ≡ true → Adds (is_of_kind columns variables) (k ∷ []) (puts_value e) old new

@@ -3,6 +3,7 @@
 #![tactic(auto)]
 
 mod expr;
+mod writer;
 
 pub use expr::{
     Comparison, Junction, Operator, ResolvedExpr, ResolvedItem, ResolvedItems, ResolvedLink,
