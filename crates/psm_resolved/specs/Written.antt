@@ -1,9 +1,19 @@
 -- Lines that are written, and what they stand for.
-use Rattle.std.specs.Prelude.{◌≡◌, ℕ, Bool, true, List, [], ◌∷◌, ◌++◌, length, drop, reverse}
+use Rattle.std.specs.Prelude.{◌≡◌, ℕ, Bool, true, false, Option, Some, None, List, [], ◌∷◌, ◌++◌, length, drop, reverse}
 use Rattle.psm_exprcode.specs.declared.op.Letter.{Letter}
 use Rattle.psm_exprcode.specs.declared.op.Line.{Line}
+use Rattle.psm_exprcode.specs.declared.op.Letter.TheVariants.{N, T, B}
 use Rattle.psm_exprcode.specs.declared.op.Op.{Op}
+use Rattle.psm_exprcode.specs.declared.op.Op.TheVariants as op
 use Rattle.psm_exprcode.specs.WellFormed.{is_of_kind}
+use Rattle.psm_resolved.specs.declared.expr.Comparison.{Comparison}
+use Rattle.psm_resolved.specs.declared.expr.Comparison.TheVariants as comparisons
+use Rattle.psm_resolved.specs.declared.expr.Junction.{Junction}
+use Rattle.psm_resolved.specs.declared.expr.Junction.TheVariants as junctions
+use Rattle.psm_resolved.specs.declared.expr.Operator.{Operator}
+use Rattle.psm_resolved.specs.declared.expr.Operator.TheVariants as operators
+use Rattle.psm_resolved.specs.declared.expr.TextFunction.{TextFunction}
+use Rattle.psm_resolved.specs.declared.expr.TextFunction.TheVariants as functions
 use Rattle.psm_resolved.specs.declared.expr.ResolvedExpr.{ResolvedExpr}
 use Rattle.psm_resolved.specs.Blocks.{Move, Block, put}
 use Rattle.psm_resolved.specs.RowValue.{row_value}
@@ -21,6 +31,56 @@ with_line w o stack = record { lines = w.lines ++ record { stack = reverse w.sta
 -- with an operation that takes so many operands and puts one of that letter
 abbrev pub with_op : Written → Op → ℕ → Letter → Written
 with_op w o takes puts = with_line w o (puts ∷ drop takes w.stack)
+
+-- with NOT behind them, where it is wanted
+abbrev pub with_not : Bool → Written → Written
+with_not false w = w
+with_not true w = with_op w op.Not 1 B
+
+-- the last letter, or that of a number
+abbrev pub last_letter : List Letter → Letter
+last_letter [] = N
+last_letter (k ∷ s) = k
+
+-- the letter at a place, or that of a number
+abbrev pub letter_or : Option Letter → Letter
+letter_or None = N
+letter_or (Some k) = k
+
+-- ---- operations
+
+abbrev pub op_of_comparison : Comparison → Op
+op_of_comparison comparisons.Equal = op.Equal
+op_of_comparison comparisons.NotEqual = op.NotEqual
+op_of_comparison comparisons.Less = op.Less
+op_of_comparison comparisons.LessEqual = op.LessOrEqual
+op_of_comparison comparisons.Greater = op.Greater
+op_of_comparison comparisons.GreaterEqual = op.GreaterOrEqual
+
+abbrev pub op_of_junction : Junction → Op
+op_of_junction junctions.And = op.And
+op_of_junction junctions.Or = op.Or
+
+abbrev pub op_of_operator : Operator → Op
+op_of_operator operators.Add = op.Add
+op_of_operator operators.Subtract = op.Subtract
+op_of_operator operators.Concatenate = op.Concatenate
+op_of_operator operators.Multiply = op.Multiply
+op_of_operator operators.Divide = op.Divide
+
+abbrev pub letter_of_operator : Operator → Letter
+letter_of_operator operators.Add = N
+letter_of_operator operators.Subtract = N
+letter_of_operator operators.Concatenate = T
+letter_of_operator operators.Multiply = N
+letter_of_operator operators.Divide = N
+
+abbrev pub op_of_function : TextFunction → Op
+op_of_function functions.CharLength = op.CharacterLength
+op_of_function functions.Upper = op.Upper
+op_of_function functions.Lower = op.Lower
+
+-- ---- what is written
 
 -- Lines are written behind those that there are. They put operands of the letters ks, the last one first, on those that
 -- there are, as the move says.

@@ -3,6 +3,9 @@
 #![tactic(auto)]
 
 mod expr;
+mod exprs;
+mod operators;
+mod setting;
 mod writer;
 
 pub use expr::{
