@@ -3,3 +3,4 @@ pub mod Equations
 pub mod Letters
 pub mod Lines
 pub mod Operations
+pub mod Forms
