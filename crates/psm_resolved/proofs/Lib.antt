@@ -4,3 +4,6 @@ pub mod Letters
 pub mod Lines
 pub mod Operations
 pub mod Forms
+pub mod Several
+pub mod Sources
+pub mod Jumps

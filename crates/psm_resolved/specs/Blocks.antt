@@ -23,6 +23,13 @@ put None os = None
 put (Some (Err state)) os = Some (Err state)
 put (Some (Ok x)) os = Some (Ok (x ∷ os))
 
+-- outcomes that are put on operands one after another
+abbrev pub put_all : List Outcome → List Operand → Moved
+put_all [] os = Some (Ok os)
+put_all (None ∷ others) os = None
+put_all (Some (Err state) ∷ others) os = Some (Err state)
+put_all (Some (Ok x) ∷ others) os = put_all others (x ∷ os)
+
 -- what comes of the operands that there are then
 abbrev pub after : Moved → (List Operand → Outcome) → Outcome
 after None go = None

@@ -1,5 +1,6 @@
 -- Lines that are written, and what they stand for.
-use Rattle.std.specs.Prelude.{◌≡◌, ℕ, Bool, true, false, Option, Some, None, List, [], ◌∷◌, ◌++◌, length, drop, reverse}
+use Rattle.std.specs.Prelude.{◌≡◌, ℕ, Bool, true, false, Option, Some, None, List, [], ◌∷◌, ◌++◌, length, drop, reverse, replicate, map, zero, suc}
+use Rattle.std.specs.List.{list_all}
 use Rattle.psm_exprcode.specs.declared.op.Letter.{Letter}
 use Rattle.psm_exprcode.specs.declared.op.Line.{Line}
 use Rattle.psm_exprcode.specs.declared.op.Letter.TheVariants.{N, T, B}
@@ -15,7 +16,9 @@ use Rattle.psm_resolved.specs.declared.expr.Operator.TheVariants as operators
 use Rattle.psm_resolved.specs.declared.expr.TextFunction.{TextFunction}
 use Rattle.psm_resolved.specs.declared.expr.TextFunction.TheVariants as functions
 use Rattle.psm_resolved.specs.declared.expr.ResolvedExpr.{ResolvedExpr}
-use Rattle.psm_resolved.specs.Blocks.{Move, Block, put}
+use Rattle.psm_resolved.specs.declared.expr.ResolvedExpr.TheVariants as exprs
+use Rattle.psm_resolved.specs.declared.expr.ResolvedLink.{ResolvedLink}
+use Rattle.psm_resolved.specs.Blocks.{Move, Block, put, put_all}
 use Rattle.psm_resolved.specs.RowValue.{row_value}
 use Rattle.psm_resolved.specs.Sort.{is_of, given, sort_of}
 
@@ -101,3 +104,28 @@ Writes columns variables e old new = (k : Letter) → is_of k (sort_of columns v
 -- the same where NULL is a value of the letter w
 abbrev pub WritesSource : List Letter → List Letter → Letter → ResolvedExpr → Written → Written → Type 0
 WritesSource columns variables w e old new = (k : Letter) → is_of k (given w (sort_of columns variables e)) ≡ true → Adds (is_of_kind columns variables) (k ∷ []) (puts_value e) old new
+
+-- the chain of operands and operators so far, if it is an expression, goes on with these
+abbrev pub Extends : List Letter → List Letter → List ResolvedLink → Written → Written → Type 0
+Extends columns variables links old new = (first : ResolvedExpr) (begin : Written) → Writes columns variables (exprs.Chain first []) begin old → Writes columns variables (exprs.Chain first links) begin new
+
+-- what expressions come to is put on the operands, one after another
+abbrev pub puts_all : List ResolvedExpr → Move
+puts_all es row vars os = put_all (map (row_value row vars) es) os
+
+-- the lines of expressions, one after another, if all are of a letter
+abbrev pub WritesAll : List Letter → List Letter → List ResolvedExpr → Written → Written → Type 0
+WritesAll columns variables es old new = (k : Letter) → list_all (is_of k) (map (sort_of columns variables) es) ≡ true → Adds (is_of_kind columns variables) (replicate (length es) k) (puts_all es) old new
+
+-- ---- jumps
+
+-- another operation at a line
+abbrev pub replaced : List Line → ℕ → Op → List Line
+replaced [] p o = []
+replaced (l ∷ lines) zero o = record { stack = l.stack; op = o } ∷ lines
+replaced (l ∷ lines) (suc p) o = l ∷ replaced lines p o
+
+-- at several lines
+abbrev pub patched : Op → List ℕ → List Line → List Line
+patched o [] lines = lines
+patched o (p ∷ places) lines = patched o places (replaced lines p o)

@@ -1,10 +1,12 @@
 //! The operations that stand for operators.
 ghost use Rattle.std.specs.Prelude.{◌≡◌, slice_get};
 ghost use Rattle.psm_resolved.specs.Written.{letter_or, op_of_comparison, op_of_junction, op_of_operator, op_of_function, letter_of_operator};
+ghost use Rattle.psm_exprcode.specs.Kinds.{letter_of as letter_of_type};
 ghost use Rattle.psm_resolved.specs.Sort.{function_of};
 
 use crate::expr::{Comparison, Junction, Operator, TextFunction};
 use psm_exprcode::{Letter, Op};
+use psm_value::SqlType;
 
 /// The letter of the column or the variable at a place; that of a number where there is none.
 pub(crate) fn letter_at(letters: &[Letter], place: u32) -> Letter
@@ -77,5 +79,15 @@ pub(crate) fn changed(function: TextFunction) -> Letter
     match function {
         TextFunction::CharLength => Letter::N,
         TextFunction::Upper | TextFunction::Lower => Letter::T,
+    }
+}
+
+/// The letter of a type's values.
+pub(crate) fn letter_of(to: SqlType) -> Letter
+    ensures { result ≡ letter_of_type to }
+{
+    match to {
+        SqlType::SmallInt | SqlType::Integer | SqlType::Numeric { .. } => Letter::N,
+        SqlType::Char { .. } | SqlType::VarChar { .. } => Letter::T,
     }
 }

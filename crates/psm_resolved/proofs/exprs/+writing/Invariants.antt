@@ -1,0 +1,10 @@
+use Rattle.std.proofs.Common.{take}
+use Rattle.psm_resolved.specs.declared.expr.ResolvedExpr.TheVariants as exprs
+use Rattle.psm_resolved.specs.Written.{Writes, Extends}
+use Rattle.psm_resolved.proofs.exprs.+writing.Given as goal
+
+abbrev pub invariant-joined-loop-operand : goal.invariant-joined-loop-operand
+invariant-joined-loop-operand l = Writes l.setting.columns.now l.setting.variables.now (exprs.Junction l.junction (record { first = l.operands.first; rest = take l.operand-index l.operand-items })) l.fn.out l.out
+
+abbrev pub invariant-linked-loop-link : goal.invariant-linked-loop-link
+invariant-linked-loop-link l = Extends l.setting.columns.now l.setting.variables.now (take l.link-index l.link-items) l.fn.out l.out
