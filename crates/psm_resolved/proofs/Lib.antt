@@ -7,3 +7,7 @@ pub mod Forms
 pub mod Several
 pub mod Sources
 pub mod Jumps
+pub mod Lists
+pub mod Pending
+pub mod Cases
+pub mod Whole

@@ -31,12 +31,12 @@ ahead None = Lacking
 ahead (Some (Err state)) = Raised state
 ahead (Some (Ok os)) = Went Ahead os
 
-after_same : (m : Moved) (p q : List Operand → Outcome) → ((os : List Operand) → p os ≡ q os) → after m p ≡ after m q
+pub after_same : (m : Moved) (p q : List Operand → Outcome) → ((os : List Operand) → p os ≡ q os) → after m p ≡ after m q
 after_same None p q h = refl
 after_same (Some (Err state)) p q h = refl
 after_same (Some (Ok os)) p q h = h os
 
-after_then : (m : Moved) (g : List Operand → Moved) (q : List Operand → Outcome) → after m (λ os. after (g os) q) ≡ after (then_move m g) q
+pub after_then : (m : Moved) (g : List Operand → Moved) (q : List Operand → Outcome) → after m (λ os. after (g os) q) ≡ after (then_move m g) q
 after_then None g q = refl
 after_then (Some (Err state)) g q = refl
 after_then (Some (Ok os)) g q = refl
@@ -60,7 +60,7 @@ value_some test N v h = or_first (test N) (test T) h
 value_some test T v h = or_second (test N) (test T) h
 value_some test B v h = absurd (cc)
 
-letter_some : (test : Letter → Bool) (k : Letter) → test k ≡ true → some_letter test ≡ true
+pub letter_some : (test : Letter → Bool) (k : Letter) → test k ≡ true → some_letter test ≡ true
 letter_some test N h = or_first (test N) (test T || test B) h
 letter_some test T h = or_second (test N) (test T || test B) (or_first (test T) (test B) h)
 letter_some test B h = or_second (test N) (test T || test B) (or_second (test T) (test B) h)
@@ -102,7 +102,7 @@ line_right may end pc l more takes rest puts away r e h g =
     both_true (is_bounded l.op) (some_value for_kind) r.bounded
     (value_some for_kind r.kind r.is_kind (both_true (may l.op r.kind) (some_letter (ways r.kind)) r.allowed (letter_some (ways r.kind) r.other way)))
 
-ran_here : (row vars : List Datum) (pc : ℕ) (l : Line) (more : List Line) (os : List Operand)
+pub ran_here : (row vars : List Datum) (pc : ℕ) (l : Line) (more : List Line) (os : List Operand)
     → ran row vars pc pc (l ∷ more) os ≡ goes_on (applied l.op os row vars) (λ next. ran row vars (suc pc) (place_after pc next) more)
 ran_here row vars pc l more os =
     ap (λ b. if b then goes_on (applied l.op os row vars) (λ next. ran row vars (suc pc) (place_after pc next) more) else ran row vars (suc pc) pc more os) (eq-eqb pc pc refl)

@@ -3,3 +3,4 @@ pub mod RowValue
 pub mod Sort
 pub mod Blocks
 pub mod Written
+pub mod Exits

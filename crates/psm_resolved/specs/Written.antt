@@ -19,8 +19,11 @@ use Rattle.psm_resolved.specs.declared.expr.ResolvedExpr.{ResolvedExpr}
 use Rattle.psm_resolved.specs.declared.expr.ResolvedExpr.TheVariants as exprs
 use Rattle.psm_resolved.specs.declared.expr.ResolvedLink.{ResolvedLink}
 use Rattle.psm_resolved.specs.Blocks.{Move, Block, put, put_all}
-use Rattle.psm_resolved.specs.RowValue.{row_value}
-use Rattle.psm_resolved.specs.Sort.{is_of, given, sort_of}
+use Rattle.psm_list.specs.Several.{Several}
+use Rattle.psm_exprcode.specs.Kinds.{is_value}
+use Rattle.psm_resolved.specs.Outcomes.{first_set}
+use Rattle.psm_resolved.specs.RowValue.{listed, row_value}
+use Rattle.psm_resolved.specs.Sort.{is_of, given, goes_as, sort_of}
 
 -- the lines so far, and the letters of the operands behind them, the last one first
 pub record Written : Type 0 where
@@ -39,6 +42,11 @@ with_op w o takes puts = with_line w o (puts ∷ drop takes w.stack)
 abbrev pub with_not : Bool → Written → Written
 with_not false w = w
 with_not true w = with_op w op.Not 1 B
+
+-- with a change to a scale behind them, where there is one
+abbrev pub with_scale : Option ℕ → Written → Written
+with_scale None w = w
+with_scale (Some s) w = with_op w (op.Rescale s) 1 N
 
 -- the last letter, or that of a number
 abbrev pub last_letter : List Letter → Letter
@@ -117,6 +125,15 @@ puts_all es row vars os = put_all (map (row_value row vars) es) os
 abbrev pub WritesAll : List Letter → List Letter → List ResolvedExpr → Written → Written → Type 0
 WritesAll columns variables es old new = (k : Letter) → list_all (is_of k) (map (sort_of columns variables) es) ≡ true → Adds (is_of_kind columns variables) (replicate (length es) k) (puts_all es) old new
 
+-- the first value that isn't null is put on the operands, or the last one
+abbrev pub puts_first : Several ResolvedExpr → Move
+puts_first values row vars os = put (first_set (row_value row vars values.first) (map (row_value row vars) values.rest)) os
+
+-- the lines of the values of a COALESCE, if all go as the letter k
+abbrev pub WritesFirst : List Letter → List Letter → Letter → Several ResolvedExpr → Written → Written → Type 0
+WritesFirst columns variables k values old new =
+    is_value k ≡ true → list_all (goes_as k) (map (sort_of columns variables) (listed values)) ≡ true → Adds (is_of_kind columns variables) (k ∷ []) (puts_first values) old new
+
 -- ---- jumps
 
 -- another operation at a line
@@ -129,3 +146,7 @@ replaced (l ∷ lines) (suc p) o = l ∷ replaced lines p o
 abbrev pub patched : Op → List ℕ → List Line → List Line
 patched o [] lines = lines
 patched o (p ∷ places) lines = patched o places (replaced lines p o)
+
+-- an operation is written at that place, and takes so many operands off
+abbrev pub Jumps : Op → ℕ → ℕ → Written → Written → Type 0
+Jumps o takes place old new = (place ≡ length old.lines) × (new ≡ with_line old o (drop takes old.stack))

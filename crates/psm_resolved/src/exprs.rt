@@ -1,13 +1,15 @@
 //! The lines of row expressions.
-ghost use Rattle.std.specs.Prelude.{◌≡◌, IfOk};
-ghost use Rattle.psm_resolved.specs.Written.{Writes, WritesSource, Extends};
+ghost use Rattle.std.specs.Prelude.{◌≡◌, suc, IfOk};
+ghost use Rattle.psm_resolved.specs.Written.{Writes, WritesSource, WritesAll, WritesFirst, Extends};
+ghost use Rattle.psm_resolved.specs.RowValue.{listed};
 
 use crate::expr::{Junction, ResolvedExpr, ResolvedLink};
 use crate::operators::{
     calculated, calculating, changed, changing, comparing, joining, letter_at, letter_of,
+    letter_of_results,
 };
 use crate::setting::Setting;
-use crate::writer::Writer;
+use crate::writer::{Exit, Writer};
 use psm_exprcode::{Letter, Op};
 use psm_list::{Boxed, List, OneOrMore};
 use psm_value::Datum;
@@ -41,8 +43,6 @@ fn expr(out: &mut Writer, setting: Setting<'_>, e: &ResolvedExpr) -> Result<(), 
         ResolvedExpr::Call { .. } => Ok(()),
         ResolvedExpr::Scalar(_) => Ok(()),
         ResolvedExpr::Exists(_) => Ok(()),
-        ResolvedExpr::In { .. } => Ok(()),
-        ResolvedExpr::Coalesce { .. } => Ok(()),
         ResolvedExpr::Case { .. } => Ok(()),
         ResolvedExpr::Number(value) => {
             let value = Datum::Num(*value);
@@ -111,6 +111,17 @@ fn expr(out: &mut Writer, setting: Setting<'_>, e: &ResolvedExpr) -> Result<(), 
                 }
             }
         }
+        ResolvedExpr::In {
+            negated,
+            value,
+            list,
+        } => {
+            expr(out, setting, value.get())?;
+            all(out, setting, list)?;
+            let count = counted(list.rest.items().len())?;
+            out.apply(setting.alloc, Op::In(count), count as usize + 1, Letter::B)?;
+            out.perhaps_not(setting.alloc, *negated)
+        }
         ResolvedExpr::Chain { first, links } => {
             expr(out, setting, first.get())?;
             linked(out, setting, links)
@@ -118,6 +129,10 @@ fn expr(out: &mut Writer, setting: Setting<'_>, e: &ResolvedExpr) -> Result<(), 
         ResolvedExpr::Negated(operand) => {
             expr(out, setting, operand.get())?;
             out.apply(setting.alloc, Op::Negate, 1, Letter::N)
+        }
+        ResolvedExpr::Coalesce { values, scale } => {
+            first_set(out, setting, values, letter_of_results(*scale))?;
+            out.rescale(setting.alloc, *scale)
         }
         ResolvedExpr::Cast { source: value, to } => {
             source(out, setting, value, Letter::N)?;
@@ -189,4 +204,50 @@ fn linked(
         out.apply(setting.alloc, calculating(link.operator), 2, letter)?;
     }
     Ok(())
+}
+
+/// Writes expressions one after another.
+#[cycle(writing)]
+fn all(
+    out: &mut Writer,
+    setting: Setting<'_>,
+    list: &OneOrMore<Boxed<ResolvedExpr>>,
+) -> Result<(), AllocError>
+    ensures { IfOk result (λ _. WritesAll setting.entry.columns.now setting.entry.variables.now (listed list.now) out.old out.new) }
+{
+    expr(out, setting, list.first.get())?;
+    for item in list.rest.items() {
+        expr(out, setting, item.get())?;
+    }
+    Ok(())
+}
+
+/// Writes the values of a COALESCE: each but the last goes to the end where it isn't null.
+#[cycle(writing)]
+fn first_set(
+    out: &mut Writer,
+    setting: Setting<'_>,
+    values: &OneOrMore<Boxed<ResolvedExpr>>,
+    letter: Letter,
+) -> Result<(), AllocError>
+    ensures { IfOk result (λ _. WritesFirst setting.entry.columns.now setting.entry.variables.now letter values.now out.old out.new) }
+{
+    source(out, setting, &values.first, letter)?;
+    let mut jumps = Vec::new(setting.alloc);
+    for value in values.rest.items() {
+        let jump = out.jump(setting.alloc, Op::JumpUnlessNull(0), 1)?;
+        jumps.push(jump)?;
+        source(out, setting, value, letter)?;
+    }
+    out.close(jumps.as_slice(), Exit::UnlessNull)
+}
+
+/// One more than a number. More than fit in 32 bits are want of memory.
+fn counted(others: usize) -> Result<u32, AllocError>
+    ensures { IfOk result (λ count. count ≡ suc others) }
+{
+    match u32::try_from(others) {
+        Ok(others) if others < u32::MAX => Ok(others + 1),
+        _ => Err(AllocError),
+    }
 }

@@ -2,7 +2,7 @@
 ghost use Rattle.std.specs.Prelude.{◌≡◌, slice_get};
 ghost use Rattle.psm_resolved.specs.Written.{letter_or, op_of_comparison, op_of_junction, op_of_operator, op_of_function, letter_of_operator};
 ghost use Rattle.psm_exprcode.specs.Kinds.{letter_of as letter_of_type};
-ghost use Rattle.psm_resolved.specs.Sort.{function_of};
+ghost use Rattle.psm_resolved.specs.Sort.{function_of, letter_at as letter_of_scale};
 
 use crate::expr::{Comparison, Junction, Operator, TextFunction};
 use psm_exprcode::{Letter, Op};
@@ -89,5 +89,15 @@ pub(crate) fn letter_of(to: SqlType) -> Letter
     match to {
         SqlType::SmallInt | SqlType::Integer | SqlType::Numeric { .. } => Letter::N,
         SqlType::Char { .. } | SqlType::VarChar { .. } => Letter::T,
+    }
+}
+
+/// The letter of the results of a CASE or a COALESCE with that scale.
+pub(crate) fn letter_of_results(scale: Option<u8>) -> Letter
+    ensures { result ≡ letter_of_scale scale }
+{
+    match scale {
+        None => Letter::T,
+        Some(_) => Letter::N,
     }
 }

@@ -1,9 +1,14 @@
-use Rattle.std.proofs.Common.{◌≡◌, true, ◌+◌, [], Some, None, take, sym, ap, ◌∙◌, refl}
+use Rattle.std.proofs.Common.{◌≡◌, true, arith, ◌+◌, [], ◌∷◌, Some, None, take, drop, sym, ap, ◌∙◌, refl}
 use Rattle.psm_exprcode.specs.declared.op.Letter.TheVariants.{N, T, B}
 use Rattle.psm_exprcode.specs.declared.op.Op.TheVariants as op
 use Rattle.psm_resolved.specs.declared.expr.ResolvedExpr.TheVariants as exprs
 use Rattle.psm_resolved.proofs.Forms.{number_written, text_written, column_written, variable_written, not_written, negated_written, trim_written, function_written, is_null_written, cast_written, compare_written, position_written, part_written, part_for_written, like_written, like_escape_written, between_written, null_if_written}
 use Rattle.psm_resolved.proofs.Sources.{source_written, null_written, null_alone, call_written, scalar_written, exists_written, written_as, chain_written}
+use Rattle.psm_resolved.specs.RowValue.{listed}
+use Rattle.psm_resolved.proofs.Lists.{in_written, list_first, list_next, list_end}
+use Rattle.std.proofs.lemmas.Grind.{common_steps}
+use Rattle.psm_resolved.proofs.Cases.{coalesce_written, awaits_first, awaits_next, awaits_none, left_item}
+use Rattle.std.proofs.lemmas.List.{drop_all}
 use Rattle.psm_resolved.proofs.Several.{junction_first, junction_next, junction_end, extends_next, extends_end, next_item, all_items, writes_same}
 use Rattle.psm_resolved.proofs.exprs.+writing.Goals as goal
 
@@ -79,14 +84,38 @@ expr-returns-in-Scalar t c = scalar_written c.args.setting.columns.now c.args.se
 pub expr-returns-in-Exists : goal.expr-returns-in-Exists
 expr-returns-in-Exists t c = exists_written c.args.setting.columns.now c.args.setting.variables.now c.args.e.now c.in-Exists.field-0 c.args.out.now c.args.out.now c.in-Exists.is
 
-pub expr-returns-in-In : goal.expr-returns-in-In
-expr-returns-in-In t c = ?
-
-pub expr-returns-in-Coalesce : goal.expr-returns-in-Coalesce
-expr-returns-in-Coalesce t c = ?
-
 pub expr-returns-in-Case : goal.expr-returns-in-Case
 expr-returns-in-Case t c = ?
+
+pub expr-returns-in_ok-first_set-in-Coalesce : goal.expr-returns-in_ok-first_set-in-Coalesce
+expr-returns-in_ok-first_set-in-Coalesce t c = coalesce_written c.args.setting.columns.now c.args.setting.variables.now c.args.e.now c.in-Coalesce.values c.in-Coalesce.scale c.letter_of_results.result c.args.out.now c.first_set.new.out c.rescale.new.self c.rescale.result c.in-Coalesce.is c.letter_of_results.ensures c.in_ok-first_set-in-Coalesce.ensures c.rescale.ensures
+
+pub first_set-loop-value-init : goal.first_set-loop-value-init
+first_set-loop-value-init t c = awaits_first c.args.setting.columns.now c.args.setting.variables.now c.args.letter c.args.values.now c.values.inside.first (drop 0 c.items-value-items.result.now) c.new-jumps.result.items c.args.out.now c.source.new.out (cc) (cc) (cc) c.in_ok-source.ensures
+
+pub first_set-loop-value-preserved : goal.first_set-loop-value-preserved
+first_set-loop-value-preserved t c = awaits_next c.args.setting.columns.now c.args.setting.variables.now c.args.letter c.args.values.now c.value-item.result (drop c.loop-value.value-index c.items-value-items.result.now) (drop (c.loop-value.value-index + 1) c.items-value-items.result.now) c.loop-value.jumps.items c.push.new.self.items c.in_ok-jump.jump c.args.out.now c.loop-value.out c.jump.new.self c.source-in-loop-value.new.out (left_item c.items-value-items.result.now c.loop-value.value-index c.value-item.result c.loop-value-test.true c.value-item.is) (grind (arith, common_steps)) c.loop-value.invariant c.in_ok-jump.ensures c.in_ok-source-2.ensures
+
+pub first_set-source-requires : goal.first_set-source-requires
+first_set-source-requires t c = ?
+
+pub first_set-source-requires-in-loop-value : goal.first_set-source-requires-in-loop-value
+first_set-source-requires-in-loop-value t c = ?
+
+pub first_set-returns : goal.first_set-returns
+first_set-returns t c = awaits_none c.args.setting.columns.now c.args.setting.variables.now c.args.letter c.args.values.now (drop c.loop-value.value-index c.items-value-items.result.now) c.loop-value.jumps.items c.as_slice.result.now c.args.out.now c.loop-value.out c.close.new.self c.close.result (drop_all c.loop-value.value-index c.items-value-items.result.now c.loop-value-test.false) (cc) c.loop-value.invariant c.close.ensures
+
+pub expr-returns-in_ok-apply-in-In : goal.expr-returns-in_ok-apply-in-In
+expr-returns-in_ok-apply-in-In t c = in_written c.args.setting.columns.now c.args.setting.variables.now c.args.e.now c.get-in-In.result.now c.in-In.list c.in-In.negated c.in_ok-count-in-In.count (c.in_ok-count-in-In.count + 1) c.args.out.now c.expr-in-In.new.out c.all.new.out c.apply-in-In.new.self c.perhaps_not-in-In.new.self c.perhaps_not-in-In.result (c.in-In.is ∙ ap (λ x. exprs.In c.in-In.negated x c.in-In.list) (sym c.get-in-In.ensures)) c.in_ok-expr-in-In.ensures c.in_ok-all-in-In.ensures (grind (arith, common_steps)) (omega arith) c.in_ok-apply-in-In.ensures c.perhaps_not-in-In.ensures
+
+pub all-loop-item-init : goal.all-loop-item-init
+all-loop-item-init t c = list_first c.args.setting.columns.now c.args.setting.variables.now c.args.list.now.first c.args.out.now c.expr.new.out (writes_same c.args.setting.columns.now c.args.setting.variables.now c.get.result.now c.args.list.now.first c.args.out.now c.expr.new.out (cc) c.in_ok-expr.ensures)
+
+pub all-loop-item-preserved : goal.all-loop-item-preserved
+all-loop-item-preserved t c = list_next c.args.setting.columns.now c.args.setting.variables.now (c.args.list.now.first ∷ take c.loop-item.item-index c.items-item-items.result.now) (c.args.list.now.first ∷ take (c.loop-item.item-index + 1) c.items-item-items.result.now) c.get-in-loop-item.result.now c.args.out.now c.loop-item.out c.expr-in-loop-item.new.out (ap (λ k. c.args.list.now.first ∷ k) (next_item c.items-item-items.result.now c.loop-item.item-index c.item-item.result c.get-in-loop-item.result.now c.loop-item-test.true c.item-item.is c.get-in-loop-item.ensures)) c.loop-item.invariant c.in_ok-expr-2.ensures
+
+pub all-returns : goal.all-returns
+all-returns t c = list_end c.args.setting.columns.now c.args.setting.variables.now (c.args.list.now.first ∷ take c.loop-item.item-index c.items-item-items.result.now) (listed c.args.list.now) c.args.out.now c.loop-item.out (ap (λ k. c.args.list.now.first ∷ k) (all_items c.items-item-items.result.now c.args.list.now.rest c.loop-item.item-index c.loop-item-test.false (cc))) c.loop-item.invariant
 
 pub joined-loop-operand-init : goal.joined-loop-operand-init
 joined-loop-operand-init t c = junction_first c.args.setting.columns.now c.args.setting.variables.now c.args.junction c.args.operands.now.first [] c.args.out.now c.expr.new.out refl (writes_same c.args.setting.columns.now c.args.setting.variables.now c.get.result.now c.args.operands.now.first c.args.out.now c.expr.new.out (cc) c.in_ok-expr.ensures)

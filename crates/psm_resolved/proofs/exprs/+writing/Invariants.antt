@@ -1,6 +1,7 @@
-use Rattle.std.proofs.Common.{take}
+use Rattle.std.proofs.Common.{◌∷◌, take, drop}
 use Rattle.psm_resolved.specs.declared.expr.ResolvedExpr.TheVariants as exprs
-use Rattle.psm_resolved.specs.Written.{Writes, Extends}
+use Rattle.psm_resolved.specs.Written.{Writes, WritesAll, Extends}
+use Rattle.psm_resolved.proofs.Cases.{AwaitsAll}
 use Rattle.psm_resolved.proofs.exprs.+writing.Given as goal
 
 abbrev pub invariant-joined-loop-operand : goal.invariant-joined-loop-operand
@@ -8,3 +9,9 @@ invariant-joined-loop-operand l = Writes l.setting.columns.now l.setting.variabl
 
 abbrev pub invariant-linked-loop-link : goal.invariant-linked-loop-link
 invariant-linked-loop-link l = Extends l.setting.columns.now l.setting.variables.now (take l.link-index l.link-items) l.fn.out l.out
+
+abbrev pub invariant-all-loop-item : goal.invariant-all-loop-item
+invariant-all-loop-item l = WritesAll l.setting.columns.now l.setting.variables.now (l.list.first ∷ take l.item-index l.item-items) l.fn.out l.out
+
+abbrev pub invariant-first_set-loop-value : goal.invariant-first_set-loop-value
+invariant-first_set-loop-value l = AwaitsAll l.setting.columns.now l.setting.variables.now l.letter l.values (drop l.value-index l.value-items) l.jumps.items l.fn.out l.out
