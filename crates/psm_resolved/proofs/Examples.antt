@@ -3,13 +3,16 @@ use Rattle.std.proofs.Common.{◌≡◌, ℕ, true, false, List, [], ◌∷◌, 
 use Rattle.std.specs.Prelude.{pos, codes}
 use Rattle.psm_value.specs.declared.datum.Datum.TheVariants as data_of
 use Rattle.psm_value.specs.declared.truth.Truth.TheVariants as truths
+use Rattle.psm_value.specs.declared.sqltype.SqlType.TheVariants as types
 use Rattle.psm_exprcode.specs.declared.operand.Operand.TheVariants.{Value, Truth}
 use Rattle.psm_exprcode.specs.Evaluated.{Outcome}
 use Rattle.psm_resolved.specs.declared.expr.Comparison.TheVariants as comparisons
 use Rattle.psm_resolved.specs.declared.expr.Junction.TheVariants as junctions
 use Rattle.psm_resolved.specs.declared.expr.Operator.TheVariants as operators
 use Rattle.psm_resolved.specs.declared.expr.ResolvedExpr.TheOpen as layers
+use Rattle.psm_exprcode.specs.declared.op.Letter.TheVariants.{N, T, B}
 use Rattle.psm_resolved.specs.RowValue.{value_layer}
+use Rattle.psm_resolved.specs.Sort.{Wrong, Untyped, Of, sort_layer}
 
 -- the number n / 10^s, null, a text, truth values and conditions
 abbrev num : ℕ → ℕ → Outcome
@@ -105,3 +108,38 @@ a_column = refl
 
 a_variable_that_lacks : value_layer (data_of.Null ∷ []) [] (layers.Variable 0) ≡ None
 a_variable_that_lacks = refl
+
+-- ---- letters
+
+a_column_is_of_its_letter : sort_layer (N ∷ T ∷ []) [] (layers.Column 1) ≡ Of T
+a_column_is_of_its_letter = refl
+
+a_column_that_lacks : sort_layer (N ∷ []) (T ∷ []) (layers.Column 1) ≡ Wrong
+a_column_that_lacks = refl
+
+a_number_and_a_text : sort_layer [] [] (layers.Compare comparisons.Less (Of N) (Of T)) ≡ Wrong
+a_number_and_a_text = refl
+
+null_in_a_comparison : sort_layer [] [] (layers.Compare comparisons.Equal (Of N) Untyped) ≡ Wrong
+null_in_a_comparison = refl
+
+null_in_a_coalesce : sort_layer [] [] (layers.Coalesce (record { first = Untyped; rest = Of N ∷ [] }) (Some 2)) ≡ Of N
+null_in_a_coalesce = refl
+
+a_scale_that_is_too_large : sort_layer [] [] (layers.Coalesce (record { first = Of N; rest = [] }) (Some 19)) ≡ Wrong
+a_scale_that_is_too_large = refl
+
+a_case_of_texts : sort_layer [] [] (layers.Case (Some (Of N)) (record { first = (Of N, Untyped); rest = (Of N, Of T) ∷ [] }) None None) ≡ Of T
+a_case_of_texts = refl
+
+a_case_whose_test_is_a_value : sort_layer [] [] (layers.Case None (record { first = (Of N, Of N); rest = [] }) None (Some 0)) ≡ Wrong
+a_case_whose_test_is_a_value = refl
+
+null_as_an_integer : sort_layer [] [] (layers.Cast Untyped types.Integer) ≡ Of N
+null_as_an_integer = refl
+
+a_chain_of_numbers_and_a_text : sort_layer [] [] (layers.Chain (Of N) ((operators.Add, Of N) ∷ (operators.Concatenate, Of T) ∷ [])) ≡ Wrong
+a_chain_of_numbers_and_a_text = refl
+
+a_call_is_no_row_expression : sort_layer [] [] (layers.Call 0 []) ≡ Wrong
+a_call_is_no_row_expression = refl
