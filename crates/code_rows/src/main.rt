@@ -1,7 +1,7 @@
 //! Reads the code of expressions from standard input, one a line, and prints for each what it comes to.
 //!
 //! A line of code is the letters of its operands, or a minus sign for none, a colon, and its operation; a number
-//! behind a point belongs to the operation. A constant is a number, or a text behind a single quote, in which a
+//! before a letter says how many of it, and one behind a point belongs to the operation. A constant is a number, or a text behind a single quote, in which a
 //! tilde stands for a blank. Column 0 is the number 7 and column 1 the text `ab`; variable 0 is null and a number,
 //! and variable 1 the text `x`. An empty line, and one that begins with `#`, is printed as it is.
 //!

@@ -2,37 +2,58 @@
 
 use crate::fault::Fault;
 use crate::operation::operation;
-use psm_exprcode::{Letter, Line};
-use psm_list::List;
+use psm_exprcode::{Letter, RawExpr};
 use std::alloc::{AllocError, Global};
 
 /// The lines, if the row is lines.
-pub fn lines(alloc: Global, text: &str) -> Result<List<Line>, Fault> {
-    let mut lines = Vec::new(alloc);
-    for word in text.split_whitespace() {
-        lines.push(line(alloc, word)?)?;
-    }
-    Ok(List::of(lines))
-}
-
-fn line(alloc: Global, word: &str) -> Result<Line, Fault> {
-    let (letters, op) = word.split_once(':').ok_or(Fault::Row)?;
-    let op = operation(alloc, op)?;
-    Ok(Line {
-        stack: stack(alloc, letters)?,
-        op,
-    })
-}
-
-fn stack(alloc: Global, letters: &str) -> Result<List<Letter>, AllocError> {
+pub fn lines(alloc: Global, text: &str) -> Result<RawExpr, Fault> {
+    let mut lines = RawExpr::new(alloc);
     let mut stack = Vec::new(alloc);
-    for letter in letters.bytes() {
-        match letter {
-            b'N' => stack.push(Letter::N)?,
-            b'T' => stack.push(Letter::T)?,
-            b'B' => stack.push(Letter::B)?,
+    for word in text.split_whitespace() {
+        read_line(alloc, word, &mut stack, &mut lines)?;
+    }
+    Ok(lines)
+}
+
+// One line more. Its letters are read into the vector, which all lines share.
+fn read_line(
+    alloc: Global,
+    word: &str,
+    stack: &mut Vec<Letter>,
+    lines: &mut RawExpr,
+) -> Result<(), Fault> {
+    let (letters, op) = word.split_once(':').ok_or(Fault::Row)?;
+    read_stack(letters, stack)?;
+    let op = operation(alloc, op)?;
+    lines.push(stack.as_slice(), op)?;
+    Ok(())
+}
+
+// The letters, in place of those before. A number stands before as many of one letter.
+fn read_stack(letters: &str, stack: &mut Vec<Letter>) -> Result<(), AllocError> {
+    stack.clear();
+    let mut count: u16 = 0;
+    for byte in letters.bytes() {
+        match byte {
+            b'0'..=b'9' => {
+                let digit = u16::from(byte - b'0');
+                count = count.saturating_mul(10).saturating_add(digit);
+                continue;
+            }
+            b'N' => put(stack, Letter::N, count)?,
+            b'T' => put(stack, Letter::T, count)?,
+            b'B' => put(stack, Letter::B, count)?,
             _ => {}
         }
+        count = 0;
     }
-    Ok(List::of(stack))
+    Ok(())
+}
+
+// One letter, or so many of it.
+fn put(stack: &mut Vec<Letter>, letter: Letter, count: u16) -> Result<(), AllocError> {
+    for _ in 0..count.max(1) {
+        stack.push(letter)?;
+    }
+    Ok(())
 }

@@ -3,6 +3,7 @@ pub mod Likes
 pub mod Positions
 pub mod Results
 pub mod Running
+pub mod Sharing
 pub mod Standing
 pub mod Stepping
 pub mod Stripping

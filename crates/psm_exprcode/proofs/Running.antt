@@ -1,12 +1,15 @@
 -- Code that fits the kinds of columns and variables lacks nothing over values of those kinds, and its operands are of the
 -- letters that its lines state.
-use Rattle.std.proofs.Common.{◌≡◌, ◌⊎◌, inl, inr, ℕ, suc, ◌+◌, ◌-◌, ◌<◌, ◌≤◌, Bool, true, false, ◌&&◌, ◌||◌, List, [], ◌∷◌, ◌++◌, length, drop, get_or, nat_eq, nat_lt, refl, ap, sym, subst, ◌∙◌, arith, Option, Some, None, Ok, Err, Result, ltb-true, eqb-true, eq-eqb}
-use Rattle.std.specs.Prelude.{slice_get, reverse, IsSome, IsTrue, IfOk, if◌then◌else◌}
+use Rattle.std.proofs.Common.{◌≡◌, ◌⊎◌, inl, inr, ℕ, zero, suc, ◌+◌, ◌-◌, ◌<◌, ◌≤◌, Bool, true, false, ◌&&◌, ◌||◌, List, [], ◌∷◌, ◌++◌, length, drop, get_or, nat_eq, nat_lt, refl, ap, sym, subst, ◌∙◌, arith, Option, Some, None, Ok, Err, Result, ltb-true, eqb-true, eq-eqb}
+use Rattle.std.specs.Prelude.{slice_get, option_map, reverse, IsSome, IsTrue, IfOk, if◌then◌else◌}
 use Rattle.std.proofs.lemmas.Bool.{ne_eqb}
+use Rattle.std.proofs.lemmas.List.{length-drop, drop_all}
+use Rattle.std.proofs.lemmas.Option.{slice_get_within, get_or_from_slice_get}
 use Rattle.std.proofs.Math.Seq.{drop-cons}
 use Rattle.psm_num.proofs.Literals.{and_first, and_second}
 use Rattle.psm_value.specs.declared.datum.Datum.{Datum}
 use Rattle.psm_value.specs.declared.fault.ValueFault.{ValueFault}
+use Rattle.psm_value.specs.declared.fault.ValueFault.TheVariants.{Condition, Memory}
 use Rattle.psm_exprcode.specs.declared.op.Letter.{Letter}
 use Rattle.psm_exprcode.specs.declared.op.Letter.TheVariants.{N, T, B}
 use Rattle.psm_exprcode.specs.declared.op.Line.{Line}
@@ -16,7 +19,7 @@ use Rattle.psm_exprcode.specs.declared.operand.Next.{Next}
 use Rattle.psm_exprcode.specs.declared.operand.Next.TheVariants.{Ahead, Jump}
 use Rattle.psm_exprcode.specs.Applied.{Applied, Went, Raised, Lacking, applied}
 use Rattle.psm_exprcode.specs.Evaluated.{Outcome, place_after, goes_on, ended, ran, evaluated, Suits, Evaluates}
-use Rattle.psm_exprcode.specs.Fits.{Fits}
+use Rattle.psm_exprcode.specs.Fits.{Fits, Refuses}
 use Rattle.psm_exprcode.specs.Kinds.{is_letter, is_value, some_value, some_letter, is_of, have}
 use Rattle.psm_exprcode.specs.Operations.{Effect, effect}
 use Rattle.psm_exprcode.specs.WellFormed.{same_stack, left_of, is_bounded, are_stated, lands, goes_ahead, goes_away, goes_on_with, leads, is_line, are_lines, is_of_kind}
@@ -299,7 +302,7 @@ ran_first row vars lines at pc l os b h e g q =
     sym (ap (λ c. if c then goes_on (applied l.op os row vars) (λ next. ran row vars (suc at) (place_after at next) (drop (suc at) lines)) else ran row vars (suc at) pc (drop (suc at) lines) os) q)
     ∙ sym (ap (λ ls. ran row vars at pc ls os) (line_first lines at l h e)) ∙ g.so_far
 
-pub fits_at : (row vars : List Datum) (lines : List Line) (at pc : ℕ) (l : Line) (os : List Operand) → at < length lines → l ≡ get_or lines at l → Going row vars lines at pc os → at ≡ pc
+fits_at : (row vars : List Datum) (lines : List Line) (at pc : ℕ) (l : Line) (os : List Operand) → at < length lines → l ≡ get_or lines at l → Going row vars lines at pc os → at ≡ pc
     → Fits l.op os row vars
 fits_at row vars lines at pc l os h e g q = line_fits row vars g.end at pc l (drop (suc at) lines) os (runs_first row vars lines at pc l os h e g) q
 
@@ -308,7 +311,7 @@ next_place row vars lines at pc os g =
     let n : suc at ≡ at + 1 = omega arith in
     let F : ℕ → Type 0 = λ i. Going row vars lines i pc os in subst F n g
 
-pub going_on : (row vars : List Datum) (lines : List Line) (at pc there : ℕ) (l : Line) (os us : List Operand) (next : Next) → at < length lines → l ≡ get_or lines at l → Going row vars lines at pc os
+going_on : (row vars : List Datum) (lines : List Line) (at pc there : ℕ) (l : Line) (os us : List Operand) (next : Next) → at < length lines → l ≡ get_or lines at l → Going row vars lines at pc os
     → at ≡ pc → applied l.op os row vars ≡ Went next us → there ≡ place_after at next → Going row vars lines (at + 1) there us
 going_on row vars lines at pc there l os us next h e g q w p =
     let F : ℕ → Type 0 = λ i. Going row vars lines (at + 1) i us in
@@ -318,10 +321,117 @@ going_on row vars lines at pc there l os us next h e g q w p =
       runs = line_goes row vars g.end at pc l (drop (suc at) lines) os us next (runs_first row vars lines at pc l os h e g) q w;
     }))
 
-pub going_past : (row vars : List Datum) (lines : List Line) (at pc : ℕ) (l : Line) (os : List Operand) → at < length lines → l ≡ get_or lines at l → Going row vars lines at pc os
+going_past : (row vars : List Datum) (lines : List Line) (at pc : ℕ) (l : Line) (os : List Operand) → at < length lines → l ≡ get_or lines at l → Going row vars lines at pc os
     → (at ≡ pc → ⊥) → Going row vars lines (at + 1) pc os
 going_past row vars lines at pc l os h e g q = next_place row vars lines at pc os (record {
   so_far = ran_first row vars lines at pc l os false h e g (ne_eqb at pc q);
   end = g.end;
   runs = line_passed row vars g.end at pc l (drop (suc at) lines) os (runs_first row vars lines at pc l os h e g) q;
 })
+
+-- ---- the operation of a line, found by its place
+
+none_past : (lines : List Line) (at : ℕ) → slice_get lines at ≡ None → length lines ≤ at
+none_past [] at h = omega arith
+none_past (l ∷ lines) zero h = absurd (cc)
+none_past (l ∷ lines) (suc at) h = omega (arith, none_past lines at h)
+
+record Found (lines : List Line) (at : ℕ) (o : Op) : Type 0 where
+  pub line : Line
+  pub there : slice_get lines at ≡ Some line
+  pub op : line.op ≡ o
+
+op_found : (lines : List Line) (at : ℕ) (o : Op) → option_map (λ l. l.op) (slice_get lines at) ≡ Some o → Found lines at o
+op_found lines at o e = by (slice_get lines at) refl e where
+  by : (found : Option Line) → slice_get lines at ≡ found → option_map (λ l. l.op) found ≡ Some o → Found lines at o
+  by None g h = absurd (cc)
+  by (Some l) g h = record { line = l; there = g; op = cc }
+
+op_none : (lines : List Line) (at : ℕ) → option_map (λ l. l.op) (slice_get lines at) ≡ None → slice_get lines at ≡ None
+op_none lines at e = by (slice_get lines at) refl e where
+  by : (found : Option Line) → slice_get lines at ≡ found → option_map (λ l. l.op) found ≡ None → slice_get lines at ≡ None
+  by None g h = g
+  by (Some l) g h = absurd (cc)
+
+-- a place behind a line's is that of a line, or the end
+reaches : (end : Letter) (lines : List Line) (d : ℕ) (os : List Operand) → stands end lines (suc d) os ≡ true → 0 < length lines
+reaches end [] d os h =
+    let far : nat_eq (suc d) 0 ≡ false = ne_eqb (suc d) 0 (λ q. omega (arith, q)) in
+    let e : nat_eq (suc d) 0 ≡ true = and_first (nat_eq (suc d) 0) (have (end ∷ []) os) h in
+    absurd (cc)
+reaches end (l ∷ lines) d os h = omega arith
+
+going_within : (row vars : List Datum) (lines : List Line) (at pc : ℕ) (os : List Operand) → Going row vars lines at pc os → at < pc → at < length lines
+going_within row vars lines at pc os g h =
+    let one : pc - at ≡ suc (pc - suc at) = omega (arith, h) in
+    let more : 0 < length (drop at lines) = reaches g.end (drop at lines) (pc - suc at) os (sym (ap (λ n. stands g.end (drop at lines) n os) one) ∙ g.runs.stand) in
+    omega (arith, more, length-drop at lines)
+
+going_step : (row vars : List Datum) (lines : List Line) (at pc : ℕ) (os : List Operand) → Going row vars lines at pc os → at < pc → Going row vars lines (at + 1) pc os
+going_step row vars lines at pc os g h = by (slice_get lines at) refl where
+  by : (found : Option Line) → slice_get lines at ≡ found → Going row vars lines (at + 1) pc os
+  by None e = absurd (omega (arith, none_past lines at e, going_within row vars lines at pc os g h))
+  by (Some l) e = going_past row vars lines at pc l os (slice_get_within lines at l e) (sym (get_or_from_slice_get lines at l l e)) g (λ q. omega (arith, h, q))
+
+going_to : (d : ℕ) (row vars : List Datum) (lines : List Line) (at pc : ℕ) (os : List Operand) → Going row vars lines at pc os → at + d ≡ pc → Going row vars lines pc pc os
+going_to zero row vars lines at pc os g e =
+    let here : at ≡ pc = omega (arith, e) in
+    let F : ℕ → Type 0 = λ i. Going row vars lines i pc os in subst F here g
+going_to (suc d) row vars lines at pc os g e = going_to d row vars lines (at + 1) pc os (going_step row vars lines at pc os g (omega (arith, e))) (omega (arith, e))
+
+pub fits_op : (row vars : List Datum) (lines : List Line) (at : ℕ) (o : Op) (os : List Operand) → option_map (λ l. l.op) (slice_get lines at) ≡ Some o → Going row vars lines at at os → Fits o os row vars
+fits_op row vars lines at o os e g =
+    let f = op_found lines at o e in
+    let F : Op → Type 0 = λ p. Fits p os row vars in
+    subst F f.op (fits_at row vars lines at at f.line os (slice_get_within lines at f.line f.there) (sym (get_or_from_slice_get lines at f.line f.line f.there)) g refl)
+
+-- after an operation, the line to which it goes
+pub record Gone (row vars : List Datum) (lines : List Line) (at there : ℕ) (os : List Operand) : Type 0 where
+  pub going : Going row vars lines there there os
+  pub later : length lines - there < length lines - at
+
+pub going_op : (row vars : List Datum) (lines : List Line) (at there : ℕ) (o : Op) (os us : List Operand) (next : Next) → option_map (λ l. l.op) (slice_get lines at) ≡ Some o → Going row vars lines at at os
+    → applied o os row vars ≡ Went next us → there ≡ place_after at next → Gone row vars lines at there us
+going_op row vars lines at there o os us next e g w p =
+    let f = op_found lines at o e in
+    let within : at < length lines = slice_get_within lines at f.line f.there in
+    let on : Going row vars lines (at + 1) there us =
+    going_on row vars lines at at there f.line os us next within (sym (get_or_from_slice_get lines at f.line f.line f.there)) g refl (ap (λ q. applied q os row vars) f.op ∙ w) p in
+    let low : at + 1 ≤ there = on.runs.low in
+    record {
+      going = going_to (there - (at + 1)) row vars lines (at + 1) there us on (omega (arith, low));
+      later = omega (arith, low, within);
+    }
+
+-- past the last line there is the one operand to which the code comes
+pub record Ended (row vars : List Datum) (lines : List Line) (os : List Operand) : Type 0 where
+  pub operand : Operand
+  pub alone : os ≡ operand ∷ []
+  pub value : evaluated lines row vars ≡ Some (Ok operand)
+
+pub going_end : (row vars : List Datum) (lines : List Line) (at : ℕ) (os : List Operand) → option_map (λ l. l.op) (slice_get lines at) ≡ None → Going row vars lines at at os → Ended row vars lines os
+going_end row vars lines at os e g =
+    let none : drop at lines ≡ [] = drop_all at lines (none_past lines at (op_none lines at e)) in
+    let F : List Line → Type 0 = λ ls. Runs row vars g.end at at ls os in
+    let one = lines_end row vars g.end at at os (subst F none g.runs) in
+    record {
+      operand = one.0;
+      alone = one.1;
+      value = sym g.so_far ∙ ap (λ ls. ran row vars at at ls os) none ∙ ap ended one.1;
+    }
+
+pub refused_op : (row vars : List Datum) (lines : List Line) (at : ℕ) (o : Op) (os : List Operand) (fault : ValueFault) → option_map (λ l. l.op) (slice_get lines at) ≡ Some o → Going row vars lines at at os
+    → Refuses (applied o os row vars) fault → Evaluates (evaluated lines row vars) (Err fault)
+refused_op row vars lines at o os (Condition state) e g h =
+    let f = op_found lines at o e in
+    let within : at < length lines = slice_get_within lines at f.line f.there in
+    let first = ran_first row vars lines at at f.line os true within (sym (get_or_from_slice_get lines at f.line f.line f.there)) g (eq-eqb at at refl) in
+    sym first ∙ ap (λ a. goes_on a (λ next. ran row vars (suc at) (place_after at next) (drop (suc at) lines))) (ap (λ q. applied q os row vars) f.op ∙ h)
+refused_op row vars lines at o os Memory e g h = tt
+
+-- the operand that is taken off then is the one to which the code comes
+pub ended_value : (row vars : List Datum) (lines : List Line) (os below : List Operand) (o : Operand) → Ended row vars lines os → os ≡ o ∷ below → evaluated lines row vars ≡ Some (Ok o)
+ended_value row vars lines os below o h e =
+    let same : h.operand ∷ [] ≡ o ∷ below = sym h.alone ∙ e in
+    let one : h.operand ≡ o = cc in
+    h.value ∙ ap (λ p. Some (Ok p)) one

@@ -1,9 +1,10 @@
 -- Letters that are taken off a stack of letters.
-use Rattle.std.proofs.Common.{◌≡◌, ℕ, zero, suc, ◌-◌, ◌<◌, Bool, true, false, ◌&&◌, List, [], ◌∷◌, ◌++◌, refl, ap, sym, ◌∙◌, arith, Some, None}
+use Rattle.std.proofs.Common.{◌≡◌, ℕ, zero, suc, ◌-◌, ◌<◌, Bool, true, false, ◌&&◌, List, [], ◌∷◌, ◌++◌, length, refl, ap, sym, ◌∙◌, arith, Some, None}
 use Rattle.std.specs.Prelude.{replicate, option_and_then, if◌then◌else◌}
 use Rattle.psm_exprcode.specs.declared.op.Letter.{Letter}
 use Rattle.psm_exprcode.specs.declared.op.Letter.TheVariants.{N, T, B}
 use Rattle.psm_exprcode.specs.Kinds.{is_letter}
+use Rattle.psm_exprcode.specs.Stacks.{stack_at}
 use Rattle.psm_exprcode.specs.WellFormed.{same_stack, left_of}
 
 pub is_letter-self : (k : Letter) → is_letter k k ≡ true
@@ -21,6 +22,23 @@ is_letter-same T B h = absurd (cc)
 is_letter-same B N h = absurd (cc)
 is_letter-same B T h = absurd (cc)
 is_letter-same B B h = refl
+
+pub same_stack-self : (s : List Letter) → same_stack s s ≡ true
+same_stack-self [] = refl
+same_stack-self (k ∷ s) = ap (λ b. b && same_stack s s) (is_letter-self k) ∙ same_stack-self s
+
+-- ---- two stacks that are gone down together
+
+pub record Comparing (stacks : List (List Letter)) (stack other left right : ℕ) : Type 0 where
+  pub left_there : left < length stacks
+  pub right_there : right < length stacks
+  pub same : same_stack (stack_at stacks left) (stack_at stacks right) ≡ same_stack (stack_at stacks stack) (stack_at stacks other)
+
+pub comparing_all : (stacks : List (List Letter)) (stack other left right : ℕ) → Comparing stacks stack other left right → left ≡ right → true ≡ same_stack (stack_at stacks stack) (stack_at stacks other)
+comparing_all stacks stack other left right h e =
+    sym (same_stack-self (stack_at stacks left)) ∙ ap (λ n. same_stack (stack_at stacks left) (stack_at stacks n)) e ∙ h.same
+
+-- ---- letters off
 
 -- one letter off
 pub left_step : (n : ℕ) (k l : Letter) (s below : List Letter) → 0 < n → s ≡ l ∷ below → l ≡ k → left_of (replicate n k) s ≡ left_of (replicate (n - 1) k) below

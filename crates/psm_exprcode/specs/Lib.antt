@@ -4,7 +4,10 @@ pub mod Comparison
 pub mod Evaluated
 pub mod Fits
 pub mod Kinds
+pub mod Lent
+pub mod Numbered
 pub mod Operations
+pub mod Stacks
 pub mod Table
 pub mod Texts
 pub mod Values

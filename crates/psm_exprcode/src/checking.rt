@@ -1,15 +1,19 @@
 //! Whether lines are well formed, and whether they fit columns and variables of known kinds. No call here
 //! takes memory.
-ghost use Rattle.std.specs.Prelude.{◌≡◌, ◌+◌, ◌-◌, ◌<◌, ◌++◌, ◌&&◌, suc, nat_lt, length, drop, reverse, slice_get, option_map};
-ghost use Rattle.std.specs.Option.{option_copied};
+ghost use Rattle.std.specs.Prelude.{◌≡◌, ◌-◌, ◌<◌, ◌++◌, ◌&&◌, suc, nat_lt, length, reverse, slice_get, option_map};
 ghost use Rattle.psm_exprcode.specs.Kinds.{some_letter};
+ghost use Rattle.psm_exprcode.specs.Lent.{lines_in};
+ghost use Rattle.psm_exprcode.specs.Numbered.{line_of};
 ghost use Rattle.psm_exprcode.specs.Operations.{effect};
+ghost use Rattle.psm_exprcode.specs.Stacks.{stack_at};
 ghost use Rattle.psm_exprcode.specs.Table.{effect_of, letters_of, jump_of};
 ghost use Rattle.psm_exprcode.specs.Ways.{allowed};
-ghost use Rattle.psm_exprcode.specs.WellFormed.{is_type as is_type_within, is_bounded as is_op_bounded, is_known as is_of_known, lands as letters_land, goes_ahead as letters_go_ahead, goes_away as letters_go_away, leads as letters_lead, is_line, are_lines, ends_with as lines_end_with, is_well_formed as are_well_formed};
+ghost use Rattle.psm_exprcode.specs.WellFormed.{is_type as is_type_within, is_bounded as is_op_bounded, lands as letters_land, goes_ahead as letters_go_ahead, goes_away as letters_go_away, leads as letters_lead, is_line, are_lines, ends_with as lines_end_with, is_well_formed as are_well_formed};
 
-use crate::letters::{are_stated, left};
-use crate::op::{Letter, Line, Op};
+use crate::lent::NumberedLines;
+use crate::letters::{are_stated, is_known, left};
+use crate::op::{Letter, Op};
+use crate::raw::NumberedLine;
 use crate::table::{Entry, Letters};
 use psm_value::{Datum, SqlType};
 
@@ -24,8 +28,8 @@ pub(crate) enum Kinds<'a> {
 }
 
 /// Whether the lines end with the same letter on every way, and each of them is right.
-pub(crate) fn is_well_formed(lines: &[Line]) -> bool
-    ensures { result ≡ are_well_formed lines.now }
+pub(crate) fn is_well_formed(lines: &NumberedLines<'_>) -> bool
+    ensures { result ≡ are_well_formed (lines_in lines.now) }
 {
     ends_with(Kinds::Any, lines, Letter::N)
         || ends_with(Kinds::Any, lines, Letter::T)
@@ -33,33 +37,33 @@ pub(crate) fn is_well_formed(lines: &[Line]) -> bool
 }
 
 /// Whether the first line states no operand, each line is right, and the lines end with that letter.
-pub(crate) fn ends_with(kinds: Kinds<'_>, lines: &[Line], end: Letter) -> bool
-    ensures { result ≡ lines_end_with (allowed kinds.entry) lines.now end }
+pub(crate) fn ends_with(kinds: Kinds<'_>, lines: &NumberedLines<'_>, end: Letter) -> bool
+    ensures { result ≡ lines_end_with (allowed kinds.entry) (lines_in lines.now) end }
 {
-    lands(end, lines, 0, Letters::none(), &[]) && are_right(kinds, end, lines)
+    lands(end, lines, 0, Letters::none(), lines.stacks.empty()) && are_right(kinds, end, lines)
 }
 
-fn are_right(kinds: Kinds<'_>, end: Letter, lines: &[Line]) -> bool
-    ensures { result ≡ are_lines (allowed kinds.entry) end 0 lines.now }
+fn are_right(kinds: Kinds<'_>, end: Letter, lines: &NumberedLines<'_>) -> bool
+    ensures { result ≡ are_lines (allowed kinds.entry) end 0 (lines_in lines.now) }
 {
-    for (at, line) in lines.iter().enumerate() {
-        if !is_right(kinds, end, at, line, lines_after(lines, at)) {
+    for (at, line) in lines.lines.iter().enumerate() {
+        if !is_right(kinds, end, at, line, &lines.after(at)) {
             return false;
         }
     }
     true
 }
 
-fn lines_after(lines: &[Line], at: usize) -> &[Line]
-    requires { at < length lines.now }
-    ensures { result.now ≡ drop (at + 1) lines.now }
-{
-    &lines[at + 1..]
-}
-
 // Whether a line at a place is right, with the lines after it.
-fn is_right(kinds: Kinds<'_>, end: Letter, at: usize, line: &Line, after: &[Line]) -> bool
-    ensures { result ≡ is_line (allowed kinds.entry) end at line.now after.now }
+fn is_right(
+    kinds: Kinds<'_>,
+    end: Letter,
+    at: usize,
+    line: &NumberedLine,
+    after: &NumberedLines<'_>,
+) -> bool
+    requires { line.now.stack < length after.now.stacks.now }
+    ensures { result ≡ is_line (allowed kinds.entry) end at (line_of after.now.stacks.now line.now) (lines_in after.now) }
 {
     is_bounded(&line.op)
         && (is_right_of(kinds, Letter::N, end, at, line, after)
@@ -72,12 +76,13 @@ fn is_right_of(
     kind: Letter,
     end: Letter,
     at: usize,
-    line: &Line,
-    after: &[Line],
+    line: &NumberedLine,
+    after: &NumberedLines<'_>,
 ) -> bool
-    ensures { result ≡ (allowed kinds.entry line.now.op kind && some_letter (λ x. letters_lead end at (effect line.now.op kind x) (reverse line.now.stack) after.now)) }
+    requires { line.now.stack < length after.now.stacks.now }
+    ensures { result ≡ (allowed kinds.entry line.now.op kind && some_letter (λ x. letters_lead end at (effect line.now.op kind x) (reverse (line_of after.now.stacks.now line.now).stack) (lines_in after.now))) }
 {
-    let stack = line.stack.items();
+    let stack = line.stack;
     allows(kinds, &line.op, kind)
         && (leads(end, at, line.op.entry(kind, Letter::N), stack, after)
             || leads(end, at, line.op.entry(kind, Letter::T), stack, after)
@@ -91,19 +96,10 @@ fn allows(kinds: Kinds<'_>, op: &Op, kind: Letter) -> bool
     match kinds {
         Kinds::Any => true,
         Kinds::Of { columns, variables } => match op {
-            Op::Variable(place) => is_known(kind, variables, *place),
-            Op::Column(place) => is_known(kind, columns, *place),
+            Op::Variable(place) => is_known(kind, variables, *place as usize),
+            Op::Column(place) => is_known(kind, columns, *place as usize),
             _ => true,
         },
-    }
-}
-
-fn is_known(kind: Letter, kinds: &[Letter], place: u32) -> bool
-    ensures { result ≡ is_of_known kind (slice_get kinds.now place) }
-{
-    match kinds.get(place as usize) {
-        Some(known) => kind == *known,
-        None => false,
     }
 }
 
@@ -127,10 +123,11 @@ fn is_type(to: SqlType) -> bool
 }
 
 // Whether an operation at a place finds what it takes, and brings what is stated wherever it goes on.
-fn leads(end: Letter, at: usize, entry: Entry, stack: &[Letter], after: &[Line]) -> bool
-    ensures { result ≡ letters_lead end at (effect_of entry) (reverse stack.now) after.now }
+fn leads(end: Letter, at: usize, entry: Entry, stack: usize, after: &NumberedLines<'_>) -> bool
+    requires { stack < length after.now.stacks.now }
+    ensures { result ≡ letters_lead end at (effect_of entry) (stack_at after.now.stacks.now stack) (lines_in after.now) }
 {
-    match left(stack, entry.takes) {
+    match left(after.stacks, stack, entry.takes) {
         Some(rest) => {
             goes_ahead(end, entry.ahead, rest, after) && goes_away(end, at, entry.away, rest, after)
         }
@@ -138,8 +135,9 @@ fn leads(end: Letter, at: usize, entry: Entry, stack: &[Letter], after: &[Line])
     }
 }
 
-fn goes_ahead(end: Letter, puts: Option<Letters>, rest: &[Letter], after: &[Line]) -> bool
-    ensures { result ≡ letters_go_ahead end (option_map letters_of puts) (reverse rest.now) after.now }
+fn goes_ahead(end: Letter, puts: Option<Letters>, rest: usize, after: &NumberedLines<'_>) -> bool
+    requires { rest < length after.now.stacks.now }
+    ensures { result ≡ letters_go_ahead end (option_map letters_of puts) (stack_at after.now.stacks.now rest) (lines_in after.now) }
 {
     match puts {
         Some(puts) => lands(end, after, 0, puts, rest),
@@ -151,10 +149,11 @@ fn goes_away(
     end: Letter,
     at: usize,
     jump: Option<(u32, Letters)>,
-    rest: &[Letter],
-    after: &[Line],
+    rest: usize,
+    after: &NumberedLines<'_>,
 ) -> bool
-    ensures { result ≡ letters_go_away end at (option_map jump_of jump) (reverse rest.now) after.now }
+    requires { rest < length after.now.stacks.now }
+    ensures { result ≡ letters_go_away end at (option_map jump_of jump) (stack_at after.now.stacks.now rest) (lines_in after.now) }
 {
     match jump {
         Some((place, puts)) => jumps(end, at, place, puts, rest, after),
@@ -163,25 +162,37 @@ fn goes_away(
 }
 
 // Whether a place follows, and the letters are those that are stated there.
-fn jumps(end: Letter, at: usize, place: u32, puts: Letters, rest: &[Letter], after: &[Line]) -> bool
-    ensures { result ≡ (nat_lt at place && letters_land end after.now (place - suc at) (letters_of puts ++ reverse rest.now)) }
+fn jumps(
+    end: Letter,
+    at: usize,
+    place: u32,
+    puts: Letters,
+    rest: usize,
+    after: &NumberedLines<'_>,
+) -> bool
+    requires { rest < length after.now.stacks.now }
+    ensures { result ≡ (nat_lt at place && letters_land end (lines_in after.now) (place - suc at) (letters_of puts ++ stack_at after.now.stacks.now rest)) }
 {
     let place = place as usize;
     at < place && lands(end, after, place - at - 1, puts, rest)
 }
 
 // Whether the letters are those that a line states, so many below the first, or the one at the end.
-fn lands(end: Letter, after: &[Line], distance: usize, puts: Letters, rest: &[Letter]) -> bool
-    ensures { result ≡ letters_land end after.now distance (letters_of puts ++ reverse rest.now) }
+fn lands(
+    end: Letter,
+    after: &NumberedLines<'_>,
+    distance: usize,
+    puts: Letters,
+    rest: usize,
+) -> bool
+    requires { rest < length after.now.stacks.now }
+    ensures { result ≡ letters_land end (lines_in after.now) distance (letters_of puts ++ stack_at after.now.stacks.now rest) }
 {
-    match line_at(after, distance) {
-        Some(line) => are_stated(puts, rest, line.stack.items()),
-        None => distance == after.len() && are_stated(puts, rest, &[end]),
+    let stacks = after.stacks;
+    match after.stack(distance) {
+        Some(stated) => are_stated(stacks, puts, rest, stated),
+        None => {
+            distance == after.lines.len() && are_stated(stacks, puts, rest, stacks.single(end))
+        }
     }
-}
-
-fn line_at(lines: &[Line], distance: usize) -> Option<&Line>
-    ensures { option_copied result ≡ slice_get lines.now distance }
-{
-    lines.get(distance)
 }

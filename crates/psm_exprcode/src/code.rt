@@ -3,8 +3,8 @@ ghost use Rattle.std.specs.Prelude.{◌≡◌, IsTrue};
 ghost use Rattle.psm_exprcode.specs.WellFormed.{code_of, does_fit, is_well_formed as are_well_formed};
 
 use crate::checking::{Kinds, ends_with, is_well_formed};
-use crate::op::{Letter, Line};
-use psm_list::List;
+use crate::op::Letter;
+use crate::raw::RawExpr;
 use std::marker::Model;
 
 /// The code of an expression, seen as its lines: each way to a line brings exactly the letters that the line
@@ -12,7 +12,7 @@ use std::marker::Model;
 /// constants are within bounds.
 #[derive(Debug, Drop)]
 pub struct ExprCode {
-    lines: List<Line>,
+    lines: RawExpr,
 }
 
 impl Model for ExprCode {
@@ -29,22 +29,22 @@ impl Model for ExprCode {
 
 impl ExprCode {
     /// The lines as code, exactly where they are well formed, and else the lines back. Takes no memory.
-    pub fn of(lines: List<Line>) -> Result<ExprCode, List<Line>>
+    pub fn of(lines: RawExpr) -> Result<ExprCode, RawExpr>
         ensures { result ≡ code_of lines }
     {
-        if is_well_formed(lines.items()) {
+        if is_well_formed(&lines.lent()) {
             Ok(ExprCode { lines })
         } else {
             Err(lines)
         }
     }
 
-    /// Lends the lines in order.
-    pub fn lines(&self) -> &[Line]
+    /// Lends the lines.
+    pub fn lines(&self) -> &RawExpr
         ensures value { result.now ≡ self.now }
         ensures well_formed { IsTrue (are_well_formed self.now) }
     {
-        self.lines.items()
+        &self.lines
     }
 
     /// Whether each column and each variable that the code names is there, of the kind with which the code
@@ -52,6 +52,6 @@ impl ExprCode {
     pub fn fits(&self, columns: &[Letter], variables: &[Letter], end: Letter) -> bool
         ensures { result ≡ does_fit columns.now variables.now self.now end }
     {
-        ends_with(Kinds::Of { columns, variables }, self.lines(), end)
+        ends_with(Kinds::Of { columns, variables }, &self.lines.lent(), end)
     }
 }

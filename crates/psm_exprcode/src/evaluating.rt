@@ -6,8 +6,8 @@ ghost use Rattle.psm_exprcode.specs.Kinds.{is_of};
 
 use crate::applying::apply;
 use crate::code::ExprCode;
-use crate::op::Line;
 use crate::operand::{Next, Operand};
+use crate::raw::RawExpr;
 use crate::stack::pop;
 use psm_value::{Datum, ValueFault};
 use std::alloc::Global;
@@ -54,11 +54,10 @@ pub fn eval_on(
     answer
 }
 
-#[tactic(auto, using(crate::proofs::Running::evaluated_some))]
 fn run(
     alloc: Global,
     operands: &mut Vec<Operand>,
-    lines: &[Line],
+    lines: &RawExpr,
     row: &[Datum],
     vars: &[Datum],
 ) -> Result<Operand, ValueFault>
@@ -68,19 +67,16 @@ fn run(
     ensures lacks_nothing { IsSome (evaluated lines.now row.now vars.now) }
 {
     let mut place: usize = 0;
-    for (at, line) in lines.iter().enumerate() {
-        // A line before the place is one that a jump passed over.
-        if at == place {
-            let next = apply(alloc, &line.op, operands, row, vars)?;
-            place = place_after(at, next);
-        }
+    while let Some(op) = lines.op(place) {
+        let next = apply(alloc, op, operands, row, vars)?;
+        place = place_after(place, next);
     }
     Ok(pop(operands))
 }
 
 // The place after that of a line.
 fn place_after(at: usize, next: Next) -> usize
-    requires { at < 2 ^ 63 }
+    requires { at < usize.MAX }
     ensures { result ≡ place_that_follows at next }
 {
     match next {

@@ -1,29 +1,45 @@
-//! Stacks of letters, with the last one at the end.
-ghost use Rattle.std.specs.Prelude.{◌≡◌, ◌∷◌, [], ◌++◌, replicate, reverse, option_map, option_and_then, MatchOption};
+//! Letters that are taken off a stack, and stacks that are the same.
+ghost use Rattle.std.specs.Prelude.{◌≡◌, ◌<◌, ◌++◌, length, replicate, slice_get, option_map, IfSome};
+ghost use Rattle.psm_exprcode.specs.Stacks.{stack_at};
 ghost use Rattle.psm_exprcode.specs.Table.{alone, letters_of};
-ghost use Rattle.psm_exprcode.specs.WellFormed.{left_of, same_stack};
+ghost use Rattle.psm_exprcode.specs.WellFormed.{is_known as is_of_known, left_of, same_stack};
 
 use crate::op::Letter;
+use crate::stacks::Stacks;
 use crate::table::Letters;
 
-/// What is left where those letters are taken off; none where others stand there.
-#[tactic(auto, using(crate::proofs::Stripping::left_below_some, crate::proofs::Stripping::left_below_none))]
-pub(crate) fn left(stack: &[Letter], taken: Letters) -> Option<&[Letter]>
-    ensures { option_map (λ rest. reverse rest.now) result ≡ left_of (letters_of taken) (reverse stack.now) }
+/// Whether the letter stands at that place.
+pub(crate) fn is_known(letter: Letter, letters: &[Letter], place: usize) -> bool
+    ensures { result ≡ is_of_known letter (slice_get letters.now place) }
 {
-    match left_by_many(stack, taken.letter, taken.count) {
-        Some(rest) => left_by_one(rest, taken.below),
+    match letters.get(place) {
+        Some(known) => letter == *known,
+        None => false,
+    }
+}
+
+/// What is left of a stack where those letters are taken off; none where others stand there.
+#[tactic(auto, using(crate::proofs::Stripping::left_below_some, crate::proofs::Stripping::left_below_none))]
+pub(crate) fn left(stacks: &Stacks, stack: usize, taken: Letters) -> Option<usize>
+    requires { stack < length stacks.now }
+    ensures letters { option_map (stack_at stacks.now) result ≡ left_of (letters_of taken) (stack_at stacks.now stack) }
+    ensures there { IfSome result (λ rest. rest < length stacks.now) }
+{
+    match left_by_many(stacks, stack, taken.letter, taken.count) {
+        Some(rest) => left_by_one(stacks, rest, taken.below),
         None => None,
     }
 }
 
-fn left_by_many(stack: &[Letter], letter: Letter, count: u32) -> Option<&[Letter]>
-    ensures { option_map (λ rest. reverse rest.now) result ≡ left_of (replicate count letter) (reverse stack.now) }
+fn left_by_many(stacks: &Stacks, stack: usize, letter: Letter, count: u32) -> Option<usize>
+    requires { stack < length stacks.now }
+    ensures letters { option_map (stack_at stacks.now) result ≡ left_of (replicate count letter) (stack_at stacks.now stack) }
+    ensures there { IfSome result (λ rest. rest < length stacks.now) }
 {
     let mut rest = stack;
     let mut more = count;
     while more > 0 {
-        match split(rest) {
+        match stacks.split(rest) {
             Some((last, below)) if last == letter => rest = below,
             _ => return None,
         }
@@ -32,47 +48,47 @@ fn left_by_many(stack: &[Letter], letter: Letter, count: u32) -> Option<&[Letter
     Some(rest)
 }
 
-fn left_by_one(stack: &[Letter], letter: Option<Letter>) -> Option<&[Letter]>
-    ensures { option_map (λ rest. reverse rest.now) result ≡ left_of (alone letter) (reverse stack.now) }
+fn left_by_one(stacks: &Stacks, stack: usize, letter: Option<Letter>) -> Option<usize>
+    requires { stack < length stacks.now }
+    ensures letters { option_map (stack_at stacks.now) result ≡ left_of (alone letter) (stack_at stacks.now stack) }
+    ensures there { IfSome result (λ rest. rest < length stacks.now) }
 {
     match letter {
         None => Some(stack),
-        Some(letter) => left_by_many(stack, letter, 1),
+        Some(letter) => left_by_many(stacks, stack, letter, 1),
     }
 }
 
-// The last letter, and those below it.
-fn split(stack: &[Letter]) -> Option<(Letter, &[Letter])>
-    ensures { MatchOption result (reverse stack.now ≡ []) (λ r. reverse stack.now ≡ r.0 ∷ reverse r.1.now) }
-{
-    match stack.split_last() {
-        Some((last, below)) => Some((*last, below)),
-        None => None,
-    }
-}
-
-/// Whether the letters are those below, with those that are put on them.
+/// Whether a stack is that below, with the letters that are put on it.
 #[tactic(auto, using(crate::proofs::Stripping::same_on_some, crate::proofs::Stripping::same_on_none))]
-pub(crate) fn are_stated(put: Letters, below: &[Letter], stated: &[Letter]) -> bool
-    ensures { result ≡ same_stack (letters_of put ++ reverse below.now) (reverse stated.now) }
+pub(crate) fn are_stated(stacks: &Stacks, put: Letters, below: usize, stated: usize) -> bool
+    requires below { below < length stacks.now }
+    requires stated { stated < length stacks.now }
+    ensures { result ≡ same_stack (letters_of put ++ stack_at stacks.now below) (stack_at stacks.now stated) }
 {
-    match left(stated, put) {
-        Some(rest) => are_same(below, rest),
+    match left(stacks, stated, put) {
+        Some(rest) => are_same(stacks, below, rest),
         None => false,
     }
 }
 
-fn are_same(stack: &[Letter], other: &[Letter]) -> bool
-    ensures { result ≡ same_stack (reverse stack.now) (reverse other.now) }
+// Stacks with one number are the same, so that what is shared isn't looked at.
+fn are_same(stacks: &Stacks, stack: usize, other: usize) -> bool
+    requires stack { stack < length stacks.now }
+    requires other { other < length stacks.now }
+    ensures { result ≡ same_stack (stack_at stacks.now stack) (stack_at stacks.now other) }
 {
     let mut left = stack;
     let mut right = other;
-    while let Some((last, below)) = split(left) {
-        match split(right) {
-            Some((other, under)) if last == other => right = under,
+    while left != right {
+        match (stacks.split(left), stacks.split(right)) {
+            (Some((last, below)), Some((other, under))) if last == other => {
+                left = below;
+                right = under;
+            }
+            (None, None) => return true,
             _ => return false,
         }
-        left = below;
     }
-    right.is_empty()
+    true
 }

@@ -1,6 +1,6 @@
 //! The operations of expression code, and the letters of their operands.
 ghost use Rattle.std.specs.Prelude.{◌≡◌};
-ghost use Rattle.psm_exprcode.specs.Kinds.{are_of, has_letter};
+ghost use Rattle.psm_exprcode.specs.Kinds.{are_of, has_letter, letter_of};
 
 use psm_list::List;
 use psm_text::Side;
@@ -18,6 +18,16 @@ pub enum Letter {
 }
 
 impl Letter {
+    /// The letter of a type's values.
+    pub fn of_type(kind: SqlType) -> Letter
+        ensures { result ≡ letter_of kind }
+    {
+        match kind {
+            SqlType::SmallInt | SqlType::Integer | SqlType::Numeric { .. } => Letter::N,
+            SqlType::Char { .. } | SqlType::VarChar { .. } => Letter::T,
+        }
+    }
+
     /// Whether a value is of the kind. Null is of both kinds of values.
     pub fn is_of(self, value: &Datum) -> bool
         ensures { result ≡ has_letter self value.now }
@@ -129,16 +139,10 @@ pub enum Op {
     JumpUnlessNull(u32),
 }
 
-/// A line of an expression: the operands that stand before the operation, the last one at the end, and
-/// the operation.
+/// A line of an expression, as contracts see it: the operands that stand before the operation, the last one at
+/// the end, and the operation. Code keeps its lines in less memory, see [`crate::RawExpr`].
 #[derive(Debug, Drop)]
 pub struct Line {
     pub stack: List<Letter>,
     pub op: Op,
-}
-
-/// Lines that may break a rule.
-#[derive(Debug, Drop)]
-pub struct RawExpr {
-    pub lines: List<Line>,
 }

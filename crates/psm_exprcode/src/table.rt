@@ -1,7 +1,6 @@
 //! The table of operations: what each is called in a listing, what it takes and what it puts in its place.
 ghost use Rattle.std.specs.Prelude.{◌≡◌, [], ◌∷◌, ◌++◌, codes, replicate, Some, None, option_map};
 ghost use Rattle.psm_exprcode.specs.declared.op.Letter.TheVariants.{N, T, B};
-ghost use Rattle.psm_exprcode.specs.Kinds.{letter_of as letter_of_type};
 ghost use Rattle.psm_exprcode.specs.Operations.{effect, jumping, plain};
 ghost use Rattle.psm_exprcode.specs.Table.{effect_of, letters_of};
 
@@ -122,7 +121,7 @@ impl Op {
             Op::Between => maps("BETW", kind, 3, Letter::B),
             Op::In(count) => among(kind, *count),
             Op::NullIf => maps("NULLIF", kind, 2, kind),
-            Op::Cast(to) => maps("CAST", kind, 1, letter_of(*to)),
+            Op::Cast(to) => maps("CAST", kind, 1, Letter::of_type(*to)),
             Op::Jump(place) => jump_entry("JMP", Letters::none(), None, *place, Letters::none()),
             Op::JumpUnlessTrue(place) => unless_true(*place),
             Op::JumpUnlessNull(place) => unless_null(*place, kind),
@@ -183,13 +182,4 @@ fn unless_null(place: u32, kind: Letter) -> Entry
 {
     let value = many(kind, 1);
     jump_entry("JSET", value, Some(Letters::none()), place, value)
-}
-
-fn letter_of(to: SqlType) -> Letter
-    ensures { result ≡ letter_of_type to }
-{
-    match to {
-        SqlType::SmallInt | SqlType::Integer | SqlType::Numeric { .. } => Letter::N,
-        SqlType::Char { .. } | SqlType::VarChar { .. } => Letter::T,
-    }
 }

@@ -13,10 +13,10 @@ use Rattle.psm_exprcode.specs.declared.op.Line.{Line}
 use Rattle.psm_table.specs.Evaluator.{and_then, mapped, test_of}
 use Rattle.psm_table.specs.Queries as q
 use Rattle.psm_table.specs.Queries.{Answer, answered, has_nulls, walked}
-use Rattle.psm_query.specs.Codes.{items_of, over, set_of}
+use Rattle.psm_tablecode.specs.Codes.{items_of, over, set_of}
 use Rattle.psm_query.specs.Gathered.{Gathered, finished, nothing, with_rows}
-use Rattle.psm_query.specs.Rows.{values_for}
-use Rattle.psm_query.proofs.Results.{gives_by, gives_first}
+use Rattle.psm_tablecode.specs.Rows.{values_for}
+use Rattle.psm_tablecode.proofs.Results.{gives_by, gives_first}
 use Rattle.psm_query.proofs.Tallied.{finish-tallies, kept-all}
 
 rows-more : (codes : List (List Line)) (g : Gathered) (more : List (List Datum)) → (with_rows (Rows codes) g more).rows ≡ g.rows ++ more

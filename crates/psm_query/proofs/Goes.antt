@@ -20,14 +20,14 @@ use Rattle.psm_table.specs.Queries as q
 use Rattle.psm_table.specs.Queries.{in_walk, plus, taken, walked}
 use Rattle.psm_table.specs.Table.{most_rows}
 use Rattle.psm_table.specs.Unique.{is_null}
-use Rattle.psm_query.specs.Codes.{set_function}
+use Rattle.psm_tablecode.specs.Codes.{set_function}
 use Rattle.psm_query.specs.Gathered.{Gathered, nothing, with_rows, with_taken, with_values, AreUpTo}
 use Rattle.psm_query.specs.Tallies.{added, count_in, count_of, counted, empty, with_known, with_number, with_value}
 use Rattle.psm_query.specs.declared.tally.Tally.{Tally}
 use Rattle.psm_query.specs.declared.tally.Tally.TheVariants.{Count, Sum, Min, Max, Avg}
 use Rattle.psm_query.specs.declared.total.Summing.{Summing}
 use Rattle.psm_query.specs.declared.total.Summing.TheVariants.{Empty, OutOfRange, Of}
-use Rattle.psm_query.proofs.Collecting.{first_of}
+use Rattle.psm_tablecode.proofs.Collecting.{first_of}
 
 -- ---- what is kept, and the rest of the rows
 

@@ -1,10 +1,5 @@
 pub mod Added
-pub mod Answered
-pub mod Collecting
 pub mod Finished
-pub mod Fitting
-pub mod Follows
 pub mod Goes
 pub mod Means
-pub mod Results
 pub mod Tallied

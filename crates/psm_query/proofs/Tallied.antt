@@ -14,7 +14,7 @@ use Rattle.psm_table.specs.Evaluator.{and_then, collected, mapped}
 use Rattle.psm_table.specs.Queries as q
 use Rattle.psm_table.specs.Queries.{averaged, column, comes_before, comes_behind, first_by, function_of, has_nulls, known, number_of, plus, sum_of, summed}
 use Rattle.psm_table.specs.Unique.{is_null}
-use Rattle.psm_query.specs.Codes.{set_function, set_of}
+use Rattle.psm_tablecode.specs.Codes.{set_function, set_of}
 use Rattle.psm_query.specs.Gathered.{Gathered, nothing, with_rows, with_values}
 use Rattle.psm_query.specs.Tallies.{added, average_in, better, counted, empty, finish, sum_in, with_known, with_number, with_value}
 use Rattle.psm_query.specs.declared.tally.Tally.{Tally}

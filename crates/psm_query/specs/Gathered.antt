@@ -8,7 +8,7 @@ use Rattle.psm_exprcode.specs.declared.items.Items.TheVariants.{Rows, Sets}
 use Rattle.psm_table.specs.Evaluator.{collected, mapped}
 use Rattle.psm_table.specs.Queries.{Answer}
 use Rattle.psm_table.specs.Unique.{is_null}
-use Rattle.psm_query.specs.Codes.{set_function}
+use Rattle.psm_tablecode.specs.Codes.{set_function}
 use Rattle.psm_query.specs.Tallies as tallying
 use Rattle.psm_query.specs.Tallies.{added, count_of}
 use Rattle.psm_query.specs.declared.tally.Tally.{Tally}

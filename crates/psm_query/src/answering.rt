@@ -2,16 +2,17 @@
 ghost use Rattle.std.specs.Prelude.{◌<◌, length, slice_get, IfSome};
 ghost use Rattle.psm_value.specs.Answer.{Gives};
 ghost use Rattle.psm_table.specs.Queries.{answer};
-ghost use Rattle.psm_query.specs.Answers.{Answers, Tells};
-ghost use Rattle.psm_query.specs.Codes.{over, query_of};
-ghost use Rattle.psm_query.specs.Suits.{SuitsTable};
+ghost use Rattle.psm_tablecode.specs.Faults.{Answers};
+ghost use Rattle.psm_tablecode.specs.Codes.{over, query_of};
+ghost use Rattle.psm_tablecode.specs.Suits.{SuitsTable};
 
 use crate::answer::Answer;
 use crate::gathering::Gathering;
-use psm_cond::{Condition, DataFault};
+use psm_cond::DataFault;
 use psm_exprcode::Query;
 use psm_store::Store;
 use psm_table::Table;
+use psm_tablecode::raised;
 use psm_value::{Datum, ValueFault};
 use std::alloc::Global;
 
@@ -21,7 +22,7 @@ use std::alloc::Global;
 ///
 /// The table has to be there, and the query's codes have to fit its columns and the variables. `vars` are the values
 /// of the variables. Memory may run out at any time (ISO/IEC 9075:1992, 7.9).
-#[tactic(auto, using(crate::proofs::Answered::answers_fault))]
+#[tactic(auto, using(psm_tablecode::proofs::Faults::answers_fault))]
 pub fn rows<S: Store>(
     alloc: Global,
     store: &S,
@@ -35,18 +36,6 @@ pub fn rows<S: Store>(
     match rows_of(alloc, store.table(query.table), query, vars) {
         Ok(answer) => Ok(answer),
         Err(fault) => Err(raised(alloc, &fault)),
-    }
-}
-
-fn raised(alloc: Global, fault: &ValueFault) -> DataFault
-    ensures { Tells fault.now result }
-{
-    match fault {
-        ValueFault::Condition(state) => match Condition::raised(alloc, *state) {
-            Ok(condition) => DataFault::Raised(condition),
-            Err(_) => DataFault::Memory,
-        },
-        ValueFault::Memory => DataFault::Memory,
     }
 }
 

@@ -3,11 +3,9 @@
 
 mod answer;
 mod answering;
-mod evaluating;
 mod gathering;
 mod tally;
 mod total;
-mod walking;
 
 pub use answer::Answer;
 pub use answering::rows;

@@ -1,4 +1,4 @@
-ghost use Rattle.std.specs.Prelude.{◌≡◌, ◌+◌, ◌≤◌, ◌<◌, ◌↔◌, [], length, None, IsTrue, is_some, true, false, IfSome, IfNone, IfOk, if◌then◌else◌};
+ghost use Rattle.std.specs.Prelude.{◌≡◌, ◌+◌, ◌≤◌, ◌<◌, ◌↔◌, [], length, None, Some, IsTrue, is_some, true, false, IfSome, IfNone, IfOk, if◌then◌else◌};
 ghost use Rattle.std.specs.Option.{option_copied, ForSome};
 ghost use Rattle.psm_table.specs.Definition.{IsDefinition, IsRow, IsKey, HasColumns};
 ghost use Rattle.psm_table.specs.Held.{entries_of};
@@ -278,6 +278,30 @@ impl Table {
             Some(key) => self.rows.row_before(Some(Probe::Of(key.values()))),
             None => self.rows.row_before(None),
         }
+    }
+
+    /// The first row whose key is greater than that of a row, which need not be the table's. It takes no memory.
+    pub fn row_behind(&self, row: &Row) -> Option<&Row>
+        requires { HasColumns self.now.contents.def row.now }
+        ensures row { option_copied result ≡ row_after self.now.contents.def.key (Some (values_at self.now.contents.def.key row.now)) self.now.contents.rows }
+        ensures fits { IfSome result (λ row. IsRow self.now.contents.def row.now) }
+    {
+        self.rows.row_after(Some(Probe::In {
+            columns: self.def.key.items(),
+            row: row.values(),
+        }))
+    }
+
+    /// The last row whose key is smaller than that of a row, which need not be the table's. It takes no memory.
+    pub fn row_before_row(&self, row: &Row) -> Option<&Row>
+        requires { HasColumns self.now.contents.def row.now }
+        ensures row { option_copied result ≡ row_before self.now.contents.def.key (Some (values_at self.now.contents.def.key row.now)) self.now.contents.rows }
+        ensures fits { IfSome result (λ row. IsRow self.now.contents.def row.now) }
+    {
+        self.rows.row_before(Some(Probe::In {
+            columns: self.def.key.items(),
+            row: row.values(),
+        }))
     }
 
     /// Whether a row with another key agrees with the row in a UNIQUE list in which neither has a null

@@ -1,34 +1,49 @@
-use Rattle.std.proofs.Common.{◌<◌, ◌+◌, ◌∙◌, length, arith, sym, ap, subst, ◌≡◌, List}
+use Rattle.std.proofs.Common.{◌∙◌, ◌≡◌, sym, ap, Err, length, arith, rules}
+use Rattle.std.proofs.lemmas.List.{length-reverse}
 use Rattle.std.specs.Prelude.{reverse}
-use Rattle.psm_exprcode.specs.declared.operand.Operand.{Operand}
-use Rattle.psm_exprcode.proofs.Running.{going_first, fits_at, going_on, going_past, Going, evaluated_some}
+use Rattle.std.specs.Option.{option_copied}
+use Rattle.psm_exprcode.specs.Evaluated.{evaluated, Evaluates}
+use Rattle.psm_exprcode.proofs.Running.{going_first, going_op, going_end, fits_op, refused_op, ended_value, evaluated_some}
 use Rattle.psm_exprcode.proofs.evaluating.run.Goals as goal
-use Rattle.psm_exprcode.proofs.evaluating.run.Goals.{then-at-place+in_ok-next, else-at-place}
+
+pub loop-op-init : goal.loop-op-init
+loop-op-init c =
+    going_first c.args.lines.now c.args.row.now c.args.vars.now (reverse c.args.operands.now.items) c.requires.suits.0 c.requires.suits.1 (ap reverse c.requires.empty)
 
 pub apply-requires : goal.apply-requires
 apply-requires c =
-    fits_at c.args.row.now c.args.vars.now c.args.lines.now c.loop-at.at c.loop-at.place c.index-lines-at.result (reverse c.loop-at.operands.items)
-    (omega arith) c.index-lines-at.is c.loop-at.invariant c.if-at-place.true
+    fits_op c.args.row.now c.args.vars.now c.args.lines.now c.loop-op.place c.in-Some.op.now (reverse c.loop-op.operands.items) (sym c.op.ensures.op ∙ ap option_copied c.in-Some.is) c.loop-op.invariant
 
-pub loop-at-preserved : goal.loop-at-preserved
-loop-at-preserved c =
-    let within : c.loop-at.at < length c.args.lines.now = omega arith in
-    elim c.if-at-place.branch [
-      | then-at-place+in_ok-next w ↦
-          let there : c.if-at-place.place ≡ _ = w.place-is ∙ w.place_after-place.ensures in
-          let F : List Operand → Type 0 = λ os. Going c.args.row.now c.args.vars.now c.args.lines.now (c.loop-at.at + 1) c.if-at-place.place os in
-          subst F (sym (ap (λ o. reverse o.items) w.operands-is))
-          (going_on c.args.row.now c.args.vars.now c.args.lines.now c.loop-at.at c.loop-at.place c.if-at-place.place c.index-lines-at.result (reverse c.loop-at.operands.items)
-          (reverse w.apply.new.operands.items) w.in_ok-next.next within c.index-lines-at.is c.loop-at.invariant w.if-at-place.true w.in_ok-next.ensures there)
-      | else-at-place w ↦
-          let past = going_past c.args.row.now c.args.vars.now c.args.lines.now c.loop-at.at c.loop-at.place c.index-lines-at.result (reverse c.loop-at.operands.items)
-          within c.index-lines-at.is c.loop-at.invariant w.if-at-place.false in
-          rw (w.place-is, w.operands-is) past
-    ]
-
-pub loop-at-init : goal.loop-at-init
-loop-at-init c =
-    going_first c.args.lines.now c.args.row.now c.args.vars.now (reverse c.args.operands.now.items) c.requires.suits.0 c.requires.suits.1 (ap reverse c.requires.empty)
+pub returns-in_err-next-clause-value : goal.returns-in_err-next-clause-value
+returns-in_err-next-clause-value c =
+    let refused : Evaluates (evaluated c.args.lines.now c.args.row.now c.args.vars.now) (Err c.in_err-next.field-0.0) =
+    refused_op c.args.row.now c.args.vars.now c.args.lines.now c.loop-op.place c.in-Some.op.now (reverse c.loop-op.operands.items) c.in_err-next.field-0.0 (sym c.op.ensures.op ∙ ap option_copied c.in-Some.is)
+    c.loop-op.invariant c.in_err-next.ensures.0 in
+    search rules
 
 pub returns-in_err-next-clause-lacks_nothing : goal.returns-in_err-next-clause-lacks_nothing
 returns-in_err-next-clause-lacks_nothing c = evaluated_some c.args.lines.now c.args.row.now c.args.vars.now c.requires.suits.0 c.requires.suits.1
+
+pub loop-op-smaller : goal.loop-op-smaller
+loop-op-smaller c =
+    (going_op c.args.row.now c.args.vars.now c.args.lines.now c.loop-op.place c.place_after-place.result c.in-Some.op.now (reverse c.loop-op.operands.items) (reverse c.apply.new.operands.items) c.in_ok-next.next
+    (sym c.op.ensures.op ∙ ap option_copied c.in-Some.is) c.loop-op.invariant c.in_ok-next.ensures c.place_after-place.ensures).later
+
+pub loop-op-preserved : goal.loop-op-preserved
+loop-op-preserved c =
+    (going_op c.args.row.now c.args.vars.now c.args.lines.now c.loop-op.place c.place_after-place.result c.in-Some.op.now (reverse c.loop-op.operands.items) (reverse c.apply.new.operands.items) c.in_ok-next.next
+    (sym c.op.ensures.op ∙ ap option_copied c.in-Some.is) c.loop-op.invariant c.in_ok-next.ensures c.place_after-place.ensures).going
+
+pub pop-requires : goal.pop-requires
+pop-requires c =
+    let ended = going_end c.args.row.now c.args.vars.now c.args.lines.now c.loop-op.place (reverse c.loop-op.operands.items) (sym c.op.ensures.op ∙ ap option_copied c.in_default.is) c.loop-op.invariant in
+    let one : length (reverse c.loop-op.operands.items) ≡ 1 = ap length ended.alone in
+    omega (arith, one, length-reverse c.loop-op.operands.items, c.loop-op.operands.ok.0)
+
+pub returns-clause-value : goal.returns-clause-value
+returns-clause-value c =
+    ended_value c.args.row.now c.args.vars.now c.args.lines.now (reverse c.loop-op.operands.items) (reverse c.pop.new.operands.items) c.pop.result
+    (going_end c.args.row.now c.args.vars.now c.args.lines.now c.loop-op.place (reverse c.loop-op.operands.items) (sym c.op.ensures.op ∙ ap option_copied c.in_default.is) c.loop-op.invariant) c.pop.ensures
+
+pub returns-clause-lacks_nothing : goal.returns-clause-lacks_nothing
+returns-clause-lacks_nothing c = evaluated_some c.args.lines.now c.args.row.now c.args.vars.now c.requires.suits.0 c.requires.suits.1

@@ -1,6 +1,10 @@
+use Rattle.std.proofs.Common.{◌-◌, length}
 use Rattle.std.specs.Prelude.{reverse}
 use Rattle.psm_exprcode.proofs.Running.{Going}
 use Rattle.psm_exprcode.proofs.evaluating.run.Given as goal
 
-abbrev pub invariant-loop-at : goal.invariant-loop-at
-invariant-loop-at l = Going l.row l.vars l.lines l.at l.place (reverse l.operands.items)
+abbrev pub invariant-loop-op : goal.invariant-loop-op
+invariant-loop-op l = Going l.row l.vars l.lines l.place l.place (reverse l.operands.items)
+
+abbrev pub decreases-loop-op : goal.decreases-loop-op
+decreases-loop-op l = length l.lines - l.place

@@ -1,10 +1,8 @@
-use Rattle.std.proofs.Common.{◌≡◌, length}
-use Rattle.std.specs.Prelude.{reverse}
-use Rattle.psm_exprcode.specs.WellFormed.{same_stack}
+use Rattle.psm_exprcode.proofs.Stripping.{Comparing}
 use Rattle.psm_exprcode.proofs.letters.are_same.Given as goal
 
-abbrev pub invariant-loop-last : goal.invariant-loop-last
-invariant-loop-last l = same_stack (reverse l.left) (reverse l.right) ≡ same_stack (reverse l.stack) (reverse l.other)
+abbrev pub invariant-loop-left : goal.invariant-loop-left
+invariant-loop-left l = Comparing l.stacks l.stack l.other l.left l.right
 
-abbrev pub decreases-loop-last : goal.decreases-loop-last
-decreases-loop-last l = length l.left
+abbrev pub decreases-loop-left : goal.decreases-loop-left
+decreases-loop-left l = l.left

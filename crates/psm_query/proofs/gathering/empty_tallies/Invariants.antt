@@ -1,6 +1,6 @@
 use Rattle.std.proofs.Common.{◌≡◌, take}
 use Rattle.std.specs.Prelude.{map}
-use Rattle.psm_query.specs.Codes.{set_function}
+use Rattle.psm_tablecode.specs.Codes.{set_function}
 use Rattle.psm_query.specs.Tallies.{empty}
 use Rattle.psm_query.proofs.gathering.empty_tallies.Given as goal
 

@@ -7,10 +7,10 @@ use Rattle.psm_value.specs.declared.datum.Datum.{Datum}
 use Rattle.psm_table.specs.Definition.{IsRow}
 use Rattle.psm_table.specs.Evaluator.{mapped, test_of}
 use Rattle.psm_table.specs.Queries.{in_walk, walked}
-use Rattle.psm_query.specs.Codes.{over}
+use Rattle.psm_tablecode.specs.Codes.{over}
 use Rattle.psm_query.specs.Gathered.{Gathered, nothing, with_rows, AreUpTo}
-use Rattle.psm_query.specs.Rows.{values_for}
-use Rattle.psm_query.proofs.Fitting.{suits_row}
+use Rattle.psm_tablecode.specs.Rows.{values_for}
+use Rattle.psm_tablecode.proofs.Fitting.{suits_row}
 use Rattle.psm_query.proofs.Goes.{goes_end, goes_fault, goes_next, length_walk, up_to_nothing, up_to_taken}
 use Rattle.psm_query.proofs.gathering.Gathering.of_rows.Goals as goal
 use Rattle.psm_query.proofs.gathering.Gathering.of_rows.Goals.{else-loop-at-test, then-loop-at-test+in_default}

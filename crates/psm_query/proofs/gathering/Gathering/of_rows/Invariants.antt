@@ -4,9 +4,9 @@ use Rattle.std.specs.Option.{option_copied}
 use Rattle.psm_table.specs.Definition.{IsRow}
 use Rattle.psm_table.specs.Evaluator.{test_of}
 use Rattle.psm_table.specs.Queries.{in_walk}
-use Rattle.psm_query.specs.Codes.{over}
+use Rattle.psm_tablecode.specs.Codes.{over}
 use Rattle.psm_query.specs.Gathered.{nothing, AreUpTo}
-use Rattle.psm_query.specs.Rows.{values_for}
+use Rattle.psm_tablecode.specs.Rows.{values_for}
 use Rattle.psm_query.proofs.Goes.{Goes}
 use Rattle.psm_query.proofs.gathering.Gathering.of_rows.Given as goal
 

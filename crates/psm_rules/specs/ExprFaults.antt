@@ -1,0 +1,480 @@
+-- The first fault of an expression or a query, and the shape of its value (ISO/IEC 9075:1992, clauses 6 to 8).
+use Rattle.std.specs.Prelude.{ℕ, zero, suc, ◌≡◌, nat_eq, nat_le, nat_lt, Bool, true, false, not, ◌&&◌, ◌||◌, Option, Some, None, Result, Ok, Err, List, [], ◌∷◌, ◌++◌, map, length, drop, option_map, if◌then◌else◌}
+use Rattle.std.specs.List.{list_all, list_any, filter}
+use Rattle.psm_list.specs.Several.{Several}
+use Rattle.psm_num.specs.Num.{Num}
+use Rattle.psm_token.specs.declared.place.Place.{Place}
+use Rattle.psm_value.specs.declared.sqltype.SqlType.{SqlType}
+use Rattle.psm_scope.specs.Choice.{chosen}
+use Rattle.psm_scope.specs.declared.fault.ChoiceFault.{ChoiceFault}
+use Rattle.psm_scope.specs.declared.fault.ChoiceFault.TheVariants.{NoRoutine, Ambiguous}
+use Rattle.psm_scope.specs.Frames.{Spelling, is_spelled}
+use Rattle.psm_scope.specs.Lookup.{RowTable, Meaning, Column, meant, meant_on_row}
+use Rattle.psm_scope.specs.Lookup as lookup
+use Rattle.psm_scope.specs.declared.kinds.ArgKind.{ArgKind}
+use Rattle.psm_scope.specs.declared.kinds.ArgKind.TheVariants as kind
+use Rattle.psm_tree.specs.declared.name.Identifier.{Identifier}
+use Rattle.psm_tree.specs.declared.name.Target.{Target}
+use Rattle.psm_tree.specs.declared.types.DataType.{DataType}
+use Rattle.psm_tree.specs.declared.types.Sign.{Sign}
+use Rattle.psm_tree.specs.declared.expr.Expr.{Expr}
+use Rattle.psm_tree.specs.declared.expr.Expr.TheOpen.{Expr-F, Pick-F, Link-F, Select-F, When-F}
+use Rattle.psm_tree.specs.declared.expr.Expr.TheOpen as layers
+use Rattle.psm_tree.specs.declared.expr.Expr.TheFolds.{fold-Expr, fold-Pick, fold-Select}
+use Rattle.psm_tree.specs.declared.expr.Operator.{Operator}
+use Rattle.psm_tree.specs.declared.expr.Operator.TheVariants as operators
+use Rattle.psm_tree.specs.declared.expr.Pick.{Pick}
+use Rattle.psm_tree.specs.declared.expr.Select.{Select}
+use Rattle.psm_tree.specs.declared.expr.SetFunction.{SetFunction}
+use Rattle.psm_tree.specs.declared.expr.SetFunction.TheVariants as sets
+use Rattle.psm_tree.specs.declared.expr.TextFunction.{TextFunction}
+use Rattle.psm_tree.specs.declared.expr.TextFunction.TheVariants as texts
+use Rattle.psm_rules.specs.declared.fault.Fault.{Fault}
+use Rattle.psm_rules.specs.declared.rule.Rule.TheVariants as rule
+use Rattle.psm_rules.specs.Faults.{breaks, breaks_if, earlier, first_of}
+use Rattle.psm_rules.specs.declared.found.Found.{Found}
+use Rattle.psm_rules.specs.Found.{sound, broken, as_value, as_condition, asked, made_of, faults_in, of_family}
+use Rattle.psm_rules.specs.declared.shape.Shape.{Shape}
+use Rattle.psm_rules.specs.declared.shape.Family.{Family}
+use Rattle.psm_rules.specs.declared.shape.Typed.{Typed}
+use Rattle.psm_rules.specs.declared.shape.Shape.TheVariants.{Value, Untyped, Condition}
+use Rattle.psm_rules.specs.declared.shape.Family.TheVariants.{Numbers, Texts}
+use Rattle.psm_rules.specs.Shapes.{go_together, is_of, integer, character, varying, of_literal, typed, at_larger_scale, at_sum_of_scales, result_of}
+use Rattle.psm_rules.specs.Types.{type_of}
+use Rattle.psm_rules.specs.View.{View, Variable, Columns, Function, signatures, on_row, table_named}
+
+-- ---- names
+
+-- a name of a type; what is declared with a type at fault has no shape
+abbrev pub of_type : Place → Option SqlType → Found
+of_type place None = record { place = place; fault = None; shape = None }
+of_type place (Some t) = sound place (Value (typed t))
+
+abbrev pub of_meaning : Place → Option (Meaning Variable (Option SqlType)) → Found
+of_meaning place None = broken rule.UnknownName place
+of_meaning place (Some (lookup.Column i t)) = of_type place t
+of_meaning place (Some (lookup.Variable v)) = of_type place v.kind
+
+abbrev pub spelling : Option Identifier → Option Spelling
+spelling name = option_map (λ n. n.name) name
+
+abbrev pub name_in : View → Option (RowTable (Option SqlType)) → Target → Option (Meaning Variable (Option SqlType))
+name_in view None t = lookup.as_variable (meant t.first.name (spelling t.second) view.frames)
+name_in view (Some row) t = meant_on_row t.first.name (spelling t.second) row view.frames
+
+abbrev pub name_found : View → Target → Found
+name_found view t = of_meaning t.first.place (name_in view view.row t)
+
+-- ---- operators
+
+-- what values of one family come to; the fault is at the first of them
+abbrev pub all_together : List Shape → Bool
+all_together [] = true
+all_together (s ∷ others) = list_all (go_together s) others && all_together others
+
+abbrev pub compared : Place → List Shape → Found
+compared place shapes = if all_together shapes then sound place Condition else broken rule.FamiliesMixed place
+
+-- one operator with all its operands
+abbrev pub compares : Place → List Found → Found
+compares place operands = let values = map as_value operands in made_of place values (compared place)
+
+abbrev pub all_texts : Place → List Shape → Found
+all_texts place shapes = if list_all (is_of Texts) shapes then sound place Condition else broken rule.FamiliesMixed place
+
+-- conditions with AND, OR or NOT
+abbrev pub junction_of : Place → List Found → Found
+junction_of place operands = made_of place (map as_condition operands) (λ shapes. sound place Condition)
+
+-- the value of an operator of two numbers; NULL stands under none
+abbrev pub with_numbers : (Typed → Typed → Found) → Found → Shape → Shape → Found
+with_numbers f mixed (Value a) (Value b) = if is_of Numbers (Value a) && is_of Numbers (Value b) then f a b else mixed
+with_numbers f mixed (Value a) Untyped = mixed
+with_numbers f mixed (Value a) Condition = mixed
+with_numbers f mixed Untyped b = mixed
+with_numbers f mixed Condition b = mixed
+
+abbrev pub product_of : Place → Typed → Typed → Found
+product_of place a b = let p = at_sum_of_scales a b in if nat_le p.scale 18 then sound place (Value p) else broken rule.ScaleAboveMost place
+
+abbrev pub operated : Operator → Place → Shape → Shape → Found
+operated operators.Add place a b = with_numbers (λ a b. sound place (Value (at_larger_scale a b))) (broken rule.FamiliesMixed place) a b
+operated operators.Subtract place a b = with_numbers (λ a b. sound place (Value (at_larger_scale a b))) (broken rule.FamiliesMixed place) a b
+operated operators.Concatenate place a b = if is_of Texts a && is_of Texts b then sound place (Value varying) else broken rule.FamiliesMixed place
+operated operators.Multiply place a b = with_numbers (product_of place) (broken rule.FamiliesMixed place) a b
+operated operators.Divide place a b = with_numbers (λ a b. sound place (Value (at_larger_scale a b))) (broken rule.FamiliesMixed place) a b
+
+-- a chain so far with one operator more
+abbrev pub on_two : (Shape → Shape → Found) → List Shape → Found → Found
+on_two rule (a ∷ b ∷ []) otherwise = rule a b
+on_two rule [] otherwise = otherwise
+on_two rule (a ∷ []) otherwise = otherwise
+on_two rule (a ∷ b ∷ c ∷ more) otherwise = otherwise
+
+abbrev pub linked : Found → (Operator × Found) → Found
+linked left link = let parts = left ∷ as_value link.1 ∷ [] in
+    made_of left.place parts (λ shapes. on_two (operated link.0 left.place) shapes left)
+
+abbrev pub chained : Found → List (Operator × Found) → Found
+chained left [] = left
+chained left (link ∷ links) = chained (linked left link) links
+
+-- ---- calls
+
+abbrev pub kind_of : Shape → ArgKind
+kind_of (Value t) = t.kind
+kind_of Untyped = kind.Null
+kind_of Condition = kind.Null
+
+abbrev pub result_type : List Function → ℕ → Option SqlType
+result_type [] n = None
+result_type (f ∷ fs) zero = f.result
+result_type (f ∷ fs) (suc n) = result_type fs n
+
+abbrev pub called : Place → List Function → Result ℕ ChoiceFault → Found
+called place functions (Ok n) = of_type place (result_type functions n)
+called place functions (Err NoRoutine) = broken rule.NoFunction place
+called place functions (Err Ambiguous) = broken rule.AmbiguousFunction place
+
+-- a call in a row expression is a fault whatever it calls
+abbrev pub call_found : View → Option (RowTable (Option SqlType)) → Identifier → List Found → Found
+call_found view None function arguments = made_of function.place (map as_value arguments) (λ shapes.
+    called function.place view.world.functions (chosen (signatures view.world.functions) function.name (map kind_of shapes)))
+call_found view (Some row) function arguments = broken rule.NotAllowedOnRow function.place
+
+-- ---- CASE and COALESCE
+
+-- the first of the results whose family differs from that of the first that isn't NULL
+abbrev pub is_untyped : Shape → Bool
+is_untyped (Value t) = false
+is_untyped Untyped = true
+is_untyped Condition = false
+
+abbrev pub differing : Shape → List Found → List Shape → Option Place
+differing s [] shapes = None
+differing s (f ∷ fs) [] = None
+differing s (f ∷ fs) (t ∷ shapes) = if go_together s t then differing (if is_untyped s then t else s) fs shapes else Some f.place
+
+abbrev pub results_of : Place → Option Typed → Found
+results_of place None = broken rule.NullWithoutType place
+results_of place (Some t) = sound place (Value t)
+
+abbrev pub results_agree : Place → List Shape → Option Place → Found
+results_agree place shapes None = results_of place (result_of shapes)
+results_agree place shapes (Some other) = record { place = place; fault = breaks rule.FamiliesMixed other; shape = None }
+
+abbrev pub results_found : Place → List Found → List Shape → Found
+results_found place results shapes = results_agree place shapes (differing Untyped results shapes)
+
+abbrev pub coalesce_found : Place → List Found → Found
+coalesce_found place values = let sources = map as_value values in made_of place sources (results_found place sources)
+
+-- the operand with each WHEN by itself, at the operand
+abbrev pub simple_test : Found → Found → Found
+simple_test operand test = let value = as_value test in
+    let both = made_of operand.place (operand ∷ value ∷ []) (compared operand.place) in
+    record { place = value.place; fault = earlier value.fault both.fault; shape = both.shape }
+
+abbrev pub tests_of : Option Found → List Found → List Found
+tests_of None tests = map as_condition tests
+tests_of (Some operand) tests = let value = as_value operand in value ∷ map (simple_test value) tests
+
+abbrev pub else_of : Option Found → List Found
+else_of None = []
+else_of (Some f) = as_value f ∷ []
+
+-- the rules on the results are asked where no part, a test among them, is at fault
+abbrev pub case_found : Place → Option Found → List (Found × Found) → Option Found → Found
+case_found place operand whens otherwise =
+    let tests = tests_of operand (map (λ w. w.0) whens) in
+    let results = map (λ w. as_value w.1) whens ++ else_of otherwise in
+    made_of place (tests ++ results) (λ shapes. results_found place results (drop (length tests) shapes))
+
+-- ---- functions of the language
+
+abbrev pub text_result : TextFunction → Typed
+text_result texts.CharLength = integer
+text_result texts.Upper = varying
+text_result texts.Lower = varying
+
+-- each argument has to be of its family
+abbrev pub function_found : Place → Typed → List (Family × Found) → Found
+function_found place result arguments = made_of place (map (λ a. of_family a.0 (as_value a.1)) arguments) (λ shapes. sound place (Value result))
+
+abbrev pub with_length : Option Found → List (Family × Found)
+with_length None = []
+with_length (Some f) = (Numbers, f) ∷ []
+
+-- ---- types
+
+abbrev pub cast_type : Place → DataType → List Shape → Option SqlType → Found
+cast_type place to shapes None = record { place = place; fault = breaks rule.TypeOutOfRange to.place; shape = None }
+cast_type place to shapes (Some t) = sound place (Value (typed t))
+
+abbrev pub type_fault : DataType → Option SqlType → Option Fault
+type_fault to None = breaks rule.TypeOutOfRange to.place
+type_fault to (Some t) = None
+
+abbrev pub cast_found : Place → Found → DataType → Found
+cast_found place source to = let value = as_value source in
+    let made = made_of place (value ∷ []) (λ shapes. cast_type place to shapes (type_of to)) in
+    record { place = place; fault = earlier made.fault (type_fault to (type_of to)); shape = made.shape }
+
+-- ---- items of a query
+
+pub data Picked : Type 0 where
+  -- all columns
+  All : Picked
+  Item : Picked
+  Set : Picked
+
+pub record PickFound : Type 0 where
+  pub form : Picked
+  pub found : Found
+  pub alias : Option Spelling
+
+abbrev pub is_set : Picked → Bool
+is_set All = false
+is_set Item = false
+is_set Set = true
+
+abbrev pub is_all : Picked → Bool
+is_all All = true
+is_all Item = false
+is_all Set = false
+
+abbrev pub set_result : SetFunction → Typed → Typed
+set_result sets.Count t = integer
+set_result sets.Sum t = record { kind = kind.Numeric; scale = t.scale }
+set_result sets.Avg t = record { kind = kind.Numeric; scale = t.scale }
+set_result sets.Min t = t
+set_result sets.Max t = t
+
+abbrev pub set_argument : SetFunction → Found → Found
+set_argument sets.Count f = as_value f
+set_argument sets.Sum f = of_family Numbers (as_value f)
+set_argument sets.Avg f = of_family Numbers (as_value f)
+set_argument sets.Min f = as_value f
+set_argument sets.Max f = as_value f
+
+abbrev pub set_shape : Place → SetFunction → List Shape → Found
+set_shape place function (Value t ∷ more) = sound place (Value (set_result function t))
+set_shape place function (Untyped ∷ more) = sound place Untyped
+set_shape place function (Condition ∷ more) = sound place Untyped
+set_shape place function [] = sound place Untyped
+
+abbrev pub set_found : Place → SetFunction → Found → Found
+set_found place function argument = made_of place (set_argument function argument ∷ []) (set_shape place function)
+
+-- ---- queries
+
+pub record QueryFound : Type 0 where
+  pub picks : List PickFound
+  pub table : Identifier
+  -- the columns of its table, where there is one of that name
+  pub columns : Option Columns
+  -- of WHERE
+  pub test : Option Found
+
+-- the table of a query, which has no columns where it isn't known
+abbrev pub columns_known : Option Columns → Columns
+columns_known None = []
+columns_known (Some cs) = cs
+
+abbrev pub row_of : View → Identifier → Option Identifier → RowTable (Option SqlType)
+row_of view table alias = record { name = table.name; alias = spelling alias; columns = columns_known (table_named view table.name) }
+
+abbrev pub table_fault : Identifier → Option Columns → Option Fault
+table_fault table None = breaks rule.UnknownTable table.place
+table_fault table (Some cs) = None
+
+abbrev pub test_fault : Option Found → Option Fault
+test_fault None = None
+test_fault (Some test) = (as_condition test).fault
+
+-- the first set function stands beside other items
+abbrev pub first_set : List PickFound → Option Place
+first_set [] = None
+first_set (p ∷ ps) = if is_set p.form then Some p.found.place else first_set ps
+
+abbrev pub misplaced_set : Bool → Option Place → Option Fault
+misplaced_set misplaced None = None
+misplaced_set misplaced (Some place) = breaks_if misplaced rule.SetFunctionMisplaced place
+
+abbrev pub sets_fault : List PickFound → Option Fault
+sets_fault picks = misplaced_set (not (list_all (λ p. is_set p.form) picks)) (first_set picks)
+
+-- the faults of its items as values, or without that question
+abbrev pub items_fault : List PickFound → Option Fault
+items_fault picks = first_of (map (λ p. (as_value p.found).fault) picks)
+
+abbrev pub parts_fault : List PickFound → Option Fault
+parts_fault picks = first_of (map (λ p. p.found.fault) picks)
+
+-- the first fault of a query whose items are counted right
+abbrev pub query_fault : QueryFound → Option Fault
+query_fault q = first_of (items_fault q.picks ∷ sets_fault q.picks ∷ table_fault q.table q.columns ∷ test_fault q.test ∷ [])
+
+abbrev pub first_place : Place → List PickFound → Place
+first_place other [] = other
+first_place other (p ∷ ps) = p.found.place
+
+-- the same of one whose number of items is wrong: that goes before the sort of an item
+abbrev pub miscounted_fault : QueryFound → Option Fault
+miscounted_fault q = first_of (breaks rule.CountsDiffer (first_place q.table.place q.picks) ∷ parts_fault q.picks ∷ sets_fault q.picks ∷ table_fault q.table q.columns ∷ test_fault q.test ∷ [])
+
+-- how many items it has; it isn't known of all columns of an unknown table
+abbrev pub pick_count : Option Columns → PickFound → Option ℕ
+pick_count columns p = if is_all p.form then option_map length columns else Some 1
+
+abbrev pub count_with : Option ℕ → List PickFound → Option ℕ
+count_with (Some n) [] = Some n
+count_with (Some n) (p ∷ ps) = Some (length (p ∷ ps))
+count_with None ps = None
+
+abbrev pub count_of : QueryFound → Option ℕ
+count_of q = count_in q.columns q.picks
+  where
+    count_in : Option Columns → List PickFound → Option ℕ
+    count_in columns [] = Some 0
+    count_in columns (p ∷ ps) = count_with (pick_count columns p) ps
+
+abbrev pub is_counted : ℕ → Option ℕ → Bool
+is_counted n None = true
+is_counted n (Some m) = nat_eq n m
+
+abbrev pub counted_fault : ℕ → QueryFound → Option Fault
+counted_fault n q = if is_counted n (count_of q) then query_fault q else miscounted_fault q
+
+-- the shapes of its items
+abbrev pub column_shape : (Spelling × Option SqlType) → Option Shape
+column_shape c = option_map (λ t. Value (typed t)) c.1
+
+abbrev pub items_of : QueryFound → List (Option Shape)
+items_of q = items_in (columns_known q.columns) q.picks
+  where
+    items_in : Columns → List PickFound → List (Option Shape)
+    items_in columns [] = []
+    items_in columns (p ∷ ps) = (if is_all p.form then map column_shape columns else (as_value p.found).shape ∷ []) ++ items_in columns ps
+
+abbrev pub only_shape : List (Option Shape) → Option Shape
+only_shape [] = None
+only_shape (s ∷ []) = s
+only_shape (s ∷ t ∷ more) = None
+
+-- a subquery stands in a control expression alone
+abbrev pub without_fault : Place → Option Fault → Option Shape → Found
+without_fault place None shape = record { place = place; fault = None; shape = shape }
+without_fault place (Some f) shape = record { place = place; fault = Some f; shape = None }
+
+abbrev pub scalar_found : Place → Option (RowTable (Option SqlType)) → QueryFound → Found
+scalar_found place None q = without_fault place (counted_fault 1 q) (only_shape (items_of q))
+scalar_found place (Some row) q = broken rule.NotAllowedOnRow place
+
+abbrev pub exists_found : Place → Option (RowTable (Option SqlType)) → QueryFound → Found
+exists_found place None q = without_fault place (query_fault q) (Some Condition)
+exists_found place (Some row) q = broken rule.NotAllowedOnRow place
+
+-- ---- layers: the parts of an expression are what is found in them in a view
+
+abbrev pub Of : Type 0 → Type 0
+Of A = View → A
+
+abbrev pub PickPart : Type 0
+PickPart = Of PickFound
+
+abbrev pub LinkPart : Type 0
+LinkPart = Of (Operator × Found)
+
+abbrev pub WhenPart : Type 0
+WhenPart = Of (Found × Found)
+
+abbrev pub Layer : Type 0
+Layer = Expr-F (Of Found) PickPart LinkPart (Of QueryFound) WhenPart
+
+abbrev pub seen : {A : Type 0} → View → List (View → A) → List A
+seen view parts = map (λ p. p view) parts
+
+abbrev pub seen_in : {A : Type 0} → View → Several (View → A) → List A
+seen_in view parts = parts.first view ∷ seen view parts.rest
+
+abbrev pub seen_option : {A : Type 0} → View → Option (View → A) → Option A
+seen_option view part = option_map (λ p. p view) part
+
+abbrev pub list_of : Option Found → List Found
+list_of None = []
+list_of (Some f) = f ∷ []
+
+abbrev pub found_with : Place → Found → Found
+found_with place f = record { place = place; fault = f.fault; shape = f.shape }
+
+-- a sign keeps the shape of its operand, which is a number
+abbrev pub signed_found : Place → Found → Found
+signed_found place operand = found_with place (of_family Numbers (as_value operand))
+
+-- NULLIF has the shape of its first operand
+abbrev pub first_shape : Place → Found → List Shape → Found
+first_shape place compared [] = compared
+first_shape place compared (s ∷ more) = without_fault place compared.fault (Some s)
+
+abbrev pub null_if_found : Place → Found → Found → Found
+null_if_found place left right = let parts = as_value left ∷ as_value right ∷ [] in
+    made_of place parts (λ shapes. first_shape place (compared left.place shapes) shapes)
+
+abbrev pub like_found : Found → Found → Option Found → Found
+like_found value pattern escape = made_of value.place (map as_value (value ∷ pattern ∷ list_of escape)) (all_texts value.place)
+
+abbrev pub expr_layer : Layer → View → Found
+expr_layer (layers.Null place) view = sound place Untyped
+expr_layer (layers.Number place value) view = sound place (Value (of_literal value))
+expr_layer (layers.Text place value) view = sound place (Value character)
+expr_layer (layers.Name target) view = name_found view target
+expr_layer (layers.Junction junction operands) view = junction_of (operands.first view).place (seen_in view operands)
+expr_layer (layers.Not place condition) view = junction_of place (condition view ∷ [])
+expr_layer (layers.Compare operator left right) view = compares (left view).place (left view ∷ right view ∷ [])
+expr_layer (layers.IsNull negated value) view = made_of (value view).place (as_value (value view) ∷ []) (λ shapes. sound (value view).place Condition)
+expr_layer (layers.Between negated value low high) view = compares (value view).place (value view ∷ low view ∷ high view ∷ [])
+expr_layer (layers.In negated value list) view = compares (value view).place (value view ∷ seen_in view list)
+expr_layer (layers.Like negated value pattern escape) view = like_found (value view) (pattern view) (seen_option view escape)
+expr_layer (layers.Chain first links) view = chained (as_value (first view)) (seen view links)
+expr_layer (layers.Signed place sign operand) view = signed_found place (operand view)
+expr_layer (layers.Call function arguments) view = call_found view view.row function (seen view arguments)
+expr_layer (layers.Parenthesized place expr) view = found_with place (expr view)
+expr_layer (layers.Subquery place query) view = scalar_found place view.row (query view)
+expr_layer (layers.Exists place query) view = exists_found place view.row (query view)
+expr_layer (layers.Case place operand whens otherwise) view = case_found place (seen_option view operand) (seen_in view whens) (seen_option view otherwise)
+expr_layer (layers.Cast place source to) view = cast_found place (source view) to
+expr_layer (layers.Coalesce place values) view = coalesce_found place (seen_in view values)
+expr_layer (layers.NullIf place left right) view = null_if_found place (left view) (right view)
+expr_layer (layers.Function place function argument) view = function_found place (text_result function) ((Texts, argument view) ∷ [])
+expr_layer (layers.Position place part whole) view = function_found place integer ((Texts, part view) ∷ (Texts, whole view) ∷ [])
+expr_layer (layers.Substring place text from length) view = function_found place varying ((Texts, text view) ∷ (Numbers, from view) ∷ with_length (seen_option view length))
+expr_layer (layers.Trim place side text) view = function_found place varying ((Texts, text view) ∷ [])
+
+abbrev pub link_layer : Link-F (Of Found) PickPart LinkPart (Of QueryFound) WhenPart → LinkPart
+link_layer link view = (link.operator, link.operand view)
+
+abbrev pub when_layer : When-F (Of Found) PickPart LinkPart (Of QueryFound) WhenPart → WhenPart
+when_layer when view = (when.test view, when.result view)
+
+abbrev pub item : Picked → Found → Option Identifier → PickFound
+item form found alias = record { form = form; found = found; alias = spelling alias }
+
+abbrev pub pick_layer : Pick-F (Of Found) PickPart LinkPart (Of QueryFound) WhenPart → PickPart
+pick_layer (layers.All place) view = item All (sound place Untyped) None
+pick_layer (layers.Expr expr alias) view = item Item (expr view) alias
+pick_layer (layers.CountRows place alias) view = item Set (sound place (Value integer)) alias
+pick_layer (layers.Aggregate place function argument alias) view = item Set (set_found place function (argument view)) alias
+
+abbrev pub select_layer : Select-F (Of Found) PickPart LinkPart (Of QueryFound) WhenPart → Of QueryFound
+select_layer select view = let inside = on_row view (row_of view select.table select.alias) in
+    record { picks = seen_in inside select.picks; table = select.table; columns = table_named view select.table.name; test = seen_option inside select.condition }
+
+abbrev pub expr_found : Expr → View → Found
+expr_found = fold-Expr (Of Found) PickPart LinkPart (Of QueryFound) WhenPart expr_layer pick_layer link_layer select_layer when_layer
+
+abbrev pub pick_found : Pick → View → PickFound
+pick_found = fold-Pick (Of Found) PickPart LinkPart (Of QueryFound) WhenPart expr_layer pick_layer link_layer select_layer when_layer
+
+abbrev pub query_found : Select → View → QueryFound
+query_found = fold-Select (Of Found) PickPart LinkPart (Of QueryFound) WhenPart expr_layer pick_layer link_layer select_layer when_layer

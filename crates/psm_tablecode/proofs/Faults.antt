@@ -1,0 +1,15 @@
+-- The answer of a statement whose evaluation fails.
+use Rattle.std.proofs.Common.{sym, subst, Result, Err}
+use Rattle.psm_sqlstate.specs.declared.state.SqlState.{SqlState}
+use Rattle.psm_cond.specs.declared.fault.DataFault.{DataFault}
+use Rattle.psm_cond.specs.declared.fault.DataFault.TheVariants.{Raised, Memory}
+use Rattle.psm_value.specs.Answer.{Gives}
+use Rattle.psm_value.specs.declared.fault.ValueFault.{ValueFault}
+use Rattle.psm_value.specs.declared.fault.ValueFault.TheVariants as value_fault
+use Rattle.psm_tablecode.specs.Faults.{Answers, IsRaised, Tells}
+
+pub answers_fault : {A : Type 0} (due : Result A SqlState) (fault : ValueFault) (told : DataFault) → Gives due (Err fault) → Tells fault told → Answers due (Err told)
+answers_fault due (value_fault.Condition s) (Raised c) g t = subst (λ d. IsRaised d c) (sym g) t
+answers_fault due (value_fault.Condition s) Memory g t = tt
+answers_fault due value_fault.Memory (Raised c) g t = absurd t
+answers_fault due value_fault.Memory Memory g t = tt

@@ -1,0 +1,15 @@
+//! Code of expressions over the rows of a table: what it comes to on a row, what a query takes of one, and walks over
+//! the rows (ISO/IEC 9075:1992, clauses 6 to 8).
+#![tactic(auto)]
+
+mod evaluating;
+mod raising;
+mod suiting;
+mod walking;
+
+pub use evaluating::{meets, taken, truth, value, values};
+pub use psm_cond::DataFault;
+pub use psm_exprcode::{Aggregate, ExprCode, Items, Operand, Query, SetFunction};
+pub use raising::raised;
+pub use suiting::{column_letters, gives_truth, gives_value, suits};
+pub use walking::{first, following};
