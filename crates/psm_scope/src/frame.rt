@@ -86,6 +86,16 @@ impl<'a> Frame<'a> {
         self.cursors.get(name)
     }
 
+    /// Whether names can be declared here.
+    pub(crate) fn can_declare(&self) -> bool
+        ensures { result ≡ can_declare self.now }
+    {
+        match self.kind {
+            FrameKind::Routine(_) | FrameKind::Compound(_) | FrameKind::For(_, _) => true,
+            FrameKind::Loop(_) | FrameKind::Action => false,
+        }
+    }
+
     /// Declares a variable.
     pub(crate) fn declare_variable(
         &mut self,

@@ -60,6 +60,17 @@ impl<'a> Frames<'a> {
         self.frames.pop();
     }
 
+    /// Whether names can be declared in the innermost frame: that of a routine, a compound statement or a FOR statement.
+    pub fn can_declare(&self) -> bool
+        ensures { result ≡ can_declare_here self.now }
+    {
+        if self.frames.is_empty() {
+            false
+        } else {
+            self.at(0).can_declare()
+        }
+    }
+
     /// Declares a variable or a parameter in the innermost frame, or answers `false` where one of that name is declared there
     /// already. Without memory for it nothing changes.
     pub fn declare_variable(&mut self, name: &'a Name, known: Variable) -> Result<bool, AllocError>
