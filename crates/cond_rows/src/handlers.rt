@@ -63,13 +63,13 @@ fn contexts(alloc: Global, word: &str) -> Result<List<Context>, Fault> {
 }
 
 fn context(alloc: Global, part: &str) -> Result<Context, Fault> {
-    if let Some(parent) = part.strip_prefix('B') {
+    if let Some(parent) = part.strip_prefix('b') {
         return Ok(Context {
             parent: number(parent)?,
             kind: ContextKind::Block(block(alloc)),
         });
     }
-    let action = part.strip_prefix('A').ok_or(Fault::Row)?;
+    let action = part.strip_prefix('a').ok_or(Fault::Row)?;
     let (parent, handler) = action.split_once(':').ok_or(Fault::Row)?;
     Ok(Context {
         parent: number(parent)?,

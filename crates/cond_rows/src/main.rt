@@ -7,7 +7,7 @@
 //! `#CURSOR`, or `~2=NAME` for the declared condition 2. With `^` behind it, a condition counts by its SQLSTATEs.
 //!
 //! A handler table is written in three operands: how many conditions are declared; the contexts with commas between
-//! them, as `B0` for a block in context 0 and `A1:0` for the action of handler 0 in context 1; and the handlers with
+//! them, as `b0` for a block in context 0 and `a1:0` for the action of handler 0 in context 1; and the handlers with
 //! commas between them, as `1:N0/S22012/X/W/F` for one of the block of context 1 and those values.
 #![tactic(auto)]
 
