@@ -152,3 +152,24 @@ module _ {A : Type 0} (n : Spelling) (xs : List (Spelling × A)) (k : ℕ) (e : 
       let both : Some f.0 ≡ Some x = sym r.known ∙ ap (λ j. option_map {T = Spelling × A} {U = A} (λ p. p.1) (slice_get xs j)) j ∙ g in
       let same : x ≡ f.0 = cc in
       ap {B = Option (ℕ × A)} (λ x. Some (k, x)) same ∙ sym f.1
+
+-- ---- what is known of a name, by its place
+
+named_at : {A : Type 0} (i : ℕ) (n : Spelling) (xs : List (Spelling × A)) → named n xs ≡ option_map {T = ℕ × A} {U = A} (λ p. p.1) (place_named i n xs)
+named_at i n [] = refl
+named_at {A} i n (p ∷ more) = by (is_spelled n p.0) (named_at (suc i) n more)
+  where
+    by : (b : Bool) → named n more ≡ option_map {T = ℕ × A} {U = A} (λ p. p.1) (place_named (suc i) n more)
+        → (if b then Some p.1 else named n more) ≡ option_map {T = ℕ × A} {U = A} (λ p. p.1) (if b then Some (i, p.1) else place_named (suc i) n more)
+    by true rec = refl
+    by false rec = rec
+
+pub none_known : {A : Type 0} (n : Spelling) (xs : List (Spelling × A)) → None ≡ option_map {T = ℕ × A} {U = ℕ} (λ p. p.0) (place_named 0 n xs) → ◌≡◌ {A = Option A} None (named n xs)
+none_known {A} n xs e = by (place_named 0 n xs) e ∙ sym (named_at 0 n xs)
+  where
+    by : (o : Option (ℕ × A)) → None ≡ option_map {T = ℕ × A} {U = ℕ} (λ p. p.0) o → ◌≡◌ {A = Option A} None (option_map {T = ℕ × A} {U = A} (λ p. p.1) o)
+    by None e = refl
+    by (Some p) e = absurd (true≢false (sym (ap is_some e)))
+
+pub known_there : {A : Type 0} (n : Spelling) (xs : List (Spelling × A)) (k : ℕ) (x : A) → ◌≡◌ {A = Option (ℕ × A)} (Some (k, x)) (place_named 0 n xs) → Some x ≡ named n xs
+known_there {A} n xs k x e = ap (option_map {T = ℕ × A} {U = A} (λ p. p.1)) e ∙ sym (named_at 0 n xs)

@@ -6,7 +6,7 @@ ghost use Rattle.psm_scope.specs.Lookup.{is_called, is_label, named, sees_past};
 ghost use Rattle.psm_scope.specs.Scopes.{Declares, can_declare, frame_of, is_action, labelled, the_conditions, the_cursors, the_variables};
 
 use crate::key::same_name;
-use crate::known::{DeclaredCondition, DeclaredCursor, Variable};
+use crate::known::{DeclaredCondition, Variable};
 use crate::names::Names;
 use psm_sqlstate::SqlState;
 use psm_text::Name;
@@ -30,31 +30,30 @@ pub enum FrameKind<'a> {
 
 /// A frame with what is declared in it. In a loop and in an action nothing is.
 #[derive(Drop)]
-pub(crate) struct Frame<'a> {
+pub(crate) struct Frame<'a, K> {
     kind: FrameKind<'a>,
     variables: Names<'a, Variable>,
     conditions: Names<'a, DeclaredCondition>,
-    cursors: Names<'a, DeclaredCursor>,
+    cursors: Names<'a, K>,
 }
 
-impl<'a> Model for Frame<'a> {
+impl<'a, K> Model for Frame<'a, K> {
     ghost use Rattle.std.specs.Prelude.{◌≡◌};
     ghost use Rattle.psm_scope.specs.Frames.{Frame as Seen, declared_in};
     ghost use Rattle.psm_scope.specs.Scopes.{frame_of};
     ghost use Rattle.psm_scope.specs.declared.known.Variable.{Variable as KnownVariable};
     ghost use Rattle.psm_scope.specs.declared.known.DeclaredCondition.{DeclaredCondition as KnownCondition};
-    ghost use Rattle.psm_scope.specs.declared.known.DeclaredCursor.{DeclaredCursor as KnownCursor};
 
-    ghost Value = { Seen KnownVariable KnownCondition KnownCursor };
+    ghost Value = { Seen KnownVariable KnownCondition K };
 
     ghost view = { λ f. frame_of f.kind (record { variables = f.variables; conditions = f.conditions; cursors = f.cursors }) };
 
     ghost invariant = { λ f. declared_in (frame_of f.kind (record { variables = f.variables; conditions = f.conditions; cursors = f.cursors })) ≡ record { variables = f.variables; conditions = f.conditions; cursors = f.cursors } };
 }
 
-impl<'a> Frame<'a> {
+impl<'a, K: Drop> Frame<'a, K> {
     /// A frame in which nothing is declared. It takes no memory.
-    pub(crate) fn new(alloc: Global, kind: FrameKind<'a>) -> Frame<'a>
+    pub(crate) fn new(alloc: Global, kind: FrameKind<'a>) -> Frame<'a, K>
         ensures { result ≡ frame_of kind.entry undeclared }
     {
         Frame {
@@ -80,10 +79,10 @@ impl<'a> Frame<'a> {
     }
 
     /// The cursor of that name.
-    pub(crate) fn cursor(&self, name: &Name) -> Option<DeclaredCursor>
-        ensures { result ≡ named name.now (declared_in self.now).cursors }
+    pub(crate) fn cursor(&self, name: &Name) -> Option<&K>
+        ensures { option_copied result ≡ named name.now (declared_in self.now).cursors }
     {
-        self.cursors.get(name)
+        self.cursors.lent(name)
     }
 
     /// Whether names can be declared here.
@@ -123,11 +122,7 @@ impl<'a> Frame<'a> {
     }
 
     /// Declares a cursor.
-    pub(crate) fn declare_cursor(
-        &mut self,
-        name: &'a Name,
-        known: DeclaredCursor,
-    ) -> Result<bool, AllocError>
+    pub(crate) fn declare_cursor(&mut self, name: &'a Name, known: K) -> Result<bool, AllocError>
         requires { IsTrue (can_declare self.old) }
         ensures { Declares the_cursors name.now known (self.old ∷ []) (self.new ∷ []) result }
     {

@@ -6,7 +6,7 @@ ghost use Rattle.psm_scope.specs.Lookup.{condition, cursor, labels, meant, named
 ghost use Rattle.psm_scope.specs.Scopes.{Declares, can_declare_here, frame_of, the_conditions, the_cursors, the_variables};
 
 use crate::frame::{Frame, FrameKind};
-use crate::known::{DeclaredCondition, DeclaredCursor, Variable};
+use crate::known::{DeclaredCondition, Variable};
 use psm_sqlstate::SqlState;
 use psm_text::Name;
 use std::alloc::{AllocError, Global};
@@ -15,27 +15,26 @@ use std::marker::Model;
 /// The frames around a statement, the innermost first: one for the routine, for each compound statement, loop and FOR statement, and
 /// for each action of a handler (ISO/IEC 9075-4:1996, compound statements). Names are lent.
 #[derive(Drop)]
-pub struct Frames<'a> {
+pub struct Frames<'a, K> {
     alloc: Global,
     /// The innermost is the last.
-    frames: Vec<Frame<'a>>,
+    frames: Vec<Frame<'a, K>>,
 }
 
-impl<'a> Model for Frames<'a> {
+impl<'a, K> Model for Frames<'a, K> {
     ghost use Rattle.std.specs.Prelude.{List, reverse};
     ghost use Rattle.psm_scope.specs.Frames.{Frame as Seen};
     ghost use Rattle.psm_scope.specs.declared.known.Variable.{Variable as KnownVariable};
     ghost use Rattle.psm_scope.specs.declared.known.DeclaredCondition.{DeclaredCondition as KnownCondition};
-    ghost use Rattle.psm_scope.specs.declared.known.DeclaredCursor.{DeclaredCursor as KnownCursor};
 
-    ghost Value = { List (Seen KnownVariable KnownCondition KnownCursor) };
+    ghost Value = { List (Seen KnownVariable KnownCondition K) };
 
     ghost view = { λ s. reverse s.frames.items };
 }
 
-impl<'a> Frames<'a> {
+impl<'a, K: Drop> Frames<'a, K> {
     /// No frames. It takes no memory.
-    pub fn new(alloc: Global) -> Frames<'a>
+    pub fn new(alloc: Global) -> Frames<'a, K>
         ensures { result ≡ [] }
     {
         Frames {
@@ -96,11 +95,7 @@ impl<'a> Frames<'a> {
     }
 
     /// Declares a cursor in the innermost frame, in the same way.
-    pub fn declare_cursor(
-        &mut self,
-        name: &'a Name,
-        known: DeclaredCursor,
-    ) -> Result<bool, AllocError>
+    pub fn declare_cursor(&mut self, name: &'a Name, known: K) -> Result<bool, AllocError>
         requires { IsTrue (can_declare_here self.old) }
         ensures { Declares the_cursors name.now known self.old self.new result }
     {
@@ -133,8 +128,8 @@ impl<'a> Frames<'a> {
     }
 
     /// The cursor that a name means.
-    pub fn cursor(&self, name: &Name) -> Option<DeclaredCursor>
-        ensures { result ≡ cursor name.now self.now }
+    pub fn cursor(&self, name: &Name) -> Option<&K>
+        ensures { option_copied result ≡ cursor name.now self.now }
     {
         for depth in 0..self.frames.len() {
             if let Some(found) = self.at(depth).cursor(name) {
@@ -187,7 +182,7 @@ impl<'a> Frames<'a> {
     }
 
     // The frame at a depth, counted from the innermost, which has depth 0.
-    fn at(&self, depth: usize) -> &Frame<'a>
+    fn at(&self, depth: usize) -> &Frame<'a, K>
         requires { depth < length self.now }
         ensures { slice_get self.now depth ≡ Some result.now }
     {

@@ -1,6 +1,6 @@
 //! Declared names.
 ghost use Rattle.std.specs.Prelude.{◌≡◌, ◌<◌, [], Some, length, slice_get};
-ghost use Rattle.std.specs.Option.{option_map};
+ghost use Rattle.std.specs.Option.{option_copied, option_map};
 ghost use Rattle.psm_scope.specs.Lookup.{named, place_named};
 ghost use Rattle.psm_scope.specs.Names.{Adds};
 
@@ -44,6 +44,17 @@ impl<'a, T> Names<'a, T> {
         self.known.len() as u32
     }
 
+    /// The name in a place.
+    pub fn name(&self, place: u32) -> &'a Name
+        requires { place < length self.now }
+        ensures { option_map (λ p. p.0) (slice_get self.now place) ≡ Some result.now }
+    {
+        match self.known.get_index(place as usize) {
+            None => unreachable!(),
+            Some((key, _)) => key.name,
+        }
+    }
+
     /// The place of a name, counted from 0.
     pub fn place(&self, name: &Name) -> Option<u32>
         ensures { result ≡ option_map (λ p. p.0) (place_named 0 name.now self.now) }
@@ -62,6 +73,18 @@ impl<'a, T> Names<'a, T> {
         match self.known.get_index(place as usize) {
             None => unreachable!(),
             Some((_, known)) => known,
+        }
+    }
+}
+
+impl<'a, T> Names<'a, T> {
+    /// What is known of a name.
+    pub fn lent(&self, name: &Name) -> Option<&T>
+        ensures { option_copied result ≡ named name.now self.now }
+    {
+        match self.place(name) {
+            None => None,
+            Some(place) => Some(self.at(place)),
         }
     }
 }

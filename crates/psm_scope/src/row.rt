@@ -69,7 +69,7 @@ impl<'b, 'a> RowScope<'b, 'a> {
     }
 }
 
-impl<'f> Frames<'f> {
+impl<'f, K: Drop> Frames<'f, K> {
     /// What a name, or a qualified name, means in a row expression: a column of the table comes first, and else what it means in a
     /// control expression.
     pub fn meant_on_row(&self, first: &Name, second: Option<&Name>, row: &RowScope) -> Option<Meant>

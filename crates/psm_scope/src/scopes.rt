@@ -14,16 +14,16 @@ use std::alloc::Global;
 /// What is visible at a place: the tables, the functions and the procedures, numbered from 0 in order, and the frames around it. It
 /// lends all names.
 #[derive(Drop)]
-pub struct Scopes<'a> {
+pub struct Scopes<'a, K> {
     pub tables: Names<'a, TableScope<'a>>,
     pub functions: Functions<'a>,
     pub procedures: Procedures<'a>,
-    pub frames: Frames<'a>,
+    pub frames: Frames<'a, K>,
 }
 
-impl<'a> Scopes<'a> {
+impl<'a, K: Drop> Scopes<'a, K> {
     /// Nothing is visible. It takes no memory.
-    pub fn new(alloc: Global) -> Scopes<'a>
+    pub fn new(alloc: Global) -> Scopes<'a, K>
         ensures { result ≡ record { tables = []; functions = record { signatures = []; results = [] }; procedures = []; frames = [] } }
     {
         Scopes {

@@ -94,7 +94,7 @@ fn columns<'a>(
     Ok(columns)
 }
 
-fn frames<'a>(alloc: Global, rows: &'a [FrameRow]) -> Result<Frames<'a>, Fault> {
+fn frames<'a>(alloc: Global, rows: &'a [FrameRow]) -> Result<Frames<'a, ()>, Fault> {
     let mut frames = Frames::new(alloc);
     let mut slot = 0u32;
     for row in rows {

@@ -3,4 +3,4 @@ use Rattle.psm_scope.specs.Lookup.{cursor}
 use Rattle.psm_scope.proofs.frames.Frames.cursor.Given as goal
 
 abbrev pub invariant-loop-depth : goal.invariant-loop-depth
-invariant-loop-depth l = cursor l.name (drop l.depth l.self) ≡ cursor l.name l.self
+invariant-loop-depth g l = cursor l.name (drop l.depth l.self) ≡ cursor l.name l.self

@@ -1,0 +1,111 @@
+//! The results of CASE and the values of COALESCE.
+ghost use Rattle.std.specs.Prelude.{◌≡◌};
+ghost use Rattle.psm_scope.specs.Lookup.{or_else};
+ghost use Rattle.psm_rules.specs.ExprFaults.{case_of, coalesce_found, differing, result_of, results_found, results_of};
+ghost use Rattle.psm_rules.specs.Shapes.{clashes, family_in};
+
+use crate::found::{are_shaped, breaks, broken, faults_in, made_of, shape_of, sound};
+use crate::shapes::{family_of, joined};
+use psm_rules::{Family, Found, Rule, Shape, Typed, earlier};
+use psm_token::Place;
+
+/// COALESCE of values.
+pub(crate) fn coalesce_found(place: Place, values: &[Found]) -> Found
+    ensures { result ≡ coalesce_found place values.now }
+{
+    made_of(place, values, results_found(place, values))
+}
+
+/// CASE: the rules on the results are asked where no part, a test among them, is at fault.
+pub(crate) fn case_of(place: Place, tests: &[Found], results: &[Found]) -> Found
+    ensures { result ≡ case_of place tests.now results.now }
+{
+    if are_shaped(tests) && are_shaped(results) {
+        results_found(place, results)
+    } else {
+        Found {
+            place,
+            fault: earlier(faults_in(tests), faults_in(results)),
+            shape: None,
+        }
+    }
+}
+
+fn results_found(place: Place, results: &[Found]) -> Found
+    ensures { result ≡ results_found place results.now }
+{
+    match differing(results) {
+        None => results_of(place, result_of(results)),
+        Some(other) => Found {
+            place,
+            fault: breaks(Rule::FamiliesMixed, other),
+            shape: None,
+        },
+    }
+}
+
+fn results_of(place: Place, typed: Option<Typed>) -> Found
+    ensures { result ≡ results_of place typed }
+{
+    match typed {
+        None => broken(Rule::NullWithoutType, place),
+        Some(t) => sound(place, Shape::Value(t)),
+    }
+}
+
+// The first of the results whose family differs from that of the first that isn't NULL.
+fn differing(results: &[Found]) -> Option<Place>
+    ensures { result ≡ differing None results.now }
+{
+    let mut due = None;
+    for found in results {
+        let own = family_in(shape_of(*found));
+        if clashes(due, own) {
+            return Some(found.place);
+        }
+        due = or_else(due, own);
+    }
+    None
+}
+
+// The family of a value, which NULL doesn't have.
+fn family_in(shape: Shape) -> Option<Family>
+    ensures { result ≡ family_in shape }
+{
+    match shape {
+        Shape::Value(t) => Some(family_of(t.kind)),
+        Shape::Untyped | Shape::Condition => None,
+    }
+}
+
+fn clashes(due: Option<Family>, own: Option<Family>) -> bool
+    ensures { result ≡ clashes due own }
+{
+    match due {
+        None => false,
+        Some(due) => match own {
+            None => false,
+            Some(own) => due != own,
+        },
+    }
+}
+
+fn or_else(due: Option<Family>, own: Option<Family>) -> Option<Family>
+    ensures { result ≡ or_else due own }
+{
+    match due {
+        Some(due) => Some(due),
+        None => own,
+    }
+}
+
+// The highest kind and the largest scale among those that aren't NULL.
+fn result_of(results: &[Found]) -> Option<Typed>
+    ensures { result ≡ result_of None results.now }
+{
+    let mut so_far = None;
+    for found in results {
+        so_far = joined(so_far, shape_of(*found));
+    }
+    so_far
+}

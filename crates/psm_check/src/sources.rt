@@ -1,0 +1,75 @@
+//! Sources, and the targets that they go into.
+
+use crate::found::{as_value, breaks, breaks_if};
+use crate::known::Frames;
+use crate::shapes::{family_of, is_of, typed};
+use crate::view::spelling;
+use psm_rules::{Family, Fault, Found, Rule, Shape, earlier};
+use psm_scope::Variable;
+use psm_token::Place;
+use psm_tree::{Target, Targets};
+use psm_value::SqlType;
+
+/// The family that a target of a type takes, where the type is known.
+pub(crate) fn family_due(kind: Option<SqlType>) -> Option<Family> {
+    match kind {
+        None => None,
+        Some(t) => Some(family_of(typed(t).kind)),
+    }
+}
+
+/// A value where one of a family is due, if that is known: the fault is at a place.
+pub(crate) fn mixed_at(place: Place, due: Option<Family>, shape: Option<Shape>) -> Option<Fault> {
+    match (due, shape) {
+        (Some(family), Some(shape)) => {
+            breaks_if(!is_of(family, shape), Rule::FamiliesMixed, place)
+        }
+        _ => None,
+    }
+}
+
+/// A source for a target of a type.
+pub(crate) fn source_fault(to: Option<SqlType>, source: Found) -> Option<Fault> {
+    let value = as_value(source);
+    earlier(
+        value.fault,
+        mixed_at(value.place, family_due(to), value.shape),
+    )
+}
+
+/// The variable that a target means.
+pub(crate) fn variable_of(frames: &Frames, target: &Target) -> Option<Variable> {
+    frames.meant(&target.first.name, spelling(&target.second))
+}
+
+/// A target that isn't known or can't be assigned.
+pub(crate) fn target_fault(place: Place, known: Option<Variable>) -> Option<Fault> {
+    match known {
+        None => breaks(Rule::UnknownName, place),
+        Some(known) => breaks_if(!known.assignable, Rule::NotAssignable, place),
+    }
+}
+
+/// The type that a target takes; one at fault has none.
+pub(crate) fn assigned_type(known: Option<Variable>) -> Option<SqlType> {
+    match known {
+        None => None,
+        Some(known) => { if known.assignable { known.kind } else { None } }
+    }
+}
+
+/// The type that a target takes.
+pub(crate) fn target_type(frames: &Frames, target: &Target) -> Option<SqlType> {
+    assigned_type(variable_of(frames, target))
+}
+
+/// The first target that isn't known or can't be assigned.
+pub(crate) fn targets_fault(frames: &Frames, targets: &Targets) -> Option<Fault> {
+    let first = &targets.first;
+    let mut fault = target_fault(first.place(), variable_of(frames, first));
+    for target in targets.rest.items() {
+        let known = variable_of(frames, target);
+        fault = earlier(fault, target_fault(target.place(), known));
+    }
+    fault
+}

@@ -1,0 +1,444 @@
+-- The first fault of a block with its declarations, and of statements in it (ISO/IEC 9075-4:1996, compound statements).
+use Rattle.std.specs.Prelude.{ℕ, suc, nat_eq, Bool, true, false, not, ◌&&◌, ◌||◌, Option, Some, None, is_some, List, [], ◌∷◌, ◌++◌, map, length, option_map, if◌then◌else◌}
+use Rattle.std.specs.List.{list_all, list_any}
+use Rattle.psm_list.specs.Several.{Several}
+use Rattle.psm_token.specs.declared.place.Place.{Place}
+use Rattle.psm_value.specs.declared.sqltype.SqlType.{SqlType}
+use Rattle.psm_value.specs.declared.sqltype.SqlType.TheVariants as types
+use Rattle.psm_scope.specs.Frames.{Spelling, is_spelled, Declared, Frame, undeclared}
+use Rattle.psm_scope.specs.Frames as frame
+use Rattle.psm_scope.specs.Lookup.{Meaning, named}
+use Rattle.psm_scope.specs.Lookup as lookup
+use Rattle.psm_tree.specs.declared.name.Identifier.{Identifier}
+use Rattle.psm_tree.specs.Names.{Names}
+use Rattle.psm_tree.specs.declared.types.DataType.{DataType}
+use Rattle.psm_tree.specs.declared.types.State.{State}
+use Rattle.psm_tree.specs.declared.name.Target.{Target}
+use Rattle.psm_tree.specs.declared.expr.Expr.{Expr, out-Expr}
+use Rattle.psm_tree.specs.declared.expr.Expr.TheOpen.{Expr-F, Pick-F}
+use Rattle.psm_tree.specs.declared.expr.Expr.TheOpen as expr_layers
+use Rattle.psm_tree.specs.declared.expr.Pick.{Pick, out-Pick}
+use Rattle.psm_tree.specs.declared.expr.Link.{Link}
+use Rattle.psm_tree.specs.declared.expr.When.{When}
+use Rattle.psm_tree.specs.declared.expr.Select.{Select, out-Select}
+use Rattle.psm_tree.specs.declared.statement.Statement.{Statement}
+use Rattle.psm_tree.specs.declared.statement.Block.TheOpen.{Block-F, Statement-F, Branch-F, Handler-F}
+use Rattle.psm_tree.specs.declared.statement.Block.TheOpen as layers
+use Rattle.psm_tree.specs.declared.statement.Block.TheFolds.{fold-Statement}
+use Rattle.psm_tree.specs.declared.statement.Label.{Label}
+use Rattle.psm_tree.specs.declared.statement.ForHead.{ForHead}
+use Rattle.psm_tree.specs.declared.statement.ForCursor.{ForCursor}
+use Rattle.psm_tree.specs.declared.statement.OrderedQuery.{OrderedQuery}
+use Rattle.psm_tree.specs.declared.statement.Order.{Order}
+use Rattle.psm_tree.specs.declared.statement.OrderColumn.{OrderColumn}
+use Rattle.psm_tree.specs.declared.statement.Declaration.{Declaration}
+use Rattle.psm_tree.specs.declared.statement.Declaration.TheVariants as declarations
+use Rattle.psm_tree.specs.declared.statement.CursorDeclaration.{CursorDeclaration}
+use Rattle.psm_tree.specs.declared.statement.Updatability.{Updatability}
+use Rattle.psm_tree.specs.declared.statement.Updatability.TheVariants as updatability
+use Rattle.psm_tree.specs.declared.statement.HandlerKind.{HandlerKind}
+use Rattle.psm_tree.specs.declared.statement.HandlerKind.TheVariants.{Continue, Exit, Undo}
+use Rattle.psm_tree.specs.declared.statement.HandlerValue.{HandlerValue}
+use Rattle.psm_tree.specs.declared.statement.HandlerValue.TheVariants as handled
+use Rattle.psm_rules.specs.declared.fault.Fault.{Fault}
+use Rattle.psm_rules.specs.declared.rule.Rule.TheVariants as rule
+use Rattle.psm_rules.specs.ExprFaults.{PickFound, QueryFound, query_found, query_fault, table_fault, test_fault, type_fault, items_of, is_all, columns_known, first_set, misplaced_set, simple_test, name_in, pick_found, row_of}
+use Rattle.psm_rules.specs.Faults.{breaks, breaks_if, earlier, first_of}
+use Rattle.psm_rules.specs.declared.found.Found.{Found}
+use Rattle.psm_rules.specs.Found.{as_value, as_condition}
+use Rattle.psm_rules.specs.declared.shape.Shape.{Shape}
+use Rattle.psm_rules.specs.declared.shape.Typed.{Typed}
+use Rattle.psm_rules.specs.declared.shape.Family.{Family}
+use Rattle.psm_rules.specs.declared.shape.Shape.TheVariants.{Value, Untyped}
+use Rattle.psm_rules.specs.declared.shape.Family.TheVariants.{Numbers, Texts}
+use Rattle.psm_rules.specs.Shapes.{family_of}
+use Rattle.psm_rules.specs.declared.shape.Shape.TheVariants as shape
+use Rattle.psm_rules.specs.Shapes as families
+use Rattle.psm_rules.specs.StatementFaults.{Context, inside, found, several, repeated, source_fault, state_fault, good_state, declared_condition, name_of_condition_fault, label_of, label_name, simple_fault}
+use Rattle.psm_rules.specs.Types.{type_of}
+use Rattle.psm_scope.specs.declared.known.Variable.{Variable}
+use Rattle.psm_scope.specs.declared.known.DeclaredCondition.{DeclaredCondition}
+use Rattle.psm_rules.specs.View.{View, Cursor, Columns, on_row}
+
+-- ---- declarations of variables and conditions
+
+-- what a block has declared
+abbrev pub Declares : Type 0
+Declares = Declared Variable DeclaredCondition Cursor
+
+-- a name that is declared again stays what it is
+abbrev pub declared_once : {A : Type 0} → List (Spelling × A) → Spelling → A → List (Spelling × A)
+declared_once xs n x = if is_some (named n xs) then xs else xs ++ (n, x) ∷ []
+
+abbrev pub all_declared : {A : Type 0} → List (Spelling × A) → List Identifier → A → List (Spelling × A)
+all_declared xs [] x = xs
+all_declared xs (n ∷ ns) x = all_declared (declared_once xs n.name x) ns x
+
+abbrev pub local_variable : Option SqlType → Variable
+local_variable kind = record { kind = kind; slot = 0; assignable = true }
+
+-- the SQLSTATE that a condition is another name of; a bad one doesn't count
+abbrev pub state_of : Option State → Option Spelling
+state_of None = None
+state_of (Some s) = good_state s.text
+
+-- what stands declared behind a declaration
+abbrev pub behind : Declares → Declaration → Declares
+behind d (declarations.Variables place names kind default) = record d { variables = all_declared d.variables (several names) (local_variable (type_of kind)) }
+behind d (declarations.Condition place name state) = record d { conditions = declared_once d.conditions name.name (record { number = 0; state = state_of state }) }
+
+abbrev pub default_fault : Context → Option SqlType → Option Expr → Option Fault
+default_fault c kind None = None
+default_fault c kind (Some e) = source_fault kind (found c e)
+
+abbrev pub optional_state_fault : Option State → Option Fault
+optional_state_fault None = None
+optional_state_fault (Some s) = state_fault s
+
+-- A DEFAULT sees the variables of the declarations before its own.
+abbrev pub declaration_fault : Context → Declaration → Option Fault
+declaration_fault c (declarations.Variables place names kind default) = earlier (type_fault kind (type_of kind)) (default_fault c (type_of kind) default)
+declaration_fault c (declarations.Condition place name state) = optional_state_fault state
+
+abbrev pub compound : Option Spelling → Declares → Frame Variable DeclaredCondition Cursor
+compound label d = frame.Compound label d
+
+abbrev pub declarations_fault : Context → Option Spelling → Declares → List Declaration → List (Option Fault)
+declarations_fault c label d [] = []
+declarations_fault c label d (x ∷ xs) = declaration_fault (inside c (compound label d)) x ∷ declarations_fault c label (behind d x) xs
+
+abbrev pub declared_by : Declares → List Declaration → Declares
+declared_by d [] = d
+declared_by d (x ∷ xs) = declared_by (behind d x) xs
+
+-- the names of variables, and those of conditions
+abbrev pub variable_names : List Declaration → List Identifier
+variable_names [] = []
+variable_names (declarations.Variables place names kind default ∷ xs) = several names ++ variable_names xs
+variable_names (declarations.Condition place name state ∷ xs) = variable_names xs
+
+abbrev pub condition_names : List Declaration → List Identifier
+condition_names [] = []
+condition_names (declarations.Variables place names kind default ∷ xs) = condition_names xs
+condition_names (declarations.Condition place name state ∷ xs) = name ∷ condition_names xs
+
+-- ---- the order of a query: exactly the key, all upwards or all downwards
+
+abbrev pub same_names : List Spelling → List Spelling → Bool
+same_names [] [] = true
+same_names [] (n ∷ ns) = false
+same_names (m ∷ ms) [] = false
+same_names (m ∷ ms) (n ∷ ns) = is_spelled m n && same_names ms ns
+
+abbrev pub is_key_order : List Spelling → List OrderColumn → Bool
+is_key_order key columns = same_names key (map (λ c. c.column.name) columns) &&
+    (list_all (λ c. c.descending) columns || list_all (λ c. not c.descending) columns)
+
+abbrev pub order_of : Option (List Spelling) → Order → Option Fault
+order_of None order = None
+order_of (Some key) order = breaks_if (not (is_key_order key (several order.columns))) rule.OrderIsNotKey order.place
+
+abbrev pub order_fault : Context → Identifier → Option Order → Option Fault
+order_fault c table None = None
+order_fault c table (Some order) = order_of (named table.name c.view.world.keys) order
+
+-- ---- cursors; no set function stands in one
+
+abbrev pub is_updatable : Bool → Option Updatability → Bool
+is_updatable insensitive None = not insensitive
+is_updatable insensitive (Some updatability.ReadOnly) = false
+is_updatable insensitive (Some updatability.Update) = not insensitive
+
+abbrev pub cursor_on : QueryFound → Bool → Bool → Cursor
+cursor_on q updatable of_for = record { table = q.table.name; updatable = updatable; of_for = of_for; items = option_map (map (λ i. i.shape)) (items_of q) }
+
+abbrev pub found_query : Context → OrderedQuery → QueryFound
+found_query c q = query_found q.query c.view
+
+abbrev pub cursor_fault : Context → CursorDeclaration → Option Fault
+cursor_fault c x = let q = found_query c x.query in
+    first_of (query_fault q ∷ misplaced_set true (first_set q.picks) ∷ order_fault c q.table x.query.order ∷ [])
+
+abbrev pub with_cursor : Context → Declares → CursorDeclaration → Declares
+with_cursor c d x = record d { cursors = declared_once d.cursors x.name.name (cursor_on (found_query c x.query) (is_updatable x.insensitive x.updatability) false) }
+
+-- each sees what stands before it
+abbrev pub cursors_fault : Context → Option Spelling → Declares → List CursorDeclaration → List (Option Fault)
+cursors_fault c label d [] = []
+cursors_fault c label d (x ∷ xs) = let seen = inside c (compound label d) in cursor_fault seen x ∷ cursors_fault c label (with_cursor seen d x) xs
+
+abbrev pub with_cursors : Context → Option Spelling → Declares → List CursorDeclaration → Declares
+with_cursors c label d [] = d
+with_cursors c label d (x ∷ xs) = with_cursors c label (with_cursor (inside c (compound label d)) d x) xs
+
+-- ---- handlers
+
+-- what a value handles, where that is known: an SQLSTATE, a condition without one, or a class
+pub data Handles : Type 0 where
+  ByState : Spelling → Handles
+  ByName : Spelling → Handles
+  Exceptions Warnings NoData : Handles
+
+abbrev pub same_value : Handles → Handles → Bool
+same_value (ByState a) (ByState b) = is_spelled a b
+same_value (ByState a) (ByName b) = false
+same_value (ByState a) Exceptions = false
+same_value (ByState a) Warnings = false
+same_value (ByState a) NoData = false
+same_value (ByName a) (ByState b) = false
+same_value (ByName a) (ByName b) = is_spelled a b
+same_value (ByName a) Exceptions = false
+same_value (ByName a) Warnings = false
+same_value (ByName a) NoData = false
+same_value Exceptions (ByState b) = false
+same_value Exceptions (ByName b) = false
+same_value Exceptions Exceptions = true
+same_value Exceptions Warnings = false
+same_value Exceptions NoData = false
+same_value Warnings (ByState b) = false
+same_value Warnings (ByName b) = false
+same_value Warnings Exceptions = false
+same_value Warnings Warnings = true
+same_value Warnings NoData = false
+same_value NoData (ByState b) = false
+same_value NoData (ByName b) = false
+same_value NoData Exceptions = false
+same_value NoData Warnings = false
+same_value NoData NoData = true
+
+-- a name that is declared FOR an SQLSTATE is that SQLSTATE
+abbrev pub named_value : Spelling → Option Spelling → Handles
+named_value n None = ByName n
+named_value n (Some s) = ByState s
+
+abbrev pub handles : Context → HandlerValue → Option Handles
+handles c (handled.State s) = option_map (λ s. ByState s) (good_state s.text)
+handles c (handled.Name n) = option_map (λ d. named_value n.name d.state) (declared_condition c n)
+handles c (handled.SqlException place) = Some Exceptions
+handles c (handled.SqlWarning place) = Some Warnings
+handles c (handled.NotFound place) = Some NoData
+
+abbrev pub value_place : HandlerValue → Place
+value_place (handled.State s) = s.place
+value_place (handled.Name n) = n.place
+value_place (handled.SqlException place) = place
+value_place (handled.SqlWarning place) = place
+value_place (handled.NotFound place) = place
+
+abbrev pub value_fault : Context → HandlerValue → Option Fault
+value_fault c (handled.State s) = state_fault s
+value_fault c (handled.Name n) = name_of_condition_fault c n
+value_fault c (handled.SqlException place) = None
+value_fault c (handled.SqlWarning place) = None
+value_fault c (handled.NotFound place) = None
+
+abbrev pub is_among : Option Handles → List Handles → Bool
+is_among None before = false
+is_among (Some h) before = list_any (same_value h) before
+
+abbrev pub more_values : Option Handles → List Handles → List Handles
+more_values None before = before
+more_values (Some h) before = h ∷ before
+
+-- the values of all handlers of a block, in order: none stands twice
+abbrev pub values_fault : Context → List Handles → List HandlerValue → List (Option Fault)
+values_fault c before [] = []
+values_fault c before (v ∷ vs) = earlier (value_fault c v) (breaks_if (is_among (handles c v) before) rule.ConditionValueRepeated (value_place v))
+    ∷ values_fault c (more_values (handles c v) before) vs
+
+-- ---- FOR
+
+-- the column that an item names, if it is a name by itself
+abbrev pub last_name : Identifier → Option Identifier → Spelling
+last_name first None = first.name
+last_name first (Some second) = second.name
+
+abbrev pub column_named : Target → Option (Meaning Variable (Option SqlType)) → Option (Spelling × Option SqlType)
+column_named t None = None
+column_named t (Some (lookup.Column i kind)) = Some (last_name t.first t.second, kind)
+column_named t (Some (lookup.Variable v)) = None
+
+abbrev pub item_column : View → Expr-F Expr Pick Link Select When → Option (Spelling × Option SqlType)
+item_column view (expr_layers.Name t) = column_named t (name_in view view.row t)
+item_column view e = None
+
+abbrev pub pick_column : View → Pick-F Expr Pick Link Select When → Option (Spelling × Option SqlType)
+pick_column view (expr_layers.All place) = None
+pick_column view (expr_layers.Expr e alias) = item_column view (out-Expr e)
+pick_column view (expr_layers.CountRows place alias) = None
+pick_column view (expr_layers.Aggregate place function argument alias) = None
+
+-- an item of FOR, with the column that it names
+pub record ForItem : Type 0 where
+  pub pick : PickFound
+  pub column : Option (Spelling × Option SqlType)
+
+abbrev pub for_item : View → Pick → ForItem
+for_item view p = record { pick = pick_found p view; column = pick_column view (out-Pick p) }
+
+-- the name of an item: its alias, or else that of its column
+abbrev pub own_name : Option Spelling → Option (Spelling × Option SqlType) → Option Spelling
+own_name (Some alias) column = Some alias
+own_name None None = None
+own_name None (Some c) = Some c.0
+
+abbrev pub name_of_item : ForItem → Option Spelling
+name_of_item i = own_name i.pick.alias i.column
+
+-- a column has the column's type, another number NUMERIC(18, s) and another text VARCHAR(4000)
+abbrev pub wide : Family → ℕ → SqlType
+wide Numbers s = types.Numeric 18 s
+wide Texts s = types.VarChar 4000
+
+abbrev pub wide_type : Option Shape → Option SqlType
+wide_type None = None
+wide_type (Some (Value t)) = Some (wide (family_of t.kind) t.scale)
+wide_type (Some Untyped) = None
+wide_type (Some shape.Condition) = None
+
+abbrev pub item_type : Option (Spelling × Option SqlType) → Option Shape → Option SqlType
+item_type (Some c) s = c.1
+item_type None s = wide_type s
+
+abbrev pub type_of_item : ForItem → Option SqlType
+type_of_item i = item_type i.column (as_value i.pick.found).shape
+
+-- the variables of FOR, each name once; an item without a name has none
+abbrev pub with_columns : List (Spelling × Variable) → Columns → List (Spelling × Variable)
+with_columns before [] = before
+with_columns before (c ∷ columns) = with_columns (declared_once before c.0 (local_variable c.1)) columns
+
+abbrev pub with_named : List (Spelling × Variable) → Option Spelling → Option SqlType → List (Spelling × Variable)
+with_named before None kind = before
+with_named before (Some n) kind = declared_once before n (local_variable kind)
+
+abbrev pub with_item : Columns → List (Spelling × Variable) → ForItem → List (Spelling × Variable)
+with_item columns before i = if is_all i.pick.form then with_columns before columns else with_named before (name_of_item i) (type_of_item i)
+
+abbrev pub for_variables : Columns → List (Spelling × Variable) → List ForItem → List (Spelling × Variable)
+for_variables columns before [] = before
+for_variables columns before (i ∷ others) = for_variables columns (with_item columns before i) others
+
+-- an item needs a name that no item before it has; that goes before the sort of the item
+abbrev pub named_fault : List (Spelling × Variable) → Place → Option Spelling → Option Fault
+named_fault before place None = breaks rule.ItemNeedsName place
+named_fault before place (Some n) = breaks_if (is_some (named n before)) rule.ItemNeedsName place
+
+abbrev pub unless_broken : Option Fault → Found → Option Fault
+unless_broken None f = (as_value f).fault
+unless_broken (Some fault) f = earlier (Some fault) f.fault
+
+abbrev pub item_of_for : List (Spelling × Variable) → ForItem → Option Fault
+item_of_for before i = if is_all i.pick.form then None else unless_broken (named_fault before i.pick.found.place (name_of_item i)) i.pick.found
+
+abbrev pub for_items : Columns → List (Spelling × Variable) → List ForItem → List (Option Fault)
+for_items columns before [] = []
+for_items columns before (i ∷ others) = item_of_for before i ∷ for_items columns (with_item columns before i) others
+
+-- the items of the query of FOR, on the rows of its table
+abbrev pub items_in : View → Select → List ForItem
+items_in view select = let s = out-Select select in let on = on_row view (row_of view s.table s.alias) in map (for_item on) (several s.picks)
+
+abbrev pub for_fault : Context → QueryFound → List ForItem → Option Order → Option Fault
+for_fault c q items order = first_of (first_of (for_items (columns_known q.columns) [] items) ∷ misplaced_set true (first_set q.picks)
+    ∷ table_fault q.table q.columns ∷ test_fault q.test ∷ order_fault c q.table order ∷ [])
+
+abbrev pub for_cursors : QueryFound → Option ForCursor → List (Spelling × Cursor)
+for_cursors q None = []
+for_cursors q (Some cursor) = (cursor.name.name, cursor_on q (not cursor.insensitive) true) ∷ []
+
+abbrev pub for_frame : Option Spelling → Identifier → QueryFound → List ForItem → Option ForCursor → Frame Variable DeclaredCondition Cursor
+for_frame label name q items cursor = frame.For label name.name (record { variables = for_variables (columns_known q.columns) [] items; conditions = []; cursors = for_cursors q cursor })
+
+-- ---- statements; the parts of a layer are their first faults where they stand
+
+abbrev pub Part : Type 0
+Part = Context → Option Fault
+
+-- a block with the name of its label
+abbrev pub BlockPart : Type 0
+BlockPart = Option Spelling → Part
+
+-- a test and the fault of the statements behind it
+abbrev pub BranchPart : Type 0
+BranchPart = Context → (Found × Option Fault)
+
+-- the values of a handler, its UNDO where that isn't in an ATOMIC block, and its action
+pub record HandlerPart : Type 0 where
+  pub values : List HandlerValue
+  pub own : Bool → Option Fault
+  pub action : Part
+
+abbrev pub all : Context → List Part → Option Fault
+all c parts = first_of (map (λ p. p c) parts)
+
+abbrev pub test_part : Context → Expr → Option Fault
+test_part c e = (as_condition (found c e)).fault
+
+abbrev pub in_loop : Option Spelling → Context → Context
+in_loop label c = inside c (frame.Loop label)
+
+abbrev pub undo_fault : Place → HandlerKind → Bool → Option Fault
+undo_fault place Continue atomic = None
+undo_fault place Exit atomic = None
+undo_fault place Undo atomic = breaks_if (not atomic) rule.UndoNeedsAtomic place
+
+abbrev pub all_values : List HandlerPart → List HandlerValue
+all_values [] = []
+all_values (h ∷ hs) = h.values ++ all_values hs
+
+-- the faults of a block's own list, and of the actions, which see no label from outside
+abbrev pub handlers_fault : Context → Bool → List HandlerPart → List (Option Fault)
+handlers_fault c atomic [] = []
+handlers_fault c atomic (h ∷ hs) = earlier (h.own atomic) (h.action (inside c frame.Action)) ∷ handlers_fault c atomic hs
+
+abbrev pub nothing : Declares
+nothing = undeclared
+
+abbrev pub compound_fault : Option Spelling → Context → Bool → List Declaration → List CursorDeclaration → List HandlerPart → List Part → Option Fault
+compound_fault label c atomic xs cursors handlers statements =
+    let d = declared_by nothing xs in
+    let whole = inside c (compound label (with_cursors c label d cursors)) in
+    first_of (repeated rule.DeclarationRepeated (variable_names xs) ∷ repeated rule.DeclarationRepeated (condition_names xs)
+    ∷ repeated rule.DeclarationRepeated (map (λ x. x.name) cursors) ∷ first_of (declarations_fault c label nothing xs)
+    ∷ first_of (cursors_fault c label d cursors) ∷ first_of (values_fault whole [] (all_values handlers))
+    ∷ first_of (handlers_fault whole atomic handlers) ∷ all whole statements ∷ [])
+
+abbrev pub block_layer : Block-F BlockPart Part BranchPart HandlerPart → BlockPart
+block_layer (layers.Compound place atomic xs cursors handlers statements) label c = compound_fault label c atomic xs cursors handlers statements
+block_layer (layers.Loop place statements) label c = all (in_loop label c) (several statements)
+block_layer (layers.While place test statements) label c = earlier (test_part c test) (all (in_loop label c) (several statements))
+block_layer (layers.Repeat place statements until) label c = earlier (all (in_loop label c) (several statements)) (test_part c until)
+block_layer (layers.For place head statements) label c = let q = found_query c head.query in
+    let items = items_in c.view head.query.query in
+    earlier (for_fault c q items head.query.order) (all (inside c (for_frame label head.name q items head.cursor)) (several statements))
+
+-- a searched CASE or an IF: each test is a condition
+abbrev pub searched : Context → List BranchPart → List (Option Fault)
+searched c [] = []
+searched c (b ∷ bs) = earlier (as_condition (b c).0).fault (b c).1 ∷ searched c bs
+
+-- a simple CASE: its operand goes with each WHEN by itself
+abbrev pub simple : Context → Found → List BranchPart → List (Option Fault)
+simple c operand [] = []
+simple c operand (b ∷ bs) = earlier (simple_test operand (b c).0).fault (b c).1 ∷ simple c operand bs
+
+abbrev pub case_branches : Context → Option Expr → List BranchPart → List (Option Fault)
+case_branches c None bs = searched c bs
+case_branches c (Some e) bs = let operand = as_value (found c e) in operand.fault ∷ simple c operand bs
+
+abbrev pub statement_layer : Statement-F BlockPart Part BranchPart HandlerPart → Part
+statement_layer (layers.Block label block) c = earlier (label_of c label) (block (label_name label) c)
+statement_layer (layers.If place branches otherwise) c = earlier (first_of (searched c (several branches))) (all c otherwise)
+statement_layer (layers.Case place operand branches otherwise) c = earlier (first_of (case_branches c operand (several branches))) (all c otherwise)
+statement_layer (layers.Simple simple) c = simple_fault c simple
+
+abbrev pub branch_layer : Branch-F BlockPart Part BranchPart HandlerPart → BranchPart
+branch_layer branch c = (found c branch.test, all c (several branch.statements))
+
+abbrev pub handler_layer : Handler-F BlockPart Part BranchPart HandlerPart → HandlerPart
+handler_layer h = record { values = several h.values; own = undo_fault h.«at» h.kind; action = h.action }
+
+-- the first fault of a statement
+abbrev pub statement_fault : Statement → Part
+statement_fault = fold-Statement BlockPart Part BranchPart HandlerPart block_layer statement_layer branch_layer handler_layer

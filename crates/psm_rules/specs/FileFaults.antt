@@ -1,0 +1,390 @@
+-- The first fault of a module file (ISO/IEC 9075:1992, 11.3, and ISO/IEC 9075-4:1996, module definitions).
+use Rattle.std.specs.Prelude.{ℕ, suc, nat_eq, nat_le, Bool, true, false, not, ◌&&◌, ◌||◌, Option, Some, None, is_some, Result, Ok, Err, List, [], ◌∷◌, ◌++◌, map, length, option_map, slice_get, if◌then◌else◌}
+use Rattle.std.specs.List.{list_all, list_any}
+use Rattle.psm_list.specs.Several.{Several}
+use Rattle.psm_num.specs.Num.{Num}
+use Rattle.psm_num.specs.Arithmetic.{negated}
+use Rattle.psm_token.specs.declared.place.Place.{Place}
+use Rattle.psm_value.specs.Stored.{stored}
+use Rattle.psm_value.specs.declared.datum.Datum.{Datum}
+use Rattle.psm_value.specs.declared.datum.Datum.TheVariants as datum
+use Rattle.psm_value.specs.declared.sqltype.SqlType.{SqlType}
+use Rattle.psm_value.specs.declared.sqltype.SqlType.TheVariants as types
+use Rattle.psm_scope.specs.Choice.{Signature}
+use Rattle.psm_scope.specs.Frames.{Spelling, is_spelled, Declared}
+use Rattle.psm_scope.specs.Frames as frame
+use Rattle.psm_scope.specs.Lookup.{named}
+use Rattle.psm_scope.specs.declared.kinds.ArgKind.{ArgKind}
+use Rattle.psm_scope.specs.declared.kinds.ArgKind.TheVariants as kind
+use Rattle.psm_tree.specs.declared.name.Identifier.{Identifier}
+use Rattle.psm_tree.specs.Names.{Names}
+use Rattle.psm_tree.specs.declared.types.Constant.{Constant}
+use Rattle.psm_tree.specs.declared.types.ConstantForm.{ConstantForm}
+use Rattle.psm_tree.specs.declared.types.ConstantForm.TheVariants as constants
+use Rattle.psm_tree.specs.declared.types.DataType.{DataType}
+use Rattle.psm_tree.specs.declared.types.Sign.{Sign}
+use Rattle.psm_tree.specs.declared.types.Sign.TheVariants.{Plus, Minus}
+use Rattle.psm_tree.specs.declared.types.TypeForm.{TypeForm}
+use Rattle.psm_tree.specs.declared.types.TypeForm.TheVariants as forms
+use Rattle.psm_tree.specs.declared.expr.Expr.{Expr}
+use Rattle.psm_tree.specs.declared.statement.Statement.{Statement}
+use Rattle.psm_tree.specs.declared.statement.Block.TheOpen.{Block-F, Statement-F, Branch-F, Handler-F}
+use Rattle.psm_tree.specs.declared.statement.Block.TheOpen as layers
+use Rattle.psm_tree.specs.declared.statement.Block.TheFolds.{fold-Statement}
+use Rattle.psm_tree.specs.declared.statement.Simple.{Simple}
+use Rattle.psm_tree.specs.declared.statement.Simple.TheVariants as simples
+use Rattle.psm_tree.specs.declared.file.FileTree.{FileTree}
+use Rattle.psm_tree.specs.declared.file.TableTree.{TableTree}
+use Rattle.psm_tree.specs.declared.file.Element.{Element}
+use Rattle.psm_tree.specs.declared.file.Element.TheVariants as elements
+use Rattle.psm_tree.specs.declared.file.ColumnRule.{ColumnRule}
+use Rattle.psm_tree.specs.declared.file.ColumnRuleForm.{ColumnRuleForm}
+use Rattle.psm_tree.specs.declared.file.ColumnRuleForm.TheVariants as column_rules
+use Rattle.psm_tree.specs.declared.file.TableRule.{TableRule}
+use Rattle.psm_tree.specs.declared.file.TableRuleForm.{TableRuleForm}
+use Rattle.psm_tree.specs.declared.file.TableRuleForm.TheVariants as table_rules
+use Rattle.psm_tree.specs.declared.file.Mode.{Mode}
+use Rattle.psm_tree.specs.declared.file.Mode.TheVariants as modes
+use Rattle.psm_tree.specs.declared.file.Note.{Note}
+use Rattle.psm_tree.specs.declared.file.NoteForm.{NoteForm}
+use Rattle.psm_tree.specs.declared.file.NoteForm.TheVariants as notes
+use Rattle.psm_tree.specs.declared.file.Parameter.{Parameter}
+use Rattle.psm_tree.specs.declared.file.Routine.{Routine}
+use Rattle.psm_rules.specs.declared.fault.Fault.{Fault}
+use Rattle.psm_rules.specs.declared.rule.Rule.{Rule}
+use Rattle.psm_rules.specs.declared.rule.Rule.TheVariants as rule
+use Rattle.psm_rules.specs.BlockFaults.{declared_once, statement_fault}
+use Rattle.psm_rules.specs.ExprFaults.{expr_found, type_fault}
+use Rattle.psm_rules.specs.Faults.{breaks, breaks_if, earlier, first_of}
+use Rattle.psm_rules.specs.Found.{as_condition}
+use Rattle.psm_rules.specs.declared.shape.Family.{Family}
+use Rattle.psm_rules.specs.declared.shape.Family.TheVariants.{Numbers, Texts}
+use Rattle.psm_rules.specs.Shapes.{is_family, family_of, typed}
+use Rattle.psm_rules.specs.StatementFaults.{Context, Within, several, repeated, columns_fault}
+use Rattle.psm_rules.specs.StatementFaults as within
+use Rattle.psm_rules.specs.Types.{type_of}
+use Rattle.psm_rules.specs.View.{View, World, Columns}
+use Rattle.psm_scope.specs.Routines.{Callable, Header, procedure}
+use Rattle.psm_scope.specs.declared.known.Variable.{Variable}
+use Rattle.psm_scope.specs.declared.known.DeclaredCondition.{DeclaredCondition}
+use Rattle.psm_scope.specs.declared.procedures.ProcedureScope.{ProcedureScope}
+use Rattle.psm_scope.specs.declared.procedures.ParameterScope.{ParameterScope}
+use Rattle.psm_scope.specs.declared.procedures.ParameterMode.{ParameterMode}
+use Rattle.psm_scope.specs.declared.procedures.ParameterMode.TheVariants as scope_modes
+use Rattle.psm_rules.specs.View as view
+
+-- ---- columns of a table
+
+-- the columns, each name once
+abbrev pub with_column : Columns → Element → Columns
+with_column columns (elements.Column name kind default rules) = declared_once columns name.name (type_of kind)
+with_column columns (elements.Rule rule) = columns
+
+abbrev pub columns_from : Columns → List Element → Columns
+columns_from columns [] = columns
+columns_from columns (e ∷ es) = columns_from (with_column columns e) es
+
+abbrev pub columns_of : List Element → Columns
+columns_of es = columns_from [] es
+
+abbrev pub column_names : List Element → List Identifier
+column_names [] = []
+column_names (elements.Column name kind default rules ∷ es) = name ∷ column_names es
+column_names (elements.Rule rule ∷ es) = column_names es
+
+-- ---- constants
+
+abbrev pub signed : Option Sign → Num → Num
+signed None n = n
+signed (Some Plus) n = n
+signed (Some Minus) n = negated n
+
+abbrev pub datum_of : ConstantForm → Datum
+datum_of (constants.Number sign n) = datum.Num (signed sign n)
+datum_of (constants.Text t) = datum.Text t
+datum_of constants.Null = datum.Null
+
+abbrev pub fits_family : Family → Datum → Bool
+fits_family family datum.Null = true
+fits_family family (datum.Num n) = is_family family Numbers
+fits_family family (datum.Text t) = is_family family Texts
+
+abbrev pub is_stored : {A B : Type 0} → Result A B → Bool
+is_stored (Ok a) = true
+is_stored (Err b) = false
+
+-- a DEFAULT is of its column's family and can be stored there
+abbrev pub default_fits : SqlType → Datum → Bool
+default_fits t d = fits_family (family_of (typed t).kind) d && is_stored (stored t d)
+
+abbrev pub constant_fault : Option SqlType → Option Constant → Option Fault
+constant_fault t None = None
+constant_fault None (Some c) = None
+constant_fault (Some t) (Some c) = breaks_if (not (default_fits t (datum_of c.form))) rule.ConstantDoesNotFit c.place
+
+-- ---- tables
+
+abbrev pub check_fault : View → Expr → Option Fault
+check_fault v e = (as_condition (expr_found e v)).fault
+
+abbrev pub column_rule_fault : View → ColumnRuleForm → Option Fault
+column_rule_fault v column_rules.NotNull = None
+column_rule_fault v column_rules.PrimaryKey = None
+column_rule_fault v column_rules.Unique = None
+column_rule_fault v (column_rules.Check e) = check_fault v e
+
+abbrev pub table_rule_fault : View → Columns → TableRuleForm → Option Fault
+table_rule_fault v columns (table_rules.PrimaryKey names) = columns_fault (Some columns) (several names)
+table_rule_fault v columns (table_rules.Unique names) = columns_fault (Some columns) (several names)
+table_rule_fault v columns (table_rules.Check e) = check_fault v e
+
+abbrev pub element_fault : View → Columns → Element → Option Fault
+element_fault v columns (elements.Column name kind default rules) = first_of (type_fault kind (type_of kind) ∷ constant_fault (type_of kind) default
+    ∷ map (λ r. column_rule_fault v r.form) rules)
+element_fault v columns (elements.Rule r) = table_rule_fault v columns r.form
+
+-- the keys that are declared, as lists of columns
+abbrev pub own_keys : Spelling → List ColumnRule → List (List Spelling)
+own_keys n [] = []
+own_keys n (r ∷ rs) = key_of r.form ++ own_keys n rs
+  where
+    key_of : ColumnRuleForm → List (List Spelling)
+    key_of column_rules.NotNull = []
+    key_of column_rules.PrimaryKey = (n ∷ []) ∷ []
+    key_of column_rules.Unique = []
+    key_of (column_rules.Check e) = []
+
+abbrev pub rule_keys : TableRuleForm → List (List Spelling)
+rule_keys (table_rules.PrimaryKey names) = map (λ n. n.name) (several names) ∷ []
+rule_keys (table_rules.Unique names) = []
+rule_keys (table_rules.Check e) = []
+
+abbrev pub keys_of : List Element → List (List Spelling)
+keys_of [] = []
+keys_of (elements.Column name kind default rules ∷ es) = own_keys name.name rules ++ keys_of es
+keys_of (elements.Rule r ∷ es) = rule_keys r.form ++ keys_of es
+
+-- column 101 is one too many
+abbrev pub too_many : Option Identifier → Option Fault
+too_many None = None
+too_many (Some n) = breaks rule.TooManyColumns n.place
+
+abbrev pub key_fault : Identifier → List (List Spelling) → Option Fault
+key_fault table keys = breaks_if (not (nat_eq (length keys) 1)) rule.NotOnePrimaryKey table.place
+
+abbrev pub no_world : World
+no_world = record { tables = []; keys = []; functions = record { signatures = []; results = [] }; procedures = [] }
+
+-- a CHECK sees the columns of its table alone
+abbrev pub alone : Spelling → Columns → View
+alone table columns = record {
+  world = no_world;
+  frames = [];
+  row = Some (record { name = table; alias = None; columns = columns });
+}
+
+abbrev pub table_elements : TableTree → List Element
+table_elements t = several t.elements
+
+abbrev pub table_fault : TableTree → Option Fault
+table_fault t = let es = table_elements t in let columns = columns_of es in
+    first_of (repeated rule.ColumnRepeated (column_names es) ∷ too_many (slice_get (column_names es) 100)
+    ∷ key_fault t.name (keys_of es) ∷ map (element_fault (alone t.name.name columns) columns) es)
+
+-- ---- routines
+
+abbrev pub mode_of : Mode → ParameterMode
+mode_of modes.In = scope_modes.In
+mode_of modes.Out = scope_modes.Out
+mode_of modes.InOut = scope_modes.InOut
+
+abbrev pub is_in : Mode → Bool
+is_in modes.In = true
+is_in modes.Out = false
+is_in modes.InOut = false
+
+abbrev pub is_function : Routine → Bool
+is_function r = is_some r.returns
+
+abbrev pub parameter_of : Parameter → ParameterScope
+parameter_of p = record { mode = mode_of p.mode; kind = type_of p.kind }
+
+-- the kind of a type, also of one that is out of range
+abbrev pub kind_of : TypeForm → ArgKind
+kind_of forms.SmallInt = kind.SmallInt
+kind_of forms.Integer = kind.Integer
+kind_of (forms.Numeric p) = kind.Numeric
+kind_of (forms.Char n) = kind.Char
+kind_of (forms.VarChar n) = kind.VarChar
+
+abbrev pub kinds_of : Routine → List ArgKind
+kinds_of r = map (λ p. kind_of p.kind.form) r.parameters
+
+-- each function
+abbrev pub with_function : Callable → Routine → Option DataType → Callable
+with_function fs r None = fs
+with_function fs r (Some t) = record {
+  signatures = fs.signatures ++ record { name = r.name.name; kinds = kinds_of r } ∷ [];
+  results = fs.results ++ type_of t ∷ [];
+}
+
+-- the first procedure of each name and number of parameters
+abbrev pub Procedures : Type 0
+Procedures = List (Header × ProcedureScope)
+
+abbrev pub with_first : Procedures → Spelling → List ParameterScope → Procedures
+with_first ps n parameters = if is_some (procedure n (length parameters) ps) then ps
+    else ps ++ ((n, length parameters), record { number = 0; parameters = parameters }) ∷ []
+
+abbrev pub with_procedure : Procedures → Routine → Procedures
+with_procedure ps r = if is_function r then ps else with_first ps r.name.name (map parameter_of r.parameters)
+
+abbrev pub functions_of : Callable → List Routine → Callable
+functions_of fs [] = fs
+functions_of fs (r ∷ rs) = functions_of (with_function fs r r.returns) rs
+
+abbrev pub procedures_of : Procedures → List Routine → Procedures
+procedures_of ps [] = ps
+procedures_of ps (r ∷ rs) = procedures_of (with_procedure ps r) rs
+
+-- ---- routines that can't be told apart
+
+-- the number of a kind
+abbrev pub kind_number : ArgKind → ℕ
+kind_number kind.SmallInt = 0
+kind_number kind.Integer = 1
+kind_number kind.Numeric = 2
+kind_number kind.Char = 3
+kind_number kind.VarChar = 4
+kind_number kind.Null = 5
+
+abbrev pub same_kinds : List ArgKind → List ArgKind → Bool
+same_kinds [] [] = true
+same_kinds [] (b ∷ bs) = false
+same_kinds (a ∷ others) [] = false
+same_kinds (a ∷ others) (b ∷ bs) = nat_eq (kind_number a) (kind_number b) && same_kinds others bs
+
+-- procedures of one name have different numbers of parameters
+abbrev pub same_procedures : Routine → Routine → Bool
+same_procedures a b = is_spelled a.name.name b.name.name && nat_eq (length a.parameters) (length b.parameters)
+
+-- functions of one name have different kinds of parameters
+abbrev pub same_functions : Routine → Routine → Bool
+same_functions a b = is_spelled a.name.name b.name.name && same_kinds (kinds_of a) (kinds_of b)
+
+abbrev pub told_apart : Routine → List Routine → Option Fault
+told_apart r before = if is_function r
+    then breaks_if (list_any (λ b. is_function b && same_functions r b) before) rule.FunctionsNotDistinct r.name.place
+    else breaks_if (list_any (λ b. not (is_function b) && same_procedures r b) before) rule.ProcedureRepeated r.name.place
+
+-- ---- the body of a function has a RETURN, in an action perhaps
+
+abbrev pub returns : Simple → Bool
+returns (simples.Return place source) = true
+returns s = false
+
+abbrev pub some : List Bool → Bool
+some [] = false
+some (b ∷ bs) = b || some bs
+
+abbrev pub returning_block : Block-F Bool Bool Bool Bool → Bool
+returning_block (layers.Compound place atomic xs cursors handlers statements) = some handlers || some statements
+returning_block (layers.Loop place statements) = some (several statements)
+returning_block (layers.While place test statements) = some (several statements)
+returning_block (layers.Repeat place statements until) = some (several statements)
+returning_block (layers.For place head statements) = some (several statements)
+
+abbrev pub returning_statement : Statement-F Bool Bool Bool Bool → Bool
+returning_statement (layers.Block label block) = block
+returning_statement (layers.If place branches otherwise) = some (several branches) || some otherwise
+returning_statement (layers.Case place operand branches otherwise) = some (several branches) || some otherwise
+returning_statement (layers.Simple simple) = returns simple
+
+abbrev pub returning_branch : Branch-F Bool Bool Bool Bool → Bool
+returning_branch b = some (several b.statements)
+
+abbrev pub returning_handler : Handler-F Bool Bool Bool Bool → Bool
+returning_handler h = h.action
+
+abbrev pub has_return : Statement → Bool
+has_return = fold-Statement Bool Bool Bool Bool returning_block returning_statement returning_branch returning_handler
+
+-- ---- notes: an alternative stands at most once, DETERMINISTIC and NOT DETERMINISTIC being one
+
+abbrev pub note_number : NoteForm → ℕ
+note_number notes.Language = 0
+note_number notes.Deterministic = 1
+note_number notes.NotDeterministic = 1
+note_number notes.ContainsSql = 2
+note_number notes.ReadsSqlData = 3
+note_number notes.ModifiesSqlData = 4
+
+abbrev pub notes_fault : List ℕ → List Note → List (Option Fault)
+notes_fault before [] = []
+notes_fault before (n ∷ ns) = breaks_if (list_any (nat_eq (note_number n.form)) before) rule.NoteRepeated n.place ∷ notes_fault (note_number n.form ∷ before) ns
+
+-- ---- a routine
+
+abbrev pub mode_fault : Bool → Parameter → Option Fault
+mode_fault of_function p = breaks_if (of_function && not (is_in p.mode)) rule.ModeNotAllowed p.place
+
+abbrev pub parameter_fault : Bool → Parameter → Option Fault
+parameter_fault of_function p = earlier (mode_fault of_function p) (type_fault p.kind (type_of p.kind))
+
+abbrev pub parameter_variable : Parameter → Variable
+parameter_variable p = record { kind = type_of p.kind; slot = 0; assignable = not (is_in p.mode) }
+
+abbrev pub with_parameters : List (Spelling × Variable) → List Parameter → List (Spelling × Variable)
+with_parameters before [] = before
+with_parameters before (p ∷ ps) = with_parameters (declared_once before p.name.name (parameter_variable p)) ps
+
+abbrev pub routine_frame : Routine → frame.Frame Variable DeclaredCondition view.Cursor
+routine_frame r = frame.Routine r.name.name (record { variables = with_parameters [] r.parameters; conditions = []; cursors = [] })
+
+abbrev pub kind_of_routine : Option DataType → Within
+kind_of_routine None = within.InProcedure
+kind_of_routine (Some t) = within.InFunction (type_of t)
+
+abbrev pub body_context : World → Routine → Context
+body_context world r = record { view = record { world = world; frames = routine_frame r ∷ []; row = None }; within = kind_of_routine r.returns }
+
+abbrev pub result_fault : Option DataType → Option Fault
+result_fault None = None
+result_fault (Some t) = type_fault t (type_of t)
+
+abbrev pub routine_fault : World → List Routine → Routine → Option Fault
+routine_fault world before r = first_of (told_apart r before ∷ breaks_if (is_function r && not (has_return r.body)) rule.FunctionWithoutReturn r.name.place
+    ∷ repeated rule.ParameterRepeated (map (λ p. p.name) r.parameters) ∷ first_of (map (parameter_fault (is_function r)) r.parameters)
+    ∷ result_fault r.returns ∷ first_of (notes_fault [] r.notes) ∷ statement_fault r.body (body_context world r) ∷ [])
+
+abbrev pub routines_fault : World → List Routine → List Routine → List (Option Fault)
+routines_fault world before [] = []
+routines_fault world before (r ∷ rs) = routine_fault world before r ∷ routines_fault world (r ∷ before) rs
+
+-- ---- the file
+
+abbrev pub first_key : List (List Spelling) → List Spelling
+first_key [] = []
+first_key (k ∷ ks) = k
+
+abbrev pub tables_from : List (Spelling × Columns) → List TableTree → List (Spelling × Columns)
+tables_from before [] = before
+tables_from before (t ∷ ts) = tables_from (declared_once before t.name.name (columns_of (table_elements t))) ts
+
+abbrev pub keys_from : List (Spelling × List Spelling) → List TableTree → List (Spelling × List Spelling)
+keys_from before [] = before
+keys_from before (t ∷ ts) = keys_from (declared_once before t.name.name (first_key (keys_of (table_elements t)))) ts
+
+-- what the tables and the routines of a file declare, each table once; each routine is known in the whole module
+abbrev pub world_of : FileTree → World
+world_of f = record {
+  tables = tables_from [] f.tables;
+  keys = keys_from [] f.tables;
+  functions = functions_of (record { signatures = []; results = [] }) f.«module».routines;
+  procedures = procedures_of [] f.«module».routines;
+}
+
+-- the first fault of a module file; without one the file is accepted
+abbrev pub file_fault : FileTree → Option Fault
+file_fault f = first_of (repeated rule.TableRepeated (map (λ t. t.name) f.tables) ∷ first_of (map table_fault f.tables)
+    ∷ first_of (routines_fault (world_of f) [] f.«module».routines) ∷ [])

@@ -1,0 +1,10 @@
+pub mod BlockFaults
+pub mod ExprFaults
+pub mod Faults
+pub mod FileFaults
+pub mod Found
+pub mod Shapes
+pub mod StatementFaults
+pub mod Texts
+pub mod Types
+pub mod View
