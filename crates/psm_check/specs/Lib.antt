@@ -1,2 +1,4 @@
+pub mod InRoutine
 pub mod Keys
+pub mod Listed
 pub mod Seen

@@ -1,4 +1,7 @@
 //! The first fault of a statement with statements in it.
+ghost use Rattle.std.specs.Prelude.{◌≡◌, IfOk};
+ghost use Rattle.psm_rules.specs.BlockFaults.{statement_fault};
+ghost use Rattle.psm_check.specs.InRoutine.{context};
 
 use crate::conditions::{condition_name_fault, good_state, state_fault};
 use crate::cursors::declared_cursor;
@@ -31,7 +34,10 @@ pub(crate) fn statement_fault<'w, 'a>(
     statement: &'a Statement,
     c: Context<'w, 'a>,
     frames: &mut Frames<'a>,
-) -> Result<Option<Fault>, AllocError> {
+) -> Result<Option<Fault>, AllocError>
+    ensures fault { IfOk result (λ f. f ≡ statement_fault statement.now (context c.entry frames.old)) }
+    ensures kept { IfOk result (λ _. frames.new ≡ frames.old) }
+{
     match statement {
         Statement::Block { label, block } => {
             let own = label_fault(frames, label);

@@ -1,4 +1,7 @@
 //! SQLSTATEs, conditions and the diagnostics area.
+ghost use Rattle.std.specs.Prelude.{◌≡◌, IfOk};
+ghost use Rattle.psm_rules.specs.StatementFaults.{condition_fault, diagnostics_fault, good_state, name_of_condition_fault, signalled_fault, state_fault};
+ghost use Rattle.psm_check.specs.Seen.{seen_in_view};
 
 use crate::exprs::expr_found;
 use crate::found::{as_value, breaks, breaks_if, of_family};
@@ -16,7 +19,9 @@ use psm_tree::{
 use std::alloc::{AllocError, Global};
 
 /// The SQLSTATE of a text that is one, and not one of success.
-pub(crate) fn good_state(alloc: Global, text: &Text) -> Result<Option<SqlState>, AllocError> {
+pub(crate) fn good_state(alloc: Global, text: &Text) -> Result<Option<SqlState>, AllocError>
+    ensures { IfOk result (λ s. s ≡ good_state text.now) }
+{
     let mut spelled = String::new(alloc);
     if text.chars().len() != 5 {
         return Ok(None);
@@ -37,13 +42,17 @@ pub(crate) fn good_state(alloc: Global, text: &Text) -> Result<Option<SqlState>,
 }
 
 /// A text that is no SQLSTATE, or one of success.
-pub(crate) fn state_fault(alloc: Global, state: &State) -> Result<Option<Fault>, AllocError> {
+pub(crate) fn state_fault(alloc: Global, state: &State) -> Result<Option<Fault>, AllocError>
+    ensures { IfOk result (λ f. f ≡ state_fault state.now) }
+{
     let good = good_state(alloc, &state.text)?;
     Ok(breaks_if(good.is_none(), Rule::BadSqlState, state.at))
 }
 
 /// A condition that isn't declared.
-pub(crate) fn condition_name_fault(frames: &Frames, name: &Identifier) -> Option<Fault> {
+pub(crate) fn condition_name_fault(frames: &Frames, name: &Identifier) -> Option<Fault>
+    ensures { result ≡ name_of_condition_fault frames.now name.now }
+{
     breaks_if(
         frames.condition(&name.name).is_none(),
         Rule::UnknownCondition,
@@ -55,7 +64,9 @@ fn condition_fault(
     alloc: Global,
     frames: &Frames,
     condition: &Condition,
-) -> Result<Option<Fault>, AllocError> {
+) -> Result<Option<Fault>, AllocError>
+    ensures { IfOk result (λ f. f ≡ condition_fault frames.now condition.now) }
+{
     match condition {
         Condition::Name(name) => Ok(condition_name_fault(frames, name)),
         Condition::State(state) => state_fault(alloc, state),
@@ -67,7 +78,9 @@ pub(crate) fn signalled_fault(
     alloc: Global,
     signalled: &Signalled,
     view: View,
-) -> Result<Option<Fault>, AllocError> {
+) -> Result<Option<Fault>, AllocError>
+    ensures { IfOk result (λ f. f ≡ signalled_fault (seen_in_view view.entry) signalled.now) }
+{
     let fault = condition_fault(alloc, view.frames, &signalled.condition)?;
     match &signalled.message {
         None => Ok(fault),
@@ -129,7 +142,9 @@ fn number_fault(frames: &Frames, number: &ConditionNumber) -> Option<Fault> {
 }
 
 /// What GET DIAGNOSTICS asks for.
-pub(crate) fn diagnostics_fault(frames: &Frames, diagnostics: &Diagnostics) -> Option<Fault> {
+pub(crate) fn diagnostics_fault(frames: &Frames, diagnostics: &Diagnostics) -> Option<Fault>
+    ensures { result ≡ diagnostics_fault frames.now diagnostics.now }
+{
     match diagnostics {
         Diagnostics::Statement { items } => {
             let i = &items.first;

@@ -1,4 +1,9 @@
 //! Cursors, and the order of a query.
+ghost use Rattle.std.specs.Prelude.{◌≡◌, IfOk, false};
+ghost use Rattle.std.specs.Option.{option_copied};
+ghost use Rattle.psm_rules.specs.BlockFaults.{cursor_fault, cursor_on, found_query, is_updatable, order_fault};
+ghost use Rattle.psm_rules.specs.StatementFaults.{fetch_fault, opened_fault, positioned_fault};
+ghost use Rattle.psm_check.specs.Seen.{seen_in_view};
 
 use crate::exprs::query_found;
 use crate::found::{breaks, breaks_if};
@@ -19,7 +24,9 @@ pub(crate) fn order_fault(
     world: &World,
     table: &Identifier,
     order: &Option<Order>,
-) -> Option<Fault> {
+) -> Option<Fault>
+    ensures { result ≡ order_fault world.now table.now order.now }
+{
     match order {
         None => None,
         Some(order) => match world.keys.get(&table.name) {
@@ -92,7 +99,10 @@ pub(crate) fn cursor_on<'a>(
     query: &QueryFound,
     updatable: bool,
     of_for: bool,
-) -> Result<CheckedCursor<'a>, AllocError> {
+) -> Result<CheckedCursor<'a>, AllocError>
+    requires { query.now.table ≡ table.now }
+    ensures { IfOk result (λ c. c ≡ cursor_on query.now updatable of_for) }
+{
     let items = match query.items(alloc)? {
         None => None,
         Some(items) => {
@@ -116,7 +126,10 @@ pub(crate) fn declared_cursor<'a>(
     alloc: Global,
     declared: &'a CursorDeclaration,
     view: View,
-) -> Result<(Option<Fault>, CheckedCursor<'a>), AllocError> {
+) -> Result<(Option<Fault>, CheckedCursor<'a>), AllocError>
+    ensures fault { IfOk result (λ p. p.0 ≡ cursor_fault (seen_in_view view.entry) declared.now) }
+    ensures cursor { IfOk result (λ p. p.1 ≡ cursor_on (found_query (seen_in_view view.entry) declared.now.query) (is_updatable declared.now.insensitive declared.now.updatability) false) }
+{
     let query = query_found(alloc, declared.query.query.get(), view)?;
     let fault = cursor_fault(view.world, &query, &declared.query.order);
     let table = &declared.query.query.get().table;
@@ -127,7 +140,9 @@ pub(crate) fn declared_cursor<'a>(
 // ---- statements
 
 /// A cursor that OPEN, FETCH or CLOSE names.
-pub(crate) fn opened_fault(name: &Identifier, cursor: Option<&CheckedCursor>) -> Option<Fault> {
+pub(crate) fn opened_fault(name: &Identifier, cursor: Option<&CheckedCursor>) -> Option<Fault>
+    ensures { result ≡ opened_fault name.now (option_copied cursor.entry) }
+{
     match cursor {
         None => breaks(Rule::UnknownCursor, name.place),
         Some(cursor) => breaks_if(cursor.of_for, Rule::CursorOfFor, name.place),
@@ -139,7 +154,9 @@ pub(crate) fn positioned_fault(
     table: &Identifier,
     name: &Identifier,
     cursor: Option<&CheckedCursor>,
-) -> Option<Fault> {
+) -> Option<Fault>
+    ensures { result ≡ positioned_fault table.now name.now (option_copied cursor.entry) }
+{
     match cursor {
         None => breaks(Rule::UnknownCursor, name.place),
         Some(cursor) => {
@@ -154,7 +171,9 @@ pub(crate) fn fetch_fault(
     frames: &Frames,
     targets: &Targets,
     cursor: Option<&CheckedCursor>,
-) -> Option<Fault> {
+) -> Option<Fault>
+    ensures { result ≡ fetch_fault frames.now targets.now (option_copied cursor.entry) }
+{
     match cursor {
         None => None,
         Some(cursor) => {

@@ -1,4 +1,6 @@
 //! The first fault of a module file.
+ghost use Rattle.std.specs.Prelude.{◌≡◌, IfOk};
+ghost use Rattle.psm_rules.specs.FileFaults.{file_fault};
 
 use crate::repeated::Repeats;
 use crate::routines::{Told, declare_routines, routine_fault};
@@ -10,7 +12,9 @@ use std::alloc::{AllocError, Global};
 
 /// The first fault of a module file (ISO/IEC 9075:1992, 11.3, and ISO/IEC 9075-4:1996, module definitions). Without one the file
 /// is accepted.
-pub fn file_fault(alloc: Global, file: &FileTree) -> Result<Option<Fault>, AllocError> {
+pub fn file_fault(alloc: Global, file: &FileTree) -> Result<Option<Fault>, AllocError>
+    ensures { IfOk result (λ f. f ≡ file_fault file.now) }
+{
     let tables = tables_fault(alloc, file)?;
     let world = world_of(alloc, file)?;
     let mut told = Told::new(alloc);

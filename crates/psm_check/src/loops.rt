@@ -1,4 +1,8 @@
 //! FOR: its query, and the variables that it declares.
+ghost use Rattle.std.specs.Prelude.{◌≡◌, ◌∷◌, IfOk};
+ghost use Rattle.std.specs.Option.{option_copied};
+ghost use Rattle.psm_rules.specs.BlockFaults.{head_fault, head_frame};
+ghost use Rattle.psm_check.specs.InRoutine.{context};
 
 use crate::cursors::{cursor_on, order_fault};
 use crate::exprs::query_found;
@@ -32,7 +36,10 @@ pub(crate) fn for_fault<'w, 'a>(
     frames: &mut Frames<'a>,
     label: Option<&'a Name>,
     head: &'a ForHead,
-) -> Result<Option<Fault>, AllocError> {
+) -> Result<Option<Fault>, AllocError>
+    ensures fault { IfOk result (λ f. f ≡ head_fault (context c.entry frames.old).view head.now) }
+    ensures frames { IfOk result (λ _. frames.new ≡ head_frame (context c.entry frames.old).view (option_copied label.entry) head.now ∷ frames.old) }
+{
     let select = head.query.query.get();
     let query = query_found(c.alloc, select, c.view(frames))?;
     let items = for_items(c, frames, select, &query)?;

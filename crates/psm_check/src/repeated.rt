@@ -1,4 +1,7 @@
 //! Names that stand twice.
+ghost use Rattle.std.specs.Prelude.{◌≡◌, ◌∷◌, [], IfOk};
+ghost use Rattle.psm_rules.specs.StatementFaults.{repeated};
+ghost use Rattle.psm_check.specs.Listed.{with_names};
 
 use crate::found::breaks_if;
 use psm_rules::{Fault, Rule, earlier};
@@ -16,7 +19,9 @@ pub(crate) struct Repeats<'a> {
 
 impl<'a> Repeats<'a> {
     /// No names. It takes no memory.
-    pub(crate) fn new(alloc: Global, rule: Rule) -> Repeats<'a> {
+    pub(crate) fn new(alloc: Global, rule: Rule) -> Repeats<'a>
+        ensures { result ≡ record { rule = rule; names = [] } }
+    {
         Repeats {
             seen: Names::new(alloc),
             rule,
@@ -25,14 +30,18 @@ impl<'a> Repeats<'a> {
     }
 
     /// One name more.
-    pub(crate) fn add(&mut self, name: &'a Identifier) -> Result<(), AllocError> {
+    pub(crate) fn add(&mut self, name: &'a Identifier) -> Result<(), AllocError>
+        ensures { IfOk result (λ _. self.new ≡ with_names self.old (name.now ∷ [])) }
+    {
         let added = self.seen.add(&name.name, ())?;
         self.fault = earlier(self.fault, breaks_if(!added, self.rule, name.place));
         Ok(())
     }
 
     /// Some names more.
-    pub(crate) fn add_all(&mut self, names: &'a [Identifier]) -> Result<(), AllocError> {
+    pub(crate) fn add_all(&mut self, names: &'a [Identifier]) -> Result<(), AllocError>
+        ensures { IfOk result (λ _. self.new ≡ with_names self.old names.now) }
+    {
         for name in names {
             self.add(name)?;
         }
@@ -40,7 +49,9 @@ impl<'a> Repeats<'a> {
     }
 
     /// The first fault.
-    pub(crate) fn fault(&self) -> Option<Fault> {
+    pub(crate) fn fault(&self) -> Option<Fault>
+        ensures { result ≡ repeated self.now.rule self.now.names }
+    {
         self.fault
     }
 }

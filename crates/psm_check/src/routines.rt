@@ -1,4 +1,6 @@
 //! The first fault of a routine, and what routines declare.
+ghost use Rattle.std.specs.Prelude.{◌≡◌, ◌∷◌, [], IfOk};
+ghost use Rattle.psm_rules.specs.FileFaults.{routine_fault, told_apart, with_routines};
 
 use crate::blocks::statement_fault;
 use crate::found::breaks_if;
@@ -66,7 +68,9 @@ pub(crate) fn declare_routines<'a>(
     alloc: Global,
     routines: &'a [Routine],
     world: &mut World<'a>,
-) -> Result<(), AllocError> {
+) -> Result<(), AllocError>
+    ensures { IfOk result (λ _. world.new ≡ with_routines world.old routines.now) }
+{
     for routine in routines {
         let parameters = routine.parameters.items();
         let name = &routine.name.name;
@@ -105,7 +109,9 @@ pub(crate) struct Told<'a> {
 }
 
 impl<'a> Told<'a> {
-    pub(crate) fn new(alloc: Global) -> Told<'a> {
+    pub(crate) fn new(alloc: Global) -> Told<'a>
+        ensures { result ≡ [] }
+    {
         Told {
             procedures: Procedures::new(alloc),
             functions: IndexSet::new(alloc),
@@ -113,7 +119,10 @@ impl<'a> Told<'a> {
     }
 
     // Procedures of one name have different numbers of parameters, functions of one name different kinds.
-    fn fault(&mut self, alloc: Global, r: &'a Routine) -> Result<Option<Fault>, AllocError> {
+    fn fault(&mut self, alloc: Global, r: &'a Routine) -> Result<Option<Fault>, AllocError>
+        ensures fault { IfOk result (λ f. f ≡ told_apart r.now self.old) }
+        ensures before { IfOk result (λ _. self.new ≡ r.now ∷ self.old) }
+    {
         let parameters = r.parameters.items();
         if r.returns.is_some() {
             let kinds = kind_numbers(alloc, parameters)?;
@@ -275,7 +284,10 @@ pub(crate) fn routine_fault<'a>(
     world: &World<'a>,
     told: &mut Told<'a>,
     r: &'a Routine,
-) -> Result<Option<Fault>, AllocError> {
+) -> Result<Option<Fault>, AllocError>
+    ensures fault { IfOk result (λ f. f ≡ routine_fault world.now told.old r.now) }
+    ensures before { IfOk result (λ _. told.new ≡ r.now ∷ told.old) }
+{
     let of_function = r.returns.is_some();
     let mut fault = told.fault(alloc, r)?;
     let without = of_function && !has_return(r.body.get());

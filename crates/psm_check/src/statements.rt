@@ -1,4 +1,8 @@
 //! The first fault of a statement without statements in it.
+ghost use Rattle.std.specs.Prelude.{◌≡◌, IfOk};
+ghost use Rattle.std.specs.Option.{option_copied};
+ghost use Rattle.psm_rules.specs.StatementFaults.{columns_fault, several, simple_fault};
+ghost use Rattle.psm_check.specs.InRoutine.{context};
 
 use crate::conditions::{diagnostics_fault, signalled_fault};
 use crate::cursors::{fetch_fault, opened_fault, positioned_fault};
@@ -56,7 +60,9 @@ pub(crate) fn simple_fault(
     simple: &Simple,
     c: Context,
     frames: &Frames,
-) -> Result<Option<Fault>, AllocError> {
+) -> Result<Option<Fault>, AllocError>
+    ensures { IfOk result (λ f. f ≡ simple_fault (context c.entry frames.now) simple.now) }
+{
     let view = View {
         world: c.world,
         frames,
@@ -282,7 +288,9 @@ pub(crate) fn columns_fault(
     alloc: Global,
     columns: Option<&Columns>,
     names: &Names,
-) -> Result<Option<Fault>, AllocError> {
+) -> Result<Option<Fault>, AllocError>
+    ensures { IfOk result (λ f. f ≡ columns_fault (option_copied columns.entry) (several names.now)) }
+{
     let mut repeats = Repeats::new(alloc, Rule::ColumnRepeated);
     repeats.add(&names.first)?;
     let mut fault = column_fault(columns, &names.first);

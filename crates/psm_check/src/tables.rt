@@ -1,4 +1,7 @@
 //! The first fault of a table.
+ghost use Rattle.std.specs.Prelude.{◌≡◌, ◌↔◌, IfOk, length};
+ghost use Rattle.psm_rules.specs.FileFaults.{columns_of, first_key, keys_of, table_elements, table_fault};
+ghost use Rattle.psm_check.specs.Keys.{key_names};
 
 use crate::exprs::expr_found;
 use crate::found::{as_condition, breaks, breaks_if};
@@ -23,7 +26,9 @@ use std::alloc::{AllocError, Global};
 pub(crate) fn columns_of<'a>(
     alloc: Global,
     table: &'a TableTree,
-) -> Result<Columns<'a>, AllocError> {
+) -> Result<Columns<'a>, AllocError>
+    ensures { IfOk result (λ cs. cs ≡ columns_of (table_elements table.now)) }
+{
     let mut columns = Names::new(alloc);
     push_column(&mut columns, &table.elements.first)?;
     for element in table.elements.rest.items() {
@@ -52,7 +57,10 @@ pub(crate) struct Keys<'a> {
 }
 
 /// The keys of a table.
-pub(crate) fn keys_of(table: &TableTree) -> Keys<'_> {
+pub(crate) fn keys_of(table: &TableTree) -> Keys<'_>
+    ensures count { (result.count ≡ 1) ↔ (length (keys_of (table_elements table.now)) ≡ 1) }
+    ensures first { key_names result.first ≡ first_key (keys_of (table_elements table.now)) }
+{
     let none = Keys {
         count: 0,
         first: Key::None,
@@ -148,7 +156,9 @@ fn is_stored(alloc: Global, kind: SqlType, value: &Datum) -> Result<bool, AllocE
 // ---- a table
 
 /// The first fault of a table.
-pub(crate) fn table_fault(alloc: Global, table: &TableTree) -> Result<Option<Fault>, AllocError> {
+pub(crate) fn table_fault(alloc: Global, table: &TableTree) -> Result<Option<Fault>, AllocError>
+    ensures { IfOk result (λ f. f ≡ table_fault table.now) }
+{
     let columns = columns_of(alloc, table)?;
     let world = World::new(alloc);
     let frames = Frames::new(alloc);

@@ -58,7 +58,7 @@ use Rattle.psm_rules.specs.StatementFaults.{Context, inside, found, several, rep
 use Rattle.psm_rules.specs.Types.{type_of}
 use Rattle.psm_scope.specs.declared.known.Variable.{Variable}
 use Rattle.psm_scope.specs.declared.known.DeclaredCondition.{DeclaredCondition}
-use Rattle.psm_rules.specs.View.{View, Cursor, Columns, on_row}
+use Rattle.psm_rules.specs.View.{View, World, Cursor, Columns, Frames, on_row}
 
 -- ---- declarations of variables and conditions
 
@@ -87,25 +87,25 @@ abbrev pub behind : Declares → Declaration → Declares
 behind d (declarations.Variables place names kind default) = record d { variables = all_declared d.variables (several names) (local_variable (type_of kind)) }
 behind d (declarations.Condition place name state) = record d { conditions = declared_once d.conditions name.name (record { number = 0; state = state_of state }) }
 
-abbrev pub default_fault : Context → Option SqlType → Option Expr → Option Fault
-default_fault c kind None = None
-default_fault c kind (Some e) = source_fault kind (found c e)
+abbrev pub default_fault : View → Option SqlType → Option Expr → Option Fault
+default_fault view kind None = None
+default_fault view kind (Some e) = source_fault kind (found view e)
 
 abbrev pub optional_state_fault : Option State → Option Fault
 optional_state_fault None = None
 optional_state_fault (Some s) = state_fault s
 
 -- A DEFAULT sees the variables of the declarations before its own.
-abbrev pub declaration_fault : Context → Declaration → Option Fault
-declaration_fault c (declarations.Variables place names kind default) = earlier (type_fault kind (type_of kind)) (default_fault c (type_of kind) default)
-declaration_fault c (declarations.Condition place name state) = optional_state_fault state
+abbrev pub declaration_fault : View → Declaration → Option Fault
+declaration_fault view (declarations.Variables place names kind default) = earlier (type_fault kind (type_of kind)) (default_fault view (type_of kind) default)
+declaration_fault view (declarations.Condition place name state) = optional_state_fault state
 
 abbrev pub compound : Option Spelling → Declares → Frame Variable DeclaredCondition Cursor
 compound label d = frame.Compound label d
 
 abbrev pub declarations_fault : Context → Option Spelling → Declares → List Declaration → List (Option Fault)
 declarations_fault c label d [] = []
-declarations_fault c label d (x ∷ xs) = declaration_fault (inside c (compound label d)) x ∷ declarations_fault c label (behind d x) xs
+declarations_fault c label d (x ∷ xs) = declaration_fault (inside c (compound label d)).view x ∷ declarations_fault c label (behind d x) xs
 
 abbrev pub declared_by : Declares → List Declaration → Declares
 declared_by d [] = d
@@ -138,9 +138,9 @@ abbrev pub order_of : Option (List Spelling) → Order → Option Fault
 order_of None order = None
 order_of (Some key) order = breaks_if (not (is_key_order key (several order.columns))) rule.OrderIsNotKey order.place
 
-abbrev pub order_fault : Context → Identifier → Option Order → Option Fault
-order_fault c table None = None
-order_fault c table (Some order) = order_of (named table.name c.view.world.keys) order
+abbrev pub order_fault : World → Identifier → Option Order → Option Fault
+order_fault world table None = None
+order_fault world table (Some order) = order_of (named table.name world.keys) order
 
 -- ---- cursors; no set function stands in one
 
@@ -152,20 +152,20 @@ is_updatable insensitive (Some updatability.Update) = not insensitive
 abbrev pub cursor_on : QueryFound → Bool → Bool → Cursor
 cursor_on q updatable of_for = record { table = q.table.name; updatable = updatable; of_for = of_for; items = option_map (map (λ i. i.shape)) (items_of q) }
 
-abbrev pub found_query : Context → OrderedQuery → QueryFound
-found_query c q = query_found q.query c.view
+abbrev pub found_query : View → OrderedQuery → QueryFound
+found_query view q = query_found q.query view
 
-abbrev pub cursor_fault : Context → CursorDeclaration → Option Fault
-cursor_fault c x = let q = found_query c x.query in
-    first_of (query_fault q ∷ misplaced_set true (first_set q.picks) ∷ order_fault c q.table x.query.order ∷ [])
+abbrev pub cursor_fault : View → CursorDeclaration → Option Fault
+cursor_fault view x = let q = found_query view x.query in
+    first_of (query_fault q ∷ misplaced_set true (first_set q.picks) ∷ order_fault view.world q.table x.query.order ∷ [])
 
 abbrev pub with_cursor : Context → Declares → CursorDeclaration → Declares
-with_cursor c d x = record d { cursors = declared_once d.cursors x.name.name (cursor_on (found_query c x.query) (is_updatable x.insensitive x.updatability) false) }
+with_cursor c d x = record d { cursors = declared_once d.cursors x.name.name (cursor_on (found_query c.view x.query) (is_updatable x.insensitive x.updatability) false) }
 
 -- each sees what stands before it
 abbrev pub cursors_fault : Context → Option Spelling → Declares → List CursorDeclaration → List (Option Fault)
 cursors_fault c label d [] = []
-cursors_fault c label d (x ∷ xs) = let seen = inside c (compound label d) in cursor_fault seen x ∷ cursors_fault c label (with_cursor seen d x) xs
+cursors_fault c label d (x ∷ xs) = let seen = inside c (compound label d) in cursor_fault seen.view x ∷ cursors_fault c label (with_cursor seen d x) xs
 
 abbrev pub with_cursors : Context → Option Spelling → Declares → List CursorDeclaration → Declares
 with_cursors c label d [] = d
@@ -211,12 +211,12 @@ abbrev pub named_value : Spelling → Option Spelling → Handles
 named_value n None = ByName n
 named_value n (Some s) = ByState s
 
-abbrev pub handles : Context → HandlerValue → Option Handles
-handles c (handled.State s) = option_map (λ s. ByState s) (good_state s.text)
-handles c (handled.Name n) = option_map (λ d. named_value n.name d.state) (declared_condition c n)
-handles c (handled.SqlException place) = Some Exceptions
-handles c (handled.SqlWarning place) = Some Warnings
-handles c (handled.NotFound place) = Some NoData
+abbrev pub handles : Frames → HandlerValue → Option Handles
+handles frames (handled.State s) = option_map (λ s. ByState s) (good_state s.text)
+handles frames (handled.Name n) = option_map (λ d. named_value n.name d.state) (declared_condition frames n)
+handles frames (handled.SqlException place) = Some Exceptions
+handles frames (handled.SqlWarning place) = Some Warnings
+handles frames (handled.NotFound place) = Some NoData
 
 abbrev pub value_place : HandlerValue → Place
 value_place (handled.State s) = s.place
@@ -225,12 +225,12 @@ value_place (handled.SqlException place) = place
 value_place (handled.SqlWarning place) = place
 value_place (handled.NotFound place) = place
 
-abbrev pub value_fault : Context → HandlerValue → Option Fault
-value_fault c (handled.State s) = state_fault s
-value_fault c (handled.Name n) = name_of_condition_fault c n
-value_fault c (handled.SqlException place) = None
-value_fault c (handled.SqlWarning place) = None
-value_fault c (handled.NotFound place) = None
+abbrev pub value_fault : Frames → HandlerValue → Option Fault
+value_fault frames (handled.State s) = state_fault s
+value_fault frames (handled.Name n) = name_of_condition_fault frames n
+value_fault frames (handled.SqlException place) = None
+value_fault frames (handled.SqlWarning place) = None
+value_fault frames (handled.NotFound place) = None
 
 abbrev pub is_among : Option Handles → List Handles → Bool
 is_among None before = false
@@ -241,10 +241,10 @@ more_values None before = before
 more_values (Some h) before = h ∷ before
 
 -- the values of all handlers of a block, in order: none stands twice
-abbrev pub values_fault : Context → List Handles → List HandlerValue → List (Option Fault)
-values_fault c before [] = []
-values_fault c before (v ∷ vs) = earlier (value_fault c v) (breaks_if (is_among (handles c v) before) rule.ConditionValueRepeated (value_place v))
-    ∷ values_fault c (more_values (handles c v) before) vs
+abbrev pub values_fault : Frames → List Handles → List HandlerValue → List (Option Fault)
+values_fault frames before [] = []
+values_fault frames before (v ∷ vs) = earlier (value_fault frames v) (breaks_if (is_among (handles frames v) before) rule.ConditionValueRepeated (value_place v))
+    ∷ values_fault frames (more_values (handles frames v) before) vs
 
 -- ---- FOR
 
@@ -339,9 +339,9 @@ for_items columns before (i ∷ others) = item_of_for before i ∷ for_items col
 abbrev pub items_in : View → Select → List ForItem
 items_in view select = let s = out-Select select in let on = on_row view (row_of view s.table s.alias) in map (for_item on) (several s.picks)
 
-abbrev pub for_fault : Context → QueryFound → List ForItem → Option Order → Option Fault
-for_fault c q items order = first_of (first_of (for_items (columns_known q.columns) [] items) ∷ misplaced_set true (first_set q.picks)
-    ∷ table_fault q.table q.columns ∷ test_fault q.test ∷ order_fault c q.table order ∷ [])
+abbrev pub for_fault : World → QueryFound → List ForItem → Option Order → Option Fault
+for_fault world q items order = first_of (first_of (for_items (columns_known q.columns) [] items) ∷ misplaced_set true (first_set q.picks)
+    ∷ table_fault q.table q.columns ∷ test_fault q.test ∷ order_fault world q.table order ∷ [])
 
 abbrev pub for_cursors : QueryFound → Option ForCursor → List (Spelling × Cursor)
 for_cursors q None = []
@@ -349,6 +349,13 @@ for_cursors q (Some cursor) = (cursor.name.name, cursor_on q (not cursor.insensi
 
 abbrev pub for_frame : Option Spelling → Identifier → QueryFound → List ForItem → Option ForCursor → Frame Variable DeclaredCondition Cursor
 for_frame label name q items cursor = frame.For label name.name (record { variables = for_variables (columns_known q.columns) [] items; conditions = []; cursors = for_cursors q cursor })
+
+-- the head of FOR, and the frame of its statements
+abbrev pub head_fault : View → ForHead → Option Fault
+head_fault view head = let q = found_query view head.query in for_fault view.world q (items_in view head.query.query) head.query.order
+
+abbrev pub head_frame : View → Option Spelling → ForHead → Frame Variable DeclaredCondition Cursor
+head_frame view label head = for_frame label head.name (found_query view head.query) (items_in view head.query.query) head.cursor
 
 -- ---- statements; the parts of a layer are their first faults where they stand
 
@@ -372,8 +379,8 @@ pub record HandlerPart : Type 0 where
 abbrev pub all : Context → List Part → Option Fault
 all c parts = first_of (map (λ p. p c) parts)
 
-abbrev pub test_part : Context → Expr → Option Fault
-test_part c e = (as_condition (found c e)).fault
+abbrev pub test_part : View → Expr → Option Fault
+test_part view e = (as_condition (found view e)).fault
 
 abbrev pub in_loop : Option Spelling → Context → Context
 in_loop label c = inside c (frame.Loop label)
@@ -401,17 +408,15 @@ compound_fault label c atomic xs cursors handlers statements =
     let whole = inside c (compound label (with_cursors c label d cursors)) in
     first_of (repeated rule.DeclarationRepeated (variable_names xs) ∷ repeated rule.DeclarationRepeated (condition_names xs)
     ∷ repeated rule.DeclarationRepeated (map (λ x. x.name) cursors) ∷ first_of (declarations_fault c label nothing xs)
-    ∷ first_of (cursors_fault c label d cursors) ∷ first_of (values_fault whole [] (all_values handlers))
+    ∷ first_of (cursors_fault c label d cursors) ∷ first_of (values_fault whole.view.frames [] (all_values handlers))
     ∷ first_of (handlers_fault whole atomic handlers) ∷ all whole statements ∷ [])
 
 abbrev pub block_layer : Block-F BlockPart Part BranchPart HandlerPart → BlockPart
 block_layer (layers.Compound place atomic xs cursors handlers statements) label c = compound_fault label c atomic xs cursors handlers statements
 block_layer (layers.Loop place statements) label c = all (in_loop label c) (several statements)
-block_layer (layers.While place test statements) label c = earlier (test_part c test) (all (in_loop label c) (several statements))
-block_layer (layers.Repeat place statements until) label c = earlier (all (in_loop label c) (several statements)) (test_part c until)
-block_layer (layers.For place head statements) label c = let q = found_query c head.query in
-    let items = items_in c.view head.query.query in
-    earlier (for_fault c q items head.query.order) (all (inside c (for_frame label head.name q items head.cursor)) (several statements))
+block_layer (layers.While place test statements) label c = earlier (test_part c.view test) (all (in_loop label c) (several statements))
+block_layer (layers.Repeat place statements until) label c = earlier (all (in_loop label c) (several statements)) (test_part c.view until)
+block_layer (layers.For place head statements) label c = earlier (head_fault c.view head) (all (inside c (head_frame c.view label head)) (several statements))
 
 -- a searched CASE or an IF: each test is a condition
 abbrev pub searched : Context → List BranchPart → List (Option Fault)
@@ -425,16 +430,16 @@ simple c operand (b ∷ bs) = earlier (simple_test operand (b c).0).fault (b c).
 
 abbrev pub case_branches : Context → Option Expr → List BranchPart → List (Option Fault)
 case_branches c None bs = searched c bs
-case_branches c (Some e) bs = let operand = as_value (found c e) in operand.fault ∷ simple c operand bs
+case_branches c (Some e) bs = let operand = as_value (found c.view e) in operand.fault ∷ simple c operand bs
 
 abbrev pub statement_layer : Statement-F BlockPart Part BranchPart HandlerPart → Part
-statement_layer (layers.Block label block) c = earlier (label_of c label) (block (label_name label) c)
+statement_layer (layers.Block label block) c = earlier (label_of c.view.frames label) (block (label_name label) c)
 statement_layer (layers.If place branches otherwise) c = earlier (first_of (searched c (several branches))) (all c otherwise)
 statement_layer (layers.Case place operand branches otherwise) c = earlier (first_of (case_branches c operand (several branches))) (all c otherwise)
 statement_layer (layers.Simple simple) c = simple_fault c simple
 
 abbrev pub branch_layer : Branch-F BlockPart Part BranchPart HandlerPart → BranchPart
-branch_layer branch c = (found c branch.test, all c (several branch.statements))
+branch_layer branch c = (found c.view branch.test, all c (several branch.statements))
 
 abbrev pub handler_layer : Handler-F BlockPart Part BranchPart HandlerPart → HandlerPart
 handler_layer h = record { values = several h.values; own = undo_fault h.«at» h.kind; action = h.action }

@@ -247,6 +247,9 @@ abbrev pub procedures_of : Procedures → List Routine → Procedures
 procedures_of ps [] = ps
 procedures_of ps (r ∷ rs) = procedures_of (with_procedure ps r) rs
 
+abbrev pub with_routines : World → List Routine → World
+with_routines world rs = record world { functions = functions_of world.functions rs; procedures = procedures_of world.procedures rs }
+
 -- ---- routines that can't be told apart
 
 -- the number of a kind
@@ -377,12 +380,7 @@ keys_from before (t ∷ ts) = keys_from (declared_once before t.name.name (first
 
 -- what the tables and the routines of a file declare, each table once; each routine is known in the whole module
 abbrev pub world_of : FileTree → World
-world_of f = record {
-  tables = tables_from [] f.tables;
-  keys = keys_from [] f.tables;
-  functions = functions_of (record { signatures = []; results = [] }) f.«module».routines;
-  procedures = procedures_of [] f.«module».routines;
-}
+world_of f = with_routines (record no_world { tables = tables_from [] f.tables; keys = keys_from [] f.tables }) f.«module».routines
 
 -- the first fault of a module file; without one the file is accepted
 abbrev pub file_fault : FileTree → Option Fault

@@ -82,7 +82,7 @@ use Rattle.psm_scope.specs.declared.procedures.ParameterScope.{ParameterScope}
 use Rattle.psm_scope.specs.declared.procedures.ParameterMode.{ParameterMode}
 use Rattle.psm_scope.specs.declared.procedures.ParameterMode.TheVariants.{In, Out, InOut}
 use Rattle.psm_rules.specs.declared.query.Item.{Item}
-use Rattle.psm_rules.specs.View.{View, Cursor, Columns, on_row, table_named}
+use Rattle.psm_rules.specs.View.{View, Cursor, Columns, Frames, on_row, table_named}
 
 -- ---- where a statement stands
 
@@ -95,8 +95,8 @@ pub record Context : Type 0 where
   pub view : View
   pub within : Within
 
-abbrev pub found : Context → Expr → Found
-found c e = expr_found e c.view
+abbrev pub found : View → Expr → Found
+found view e = expr_found e view
 
 -- with a frame more
 abbrev pub inside : Context → Frame Variable DeclaredCondition Cursor → Context
@@ -131,26 +131,26 @@ abbrev pub source_fault : Option SqlType → Found → Option Fault
 source_fault to f = let value = as_value f in earlier value.fault (mixed_at value.place (family_due to) value.shape)
 
 -- the variable that a target means
-abbrev pub variable_of : Context → Target → Option Variable
-variable_of c t = meant t.first.name (spelling t.second) c.view.frames
+abbrev pub variable_of : Frames → Target → Option Variable
+variable_of frames t = meant t.first.name (spelling t.second) frames
 
 -- what isn't known, or can't be assigned, is at fault and has no type
 abbrev pub target_fault_of : Place → Option Variable → Option Fault
 target_fault_of place None = breaks rule.UnknownName place
 target_fault_of place (Some v) = breaks_if (not v.assignable) rule.NotAssignable place
 
-abbrev pub target_fault : Context → Target → Option Fault
-target_fault c t = target_fault_of t.first.place (variable_of c t)
+abbrev pub target_fault : Frames → Target → Option Fault
+target_fault frames t = target_fault_of t.first.place (variable_of frames t)
 
 abbrev pub assigned_type : Option Variable → Option SqlType
 assigned_type None = None
 assigned_type (Some v) = if v.assignable then v.kind else None
 
-abbrev pub target_type : Context → Target → Option SqlType
-target_type c t = assigned_type (variable_of c t)
+abbrev pub target_type : Frames → Target → Option SqlType
+target_type frames t = assigned_type (variable_of frames t)
 
-abbrev pub targets_fault : Context → List Target → Option Fault
-targets_fault c ts = first_of (map (target_fault c) ts)
+abbrev pub targets_fault : Frames → List Target → Option Fault
+targets_fault frames ts = first_of (map (target_fault frames) ts)
 
 -- ---- conditions
 
@@ -170,22 +170,22 @@ good_state s = if is_bad_state s then None else Some s
 abbrev pub state_fault : State → Option Fault
 state_fault s = breaks_if (is_bad_state s.text) rule.BadSqlState s.«at»
 
-abbrev pub declared_condition : Context → Identifier → Option DeclaredCondition
-declared_condition c n = lookup.condition n.name c.view.frames
+abbrev pub declared_condition : Frames → Identifier → Option DeclaredCondition
+declared_condition frames n = lookup.condition n.name frames
 
-abbrev pub name_of_condition_fault : Context → Identifier → Option Fault
-name_of_condition_fault c n = breaks_if (not (is_some (declared_condition c n))) rule.UnknownCondition n.place
+abbrev pub name_of_condition_fault : Frames → Identifier → Option Fault
+name_of_condition_fault frames n = breaks_if (not (is_some (declared_condition frames n))) rule.UnknownCondition n.place
 
-abbrev pub condition_fault : Context → Condition → Option Fault
-condition_fault c (signals.Name n) = name_of_condition_fault c n
-condition_fault c (signals.State s) = state_fault s
+abbrev pub condition_fault : Frames → Condition → Option Fault
+condition_fault frames (signals.Name n) = name_of_condition_fault frames n
+condition_fault frames (signals.State s) = state_fault s
 
-abbrev pub message_fault : Context → Option Expr → Option Fault
-message_fault c None = None
-message_fault c (Some e) = (of_family Texts (as_value (found c e))).fault
+abbrev pub message_fault : View → Option Expr → Option Fault
+message_fault view None = None
+message_fault view (Some e) = (of_family Texts (as_value (found view e))).fault
 
-abbrev pub signalled_fault : Context → Signalled → Option Fault
-signalled_fault c s = earlier (condition_fault c s.condition) (message_fault c s.message)
+abbrev pub signalled_fault : View → Signalled → Option Fault
+signalled_fault view s = earlier (condition_fault view.frames s.condition) (message_fault view s.message)
 
 -- ---- diagnostics
 
@@ -208,21 +208,21 @@ is_same_family None f = true
 is_same_family (Some g) f = families.is_family g f
 
 -- an item for a target; where they don't fit the fault is at the item
-abbrev pub item_fault : Context → Target → Place → Family → Option Fault
-item_fault c t place family = earlier (target_fault c t) (breaks_if (not (is_same_family (family_due (target_type c t)) family)) rule.FamiliesMixed place)
+abbrev pub item_fault : Frames → Target → Place → Family → Option Fault
+item_fault frames t place family = earlier (target_fault frames t) (breaks_if (not (is_same_family (family_due (target_type frames t)) family)) rule.FamiliesMixed place)
 
 abbrev pub number_type_fault : Place → Option Variable → Option Fault
 number_type_fault place None = breaks rule.UnknownName place
 number_type_fault place (Some v) = breaks_if (not (is_same_family (family_due v.kind) Numbers)) rule.FamiliesMixed place
 
-abbrev pub number_fault : Context → ConditionNumber → Option Fault
-number_fault c (numbers.Number place n) = None
-number_fault c (numbers.Target t) = number_type_fault t.first.place (variable_of c t)
+abbrev pub number_fault : Frames → ConditionNumber → Option Fault
+number_fault frames (numbers.Number place n) = None
+number_fault frames (numbers.Target t) = number_type_fault t.first.place (variable_of frames t)
 
-abbrev pub diagnostics_fault : Context → Diagnostics → Option Fault
-diagnostics_fault c (diagnostics.Statement items) = first_of (map (λ i. item_fault c i.target i.place (statement_item_family i.item)) (several items))
-diagnostics_fault c (diagnostics.Condition number items) = earlier (number_fault c number)
-    (first_of (map (λ i. item_fault c i.target i.place (condition_item_family i.item)) (several items)))
+abbrev pub diagnostics_fault : Frames → Diagnostics → Option Fault
+diagnostics_fault frames (diagnostics.Statement items) = first_of (map (λ i. item_fault frames i.target i.place (statement_item_family i.item)) (several items))
+diagnostics_fault frames (diagnostics.Condition number items) = earlier (number_fault frames number)
+    (first_of (map (λ i. item_fault frames i.target i.place (condition_item_family i.item)) (several items)))
 
 -- ---- queries with their targets
 
@@ -240,8 +240,8 @@ items_into (Some items) kinds = first_of (pairs_fault items kinds)
 abbrev pub into_fault : QueryFound → Place → List (Option SqlType) → Option Fault
 into_fault q first kinds = if may_be (length kinds) (items_of q) then items_into (items_of q) kinds else breaks rule.CountsDiffer first
 
-abbrev pub select_into_fault : Context → QueryFound → Targets → Option Fault
-select_into_fault c q ts = first_of (query_fault q ∷ targets_fault c (several ts) ∷ into_fault q ts.first.first.place (map (target_type c) (several ts)) ∷ [])
+abbrev pub select_into_fault : View → QueryFound → Targets → Option Fault
+select_into_fault view q ts = first_of (query_fault q ∷ targets_fault view.frames (several ts) ∷ into_fault q ts.first.first.place (map (target_type view.frames) (several ts)) ∷ [])
 
 -- ---- tables
 
@@ -281,109 +281,109 @@ values_for place fs None = first_of (map (source_fault None) fs)
 values_for place fs (Some kinds) = if nat_eq (length kinds) (length fs) then first_of (sources_fault kinds fs)
     else earlier (breaks rule.CountsDiffer place) (first_of (map (λ f. f.fault) fs))
 
-abbrev pub row_fault : Context → Option (List (Option SqlType)) → Values → Option Fault
-row_fault c kinds row = values_for (found c row.values.first).place (map (found c) (several row.values)) kinds
+abbrev pub row_fault : View → Option (List (Option SqlType)) → Values → Option Fault
+row_fault view kinds row = values_for (found view row.values.first).place (map (found view) (several row.values)) kinds
 
 abbrev pub query_for : QueryFound → Option (List (Option SqlType)) → Option Fault
 query_for q None = query_fault q
 query_for q (Some kinds) = if may_be (length kinds) (items_of q) then earlier (query_fault q) (items_into (items_of q) kinds) else miscounted_fault q
 
-abbrev pub insert_source_fault : Context → Option (List (Option SqlType)) → InsertSource → Option Fault
-insert_source_fault c kinds (sources.Values rows) = first_of (map (row_fault c kinds) (several rows))
-insert_source_fault c kinds (sources.Query select) = query_for (query_found select c.view) kinds
+abbrev pub insert_source_fault : View → Option (List (Option SqlType)) → InsertSource → Option Fault
+insert_source_fault view kinds (sources.Values rows) = first_of (map (row_fault view kinds) (several rows))
+insert_source_fault view kinds (sources.Query select) = query_for (query_found select view) kinds
 
-abbrev pub insert_fault : Context → Identifier → Option Columns → Option Names → InsertSource → Option Fault
-insert_fault c table columns names source = first_of (table_fault table columns ∷ columns_fault columns (listed_columns names)
-    ∷ insert_source_fault c (inserted_types columns names) source ∷ [])
+abbrev pub insert_fault : View → Identifier → Option Columns → Option Names → InsertSource → Option Fault
+insert_fault view table columns names source = first_of (table_fault table columns ∷ columns_fault columns (listed_columns names)
+    ∷ insert_source_fault view (inserted_types columns names) source ∷ [])
 
 -- the view on a row of a table that a statement changes
-abbrev pub on_table : Context → Identifier → Option Columns → View
-on_table c table columns = on_row c.view (record { name = table.name; alias = None; columns = columns_known columns })
+abbrev pub on_table : View → Identifier → Option Columns → View
+on_table view table columns = on_row view (record { name = table.name; alias = None; columns = columns_known columns })
 
 abbrev pub assignment_fault : View → Columns → Assignment → Option Fault
 assignment_fault view columns a = source_fault (type_of_column columns a.column) (expr_found a.source view)
 
 -- ---- cursors
 
-abbrev pub cursor_of : Context → Identifier → Option Cursor
-cursor_of c n = lookup.cursor n.name c.view.frames
+abbrev pub cursor_of : Frames → Identifier → Option Cursor
+cursor_of frames n = lookup.cursor n.name frames
 
 -- a positioned statement needs a plain cursor over its table that isn't FOR READ ONLY
 abbrev pub positioned_fault : Identifier → Identifier → Option Cursor → Option Fault
 positioned_fault table n None = breaks rule.UnknownCursor n.place
 positioned_fault table n (Some cursor) = breaks_if (not (cursor.updatable && is_spelled table.name cursor.table)) rule.CursorNotUpdatable n.place
 
-abbrev pub where_fault : Context → View → Identifier → Option Where → Option Fault
-where_fault c view table None = None
-where_fault c view table (Some (wheres.Condition e)) = (as_condition (expr_found e view)).fault
-where_fault c view table (Some (wheres.Current n)) = positioned_fault table n (cursor_of c n)
+abbrev pub where_fault : View → Identifier → Option Columns → Option Where → Option Fault
+where_fault view table columns None = None
+where_fault view table columns (Some (wheres.Condition e)) = (as_condition (expr_found e (on_table view table columns))).fault
+where_fault view table columns (Some (wheres.Current n)) = positioned_fault table n (cursor_of view.frames n)
 
 abbrev pub opened_fault : Identifier → Option Cursor → Option Fault
 opened_fault n None = breaks rule.UnknownCursor n.place
 opened_fault n (Some cursor) = breaks_if cursor.of_for rule.CursorOfFor n.place
 
 -- FETCH: where an item doesn't go into its target the fault is at the target
-abbrev pub fetched_into : Context → List Target → List (Option Shape) → List (Option Fault)
-fetched_into c [] shapes = []
-fetched_into c (t ∷ ts) [] = []
-fetched_into c (t ∷ ts) (s ∷ shapes) = mixed_at t.first.place (family_due (target_type c t)) s ∷ fetched_into c ts shapes
+abbrev pub fetched_into : Frames → List Target → List (Option Shape) → List (Option Fault)
+fetched_into frames [] shapes = []
+fetched_into frames (t ∷ ts) [] = []
+fetched_into frames (t ∷ ts) (s ∷ shapes) = mixed_at t.first.place (family_due (target_type frames t)) s ∷ fetched_into frames ts shapes
 
-abbrev pub fetch_items : Context → Targets → Option (List (Option Shape)) → Option Fault
-fetch_items c ts None = None
-fetch_items c ts (Some shapes) = if nat_eq (length shapes) (length (several ts)) then first_of (fetched_into c (several ts) shapes)
+abbrev pub fetch_items : Frames → Targets → Option (List (Option Shape)) → Option Fault
+fetch_items frames ts None = None
+fetch_items frames ts (Some shapes) = if nat_eq (length shapes) (length (several ts)) then first_of (fetched_into frames (several ts) shapes)
     else breaks rule.CountsDiffer ts.first.first.place
 
-abbrev pub fetch_fault : Context → Targets → Option Cursor → Option Fault
-fetch_fault c ts None = None
-fetch_fault c ts (Some cursor) = if cursor.of_for then None else fetch_items c ts cursor.items
+abbrev pub fetch_fault : Frames → Targets → Option Cursor → Option Fault
+fetch_fault frames ts None = None
+fetch_fault frames ts (Some cursor) = if cursor.of_for then None else fetch_items frames ts cursor.items
 
 -- ---- CALL
 
 -- a variable or parameter that can be assigned, by itself
-abbrev pub is_target : Context → Expr → Bool
-is_target c (exprs.Name t) = is_assigned (variable_of c t)
+abbrev pub is_target : Frames → Expr → Bool
+is_target frames (exprs.Name t) = is_assigned (variable_of frames t)
   where
     is_assigned : Option Variable → Bool
     is_assigned None = true
     is_assigned (Some v) = v.assignable
-is_target c e = false
+is_target frames e = false
 
-abbrev pub is_passed : Context → ParameterMode → Expr → Bool
-is_passed c In e = true
-is_passed c Out e = is_target c e
-is_passed c InOut e = is_target c e
+abbrev pub is_passed : Frames → ParameterMode → Expr → Bool
+is_passed frames In e = true
+is_passed frames Out e = is_target frames e
+is_passed frames InOut e = is_target frames e
 
-abbrev pub argument_fault : Context → ParameterScope → Expr → Option Fault
-argument_fault c p e = if is_passed c p.mode e then source_fault p.kind (found c e) else earlier (breaks rule.NotAssignable (found c e).place) (found c e).fault
+abbrev pub argument_fault : View → ParameterScope → Expr → Option Fault
+argument_fault view p e = if is_passed view.frames p.mode e then source_fault p.kind (found view e) else earlier (breaks rule.NotAssignable (found view e).place) (found view e).fault
 
-abbrev pub arguments_fault : Context → List ParameterScope → List Expr → List (Option Fault)
-arguments_fault c [] es = []
-arguments_fault c (p ∷ ps) [] = []
-arguments_fault c (p ∷ ps) (e ∷ es) = argument_fault c p e ∷ arguments_fault c ps es
+abbrev pub arguments_fault : View → List ParameterScope → List Expr → List (Option Fault)
+arguments_fault view [] es = []
+arguments_fault view (p ∷ ps) [] = []
+arguments_fault view (p ∷ ps) (e ∷ es) = argument_fault view p e ∷ arguments_fault view ps es
 
-abbrev pub call_fault : Context → Identifier → List Expr → Option ProcedureScope → Option Fault
-call_fault c n es None = breaks rule.UnknownProcedure n.place
-call_fault c n es (Some p) = first_of (arguments_fault c p.parameters es)
+abbrev pub call_fault : View → Identifier → List Expr → Option ProcedureScope → Option Fault
+call_fault view n es None = breaks rule.UnknownProcedure n.place
+call_fault view n es (Some p) = first_of (arguments_fault view p.parameters es)
 
 -- ---- labels
 
-abbrev pub label_fault : Context → Identifier → Option Fault
-label_fault c l = breaks_if (not (is_some (named l.name (labels c.view.frames)))) rule.UnknownLabel l.place
+abbrev pub label_fault : Frames → Identifier → Option Fault
+label_fault frames l = breaks_if (not (is_some (named l.name (labels frames)))) rule.UnknownLabel l.place
 
 abbrev pub is_loop_label : Option Bool → Bool
 is_loop_label None = false
 is_loop_label (Some of_loop) = of_loop
 
-abbrev pub loop_label_fault : Context → Identifier → Option Fault
-loop_label_fault c l = breaks_if (not (is_loop_label (named l.name (labels c.view.frames)))) rule.UnknownLabel l.place
+abbrev pub loop_label_fault : Frames → Identifier → Option Fault
+loop_label_fault frames l = breaks_if (not (is_loop_label (named l.name (labels frames)))) rule.UnknownLabel l.place
 
 abbrev pub end_label_fault : Identifier → Option Identifier → Option Fault
 end_label_fault start None = None
 end_label_fault start (Some end) = breaks_if (not (is_spelled start.name end.name)) rule.EndLabelDiffers end.place
 
-abbrev pub label_of : Context → Option Label → Option Fault
-label_of c None = None
-label_of c (Some l) = earlier (breaks_if (is_some (named l.start.name (labels c.view.frames))) rule.LabelRepeated l.start.place) (end_label_fault l.start l.end)
+abbrev pub label_of : Frames → Option Label → Option Fault
+label_of frames None = None
+label_of frames (Some l) = earlier (breaks_if (is_some (named l.start.name (labels frames))) rule.LabelRepeated l.start.place) (end_label_fault l.start l.end)
 
 abbrev pub label_name : Option Label → Option Spelling
 label_name l = option_map (λ l. l.start.name) l
@@ -400,40 +400,40 @@ only_in_procedures c place = outside c.within place
 
 abbrev pub return_fault : Context → Within → Place → Expr → Option Fault
 return_fault c InProcedure place e = breaks rule.ReturnOutsideFunction place
-return_fault c (InFunction result) place e = source_fault result (found c e)
+return_fault c (InFunction result) place e = source_fault result (found c.view e)
 
-abbrev pub set_fault : Context → Target → Expr → Option Fault
-set_fault c t e = earlier (target_fault c t) (source_fault (target_type c t) (found c e))
+abbrev pub set_fault : View → Target → Expr → Option Fault
+set_fault view t e = earlier (target_fault view.frames t) (source_fault (target_type view.frames t) (found view e))
 
-abbrev pub update_fault : Context → Identifier → Option Columns → Several Assignment → Option Where → Option Fault
-update_fault c table columns assignments which = let view = on_table c table columns in
+abbrev pub update_fault : View → Identifier → Option Columns → Several Assignment → Option Where → Option Fault
+update_fault view table columns assignments which = let on = on_table view table columns in
     first_of (table_fault table columns ∷ columns_fault columns (map (λ a. a.column) (several assignments))
-    ∷ first_of (map (assignment_fault view (columns_known columns)) (several assignments)) ∷ where_fault c view table which ∷ [])
+    ∷ first_of (map (assignment_fault on (columns_known columns)) (several assignments)) ∷ where_fault view table columns which ∷ [])
 
-abbrev pub delete_fault : Context → Identifier → Option Columns → Option Where → Option Fault
-delete_fault c table columns which = earlier (table_fault table columns) (where_fault c (on_table c table columns) table which)
+abbrev pub delete_fault : View → Identifier → Option Columns → Option Where → Option Fault
+delete_fault view table columns which = earlier (table_fault table columns) (where_fault view table columns which)
 
-abbrev pub table_of : Context → Identifier → Option Columns
-table_of c table = table_named c.view table.name
+abbrev pub table_of : View → Identifier → Option Columns
+table_of view table = table_named view table.name
 
-abbrev pub resignal_fault : Context → Option Signalled → Option Fault
-resignal_fault c None = None
-resignal_fault c (Some s) = signalled_fault c s
+abbrev pub resignal_fault : View → Option Signalled → Option Fault
+resignal_fault view None = None
+resignal_fault view (Some s) = signalled_fault view s
 
 abbrev pub simple_fault : Context → Simple → Option Fault
-simple_fault c (simples.Set place target source) = set_fault c target source
+simple_fault c (simples.Set place target source) = set_fault c.view target source
 simple_fault c (simples.Call place procedure arguments) = earlier (only_in_procedures c place)
-    (call_fault c procedure arguments (routines.procedure procedure.name (length arguments) c.view.world.procedures))
+    (call_fault c.view procedure arguments (routines.procedure procedure.name (length arguments) c.view.world.procedures))
 simple_fault c (simples.Return place source) = return_fault c c.within place source
-simple_fault c (simples.Leave place label) = label_fault c label
-simple_fault c (simples.Iterate place label) = loop_label_fault c label
-simple_fault c (simples.Signal place signalled) = signalled_fault c signalled
-simple_fault c (simples.Resignal place signalled) = resignal_fault c signalled
-simple_fault c (simples.GetDiagnostics place which diagnostics) = diagnostics_fault c diagnostics
-simple_fault c (simples.SelectInto query targets) = select_into_fault c (query_found query c.view) targets
-simple_fault c (simples.Insert place table columns source) = earlier (only_in_procedures c place) (insert_fault c table (table_of c table) columns source)
-simple_fault c (simples.Update place table assignments which) = earlier (only_in_procedures c place) (update_fault c table (table_of c table) assignments which)
-simple_fault c (simples.Delete place table which) = earlier (only_in_procedures c place) (delete_fault c table (table_of c table) which)
-simple_fault c (simples.Open place cursor) = opened_fault cursor (cursor_of c cursor)
-simple_fault c (simples.Fetch place cursor targets) = first_of (opened_fault cursor (cursor_of c cursor) ∷ targets_fault c (several targets) ∷ fetch_fault c targets (cursor_of c cursor) ∷ [])
-simple_fault c (simples.Close place cursor) = opened_fault cursor (cursor_of c cursor)
+simple_fault c (simples.Leave place label) = label_fault c.view.frames label
+simple_fault c (simples.Iterate place label) = loop_label_fault c.view.frames label
+simple_fault c (simples.Signal place signalled) = signalled_fault c.view signalled
+simple_fault c (simples.Resignal place signalled) = resignal_fault c.view signalled
+simple_fault c (simples.GetDiagnostics place which diagnostics) = diagnostics_fault c.view.frames diagnostics
+simple_fault c (simples.SelectInto query targets) = select_into_fault c.view (query_found query c.view) targets
+simple_fault c (simples.Insert place table columns source) = earlier (only_in_procedures c place) (insert_fault c.view table (table_of c.view table) columns source)
+simple_fault c (simples.Update place table assignments which) = earlier (only_in_procedures c place) (update_fault c.view table (table_of c.view table) assignments which)
+simple_fault c (simples.Delete place table which) = earlier (only_in_procedures c place) (delete_fault c.view table (table_of c.view table) which)
+simple_fault c (simples.Open place cursor) = opened_fault cursor (cursor_of c.view.frames cursor)
+simple_fault c (simples.Fetch place cursor targets) = first_of (opened_fault cursor (cursor_of c.view.frames cursor) ∷ targets_fault c.view.frames (several targets) ∷ fetch_fault c.view.frames targets (cursor_of c.view.frames cursor) ∷ [])
+simple_fault c (simples.Close place cursor) = opened_fault cursor (cursor_of c.view.frames cursor)
