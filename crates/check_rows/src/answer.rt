@@ -21,10 +21,9 @@ pub fn answer(alloc: Global, text: &str) -> Result<String> {
         Ok(tree) => match file_fault(alloc, &tree)? {
             None => Ok(String::from_str(alloc, "accepted")?),
             Some(fault) => Ok(format!(in alloc;
-                "{}:{} {} {}",
+                "{}:{} {}",
                 fault.place.line,
                 fault.place.column,
-                fault.rule.code(),
                 fault.rule.text()
             )?),
         },

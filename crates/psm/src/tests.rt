@@ -204,6 +204,14 @@ fn a_module_file_without_a_built_tree_is_refused(rt: HostRuntime) -> Result<(), 
             "module 1:38 syntax fault\n",
         ),
         (&too_deep, "module 1:153 nested too deep\n"),
+        (
+            "CREATE MODULE m PROCEDURE p (OUT n INTEGER) SET k = 1; END MODULE",
+            "module 1:49 K21 unknown name\n",
+        ),
+        (
+            "CREATE TABLE t (a INTEGER); CREATE MODULE m PROCEDURE p (n INTEGER) SET n = 'x'; END MODULE",
+            "module 1:14 K04 not one primary key\n",
+        ),
         (&deepest, "module not built\n"),
         (
             "CREATE MODULE m\r\nPROCEDURE p (OUT n INTEGER) SET n = NULL; END MODULE",

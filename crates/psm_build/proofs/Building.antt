@@ -1,13 +1,14 @@
 -- What is answered for a file, from the answers of its steps.
-use Rattle.std.proofs.Common.{◌≡◌, ℕ, List, Result, Ok, Err, refl}
+use Rattle.std.proofs.Common.{◌≡◌, ℕ, List, Result, Ok, Err, refl, inl, inr}
 use Rattle.std.specs.Prelude.{IsOkUnless}
 use Rattle.psm_built.specs.declared.tree.Signature.{Signature}
 use Rattle.psm_built.specs.declared.tree.Script.{Script}
 use Rattle.psm_straight.specs.declared.code.Code.{Code}
 use Rattle.psm_tree.proofs.FileFits.{script_fit}
-use Rattle.psm_build.specs.Source.{module_files, scripts, IsScript, HasScript}
+use Rattle.psm_tree.specs.declared.file.FileTree.{FileTree}
+use Rattle.psm_build.specs.Source.{module_files, scripts, IsTreeOf, IsScript, HasScript}
 use Rattle.psm_build.specs.Program.{IsModuleFile, StandsFor, IsScriptOf}
-use Rattle.psm_build.specs.Building.{ReadsTree, Builds, BuildsScript, BuildsOver, GivesScript}
+use Rattle.psm_build.specs.Building.{ReadsTree, Accepts, Builds, BuildsScript, BuildsOver, GivesScript}
 use Rattle.psm_build.specs.declared.fault.BuildFault.{BuildFault}
 use Rattle.psm_build.specs.declared.fault.BuildFault.TheVariants.{Refused, NotBuilt, Memory}
 use Rattle.psm_build.proofs.Sources.{tree_excludes, built_excludes}
@@ -15,9 +16,15 @@ use Rattle.psm_build.proofs.Files.{module_exclusive, script_once, plays, fault_o
 
 -- a file without a tree
 pub module_without_tree : (bytes : List ℕ) (e : BuildFault) → ReadsTree module_files bytes (Err e) → Builds bytes (Err e)
-module_without_tree bytes (Refused line column fault) h = h
+module_without_tree bytes (Refused line column fault) h = inl h
 module_without_tree bytes NotBuilt h = absurd h
 module_without_tree bytes Memory h = tt
+
+-- a file whose tree has a fault
+pub module_with_fault : (bytes : List ℕ) (tree : FileTree) (e : BuildFault) → IsTreeOf module_files bytes tree → Accepts tree (Err e) → Builds bytes (Err e)
+module_with_fault bytes tree (Refused line column fault) is h = inr (record { tree = tree; tree_is = is; breaks = h })
+module_with_fault bytes tree NotBuilt is h = absurd h
+module_with_fault bytes tree Memory is h = tt
 
 pub script_without_tree : (signature : Signature) (bytes : List ℕ) (e : BuildFault) → ReadsTree scripts bytes (Err e) → BuildsScript signature bytes (Err e)
 script_without_tree signature bytes (Refused line column fault) h = h

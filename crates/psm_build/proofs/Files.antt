@@ -1,5 +1,5 @@
 -- The bytes of a file are at most one thing, and two files come to one session at most.
-use Rattle.std.proofs.Common.{◌≡◌, ℕ, List, sym, ap, ◌∙◌, subst}
+use Rattle.std.proofs.Common.{◌≡◌, ℕ, List, Option, Some, None, sym, ap, ◌∙◌, subst, inl, inr}
 use Rattle.psm_tree.proofs.FileFits.{file_fit, script_fit}
 use Rattle.psm_built.proofs.Once as built
 use Rattle.psm_built.specs.Built.{IsBuiltModule, IsBuiltScript}
@@ -9,9 +9,14 @@ use Rattle.psm_built.specs.declared.tree.Signature.{Signature}
 use Rattle.psm_built.specs.declared.tree.Script.{Script}
 use Rattle.psm_straight.specs.Played.{played}
 use Rattle.psm_straight.specs.declared.code.Code.{Code}
-use Rattle.psm_build.specs.Source.{scripts, IsFaultAt, IsUnbuilt, IsModule, HasModule, IsScript, HasScript}
+use Rattle.psm_rules.specs.FileFaults.{file_fault}
+use Rattle.psm_rules.specs.declared.fault.Fault.{Fault as RuleFault}
+use Rattle.psm_tree.specs.declared.file.FileTree.{FileTree}
+use Rattle.psm_build.specs.Told.{told_of_rule}
+use Rattle.psm_build.specs.Source.{module_files, scripts, IsTreeOf, IsFaultAt, IsRuleFault, IsAccepted, IsUnbuilt, IsModule, HasModule, IsScript, HasScript}
 use Rattle.psm_build.specs.Program.{IsModuleFile, IsModuleFault, IsModuleNotBuilt, IsScriptFile, IsScriptFault, IsScriptNotBuilt, ComesTo, StandsFor, IsScriptOf}
 use Rattle.psm_build.specs.declared.fault.Fault.{Fault}
+use Rattle.psm_build.specs.declared.fault.BuildFault.{BuildFault}
 use Rattle.psm_build.specs.declared.fault.BuildFault.TheVariants.{Refused}
 use Rattle.psm_build.proofs.Sources.{tree_once, tree_excludes, fault_once, built_excludes}
 
@@ -27,12 +32,46 @@ pub record Exclusive (IsFile : Type 0) (IsFault : ℕ → ℕ → Fault → Type
 pub module_once : (bytes : List ℕ) (m n : Module) → IsModule bytes m → IsModule bytes n → m ≡ n
 module_once bytes m n p q = built.module_once q.tree m n (subst (λ t. IsBuiltModule t m) (tree_once file_fit bytes p.tree q.tree p.tree_is q.tree_is) p.built) q.built
 
+some_none : (f : RuleFault) → ◌≡◌ {A = Option RuleFault} None (Some f) → ⊥
+some_none f e = cc
+
+fault_or : RuleFault → Option RuleFault → RuleFault
+fault_or f None = f
+fault_or f (Some g) = g
+
+same_fault : (f g : RuleFault) → Some f ≡ Some g → f ≡ g
+unfolding fault_or
+same_fault f g e = ap (fault_or f) e
+
+-- an accepted tree breaks no rule
+rule_excludes : (bytes : List ℕ) (tree : FileTree) (told : BuildFault) → IsTreeOf module_files bytes tree → IsAccepted tree → IsRuleFault bytes told → ⊥
+rule_excludes bytes tree told is accepted h =
+    some_none h.breaks.fault (sym (subst IsAccepted (tree_once file_fit bytes tree h.tree is h.tree_is) accepted) ∙ h.breaks.first)
+
+-- two broken rules are one
+rule_once : (bytes : List ℕ) (a b : BuildFault) → IsRuleFault bytes a → IsRuleFault bytes b → a ≡ b
+rule_once bytes a b h k =
+    let trees : h.tree ≡ k.tree = tree_once file_fit bytes h.tree k.tree h.tree_is k.tree_is in
+    let faults : h.breaks.fault ≡ k.breaks.fault = same_fault h.breaks.fault k.breaks.fault (sym h.breaks.first ∙ ap file_fault trees ∙ k.breaks.first) in
+    sym h.breaks.told_is ∙ ap told_of_rule faults ∙ k.breaks.told_is
+
+module_fault_once : (bytes : List ℕ) (l c l' c' : ℕ) (f f' : Fault) → IsModuleFault bytes l c f → IsModuleFault bytes l' c' f' → Refused l c f ≡ Refused l' c' f'
+module_fault_once bytes l c l' c' f f' (inl h) (inl k) = fault_once file_fit bytes l c l' c' f f' h k
+module_fault_once bytes l c l' c' f f' (inl h) (inr k) = absurd (tree_excludes file_fit bytes l c f k.tree k.tree_is h)
+module_fault_once bytes l c l' c' f f' (inr h) (inl k) = absurd (tree_excludes file_fit bytes l' c' f' h.tree h.tree_is k)
+module_fault_once bytes l c l' c' f f' (inr h) (inr k) = rule_once bytes (Refused l c f) (Refused l' c' f') h k
+
+-- a file with an accepted tree has no fault
+accepted_excludes : (bytes : List ℕ) (tree : FileTree) (l c : ℕ) (f : Fault) → IsTreeOf module_files bytes tree → IsAccepted tree → IsModuleFault bytes l c f → ⊥
+accepted_excludes bytes tree l c f is accepted (inl h) = tree_excludes file_fit bytes l c f tree is h
+accepted_excludes bytes tree l c f is accepted (inr h) = rule_excludes bytes tree (Refused l c f) is accepted h
+
 pub module_exclusive : (bytes : List ℕ) → Exclusive (IsModuleFile bytes) (IsModuleFault bytes) (IsModuleNotBuilt bytes)
 module_exclusive bytes = record {
-  file_or_fault = λ l c f p h. tree_excludes file_fit bytes l c f p.file.tree p.file.tree_is h;
-  file_or_not_built = λ p h. built_excludes file_fit bytes HasModule p.file.tree p.file.tree_is (p.tree, p.file.built) h;
-  fault_or_not_built = λ l c f p h. tree_excludes file_fit bytes l c f h.tree h.tree_is p;
-  one_fault = λ l c l' c' f f' p q. fault_once file_fit bytes l c l' c' f f' p q;
+  file_or_fault = λ l c f p h. accepted_excludes bytes p.file.tree l c f p.file.tree_is p.file.accepted h;
+  file_or_not_built = λ p h. built_excludes file_fit bytes HasModule p.file.tree p.file.tree_is (p.tree, p.file.built) h.unbuilt;
+  fault_or_not_built = λ l c f p h. accepted_excludes bytes h.unbuilt.tree l c f h.unbuilt.tree_is h.accepted p;
+  one_fault = λ l c l' c' f f' p q. module_fault_once bytes l c l' c' f f' p q;
 }
 
 -- ---- scripts

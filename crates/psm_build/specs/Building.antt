@@ -8,7 +8,8 @@ use Rattle.psm_built.specs.declared.tree.Signature.{Signature}
 use Rattle.psm_built.specs.declared.tree.Script.{Script}
 use Rattle.psm_straight.specs.Played.{played}
 use Rattle.psm_straight.specs.declared.code.Code.{Code}
-use Rattle.psm_build.specs.Source.{scripts, IsTreeOf, IsTokenFault, IsFaultAt, IsUnbuilt, IsScript, HasScript}
+use Rattle.psm_tree.specs.declared.file.FileTree.{FileTree}
+use Rattle.psm_build.specs.Source.{scripts, IsTreeOf, IsTokenFault, IsFaultAt, IsAccepted, BreaksRule, IsUnbuilt, IsScript, HasScript}
 use Rattle.psm_build.specs.Program.{IsModuleFault, IsModuleNotBuilt, IsScriptFault, IsScriptNotBuilt, ComesTo, StandsFor}
 use Rattle.psm_build.specs.declared.fault.BuildFault.{BuildFault}
 use Rattle.psm_build.specs.declared.fault.BuildFault.TheVariants.{Refused, NotBuilt, Memory}
@@ -28,6 +29,13 @@ ReadsTree L bytes (Ok tree) = IsTreeOf L bytes tree
 ReadsTree L bytes (Err (Refused line column fault)) = IsFaultAt L bytes line column fault
 ReadsTree L bytes (Err NotBuilt) = ⊥
 ReadsTree L bytes (Err Memory) = Unit {0}
+
+-- the tree is accepted, or its first fault
+abbrev pub Accepts : FileTree → Result (Unit {0}) BuildFault → Type 0
+Accepts tree (Ok u) = IsAccepted tree
+Accepts tree (Err (Refused line column fault)) = BreaksRule tree (Refused line column fault)
+Accepts tree (Err NotBuilt) = ⊥
+Accepts tree (Err Memory) = Unit {0}
 
 -- ---- the module
 

@@ -1,7 +1,8 @@
 -- What is said of a file that is refused.
 use Rattle.std.specs.Prelude.{ℕ, List, [], codes}
+use Rattle.psm_rules.specs.Texts as rules
 use Rattle.psm_build.specs.declared.fault.Fault.{Fault}
-use Rattle.psm_build.specs.declared.fault.Fault.TheVariants.{BadUtf8, BadChar, OpenText, OpenName, LongText, LongNumber, LongName, ManyTokens, Syntax, Deep}
+use Rattle.psm_build.specs.declared.fault.Fault.TheVariants.{BadUtf8, BadChar, OpenText, OpenName, LongText, LongNumber, LongName, ManyTokens, Syntax, Deep, Broken}
 use Rattle.psm_build.specs.declared.fault.BuildFault.{BuildFault}
 use Rattle.psm_build.specs.declared.fault.BuildFault.TheVariants.{Refused, NotBuilt, Memory}
 
@@ -17,6 +18,7 @@ text_of LongName = codes "name too long"
 text_of ManyTokens = codes "too many tokens"
 text_of Syntax = codes "syntax fault"
 text_of Deep = codes "nested too deep"
+text_of (Broken rule) = rules.text_of rule
 
 -- the same of a refusal for a fault
 abbrev pub refusal_text : BuildFault → List ℕ

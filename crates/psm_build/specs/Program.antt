@@ -1,13 +1,14 @@
 -- What the bytes of files are, and what two files come to. Above this crate nothing else is said of them.
-use Rattle.std.specs.Prelude.{◌≡◌, ℕ, List}
+use Rattle.std.specs.Prelude.{◌≡◌, ℕ, ◌⊎◌, List}
 use Rattle.psm_built.specs.Session.{Session, session}
 use Rattle.psm_built.specs.declared.tree.Module.{Module}
 use Rattle.psm_built.specs.declared.tree.Script.{Script}
 pub use Rattle.psm_built.specs.declared.tree.Script.{Script as ScriptCode}
 use Rattle.psm_straight.specs.Played.{played}
 pub use Rattle.psm_straight.specs.declared.code.Code.{Code}
-use Rattle.psm_build.specs.Source.{module_files, scripts, IsFaultAt, IsUnbuilt, IsModule, HasModule, IsScript, HasScript}
+use Rattle.psm_build.specs.Source.{module_files, scripts, IsFaultAt, IsRuleFault, IsUnbuilt, IsAccepted, IsModule, HasModule, IsScript, HasScript}
 use Rattle.psm_build.specs.declared.fault.Fault.{Fault}
+use Rattle.psm_build.specs.declared.fault.BuildFault.TheVariants.{Refused}
 
 -- ---- a module file
 
@@ -18,11 +19,12 @@ pub record IsModuleFile (bytes : List ℕ) : Type 0 where
 
 -- their first fault as a module file is that one, at that line and column
 abbrev pub IsModuleFault : List ℕ → ℕ → ℕ → Fault → Type 0
-IsModuleFault bytes line column fault = IsFaultAt module_files bytes line column fault
+IsModuleFault bytes line column fault = IsFaultAt module_files bytes line column fault ⊎ IsRuleFault bytes (Refused line column fault)
 
--- they are read as a module file, which isn't of the forms that run
-abbrev pub IsModuleNotBuilt : List ℕ → Type 0
-IsModuleNotBuilt bytes = IsUnbuilt module_files HasModule bytes
+-- they are read as a module file without a fault, which isn't of the forms that run
+pub record IsModuleNotBuilt (bytes : List ℕ) : Type 0 where
+  pub unbuilt : IsUnbuilt module_files HasModule bytes
+  pub accepted : IsAccepted unbuilt.tree
 
 -- ---- a script over the module file ms
 

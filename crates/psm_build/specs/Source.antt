@@ -1,5 +1,5 @@
 -- The trees of a file's bytes, and why the bytes have none.
-use Rattle.std.specs.Prelude.{◌≡◌, ℕ, ◌⊎◌, List, Ok, Err}
+use Rattle.std.specs.Prelude.{◌≡◌, ℕ, ◌⊎◌, List, Some, None, Ok, Err}
 use Rattle.psm_token.specs.declared.fault.LexFault.{LexFault}
 use Rattle.psm_token.specs.declared.token.Placed.{Placed}
 use Rattle.psm_token.specs.Listed.{Tokens}
@@ -12,11 +12,13 @@ use Rattle.psm_tree.specs.Reading.{ReadsAll}
 use Rattle.psm_tree.specs.declared.fault.ParseFault.{ParseFault}
 use Rattle.psm_tree.specs.declared.file.FileTree.{FileTree}
 use Rattle.psm_tree.specs.declared.script.ScriptTree.{ScriptTree}
+use Rattle.psm_rules.specs.FileFaults.{file_fault}
+use Rattle.psm_rules.specs.declared.fault.Fault.{Fault as RuleFault}
 use Rattle.psm_built.specs.Built.{IsBuiltModule, IsBuiltScript}
 use Rattle.psm_built.specs.declared.tree.Module.{Module}
 use Rattle.psm_built.specs.declared.tree.Signature.{Signature}
 use Rattle.psm_built.specs.declared.tree.Script.{Script}
-use Rattle.psm_build.specs.Told.{told_of_tokens, told_of_tree}
+use Rattle.psm_build.specs.Told.{told_of_rule, told_of_tokens, told_of_tree}
 use Rattle.psm_build.specs.declared.fault.Fault.{Fault}
 use Rattle.psm_build.specs.declared.fault.BuildFault.{BuildFault}
 use Rattle.psm_build.specs.declared.fault.BuildFault.TheVariants.{Refused}
@@ -58,12 +60,31 @@ pub record IsUnbuilt {Y : Type 0} (L : Lang Placed Y) (IsBuilt : Y → Type 0) (
   pub tree_is : IsTreeOf L bytes tree
   pub none : IsBuilt tree → ⊥
 
+-- ---- the rules of a module file
+
+-- the first fault of the tree is told so
+pub record BreaksRule (tree : FileTree) (told : BuildFault) : Type 0 where
+  pub fault : RuleFault
+  pub first : file_fault tree ≡ Some fault
+  pub told_is : told_of_rule fault ≡ told
+
+-- the bytes have a tree, whose first fault is told so
+pub record IsRuleFault (bytes : List ℕ) (told : BuildFault) : Type 0 where
+  pub tree : FileTree
+  pub tree_is : IsTreeOf module_files bytes tree
+  pub breaks : BreaksRule tree told
+
+-- no part of the tree has a fault
+abbrev pub IsAccepted : FileTree → Type 0
+IsAccepted tree = file_fault tree ≡ None
+
 -- ---- the forms that run
 
 -- the bytes are the file of that module
 pub record IsModule (bytes : List ℕ) (m : Module) : Type 0 where
   pub tree : FileTree
   pub tree_is : IsTreeOf module_files bytes tree
+  pub accepted : IsAccepted tree
   pub built : IsBuiltModule tree m
 
 abbrev pub HasModule : FileTree → Type 0

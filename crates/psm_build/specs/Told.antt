@@ -1,9 +1,10 @@
--- How faults of the tokens and of the tree are told of a file.
+-- How faults of the tokens, of the tree and of its parts are told of a file.
 use Rattle.psm_token.specs.declared.fault.LexFault.{LexFault}
 use Rattle.psm_token.specs.declared.fault.LexFault.TheVariants as lex
 use Rattle.psm_token.specs.declared.place.Place.{Place}
 use Rattle.psm_tree.specs.declared.fault.ParseFault.{ParseFault}
 use Rattle.psm_tree.specs.declared.fault.ParseFault.TheVariants as parse
+use Rattle.psm_rules.specs.declared.fault.Fault.{Fault as RuleFault}
 use Rattle.psm_build.specs.declared.fault.Fault.{Fault}
 use Rattle.psm_build.specs.declared.fault.Fault.TheVariants as faults
 use Rattle.psm_build.specs.declared.fault.BuildFault.{BuildFault}
@@ -28,3 +29,6 @@ abbrev pub told_of_tree : ParseFault → BuildFault
 told_of_tree (parse.Syntax p) = told_at p faults.Syntax
 told_of_tree (parse.Deep p) = told_at p faults.Deep
 told_of_tree parse.Memory = Memory
+
+abbrev pub told_of_rule : RuleFault → BuildFault
+told_of_rule fault = told_at fault.place (faults.Broken fault.rule)

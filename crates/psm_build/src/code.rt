@@ -2,21 +2,24 @@
 ghost use Rattle.std.specs.Prelude.{◌<◌, ℕ, List as Seq, length, IsOkUnless};
 ghost use Rattle.psm_built.specs.declared.tree.Script.{Script as TheScript};
 ghost use Rattle.psm_build.specs.Program.{IsModuleFile, StandsFor, IsScriptOf};
-ghost use Rattle.psm_build.specs.Building.{Builds, BuildsScript, BuildsOver, GivesScript};
+ghost use Rattle.psm_build.specs.Building.{Accepts, Builds, BuildsScript, BuildsOver, GivesScript};
 
-use crate::fault::BuildFault;
+use crate::fault::{BuildFault, refused_rule};
 use crate::read::{module_tree, script_tree};
 use psm_built::{Script, Signature, built_module, built_script};
+use psm_check::file_fault;
 use psm_straight::{Code, lower};
+use psm_tree::FileTree;
 use std::alloc::Global;
 
 /// The code of a module file (ISO/IEC 9075-4:1996, module definitions), on which every script plays as the
 /// session over the file's module.
 ///
 /// # Errors
-/// `Refused` exactly where the bytes are no tokens or spell no module file, with the first fault: that of the
-/// tokens, the place where they stop to spell a module file, or the token that opens level 101 of nesting.
-/// `NotBuilt` exactly where they spell a module file that isn't of the forms that run. `Memory`.
+/// `Refused` exactly where the bytes are no tokens, spell no module file or one with a fault, with the first fault: that
+/// of the tokens, the place where they stop to spell a module file, the token that opens level 101 of nesting, or the
+/// earliest part that breaks a rule. `NotBuilt` exactly where they spell a module file without a fault that isn't of the
+/// forms that run. `Memory`.
 #[tactic(auto, using(crate::proofs::Building::module_given))]
 pub fn build(alloc: Global, bytes: &[u8]) -> Result<Code, BuildFault>
     requires { length bytes.now < 4294967295 }
@@ -34,6 +37,7 @@ fn code_of(alloc: Global, bytes: &[u8]) -> Result<Code, BuildFault>
     ensures { Builds bytes.now result }
 {
     let tree = module_tree(alloc, bytes)?;
+    accept(alloc, &tree)?;
     let built = match built_module(alloc, &tree) {
         Ok(Some(built)) => built,
         Ok(None) => return Err(BuildFault::NotBuilt),
@@ -41,6 +45,17 @@ fn code_of(alloc: Global, bytes: &[u8]) -> Result<Code, BuildFault>
     };
     match lower(alloc, built) {
         Ok(code) => Ok(code),
+        Err(_) => Err(BuildFault::Memory),
+    }
+}
+
+/// The first fault of a module file, if it has one.
+fn accept(alloc: Global, tree: &FileTree) -> Result<(), BuildFault>
+    ensures { Accepts tree.now result }
+{
+    match file_fault(alloc, tree) {
+        Ok(None) => Ok(()),
+        Ok(Some(fault)) => Err(refused_rule(fault)),
         Err(_) => Err(BuildFault::Memory),
     }
 }

@@ -3,13 +3,15 @@ ghost use Rattle.std.specs.Prelude.{◌≡◌};
 ghost use Rattle.psm_token.specs.FaultTexts as tokens;
 ghost use Rattle.psm_tree.specs.FaultTexts as trees;
 ghost use Rattle.psm_build.specs.FaultTexts.{text_of, refusal_text};
-ghost use Rattle.psm_build.specs.Told.{told_at, told_of_tokens, told_of_tree};
+ghost use Rattle.psm_build.specs.Told.{told_at, told_of_rule, told_of_tokens, told_of_tree};
 
+use psm_rules::{Fault as RuleFault, Rule};
 use psm_token::{LexFault, Place};
 use psm_tree::ParseFault;
 
-/// What is wrong with a file at a place: the first fault of its tokens, or that of the tree that they spell
-/// (ISO/IEC 9075:1992, 5.2, and ISO/IEC 9075-4:1996, module definitions).
+/// What is wrong with a file at a place: the first fault of its tokens, that of the tree that they spell, or of a
+/// module file the first rule that a part of the tree breaks (ISO/IEC 9075:1992, 5.2 and 11.3, and
+/// ISO/IEC 9075-4:1996, module definitions).
 #[derive(Clone, Copy, Debug, PartialEq, Eq)]
 pub enum Fault {
     /// A byte that is part of no character.
@@ -32,6 +34,8 @@ pub enum Fault {
     Syntax,
     /// A token that opens level 101 of nesting.
     Deep,
+    /// A part that breaks a rule of the language.
+    Broken(Rule),
 }
 
 /// Why there is no code, or no script.
@@ -65,6 +69,7 @@ impl Fault {
             Fault::ManyTokens => "too many tokens",
             Fault::Syntax => "syntax fault",
             Fault::Deep => "nested too deep",
+            Fault::Broken(rule) => rule.text(),
         }
     }
 
@@ -108,4 +113,11 @@ pub(crate) fn refused_tree(fault: ParseFault) -> BuildFault
         ParseFault::Deep(place) => Fault::Deep.at(place),
         ParseFault::Memory => BuildFault::Memory,
     }
+}
+
+/// The refusal of a module file with a part that breaks a rule.
+pub(crate) fn refused_rule(fault: RuleFault) -> BuildFault
+    ensures { result ≡ told_of_rule fault }
+{
+    Fault::Broken(fault.rule).at(fault.place)
 }

@@ -1,8 +1,13 @@
 use Rattle.std.proofs.lemmas.Result.{err_from_is_err_and}
-use Rattle.psm_build.proofs.Building.{module_without_tree}
+use Rattle.psm_build.proofs.Building.{module_without_tree, module_with_fault}
 use Rattle.psm_build.proofs.code.code_of.Goals as goal
 
 pub returns-in_err-tree : goal.returns-in_err-tree
 returns-in_err-tree c =
     let p = err_from_is_err_and c.from_residual.result c.from_residual.ensures.1 in
     rw (p.1, p.2) (module_without_tree _ _ c.in_err-tree.ensures)
+
+pub returns-in_err-accept : goal.returns-in_err-accept
+returns-in_err-accept c =
+    let p = err_from_is_err_and c.from_residual-2.result c.from_residual-2.ensures.1 in
+    rw (p.1, p.2) (module_with_fault _ _ _ c.in_ok-tree.ensures c.in_err-accept.ensures)
