@@ -1,10 +1,7 @@
 //! What is printed of a row.
 
 use anyhow::{Result, bail};
-use psm_check::file_fault;
-use psm_parse_file::parse_file;
-use psm_token::tokens;
-use psm_tree::ParseFault;
+use psm_build::{BuildFault, build};
 use std::alloc::Global;
 
 /// The first fault of a module file, or that it is accepted.
@@ -13,22 +10,16 @@ pub fn answer(alloc: Global, text: &str) -> Result<String> {
     if bytes.len() >= 4_294_967_295 {
         bail!("too long");
     }
-    let list = match tokens(alloc, bytes.as_slice()) {
-        Ok(list) => list,
-        Err(_) => return Ok(String::from_str(alloc, "no tokens")?),
-    };
-    match parse_file(alloc, &list) {
-        Ok(tree) => match file_fault(alloc, &tree)? {
-            None => Ok(String::from_str(alloc, "accepted")?),
-            Some(fault) => Ok(format!(in alloc;
-                "{}:{} {}",
-                fault.place.line,
-                fault.place.column,
-                fault.rule.text()
-            )?),
-        },
-        Err(ParseFault::Memory) => bail!("no memory"),
-        Err(fault) => Ok(format!(in alloc; "no tree: {}", fault.text())?),
+    match build(alloc, bytes.as_slice()) {
+        Ok(_) | Err(BuildFault::NotBuilt) => Ok(String::from_str(alloc, "accepted")?),
+        Err(
+            BuildFault::Refused {
+                line,
+                column,
+                fault,
+            },
+        ) => Ok(format!(in alloc; "{line}:{column} {}", fault.text())?),
+        Err(BuildFault::Memory) => bail!("no memory"),
     }
 }
 
