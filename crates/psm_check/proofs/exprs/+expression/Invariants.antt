@@ -31,7 +31,7 @@ invariant-simple_found-loop-when l =
     × (l.results.items ++ map (λ w. as_value w.1) (seen (seen_in_view l.view) (map when_found (drop l.when-index l.when-items)))
     ≡ map (λ w. as_value w.1) (seen_in (seen_in_view l.view) (several_map when_found l.whens)))
 
-abbrev pub invariant-picks_found-loop-pick : goal.invariant-query_found-loop-pick
+abbrev pub invariant-picks_found-loop-pick : goal.invariant-picks_found-loop-pick
 invariant-picks_found-loop-pick l =
     map pick_of l.picks.items ++ seen (seen_in_view l.view) (map pick_found (drop l.pick-index l.pick-items))
     ≡ seen_in (seen_in_view l.view) (several_map pick_found l.list)
