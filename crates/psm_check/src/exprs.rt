@@ -118,13 +118,11 @@ pub(crate) fn expr_found(alloc: Global, e: &Expr, view: View) -> Result<Found, A
             operand,
             whens,
             otherwise,
-        } => match operand {
-            None => searched_found(alloc, whens, otherwise, view, *place),
-            Some(operand) => {
-                let found = expr_found(alloc, operand.get(), view)?;
-                simple_found(alloc, whens, otherwise, view, *place, found)
-            }
-        },
+        } => {
+            let first = optional_found(alloc, operand, view)?;
+            let last = optional_found(alloc, otherwise, view)?;
+            case_found(alloc, whens, view, *place, first, last)
+        }
         Expr::Cast { place, source, to } => {
             let found = expr_found(alloc, source.get(), view)?;
             Ok(cast_found(*place, found, to))
@@ -238,21 +236,8 @@ fn push_several(
     ensures { IfOk result (λ _. values.new.items ≡ values.old.items ++ map as_value (seen_in (seen_in_view view.entry) (several_map expr_found list.now))) }
 {
     push_value(alloc, list.first.get(), view, values)?;
-    push_values(alloc, &list.rest, view, values)
-}
-
-#[cycle(expression)]
-fn push_conditions(
-    alloc: Global,
-    list: &List<Boxed<Expr>>,
-    view: View,
-    conditions: &mut Vec<Found>,
-) -> Result<(), AllocError>
-    ensures { IfOk result (λ _. conditions.new.items ≡ conditions.old.items ++ map as_condition (seen (seen_in_view view.entry) (map expr_found list.now))) }
-{
-    for e in list.items() {
-        let found = expr_found(alloc, e.get(), view)?;
-        conditions.push(as_condition(found))?;
+    for e in list.rest.items() {
+        push_value(alloc, e.get(), view, values)?;
     }
     Ok(())
 }
@@ -268,7 +253,10 @@ fn junction_found(
     let first = expr_found(alloc, operands.first.get(), view)?;
     let mut conditions = Vec::new(alloc);
     conditions.push(as_condition(first))?;
-    push_conditions(alloc, &operands.rest, view, &mut conditions)?;
+    for e in operands.rest.items() {
+        let found = expr_found(alloc, e.get(), view)?;
+        conditions.push(as_condition(found))?;
+    }
     Ok(junction_of(first.place, conditions.as_slice()))
 }
 
@@ -366,16 +354,46 @@ fn kind_of(shape: Shape) -> ArgKind
 
 // ---- CASE
 
+// CASE, with what is found in its operand and behind ELSE.
+#[cycle(expression)]
+fn case_found(
+    alloc: Global,
+    whens: &OneOrMore<Boxed<When>>,
+    view: View,
+    place: Place,
+    operand: Option<Found>,
+    otherwise: Option<Found>,
+) -> Result<Found, AllocError>
+    ensures { IfOk result (λ f. f ≡ case_found place operand (seen_in (seen_in_view view.entry) (several_map when_found whens.now)) otherwise) }
+{
+    match operand {
+        None => searched_found(alloc, whens, view, place, otherwise),
+        Some(operand) => simple_found(alloc, whens, view, place, operand, otherwise),
+    }
+}
+
+fn push_else(otherwise: Option<Found>, results: &mut Vec<Found>) -> Result<(), AllocError>
+    ensures { IfOk result (λ _. results.new.items ≡ results.old.items ++ else_of otherwise) }
+{
+    match otherwise {
+        None => Ok(()),
+        Some(found) => {
+            results.push(as_value(found))?;
+            Ok(())
+        }
+    }
+}
+
 #[cycle(expression)]
 #[tactic(auto, using(crate::proofs::Equations::found_when))]
 fn searched_found(
     alloc: Global,
     whens: &OneOrMore<Boxed<When>>,
-    otherwise: &Option<Boxed<Expr>>,
     view: View,
     place: Place,
+    otherwise: Option<Found>,
 ) -> Result<Found, AllocError>
-    ensures { IfOk result (λ f. f ≡ case_found place None (seen_in (seen_in_view view.entry) (several_map when_found whens.now)) (seen_option (seen_in_view view.entry) (option_map expr_found otherwise.now))) }
+    ensures { IfOk result (λ f. f ≡ case_found place None (seen_in (seen_in_view view.entry) (several_map when_found whens.now)) otherwise) }
 {
     let mut tests = Vec::new(alloc);
     let mut results = Vec::new(alloc);
@@ -383,7 +401,7 @@ fn searched_found(
     for when in whens.rest.items() {
         push_searched(alloc, when.get(), view, &mut tests, &mut results)?;
     }
-    push_optional(alloc, otherwise, view, &mut results)?;
+    push_else(otherwise, &mut results)?;
     Ok(case_of(place, tests.as_slice(), results.as_slice()))
 }
 
@@ -410,12 +428,12 @@ fn push_searched(
 fn simple_found(
     alloc: Global,
     whens: &OneOrMore<Boxed<When>>,
-    otherwise: &Option<Boxed<Expr>>,
     view: View,
     place: Place,
     operand: Found,
+    otherwise: Option<Found>,
 ) -> Result<Found, AllocError>
-    ensures { IfOk result (λ f. f ≡ case_found place (Some operand) (seen_in (seen_in_view view.entry) (several_map when_found whens.now)) (seen_option (seen_in_view view.entry) (option_map expr_found otherwise.now))) }
+    ensures { IfOk result (λ f. f ≡ case_found place (Some operand) (seen_in (seen_in_view view.entry) (several_map when_found whens.now)) otherwise) }
 {
     let value = as_value(operand);
     let mut tests = Vec::new(alloc);
@@ -426,7 +444,7 @@ fn simple_found(
     for when in whens.rest.items() {
         push_simple(alloc, when.get(), view, value, &mut tests, &mut results)?;
     }
-    push_optional(alloc, otherwise, view, &mut results)?;
+    push_else(otherwise, &mut results)?;
     Ok(case_of(place, tests.as_slice(), results.as_slice()))
 }
 

@@ -1,7 +1,7 @@
 //! The first fault of a query, and its items.
 ghost use Rattle.std.specs.Prelude.{◌≡◌, ◌++◌, IfOk, None, Some, map, option_map, if◌then◌else◌};
 ghost use Rattle.std.specs.Option.{option_copied};
-ghost use Rattle.psm_rules.specs.ExprFaults.{column_item, columns_known, counted_fault, first_set, is_set, item_of, items_fault, items_of, items_of_pick, joined_items, may_be, miscounted_fault, misplaced_set, only_shape, other_faults, parts_fault, pick_item, query_fault, set_argument, set_found, set_result, set_shape, sets_fault, spelling, table_fault, test_fault, without_fault};
+ghost use Rattle.psm_rules.specs.ExprFaults.{column_item, columns_known, counted_fault, first_set, is_set, item_of, items_fault, items_in, items_of, items_of_pick, joined_items, may_be, miscounted_fault, misplaced_set, only_shape, other_faults, parts_fault, pick_item, query_fault, set_argument, set_found, set_result, set_shape, sets_fault, spelling, table_fault, test_fault, without_fault};
 ghost use Rattle.psm_rules.specs.Shapes.{typed};
 ghost use Rattle.psm_rules.specs.declared.shape.Shape.TheVariants.{Condition, Value};
 ghost use Rattle.std.specs.List.{list_all};
@@ -261,14 +261,25 @@ impl<'q, 'v, 'a> QueryFound<'q, 'v, 'a> {
     pub(crate) fn items(&self, alloc: Global) -> Result<Option<List<Item>>, AllocError>
         ensures { IfOk result (λ items. items ≡ items_of self.now) }
     {
-        let mut items = Vec::new(alloc);
-        for pick in &self.picks {
-            if !push_items(self.columns, *pick, &mut items)? {
-                return Ok(None);
-            }
-        }
-        Ok(Some(List::of(items)))
+        items_in(alloc, self.columns, self.picks.as_slice())
     }
+}
+
+// The items of some picks.
+fn items_in(
+    alloc: Global,
+    columns: Option<&Columns>,
+    picks: &[PickFound],
+) -> Result<Option<List<Item>>, AllocError>
+    ensures { IfOk result (λ items. items ≡ items_in (option_copied columns.entry) (map pick_of picks.now)) }
+{
+    let mut items = Vec::new(alloc);
+    for pick in picks {
+        if !push_items(columns, *pick, &mut items)? {
+            return Ok(None);
+        }
+    }
+    Ok(Some(List::of(items)))
 }
 
 // The items of a pick, or `false` where they aren't known.
