@@ -1,4 +1,4 @@
-use Rattle.std.proofs.Common.{◌≡◌, ◌∙◌, None, Some, ap, not, sym}
+use Rattle.std.proofs.Common.{◌∙◌, None, Some, ap, not, sym}
 use Rattle.psm_rules.specs.declared.rule.Rule.TheVariants.{OrderIsNotKey}
 use Rattle.psm_rules.specs.BlockFaults.{order_fault}
 use Rattle.psm_rules.specs.Faults.{breaks_if}

@@ -1,4 +1,4 @@
-use Rattle.std.proofs.Common.{◌≡◌, drop, length, map}
+use Rattle.std.proofs.Common.{◌≡◌, drop, map}
 use Rattle.psm_rules.specs.BlockFaults.{same_names}
 use Rattle.psm_check.proofs.cursors.same_names.Given as goal
 
