@@ -1,8 +1,12 @@
 //! Cursors, and the order of a query.
-ghost use Rattle.std.specs.Prelude.{◌≡◌, IfOk, false};
+ghost use Rattle.std.specs.Prelude.{◌≡◌, ◌||◌, ◌∷◌, [], IfOk, Some, false, map, not, true};
+ghost use Rattle.std.specs.List.{list_all};
 ghost use Rattle.std.specs.Option.{option_copied};
-ghost use Rattle.psm_rules.specs.BlockFaults.{cursor_fault, cursor_on, found_query, is_updatable, order_fault};
-ghost use Rattle.psm_rules.specs.StatementFaults.{fetch_fault, opened_fault, positioned_fault};
+ghost use Rattle.psm_rules.specs.BlockFaults.{cursor_fault, cursor_on, found_query, is_key_order, is_updatable, order_fault, same_names};
+ghost use Rattle.psm_rules.specs.ExprFaults.{first_set, misplaced_set, query_fault};
+ghost use Rattle.psm_rules.specs.Faults.{first_of};
+ghost use Rattle.psm_rules.specs.StatementFaults.{family_due, fetch_fault, fetch_items, fetched_into, mixed_at, opened_fault, positioned_fault, several, target_type};
+ghost use Rattle.psm_check.specs.Keys.{key_names};
 ghost use Rattle.psm_check.specs.Seen.{seen_in_view};
 
 use crate::exprs::query_found;
@@ -12,19 +16,15 @@ use crate::queries::{QueryFound, first_set, misplaced_set};
 use crate::sources::{family_due, mixed_at, target_type};
 use crate::view::{View, same_name};
 use crate::world::{Key, World};
-use psm_list::List;
+use psm_list::{List, OneOrMore};
 use psm_rules::{Fault, Rule, Shape, earlier};
-use psm_tree::{CursorDeclaration, Identifier, Order, Targets, Updatability};
+use psm_tree::{CursorDeclaration, Identifier, Order, OrderColumn, Target, Targets, Updatability};
 use std::alloc::{AllocError, Global};
 
 // ---- the order of a query: exactly the key, all upwards or all downwards
 
 /// An order of other columns than those of the key.
-pub(crate) fn order_fault(
-    world: &World,
-    table: &Identifier,
-    order: &Option<Order>,
-) -> Option<Fault>
+pub(crate) fn order_fault(world: &World, table: &Identifier, order: &Option<Order>) -> Option<Fault>
     ensures { result ≡ order_fault world.now table.now order.now }
 {
     match order {
@@ -36,56 +36,88 @@ pub(crate) fn order_fault(
     }
 }
 
-fn is_key_order(key: Key, order: &Order) -> bool {
-    is_one_way(order) && has_columns(key, order)
+fn is_key_order(key: Key, order: &Order) -> bool
+    ensures { result ≡ is_key_order (key_names key.entry) (several order.now.columns) }
+{
+    has_columns(key, &order.columns) && is_one_way(&order.columns)
 }
 
-fn is_one_way(order: &Order) -> bool {
-    let descending = order.columns.first.descending;
-    order
-        .columns
-        .rest
-        .items()
-        .iter()
-        .all(|c| c.descending == descending)
+#[tactic(auto, using(crate::proofs::Orders::one_way))]
+fn is_one_way(columns: &OneOrMore<OrderColumn>) -> bool
+    ensures { result ≡ (list_all (λ c. c.descending) (several columns.now) || list_all (λ c. not c.descending) (several columns.now)) }
+{
+    if columns.first.descending {
+        are_descending(columns.rest.items())
+    } else {
+        are_ascending(columns.rest.items())
+    }
 }
 
-fn has_columns(key: Key, order: &Order) -> bool {
-    let first = &order.columns.first.column;
-    let rest = order.columns.rest.items();
+fn are_descending(columns: &[OrderColumn]) -> bool
+    ensures { result ≡ list_all (λ c. c.descending) columns.now }
+{
+    for c in columns {
+        if !c.descending {
+            return false;
+        }
+    }
+    true
+}
+
+fn are_ascending(columns: &[OrderColumn]) -> bool
+    ensures { result ≡ list_all (λ c. not c.descending) columns.now }
+{
+    for c in columns {
+        if c.descending {
+            return false;
+        }
+    }
+    true
+}
+
+fn has_columns(key: Key, columns: &OneOrMore<OrderColumn>) -> bool
+    ensures { result ≡ same_names (key_names key.entry) (map (λ c. c.column.name) (several columns.now)) }
+{
+    let first = &columns.first.column.name;
+    let rest = columns.rest.items();
     match key {
         Key::None => false,
-        Key::Column(column) => rest.is_empty() && same_name(&column.name, &first.name),
+        Key::Column(column) => same_name(&column.name, first) && rest.is_empty(),
         Key::Rule(names) => {
-            if !same_name(&names.first.name, &first.name) {
-                return false;
-            }
-            let others = names.rest.items();
-            if others.len() != rest.len() {
-                return false;
-            }
-            others
-                .iter()
-                .zip(rest)
-                .all(|(name, c)| same_name(&name.name, &c.column.name))
+            same_name(&names.first.name, first) && same_names(names.rest.items(), rest)
         }
     }
 }
 
+#[tactic(auto, using(crate::proofs::Orders::names_differ))]
+fn same_names(names: &[Identifier], columns: &[OrderColumn]) -> bool
+    ensures { result ≡ same_names (map (λ n. n.name) names.now) (map (λ c. c.column.name) columns.now) }
+{
+    if names.len() != columns.len() {
+        return false;
+    }
+    for number in 0..names.len() {
+        if !same_name(&names[number].name, &columns[number].column.name) {
+            return false;
+        }
+    }
+    true
+}
+
 // ---- declarations
 
-/// The first fault of a cursor's declaration: no set function stands in one.
-pub(crate) fn cursor_fault(
-    world: &World,
-    query: &QueryFound,
-    order: &Option<Order>,
-) -> Option<Fault> {
+// The first fault of a cursor's declaration: no set function stands in one.
+fn cursor_fault(world: &World, query: &QueryFound, order: &Option<Order>) -> Option<Fault>
+    ensures { result ≡ first_of (query_fault query.now ∷ misplaced_set true (first_set query.now.picks) ∷ order_fault world.now query.now.table order.now ∷ []) }
+{
     let sets = misplaced_set(true, first_set(query.picks.as_slice()));
     let order = order_fault(world, query.table, order);
     earlier(earlier(query.fault(), sets), order)
 }
 
-fn is_updatable(declared: &CursorDeclaration) -> bool {
+fn is_updatable(declared: &CursorDeclaration) -> bool
+    ensures { result ≡ is_updatable declared.now.insensitive declared.now.updatability }
+{
     match declared.updatability {
         None | Some(Updatability::Update) => !declared.insensitive,
         Some(Updatability::ReadOnly) => false,
@@ -188,20 +220,44 @@ pub(crate) fn fetch_fault(
     }
 }
 
-fn fetched_fault(frames: &Frames, targets: &Targets, shapes: &[Option<Shape>]) -> Option<Fault> {
+fn fetched_fault(frames: &Frames, targets: &Targets, shapes: &[Option<Shape>]) -> Option<Fault>
+    ensures { result ≡ fetch_items frames.now targets.now (Some shapes.now) }
+{
     let others = targets.rest.items();
-    let (first, rest) = match shapes {
-        [first, rest @ ..] => (*first, rest),
-        [] => return breaks(Rule::CountsDiffer, targets.first.place()),
-    };
-    if rest.len() != others.len() {
-        return breaks(Rule::CountsDiffer, targets.first.place());
+    match shapes.split_first() {
+        None => breaks(Rule::CountsDiffer, targets.first.place()),
+        Some((first, rest)) => {
+            if rest.len() == others.len() {
+                let fault = fetched_into(frames, &targets.first, *first);
+                earlier(fault, all_fetched_into(frames, others, rest))
+            } else {
+                breaks(Rule::CountsDiffer, targets.first.place())
+            }
+        }
     }
-    let due = family_due(target_type(frames, &targets.first));
-    let mut fault = mixed_at(targets.first.place(), due, first);
-    for (target, shape) in others.iter().zip(rest) {
-        let due = family_due(target_type(frames, target));
-        fault = earlier(fault, mixed_at(target.place(), due, *shape));
+}
+
+// Where an item doesn't go into its target the fault is at the target.
+fn fetched_into(frames: &Frames, target: &Target, shape: Option<Shape>) -> Option<Fault>
+    ensures { result ≡ mixed_at target.now.first.place (family_due (target_type frames.now target.now)) shape }
+{
+    mixed_at(
+        target.place(),
+        family_due(target_type(frames, target)),
+        shape,
+    )
+}
+
+#[tactic(auto, using(crate::proofs::Pairs::no_fetched))]
+fn all_fetched_into(frames: &Frames, targets: &[Target], shapes: &[Option<Shape>]) -> Option<Fault>
+    ensures { result ≡ first_of (fetched_into frames.now targets.now shapes.now) }
+{
+    let mut fault = None;
+    for number in 0..targets.len().min(shapes.len()) {
+        fault = earlier(
+            fault,
+            fetched_into(frames, &targets[number], shapes[number]),
+        );
     }
     fault
 }

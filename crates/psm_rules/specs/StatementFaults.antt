@@ -391,12 +391,9 @@ label_name l = option_map (λ l. l.start.name) l
 -- ---- statements without statements
 
 -- not in a function
-abbrev pub only_in_procedures : Context → Place → Option Fault
-only_in_procedures c place = outside c.within place
-  where
-    outside : Within → Place → Option Fault
-    outside InProcedure place = None
-    outside (InFunction result) place = breaks rule.NotAllowedInFunction place
+abbrev pub only_in_procedures : Within → Place → Option Fault
+only_in_procedures InProcedure place = None
+only_in_procedures (InFunction result) place = breaks rule.NotAllowedInFunction place
 
 abbrev pub return_fault : Context → Within → Place → Expr → Option Fault
 return_fault c InProcedure place e = breaks rule.ReturnOutsideFunction place
@@ -422,7 +419,7 @@ resignal_fault view (Some s) = signalled_fault view s
 
 abbrev pub simple_fault : Context → Simple → Option Fault
 simple_fault c (simples.Set place target source) = set_fault c.view target source
-simple_fault c (simples.Call place procedure arguments) = earlier (only_in_procedures c place)
+simple_fault c (simples.Call place procedure arguments) = earlier (only_in_procedures c.within place)
     (call_fault c.view procedure arguments (routines.procedure procedure.name (length arguments) c.view.world.procedures))
 simple_fault c (simples.Return place source) = return_fault c c.within place source
 simple_fault c (simples.Leave place label) = label_fault c.view.frames label
@@ -431,9 +428,9 @@ simple_fault c (simples.Signal place signalled) = signalled_fault c.view signall
 simple_fault c (simples.Resignal place signalled) = resignal_fault c.view signalled
 simple_fault c (simples.GetDiagnostics place which diagnostics) = diagnostics_fault c.view.frames diagnostics
 simple_fault c (simples.SelectInto query targets) = select_into_fault c.view (query_found query c.view) targets
-simple_fault c (simples.Insert place table columns source) = earlier (only_in_procedures c place) (insert_fault c.view table (table_of c.view table) columns source)
-simple_fault c (simples.Update place table assignments which) = earlier (only_in_procedures c place) (update_fault c.view table (table_of c.view table) assignments which)
-simple_fault c (simples.Delete place table which) = earlier (only_in_procedures c place) (delete_fault c.view table (table_of c.view table) which)
+simple_fault c (simples.Insert place table columns source) = earlier (only_in_procedures c.within place) (insert_fault c.view table (table_of c.view table) columns source)
+simple_fault c (simples.Update place table assignments which) = earlier (only_in_procedures c.within place) (update_fault c.view table (table_of c.view table) assignments which)
+simple_fault c (simples.Delete place table which) = earlier (only_in_procedures c.within place) (delete_fault c.view table (table_of c.view table) which)
 simple_fault c (simples.Open place cursor) = opened_fault cursor (cursor_of c.view.frames cursor)
 simple_fault c (simples.Fetch place cursor targets) = first_of (opened_fault cursor (cursor_of c.view.frames cursor) ∷ targets_fault c.view.frames (several targets) ∷ fetch_fault c.view.frames targets (cursor_of c.view.frames cursor) ∷ [])
 simple_fault c (simples.Close place cursor) = opened_fault cursor (cursor_of c.view.frames cursor)
