@@ -1,2 +1,4 @@
 pub mod Equations
 pub mod Items
+pub mod NamesSoFar
+pub mod Walks

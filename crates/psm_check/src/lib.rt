@@ -8,6 +8,7 @@ mod exprs;
 mod files;
 mod found;
 mod known;
+mod logged;
 mod loops;
 mod operators;
 mod queries;

@@ -4,10 +4,12 @@ ghost use Rattle.psm_rules.specs.StatementFaults.{repeated};
 ghost use Rattle.psm_check.specs.Listed.{with_names};
 
 use crate::found::breaks_if;
+use crate::logged::NameLog;
 use psm_rules::{Fault, Rule, earlier};
 use psm_scope::Names;
 use psm_tree::Identifier;
 use std::alloc::{AllocError, Global};
+use std::marker::Model;
 
 /// Names in order: the first that stands before is a fault.
 #[derive(Drop)]
@@ -15,6 +17,19 @@ pub(crate) struct Repeats<'a> {
     seen: Names<'a, ()>,
     rule: Rule,
     fault: Option<Fault>,
+    log: NameLog,
+}
+
+impl<'a> Model for Repeats<'a> {
+    ghost use Rattle.std.specs.Prelude.{◌≡◌};
+    ghost use Rattle.psm_rules.specs.StatementFaults.{repeated};
+    ghost use Rattle.psm_check.specs.Listed.{AreSeen, Listed};
+
+    ghost Value = { Listed };
+
+    ghost view = { λ r. record { rule = r.rule; names = r.log.names } };
+
+    ghost invariant = { λ r. (r.fault ≡ repeated r.rule r.log.names) × AreSeen r.seen r.log.names };
 }
 
 impl<'a> Repeats<'a> {
@@ -26,6 +41,7 @@ impl<'a> Repeats<'a> {
             seen: Names::new(alloc),
             rule,
             fault: None,
+            log: NameLog::new(),
         }
     }
 
@@ -35,6 +51,7 @@ impl<'a> Repeats<'a> {
     {
         let added = self.seen.add(&name.name, ())?;
         self.fault = earlier(self.fault, breaks_if(!added, self.rule, name.place));
+        self.log = self.log.and(name);
         Ok(())
     }
 
