@@ -1,25 +1,23 @@
 -- The layers of items and of names, and frames with the variables of items.
-use Rattle.std.proofs.Common.{◌≡◌, ℕ, ◌<◌, ◌+◌, suc, Bool, true, false, not, List, [], ◌∷◌, ◌++◌, length, get_or, drop, Option, Some, None, map, option_map, refl, ap, sym, ◌∙◌, add-one, zero, arith}
+use Rattle.std.proofs.Common.{◌≡◌, ℕ, ◌<◌, ◌+◌, suc, true, List, [], ◌∷◌, length, get_or, drop, Option, Some, None, map, option_map, refl, ap, sym, ◌∙◌, add-one, zero, arith}
 use Rattle.std.specs.Prelude.{slice_get}
 use Rattle.psm_scope.proofs.Calls.{dropped}
 use Rattle.psm_value.specs.declared.sqltype.SqlType.{SqlType}
-use Rattle.psm_scope.specs.Frames.{Spelling, For, undeclared}
+use Rattle.psm_scope.specs.Frames.{Spelling}
 use Rattle.psm_scope.specs.Scopes.{can_declare_here, declared_here, redeclared}
 use Rattle.psm_scope.specs.declared.known.Variable.{Variable}
 use Rattle.psm_tree.specs.declared.expr.Expr.TheVariants as exprs
 use Rattle.psm_tree.specs.declared.expr.Pick.TheVariants as picked
-use Rattle.psm_tree.specs.declared.name.Identifier.{Identifier}
-use Rattle.psm_tree.specs.declared.statement.ForCursor.{ForCursor}
 use Rattle.psm_scope.specs.Lookup.{RowTable}
 use Rattle.psm_tree.specs.declared.expr.Pick.{Pick}
 use Rattle.psm_tree.specs.declared.expr.Select.{Select, out-Select}
-use Rattle.psm_rules.specs.View.{Columns, Cursor, Frames, View, on_row, table_named}
+use Rattle.psm_rules.specs.View.{Columns, Frames, View, on_row, table_named}
 use Rattle.psm_rules.specs.StatementFaults.{several}
 use Rattle.psm_rules.specs.ExprFaults.{QueryFound, columns_known, pick_found, query_found, row_of, seen, spelling}
-use Rattle.psm_rules.specs.BlockFaults.{ForItem, cursor_on, declared_once, for_frame, for_variables, local_variable, with_columns, with_variable}
-use Rattle.psm_check.specs.ForItems.{variables_here, with_for_cursor, with_variables_here}
+use Rattle.psm_rules.specs.BlockFaults.{declared_once, local_variable, with_columns, with_variable}
+use Rattle.psm_check.specs.ForItems.{variables_here, with_variables_here}
 use Rattle.psm_check.proofs.Equations.{found_query}
-use Rattle.psm_check.proofs.Innermost.{can_still, declared_again, declared_now, declared_the_same}
+use Rattle.psm_check.proofs.Innermost.{declared_again, declared_now}
 
 pub ruleset pick_layers = (picked.outs-All, picked.outs-Expr, picked.outs-CountRows, picked.outs-Aggregate)
 
@@ -43,7 +41,7 @@ picked_at f g xs y ys others k x z e o lt p q =
 
 -- ---- a column
 
-pub column_at : (columns : Columns) (k : ℕ) (name : Spelling) (kind : Option SqlType)
+column_at : (columns : Columns) (k : ℕ) (name : Spelling) (kind : Option SqlType)
     → option_map (λ p. p.0) (slice_get columns k) ≡ Some name → option_map (λ p. p.1) (slice_get columns k) ≡ Some kind → drop k columns ≡ (name, kind) ∷ drop (k + 1) columns
 column_at columns k name kind n t = rw add-one (dropped columns (name, kind) k (both (slice_get columns k) n t))
   where
@@ -53,11 +51,8 @@ column_at columns k name kind n t = rw add-one (dropped columns (name, kind) k (
 
 -- ---- what is found in the query
 
-pub found_columns : (select : Select) (view : View) → (query_found select view).columns ≡ table_named view (out-Select select).table.name
+found_columns : (select : Select) (view : View) → (query_found select view).columns ≡ table_named view (out-Select select).table.name
 found_columns select view = ap (λ q. q.columns) (found_query select view)
-
-pub found_table : (select : Select) (view : View) → (query_found select view).table ≡ (out-Select select).table
-found_table select view = ap (λ q. q.table) (found_query select view)
 
 -- on the rows of its table
 abbrev pub inside : Select → View → View
@@ -82,11 +77,8 @@ found_inside select view on q row e r o =
 
 -- ---- the variables of the innermost frame
 
-pub same_variables : (frames : Frames) → with_variables_here frames (variables_here frames) ≡ frames
-same_variables frames = declared_the_same frames
-
 -- more variables on frames that have other ones
-pub variables_again : (frames : Frames) (vs : List (Spelling × Variable)) (more : List (Spelling × Variable) → List (Spelling × Variable)) → can_declare_here frames ≡ true
+variables_again : (frames : Frames) (vs : List (Spelling × Variable)) (more : List (Spelling × Variable) → List (Spelling × Variable)) → can_declare_here frames ≡ true
     → with_variables_here (with_variables_here frames vs) (more (variables_here (with_variables_here frames vs))) ≡ with_variables_here frames (more vs)
 variables_again frames vs more h =
     let d = record (declared_here frames) { variables = vs } in
@@ -102,11 +94,3 @@ columns_next start frames new columns k name kind can n t e so_far =
     ∙ variables_again frames (declared_once (variables_here frames) name (local_variable kind)) (λ vs. with_columns vs (drop (k + 1) columns)) can
     ∙ ap (λ l. with_variables_here frames (with_columns (variables_here frames) l)) (sym (column_at columns k name kind n t))
     ∙ so_far
-
--- ---- the frame of FOR
-
-pub for_framed : (label : Option Spelling) (name : Identifier) (outer : Frames) (q : QueryFound) (items : List ForItem) (cursor : Option ForCursor)
-    → with_for_cursor (with_variables_here (For label name.name undeclared ∷ outer) (for_variables (columns_known q.columns) [] items)) cursor (option_map (λ f. cursor_on q (not f.insensitive) true) cursor)
-    ≡ for_frame label name q items cursor ∷ outer
-for_framed label name outer q items None = refl
-for_framed label name outer q items (Some cursor) = refl

@@ -1,5 +1,5 @@
 -- What the handlers of a block handle behind more values.
-use Rattle.std.proofs.Common.{◌≡◌, ℕ, ◌<◌, ◌≤◌, ◌+◌, Bool, true, false, not, ◌||◌, nat_eq, List, [], ◌∷◌, ◌++◌, Option, Some, None, is_some, Result, Ok, Err, map, length, take, get_or, refl, sym, ap, subst, ◌∙◌}
+use Rattle.std.proofs.Common.{◌≡◌, ℕ, ◌<◌, ◌≤◌, ◌+◌, Bool, true, false, not, ◌||◌, List, [], ◌∷◌, ◌++◌, Option, Some, None, is_some, Ok, map, length, take, get_or, refl, sym, ap, subst, ◌∙◌}
 use Rattle.std.specs.Prelude.{if◌then◌else◌}
 use Rattle.std.proofs.lemmas.List.{map-append, take_all, take_more}
 use Rattle.std.specs.List.{list_any}
@@ -112,36 +112,6 @@ notes_name old new n false before k x w d a b = record {
     noted Warnings = w
     noted NoData = d
 
-pub notes_exceptions : (old : Handled) → Notes Exceptions old (record old { exceptions = true }) old.exceptions
-notes_exceptions old = record { answer = refl; noted = noted }
-  where
-    noted : (h : Handles) → is_handled (record old { exceptions = true }) h ≡ (same_value h Exceptions || is_handled old h)
-    noted (ByState t) = refl
-    noted (ByName m) = refl
-    noted Exceptions = refl
-    noted Warnings = refl
-    noted NoData = refl
-
-pub notes_warnings : (old : Handled) → Notes Warnings old (record old { warnings = true }) old.warnings
-notes_warnings old = record { answer = refl; noted = noted }
-  where
-    noted : (h : Handles) → is_handled (record old { warnings = true }) h ≡ (same_value h Warnings || is_handled old h)
-    noted (ByState t) = refl
-    noted (ByName m) = refl
-    noted Exceptions = refl
-    noted Warnings = refl
-    noted NoData = refl
-
-pub notes_no_data : (old : Handled) → Notes NoData old (record old { no_data = true }) old.no_data
-notes_no_data old = record { answer = refl; noted = noted }
-  where
-    noted : (h : Handles) → is_handled (record old { no_data = true }) h ≡ (same_value h NoData || is_handled old h)
-    noted (ByState t) = refl
-    noted (ByName m) = refl
-    noted Exceptions = refl
-    noted Warnings = refl
-    noted NoData = refl
-
 -- ---- some values, and others behind them
 
 values_join : (frames : Frames) (before : List Handles) (xs ys : List HandlerValue) → values_fault frames before (xs ++ ys) ≡ values_fault frames before xs ++ values_fault frames (values_after frames before xs) ys
@@ -153,7 +123,7 @@ after_join : (frames : Frames) (before : List Handles) (xs ys : List HandlerValu
 after_join frames before [] ys = refl
 after_join frames before (x ∷ xs) ys = after_join frames (more_values (handles frames x) before) xs ys
 
-pub finds_more : (frames : Frames) (xs ys : List HandlerValue) (old mid new : Handled) (f g : Option Fault) → FindsIn frames xs old mid f → FindsIn frames ys mid new g → FindsIn frames (xs ++ ys) old new (earlier f g)
+finds_more : (frames : Frames) (xs ys : List HandlerValue) (old mid new : Handled) (f g : Option Fault) → FindsIn frames xs old mid f → FindsIn frames ys mid new g → FindsIn frames (xs ++ ys) old new (earlier f g)
 finds_more frames xs ys old mid new f g first second before are =
     let now = values_after frames before xs in
     let a = first before are in
@@ -175,12 +145,9 @@ finds_one frames v old new own repeated b o n r before are =
       k.1,
     )
 
-pub finds_none : (frames : Frames) (old : Handled) → FindsIn frames [] old old None
-finds_none frames old before are = (refl, are)
-
 -- ---- the values of handlers
 
-pub values_last : (hs : List HandlerPart) (h : HandlerPart) → all_values (hs ++ h ∷ []) ≡ all_values hs ++ h.values
+values_last : (hs : List HandlerPart) (h : HandlerPart) → all_values (hs ++ h ∷ []) ≡ all_values hs ++ h.values
 values_last [] h = by h.values
   where
     by : (vs : List HandlerValue) → vs ++ [] ≡ vs

@@ -1,11 +1,10 @@
 -- What stands declared in the innermost frame behind a declaration.
-use Rattle.std.proofs.Common.{◌≡◌, Bool, true, false, not, true≢false, List, [], ◌∷◌, ◌++◌, Option, Some, None, Result, Ok, Err, is_some, drop, refl, sym, ap, ◌∙◌}
-use Rattle.std.specs.Prelude.{IfOk, IsSome, IsTrue, if◌then◌else◌}
+use Rattle.std.proofs.Common.{◌≡◌, Bool, true, false, not, true≢false, List, [], ◌∷◌, ◌++◌, Option, Result, Ok, Err, is_some, drop, refl, sym, ap, ◌∙◌}
+use Rattle.std.specs.Prelude.{IfOk, if◌then◌else◌}
 use Rattle.std.specs.declared.alloc.AllocError.{AllocError}
-use Rattle.psm_value.specs.declared.sqltype.SqlType.{SqlType}
-use Rattle.psm_scope.specs.Frames.{Spelling, Declared, Frame, Routine, Compound, Loop, For, Action}
+use Rattle.psm_scope.specs.Frames.{Spelling, Declared, Routine, Compound, Loop, For, Action}
 use Rattle.psm_scope.specs.Lookup.{named}
-use Rattle.psm_scope.specs.Scopes.{Declares, Part, can_declare_here, declared_here, redeclared, the_conditions, the_cursors, the_variables}
+use Rattle.psm_scope.specs.Scopes.{Declares, Part, can_declare_here, declared_here, redeclared}
 use Rattle.psm_scope.specs.declared.known.Variable.{Variable}
 use Rattle.psm_scope.specs.declared.known.DeclaredCondition.{DeclaredCondition}
 use Rattle.psm_tree.specs.declared.name.Identifier.{Identifier}

@@ -1,5 +1,5 @@
 -- The first fault of each kind of statement and of block, by its layer.
-use Rattle.std.proofs.Common.{◌≡◌, Bool, List, Option, Some, None, map, option_map, refl, ap}
+use Rattle.std.proofs.Common.{◌≡◌, Bool, List, Option, map, ap}
 use denote.Hole.Carrier
 use Rattle.psm_list.specs.Several.{Several, several_map}
 use Rattle.psm_token.specs.declared.place.Place.{Place}

@@ -1,5 +1,5 @@
 //! The first fault of a statement with statements in it.
-ghost use Rattle.std.specs.Prelude.{◌≡◌, ◌∷◌, IfOk, map, option_map};
+ghost use Rattle.std.specs.Prelude.{◌≡◌, ◌∷◌, IfOk, map};
 ghost use Rattle.std.specs.Option.{option_copied};
 ghost use Rattle.psm_list.specs.Several.{several_map};
 ghost use Rattle.psm_rules.specs.Faults.{earlier, first_of};

@@ -65,8 +65,9 @@ pub(crate) fn for_fault<'w, 'a>(
 struct HeadFound<'a> {
     items: List<ForItem<'a>>,
     cursor: Option<CheckedCursor<'a>>,
-    /// The faults of the query beside those of the items, and of its order.
+    /// The faults of the query beside those of the items.
     others: Option<Fault>,
+    /// An order of other columns than those of the key.
     order: Option<Fault>,
 }
 

@@ -1,4 +1,4 @@
-use Rattle.std.proofs.Common.{◌≡◌, ap, map, ◌∙◌}
+use Rattle.std.proofs.Common.{ap, map, ◌∙◌}
 use Rattle.psm_tree.specs.declared.expr.Select.{out-Select}
 use Rattle.psm_rules.specs.View.{on_row}
 use Rattle.psm_rules.specs.ExprFaults.{columns_known, spelling}
