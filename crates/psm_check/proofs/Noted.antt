@@ -1,5 +1,5 @@
 -- The notes so far, by their numbers.
-use Rattle.std.proofs.Common.{◌≡◌, ◌<◌, ◌≢◌, ℕ, Bool, true, false, ◌||◌, nat_eq, length, List, [], ◌∷◌, get_or, set, refl, sym, ap, ◌∙◌, ◌⊎◌, inl, inr, arith, get_or-set_other, get_or-set_same, length-set}
+use Rattle.std.proofs.Common.{◌≡◌, ◌<◌, ◌≢◌, ℕ, Bool, true, false, ◌||◌, nat_eq, length, List, [], ◌∷◌, get_or, set, refl, sym, ap, ◌∙◌, arith, get_or-set_other, get_or-set_same, length-set}
 use Rattle.std.specs.Prelude.{Option}
 use Rattle.std.specs.List.{list_any}
 use Rattle.std.proofs.lemmas.Bool.Decides.{nat_tests}

@@ -1,6 +1,6 @@
 -- Names that are declared once, as maps keep them.
 use Rattle.std.proofs.Common.{◌≡◌, Bool, true, false, is_some, List, [], ◌∷◌, ◌++◌, map, refl, ap, sym, ◌∙◌}
-use Rattle.std.specs.Prelude.{Option, Some, None, Ok, if◌then◌else◌}
+use Rattle.std.specs.Prelude.{Some, Ok, if◌then◌else◌}
 use Rattle.psm_scope.specs.Frames.{Spelling, is_spelled}
 use Rattle.psm_scope.specs.Lookup.{named}
 use Rattle.psm_scope.specs.Names.{Adds}

@@ -1,12 +1,12 @@
 -- The keys of a table as they are kept.
-use Rattle.std.proofs.Common.{◌≡◌, ◌<◌, ◌≤◌, ◌+◌, ℕ, suc, drop, get_or, Bool, nat_eq, false, length, List, [], ◌∷◌, ◌++◌, refl, ap, sym, ◌∙◌, arith}
+use Rattle.std.proofs.Common.{◌≡◌, ◌<◌, ◌≤◌, ◌+◌, ℕ, suc, drop, get_or, nat_eq, false, length, List, [], ◌∷◌, ◌++◌, refl, ap, sym, ◌∙◌, arith}
 use Rattle.std.proofs.Math.ListN.{drop_of_length-le}
 use Rattle.std.proofs.lemmas.Bool.Decides.{nat_tests}
 use Rattle.psm_scope.specs.Frames.{Spelling}
 use Rattle.psm_tree.specs.declared.file.Element.{Element}
 use Rattle.psm_rules.specs.FileFaults.{element_keys, first_key, keys_of}
 use Rattle.psm_check.proofs.Going.{drop_next}
-use Rattle.psm_check.specs.Keys.{Kept, NoKey, OneKey, MoreKeys, and_key, and_keys, first_kept, is_one}
+use Rattle.psm_check.specs.Keys.{Kept, NoKey, MoreKeys, and_key, and_keys, first_kept, is_one}
 
 pub and_keys_append : (k : Kept) (ls ms : List (List Spelling)) → and_keys k (ls ++ ms) ≡ and_keys (and_keys k ls) ms
 and_keys_append k [] ms = refl

@@ -1,22 +1,17 @@
 -- The first fault of a module file (ISO/IEC 9075:1992, 11.3, and ISO/IEC 9075-4:1996, module definitions).
 use Rattle.std.specs.Prelude.{ℕ, nat_eq, Bool, true, false, not, ◌&&◌, ◌||◌, Option, Some, None, is_some, Result, Ok, Err, List, [], ◌∷◌, ◌++◌, map, length, slice_get, if◌then◌else◌}
 use Rattle.std.specs.List.{list_any}
-use Rattle.psm_list.specs.Several.{Several}
 use Rattle.psm_num.specs.Num.{Num}
 use Rattle.psm_num.specs.Arithmetic.{negated}
-use Rattle.psm_token.specs.declared.place.Place.{Place}
 use Rattle.psm_value.specs.Stored.{stored}
 use Rattle.psm_value.specs.declared.datum.Datum.{Datum}
 use Rattle.psm_value.specs.declared.datum.Datum.TheVariants as datum
 use Rattle.psm_value.specs.declared.sqltype.SqlType.{SqlType}
-use Rattle.psm_scope.specs.Choice.{Signature}
 use Rattle.psm_scope.specs.Frames.{Spelling, is_spelled, undeclared}
 use Rattle.psm_scope.specs.Frames as frame
-use Rattle.psm_scope.specs.Lookup.{named}
 use Rattle.psm_scope.specs.declared.kinds.ArgKind.{ArgKind}
 use Rattle.psm_scope.specs.declared.kinds.ArgKind.TheVariants as kind
 use Rattle.psm_tree.specs.declared.name.Identifier.{Identifier}
-use Rattle.psm_tree.specs.Names.{Names}
 use Rattle.psm_tree.specs.declared.types.Constant.{Constant}
 use Rattle.psm_tree.specs.declared.types.ConstantForm.{ConstantForm}
 use Rattle.psm_tree.specs.declared.types.ConstantForm.TheVariants as constants
@@ -42,7 +37,6 @@ use Rattle.psm_tree.specs.declared.file.Element.TheVariants as elements
 use Rattle.psm_tree.specs.declared.file.ColumnRule.{ColumnRule}
 use Rattle.psm_tree.specs.declared.file.ColumnRuleForm.{ColumnRuleForm}
 use Rattle.psm_tree.specs.declared.file.ColumnRuleForm.TheVariants as column_rules
-use Rattle.psm_tree.specs.declared.file.TableRule.{TableRule}
 use Rattle.psm_tree.specs.declared.file.TableRuleForm.{TableRuleForm}
 use Rattle.psm_tree.specs.declared.file.TableRuleForm.TheVariants as table_rules
 use Rattle.psm_tree.specs.declared.file.Mode.{Mode}
@@ -53,7 +47,6 @@ use Rattle.psm_tree.specs.declared.file.NoteForm.TheVariants as notes
 use Rattle.psm_tree.specs.declared.file.Parameter.{Parameter}
 use Rattle.psm_tree.specs.declared.file.Routine.{Routine}
 use Rattle.psm_rules.specs.declared.fault.Fault.{Fault}
-use Rattle.psm_rules.specs.declared.rule.Rule.{Rule}
 use Rattle.psm_rules.specs.declared.rule.Rule.TheVariants as rule
 use Rattle.psm_rules.specs.BlockFaults.{declared_once, statement_fault}
 use Rattle.psm_rules.specs.ExprFaults.{expr_found, type_fault}
