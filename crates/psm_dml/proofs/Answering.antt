@@ -8,10 +8,10 @@ use Rattle.psm_value.specs.Answer.{Gives}
 use Rattle.psm_value.specs.declared.datum.Datum.{Datum}
 use Rattle.psm_value.specs.declared.fault.ValueFault.{ValueFault}
 use Rattle.psm_value.specs.declared.fault.ValueFault.TheVariants.{Condition, Memory}
-use Rattle.psm_table.specs.Changing.{Changed, Failure, Raised}
+use Rattle.psm_table.specs.Changing.{Changed, Failure, OfTable, Raised}
 use Rattle.psm_table.specs.Table.{Contents}
 use Rattle.psm_tablecode.specs.Faults.{Tells}
-use Rattle.psm_dml.specs.Ends.{Ends, IsDue}
+use Rattle.psm_dml.specs.Ends.{Bears, Ends, IsDue}
 
 pub gives_err : {A : Type 0} (r : Result A SqlState) (fault : ValueFault) (s : SqlState) → fault ≡ Condition s → Gives r (Err fault) → r ≡ Err s
 gives_err r fault s e g = subst (λ f. Gives r (Err f)) e g
@@ -36,3 +36,11 @@ module _ (old new : List Contents) (t : ℕ) (c : Contents) (due : Contents → 
 
   pub ends_told : (fault : ValueFault) (what : DataFault) → ((s : SqlState) → fault ≡ Condition s → due c ≡ Err (Raised s)) → Tells fault what → new ≡ old → Answer (Err what)
   ends_told fault what h g f = at_c (Err what) (told fault what h g f)
+
+  -- a condition of the table
+  borne : (state : List ℕ) (what : DataFault) → due c ≡ Err (OfTable state) → Bears state c.def what → new ≡ old → Ends c (due c) old t new (Err what)
+  borne state (told_as.Raised condition) e g f = (subst (λ d. IsDue c.def d condition) (sym e) g, f)
+  borne state told_as.Memory e g f = f
+
+  pub ends_borne : (state : List ℕ) (what : DataFault) → due c ≡ Err (OfTable state) → Bears state c.def what → new ≡ old → Answer (Err what)
+  ends_borne state what e g f = at_c (Err what) (borne state what e g f)

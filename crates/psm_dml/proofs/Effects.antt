@@ -1,6 +1,6 @@
 -- What calls of a store do, one after another.
-use Rattle.std.proofs.Common.{◌≡◌, ℕ, zero, suc, ◌+◌, ◌<◌, ◌≤◌, List, [], ◌∷◌, ◌++◌, length, get_or, take, drop, refl, ap, sym, subst, ◌∙◌, arith, Option, Some, None, Result, Ok, Err}
-use Rattle.std.specs.Prelude.{All, IfSome, IsSome, option_map, slice_get, slice_set}
+use Rattle.std.proofs.Common.{◌≡◌, ℕ, zero, suc, ◌+◌, ◌<◌, ◌≤◌, List, [], ◌∷◌, ◌++◌, length, get_or, take, drop, Bool, true, false, refl, ap, sym, subst, ◌∙◌, arith, Option, Some, None, Result, Ok, Err}
+use Rattle.std.specs.Prelude.{All, IfOk, IfSome, IsSome, map, option_map, slice_get, slice_set}
 use Rattle.std.proofs.Math.Seq.{take-suc}
 use Rattle.psm_value.specs.declared.datum.Datum.{Datum}
 use Rattle.psm_table.specs.declared.definition.TableDef.{TableDef}
@@ -13,7 +13,15 @@ use Rattle.psm_store.specs.declared.store.Mark.{Mark}
 use Rattle.psm_store.specs.Marks.{defs_of, AnyMark, IsNewMark, IsOutside, Keeps}
 use Rattle.psm_store.specs.RowCalls.{after, changed_at, put_table}
 use Rattle.psm_store.proofs.Changes.{changed_twice, get-changed_at}
-use Rattle.psm_dml.specs.Rows.{without_all, without_keys}
+use Rattle.std.specs.declared.alloc.AllocError.{AllocError}
+use Rattle.std.proofs.lemmas.List.{take-append-drop}
+use Rattle.psm_table.specs.Table.{most_rows, with_row}
+use Rattle.psm_tablecode.proofs.Collecting.{first_of}
+use Rattle.psm_dml.specs.Rows.{changed_if, fit_in, fits_in, with_rows, without_all, without_keys}
+use Rattle.std.specs.declared.cmp.Ordering.TheVariants.{Equal}
+use Rattle.psm_table.specs.Key.{row_order}
+use Rattle.psm_dml.proofs.InPlace.{changed_row}
+use Rattle.psm_dml.proofs.Putting.{fails_at, fits_one_more, with_rows-append, with_rows-bound}
 
 -- ---- one table of several
 
@@ -116,3 +124,80 @@ pub one_of : (P : TableDef → List Datum → Type 0) (o : Option Contents) (row
     → IfSome o (λ c. All (P c.def) rows) → IfSome o (λ c. P c.def row)
 one_of P None rows i row l e h = tt
 one_of P (Some c) rows i row l e h = subst (P c.def) (sym e) (h i row l)
+
+-- ---- rows that are put in
+
+pub rows_none : (tables : List Contents) (t : ℕ) → tables ≡ changed_at (with_rows []) tables t
+rows_none tables t = none (slice_get tables t) refl where
+  none : (o : Option Contents) → slice_get tables t ≡ o → tables ≡ put_table tables t (option_map (with_rows []) o)
+  none None e = refl
+  none (Some c) e = sym (set_same tables t c e)
+
+pub always : (o : Option Contents) → IfSome o (λ c. true ≡ true)
+always None = tt
+always (Some c) = refl
+
+module _ (old now : List Contents) (t : ℕ) (xs : List (List Datum)) (e : now ≡ changed_at (with_rows xs) old t) where
+  at_now : slice_get now t ≡ option_map (with_rows xs) (slice_get old t)
+  at_now = ap (λ l. slice_get l t) e ∙ get-changed_at (with_rows xs) old t
+
+  few_step : (n : ℕ) (o p : Option Contents) → p ≡ option_map (with_rows xs) o → length xs < n → IfSome o (λ c. length c.rows + n ≤ most_rows) → IfSome p (λ c. length c.rows < most_rows)
+  few_step n None p f l h = subst (λ q. IfSome q (λ c. length c.rows < most_rows)) (sym f) tt
+  few_step n (Some c) p f l h =
+      let bound : length (with_rows xs c).rows < most_rows = omega (arith, with_rows-bound xs c, h, l) in
+      subst (λ q. IfSome q (λ d. length d.rows < most_rows)) (sym f) bound
+
+  -- there is room for one more
+  pub few_left : (n : ℕ) → length xs < n → IfSome (slice_get old t) (λ c. length c.rows + n ≤ most_rows) → IfSome (slice_get now t) (λ c. length c.rows < most_rows)
+  few_left n l h = few_step n (slice_get old t) (slice_get now t) at_now l h
+
+  stop_step : (rows rest : List (List Datum)) (row : List Datum) (b : Bool) (o p : Option Contents) → p ≡ option_map (with_rows xs) o → rows ≡ xs ++ row ∷ rest → b ≡ false
+      → IfSome o (λ c. fit_in xs c ≡ true) → IfSome p (λ c. b ≡ fits_in row c) → IfSome o (λ c. false ≡ fit_in rows c)
+  stop_step rows rest row b None p f r n g h = tt
+  stop_step rows rest row b (Some c) p f r n g h =
+      let here : b ≡ fits_in row (with_rows xs c) = subst (λ q. IfSome q (λ d. b ≡ fits_in row d)) f h in
+      sym (ap (λ l. fit_in l c) r ∙ fails_at xs rest row c g (sym here ∙ n))
+
+  -- a row that doesn't keep the rules
+  pub stops : (rows : List (List Datum)) (row : List Datum) (b : Bool) → xs ≡ take (length xs) rows → length xs < length rows → row ≡ get_or rows (length xs) row → b ≡ false
+      → IfSome (slice_get old t) (λ c. fit_in xs c ≡ true) → IfSome (slice_get now t) (λ c. b ≡ fits_in row c) → IfSome (slice_get old t) (λ c. false ≡ fit_in rows c)
+  stops rows row b s l r n g h =
+      let parts : rows ≡ xs ++ row ∷ drop (length xs + 1) rows =
+      sym (take-append-drop (length xs) rows) ∙ ap (λ z. z ++ drop (length xs) rows) (sym s) ∙ ap (λ z. xs ++ z) (first_of rows (length xs) row l r) in
+      stop_step rows (drop (length xs + 1) rows) row b (slice_get old t) (slice_get now t) at_now parts n g h
+
+  more_step : (row : List Datum) (b : Bool) (o p : Option Contents) → p ≡ option_map (with_rows xs) o → b ≡ true → IfSome o (λ c. fit_in xs c ≡ true) → IfSome p (λ c. b ≡ fits_in row c) → IfSome o (λ c. fit_in (xs ++ row ∷ []) c ≡ true)
+  more_step row b None p f n g h = tt
+  more_step row b (Some c) p f n g h =
+      let here : b ≡ fits_in row (with_rows xs c) = subst (λ q. IfSome q (λ d. b ≡ fits_in row d)) f h in
+      fits_one_more xs row c g (sym here ∙ n)
+
+  -- one that does
+  pub fits_more : (row : List Datum) (b : Bool) → b ≡ true → IfSome (slice_get old t) (λ c. fit_in xs c ≡ true) → IfSome (slice_get now t) (λ c. b ≡ fits_in row c) → IfSome (slice_get old t) (λ c. fit_in (xs ++ row ∷ []) c ≡ true)
+  fits_more row b n g h = more_step row b (slice_get old t) (slice_get now t) at_now n g h
+
+  pub rows_more : (row : List Datum) (b : Bool) (new : List Contents) → b ≡ true → new ≡ changed_if (Ok b) (λ c. with_row c row) now t → new ≡ changed_at (with_rows (xs ++ row ∷ [])) old t
+  rows_more row b new n f =
+      let done : new ≡ changed_at (λ c. with_row c row) now t = subst (λ z. new ≡ changed_if (Ok z) (λ c. with_row c row) now t) n f in
+      done ∙ ap (λ l. changed_at (λ c. with_row c row) l t) e
+      ∙ changed_twice (with_rows xs) (λ c. with_row c row) old t
+      ∙ changed_alike (λ c. with_row (with_rows xs c) row) (with_rows (xs ++ row ∷ [])) (λ c. sym (with_rows-append xs (row ∷ []) c)) old t
+
+-- two changes one after another
+pub both_changes : (f g : Contents → Contents) (r : Result Bool AllocError) (old between new : List Contents) (t : ℕ) → between ≡ changed_at g old t
+    → IfOk r (λ b. b ≡ true → new ≡ changed_at f between t) → IfOk r (λ b. b ≡ true → new ≡ changed_at (λ c. f (g c)) old t)
+both_changes f g (Ok b) old between new t e h = λ n. h n ∙ ap (λ l. changed_at f l t) e ∙ changed_twice g f old t
+both_changes f g (Err a) old between new t e h = tt
+
+pub map_same : {X : Type 0} (xs : List X) → map (λ x. x) xs ≡ xs
+map_same [] = refl
+map_same (x ∷ xs) = ap (λ l. x ∷ l) (map_same xs)
+
+-- ---- a row in the place of the one that has its key
+
+pub changed_row_at : (row : List Datum) (key : List Datum) (r : Result Bool AllocError) (tables : List Contents) (t : ℕ) (c : Contents) → slice_get tables t ≡ Some c → row_order c.def.key key row ≡ Equal
+    → changed_if r (λ x. with_row x row) tables t ≡ changed_if r (λ x. with_row (without_row key x) row) tables t
+changed_row_at row key (Ok true) tables t c here same =
+    changed_is (λ x. with_row x row) tables t c here ∙ ap (λ x. slice_set tables t x) (changed_row row key c same) ∙ sym (changed_is (λ x. with_row (without_row key x) row) tables t c here)
+changed_row_at row key (Ok false) tables t c here same = refl
+changed_row_at row key (Err error) tables t c here same = refl

@@ -1,4 +1,16 @@
 pub mod Answering
+pub mod Assigned
+pub mod Assigning
 pub mod Effects
+pub mod Finished
+pub mod Finishing
+pub mod Holding
+pub mod InPlace
+pub mod Judging
+pub mod Moved
 pub mod Planned
+pub mod Putting
+pub mod Refusing
+pub mod Storings
+pub mod Updated
 pub mod Walked

@@ -17,16 +17,13 @@ use Rattle.psm_table.specs.Rows.{rows_above, rows_below, without, IsAscending}
 use Rattle.psm_table.proofs.Filters.{AllPairs-first, AllPairs-rest}
 use Rattle.psm_table.proofs.KeyLaws.{key_order-refl}
 use Rattle.psm_table.proofs.Undo.{all-above, after_equal, none-below}
+use Rattle.psm_dml.specs.declared.planning.Change.{Change}
+use Rattle.psm_dml.specs.Changes.{changing}
 use Rattle.psm_dml.specs.Rows.{key_in, without_all}
 use Rattle.psm_dml.proofs.Walked.{walked-all, walked-map}
 
 abbrev Row : Type 0
 Row = List Datum
-
--- a change of a row: the key that it had, and what is made of it
-pub record Change : Type 0 where
-  pub key : List Datum
-  pub made : List Datum
 
 module _ (columns : List ℕ) where
   abbrev Rises : Row → Row → Type 0
@@ -50,10 +47,6 @@ module _ (columns : List ℕ) where
       ∙ all_but_first row (without columns key rows) keys (All-tail (λ k. row_order columns k row ≡ Less) key keys h)
 
   module _ {E : Type 0} (ev : Evaluator E) (test : Option E) (make : Row → Result Row SqlState) where
-    -- the key of a row, and what is made of it
-    abbrev pub changing : Row → Result Change SqlState
-    changing row = mapped (λ new. record { key = values_at columns row; made = new }) (make row)
-
     abbrev pub as_division : List Row → List Change → Division
     as_division rows changes = record { left = without_all columns (map (λ c. c.key) changes) rows; made = map (λ c. c.made) changes }
 
@@ -61,7 +54,7 @@ module _ (columns : List ℕ) where
     has_key row (Ok new) c e = let one : Change = record { key = values_at columns row; made = new } in let same : one ≡ c = cc in ap (λ (d : Change). d.key) same
     has_key row (Err s) c e = cc
 
-    later : (row other : Row) (c : Change) → changing other ≡ Ok c → Rises row other → row_order columns c.key row ≡ Less
+    later : (row other : Row) (c : Change) → changing columns make other ≡ Ok c → Rises row other → row_order columns c.key row ≡ Less
     later row other c e h = subst (λ k. key_order (values_at columns row) k ≡ Less) (has_key other (make other) c e) h
 
     keys_all : (row : Row) (changes : List Change) → All (λ (c : Change). row_order columns c.key row ≡ Less) changes → All (λ k. row_order columns k row ≡ Less) (map (λ (c : Change). c.key) changes)
@@ -90,11 +83,11 @@ module _ (columns : List ℕ) where
     divide_step row rows (Err s) m w d up h e = refl
 
     -- the rows are divided as the changes say
-    pub divided_by : (rows : List Row) → IsAscending columns rows → divided ev test make rows ≡ mapped (as_division rows) (walked (test_of ev test) changing rows)
+    pub divided_by : (rows : List Row) → IsAscending columns rows → divided ev test make rows ≡ mapped (as_division rows) (walked (test_of ev test) (changing columns make) rows)
     divided_by [] up = refl
     divided_by (row ∷ rows) up =
-        divide_step row rows (test_of ev test row) (make row) (walked (test_of ev test) changing rows) (divided ev test make rows) up
-        (λ cs w. walked-all (test_of ev test) changing (Rises row) (λ (c : Change). row_order columns c.key row ≡ Less) (λ other c e r. later row other c e r) rows cs w (AllPairs-first Rises row rows up))
+        divide_step row rows (test_of ev test row) (make row) (walked (test_of ev test) (changing columns make) rows) (divided ev test make rows) up
+        (λ cs w. walked-all (test_of ev test) (changing columns make) (Rises row) (λ (c : Change). row_order columns c.key row ≡ Less) (λ other c e r. later row other c e r) rows cs w (AllPairs-first Rises row rows up))
         (divided_by rows (AllPairs-rest Rises row rows up))
 
   -- ---- DELETE
@@ -106,8 +99,8 @@ module _ (columns : List ℕ) where
     abbrev ending : Division → Result Changed Failure
     ending p = Ok (record { rows = p.left; count = length p.made })
 
-    keys_are : (rows : List Row) → walked (test_of ev test) (key_in columns) rows ≡ mapped (λ l. map (λ (c : Change). c.key) l) (walked (test_of ev test) (changing ev test kept) rows)
-    keys_are rows = walked-map (test_of ev test) (changing ev test kept) (λ (c : Change). c.key) rows
+    keys_are : (rows : List Row) → walked (test_of ev test) (key_in columns) rows ≡ mapped (λ l. map (λ (c : Change). c.key) l) (walked (test_of ev test) (changing columns kept) rows)
+    keys_are rows = walked-map (test_of ev test) (changing columns kept) (λ (c : Change). c.key) rows
 
     deleted_step : (rows : List Row) (keys : List (List Datum)) (w : Result (List Change) SqlState) → mapped (λ l. map (λ (c : Change). c.key) l) w ≡ Ok keys
         → then_of (mapped (as_division ev test kept rows) w) ending ≡ Ok (record { rows = without_all columns keys rows; count = length keys })
@@ -122,7 +115,7 @@ module _ (columns : List ℕ) where
         → deleted ev test rows ≡ Ok (record { rows = without_all columns keys rows; count = length keys })
     deleted_is rows keys up e =
         ap (λ r. then_of r ending) (divided_by ev test kept rows up)
-        ∙ deleted_step rows keys (walked (test_of ev test) (changing ev test kept) rows) (sym (keys_are rows) ∙ e)
+        ∙ deleted_step rows keys (walked (test_of ev test) (changing columns kept) rows) (sym (keys_are rows) ∙ e)
 
     raised_step : (rows : List Row) (s : SqlState) (w : Result (List Change) SqlState) → mapped (λ l. map (λ (c : Change). c.key) l) w ≡ Err s
         → then_of (mapped (as_division ev test kept rows) w) ending ≡ Err (Raised s)
@@ -132,4 +125,4 @@ module _ (columns : List ℕ) where
     pub deleted_raises : (rows : List Row) (s : SqlState) → IsAscending columns rows → walked (test_of ev test) (key_in columns) rows ≡ Err s → deleted ev test rows ≡ Err (Raised s)
     deleted_raises rows s up e =
         ap (λ r. then_of r ending) (divided_by ev test kept rows up)
-        ∙ raised_step rows s (walked (test_of ev test) (changing ev test kept) rows) (sym (keys_are rows) ∙ e)
+        ∙ raised_step rows s (walked (test_of ev test) (changing columns kept) rows) (sym (keys_are rows) ∙ e)

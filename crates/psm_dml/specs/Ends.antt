@@ -1,12 +1,14 @@
 -- How a statement on one table of a store ends.
-use Rattle.std.specs.Prelude.{◌≡◌, ℕ, List, slice_set, Result, Ok, Err}
+use Rattle.std.specs.Prelude.{◌≡◌, ℕ, Bool, true, false, List, codes, slice_set, Option, Some, None, Result, Ok, Err}
 use Rattle.psm_cond.specs.Condition.{Entries, alone}
 use Rattle.psm_cond.specs.Entry.{entry_of, name_text}
 use Rattle.psm_cond.specs.declared.fault.DataFault.{DataFault}
 use Rattle.psm_cond.specs.declared.fault.DataFault.TheVariants as fault
+use Rattle.psm_exprcode.specs.declared.op.Line.{Line}
+use Rattle.psm_sqlstate.specs.declared.state.SqlState.{SqlState}
 use Rattle.psm_value.specs.declared.datum.Datum.{Datum}
 use Rattle.psm_table.specs.declared.definition.TableDef.{TableDef}
-use Rattle.psm_table.specs.Changing.{Changed, Failure, OfTable, Raised}
+use Rattle.psm_table.specs.Changing.{Changed, Failure, Moved, OfTable, Raised, Schema}
 use Rattle.psm_table.specs.Table.{Contents}
 
 -- the condition is that of the SQLSTATE alone, and bears the name of the table where it is one of the table
@@ -19,9 +21,43 @@ abbrev pub IsDue : {A : Type 0} → TableDef → Result A Failure → Entries �
 IsDue def (Ok a) condition = ⊥
 IsDue def (Err failure) condition = IsOf def failure condition
 
+-- a table's definition, with CHECKs that are code
+abbrev pub schema_of : TableDef → List (List Line) → Schema (List Line)
+schema_of def checks = record { def = def; checks = checks }
+
+-- the fault bears the SQLSTATE and the name of the table, but for want of memory
+abbrev pub Bears : List ℕ → TableDef → DataFault → Type 0
+Bears state def (fault.Raised condition) = IsOf def (OfTable state) condition
+Bears state def fault.Memory = Unit {0}
+
+-- what is due where CHECKs come to that
+abbrev pub checked : Result Bool SqlState → Result (Unit {0}) Failure
+checked (Ok true) = Ok tt
+checked (Ok false) = Err (OfTable (codes "23000"))
+checked (Err state) = Err (Raised state)
+
+-- the CHECKs hold, or the condition is the one that is due, but for want of memory
+abbrev pub Passes : TableDef → Result Bool SqlState → Result (Unit {0}) DataFault → Type 0
+Passes def passed (Ok u) = passed ≡ Ok true
+Passes def passed (Err (fault.Raised condition)) = IsDue def (checked passed) condition
+Passes def passed (Err fault.Memory) = Unit {0}
+
 -- A statement on table t, which was c, is due to leave some rows and to be about so many. It does; or it raises the condition
 -- that is due, or memory runs out, and then all tables are as before.
 abbrev pub Ends : Contents → Result Changed Failure → List Contents → ℕ → List Contents → Result ℕ DataFault → Type 0
 Ends c due old t new (Ok n) = (rows : List (List Datum)) × (due ≡ Ok (record { rows = rows; count = n })) × (new ≡ slice_set old t (record c { rows = rows }))
 Ends c due old t new (Err (fault.Raised condition)) = IsDue c.def due condition × (new ≡ old)
 Ends c due old t new (Err fault.Memory) = new ≡ old
+
+-- the same of a positioned statement, which tells whether the row has another key now
+abbrev pub EndsAt : Contents → Result Moved Failure → List Contents → ℕ → List Contents → Result Bool DataFault → Type 0
+EndsAt c due old t new (Ok b) = (rows : List (List Datum)) × (due ≡ Ok (record { rows = rows; moved = b })) × (new ≡ slice_set old t (record c { rows = rows }))
+EndsAt c due old t new (Err (fault.Raised condition)) = IsDue c.def due condition × (new ≡ old)
+EndsAt c due old t new (Err fault.Memory) = new ≡ old
+
+-- a positioned statement ends as is due of the row; without a row it changes nothing, but memory may run out
+abbrev pub EndsAtRow : Contents → (List Datum → Result Moved Failure) → Option (List Datum) → List Contents → ℕ → List Contents → Result Bool DataFault → Type 0
+EndsAtRow c due (Some row) old t new result = EndsAt c (due row) old t new result
+EndsAtRow c due None old t new (Ok b) = (b ≡ false) × (new ≡ old)
+EndsAtRow c due None old t new (Err (fault.Raised condition)) = ⊥
+EndsAtRow c due None old t new (Err fault.Memory) = new ≡ old

@@ -1,3 +1,5 @@
+pub mod Changes
 pub mod Ends
+pub mod Judged
 pub mod Rows
 pub mod Suits

@@ -1,10 +1,25 @@
-//! DELETE over the tables of a store (ISO/IEC 9075:1992, 13.6 and 13.7).
+//! INSERT, UPDATE and DELETE over the tables of a store (ISO/IEC 9075:1992, 13.6 to 13.10).
 #![tactic(auto)]
 
 mod applying;
+mod checking;
+mod comparing;
 mod deleting;
+mod ending;
+mod filling;
 mod finding;
+mod inserting;
+mod moving;
+mod planning;
+mod setting;
+mod storing;
+mod suiting;
+mod updating;
 
 pub use deleting::{delete, delete_at};
+pub use inserting::insert;
+pub use moving::update_at;
 pub use psm_cond::DataFault;
-pub use psm_exprcode::ExprCode;
+pub use psm_exprcode::{ExprCode, SetItem};
+pub use suiting::{suit_checks, suit_sets};
+pub use updating::update;

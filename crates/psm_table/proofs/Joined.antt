@@ -3,12 +3,14 @@ use Rattle.std.proofs.Common.{◌≡◌, ℕ, zero, suc, ◌+◌, ◌-◌, ◌<�
 use Rattle.std.specs.Prelude.{All, cond, filter, insert, option_map, slice_get}
 use Rattle.std.proofs.lemmas.Bool.{cases_eq}
 use Rattle.std.proofs.lemmas.List.Elements.{All-nil, All-cons, All-append, All-drop, All-tail, All-take, All-head, filter-append}
-use Rattle.std.proofs.lemmas.List.{append-nil, append_assoc, length-append, length-map, length-set}
+use Rattle.std.proofs.lemmas.List.{append-nil, append_assoc, get_or_default, length-append, length-map, length-set}
 use Rattle.std.proofs.lemmas.List.Kept.{AllPairs-cons}
 use Rattle.std.specs.declared.cmp.Ordering.TheVariants.{Less, Greater}
 use Rattle.std.specs.Ordering.{is_lt, is_gt, is_eq}
 use Rattle.psm_value.specs.declared.datum.Datum.{Datum}
 use Rattle.psm_table.specs.declared.map.Pair.{Pair}
+use Rattle.psm_table.specs.declared.map.Position.{Position}
+use Rattle.psm_table.specs.Place.{IsAt, StandsAt}
 use Rattle.psm_table.specs.Runs.{joined, AreRunsBut, IsIn, IsRun, IsTurn}
 use Rattle.psm_table.specs.Key.{key_order}
 use Rattle.psm_table.specs.Map.{AreAscending, exchanged, pair_with, pairs_above, pairs_below, value_of, with_pair, with_value}
@@ -289,6 +291,14 @@ module _ {V : Type 0} (t : Pair V → Bool) (runs : List (List (Pair V))) (i : �
 
   pub from_past : None ≡ slice_get (filter t (get_or runs i d)) 0 → slice_get (joined (drop (i + 1) runs)) 0 ≡ slice_get (filter t (joined runs)) 0
   from_past e = rw add-one (first_past (filter t (get_or runs i d)) (joined (drop (suc i) runs)) e ∙ ap (λ l. slice_get l 0) (sym passed))
+
+-- the place in its run of a pair that stands there
+pub stands_in : {V : Type 0} (key : List Datum) (runs : List (List (Pair V))) (p : Position) (r : List (Pair V)) → StandsAt key runs p → r ≡ get_or runs p.run r → IsAt key r p.at
+stands_in key runs p r h e = subst (λ l. IsAt key l p.at) (get_or_default runs p.run [] r h.run.inside ∙ sym e) h.at
+
+-- a pair of the run that the key belongs to
+pub stands_at : {V : Type 0} (key : List Datum) (runs : List (List (Pair V))) (i at : ℕ) (r : List (Pair V)) → IsIn key runs i → r ≡ get_or runs i r → IsAt key r at → StandsAt key runs (record { run = i; at = at })
+stands_at key runs i at r h e found = record { run = h; at = subst (λ l. IsAt key l at) (e ∙ sym (get_or_default runs i [] r h.inside)) found }
 
 -- a run with another value of a key
 pub run_exchanged : {V : Type 0} (key : List Datum) (v : V) (r was : List (Pair V)) → IsRun was → r ≡ with_value key v was → IsRun r

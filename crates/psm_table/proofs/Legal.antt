@@ -82,9 +82,9 @@ module _ {E : Type 0} (ev : Evaluator E) (test : Option E) (make : Row → Resul
       ((left_apart def rows p e).1 (second_true (list_all (is_filled def) rows) (all_apart def rows) h))
 
 -- the rows that are left of a legal table are legal
-pub legal_left : {E : Type 0} (ev : Evaluator E) (schema : Schema E) (test : Option E) (make : Row → Result Row SqlState) (rows : List Row) (p : Division) → divided ev test make rows ≡ Ok p → IsLegal ev schema rows → IsLegal ev schema p.left
-legal_left ev schema test make rows p e h = record {
-  pass = all_pass ev schema.checks p.left (left_all ev test make (Passes ev schema.checks) rows p e (legal_passes ev schema rows h));
+pub legal_left : {E : Type 0} (ev plain : Evaluator E) (schema : Schema E) (test : Option E) (make : Row → Result Row SqlState) (rows : List Row) (p : Division) → divided ev test make rows ≡ Ok p → IsLegal plain schema rows → IsLegal plain schema p.left
+legal_left ev plain schema test make rows p e h = record {
+  pass = all_pass plain schema.checks p.left (left_all ev test make (Passes plain schema.checks) rows p e (legal_passes plain schema rows h));
   rules = left_rules ev test make schema.def rows p e h.rules;
 }
 
@@ -128,25 +128,26 @@ moving_ok : (b : Bool) (r : Result (List Row) Failure) (m : Moved) → moving b 
 moving_ok b (Ok rows) m e = let one : Moved = record { rows = rows; moved = b } in let same : one ≡ m = cc in ap (λ (d : Moved). Ok d.rows) same
 moving_ok b (Err failure) m e = cc
 
-module _ {E : Type 0} (ev : Evaluator E) (schema : Schema E) where
-  pub legal_inserted : (new rows : List Row) (c : Changed) → inserted ev schema new rows ≡ Ok c → IsLegal ev schema c.rows
+module _ {E : Type 0} (plain : Evaluator E) (schema : Schema E) where
+  pub legal_inserted : (new rows : List Row) (c : Changed) → inserted plain schema new rows ≡ Ok c → IsLegal plain schema c.rows
   legal_inserted new rows c e =
-      let h = then_ok (stored_rows (kinds_of schema.def.columns) new) (λ more. counting (length more) (ended ev schema (rows ++ more))) c e in
-      legal_ended ev schema (rows ++ h.0) c.rows (counting_ok (length h.0) (ended ev schema (rows ++ h.0)) c h.2)
+      let h = then_ok (stored_rows (kinds_of schema.def.columns) new) (λ more. counting (length more) (ended plain schema (rows ++ more))) c e in
+      legal_ended plain schema (rows ++ h.0) c.rows (counting_ok (length h.0) (ended plain schema (rows ++ h.0)) c h.2)
 
-  pub legal_updated : (sets : List (SetItem E)) (test : Option E) (rows : List Row) (c : Changed) → updated ev schema sets test rows ≡ Ok c → IsLegal ev schema c.rows
+module _ {E : Type 0} (ev plain : Evaluator E) (schema : Schema E) where
+  pub legal_updated : (sets : List (SetItem E)) (test : Option E) (rows : List Row) (c : Changed) → updated ev plain schema sets test rows ≡ Ok c → IsLegal plain schema c.rows
   legal_updated sets test rows c e =
-      let h = then_ok (divided ev test (set_row ev schema.def sets) rows) (λ p. counting (length p.made) (ended ev schema (p.left ++ p.made))) c e in
-      legal_ended ev schema (h.0.left ++ h.0.made) c.rows (counting_ok (length h.0.made) (ended ev schema (h.0.left ++ h.0.made)) c h.2)
+      let h = then_ok (divided ev test (set_row ev schema.def sets) rows) (λ p. counting (length p.made) (ended plain schema (p.left ++ p.made))) c e in
+      legal_ended plain schema (h.0.left ++ h.0.made) c.rows (counting_ok (length h.0.made) (ended plain schema (h.0.left ++ h.0.made)) c h.2)
 
-  pub legal_deleted : (test : Option E) (rows : List Row) (c : Changed) → IsLegal ev schema rows → deleted ev test rows ≡ Ok c → IsLegal ev schema c.rows
+  pub legal_deleted : (test : Option E) (rows : List Row) (c : Changed) → IsLegal plain schema rows → deleted ev test rows ≡ Ok c → IsLegal plain schema c.rows
   legal_deleted test rows c l e =
       let h = then_ok (divided ev test (λ row. Ok row) rows) (λ p. Ok (record { rows = p.left; count = length p.made })) c e in
       let one : Changed = record { rows = h.0.left; count = length h.0.made } in
       let same : one ≡ c = cc (h.2) in
-      subst (λ (d : Changed). IsLegal ev schema d.rows) same (legal_left ev schema test (λ row. Ok row) rows h.0 h.1 l)
+      subst (λ (d : Changed). IsLegal plain schema d.rows) same (legal_left ev plain schema test (λ row. Ok row) rows h.0 h.1 l)
 
-  pub legal_updated_at : (sets : List (SetItem E)) (row : Row) (rows : List Row) (m : Moved) → updated_at ev schema sets row rows ≡ Ok m → IsLegal ev schema m.rows
+  pub legal_updated_at : (sets : List (SetItem E)) (row : Row) (rows : List Row) (m : Moved) → updated_at ev plain schema sets row rows ≡ Ok m → IsLegal plain schema m.rows
   legal_updated_at sets row rows m e =
-      let h = then_ok (set_row ev schema.def sets row) (λ new. moving (has_moved schema.def row new) (ended ev schema (rows_but schema.def row rows ++ new ∷ []))) m e in
-      legal_ended ev schema (rows_but schema.def row rows ++ h.0 ∷ []) m.rows (moving_ok (has_moved schema.def row h.0) (ended ev schema (rows_but schema.def row rows ++ h.0 ∷ [])) m h.2)
+      let h = then_ok (set_row ev schema.def sets row) (λ new. moving (has_moved schema.def row new) (ended plain schema (rows_but schema.def row rows ++ new ∷ []))) m e in
+      legal_ended plain schema (rows_but schema.def row rows ++ h.0 ∷ []) m.rows (moving_ok (has_moved schema.def row h.0) (ended plain schema (rows_but schema.def row rows ++ h.0 ∷ [])) m h.2)

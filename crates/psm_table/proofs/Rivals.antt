@@ -250,7 +250,7 @@ module _ (def : TableDef) (row : Row) where
     no_rival sets has harmless = rival_none (is_rival def row it) refl (λ e.
         let any = Any-from_list_any (agree it row) def.unique e in
         let columns = any.1 in
-        let empty : Mapped (Unit {0}) = record { pairs = []; ready = false } in
+        let empty : Mapped (Unit {0}) = record { runs = []; pairs = []; ready = false } in
         let long : length def.unique ≡ length (entries_of sets) = length_all_zip (HasEntry def it) def.unique (entries_of sets) has in
         let inside : any.0 < length sets = omega (arith, any.2, long, length-entries sets) in
         let here : HasEntry def it columns (keys_of (get_or sets any.0 empty).pairs) =

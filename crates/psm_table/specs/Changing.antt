@@ -167,9 +167,10 @@ divided ev test make (row ∷ rows) = and_then (test_of ev test row) (λ met. if
     then and_then (make row) (λ new. mapped (with_made new) (divided ev test make rows))
     else mapped (with_left row) (divided ev test make rows))
 
--- UPDATE of the rows that meet the test: all are evaluated over the old rows, in the order of their keys
-abbrev pub updated : {E : Type 0} → Evaluator E → Schema E → List (SetItem E) → Option E → List (List Datum) → Result Changed Failure
-updated ev schema sets test rows = then_of (divided ev test (set_row ev schema.def sets) rows) (λ p. counting (length p.made) (ended ev schema (p.left ++ p.made)))
+-- UPDATE of the rows that meet the test: all are evaluated over the old rows, in the order of their keys. The CHECKs see
+-- no variables, and so have an evaluator of their own
+abbrev pub updated : {E : Type 0} → Evaluator E → Evaluator E → Schema E → List (SetItem E) → Option E → List (List Datum) → Result Changed Failure
+updated ev plain schema sets test rows = then_of (divided ev test (set_row ev schema.def sets) rows) (λ p. counting (length p.made) (ended plain schema (p.left ++ p.made)))
 
 -- DELETE of the rows that meet the test: what is left keeps the rules that the table kept
 abbrev pub deleted : {E : Type 0} → Evaluator E → Option E → List (List Datum) → Result Changed Failure
@@ -195,5 +196,5 @@ moving b (Ok rows) = Ok (record { rows = rows; moved = b })
 moving b (Err failure) = Err failure
 
 -- UPDATE of the row
-abbrev pub updated_at : {E : Type 0} → Evaluator E → Schema E → List (SetItem E) → List Datum → List (List Datum) → Result Moved Failure
-updated_at ev schema sets row rows = then_of (set_row ev schema.def sets row) (λ new. moving (has_moved schema.def row new) (ended ev schema (rows_but schema.def row rows ++ new ∷ [])))
+abbrev pub updated_at : {E : Type 0} → Evaluator E → Evaluator E → Schema E → List (SetItem E) → List Datum → List (List Datum) → Result Moved Failure
+updated_at ev plain schema sets row rows = then_of (set_row ev schema.def sets row) (λ new. moving (has_moved schema.def row new) (ended plain schema (rows_but schema.def row rows ++ new ∷ [])))

@@ -4,20 +4,21 @@ use Rattle.std.specs.List.{zip}
 use Rattle.psm_value.specs.declared.datum.Datum.{Datum}
 use Rattle.psm_value.specs.declared.datum.Datum.TheVariants.{Null}
 use Rattle.psm_value.specs.declared.sqltype.SqlType.{SqlType}
-use Rattle.psm_value.specs.SqlType.{IsOfFamily}
+use Rattle.psm_value.specs.SqlType.{IsOfFamily, IsType}
 use Rattle.psm_table.specs.declared.definition.Column.{Column}
 use Rattle.psm_table.specs.declared.definition.TableDef.{TableDef}
 use Rattle.psm_table.specs.Key.{values_at}
 
--- the one key is a list of some columns that exist, and of no column twice
-pub record IsDefinition (def : TableDef) : Type 0 where
-  pub some : 0 < length def.key
-  pub exist : All (λ c. c < length def.columns) def.key
-  pub distinct : AllPairs (λ a b. a ≢ b) def.key
-
 -- the types of the columns
 abbrev pub kinds_of : List Column → List SqlType
 kinds_of columns = map (λ c. c.kind) columns
+
+-- the columns have types that there are, and the one key is a list of some columns that exist, and of no column twice
+pub record IsDefinition (def : TableDef) : Type 0 where
+  pub types : All IsType (kinds_of def.columns)
+  pub some : 0 < length def.key
+  pub exist : All (λ c. c < length def.columns) def.key
+  pub distinct : AllPairs (λ a b. a ≢ b) def.key
 
 -- each value is null or of its type's family
 abbrev pub AreOfFamilies : List SqlType → List Datum → Type 0

@@ -1,11 +1,13 @@
 -- What is looked for in a map, and where a key stands in it.
-use Rattle.std.specs.Prelude.{◌≡◌, ℕ, ◌+◌, ◌<◌, ◌≤◌, ◌++◌, List, [], ◌∷◌, length, take, drop, slice_get, Option, Some, None}
+use Rattle.std.specs.Prelude.{◌≡◌, ℕ, ◌+◌, ◌<◌, ◌≤◌, ◌++◌, List, [], ◌∷◌, length, take, drop, slice_get, slice_index_or, Option, Some, None}
 use Rattle.psm_value.specs.declared.datum.Datum.{Datum}
 use Rattle.psm_table.specs.declared.map.Pair.{Pair}
+use Rattle.psm_table.specs.declared.map.Position.{Position}
 use Rattle.psm_table.specs.declared.probe.Probe.{Probe}
 use Rattle.psm_table.specs.declared.probe.Probe.TheVariants.{Of, In, Both}
 use Rattle.psm_table.specs.Key.{values_at, AreColumnsOf}
 use Rattle.psm_table.specs.Map.{pairs_below, pairs_above, pair_with}
+use Rattle.psm_table.specs.Runs.{IsIn}
 
 -- the key that is looked for
 abbrev pub probe_key : Probe → List Datum
@@ -33,6 +35,11 @@ module _ {V : Type 0} where
     pub has : pair_with key pairs ≡ None
     pub before : take i pairs ≡ pairs_below key pairs
     pub after : drop i pairs ≡ pairs_above key pairs
+
+  -- the pair that stands there has the key
+  pub record StandsAt (key : List Datum) (runs : List (List (Pair V))) (p : Position) : Type 0 where
+    pub run : IsIn key runs p.run
+    pub at : IsAt key (slice_index_or runs p.run []) p.at
 
   -- the pairs after a key; without a key all
   abbrev pub pairs_past : Option Probe → List (Pair V) → List (Pair V)

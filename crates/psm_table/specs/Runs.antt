@@ -7,7 +7,7 @@ use Rattle.psm_table.specs.Key.{key_order}
 
 -- a run has memory for so many pairs
 abbrev pub most_pairs : ℕ
-most_pairs = 128
+most_pairs = 64
 
 module _ {V : Type 0} where
   -- the pairs of all runs

@@ -41,10 +41,10 @@ pub fn order_of_rows()
 {}
 
 /// A statement that ended leaves the table legal for its CHECKs (ISO/IEC 9075:1992, 11.7 to 11.9): after INSERT and UPDATE
-/// whatever it was, after DELETE if it was so.
+/// whatever it was, after DELETE if it was so. CHECKs see no variables, so what evaluates them is their own.
 pub fn statements_leave_legal_tables()
     ensures inserted { (ev : Evaluator ℕ) (schema : Schema ℕ) (new rows : List (List Datum)) (c : Changed) → inserted ev schema new rows ≡ Ok c → IsLegal ev schema c.rows }
-    ensures updated { (ev : Evaluator ℕ) (schema : Schema ℕ) (sets : List (SetItem ℕ)) (test : Option ℕ) (rows : List (List Datum)) (c : Changed) → updated ev schema sets test rows ≡ Ok c → IsLegal ev schema c.rows }
-    ensures deleted { (ev : Evaluator ℕ) (schema : Schema ℕ) (test : Option ℕ) (rows : List (List Datum)) (c : Changed) → IsLegal ev schema rows → deleted ev test rows ≡ Ok c → IsLegal ev schema c.rows }
-    ensures updated_at { (ev : Evaluator ℕ) (schema : Schema ℕ) (sets : List (SetItem ℕ)) (row : List Datum) (rows : List (List Datum)) (m : Moved) → updated_at ev schema sets row rows ≡ Ok m → IsLegal ev schema m.rows }
+    ensures updated { (ev plain : Evaluator ℕ) (schema : Schema ℕ) (sets : List (SetItem ℕ)) (test : Option ℕ) (rows : List (List Datum)) (c : Changed) → updated ev plain schema sets test rows ≡ Ok c → IsLegal plain schema c.rows }
+    ensures deleted { (ev plain : Evaluator ℕ) (schema : Schema ℕ) (test : Option ℕ) (rows : List (List Datum)) (c : Changed) → IsLegal plain schema rows → deleted ev test rows ≡ Ok c → IsLegal plain schema c.rows }
+    ensures updated_at { (ev plain : Evaluator ℕ) (schema : Schema ℕ) (sets : List (SetItem ℕ)) (row : List Datum) (rows : List (List Datum)) (m : Moved) → updated_at ev plain schema sets row rows ≡ Ok m → IsLegal plain schema m.rows }
 {}

@@ -1,10 +1,11 @@
 //! Ordered maps from keys, which can be asked by values that stand in a row.
-ghost use Rattle.std.specs.Prelude.{◌≡◌, [], Bool, true, is_some, filter, slice_get, IfOk, IfSome, IsSome, OnOk, None, Some};
+ghost use Rattle.std.specs.Prelude.{◌≡◌, [], Bool, true, is_some, filter, slice_get, List, IfOk, IfSome, IsSome, OnOk, None, Some};
 ghost use Rattle.std.specs.Option.{option_copied, ForSome};
 ghost use Rattle.psm_table.specs.Held.{live_rows, row_of};
 ghost use Rattle.psm_table.specs.Key.{values_at, AreColumnsOf};
 ghost use Rattle.psm_table.specs.Map.{value_of, AreAscending, pairs_from, pairs_above, pairs_below, with_pair, with_value};
-ghost use Rattle.psm_table.specs.Place.{ahead, behind, pairs_past, pairs_short_of, probe_key, FitsProbe};
+ghost use Rattle.psm_table.specs.Place.{ahead, behind, pairs_past, pairs_short_of, probe_key, FitsProbe, StandsAt};
+ghost use Rattle.psm_value.specs.declared.datum.Datum.{Datum};
 ghost use Rattle.psm_table.specs.declared.map.Pair.{Pair};
 ghost use Rattle.psm_table.specs.Rows.{last_of};
 
@@ -21,6 +22,13 @@ use std::marker::Model;
 pub(crate) struct Pair<V> {
     pub key: Key,
     pub value: V,
+}
+
+/// Where a pair stands: its run, and its place in that.
+#[derive(Clone, Copy)]
+pub(crate) struct Position {
+    run: usize,
+    at: usize,
 }
 
 /// Pairs in ascending order of their keys, in runs: a pair that is put in moves only others of its run. After
@@ -43,7 +51,7 @@ impl<V> Model for OrderedMap<V> {
 
     ghost Value = { Mapped V };
 
-    ghost view = { λ m. record { pairs = joined m.runs.items; ready = m.ready } };
+    ghost view = { λ m. record { runs = m.runs.items; pairs = joined m.runs.items; ready = m.ready } };
 
     ghost invariant = { λ m. AreAscending (joined m.runs.items) × All IsRun m.runs.items × IfSome m.spare (λ r. r ≡ []) × (m.ready ≡ true → IsSome m.spare × (vec_len m.runs < vec_capacity m.runs)) };
 }
@@ -301,6 +309,31 @@ impl OrderedMap<Option<Row>> {
         };
         let at = locate(self.runs.as_slice(), probe);
         self.runs[at].replace_row(columns, row)
+    }
+
+    /// Where the row of the key stands, if it has one.
+    pub(crate) fn find_row(&self, probe: Probe<'_>) -> Option<Position>
+        requires { FitsProbe probe }
+        ensures at { IfSome result (StandsAt (probe_key probe.entry) self.now.runs) }
+        ensures row { is_some result ≡ is_some (row_of (probe_key probe.entry) self.now.pairs) }
+    {
+        let runs = self.runs.as_slice();
+        if runs.is_empty() {
+            return None;
+        }
+        let run = locate(runs, probe);
+        let at = runs[run].find_row(probe)?;
+        Some(Position { run, at })
+    }
+
+    /// Puts a row in the place of the pair that stands there, and gives the row that was there.
+    pub(crate) fn replace_at(&mut self, position: Position, row: Row) -> Option<Row>
+        requires { (key : List Datum) × StandsAt key self.old.runs position }
+        ensures row { (key : List Datum) → StandsAt key self.old.runs position → result ≡ row_of key self.old.pairs }
+        ensures pairs { (key : List Datum) → StandsAt key self.old.runs position → self.new.pairs ≡ with_value key (Some row) self.old.pairs }
+        ensures ordered { AreAscending self.new.pairs }
+    {
+        self.runs[position.run].replace_at(position.at, row)
     }
 
     /// The row that follows a key, or the first.

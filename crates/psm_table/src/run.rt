@@ -1,5 +1,5 @@
 //! Runs of pairs in ascending order of their keys, each in memory of its own that is taken when it is made.
-ghost use Rattle.std.specs.Prelude.{◌≡◌, ◌+◌, ◌<◌, ◌≤◌, [], ◌++◌, length, filter, insert, not, slice_get, IfOk, IfErr, IsSome, None, Some};
+ghost use Rattle.std.specs.Prelude.{◌≡◌, ◌+◌, ◌<◌, ◌≤◌, [], ◌++◌, length, filter, insert, not, slice_get, is_some, List, IfOk, IfSome, IfErr, IsSome, None, Some};
 ghost use Rattle.std.specs.Vec.{vec_len, vec_capacity};
 ghost use Rattle.std.specs.Bool.{OnTrue, OnFalse};
 ghost use Rattle.std.specs.Option.{option_copied};
@@ -8,6 +8,7 @@ ghost use Rattle.psm_table.specs.Held.{row_of};
 ghost use Rattle.psm_table.specs.Key.{key_order, values_at, AreColumnsOf};
 ghost use Rattle.psm_table.specs.Map.{value_of, pairs_from, pairs_above, pairs_below, prefix_order, with_pair, with_value};
 ghost use Rattle.psm_table.specs.Place.{probe_key, FitsProbe, IsAt, IsGap};
+ghost use Rattle.psm_value.specs.declared.datum.Datum.{Datum};
 ghost use Rattle.psm_table.specs.declared.map.Pair.{Pair};
 ghost use Rattle.psm_table.specs.Rows.{last_of};
 ghost use Rattle.psm_table.specs.Runs.{begins, most_pairs, IsRun};
@@ -22,7 +23,7 @@ use std::marker::Model;
 use std::mem;
 
 /// A run has memory for so many pairs.
-const MOST_PAIRS: usize = 128;
+const MOST_PAIRS: usize = 64;
 
 /// Pairs in ascending order of their keys.
 #[derive(Drop)]
@@ -251,6 +252,27 @@ impl Run<Option<Row>> {
             Ok(at) => mem::replace(&mut self.pairs[at].value, None),
             Err(_) => None,
         }
+    }
+
+    /// Where the row of the key stands, if it has one.
+    pub(crate) fn find_row(&self, probe: Probe<'_>) -> Option<usize>
+        requires { FitsProbe probe }
+        ensures at { IfSome result (IsAt (probe_key probe.entry) self.now) }
+        ensures row { is_some result ≡ is_some (row_of (probe_key probe.entry) self.now) }
+    {
+        match self.find(probe) {
+            Ok(at) => self.pairs[at].value.is_some().then_some(at),
+            Err(_) => None,
+        }
+    }
+
+    /// Puts a row in the place of the pair that stands there, and gives the row that was there.
+    pub(crate) fn replace_at(&mut self, at: usize, row: Row) -> Option<Row>
+        requires { at < length self.old }
+        ensures row { (key : List Datum) → IsAt key self.old at → result ≡ row_of key self.old }
+        ensures pairs { (key : List Datum) → IsAt key self.old at → self.new ≡ with_value key (Some row) self.old }
+    {
+        mem::replace(&mut self.pairs[at].value, Some(row))
     }
 
     /// Puts a row in whose key has a place, and gives the row that was there.

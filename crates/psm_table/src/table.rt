@@ -184,11 +184,11 @@ impl Table {
             columns: self.def.key.items(),
             row: row.values(),
         };
-        if self.rows.row_at(probe).is_none() {
+        let Some(position) = self.rows.find_row(probe) else {
             return Err(RowFault::Absent);
-        }
+        };
         enter(self.alloc, &mut self.indexes, &self.def, row.values())?;
-        match self.rows.replace_row(self.def.key.items(), row) {
+        match self.rows.replace_at(position, row) {
             Some(was) => {
                 self.left = self.left.saturating_add(1);
                 steps.tick();

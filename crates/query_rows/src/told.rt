@@ -10,15 +10,17 @@ pub fn word(alloc: Global, word: &str) -> Result<String, Fault> {
 }
 
 /// Each row, or that there is none, and whether a null was skipped.
-pub fn answer(alloc: Global, answer: &Answer) -> Result<String, Fault> {
+pub fn answer(alloc: Global, answer: Answer) -> Result<String, Fault> {
+    let skipped = answer.skipped();
     let mut told = Vec::new(alloc);
-    for row in answer.rows() {
-        put_row(&mut told, row)?;
-    }
     if answer.rows().is_empty() {
         told.extend_from_slice(b"none")?;
     }
-    if answer.skipped() {
+    let rows = answer.into_rows();
+    for row in rows.as_slice() {
+        put_row(&mut told, row)?;
+    }
+    if skipped {
         told.extend_from_slice(b" without nulls")?;
     }
     String::from_utf8(told).or(Err(Fault::NoRow))

@@ -1,0 +1,88 @@
+-- The end of a statement that has new rows.
+use Rattle.std.proofs.Common.{◌≡◌, ℕ, ◌+◌, ◌<◌, ◌≤◌, List, [], ◌∷◌, ◌++◌, length, length-append, Bool, true, false, ◌&&◌, refl, ap, sym, subst, ◌∙◌, arith, Result, Ok, Err}
+use Rattle.std.specs.Prelude.{codes, nat_lt, if◌then◌else◌}
+use Rattle.std.proofs.lemmas.Bool.{le-ltb, lt-ltb}
+use Rattle.std.proofs.lemmas.List.Kept.{AllPairs-filter}
+use Rattle.std.specs.Ordering.{is_gt, is_lt}
+use Rattle.std.specs.declared.cmp.Ordering.TheVariants.{Less}
+use Rattle.psm_sqlstate.specs.declared.state.SqlState.{SqlState}
+use Rattle.psm_value.specs.declared.datum.Datum.{Datum}
+use Rattle.psm_table.specs.Changing.{ended, ended_with, in_order, keep_rules, rows_pass, then_of, Failure, IsLegal, OfTable, Raised, Schema}
+use Rattle.psm_table.specs.Evaluator.{Evaluator}
+use Rattle.psm_table.specs.Key.{key_order, row_order, values_at}
+use Rattle.psm_table.specs.Rows.{rows_above, rows_below, without, IsAscending}
+use Rattle.psm_table.specs.Table.{most_rows, with_row, Contents}
+use Rattle.psm_table.proofs.Checks.{passing_rows}
+use Rattle.psm_table.proofs.Legal.{legal_passes}
+use Rattle.psm_table.proofs.Filters.{AllPairs-append}
+use Rattle.psm_table.proofs.Ordered.{in_order-ascending}
+use Rattle.psm_table.proofs.UniqueLaws.{across-rows}
+use Rattle.psm_dml.specs.Rows.{fit_in, with_rows, without_all}
+use Rattle.psm_dml.proofs.Putting.{all_in, AreIn}
+
+abbrev Row : Type 0
+Row = List Datum
+
+abbrev Rises : List ℕ → Row → Row → Type 0
+Rises columns a b = key_order (values_at columns a) (values_at columns b) ≡ Less
+
+module _ {E : Type 0} (ev : Evaluator E) (schema : Schema E) where
+  abbrev ending : List Row → Result Bool SqlState → Result (List Row) Failure
+  ending rows r = then_of r (λ ok. ended_with schema.def (in_order schema.def.key rows) (ok && keep_rules schema.def rows))
+
+  few : (rows : List Row) → length rows ≤ most_rows → ended ev schema rows ≡ ending rows (rows_pass ev schema.checks (in_order schema.def.key rows))
+  few rows l = let e : nat_lt most_rows (length rows) ≡ false = le-ltb most_rows (length rows) l in rw e refl
+
+  -- where the old rows are legal, the CHECKs of the new ones decide
+  ended_by : (old new : List Row) → IsLegal ev schema old → length (old ++ new) ≤ most_rows → ended ev schema (old ++ new) ≡ ending (old ++ new) (rows_pass ev schema.checks (in_order schema.def.key new))
+  ended_by old new h l = few (old ++ new) l ∙ ap (ending (old ++ new)) (passing_rows ev schema.checks schema.def.key old new (legal_passes ev schema old h))
+
+  pub too_many : (rows : List Row) → most_rows < length rows → ended ev schema rows ≡ Err (OfTable (codes "X0002"))
+  too_many rows l = let e : nat_lt most_rows (length rows) ≡ true = lt-ltb most_rows (length rows) l in rw e refl
+
+-- the table that the old rows are in, and new ones
+module _ {E : Type 0} (ev : Evaluator E) (checks : List E) (c : Contents) (new : List Row) (h : IsLegal ev (record { def = c.def; checks = checks }) c.rows) (few : length c.rows + length new ≤ most_rows) where
+  abbrev schema : Schema E
+  schema = record { def = c.def; checks = checks }
+
+  abbrev all : List Row
+  all = c.rows ++ new
+
+  bound : length all ≤ most_rows
+  bound = omega (arith, few, length-append c.rows new)
+
+  pub ends_raised : (s : SqlState) → rows_pass ev checks (in_order c.def.key new) ≡ Err s → ended ev schema all ≡ Err (Raised s)
+  ends_raised s e = ended_by ev schema c.rows new h bound ∙ ap (ending ev schema all) e
+
+  pub ends_false : rows_pass ev checks (in_order c.def.key new) ≡ Ok false → ended ev schema all ≡ Err (OfTable (codes "23000"))
+  ends_false e = ended_by ev schema c.rows new h bound ∙ ap (ending ev schema all) e
+
+  ends_by : (b : Bool) → rows_pass ev checks (in_order c.def.key new) ≡ Ok true → keep_rules c.def all ≡ b → ended ev schema all ≡ ended_with c.def (in_order c.def.key all) b
+  ends_by b e f = ended_by ev schema c.rows new h bound ∙ ap (ending ev schema all) e ∙ ap (ended_with c.def (in_order c.def.key all)) f
+
+  module _ (up : IsAscending c.def.key c.rows) (pass : rows_pass ev checks (in_order c.def.key new) ≡ Ok true) where
+    together : AreIn new c.rows c
+    together = all_in new c.rows c (sym (in_order-ascending c.def.key c.rows up)) up h.rules
+
+    pub ends_broken : fit_in new c ≡ false → ended ev schema all ≡ Err (OfTable (codes "23000"))
+    ends_broken e = ends_by false pass (sym together.rules ∙ e)
+
+    pub ends_ok : fit_in new c ≡ true → ended ev schema all ≡ Ok (with_rows new c).rows
+    ends_ok e = ends_by true pass (sym together.rules ∙ e) ∙ ap Ok (sym (together.order e))
+
+-- rows that are put in leave the definition
+pub rows_are : (rows : List Row) (c : Contents) → with_rows rows c ≡ record c { rows = (with_rows rows c).rows }
+rows_are [] c = refl
+rows_are (row ∷ rows) c = rows_are rows (with_row c row)
+
+-- rows that are taken out leave the others in order
+ascending-without : (columns : List ℕ) (key : List Datum) (rows : List Row) → IsAscending columns rows → IsAscending columns (without columns key rows)
+ascending-without columns key rows up =
+    AllPairs-append (Rises columns) (rows_below columns key rows) (rows_above columns key rows)
+    (AllPairs-filter (Rises columns) (λ r. is_lt (row_order columns key r)) rows up)
+    (AllPairs-filter (Rises columns) (λ r. is_gt (row_order columns key r)) rows up)
+    (across-rows columns key (Rises columns) rows up up)
+
+pub ascending-all : (columns : List ℕ) (keys : List (List Datum)) (rows : List Row) → IsAscending columns rows → IsAscending columns (without_all columns keys rows)
+ascending-all columns [] rows up = up
+ascending-all columns (key ∷ keys) rows up = ascending-all columns keys (without columns key rows) (ascending-without columns key rows up)

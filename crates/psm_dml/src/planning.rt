@@ -1,0 +1,111 @@
+//! What UPDATE makes of the rows of a table (ISO/IEC 9075:1992, 13.10).
+ghost use Rattle.std.specs.Prelude.{◌≡◌, All, IfOk, IfSome, OnOk, map};
+ghost use Rattle.std.specs.Option.{option_copied};
+ghost use Rattle.psm_value.specs.Answer.{Gives};
+ghost use Rattle.psm_table.specs.Definition.{IsRow};
+ghost use Rattle.psm_table.specs.Evaluator.{test_of};
+ghost use Rattle.psm_table.specs.Queries.{taken, walked};
+ghost use Rattle.psm_table.specs.Table.{IsTable};
+ghost use Rattle.psm_tablecode.specs.Codes.{over};
+ghost use Rattle.psm_tablecode.specs.Suits.{Runs};
+ghost use Rattle.psm_dml.specs.Changes.{changing, row_set};
+ghost use Rattle.psm_dml.specs.Rows.{with_option};
+ghost use Rattle.psm_dml.specs.Suits.{Assigns, SuitSets, SuitsTest};
+
+use crate::finding::meets;
+use crate::setting::set_row;
+use psm_exprcode::{ExprCode, Operand, SetItem};
+use psm_table::{Key, List, Row, Table};
+use psm_tablecode::{first, following};
+use psm_value::{Datum, ValueFault};
+use std::alloc::{AllocError, Global};
+
+/// A change of a row: the key that it had, and what is made of it.
+#[derive(Drop)]
+pub(crate) struct Change {
+    pub key: Key,
+    pub made: Row,
+}
+
+/// The changes of the rows that meet a test, in the order of their keys: row by row the test, then all new values, and
+/// then these as the columns store them.
+pub(crate) fn changes(
+    alloc: Global,
+    table: &Table,
+    sets: &[SetItem],
+    test: Option<&ExprCode>,
+    vars: &[Datum],
+) -> Result<List<Change>, ValueFault>
+    requires test { SuitsTest (option_copied test) vars.now table.now.contents.def }
+    requires sets { SuitSets sets.now vars.now table.now.contents.def }
+    ensures changes { Gives (walked (test_of (over vars.now) (option_copied test.entry)) (changing table.now.contents.def.key (row_set vars.now table.now.contents.def sets.now)) table.now.contents.rows) result }
+    ensures table { IsTable table.now.contents }
+{
+    let mut stack = Vec::new(alloc);
+    let mut changes = Vec::new(alloc);
+    let mut next = first(table, false);
+    for at in 0..table.len() {
+        let Some(row) = next else {
+            break;
+        };
+        let change = change_of(alloc, &mut stack, table, sets, test, row, vars)?;
+        add_change(&mut changes, change)?;
+        next = following(table, false, row);
+    }
+    Ok(List::of(changes))
+}
+
+// The change of a row, if the row meets the test.
+fn change_of(
+    alloc: Global,
+    stack: &mut Vec<Operand>,
+    table: &Table,
+    sets: &[SetItem],
+    test: Option<&ExprCode>,
+    row: &Row,
+    vars: &[Datum],
+) -> Result<Option<Change>, ValueFault>
+    requires row { IsRow table.now.contents.def row.now }
+    requires runs { IfSome (option_copied test) (Runs row.now vars.now) }
+    requires sets { All (Assigns table.now.contents.def row.now vars.now) sets.now }
+    ensures { Gives (taken (test_of (over vars.now) (option_copied test.entry)) (changing table.now.contents.def.key (row_set vars.now table.now.contents.def sets.now)) row.now) result }
+{
+    if meets(alloc, stack, test, row.values(), vars)? {
+        let made = set_row(alloc, stack, table.def(), sets, row, vars)?;
+        let key = table.key_of(alloc, row)?;
+        Ok(Some(Change { key, made }))
+    } else {
+        Ok(None)
+    }
+}
+
+fn add_change(changes: &mut Vec<Change>, change: Option<Change>) -> Result<(), AllocError>
+    ensures { OnOk result (changes.new.items ≡ with_option changes.old.items change) }
+{
+    if let Some(change) = change {
+        changes.push(change)?;
+    }
+    Ok(())
+}
+
+/// Changes, keys and rows apart.
+#[derive(Drop)]
+pub(crate) struct Plan {
+    pub keys: Vec<Key>,
+    pub rows: Vec<Row>,
+}
+
+/// The keys of changes, and what is made of the rows that have them.
+pub(crate) fn split(alloc: Global, changes: Vec<Change>) -> Result<Plan, AllocError>
+    ensures keys { IfOk result (λ plan. plan.keys.items ≡ map (λ c. c.key) changes.items) }
+    ensures rows { IfOk result (λ plan. plan.rows.items ≡ map (λ c. c.made) changes.items) }
+{
+    let mut keys = Vec::with_capacity(alloc, changes.len())?;
+    let mut rows = Vec::with_capacity(alloc, changes.len())?;
+    for change in changes {
+        let Change { key, made } = change;
+        keys.push(key)?;
+        rows.push(made)?;
+    }
+    Ok(Plan { keys, rows })
+}
