@@ -91,7 +91,7 @@ module _ (def : TableDef) (row : Row) where
   apart_again rows = apart_parts rows ∙ sym (all-append p (rows_below def.key own rows) (rows_above def.key own rows))
 
 module _ (row : Row) (key : List Datum) (c : Contents) (same : row_order c.def.key key row ≡ Equal) where
-  others : without_row key c ≡ without_row (values_at c.def.key row) c
+  pub others : without_row key c ≡ without_row (values_at c.def.key row) c
   others = ap (λ r. record c { rows = r }) (without-alike c.def.key (values_at c.def.key row) key same c.rows)
 
   -- the row is put in beside the others

@@ -21,8 +21,8 @@ use Rattle.psm_table.specs.Evaluator.{and_then, mapped, test_of, Evaluator}
 use Rattle.psm_table.specs.Key.{key_order, row_order, values_at}
 use Rattle.psm_table.specs.Queries.{is_met, walked}
 use Rattle.psm_table.specs.Rows.{row_with, IsAscending}
-use Rattle.psm_table.specs.Table.{keyed, most_rows, Contents, IsTable}
-use Rattle.psm_table.proofs.Filters.{AllPairs-rest}
+use Rattle.psm_table.specs.Table.{keyed, most_rows, without_row, Contents, IsTable}
+use Rattle.psm_table.proofs.Filters.{equal_is, find_passes, AllPairs-rest}
 use Rattle.psm_table.proofs.Undo.{after_equal}
 use Rattle.psm_tablecode.specs.Codes.{over}
 use Rattle.psm_dml.specs.Changes.{changing, row_set, set_of}
@@ -34,6 +34,8 @@ use Rattle.psm_value.specs.declared.fault.ValueFault.{ValueFault}
 use Rattle.psm_value.specs.declared.fault.ValueFault.TheVariants.{Condition, Memory}
 use Rattle.psm_tablecode.specs.Faults.{Tells}
 use Rattle.psm_dml.proofs.Answering.{gives_err}
+use Rattle.psm_dml.proofs.Effects.{absent}
+use Rattle.psm_dml.proofs.InPlace.{others}
 use Rattle.psm_dml.proofs.Finished.{said, there as there_is}
 use Rattle.psm_dml.proofs.Updated.{changed_few, changed_keys, changed_legal, changed_whole, row_set_whole}
 
@@ -209,3 +211,13 @@ module _ (checks : List (List Line)) (sets : List set_code.SetItem) (vars : List
   move_none c key old new t there none f =
       said (λ x. EndsAtRow x (moving_of x) (keyed x key) old t new (Ok false)) (slice_get old t) c there
       (let due = moving_of c in subst (λ o. EndsAtRow c due o old t new (Ok false)) none (refl, f))
+
+-- ---- DELETE of the row that has a key
+
+-- what is left of a legal table without the row of a key is legal
+pub legal_without : (checks : List (List Line)) (c : Contents) (key : List Datum) (o : Option Row) → keyed c key ≡ o → IsTable c → IsLegal (over []) (schema_of c.def checks) c.rows → IsLegal (over []) (schema_of c.def checks) (without_row key c).rows
+legal_without checks c key None e table h = subst (λ (x : Contents). IsLegal (over []) (schema_of x.def checks) x.rows) (sym (absent c key table e)) h
+legal_without checks c key (Some row) e table h =
+    let itself : Change = record { key = values_at c.def.key row; made = row } in
+    let same : row_order c.def.key key row ≡ Equal = equal_is (row_order c.def.key key row) (find_passes (λ r. is_eq (row_order c.def.key key r)) c.rows row e) in
+    subst (λ (x : Contents). IsLegal (over []) (schema_of x.def checks) x.rows) (sym (others row key c same)) (move_legal checks [] [] c key row e table itself refl h)
