@@ -1,6 +1,7 @@
 pub mod Among
 pub mod Likes
 pub mod Positions
+pub mod Replacing
 pub mod Results
 pub mod Running
 pub mod Sharing

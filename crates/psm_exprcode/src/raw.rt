@@ -3,6 +3,7 @@ ghost use Rattle.std.specs.Prelude.{◌≡◌, ◌<◌, [], ◌∷◌, ◌++◌,
 ghost use Rattle.std.specs.List.{All};
 ghost use Rattle.std.specs.Option.{option_copied};
 ghost use Rattle.psm_exprcode.specs.Lent.{lines_in};
+ghost use Rattle.psm_exprcode.specs.Numbered.{with_op_at};
 
 use crate::lent::NumberedLines;
 use crate::op::{Letter, Op};
@@ -85,6 +86,18 @@ impl RawExpr {
         ensures { OnOk result (Some letters.new.items ≡ option_map (λ l. l.stack) (slice_get self.now at)) }
     {
         self.stacks.letters(self.lines[at].stack, letters)
+    }
+
+    /// Puts another operation at the line of that number, which keeps its stack. Where there is no such line
+    /// nothing is changed.
+    #[tactic(auto, using(crate::proofs::Replacing::lines_set, crate::proofs::Replacing::lines_beyond, crate::proofs::Replacing::stated_set))]
+    pub fn set_op(&mut self, at: usize, op: Op)
+        ensures { self.new ≡ with_op_at self.old at op }
+    {
+        if at < self.lines.len() {
+            let line = &mut self.lines[at];
+            line.op = op;
+        }
     }
 
     /// Lends the lines with their stacks.

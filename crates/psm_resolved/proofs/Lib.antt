@@ -1,0 +1,14 @@
+pub mod Examples
+pub mod Equations
+pub mod Letters
+pub mod Lines
+pub mod Operations
+pub mod Forms
+pub mod Several
+pub mod Sources
+pub mod Jumps
+pub mod Lists
+pub mod Pending
+pub mod Cases
+pub mod Choices
+pub mod Whole

@@ -1,0 +1,7 @@
+use Rattle.std.proofs.Common.{◌≡◌, drop}
+use Rattle.psm_resolved.specs.Exits.{exit_op}
+use Rattle.psm_resolved.specs.Written.{patched}
+use Rattle.psm_resolved.proofs.writer.Writer.close.Given as goal
+
+abbrev pub invariant-loop-place : goal.invariant-loop-place
+invariant-loop-place l = (patched (exit_op l.kind l.end) (drop l.place-index l.places) l.self.lines ≡ patched (exit_op l.kind l.end) l.places l.fn.self.lines) × (l.self.stack ≡ l.fn.self.stack)

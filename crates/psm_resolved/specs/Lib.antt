@@ -1,0 +1,8 @@
+pub mod Outcomes
+pub mod RowValue
+pub mod Sort
+pub mod Blocks
+pub mod Written
+pub mod Exits
+pub mod Open
+pub mod Choices

@@ -1,0 +1,192 @@
+//! Lines that are written one behind another.
+ghost use Rattle.std.specs.Prelude.{◌≡◌, ◌∷◌, [], ◌++◌, drop, reverse, length, IfOk};
+ghost use Rattle.psm_exprcode.specs.Numbered.{with_op_at};
+ghost use Rattle.psm_resolved.specs.Written.{with_line, with_op, with_not, with_scale, with_copy, with_comparison, last_letter, patched, Jumps, Leaves};
+ghost use Rattle.psm_resolved.specs.Exits.{exit_op};
+
+use psm_exprcode::{Letter, Op, RawExpr};
+use std::alloc::{AllocError, Global};
+use std::marker::Model;
+
+/// The lines so far, and the letters of the operands behind them, the last one at the end.
+#[derive(Drop)]
+pub(crate) struct Writer {
+    lines: RawExpr,
+    stack: Vec<Letter>,
+}
+
+impl Model for Writer {
+    ghost use Rattle.std.specs.Prelude.{reverse};
+    ghost use Rattle.psm_resolved.specs.Written.{Written};
+
+    ghost Value = { Written };
+
+    ghost view = { λ w. record { lines = w.lines; stack = reverse w.stack.items } };
+}
+
+impl Writer {
+    /// No line yet.
+    pub fn new(alloc: Global) -> Writer
+        ensures { result ≡ record { lines = []; stack = [] } }
+    {
+        Writer {
+            lines: RawExpr::new(alloc),
+            stack: Vec::new(alloc),
+        }
+    }
+
+    /// Gives the lines back.
+    pub fn into_lines(self) -> RawExpr
+        ensures { result ≡ self.lines }
+    {
+        let Writer { lines, .. } = self;
+        lines
+    }
+
+    /// Writes an operation on the operands that there are.
+    fn line(&mut self, op: Op) -> Result<(), AllocError>
+        ensures { IfOk result (λ _. self.new ≡ with_line self.old op self.old.stack) }
+    {
+        self.lines.push(self.stack.as_slice(), op)
+    }
+
+    /// Takes so many letters off, or all that there are.
+    #[tactic(auto, using(crate::proofs::Letters::dropped_below))]
+    fn forget(&mut self, count: usize)
+        ensures { self.new ≡ record { lines = self.old.lines; stack = drop count self.old.stack } }
+    {
+        let below = self.stack.len().saturating_sub(count);
+        self.stack.truncate(below);
+    }
+
+    /// Writes an operation that takes so many operands and puts one of that letter.
+    pub fn apply(&mut self, op: Op, takes: usize, puts: Letter) -> Result<(), AllocError>
+        ensures { IfOk result (λ _. self.new ≡ with_op self.old op takes puts) }
+    {
+        self.line(op)?;
+        self.forget(takes);
+        self.stack.push(puts)?;
+        Ok(())
+    }
+
+    /// Writes NOT, where it is wanted.
+    pub fn perhaps_not(&mut self, negated: bool) -> Result<(), AllocError>
+        ensures { IfOk result (λ _. self.new ≡ with_not negated self.old) }
+    {
+        if negated {
+            self.apply(Op::Not, 1, Letter::B)?;
+        }
+        Ok(())
+    }
+
+    /// Writes a change to a scale, where there is one.
+    pub fn rescale(&mut self, scale: Option<u8>) -> Result<(), AllocError>
+        ensures { IfOk result (λ _. self.new ≡ with_scale scale self.old) }
+    {
+        match scale {
+            None => Ok(()),
+            Some(scale) => self.apply(Op::Rescale(scale), 1, Letter::N),
+        }
+    }
+
+    /// Writes a copy of the operand of a CASE, where its tests are compared with it.
+    pub fn perhaps_duplicate(&mut self, is_compared: bool) -> Result<(), AllocError>
+        ensures { IfOk result (λ _. self.new ≡ with_copy is_compared self.old) }
+    {
+        if is_compared {
+            let letter = self.last();
+            self.apply(Op::Duplicate, 0, letter)?;
+        }
+        Ok(())
+    }
+
+    /// Writes the comparison with it.
+    pub fn perhaps_compare(&mut self, is_compared: bool) -> Result<(), AllocError>
+        ensures { IfOk result (λ _. self.new ≡ with_comparison is_compared self.old) }
+    {
+        if is_compared {
+            self.apply(Op::Equal, 2, Letter::B)?;
+        }
+        Ok(())
+    }
+
+    /// The letter of the last operand; that of a number where there is none.
+    pub fn last(&self) -> Letter
+        ensures { result ≡ last_letter self.now.stack }
+    {
+        match self.stack.last() {
+            Some(letter) => *letter,
+            None => Letter::N,
+        }
+    }
+
+    /// Writes an operation that may jump to a place that isn't known yet, and takes so many letters off. The
+    /// answer is its own place.
+    pub fn jump(&mut self, op: Op, takes: usize) -> Result<usize, AllocError>
+        ensures { IfOk result (λ place. Jumps op takes place self.old self.new) }
+    {
+        let place = self.lines.len();
+        self.line(op)?;
+        self.forget(takes);
+        Ok(place)
+    }
+
+    /// The place of the line that follows. More lines than fit in 32 bits are want of memory.
+    pub fn here(&self) -> Result<u32, AllocError>
+        ensures { IfOk result (λ place. place ≡ length self.now.lines) }
+    {
+        match u32::try_from(self.lines.len()) {
+            Ok(place) => Ok(place),
+            Err(_) => Err(AllocError),
+        }
+    }
+
+    /// Puts another operation at a line.
+    pub fn set(&mut self, place: usize, op: Op)
+        ensures { self.new ≡ record { lines = with_op_at self.old.lines place op; stack = self.old.stack } }
+    {
+        self.lines.set_op(place, op);
+    }
+
+    /// Writes a jump to the end behind a result, and lets the jump at that place pass over both. The answer is
+    /// the place of the jump to the end.
+    pub fn leave(&mut self, unless: usize) -> Result<usize, AllocError>
+        ensures { IfOk result (λ place. Leaves unless place self.old self.new) }
+    {
+        let place = self.jump(Op::Jump(0), 1)?;
+        let next = self.here()?;
+        self.set(unless, Op::JumpUnlessTrue(next));
+        Ok(place)
+    }
+
+    /// Lets the operations at these places jump to the line that follows.
+    pub fn close(&mut self, places: &[usize], kind: Exit) -> Result<(), AllocError>
+        ensures { IfOk result (λ _. self.new ≡ record { lines = patched (exit_op kind (length self.old.lines)) places.now self.old.lines; stack = self.old.stack }) }
+    {
+        let end = self.here()?;
+        for place in places {
+            self.set(*place, kind.op(end));
+        }
+        Ok(())
+    }
+}
+
+/// How an operation goes to the end of a CASE or a COALESCE.
+#[derive(Clone, Copy)]
+pub(crate) enum Exit {
+    /// Always.
+    Always,
+    /// With a value that isn't null.
+    UnlessNull,
+}
+
+impl Exit {
+    fn op(self, end: u32) -> Op
+        ensures { result ≡ exit_op self end }
+    {
+        match self {
+            Exit::Always => Op::Jump(end),
+            Exit::UnlessNull => Op::JumpUnlessNull(end),
+        }
+    }
+}
