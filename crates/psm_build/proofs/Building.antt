@@ -1,12 +1,14 @@
 -- What is answered for a file, from the answers of its steps.
 use Rattle.std.proofs.Common.{◌≡◌, ℕ, List, Result, Ok, Err, refl, inl, inr}
 use Rattle.std.specs.Prelude.{IsOkUnless}
+use Rattle.psm_built.specs.Built.{IsBuiltModule}
+use Rattle.psm_built.specs.declared.tree.Module.{Module}
 use Rattle.psm_built.specs.declared.tree.Signature.{Signature}
 use Rattle.psm_built.specs.declared.tree.Script.{Script}
 use Rattle.psm_straight.specs.declared.code.Code.{Code}
 use Rattle.psm_tree.proofs.FileFits.{script_fit}
 use Rattle.psm_tree.specs.declared.file.FileTree.{FileTree}
-use Rattle.psm_build.specs.Source.{module_files, scripts, IsTreeOf, IsScript, HasScript}
+use Rattle.psm_build.specs.Source.{module_files, scripts, IsTreeOf, IsAccepted, IsScript, HasScript}
 use Rattle.psm_build.specs.Program.{IsModuleFile, StandsFor, IsScriptOf}
 use Rattle.psm_build.specs.Building.{ReadsTree, Accepts, Builds, BuildsScript, BuildsOver, GivesScript}
 use Rattle.psm_build.specs.declared.fault.BuildFault.{BuildFault}
@@ -25,6 +27,10 @@ pub module_with_fault : (bytes : List ℕ) (tree : FileTree) (e : BuildFault) �
 module_with_fault bytes tree (Refused line column fault) is h = inr (record { tree = tree; tree_is = is; breaks = h })
 module_with_fault bytes tree NotBuilt is h = absurd h
 module_with_fault bytes tree Memory is h = tt
+
+-- a file without a fault whose tree isn't built
+pub module_not_built : (bytes : List ℕ) (tree : FileTree) → IsTreeOf module_files bytes tree → IsAccepted tree → ((m : Module) → IsBuiltModule tree m → ⊥) → Builds bytes (Err NotBuilt)
+module_not_built bytes tree is accepted none = record { unbuilt = record { tree = tree; tree_is = is; none = λ h. none h.0 h.1 }; accepted = accepted }
 
 pub script_without_tree : (signature : Signature) (bytes : List ℕ) (e : BuildFault) → ReadsTree scripts bytes (Err e) → BuildsScript signature bytes (Err e)
 script_without_tree signature bytes (Refused line column fault) h = h
