@@ -1,5 +1,5 @@
 -- How statements end.
-use Rattle.std.proofs.Common.{◌≡◌, ℕ, List, refl, sym, subst, ◌∙◌, Option, Some, Result, Ok, Err}
+use Rattle.std.proofs.Common.{◌≡◌, ℕ, List, refl, sym, subst, Some, Result, Ok, Err}
 use Rattle.std.specs.Prelude.{IfSome, slice_get, slice_set}
 use Rattle.psm_sqlstate.specs.declared.state.SqlState.{SqlState}
 use Rattle.psm_cond.specs.declared.fault.DataFault.{DataFault}

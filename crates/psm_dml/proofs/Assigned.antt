@@ -1,12 +1,12 @@
 -- The row that assignments make of an old one.
-use Rattle.std.proofs.Common.{◌≡◌, ℕ, zero, suc, ◌+◌, ◌<◌, List, [], ◌∷◌, length, get_or, set, drop, refl, ap, sym, subst, ◌∙◌, arith, Result, Ok, Err}
-use Rattle.std.specs.Prelude.{All, map, slice_index_or, slice_set}
+use Rattle.std.proofs.Common.{◌≡◌, ℕ, zero, suc, ◌+◌, ◌<◌, List, [], ◌∷◌, length, get_or, drop, refl, ap, sym, subst, ◌∙◌, arith, Result, Ok, Err}
+use Rattle.std.specs.Prelude.{map, slice_index_or, slice_set}
 use Rattle.std.specs.List.{zip}
-use Rattle.std.proofs.lemmas.List.{length-map, length-set}
+use Rattle.std.proofs.lemmas.List.{length-set}
 use Rattle.std.proofs.lemmas.List.Elements.{All-cons, All-head, All-nil, All-tail}
 use Rattle.psm_sqlstate.specs.declared.state.SqlState.{SqlState}
 use Rattle.psm_value.specs.Answer.{Gives}
-use Rattle.psm_value.specs.SqlType.{IsOfFamily, IsType}
+use Rattle.psm_value.specs.SqlType.{IsOfFamily}
 use Rattle.psm_value.specs.Stored.{stored}
 use Rattle.psm_value.specs.declared.datum.Datum.{Datum}
 use Rattle.psm_value.specs.declared.fault.ValueFault.{ValueFault}
@@ -17,7 +17,7 @@ use Rattle.psm_value.proofs.Stable.{stored-of_family}
 use Rattle.psm_table.specs.declared.definition.Column.{Column}
 use Rattle.psm_table.specs.declared.definition.TableDef.{TableDef}
 use Rattle.psm_table.specs.Changing.{kind_of, new_values, set_row, with_values, SetItem}
-use Rattle.psm_table.specs.Definition.{kinds_of, AreOfFamilies, HasColumns}
+use Rattle.psm_table.specs.Definition.{kinds_of, AreOfFamilies}
 use Rattle.psm_table.specs.Evaluator.{and_then, collected, mapped, Evaluator}
 use Rattle.psm_exprcode.specs.declared.op.Line.{Line}
 use Rattle.psm_exprcode.specs.declared.set_item.SetItem as set_code

@@ -1,11 +1,10 @@
 -- Assignments that fit a table may be made over each of its rows.
-use Rattle.std.proofs.Common.{◌≡◌, ◌<◌, List, [], ◌∷◌, length, get_or, Bool, true, false, ◌&&◌, refl, ap, sym, subst, ◌∙◌, arith}
-use Rattle.std.specs.Prelude.{All, IsTrue, nat_lt}
+use Rattle.std.proofs.Common.{◌≡◌, List, length, get_or, true, ◌∙◌, arith}
+use Rattle.std.specs.Prelude.{All, nat_lt}
 use Rattle.std.proofs.lemmas.Bool.{ltb-true}
 use Rattle.std.proofs.lemmas.List.{length-map}
 use Rattle.std.proofs.lemmas.List.Sums.{AllPass-from_list_all}
 use Rattle.psm_value.specs.declared.datum.Datum.{Datum}
-use Rattle.psm_exprcode.specs.declared.op.Letter.{Letter}
 use Rattle.psm_exprcode.specs.declared.set_item.SetItem.{SetItem}
 use Rattle.psm_exprcode.specs.Kinds.{letter_of}
 use Rattle.psm_table.specs.declared.definition.TableDef.{TableDef}

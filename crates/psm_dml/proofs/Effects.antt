@@ -1,17 +1,15 @@
 -- What calls of a store do, one after another.
 use Rattle.std.proofs.Common.{◌≡◌, ℕ, zero, suc, ◌+◌, ◌<◌, ◌≤◌, List, [], ◌∷◌, ◌++◌, length, get_or, take, drop, Bool, true, false, refl, ap, sym, subst, ◌∙◌, arith, Option, Some, None, Result, Ok, Err}
-use Rattle.std.specs.Prelude.{All, IfOk, IfSome, IsSome, map, option_map, slice_get, slice_set}
+use Rattle.std.specs.Prelude.{All, IfOk, IfSome, map, option_map, slice_get, slice_set}
 use Rattle.std.proofs.Math.Seq.{take-suc}
 use Rattle.psm_value.specs.declared.datum.Datum.{Datum}
 use Rattle.psm_table.specs.declared.definition.TableDef.{TableDef}
-use Rattle.psm_table.specs.declared.fault.RowFault.{RowFault}
-use Rattle.psm_table.specs.Definition.{IsKey}
-use Rattle.psm_table.specs.Rows.{row_with, without, IsAscending}
+use Rattle.psm_table.specs.Rows.{without}
 use Rattle.psm_table.specs.Table.{keyed, without_row, Contents, IsTable}
 use Rattle.psm_table.proofs.Undo.{whole}
 use Rattle.psm_store.specs.declared.store.Mark.{Mark}
 use Rattle.psm_store.specs.Marks.{defs_of, AnyMark, IsNewMark, IsOutside, Keeps}
-use Rattle.psm_store.specs.RowCalls.{after, changed_at, put_table}
+use Rattle.psm_store.specs.RowCalls.{changed_at, put_table}
 use Rattle.psm_store.proofs.Changes.{changed_twice, get-changed_at}
 use Rattle.std.specs.declared.alloc.AllocError.{AllocError}
 use Rattle.std.proofs.lemmas.List.{take-append-drop}

@@ -1,7 +1,6 @@
 -- How a statement with new rows ends.
-use Rattle.std.proofs.Common.{◌≡◌, ℕ, ◌+◌, ◌<◌, ◌≤◌, List, [], ◌∷◌, ◌++◌, length, Bool, true, false, refl, ap, sym, subst, ◌∙◌, Option, Some, Result, Ok, Err}
-use Rattle.std.specs.Prelude.{IfOk, IfSome, codes, slice_get, slice_set}
-use Rattle.std.specs.declared.alloc.AllocError.{AllocError}
+use Rattle.std.proofs.Common.{◌≡◌, ℕ, ◌+◌, ◌<◌, ◌≤◌, List, [], ◌++◌, length, Bool, true, false, refl, ap, sym, subst, ◌∙◌, Option, Some, Result, Ok, Err}
+use Rattle.std.specs.Prelude.{IfSome, codes, slice_get, slice_set}
 use Rattle.psm_sqlstate.specs.declared.state.SqlState.{SqlState}
 use Rattle.psm_cond.specs.Condition.{Entries}
 use Rattle.psm_cond.specs.declared.fault.DataFault.{DataFault}

@@ -1,5 +1,5 @@
 -- The CHECKs on one row, one after another, and the keys of two rows value by value.
-use Rattle.std.proofs.Common.{◌≡◌, ℕ, ◌+◌, ◌<◌, List, [], ◌∷◌, length, get_or, drop, Bool, true, false, ◌&&◌, refl, ap, sym, ◌∙◌, Result, Ok, Err}
+use Rattle.std.proofs.Common.{◌≡◌, ℕ, ◌+◌, ◌<◌, List, length, get_or, drop, Bool, true, ◌&&◌, refl, ap, sym, ◌∙◌, Result, Ok, Err}
 use Rattle.std.specs.Ordering.{ordering_then}
 use Rattle.std.proofs.Math.Seq.{drop-length}
 use Rattle.std.proofs.lemmas.List.{get_or_default}

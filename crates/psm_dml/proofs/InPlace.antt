@@ -1,10 +1,9 @@
 -- A row that is put in the place of the one that has its key.
-use Rattle.std.proofs.Common.{◌≡◌, ℕ, List, [], ◌∷◌, ◌++◌, Bool, true, false, ◌&&◌, ◌||◌, refl, ap, sym, subst, ◌∙◌, Option, Some, None, Result, Ok, Err}
-use Rattle.std.specs.Prelude.{All, IfOk, IfSome, IsSome, cond, filter, not, slice_get}
+use Rattle.std.proofs.Common.{◌≡◌, ℕ, List, [], ◌∷◌, ◌++◌, Bool, true, false, ◌&&◌, ◌||◌, refl, ap, sym, ◌∙◌, Option, Some, None, Result, Ok, Err}
+use Rattle.std.specs.Prelude.{All, IfOk, IsSome, cond, filter, not}
 use Rattle.std.specs.List.{list_all}
 use Rattle.std.specs.Cmp.{alike_right}
 use Rattle.std.specs.Ordering.{is_eq, is_gt, is_lt, is_ne}
-use Rattle.std.specs.declared.alloc.AllocError.{AllocError}
 use Rattle.std.specs.declared.cmp.Ordering.{Ordering}
 use Rattle.std.specs.declared.cmp.Ordering.TheVariants.{Less, Equal, Greater}
 use Rattle.std.proofs.lemmas.List.Elements.{All-nil}
@@ -15,7 +14,7 @@ use Rattle.psm_table.specs.declared.fault.RowFault.TheVariants.{Duplicate, Absen
 use Rattle.psm_table.specs.Changing.{are_apart, is_filled}
 use Rattle.psm_table.specs.Key.{key_order, row_order, values_at}
 use Rattle.psm_table.specs.Rows.{put, rows_above, rows_below, without}
-use Rattle.psm_table.specs.Table.{keyed, namesake, with_row, without_row, Contents}
+use Rattle.psm_table.specs.Table.{namesake, with_row, without_row, Contents}
 use Rattle.psm_table.specs.Unique.{clashes, conflict}
 use Rattle.psm_table.proofs.KeyLaws.{key_order-total}
 use Rattle.psm_table.proofs.Rules.{apart_from}

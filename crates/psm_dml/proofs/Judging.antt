@@ -1,6 +1,6 @@
 -- The row whose condition counts.
 use Rattle.std.proofs.Common.{◌≡◌, ℕ, suc, ◌+◌, ◌<◌, List, [], ◌∷◌, ◌++◌, length, get_or, take, Bool, true, false, ◌&&◌, refl, ap, sym, subst, ◌∙◌, arith, inl, inr, Result, Ok, Err}
-use Rattle.std.specs.Prelude.{All, AllPairs, IfOk, ◌⊎◌, if◌then◌else◌}
+use Rattle.std.specs.Prelude.{All, IfOk, ◌⊎◌, if◌then◌else◌}
 use Rattle.std.proofs.lemmas.List.Elements.{All-head, All-tail}
 use Rattle.std.proofs.Math.Seq.{take-suc}
 use Rattle.psm_sqlstate.specs.declared.state.SqlState.{SqlState}

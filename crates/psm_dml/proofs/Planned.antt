@@ -1,8 +1,8 @@
 -- The rows that a statement leaves, and what it makes of the others, by the keys of those.
-use Rattle.std.proofs.Common.{◌≡◌, ℕ, List, [], ◌∷◌, ◌++◌, length, get_or, arith, refl, ap, sym, subst, ◌∙◌, Option, Some, None, Result, Ok, Err}
+use Rattle.std.proofs.Common.{◌≡◌, ℕ, List, [], ◌∷◌, ◌++◌, length, arith, refl, ap, sym, subst, ◌∙◌, Option, Some, None, Result, Ok, Err}
 use Rattle.std.specs.Prelude.{All, map, if◌then◌else◌}
 use Rattle.std.specs.List.{cons_option}
-use Rattle.std.specs.declared.cmp.Ordering.TheVariants.{Less, Equal, Greater}
+use Rattle.std.specs.declared.cmp.Ordering.TheVariants.{Less, Equal}
 use Rattle.std.proofs.lemmas.List.{length-map}
 use Rattle.std.proofs.lemmas.List.Elements.{All-cons, All-head, All-tail}
 use Rattle.psm_sqlstate.specs.declared.state.SqlState.{SqlState}
@@ -12,8 +12,8 @@ use Rattle.psm_value.specs.declared.truth.Truth.TheVariants.{True, False, Unknow
 use Rattle.psm_table.specs.Changing.{deleted, divided, then_of, with_left, with_made, Changed, Division, Failure, Raised}
 use Rattle.psm_table.specs.Evaluator.{Evaluator, and_then, mapped, test_of}
 use Rattle.psm_table.specs.Key.{key_order, row_order, values_at}
-use Rattle.psm_table.specs.Queries.{is_met, taken, walked}
-use Rattle.psm_table.specs.Rows.{rows_above, rows_below, without, IsAscending}
+use Rattle.psm_table.specs.Queries.{is_met, walked}
+use Rattle.psm_table.specs.Rows.{rows_above, without, IsAscending}
 use Rattle.psm_table.proofs.Filters.{AllPairs-first, AllPairs-rest}
 use Rattle.psm_table.proofs.KeyLaws.{key_order-refl}
 use Rattle.psm_table.proofs.Undo.{all-above, after_equal, none-below}

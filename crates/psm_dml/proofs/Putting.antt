@@ -1,7 +1,6 @@
 -- Rows that are put into a table one after another, and the rules of all of them.
-use Rattle.std.proofs.Common.{◌≡◌, ℕ, suc, ◌+◌, ◌≤◌, List, [], ◌∷◌, ◌++◌, length, length-append, append_assoc, Bool, true, false, ◌&&◌, ◌||◌, refl, ap, sym, subst, ◌∙◌, arith, Option, Some, None}
-use Rattle.std.specs.Prelude.{cond, find, not, if◌then◌else◌}
-use Rattle.std.specs.List.{list_all, list_any}
+use Rattle.std.proofs.Common.{◌≡◌, ℕ, ◌+◌, ◌≤◌, List, [], ◌∷◌, ◌++◌, length, length-append, append_assoc, Bool, true, false, ◌&&◌, ◌||◌, refl, ap, sym, ◌∙◌, arith, Option, Some, None}
+use Rattle.std.specs.Prelude.{cond, not}
 use Rattle.std.specs.Ordering.{is_eq, is_gt, is_lt, is_ne}
 use Rattle.std.specs.declared.cmp.Ordering.{Ordering}
 use Rattle.std.specs.declared.cmp.Ordering.TheVariants.{Less, Equal, Greater}
@@ -9,12 +8,12 @@ use Rattle.std.proofs.lemmas.List.{append-nil}
 use Rattle.psm_value.specs.declared.datum.Datum.{Datum}
 use Rattle.psm_table.specs.declared.definition.TableDef.{TableDef}
 use Rattle.psm_table.specs.Changing.{are_apart, in_order, is_filled, keep_rules}
-use Rattle.psm_table.specs.Key.{key_order, row_order, values_at}
+use Rattle.psm_table.specs.Key.{row_order, values_at}
 use Rattle.psm_table.specs.Rows.{put, row_with, rows_above, rows_below, without, IsAscending}
-use Rattle.psm_table.specs.Table.{namesake, with_row, Contents, IsTable}
+use Rattle.psm_table.specs.Table.{with_row, Contents}
 use Rattle.psm_table.specs.Unique.{clashes, conflict, is_rival}
 use Rattle.psm_table.proofs.Ordered.{in_order-last, placed_behind, put-placed}
-use Rattle.psm_table.proofs.Rules.{all-in_order, and_assoc, apart_from, keep-front, keep-new, keep-last, second_true}
+use Rattle.psm_table.proofs.Rules.{all-in_order, and_assoc, apart_from, keep-front, keep-new, second_true}
 use Rattle.psm_table.proofs.Tables.{ascending-put}
 use Rattle.psm_dml.specs.Rows.{fit_in, fits_in, with_rows}
 

@@ -1,6 +1,6 @@
 -- Why a row isn't put into a table.
-use Rattle.std.proofs.Common.{◌≡◌, ℕ, ◌+◌, ◌<◌, ◌≤◌, List, [], ◌∷◌, length, get_or, Bool, true, false, ◌&&◌, ◌||◌, refl, ap, sym, subst, ◌∙◌, arith, Option, Some, None, Result, Ok, Err}
-use Rattle.std.specs.Prelude.{◌≢◌, All, IfOk, IfSome, IsSome, not, slice_get}
+use Rattle.std.proofs.Common.{◌≡◌, ℕ, ◌<◌, List, [], ◌∷◌, length, Bool, true, false, ◌&&◌, ◌||◌, refl, sym, subst, arith, Option, Some, None, Result, Ok, Err}
+use Rattle.std.specs.Prelude.{◌≢◌, All, IfOk, IfSome, IsSome, not}
 use Rattle.std.specs.List.{list_all, zip}
 use Rattle.std.proofs.lemmas.List.Elements.{All-cons, All-nil}
 use Rattle.psm_value.specs.declared.datum.Datum.{Datum}
@@ -11,14 +11,12 @@ use Rattle.psm_table.specs.declared.fault.RowFault.TheVariants.{Duplicate, Absen
 use Rattle.psm_table.specs.Changing.{is_filled}
 use Rattle.psm_table.specs.Definition.{IsRow}
 use Rattle.psm_table.specs.Key.{values_at}
-use Rattle.psm_table.specs.Rows.{row_with}
 use Rattle.psm_table.specs.Table.{most_rows, namesake, Contents}
 use Rattle.psm_table.specs.Unique.{clashes, has_null, is_null}
 use Rattle.psm_table.proofs.Rules.{apart_from, first_true, second_true}
 use Rattle.psm_store.specs.RowCalls.{AnswersInsert}
 use Rattle.std.specs.declared.alloc.AllocError.{AllocError}
-use Rattle.psm_store.specs.RowCalls.{after, changed_at}
-use Rattle.psm_table.specs.Table.{with_row}
+use Rattle.psm_store.specs.RowCalls.{after}
 use Rattle.psm_dml.specs.Rows.{changed_if, done_of, fits_in, IsWhole}
 use Rattle.psm_dml.proofs.Putting.{apart, clashing, key_taken}
 

@@ -1,6 +1,6 @@
 -- Rows as columns store them.
-use Rattle.std.proofs.Common.{◌≡◌, ℕ, zero, suc, ◌+◌, ◌<◌, List, [], ◌∷◌, ◌++◌, length, get_or, drop, append_assoc, refl, ap, sym, subst, ◌∙◌, arith, Result, Ok, Err}
-use Rattle.std.specs.Prelude.{All, map}
+use Rattle.std.proofs.Common.{◌≡◌, ℕ, zero, suc, ◌<◌, List, [], ◌∷◌, length, get_or, refl, ap, sym, subst, ◌∙◌, arith, Result, Ok, Err}
+use Rattle.std.specs.Prelude.{All}
 use Rattle.std.specs.List.{zip}
 use Rattle.std.proofs.lemmas.List.{length-map}
 use Rattle.std.proofs.lemmas.List.Elements.{All-cons, All-head, All-nil, All-tail}
@@ -13,7 +13,7 @@ use Rattle.psm_value.proofs.Stable.{stored-of_family}
 use Rattle.psm_table.specs.declared.definition.Column.{Column}
 use Rattle.psm_table.specs.declared.definition.TableDef.{TableDef}
 use Rattle.psm_table.specs.Changing.{stored_row, stored_rows}
-use Rattle.psm_table.specs.Definition.{kinds_of, AreOfFamilies, HasColumns}
+use Rattle.psm_table.specs.Definition.{kinds_of, AreOfFamilies}
 use Rattle.psm_table.specs.Evaluator.{and_then, collected, mapped}
 use Rattle.psm_dml.specs.Rows.{IsWhole}
 

@@ -1,5 +1,5 @@
 -- UPDATE by the changes of the rows that meet its test.
-use Rattle.std.proofs.Common.{◌≡◌, ℕ, ◌+◌, ◌<◌, ◌≤◌, List, [], ◌∷◌, ◌++◌, length, get_or, refl, ap, sym, subst, ◌∙◌, arith, Option, Some, None, Result, Ok, Err}
+use Rattle.std.proofs.Common.{◌≡◌, ℕ, ◌+◌, ◌≤◌, List, [], ◌++◌, length, get_or, refl, ap, sym, subst, ◌∙◌, arith, Option, Some, Result, Ok, Err}
 use Rattle.std.specs.Prelude.{All, IfSome, map, slice_get}
 use Rattle.std.proofs.lemmas.List.{length-map}
 use Rattle.std.proofs.lemmas.List.Elements.{All-map}
@@ -10,7 +10,7 @@ use Rattle.psm_exprcode.specs.declared.set_item.SetItem as set_code
 use Rattle.psm_value.specs.declared.datum.Datum.{Datum}
 use Rattle.psm_value.specs.declared.datum.Datum.TheVariants.{Null}
 use Rattle.psm_table.specs.declared.definition.TableDef.{TableDef}
-use Rattle.psm_table.specs.Changing.{counting, divided, ended, set_row, then_of, updated, with_left, with_made, Changed, Division, Failure, IsLegal, Raised, Schema}
+use Rattle.psm_table.specs.Changing.{counting, divided, ended, then_of, updated, Changed, Division, Failure, IsLegal, Raised}
 use Rattle.psm_table.specs.Definition.{IsKey, IsRow}
 use Rattle.psm_table.specs.Evaluator.{mapped, test_of, Evaluator}
 use Rattle.psm_table.specs.Key.{values_at}
@@ -22,7 +22,7 @@ use Rattle.psm_tablecode.specs.Codes.{over}
 use Rattle.psm_dml.specs.Changes.{changing, row_set, set_of}
 use Rattle.psm_dml.specs.declared.planning.Change.{Change}
 use Rattle.psm_dml.specs.Ends.{schema_of, Ends}
-use Rattle.psm_dml.specs.Rows.{without_all, without_keys, IsWhole}
+use Rattle.psm_dml.specs.Rows.{without_keys, IsWhole}
 use Rattle.psm_dml.proofs.Assigned.{set_whole}
 use Rattle.psm_dml.proofs.Finished.{said, there}
 use Rattle.psm_dml.proofs.Planned.{as_division, divided_by}

@@ -1,10 +1,10 @@
-use Rattle.std.proofs.Common.{◌≡◌, ◌<◌, false, sym, subst, ◌∙◌, refl, Result, Ok, Err}
+use Rattle.std.proofs.Common.{◌≡◌, false, sym, subst, ◌∙◌}
 use Rattle.std.specs.Prelude.{IfOk, IfSome, IsSome, slice_get}
 use Rattle.psm_table.specs.Key.{row_order}
 use Rattle.psm_table.specs.Table.{namesake, with_row, without_row, Contents}
 use Rattle.psm_store.specs.RowCalls.{AnswersFound}
 use Rattle.std.specs.declared.cmp.Ordering.TheVariants.{Equal}
-use Rattle.psm_dml.specs.Rows.{changed_if, fits_in}
+use Rattle.psm_dml.specs.Rows.{fits_in}
 use Rattle.psm_dml.proofs.Effects.{changed_row_at}
 use Rattle.psm_dml.proofs.Finished.{there}
 use Rattle.psm_dml.proofs.InPlace.{changed_answer, changed_fits}

@@ -1,8 +1,6 @@
-use Rattle.std.proofs.Common.{◌≡◌, List, get_or, sym, subst, ◌∙◌, refl}
-use Rattle.std.specs.Prelude.{All, IfSome, slice_get}
-use Rattle.psm_value.specs.declared.datum.Datum.{Datum}
+use Rattle.std.proofs.Common.{◌∙◌, refl}
+use Rattle.std.specs.Prelude.{slice_get}
 use Rattle.psm_table.specs.Definition.{IsKey}
-use Rattle.psm_table.specs.declared.definition.TableDef.{TableDef}
 use Rattle.psm_store.specs.Marks.{AnyMark}
 use Rattle.psm_dml.proofs.Effects.{keeps_on, keys_next, keys_none, one_of, still}
 use Rattle.psm_dml.proofs.applying.erase_each.Goals as goal

@@ -1,7 +1,6 @@
-use Rattle.std.proofs.Common.{◌≡◌, Some, sym, subst, ◌∙◌, refl, None}
-use Rattle.std.specs.Prelude.{IfSome, slice_get}
-use Rattle.psm_table.specs.Table.{keyed, without_row, Contents}
-use Rattle.psm_store.specs.RowCalls.{AnswersFound}
+use Rattle.std.proofs.Common.{◌≡◌, Some, sym, ◌∙◌, None}
+use Rattle.std.specs.Prelude.{slice_get}
+use Rattle.psm_table.specs.Table.{keyed, without_row}
 use Rattle.psm_dml.proofs.Effects.{absent, unchanged}
 use Rattle.psm_dml.proofs.applying.erase_row.Goals as goal
 

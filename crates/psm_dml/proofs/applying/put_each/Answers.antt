@@ -1,8 +1,7 @@
-use Rattle.std.proofs.Common.{◌≡◌, ◌<◌, List, length, take, get_or, map, sym, subst, ◌∙◌, refl, rules}
-use Rattle.std.specs.Prelude.{IfSome, slice_get}
+use Rattle.std.proofs.Common.{◌≡◌, length, take, sym, ◌∙◌, refl, rules}
+use Rattle.std.specs.Prelude.{slice_get}
 use Rattle.std.proofs.lemmas.Iterator.Consumers.{YieldsList-so_far, YieldsList-turn}
 use Rattle.std.proofs.lemmas.Iterator.Adapters.{YieldsList-from_vec}
-use Rattle.psm_value.specs.declared.datum.Datum.{Datum}
 use Rattle.psm_store.specs.Marks.{AnyMark}
 use Rattle.psm_dml.specs.Rows.{IsWhole}
 use Rattle.psm_dml.proofs.Effects.{always, few_left, fits_more, keeps_on, map_same, one_of, rows_more, rows_none, still, stops}

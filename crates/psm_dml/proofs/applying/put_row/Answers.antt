@@ -1,8 +1,6 @@
 use Rattle.std.proofs.Common.{◌≡◌, false, sym, subst, ◌∙◌}
 use Rattle.std.specs.Prelude.{IfSome, slice_get}
 use Rattle.psm_table.specs.Table.{with_row}
-use Rattle.psm_table.specs.Definition.{IsRow}
-use Rattle.psm_table.proofs.Rules.{first_true}
 use Rattle.psm_dml.specs.Rows.{fits_in}
 use Rattle.psm_dml.proofs.Refusing.{done_answer, done_tables, refused}
 use Rattle.psm_dml.proofs.applying.put_row.Goals as goal

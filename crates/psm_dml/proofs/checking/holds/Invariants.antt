@@ -1,7 +1,4 @@
-use Rattle.std.proofs.Common.{◌≡◌, [], drop}
-use Rattle.psm_table.specs.Changing.{row_passes}
-use Rattle.psm_table.specs.Evaluator.{mapped}
-use Rattle.std.specs.Prelude.{◌&&◌}
+use Rattle.std.proofs.Common.{[]}
 use Rattle.psm_tablecode.specs.Codes.{over}
 use Rattle.psm_dml.proofs.Holding.{Holds}
 use Rattle.psm_dml.proofs.checking.holds.Given as goal

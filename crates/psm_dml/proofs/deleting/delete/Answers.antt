@@ -1,5 +1,4 @@
-use Rattle.std.proofs.Common.{◌≡◌, ◌≤◌, length, Some, Ok, ap, sym, refl, ◌∙◌, arith}
-use Rattle.std.specs.Prelude.{slice_get}
+use Rattle.std.proofs.Common.{length, Ok, ap, sym, refl, ◌∙◌, arith}
 use Rattle.std.specs.Option.{option_copied}
 use Rattle.psm_table.specs.Changing.{deleted}
 use Rattle.psm_table.specs.Evaluator.{test_of}

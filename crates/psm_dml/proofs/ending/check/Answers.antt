@@ -1,14 +1,11 @@
-use Rattle.std.proofs.Common.{◌≡◌, ℕ, [], List, length, get_or, false, refl, ap, sym, subst, ◌∙◌, arith, Err}
-use Rattle.std.specs.Prelude.{All}
-use Rattle.psm_value.specs.declared.datum.Datum.{Datum}
+use Rattle.std.proofs.Common.{ℕ, [], List, get_or, refl, ap, subst, ◌∙◌, Err}
 use Rattle.psm_table.specs.Changing.{in_order, rows_pass}
-use Rattle.psm_table.specs.Key.{AreColumnsOf}
 use Rattle.psm_tablecode.specs.Codes.{over}
 use Rattle.psm_tablecode.specs.Suits.{letters_of}
 use Rattle.psm_tablecode.proofs.Fitting.{family_letters, truths_run}
 use Rattle.psm_table.specs.declared.definition.TableDef.{TableDef}
 use Rattle.psm_dml.specs.Ends.{Passes}
-use Rattle.psm_dml.proofs.Finished.{passes_false, passes_raised}
+use Rattle.psm_dml.proofs.Finished.{passes_raised}
 use Rattle.psm_dml.proofs.ending.check.Goals as goal
 
 pub judge-requires-clause-runs : goal.judge-requires-clause-runs

@@ -1,5 +1,5 @@
-use Rattle.std.proofs.Common.{◌≡◌, ℕ, ◌+◌, ◌<◌, ◌≤◌, List, [], ◌∷◌, length, Ok, Err, Some, arith, ap, sym, refl, subst, ◌∙◌}
-use Rattle.std.specs.Prelude.{All, IfSome, slice_get}
+use Rattle.std.proofs.Common.{◌≡◌, ℕ, ◌+◌, ◌<◌, ◌≤◌, List, [], ◌∷◌, length, arith, ap, sym, subst, ◌∙◌}
+use Rattle.std.specs.Prelude.{All, slice_get}
 use Rattle.std.proofs.lemmas.List.Elements.{All-head}
 use Rattle.std.proofs.lemmas.Result.{err_from_is_err_and}
 use Rattle.psm_value.specs.declared.datum.Datum.{Datum}
@@ -11,7 +11,7 @@ use Rattle.psm_tablecode.specs.Codes.{over}
 use Rattle.psm_dml.specs.Ends.{schema_of}
 use Rattle.psm_dml.specs.Rows.{without_keys, IsWhole}
 use Rattle.psm_dml.proofs.Finished.{said, there}
-use Rattle.psm_dml.proofs.Moved.{move_done, move_fault, move_few, move_keys, move_legal, move_none, move_told, move_whole}
+use Rattle.psm_dml.proofs.Moved.{move_fault, move_few, move_keys, move_legal, move_whole}
 use Rattle.psm_dml.proofs.Updated.{keys_of_changes, rows_of_changes}
 use Rattle.psm_dml.proofs.moving.update_at.Goals as goal
 

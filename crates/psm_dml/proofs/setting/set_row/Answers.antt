@@ -1,4 +1,4 @@
-use Rattle.std.proofs.Common.{◌≡◌, List, length, ap, sym, subst, ◌∙◌, Result, Ok, Err}
+use Rattle.std.proofs.Common.{List, length, ap, sym, subst, ◌∙◌, Result, Err}
 use Rattle.std.specs.Prelude.{map, slice_index_or}
 use Rattle.psm_value.specs.declared.datum.Datum.{Datum}
 use Rattle.psm_exprcode.specs.declared.set_item.SetItem.{SetItem}

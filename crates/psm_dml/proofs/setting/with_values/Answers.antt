@@ -1,4 +1,4 @@
-use Rattle.std.proofs.Common.{◌≡◌, ◌<◌, List, length, get_or, sym, subst}
+use Rattle.std.proofs.Common.{◌<◌, List, length, get_or, sym, subst}
 use Rattle.std.specs.Prelude.{All}
 use Rattle.psm_value.specs.SqlType.{IsType}
 use Rattle.psm_table.specs.declared.definition.Column.{Column}

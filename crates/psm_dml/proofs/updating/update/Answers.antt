@@ -1,5 +1,5 @@
-use Rattle.std.proofs.Common.{◌≡◌, ◌+◌, ◌≤◌, List, map, length, Ok, Err, Some, ap, sym, refl, subst, ◌∙◌}
-use Rattle.std.specs.Prelude.{[], All, IfSome, slice_get}
+use Rattle.std.proofs.Common.{◌≡◌, ◌+◌, ◌≤◌, List, length, ap, sym, refl, subst, ◌∙◌}
+use Rattle.std.specs.Prelude.{[], All, slice_get}
 use Rattle.std.specs.Option.{option_copied}
 use Rattle.psm_value.specs.declared.datum.Datum.{Datum}
 use Rattle.psm_table.specs.Changing.{IsLegal}
@@ -9,7 +9,6 @@ use Rattle.psm_table.specs.Queries.{walked}
 use Rattle.psm_table.specs.Table.{most_rows, Contents}
 use Rattle.psm_tablecode.specs.Codes.{over}
 use Rattle.psm_dml.specs.Changes.{changing, row_set}
-use Rattle.psm_dml.specs.declared.planning.Change.{Change}
 use Rattle.psm_dml.specs.Ends.{schema_of}
 use Rattle.psm_dml.specs.Rows.{without_keys, IsWhole}
 use Rattle.psm_dml.proofs.Answering.{ends_told, gives_err}

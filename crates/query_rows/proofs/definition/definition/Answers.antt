@@ -1,22 +1,34 @@
-use Rattle.std.proofs.Common.{◌≡◌, List, [], ◌∷◌, sym, subst, arith, rules}
-use Rattle.std.specs.Prelude.{All}
+use Rattle.std.proofs.Common.{◌≡◌, ◌<◌, ℕ, List, [], ◌∷◌, length, ap, arith, rules, sym, subst, ◌∙◌}
+use Rattle.std.specs.Prelude.{◌≢◌, All, AllPairs}
+use Rattle.std.proofs.lemmas.List.{length-map}
 use Rattle.std.proofs.lemmas.List.Elements.{All-cons, All-nil}
 use Rattle.psm_value.specs.SqlType.{IsType}
 use Rattle.psm_value.specs.declared.sqltype.SqlType.{SqlType}
 use Rattle.psm_value.specs.declared.sqltype.SqlType.TheVariants.{VarChar, Numeric, Integer}
-use Rattle.query_rows.specs.Items.{item_kinds}
+use Rattle.psm_table.specs.declared.definition.TableDef.{TableDef}
+use Rattle.psm_table.specs.Definition.{IsDefinition}
+use Rattle.query_rows.specs.Items.{IsItemsTable}
 use Rattle.query_rows.proofs.definition.definition.Goals as goal
 
-types : All IsType item_kinds
+types : All IsType (Integer ∷ VarChar 10 ∷ Numeric 18 2 ∷ [])
 types =
-    let amount : IsType (Numeric 18 2) = (omega arith, omega arith, omega arith) in
-    let name : IsType (VarChar 10) = (omega arith, omega arith) in
-    All-cons IsType Integer (VarChar 10 ∷ Numeric 18 2 ∷ []) tt (All-cons IsType (VarChar 10) (Numeric 18 2 ∷ []) name (All-cons IsType (Numeric 18 2) [] amount (All-nil IsType)))
+    let text : IsType (VarChar 10) = (omega arith, omega arith) in
+    let number : IsType (Numeric 18 2) = (omega arith, omega arith, omega arith) in
+    All-cons IsType Integer (VarChar 10 ∷ Numeric 18 2 ∷ []) tt (All-cons IsType (VarChar 10) (Numeric 18 2 ∷ []) text (All-cons IsType (Numeric 18 2) [] number (All-nil IsType)))
+
+single : (k : ℕ) → AllPairs (λ (a b : ℕ). a ≢ b) (k ∷ [])
+single k i j d l m = absurd (omega (arith, l, m))
+
+defined : (def : TableDef) → IsItemsTable def → IsDefinition def
+defined def h =
+    let long : length def.columns ≡ 3 = sym (length-map def.columns (λ c. c.kind)) ∙ ap length h.kinds in
+    record {
+      types = subst (λ (kinds : List SqlType). All IsType kinds) (sym h.kinds) types;
+      some = omega (arith, ap length h.key);
+      exist = subst (λ (ks : List ℕ). All (λ c. c < length def.columns) ks) (sym h.key)
+          (All-cons (λ c. c < length def.columns) 0 [] (omega (arith, long)) (All-nil (λ c. c < length def.columns)));
+      distinct = subst (λ (ks : List ℕ). AllPairs (λ a b. a ≢ b) ks) (sym h.key) (single 0);
+    }
 
 pub returns-clause-defined : goal.returns-clause-defined
-returns-clause-defined c = record {
-  types = subst (λ (kinds : List SqlType). All IsType kinds) (sym c.in_ok-columns.ensures) types;
-  some = search rules;
-  exist = search rules;
-  distinct = search rules;
-}
+returns-clause-defined c = defined _ (search rules)
