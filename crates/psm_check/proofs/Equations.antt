@@ -1,5 +1,5 @@
 -- What is found in each kind of expression, by its layer.
-use Rattle.std.proofs.Common.{◌≡◌, ℕ, Bool, List, [], ◌∷◌, ◌++◌, Option, Some, None, map, option_map, refl, ap, ◌∙◌}
+use Rattle.std.proofs.Common.{◌≡◌, ℕ, Bool, List, [], ◌∷◌, Option, Some, None, map, option_map, refl, ap, ◌∙◌}
 use denote.Hole.Carrier
 use Rattle.psm_num.specs.Num.{Num}
 use Rattle.psm_list.specs.Several.{Several, several_map}
@@ -10,7 +10,7 @@ use Rattle.psm_tree.specs.declared.types.Sign.{Sign}
 use Rattle.psm_tree.specs.declared.types.DataType.{DataType}
 use Rattle.psm_tree.specs.declared.expr.Expr.{Expr, roll-Expr}
 use Rattle.psm_tree.specs.declared.expr.Expr.TheVariants as exprs
-use Rattle.psm_tree.specs.declared.expr.Expr.TheOpen.{Expr-F, Pick-F, Link-F, Select-F, When-F}
+use Rattle.psm_tree.specs.declared.expr.Expr.TheOpen.{Expr-F, Pick-F}
 use Rattle.psm_tree.specs.declared.expr.Expr.TheOpen as layers
 use Rattle.psm_tree.specs.declared.expr.Expr.TheFolds.{map-Expr, map-Pick, map-Select, fold-roll-Expr, fold-roll-Pick, fold_out-Link, fold_out-Select, fold_out-When}
 use Rattle.psm_tree.specs.declared.expr.Junction.{Junction}
@@ -18,7 +18,6 @@ use Rattle.psm_tree.specs.declared.expr.Comparison.{Comparison}
 use Rattle.psm_tree.specs.declared.expr.TextFunction.{TextFunction}
 use Rattle.psm_tree.specs.declared.expr.SetFunction.{SetFunction}
 use Rattle.psm_tree.specs.declared.expr.TrimSide.{TrimSide}
-use Rattle.psm_tree.specs.declared.expr.Operator.{Operator}
 use Rattle.psm_tree.specs.declared.expr.Link.{Link, out-Link}
 use Rattle.psm_tree.specs.declared.expr.When.{When, out-When}
 use Rattle.psm_tree.specs.declared.expr.Select.{Select, out-Select}
@@ -31,7 +30,7 @@ use Rattle.psm_rules.specs.declared.query.Picked.TheVariants as forms
 use Rattle.psm_rules.specs.Found.{sound, as_value, as_condition}
 use Rattle.psm_rules.specs.Shapes.{of_literal, character, integer, varying}
 use Rattle.psm_rules.specs.View.{View, on_row, table_named}
-use Rattle.psm_rules.specs.ExprFaults.{Of, PickPart, LinkPart, WhenPart, PickFound, QueryFound, expr_found, pick_found, link_found, query_found, when_found, expr_layer, pick_layer, link_layer, select_layer, when_layer, seen, seen_in, seen_option, name_found, junction_of, compares, null_test, like_found, else_of, chained, signed_found, call_found, found_with, scalar_found, exists_found, case_found, cast_found, coalesce_found, null_if_found, function_found, text_result, argument, with_length, pick_item, set_found, row_of}
+use Rattle.psm_rules.specs.ExprFaults.{Of, PickPart, LinkPart, WhenPart, QueryFound, expr_found, pick_found, link_found, query_found, when_found, expr_layer, pick_layer, link_layer, select_layer, when_layer, seen, seen_in, seen_option, name_found, junction_of, compares, null_test, like_found, else_of, chained, signed_found, call_found, found_with, scalar_found, exists_found, case_found, cast_found, coalesce_found, null_if_found, function_found, text_result, argument, with_length, pick_item, set_found, row_of}
 
 expr_rolled : (layer : Expr-F Expr Pick Link Select When) → expr_found (roll-Expr layer) ≡ expr_layer (map-Expr Expr Pick Link Select When (Of Found) PickPart LinkPart (Of QueryFound) WhenPart expr_found pick_found link_found query_found when_found layer)
 expr_rolled layer = fold-roll-Expr (Of Found) PickPart LinkPart (Of QueryFound) WhenPart expr_layer pick_layer link_layer select_layer when_layer layer

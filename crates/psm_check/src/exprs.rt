@@ -3,13 +3,13 @@ ghost use Rattle.std.specs.Prelude.{◌≡◌, ◌∷◌, ◌++◌, [], IfOk, No
 ghost use Rattle.psm_list.specs.Several.{several_map};
 ghost use Rattle.psm_scope.specs.Routines.{function};
 ghost use Rattle.psm_rules.specs.Found.{as_condition, as_value, shape_of};
-ghost use Rattle.psm_rules.specs.ExprFaults.{call_found, called, case_found, chained, else_of, expr_found, junction_of, kind_of, link_found, name_found, pick_found, query_found, seen, seen_in, seen_option, simple_test, when_found};
+ghost use Rattle.psm_rules.specs.ExprFaults.{call_found, called, case_found, chained, else_of, expr_found, junction_of, kind_of, link_found, linked, name_found, pick_found, query_found, seen, seen_in, seen_option, simple_test, when_found};
 ghost use Rattle.psm_check.specs.Seen.{pick_of, seen_in_view};
 
 use crate::found::{as_condition, as_value, broken, made_of, shape_of, sound};
 use crate::operators::{
     argument, cast_found, compares, found_with, function_found, junction_of, like_found, linked,
-    null_if_found, null_test, of_type, signed_found, simple_test, text_result,
+    null_if_found, null_test, of_type, signed_found, simple_test, substring_found, text_result,
 };
 use crate::queries::{
     PickFound, QueryFound, exists_found, pick_item, row_of, scalar_found, set_found,
@@ -121,7 +121,8 @@ pub(crate) fn expr_found(alloc: Global, e: &Expr, view: View) -> Result<Found, A
         } => {
             let first = optional_found(alloc, operand, view)?;
             let last = optional_found(alloc, otherwise, view)?;
-            case_found(alloc, whens, view, *place, first, last)
+            let found = case_found(alloc, whens, view, *place, first, last)?;
+            Ok(found)
         }
         Expr::Cast { place, source, to } => {
             let found = expr_found(alloc, source.get(), view)?;
@@ -161,16 +162,8 @@ pub(crate) fn expr_found(alloc: Global, e: &Expr, view: View) -> Result<Found, A
         } => {
             let first = expr_found(alloc, text.get(), view)?;
             let second = expr_found(alloc, from.get(), view)?;
-            let text = argument(Family::Texts, first);
-            let from = argument(Family::Numbers, second);
-            match length {
-                None => Ok(function_found(*place, VARYING, &[text, from])),
-                Some(length) => {
-                    let third = expr_found(alloc, length.get(), view)?;
-                    let length = argument(Family::Numbers, third);
-                    Ok(function_found(*place, VARYING, &[text, from, length]))
-                }
-            }
+            let third = optional_found(alloc, length, view)?;
+            Ok(substring_found(*place, first, second, third))
         }
         Expr::Trim { place, text, .. } => {
             let found = expr_found(alloc, text.get(), view)?;
@@ -276,7 +269,6 @@ pub(crate) fn name_found(view: View, target: &Target) -> Found
 // ---- chains
 
 #[cycle(expression)]
-#[tactic(auto, using(crate::proofs::Equations::found_link))]
 fn chain_found(
     alloc: Global,
     links: &List<Link>,
@@ -287,10 +279,19 @@ fn chain_found(
 {
     let mut left = first;
     for link in links.items() {
-        let found = expr_found(alloc, link.operand.get(), view)?;
-        left = linked(left, link.operator, as_value(found));
+        left = link_found(alloc, link, view, left)?;
     }
     Ok(left)
+}
+
+// A chain so far with a link more.
+#[cycle(expression)]
+#[tactic(auto, using(crate::proofs::Equations::found_link))]
+fn link_found(alloc: Global, link: &Link, view: View, left: Found) -> Result<Found, AllocError>
+    ensures { IfOk result (λ f. f ≡ linked left (link_found link.now (seen_in_view view.entry)).0 (as_value (link_found link.now (seen_in_view view.entry)).1)) }
+{
+    let found = expr_found(alloc, link.operand.get(), view)?;
+    Ok(linked(left, link.operator, as_value(found)))
 }
 
 // ---- calls

@@ -1,8 +1,8 @@
 //! Operators, and the functions of the language.
 ghost use Rattle.std.specs.Prelude.{◌≡◌, ◌∷◌, []};
-ghost use Rattle.psm_rules.specs.ExprFaults.{all_texts, argument, cast_found, cast_shape, compared, compares, found_with, function_found, junction_of, like_found, linked, null_if_found, null_test, of_type, operated, product_of, signed_found, simple_test, sum_of, text_result, with_numbers, without_fault};
+ghost use Rattle.psm_rules.specs.ExprFaults.{all_texts, argument, cast_found, cast_shape, compared, compares, found_with, function_found, junction_of, like_found, linked, null_if_found, null_test, of_type, operated, product_of, signed_found, simple_test, sum_of, text_result, with_length, with_numbers, without_fault};
 ghost use Rattle.psm_rules.specs.Found.{broken};
-ghost use Rattle.psm_rules.specs.Shapes.{number_in};
+ghost use Rattle.psm_rules.specs.Shapes.{number_in, varying};
 ghost use Rattle.psm_rules.specs.declared.rule.Rule.TheVariants.{FamiliesMixed};
 
 use crate::found::{all_of, as_value, broken, made_of, of_family, shape_of, sound};
@@ -230,6 +230,26 @@ pub(crate) fn function_found(place: Place, typed: Typed, arguments: &[Found]) ->
     ensures { result ≡ function_found place typed arguments.now }
 {
     made_of(place, arguments, sound(place, Shape::Value(typed)))
+}
+
+/// SUBSTRING of a text, from a place on, and the number of characters where it is given.
+pub(crate) fn substring_found(
+    place: Place,
+    text: Found,
+    from: Found,
+    length: Option<Found>,
+) -> Found
+    ensures { result ≡ function_found place varying (argument Family.Texts text ∷ argument Family.Numbers from ∷ with_length length) }
+{
+    let text = argument(Family::Texts, text);
+    let from = argument(Family::Numbers, from);
+    match length {
+        None => function_found(place, VARYING, &[text, from]),
+        Some(length) => {
+            let length = argument(Family::Numbers, length);
+            function_found(place, VARYING, &[text, from, length])
+        }
+    }
 }
 
 /// CAST of a source to a type.

@@ -1,4 +1,4 @@
-use Rattle.std.proofs.Common.{◌≡◌, ◌++◌, ◌∷◌, [], drop, map}
+use Rattle.std.proofs.Common.{◌≡◌, ◌++◌, ◌∷◌, drop, map}
 use Rattle.psm_list.specs.Several.{several_map}
 use Rattle.psm_rules.specs.Found.{as_condition, as_value}
 use Rattle.psm_rules.specs.ExprFaults.{chained, expr_found, link_found, pick_found, seen, seen_in, simple_test, when_found}
