@@ -1,4 +1,11 @@
+pub mod Apart
+pub mod Bounds
 pub mod Equations
+pub mod Going
 pub mod Items
 pub mod NamesSoFar
+pub mod Noted
+pub mod Once
+pub mod Returning
+pub mod TableKeys
 pub mod Walks

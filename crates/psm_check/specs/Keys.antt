@@ -1,6 +1,8 @@
--- The names of a key's columns as they are kept.
-use Rattle.std.specs.Prelude.{List, [], ◌∷◌, map}
+-- The names of a key's columns, and the keys of a table, as they are kept.
+use Rattle.std.specs.Prelude.{Bool, true, false, List, [], ◌∷◌, map}
 use Rattle.psm_scope.specs.Frames.{Spelling}
+use Rattle.psm_check.specs.declared.tables.Keys.{Keys}
+use Rattle.psm_check.specs.declared.tables.Keys.TheVariants as tables
 use Rattle.psm_check.specs.declared.world.Key.{Key}
 use Rattle.psm_check.specs.declared.world.Key.TheVariants as keys
 
@@ -8,3 +10,34 @@ abbrev pub key_names : Key → List Spelling
 key_names keys.None = []
 key_names (keys.Column column) = column.now.name ∷ []
 key_names (keys.Rule names) = names.now.first.name ∷ map (λ n. n.name) names.now.rest
+
+-- of the keys of a table the first is kept, and whether there are others
+pub data Kept : Type 0 where
+  NoKey : Kept
+  OneKey : List Spelling → Kept
+  MoreKeys : List Spelling → Kept
+
+abbrev pub kept : Keys → Kept
+kept tables.None = NoKey
+kept (tables.One key) = OneKey (key_names key)
+kept (tables.More first) = MoreKeys (key_names first)
+
+-- with a key more
+abbrev pub and_key : Kept → List Spelling → Kept
+and_key NoKey k = OneKey k
+and_key (OneKey first) k = MoreKeys first
+and_key (MoreKeys first) k = MoreKeys first
+
+abbrev pub and_keys : Kept → List (List Spelling) → Kept
+and_keys k [] = k
+and_keys k (l ∷ ls) = and_keys (and_key k l) ls
+
+abbrev pub is_one : Kept → Bool
+is_one NoKey = false
+is_one (OneKey k) = true
+is_one (MoreKeys first) = false
+
+abbrev pub first_kept : Kept → List Spelling
+first_kept NoKey = []
+first_kept (OneKey k) = k
+first_kept (MoreKeys first) = first

@@ -1,29 +1,36 @@
 //! The first fault of a routine, and what routines declare.
-ghost use Rattle.std.specs.Prelude.{◌≡◌, ◌∷◌, [], IfOk};
-ghost use Rattle.psm_rules.specs.FileFaults.{routine_fault, told_apart, with_routines};
+ghost use Rattle.std.specs.Prelude.{◌≡◌, ◌∷◌, ◌<◌, [], map, true, IfOk};
+ghost use Rattle.psm_scope.specs.Scopes.{can_declare_here};
+ghost use Rattle.psm_rules.specs.declared.rule.Rule.TheVariants as rules_of;
+ghost use Rattle.psm_rules.specs.Faults.{first_of};
+ghost use Rattle.psm_rules.specs.BlockFaults.{statement_fault};
+ghost use Rattle.psm_rules.specs.StatementFaults.{repeated, several};
+ghost use Rattle.psm_rules.specs.FileFaults.{block_returns, body_context, branch_returns, handler_returns, has_return, is_in, kind_of, kind_of_routine, mode_of, note_number, notes_fault, parameter_fault, parameter_of, parameter_variable, result_fault, return_fault, returns, routine_fault, routine_frames, some, with_parameter, with_routine, with_routines};
+ghost use Rattle.psm_check.specs.InRoutine.{within_of};
 
 use crate::blocks::statement_fault;
 use crate::found::breaks_if;
 use crate::known::Frames;
 use crate::repeated::Repeats;
 use crate::statements::{Context, Within};
+use crate::told::Told;
 use crate::types::{type_fault, type_of};
 use crate::world::World;
-use indexmap::IndexSet;
 use psm_list::{Boxed, List, OneOrMore};
 use psm_rules::{Fault, Rule, earlier};
-use psm_scope::{
-    ArgKind, FrameKind, ParameterMode, ParameterScope, ProcedureScope, Procedures, Variable,
-};
+use psm_scope::{ArgKind, FrameKind, ParameterMode, ParameterScope, ProcedureScope, Variable};
 use psm_tree::{
-    Block, Branch, Handler, Mode, Note, NoteForm, Parameter, Routine, Simple, Statement, TypeForm,
+    Block, Branch, DataType, Handler, Mode, Note, NoteForm, Parameter, Routine, Simple, Statement,
+    TypeForm,
 };
 use std::alloc::{AllocError, Global};
 
 // ---- what routines declare
 
-// The kind of a type, also of one that is out of range.
-fn kind_of(form: &TypeForm) -> ArgKind {
+/// The kind of a type, also of one that is out of range.
+pub(crate) fn kind_of(form: &TypeForm) -> ArgKind
+    ensures { result ≡ kind_of form.now }
+{
     match form {
         TypeForm::SmallInt => ArgKind::SmallInt,
         TypeForm::Integer => ArgKind::Integer,
@@ -33,7 +40,9 @@ fn kind_of(form: &TypeForm) -> ArgKind {
     }
 }
 
-fn kinds_of(alloc: Global, parameters: &[Parameter]) -> Result<List<ArgKind>, AllocError> {
+fn kinds_of(alloc: Global, parameters: &[Parameter]) -> Result<List<ArgKind>, AllocError>
+    ensures { IfOk result (λ kinds. kinds ≡ map (λ p. kind_of p.kind.form) parameters.now) }
+{
     let mut kinds = Vec::new(alloc);
     for parameter in parameters {
         kinds.push(kind_of(&parameter.kind.form))?;
@@ -41,7 +50,9 @@ fn kinds_of(alloc: Global, parameters: &[Parameter]) -> Result<List<ArgKind>, Al
     Ok(List::of(kinds))
 }
 
-fn mode_of(mode: Mode) -> ParameterMode {
+fn mode_of(mode: Mode) -> ParameterMode
+    ensures { result ≡ mode_of mode }
+{
     match mode {
         Mode::In => ParameterMode::In,
         Mode::Out => ParameterMode::Out,
@@ -52,15 +63,17 @@ fn mode_of(mode: Mode) -> ParameterMode {
 fn parameters_of(
     alloc: Global,
     parameters: &[Parameter],
-) -> Result<List<ParameterScope>, AllocError> {
-    let mut types = Vec::new(alloc);
+) -> Result<List<ParameterScope>, AllocError>
+    ensures { IfOk result (λ known. known ≡ map parameter_of parameters.now) }
+{
+    let mut known = Vec::new(alloc);
     for parameter in parameters {
-        types.push(ParameterScope {
+        known.push(ParameterScope {
             mode: mode_of(parameter.mode),
             kind: type_of(&parameter.kind),
         })?;
     }
-    Ok(List::of(types))
+    Ok(List::of(known))
 }
 
 /// Declares the routines of a file.
@@ -72,97 +85,61 @@ pub(crate) fn declare_routines<'a>(
     ensures { IfOk result (λ _. world.new ≡ with_routines world.old routines.now) }
 {
     for routine in routines {
-        let parameters = routine.parameters.items();
-        let name = &routine.name.name;
-        match &routine.returns {
-            None => {
-                let parameters = parameters_of(alloc, parameters)?;
-                let known = ProcedureScope {
-                    number: 0,
-                    parameters,
-                };
-                world.procedures.add(name, known)?;
-            }
-            Some(t) => {
-                let kinds = kinds_of(alloc, parameters)?;
-                world.functions.push(name, kinds, type_of(t))?;
-            }
-        }
+        declare_routine(alloc, routine, world)?;
     }
     Ok(())
 }
 
-// ---- routines that can't be told apart
-
-/// The name of a function as it is kept in a set of functions.
-#[derive(PartialEq, Eq, Hash, Drop)]
-struct FunctionKey {
-    name: String,
-    kinds: Vec<u8>,
-}
-
-/// The routines so far.
-#[derive(Drop)]
-pub(crate) struct Told<'a> {
-    procedures: Procedures<'a>,
-    functions: IndexSet<FunctionKey>,
-}
-
-impl<'a> Told<'a> {
-    pub(crate) fn new(alloc: Global) -> Told<'a>
-        ensures { result ≡ [] }
-    {
-        Told {
-            procedures: Procedures::new(alloc),
-            functions: IndexSet::new(alloc),
-        }
-    }
-
-    // Procedures of one name have different numbers of parameters, functions of one name different kinds.
-    fn fault(&mut self, alloc: Global, r: &'a Routine) -> Result<Option<Fault>, AllocError>
-        ensures fault { IfOk result (λ f. f ≡ told_apart r.now self.old) }
-        ensures before { IfOk result (λ _. self.new ≡ r.now ∷ self.old) }
-    {
-        let parameters = r.parameters.items();
-        if r.returns.is_some() {
-            let kinds = kind_numbers(alloc, parameters)?;
-            let name = String::from_str(alloc, r.name.name.as_str())?;
-            let added = self.functions.insert(FunctionKey { name, kinds })?;
-            Ok(breaks_if(!added, Rule::FunctionsNotDistinct, r.name.place))
-        } else {
-            let known = ProcedureScope {
-                number: 0,
-                parameters: parameters_of(alloc, parameters)?,
-            };
-            let added = self.procedures.add(&r.name.name, known)?;
-            Ok(breaks_if(!added, Rule::ProcedureRepeated, r.name.place))
-        }
+fn declare_routine<'a>(
+    alloc: Global,
+    routine: &'a Routine,
+    world: &mut World<'a>,
+) -> Result<(), AllocError>
+    ensures { IfOk result (λ _. world.new ≡ with_routine world.old routine.now routine.now.returns) }
+{
+    match &routine.returns {
+        None => declare_procedure(alloc, routine, world),
+        Some(t) => declare_function(alloc, routine, t, world),
     }
 }
 
-fn kind_numbers(alloc: Global, parameters: &[Parameter]) -> Result<Vec<u8>, AllocError> {
-    let mut numbers = Vec::new(alloc);
-    for parameter in parameters {
-        numbers.push(kind_number(kind_of(&parameter.kind.form)))?;
-    }
-    Ok(numbers)
+fn declare_procedure<'a>(
+    alloc: Global,
+    routine: &'a Routine,
+    world: &mut World<'a>,
+) -> Result<(), AllocError>
+    ensures { IfOk result (λ _. world.new ≡ with_routine world.old routine.now None) }
+{
+    let known = ProcedureScope {
+        number: 0,
+        parameters: parameters_of(alloc, routine.parameters.items())?,
+    };
+    world.procedures.add(&routine.name.name, known)?;
+    Ok(())
 }
 
-fn kind_number(kind: ArgKind) -> u8 {
-    match kind {
-        ArgKind::SmallInt => 0,
-        ArgKind::Integer => 1,
-        ArgKind::Numeric => 2,
-        ArgKind::Char => 3,
-        ArgKind::VarChar => 4,
-        ArgKind::Null => 5,
-    }
+fn declare_function<'a>(
+    alloc: Global,
+    routine: &'a Routine,
+    returned: &DataType,
+    world: &mut World<'a>,
+) -> Result<(), AllocError>
+    ensures { IfOk result (λ _. world.new ≡ with_routine world.old routine.now (Some returned.now)) }
+{
+    let kinds = kinds_of(alloc, routine.parameters.items())?;
+    world
+        .functions
+        .push(&routine.name.name, kinds, type_of(returned))?;
+    Ok(())
 }
 
 // ---- the body of a function has a RETURN, in an action perhaps
 
 #[cycle(returning)]
-fn has_return(statement: &Statement) -> bool {
+#[tactic(auto, using(crate::proofs::Returning::statement_returns))]
+fn has_return(statement: &Statement) -> bool
+    ensures { result ≡ has_return statement.now }
+{
     match statement {
         Statement::Block { block, .. } => block_returns(block.get()),
         Statement::If {
@@ -179,15 +156,23 @@ fn has_return(statement: &Statement) -> bool {
                 || branches_return(branches.rest.items())
                 || one_returns(otherwise.items())
         }
-        Statement::Simple(simple) => match simple.get() {
-            Simple::Return { .. } => true,
-            _ => false,
-        },
+        Statement::Simple(simple) => is_return(simple.get()),
+    }
+}
+
+fn is_return(simple: &Simple) -> bool
+    ensures { result ≡ returns simple.now }
+{
+    match simple {
+        Simple::Return { .. } => true,
+        _ => false,
     }
 }
 
 #[cycle(returning)]
-fn one_returns(statements: &[Boxed<Statement>]) -> bool {
+fn one_returns(statements: &[Boxed<Statement>]) -> bool
+    ensures { result ≡ some (map has_return statements.now) }
+{
     for statement in statements {
         if has_return(statement.get()) {
             return true;
@@ -197,12 +182,24 @@ fn one_returns(statements: &[Boxed<Statement>]) -> bool {
 }
 
 #[cycle(returning)]
-fn several_return(statements: &OneOrMore<Boxed<Statement>>) -> bool {
-    has_return(statements.first.get()) || one_returns(statements.rest.items())
+fn several_return(statements: &OneOrMore<Boxed<Statement>>) -> bool
+    ensures { result ≡ some (map has_return (several statements.now)) }
+{
+    if has_return(statements.first.get()) {
+        return true;
+    }
+    for statement in statements.rest.items() {
+        if has_return(statement.get()) {
+            return true;
+        }
+    }
+    false
 }
 
 #[cycle(returning)]
-fn branches_return(branches: &[Boxed<Branch>]) -> bool {
+fn branches_return(branches: &[Boxed<Branch>]) -> bool
+    ensures { result ≡ some (map branch_returns branches.now) }
+{
     for branch in branches {
         if branch_returns(branch.get()) {
             return true;
@@ -212,12 +209,18 @@ fn branches_return(branches: &[Boxed<Branch>]) -> bool {
 }
 
 #[cycle(returning)]
-fn branch_returns(branch: &Branch) -> bool {
+#[tactic(auto, using(crate::proofs::Returning::returns_branch))]
+fn branch_returns(branch: &Branch) -> bool
+    ensures { result ≡ branch_returns branch.now }
+{
     several_return(&branch.statements)
 }
 
 #[cycle(returning)]
-fn handlers_return(handlers: &[Boxed<Handler>]) -> bool {
+#[tactic(auto, using(crate::proofs::Returning::returns_handler))]
+fn handlers_return(handlers: &[Boxed<Handler>]) -> bool
+    ensures { result ≡ some (map handler_returns handlers.now) }
+{
     for handler in handlers {
         if has_return(handler.get().action.get()) {
             return true;
@@ -227,7 +230,10 @@ fn handlers_return(handlers: &[Boxed<Handler>]) -> bool {
 }
 
 #[cycle(returning)]
-fn block_returns(block: &Block) -> bool {
+#[tactic(auto, using(crate::proofs::Returning::block_returns_equations))]
+fn block_returns(block: &Block) -> bool
+    ensures { result ≡ block_returns block.now }
+{
     match block {
         Block::Compound {
             handlers,
@@ -243,7 +249,9 @@ fn block_returns(block: &Block) -> bool {
 
 // ---- notes: an alternative stands at most once, DETERMINISTIC and NOT DETERMINISTIC being one
 
-fn notes_fault(notes: &[Note]) -> Option<Fault> {
+fn notes_fault(notes: &[Note]) -> Option<Fault>
+    ensures { result ≡ first_of (notes_fault [] notes.now) }
+{
     let mut seen = [false; 5];
     let mut fault = None;
     for note in notes {
@@ -256,7 +264,8 @@ fn notes_fault(notes: &[Note]) -> Option<Fault> {
 }
 
 fn note_number(form: NoteForm) -> usize
-    ensures { result < 5 }
+    ensures number { result ≡ note_number form }
+    ensures few { result < 5 }
 {
     match form {
         NoteForm::Language => 0,
@@ -267,16 +276,87 @@ fn note_number(form: NoteForm) -> usize
     }
 }
 
-// ---- a routine
+// ---- parameters
 
-fn parameter_fault(of_function: bool, parameter: &Parameter) -> Option<Fault> {
+fn is_in(mode: Mode) -> bool
+    ensures { result ≡ is_in mode }
+{
+    match mode {
+        Mode::In => true,
+        Mode::Out | Mode::InOut => false,
+    }
+}
+
+fn parameter_fault(of_function: bool, parameter: &Parameter) -> Option<Fault>
+    ensures { result ≡ parameter_fault of_function parameter.now }
+{
     let mode = breaks_if(
-        of_function && parameter.mode != Mode::In,
+        of_function && !is_in(parameter.mode),
         Rule::ModeNotAllowed,
         parameter.place,
     );
     earlier(mode, type_fault(&parameter.kind, type_of(&parameter.kind)))
 }
+
+fn parameters_fault(of_function: bool, parameters: &[Parameter]) -> Option<Fault>
+    ensures { result ≡ first_of (map (parameter_fault of_function) parameters.now) }
+{
+    let mut fault = None;
+    for parameter in parameters {
+        fault = earlier(fault, parameter_fault(of_function, parameter));
+    }
+    fault
+}
+
+// The first parameter whose name stands before.
+fn parameter_names_fault(
+    alloc: Global,
+    parameters: &[Parameter],
+) -> Result<Option<Fault>, AllocError>
+    ensures { IfOk result (λ f. f ≡ repeated rules_of.ParameterRepeated (map (λ p. p.name) parameters.now)) }
+{
+    let mut names = Repeats::new(alloc, Rule::ParameterRepeated);
+    for parameter in parameters {
+        names.add(&parameter.name)?;
+    }
+    Ok(names.fault())
+}
+
+// The frame of a routine, in which its parameters are variables.
+fn routine_frames<'a>(alloc: Global, r: &'a Routine) -> Result<Frames<'a>, AllocError>
+    ensures { IfOk result (λ frames. frames ≡ routine_frames r.now) }
+{
+    let mut frames = Frames::new(alloc);
+    frames.push(FrameKind::Routine(&r.name.name))?;
+    for parameter in r.parameters.items() {
+        declare_parameter(&mut frames, parameter)?;
+    }
+    Ok(frames)
+}
+
+fn declare_parameter<'a>(
+    frames: &mut Frames<'a>,
+    parameter: &'a Parameter,
+) -> Result<(), AllocError>
+    requires { can_declare_here frames.old ≡ true }
+    ensures declared { IfOk result (λ _. frames.new ≡ with_parameter frames.old parameter.now) }
+    ensures inside { IfOk result (λ _. can_declare_here frames.new ≡ true) }
+{
+    frames.declare_variable(&parameter.name.name, parameter_variable(parameter))?;
+    Ok(())
+}
+
+fn parameter_variable(parameter: &Parameter) -> Variable
+    ensures { result ≡ parameter_variable parameter.now }
+{
+    Variable {
+        kind: type_of(&parameter.kind),
+        slot: 0,
+        assignable: !is_in(parameter.mode),
+    }
+}
+
+// ---- a routine
 
 /// The first fault of a routine.
 pub(crate) fn routine_fault<'a>(
@@ -288,40 +368,55 @@ pub(crate) fn routine_fault<'a>(
     ensures fault { IfOk result (λ f. f ≡ routine_fault world.now told.old r.now) }
     ensures before { IfOk result (λ _. told.new ≡ r.now ∷ told.old) }
 {
-    let of_function = r.returns.is_some();
-    let mut fault = told.fault(alloc, r)?;
-    let without = of_function && !has_return(r.body.get());
-    fault = earlier(
-        fault,
-        breaks_if(without, Rule::FunctionWithoutReturn, r.name.place),
-    );
-    let mut names = Repeats::new(alloc, Rule::ParameterRepeated);
-    let mut frames = Frames::new(alloc);
-    frames.push(FrameKind::Routine(&r.name.name))?;
-    for parameter in r.parameters.items() {
-        names.add(&parameter.name)?;
-        fault = earlier(fault, parameter_fault(of_function, parameter));
-        let known = Variable {
-            kind: type_of(&parameter.kind),
-            slot: 0,
-            assignable: parameter.mode != Mode::In,
-        };
-        frames.declare_variable(&parameter.name.name, known)?;
+    let apart = told.fault(alloc, r)?;
+    let fault = earlier(apart, return_fault(r));
+    let names = parameter_names_fault(alloc, r.parameters.items())?;
+    let fault = earlier(fault, names);
+    let parameters = parameters_fault(r.returns.is_some(), r.parameters.items());
+    let fault = earlier(fault, parameters);
+    let fault = earlier(fault, result_fault(&r.returns));
+    let fault = earlier(fault, notes_fault(r.notes.items()));
+    Ok(earlier(fault, body_fault(alloc, world, r)?))
+}
+
+// A function without RETURN.
+fn return_fault(r: &Routine) -> Option<Fault>
+    ensures { result ≡ return_fault r.now }
+{
+    let without = r.returns.is_some() && !has_return(r.body.get());
+    breaks_if(without, Rule::FunctionWithoutReturn, r.name.place)
+}
+
+fn result_fault(returned: &Option<DataType>) -> Option<Fault>
+    ensures { result ≡ result_fault returned.now }
+{
+    match returned {
+        None => None,
+        Some(t) => type_fault(t, type_of(t)),
     }
-    fault = earlier(fault, names.fault());
-    let within = match &r.returns {
+}
+
+fn within(returned: &Option<DataType>) -> Within
+    ensures { within_of result ≡ kind_of_routine returned.now }
+{
+    match returned {
         None => Within::Procedure,
-        Some(t) => {
-            fault = earlier(fault, type_fault(t, type_of(t)));
-            Within::Function(type_of(t))
-        }
-    };
-    fault = earlier(fault, notes_fault(r.notes.items()));
+        Some(t) => Within::Function(type_of(t)),
+    }
+}
+
+fn body_fault<'a>(
+    alloc: Global,
+    world: &World<'a>,
+    r: &'a Routine,
+) -> Result<Option<Fault>, AllocError>
+    ensures { IfOk result (λ f. f ≡ statement_fault r.now.body (body_context world.now r.now)) }
+{
     let c = Context {
         alloc,
         world,
-        within,
+        within: within(&r.returns),
     };
-    let body = statement_fault(r.body.get(), c, &mut frames)?;
-    Ok(earlier(fault, body))
+    let mut frames = routine_frames(alloc, r)?;
+    statement_fault(r.body.get(), c, &mut frames)
 }

@@ -1,7 +1,16 @@
 //! The first fault of a table.
-ghost use Rattle.std.specs.Prelude.{◌≡◌, ◌↔◌, IfOk, length};
-ghost use Rattle.psm_rules.specs.FileFaults.{columns_of, first_key, keys_of, table_elements, table_fault};
-ghost use Rattle.psm_check.specs.Keys.{key_names};
+ghost use Rattle.std.specs.Prelude.{◌≡◌, ◌∷◌, [], map, nat_eq, length, slice_get, IfOk, IfSome};
+ghost use Rattle.psm_value.specs.SqlType.{IsType};
+ghost use Rattle.psm_value.specs.Stored.{stored};
+ghost use Rattle.psm_rules.specs.declared.rule.Rule.TheVariants as rules_of;
+ghost use Rattle.psm_rules.specs.Faults.{earlier, first_from};
+ghost use Rattle.psm_rules.specs.ExprFaults.{type_fault};
+ghost use Rattle.psm_rules.specs.StatementFaults.{repeated, several};
+ghost use Rattle.psm_rules.specs.Types.{type_of};
+ghost use Rattle.psm_rules.specs.FileFaults.{alone, check_fault, column_names, column_rule_fault, column_rule_keys, columns_of, constant_fault, datum_of, default_fits, element_fault, element_keys, first_key, is_stored, key_fault, keys_of, no_world, own_keys, signed, table_elements, table_fault, table_rule_fault, too_many, with_column};
+ghost use Rattle.psm_check.specs.Keys.{and_key, and_keys, first_kept, is_one, kept, key_names};
+ghost use Rattle.psm_check.specs.Listed.{with_names};
+ghost use Rattle.psm_check.specs.Seen.{seen_in_view};
 
 use crate::exprs::expr_found;
 use crate::found::{as_condition, breaks, breaks_if};
@@ -12,21 +21,19 @@ use crate::statements::columns_fault;
 use crate::types::{type_fault, type_of};
 use crate::view::{RowTable, View};
 use crate::world::{Columns, Key, World};
+use psm_list::OneOrMore;
 use psm_num::Dec;
 use psm_rules::{Family, Fault, Rule, earlier};
 use psm_scope::Names;
 use psm_tree::{
-    ColumnRule, ColumnRuleForm, Constant, ConstantForm, DataType, Element, Expr, Sign,
+    ColumnRule, ColumnRuleForm, Constant, ConstantForm, DataType, Element, Expr, Identifier, Sign,
     TableRuleForm, TableTree,
 };
 use psm_value::{Datum, SqlType, ValueFault, store_into};
 use std::alloc::{AllocError, Global};
 
 /// The columns of a table, each name once.
-pub(crate) fn columns_of<'a>(
-    alloc: Global,
-    table: &'a TableTree,
-) -> Result<Columns<'a>, AllocError>
+pub(crate) fn columns_of<'a>(alloc: Global, table: &'a TableTree) -> Result<Columns<'a>, AllocError>
     ensures { IfOk result (λ cs. cs ≡ columns_of (table_elements table.now)) }
 {
     let mut columns = Names::new(alloc);
@@ -37,7 +44,9 @@ pub(crate) fn columns_of<'a>(
     Ok(columns)
 }
 
-fn push_column<'a>(columns: &mut Columns<'a>, element: &'a Element) -> Result<(), AllocError> {
+fn push_column<'a>(columns: &mut Columns<'a>, element: &'a Element) -> Result<(), AllocError>
+    ensures { IfOk result (λ _. columns.new ≡ with_column columns.old element.now) }
+{
     match element {
         Element::Column { name, kind, .. } => {
             columns.add(&name.name, type_of(kind))?;
@@ -49,40 +58,32 @@ fn push_column<'a>(columns: &mut Columns<'a>, element: &'a Element) -> Result<()
 
 // ---- keys
 
-/// The keys that a table declares: how many, and the first.
+/// The keys that a table declares: of more than one the first is kept.
 #[derive(Clone, Copy)]
-pub(crate) struct Keys<'a> {
-    pub(crate) count: u32,
-    pub(crate) first: Key<'a>,
+pub(crate) enum Keys<'a> {
+    None,
+    One(Key<'a>),
+    More(Key<'a>),
 }
 
 /// The keys of a table.
+#[tactic(auto, using(crate::proofs::TableKeys::kept_keys))]
 pub(crate) fn keys_of(table: &TableTree) -> Keys<'_>
-    ensures count { (result.count ≡ 1) ↔ (length (keys_of (table_elements table.now)) ≡ 1) }
-    ensures first { key_names result.first ≡ first_key (keys_of (table_elements table.now)) }
+    ensures one { is_one (kept result) ≡ nat_eq (length (keys_of (table_elements table.now))) 1 }
+    ensures first { first_kept (kept result) ≡ first_key (keys_of (table_elements table.now)) }
 {
-    let none = Keys {
-        count: 0,
-        first: Key::None,
-    };
-    let mut keys = with_keys(none, &table.elements.first);
+    let mut keys = with_keys(Keys::None, &table.elements.first);
     for element in table.elements.rest.items() {
         keys = with_keys(keys, element);
     }
     keys
 }
 
-fn with_keys<'a>(keys: Keys<'a>, element: &'a Element) -> Keys<'a> {
+fn with_keys<'a>(keys: Keys<'a>, element: &'a Element) -> Keys<'a>
+    ensures { kept result ≡ and_keys (kept keys.entry) (element_keys element.now) }
+{
     match element {
-        Element::Column { name, rules, .. } => {
-            let mut keys = keys;
-            for rule in rules.items() {
-                if let ColumnRuleForm::PrimaryKey = &rule.form {
-                    keys = with_key(keys, Key::Column(name));
-                }
-            }
-            keys
-        }
+        Element::Column { name, rules, .. } => with_own_keys(keys, name, rules.items()),
         Element::Rule(rule) => match &rule.form {
             TableRuleForm::PrimaryKey(names) => with_key(keys, Key::Rule(names)),
             TableRuleForm::Unique(_) | TableRuleForm::Check(_) => keys,
@@ -90,10 +91,54 @@ fn with_keys<'a>(keys: Keys<'a>, element: &'a Element) -> Keys<'a> {
     }
 }
 
-fn with_key<'a>(keys: Keys<'a>, key: Key<'a>) -> Keys<'a> {
-    Keys {
-        count: keys.count.saturating_add(1),
-        first: if keys.count == 0 { key } else { keys.first },
+#[tactic(auto, using(crate::proofs::TableKeys::kept_keys))]
+fn with_own_keys<'a>(keys: Keys<'a>, name: &'a Identifier, rules: &[ColumnRule]) -> Keys<'a>
+    ensures { kept result ≡ and_keys (kept keys.entry) (own_keys name.now.name rules.now) }
+{
+    let mut so_far = keys;
+    for rule in rules {
+        so_far = with_column_rule(so_far, name, &rule.form);
+    }
+    so_far
+}
+
+fn with_column_rule<'a>(keys: Keys<'a>, name: &'a Identifier, form: &ColumnRuleForm) -> Keys<'a>
+    ensures { kept result ≡ and_keys (kept keys.entry) (column_rule_keys name.now.name form.now) }
+{
+    match form {
+        ColumnRuleForm::PrimaryKey => with_key(keys, Key::Column(name)),
+        ColumnRuleForm::NotNull | ColumnRuleForm::Unique | ColumnRuleForm::Check(_) => keys,
+    }
+}
+
+fn with_key<'a>(keys: Keys<'a>, key: Key<'a>) -> Keys<'a>
+    ensures { kept result ≡ and_key (kept keys.entry) (key_names key.entry) }
+{
+    match keys {
+        Keys::None => Keys::One(key),
+        Keys::One(first) | Keys::More(first) => Keys::More(first),
+    }
+}
+
+impl<'a> Keys<'a> {
+    /// The first, where there is one.
+    pub(crate) fn first(self) -> Key<'a>
+        ensures { key_names result ≡ first_kept (kept self.entry) }
+    {
+        match self {
+            Keys::None => Key::None,
+            Keys::One(key) | Keys::More(key) => key,
+        }
+    }
+
+    /// Whether there is exactly one.
+    fn is_one(self) -> bool
+        ensures { result ≡ is_one (kept self.entry) }
+    {
+        match self {
+            Keys::One(_) => true,
+            Keys::None | Keys::More(_) => false,
+        }
     }
 }
 
@@ -104,7 +149,10 @@ fn constant_fault(
     alloc: Global,
     kind: Option<SqlType>,
     default: &Option<Constant>,
-) -> Result<Option<Fault>, AllocError> {
+) -> Result<Option<Fault>, AllocError>
+    requires { IfSome kind IsType }
+    ensures { IfOk result (λ f. f ≡ constant_fault kind default.now) }
+{
     match (kind, default) {
         (Some(kind), Some(constant)) => {
             let fits = default_fits(alloc, kind, &constant.form)?;
@@ -114,38 +162,36 @@ fn constant_fault(
     }
 }
 
-fn default_fits(alloc: Global, kind: SqlType, form: &ConstantForm) -> Result<bool, AllocError> {
-    let family = family_of(typed(kind).kind);
+fn default_fits(alloc: Global, kind: SqlType, form: &ConstantForm) -> Result<bool, AllocError>
+    requires { IsType kind }
+    ensures { IfOk result (λ fits. fits ≡ default_fits kind (datum_of form.now)) }
+{
     match form {
         ConstantForm::Null => Ok(true),
-        ConstantForm::Number { sign, number } => {
-            if family == Family::Numbers {
-                is_stored(alloc, kind, &Datum::Num(signed(*sign, *number)))
-            } else {
-                Ok(false)
-            }
-        }
-        ConstantForm::Text(text) => {
-            if family == Family::Texts {
-                is_stored(alloc, kind, &Datum::Text(text.copy(alloc)?))
-            } else {
-                Ok(false)
-            }
-        }
+        ConstantForm::Number { sign, number } => match family_of(typed(kind).kind) {
+            Family::Numbers => is_stored(alloc, kind, &Datum::Num(signed(*sign, *number))),
+            Family::Texts => Ok(false),
+        },
+        ConstantForm::Text(text) => match family_of(typed(kind).kind) {
+            Family::Numbers => Ok(false),
+            Family::Texts => is_stored(alloc, kind, &Datum::Text(text.copy(alloc)?)),
+        },
     }
 }
 
-fn signed(sign: Option<Sign>, number: Dec) -> Dec {
+fn signed(sign: Option<Sign>, number: Dec) -> Dec
+    ensures { result ≡ signed sign number }
+{
     match sign {
         None | Some(Sign::Plus) => number,
         Some(Sign::Minus) => number.neg(),
     }
 }
 
-fn is_stored(alloc: Global, kind: SqlType, value: &Datum) -> Result<bool, AllocError> {
-    if !kind.is_within_bounds() {
-        return Ok(false);
-    }
+fn is_stored(alloc: Global, kind: SqlType, value: &Datum) -> Result<bool, AllocError>
+    requires { IsType kind }
+    ensures { IfOk result (λ b. b ≡ is_stored (stored kind value.now)) }
+{
     match store_into(alloc, kind, value) {
         Ok(_) => Ok(true),
         Err(ValueFault::Memory) => Err(AllocError),
@@ -162,60 +208,99 @@ pub(crate) fn table_fault(alloc: Global, table: &TableTree) -> Result<Option<Fau
     let columns = columns_of(alloc, table)?;
     let world = World::new(alloc);
     let frames = Frames::new(alloc);
-    // a CHECK sees the columns of its table alone
+    let own = own_faults(alloc, table)?;
+    elements_fault(alloc, table, &columns, &world, &frames, own)
+}
+
+// A CHECK sees the columns of its table alone, of which a world and frames with nothing in them know nothing.
+fn elements_fault<'v, 'a>(
+    alloc: Global,
+    table: &'v TableTree,
+    columns: &'v Columns<'a>,
+    world: &'v World<'a>,
+    frames: &'v Frames<'a>,
+    before: Option<Fault>,
+) -> Result<Option<Fault>, AllocError>
+    requires nothing_known { world.now ≡ no_world }
+    requires nothing_around { frames.now ≡ [] }
+    ensures { IfOk result (λ f. f ≡ first_from before (map (element_fault (alone table.now.name.name columns.now) columns.now) (table_elements table.now))) }
+{
     let view = View {
-        world: &world,
-        frames: &frames,
+        world,
+        frames,
         row: Some(RowTable {
             name: &table.name.name,
             alias: None,
-            columns: Some(&columns),
+            columns: Some(columns),
         }),
     };
-    let own = own_faults(alloc, table)?;
-    let mut fault = element_fault(alloc, &table.elements.first, view, &columns)?;
+    let first = element_fault(alloc, &table.elements.first, view, columns)?;
+    let mut fault = earlier(before, first);
     for element in table.elements.rest.items() {
-        let next = element_fault(alloc, element, view, &columns)?;
+        let next = element_fault(alloc, element, view, columns)?;
         fault = earlier(fault, next);
     }
-    Ok(earlier(own, fault))
+    Ok(fault)
 }
 
 // The faults of its columns' names and of its key.
-fn own_faults(alloc: Global, table: &TableTree) -> Result<Option<Fault>, AllocError> {
-    let mut names = ColumnNames {
-        repeats: Repeats::new(alloc, Rule::ColumnRepeated),
-        count: 0,
-        too_many: None,
-    };
-    names.add(&table.elements.first)?;
-    for element in table.elements.rest.items() {
-        names.add(element)?;
+fn own_faults(alloc: Global, table: &TableTree) -> Result<Option<Fault>, AllocError>
+    ensures { IfOk result (λ f. f ≡ earlier (earlier (repeated rules_of.ColumnRepeated (column_names (table_elements table.now))) (too_many (slice_get (column_names (table_elements table.now)) 100))) (key_fault table.now.name (keys_of (table_elements table.now)))) }
+{
+    let names = names_fault(alloc, &table.elements)?;
+    let key = breaks_if(
+        !keys_of(table).is_one(),
+        Rule::NotOnePrimaryKey,
+        table.name.place,
+    );
+    Ok(earlier(earlier(names, too_many(&table.elements)), key))
+}
+
+// The first column whose name stands before.
+fn names_fault(alloc: Global, elements: &OneOrMore<Element>) -> Result<Option<Fault>, AllocError>
+    ensures { IfOk result (λ f. f ≡ repeated rules_of.ColumnRepeated (column_names (several elements.now))) }
+{
+    let mut names = Repeats::new(alloc, Rule::ColumnRepeated);
+    add_column(&mut names, &elements.first)?;
+    for element in elements.rest.items() {
+        add_column(&mut names, element)?;
     }
-    let one = keys_of(table).count == 1;
-    let key = breaks_if(!one, Rule::NotOnePrimaryKey, table.name.place);
-    Ok(earlier(earlier(names.repeats.fault(), names.too_many), key))
+    Ok(names.fault())
 }
 
-/// The names of a table's columns: column 101 is one too many.
-#[derive(Drop)]
-struct ColumnNames<'a> {
-    repeats: Repeats<'a>,
-    count: u32,
-    too_many: Option<Fault>,
+fn add_column<'a>(names: &mut Repeats<'a>, element: &'a Element) -> Result<(), AllocError>
+    ensures { IfOk result (λ _. names.new ≡ with_names names.old (column_names (element.now ∷ []))) }
+{
+    match element {
+        Element::Column { name, .. } => names.add(name),
+        Element::Rule(_) => Ok(()),
+    }
 }
 
-impl<'a> ColumnNames<'a> {
-    fn add(&mut self, element: &'a Element) -> Result<(), AllocError> {
+// Column 101 is one too many.
+fn too_many(elements: &OneOrMore<Element>) -> Option<Fault>
+    ensures { result ≡ too_many (slice_get (column_names (several elements.now)) 100) }
+{
+    match &elements.first {
+        Element::Column { .. } => beyond(99, elements.rest.items()),
+        Element::Rule(_) => beyond(100, elements.rest.items()),
+    }
+}
+
+// The column behind so many.
+fn beyond(columns: u8, elements: &[Element]) -> Option<Fault>
+    ensures { result ≡ too_many (slice_get (column_names elements.now) columns) }
+{
+    let mut left = columns;
+    for element in elements {
         if let Element::Column { name, .. } = element {
-            self.repeats.add(name)?;
-            if self.count == 100 && self.too_many.is_none() {
-                self.too_many = breaks(Rule::TooManyColumns, name.place);
+            if left == 0 {
+                return breaks(Rule::TooManyColumns, name.place);
             }
-            self.count = self.count.saturating_add(1);
+            left -= 1;
         }
-        Ok(())
     }
+    None
 }
 
 fn element_fault(
@@ -223,42 +308,85 @@ fn element_fault(
     element: &Element,
     view: View,
     columns: &Columns,
-) -> Result<Option<Fault>, AllocError> {
+) -> Result<Option<Fault>, AllocError>
+    ensures { IfOk result (λ f. f ≡ element_fault (seen_in_view view.entry) columns.now element.now) }
+{
     match element {
         Element::Column {
             kind,
             default,
             rules,
             ..
-        } => column_fault(alloc, view, kind, default, rules.items()),
-        Element::Rule(rule) => match &rule.form {
-            TableRuleForm::PrimaryKey(names) | TableRuleForm::Unique(names) => {
-                columns_fault(alloc, Some(columns), names)
-            }
-            TableRuleForm::Check(e) => check_fault(alloc, e.get(), view),
-        },
+        } => {
+            let own = column_type_fault(alloc, kind, default)?;
+            rules_fault(alloc, own, view, rules.items())
+        }
+        Element::Rule(rule) => table_rule_fault(alloc, &rule.form, view, columns),
     }
 }
 
-fn column_fault(
+fn table_rule_fault(
     alloc: Global,
+    form: &TableRuleForm,
     view: View,
+    columns: &Columns,
+) -> Result<Option<Fault>, AllocError>
+    ensures { IfOk result (λ f. f ≡ table_rule_fault (seen_in_view view.entry) columns.now form.now) }
+{
+    match form {
+        TableRuleForm::PrimaryKey(names) | TableRuleForm::Unique(names) => {
+            columns_fault(alloc, Some(columns), names)
+        }
+        TableRuleForm::Check(e) => check_fault(alloc, e.get(), view),
+    }
+}
+
+// The faults of a column's type and of its DEFAULT.
+#[tactic(auto, using(crate::proofs::Bounds::type_within))]
+fn column_type_fault(
+    alloc: Global,
     kind: &DataType,
     default: &Option<Constant>,
-    rules: &[ColumnRule],
-) -> Result<Option<Fault>, AllocError> {
+) -> Result<Option<Fault>, AllocError>
+    ensures { IfOk result (λ f. f ≡ earlier (type_fault kind.now (type_of kind.now)) (constant_fault (type_of kind.now) default.now)) }
+{
     let known = type_of(kind);
     let constant = constant_fault(alloc, known, default)?;
-    let mut fault = earlier(type_fault(kind, known), constant);
+    Ok(earlier(type_fault(kind, known), constant))
+}
+
+fn rules_fault(
+    alloc: Global,
+    before: Option<Fault>,
+    view: View,
+    rules: &[ColumnRule],
+) -> Result<Option<Fault>, AllocError>
+    ensures { IfOk result (λ f. f ≡ first_from before (map (λ r. column_rule_fault (seen_in_view view.entry) r.form) rules.now)) }
+{
+    let mut fault = before;
     for rule in rules {
-        if let ColumnRuleForm::Check(e) = &rule.form {
-            fault = earlier(fault, check_fault(alloc, e.get(), view)?);
-        }
+        let own = column_rule_fault(alloc, &rule.form, view)?;
+        fault = earlier(fault, own);
     }
     Ok(fault)
 }
 
-fn check_fault(alloc: Global, e: &Expr, view: View) -> Result<Option<Fault>, AllocError> {
+fn column_rule_fault(
+    alloc: Global,
+    form: &ColumnRuleForm,
+    view: View,
+) -> Result<Option<Fault>, AllocError>
+    ensures { IfOk result (λ f. f ≡ column_rule_fault (seen_in_view view.entry) form.now) }
+{
+    match form {
+        ColumnRuleForm::Check(e) => check_fault(alloc, e.get(), view),
+        ColumnRuleForm::NotNull | ColumnRuleForm::PrimaryKey | ColumnRuleForm::Unique => Ok(None),
+    }
+}
+
+fn check_fault(alloc: Global, e: &Expr, view: View) -> Result<Option<Fault>, AllocError>
+    ensures { IfOk result (λ f. f ≡ check_fault (seen_in_view view.entry) e.now) }
+{
     let found = expr_found(alloc, e, view)?;
     Ok(as_condition(found).fault)
 }

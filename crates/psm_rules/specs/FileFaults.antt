@@ -1,23 +1,17 @@
 -- The first fault of a module file (ISO/IEC 9075:1992, 11.3, and ISO/IEC 9075-4:1996, module definitions).
-use Rattle.std.specs.Prelude.{ℕ, suc, nat_eq, nat_le, Bool, true, false, not, ◌&&◌, ◌||◌, Option, Some, None, is_some, Result, Ok, Err, List, [], ◌∷◌, ◌++◌, map, length, option_map, slice_get, if◌then◌else◌}
-use Rattle.std.specs.List.{list_all, list_any}
-use Rattle.psm_list.specs.Several.{Several}
+use Rattle.std.specs.Prelude.{ℕ, nat_eq, Bool, true, false, not, ◌&&◌, ◌||◌, Option, Some, None, is_some, Result, Ok, Err, List, [], ◌∷◌, ◌++◌, map, length, slice_get, if◌then◌else◌}
+use Rattle.std.specs.List.{list_any}
 use Rattle.psm_num.specs.Num.{Num}
 use Rattle.psm_num.specs.Arithmetic.{negated}
-use Rattle.psm_token.specs.declared.place.Place.{Place}
 use Rattle.psm_value.specs.Stored.{stored}
 use Rattle.psm_value.specs.declared.datum.Datum.{Datum}
 use Rattle.psm_value.specs.declared.datum.Datum.TheVariants as datum
 use Rattle.psm_value.specs.declared.sqltype.SqlType.{SqlType}
-use Rattle.psm_value.specs.declared.sqltype.SqlType.TheVariants as types
-use Rattle.psm_scope.specs.Choice.{Signature}
-use Rattle.psm_scope.specs.Frames.{Spelling, is_spelled, Declared}
+use Rattle.psm_scope.specs.Frames.{Spelling, is_spelled, undeclared}
 use Rattle.psm_scope.specs.Frames as frame
-use Rattle.psm_scope.specs.Lookup.{named}
 use Rattle.psm_scope.specs.declared.kinds.ArgKind.{ArgKind}
 use Rattle.psm_scope.specs.declared.kinds.ArgKind.TheVariants as kind
 use Rattle.psm_tree.specs.declared.name.Identifier.{Identifier}
-use Rattle.psm_tree.specs.Names.{Names}
 use Rattle.psm_tree.specs.declared.types.Constant.{Constant}
 use Rattle.psm_tree.specs.declared.types.ConstantForm.{ConstantForm}
 use Rattle.psm_tree.specs.declared.types.ConstantForm.TheVariants as constants
@@ -28,9 +22,12 @@ use Rattle.psm_tree.specs.declared.types.TypeForm.{TypeForm}
 use Rattle.psm_tree.specs.declared.types.TypeForm.TheVariants as forms
 use Rattle.psm_tree.specs.declared.expr.Expr.{Expr}
 use Rattle.psm_tree.specs.declared.statement.Statement.{Statement}
+use Rattle.psm_tree.specs.declared.statement.Block.{Block}
+use Rattle.psm_tree.specs.declared.statement.Branch.{Branch}
+use Rattle.psm_tree.specs.declared.statement.Handler.{Handler}
 use Rattle.psm_tree.specs.declared.statement.Block.TheOpen.{Block-F, Statement-F, Branch-F, Handler-F}
 use Rattle.psm_tree.specs.declared.statement.Block.TheOpen as layers
-use Rattle.psm_tree.specs.declared.statement.Block.TheFolds.{fold-Statement}
+use Rattle.psm_tree.specs.declared.statement.Block.TheFolds.{fold-Block, fold-Statement, fold-Branch, fold-Handler}
 use Rattle.psm_tree.specs.declared.statement.Simple.{Simple}
 use Rattle.psm_tree.specs.declared.statement.Simple.TheVariants as simples
 use Rattle.psm_tree.specs.declared.file.FileTree.{FileTree}
@@ -40,7 +37,6 @@ use Rattle.psm_tree.specs.declared.file.Element.TheVariants as elements
 use Rattle.psm_tree.specs.declared.file.ColumnRule.{ColumnRule}
 use Rattle.psm_tree.specs.declared.file.ColumnRuleForm.{ColumnRuleForm}
 use Rattle.psm_tree.specs.declared.file.ColumnRuleForm.TheVariants as column_rules
-use Rattle.psm_tree.specs.declared.file.TableRule.{TableRule}
 use Rattle.psm_tree.specs.declared.file.TableRuleForm.{TableRuleForm}
 use Rattle.psm_tree.specs.declared.file.TableRuleForm.TheVariants as table_rules
 use Rattle.psm_tree.specs.declared.file.Mode.{Mode}
@@ -51,7 +47,6 @@ use Rattle.psm_tree.specs.declared.file.NoteForm.TheVariants as notes
 use Rattle.psm_tree.specs.declared.file.Parameter.{Parameter}
 use Rattle.psm_tree.specs.declared.file.Routine.{Routine}
 use Rattle.psm_rules.specs.declared.fault.Fault.{Fault}
-use Rattle.psm_rules.specs.declared.rule.Rule.{Rule}
 use Rattle.psm_rules.specs.declared.rule.Rule.TheVariants as rule
 use Rattle.psm_rules.specs.BlockFaults.{declared_once, statement_fault}
 use Rattle.psm_rules.specs.ExprFaults.{expr_found, type_fault}
@@ -63,15 +58,14 @@ use Rattle.psm_rules.specs.Shapes.{is_family, family_of, typed}
 use Rattle.psm_rules.specs.StatementFaults.{Context, Within, several, repeated, columns_fault}
 use Rattle.psm_rules.specs.StatementFaults as within
 use Rattle.psm_rules.specs.Types.{type_of}
-use Rattle.psm_rules.specs.View.{View, World, Columns}
+use Rattle.psm_rules.specs.View.{View, World, Columns, Frames}
+use Rattle.psm_scope.specs.Scopes.{declared_here, redeclared}
 use Rattle.psm_scope.specs.Routines.{Callable, Header, procedure}
 use Rattle.psm_scope.specs.declared.known.Variable.{Variable}
-use Rattle.psm_scope.specs.declared.known.DeclaredCondition.{DeclaredCondition}
 use Rattle.psm_scope.specs.declared.procedures.ProcedureScope.{ProcedureScope}
 use Rattle.psm_scope.specs.declared.procedures.ParameterScope.{ParameterScope}
 use Rattle.psm_scope.specs.declared.procedures.ParameterMode.{ParameterMode}
 use Rattle.psm_scope.specs.declared.procedures.ParameterMode.TheVariants as scope_modes
-use Rattle.psm_rules.specs.View as view
 
 -- ---- columns of a table
 
@@ -144,25 +138,28 @@ element_fault v columns (elements.Column name kind default rules) = first_of (ty
 element_fault v columns (elements.Rule r) = table_rule_fault v columns r.form
 
 -- the keys that are declared, as lists of columns
+abbrev pub column_rule_keys : Spelling → ColumnRuleForm → List (List Spelling)
+column_rule_keys n column_rules.NotNull = []
+column_rule_keys n column_rules.PrimaryKey = (n ∷ []) ∷ []
+column_rule_keys n column_rules.Unique = []
+column_rule_keys n (column_rules.Check e) = []
+
 abbrev pub own_keys : Spelling → List ColumnRule → List (List Spelling)
 own_keys n [] = []
-own_keys n (r ∷ rs) = key_of r.form ++ own_keys n rs
-  where
-    key_of : ColumnRuleForm → List (List Spelling)
-    key_of column_rules.NotNull = []
-    key_of column_rules.PrimaryKey = (n ∷ []) ∷ []
-    key_of column_rules.Unique = []
-    key_of (column_rules.Check e) = []
+own_keys n (r ∷ rs) = column_rule_keys n r.form ++ own_keys n rs
 
 abbrev pub rule_keys : TableRuleForm → List (List Spelling)
 rule_keys (table_rules.PrimaryKey names) = map (λ n. n.name) (several names) ∷ []
 rule_keys (table_rules.Unique names) = []
 rule_keys (table_rules.Check e) = []
 
+abbrev pub element_keys : Element → List (List Spelling)
+element_keys (elements.Column name kind default rules) = own_keys name.name rules
+element_keys (elements.Rule r) = rule_keys r.form
+
 abbrev pub keys_of : List Element → List (List Spelling)
 keys_of [] = []
-keys_of (elements.Column name kind default rules ∷ es) = own_keys name.name rules ++ keys_of es
-keys_of (elements.Rule r ∷ es) = rule_keys r.form ++ keys_of es
+keys_of (e ∷ es) = element_keys e ++ keys_of es
 
 -- column 101 is one too many
 abbrev pub too_many : Option Identifier → Option Fault
@@ -221,9 +218,8 @@ abbrev pub kinds_of : Routine → List ArgKind
 kinds_of r = map (λ p. kind_of p.kind.form) r.parameters
 
 -- each function
-abbrev pub with_function : Callable → Routine → Option DataType → Callable
-with_function fs r None = fs
-with_function fs r (Some t) = record {
+abbrev pub with_function : Callable → Routine → DataType → Callable
+with_function fs r t = record {
   signatures = fs.signatures ++ record { name = r.name.name; kinds = kinds_of r } ∷ [];
   results = fs.results ++ type_of t ∷ [];
 }
@@ -232,23 +228,18 @@ with_function fs r (Some t) = record {
 abbrev pub Procedures : Type 0
 Procedures = List (Header × ProcedureScope)
 
-abbrev pub with_first : Procedures → Spelling → List ParameterScope → Procedures
-with_first ps n parameters = if is_some (procedure n (length parameters) ps) then ps
+abbrev pub with_procedure : Procedures → Spelling → List ParameterScope → Procedures
+with_procedure ps n parameters = if is_some (procedure n (length parameters) ps) then ps
     else ps ++ ((n, length parameters), record { number = 0; parameters = parameters }) ∷ []
 
-abbrev pub with_procedure : Procedures → Routine → Procedures
-with_procedure ps r = if is_function r then ps else with_first ps r.name.name (map parameter_of r.parameters)
-
-abbrev pub functions_of : Callable → List Routine → Callable
-functions_of fs [] = fs
-functions_of fs (r ∷ rs) = functions_of (with_function fs r r.returns) rs
-
-abbrev pub procedures_of : Procedures → List Routine → Procedures
-procedures_of ps [] = ps
-procedures_of ps (r ∷ rs) = procedures_of (with_procedure ps r) rs
+-- a routine that returns a value is a function
+abbrev pub with_routine : World → Routine → Option DataType → World
+with_routine world r None = record world { procedures = with_procedure world.procedures r.name.name (map parameter_of r.parameters) }
+with_routine world r (Some t) = record world { functions = with_function world.functions r t }
 
 abbrev pub with_routines : World → List Routine → World
-with_routines world rs = record world { functions = functions_of world.functions rs; procedures = procedures_of world.procedures rs }
+with_routines world [] = world
+with_routines world (r ∷ rs) = with_routines (with_routine world r r.returns) rs
 
 -- ---- routines that can't be told apart
 
@@ -275,10 +266,15 @@ same_procedures a b = is_spelled a.name.name b.name.name && nat_eq (length a.par
 abbrev pub same_functions : Routine → Routine → Bool
 same_functions a b = is_spelled a.name.name b.name.name && same_kinds (kinds_of a) (kinds_of b)
 
+abbrev pub repeats_function : List Routine → Routine → Bool
+repeats_function before r = list_any (λ b. is_function b && same_functions r b) before
+
+abbrev pub repeats_procedure : List Routine → Routine → Bool
+repeats_procedure before r = list_any (λ b. not (is_function b) && same_procedures r b) before
+
 abbrev pub told_apart : Routine → List Routine → Option Fault
-told_apart r before = if is_function r
-    then breaks_if (list_any (λ b. is_function b && same_functions r b) before) rule.FunctionsNotDistinct r.name.place
-    else breaks_if (list_any (λ b. not (is_function b) && same_procedures r b) before) rule.ProcedureRepeated r.name.place
+told_apart r before = if is_function r then breaks_if (repeats_function before r) rule.FunctionsNotDistinct r.name.place
+    else breaks_if (repeats_procedure before r) rule.ProcedureRepeated r.name.place
 
 -- ---- the body of a function has a RETURN, in an action perhaps
 
@@ -312,6 +308,15 @@ returning_handler h = h.action
 abbrev pub has_return : Statement → Bool
 has_return = fold-Statement Bool Bool Bool Bool returning_block returning_statement returning_branch returning_handler
 
+abbrev pub block_returns : Block → Bool
+block_returns = fold-Block Bool Bool Bool Bool returning_block returning_statement returning_branch returning_handler
+
+abbrev pub branch_returns : Branch → Bool
+branch_returns = fold-Branch Bool Bool Bool Bool returning_block returning_statement returning_branch returning_handler
+
+abbrev pub handler_returns : Handler → Bool
+handler_returns = fold-Handler Bool Bool Bool Bool returning_block returning_statement returning_branch returning_handler
+
 -- ---- notes: an alternative stands at most once, DETERMINISTIC and NOT DETERMINISTIC being one
 
 abbrev pub note_number : NoteForm → ℕ
@@ -337,26 +342,34 @@ parameter_fault of_function p = earlier (mode_fault of_function p) (type_fault p
 abbrev pub parameter_variable : Parameter → Variable
 parameter_variable p = record { kind = type_of p.kind; slot = 0; assignable = not (is_in p.mode) }
 
-abbrev pub with_parameters : List (Spelling × Variable) → List Parameter → List (Spelling × Variable)
-with_parameters before [] = before
-with_parameters before (p ∷ ps) = with_parameters (declared_once before p.name.name (parameter_variable p)) ps
+-- a parameter whose name stands before declares nothing
+abbrev pub with_parameter : Frames → Parameter → Frames
+with_parameter frames p = let d = declared_here frames in
+    redeclared frames (record d { variables = declared_once d.variables p.name.name (parameter_variable p) })
 
-abbrev pub routine_frame : Routine → frame.Frame Variable DeclaredCondition view.Cursor
-routine_frame r = frame.Routine r.name.name (record { variables = with_parameters [] r.parameters; conditions = []; cursors = [] })
+abbrev pub with_parameters : Frames → List Parameter → Frames
+with_parameters frames [] = frames
+with_parameters frames (p ∷ ps) = with_parameters (with_parameter frames p) ps
+
+abbrev pub routine_frames : Routine → Frames
+routine_frames r = with_parameters (frame.Routine r.name.name undeclared ∷ []) r.parameters
 
 abbrev pub kind_of_routine : Option DataType → Within
 kind_of_routine None = within.InProcedure
 kind_of_routine (Some t) = within.InFunction (type_of t)
 
 abbrev pub body_context : World → Routine → Context
-body_context world r = record { view = record { world = world; frames = routine_frame r ∷ []; row = None }; within = kind_of_routine r.returns }
+body_context world r = record { view = record { world = world; frames = routine_frames r; row = None }; within = kind_of_routine r.returns }
 
 abbrev pub result_fault : Option DataType → Option Fault
 result_fault None = None
 result_fault (Some t) = type_fault t (type_of t)
 
+abbrev pub return_fault : Routine → Option Fault
+return_fault r = breaks_if (is_function r && not (has_return r.body)) rule.FunctionWithoutReturn r.name.place
+
 abbrev pub routine_fault : World → List Routine → Routine → Option Fault
-routine_fault world before r = first_of (told_apart r before ∷ breaks_if (is_function r && not (has_return r.body)) rule.FunctionWithoutReturn r.name.place
+routine_fault world before r = first_of (told_apart r before ∷ return_fault r
     ∷ repeated rule.ParameterRepeated (map (λ p. p.name) r.parameters) ∷ first_of (map (parameter_fault (is_function r)) r.parameters)
     ∷ result_fault r.returns ∷ first_of (notes_fault [] r.notes) ∷ statement_fault r.body (body_context world r) ∷ [])
 
@@ -370,17 +383,20 @@ abbrev pub first_key : List (List Spelling) → List Spelling
 first_key [] = []
 first_key (k ∷ ks) = k
 
-abbrev pub tables_from : List (Spelling × Columns) → List TableTree → List (Spelling × Columns)
-tables_from before [] = before
-tables_from before (t ∷ ts) = tables_from (declared_once before t.name.name (columns_of (table_elements t))) ts
+-- each table once
+abbrev pub with_table : World → TableTree → World
+with_table world t = record world {
+  tables = declared_once world.tables t.name.name (columns_of (table_elements t));
+  keys = declared_once world.keys t.name.name (first_key (keys_of (table_elements t)));
+}
 
-abbrev pub keys_from : List (Spelling × List Spelling) → List TableTree → List (Spelling × List Spelling)
-keys_from before [] = before
-keys_from before (t ∷ ts) = keys_from (declared_once before t.name.name (first_key (keys_of (table_elements t)))) ts
+abbrev pub with_tables : World → List TableTree → World
+with_tables world [] = world
+with_tables world (t ∷ ts) = with_tables (with_table world t) ts
 
--- what the tables and the routines of a file declare, each table once; each routine is known in the whole module
+-- what the tables and the routines of a file declare; each routine is known in the whole module
 abbrev pub world_of : FileTree → World
-world_of f = with_routines (record no_world { tables = tables_from [] f.tables; keys = keys_from [] f.tables }) f.«module».routines
+world_of f = with_routines (with_tables no_world f.tables) f.«module».routines
 
 -- the first fault of a module file; without one the file is accepted
 abbrev pub file_fault : FileTree → Option Fault
