@@ -1,7 +1,11 @@
 pub mod ColumnTypes
 pub mod Equations
+pub mod ForItems
+pub mod Handling
+pub mod Innermost
 pub mod Items
 pub mod NamesSoFar
 pub mod Orders
 pub mod Pairs
+pub mod StatementEquations
 pub mod Walks

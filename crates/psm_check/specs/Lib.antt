@@ -1,3 +1,5 @@
+pub mod ForItems
+pub mod Handling
 pub mod InRoutine
 pub mod Keys
 pub mod Listed

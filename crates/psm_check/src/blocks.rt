@@ -1,35 +1,35 @@
 //! The first fault of a statement with statements in it.
-ghost use Rattle.std.specs.Prelude.{◌≡◌, IfOk};
-ghost use Rattle.psm_rules.specs.BlockFaults.{statement_fault};
+ghost use Rattle.std.specs.Prelude.{◌≡◌, ◌∷◌, IfOk, map};
+ghost use Rattle.std.specs.Option.{option_copied};
+ghost use Rattle.psm_list.specs.Several.{several_map};
+ghost use Rattle.psm_rules.specs.Faults.{earlier, first_of};
+ghost use Rattle.psm_rules.specs.Found.{as_condition};
+ghost use Rattle.psm_rules.specs.ExprFaults.{simple_test};
+ghost use Rattle.psm_rules.specs.StatementFaults.{end_label_fault, inside, label_name, label_of, several};
+ghost use Rattle.psm_rules.specs.BlockFaults.{all, block_fault, branch_part, case_branches, handler_part, handlers_fault, in_loop, searched, simple, statement_fault, test_part, undo_fault};
+ghost use Rattle.psm_scope.specs.Frames.{Action};
 ghost use Rattle.psm_check.specs.InRoutine.{context};
 
-use crate::conditions::{condition_name_fault, good_state, state_fault};
-use crate::cursors::declared_cursor;
+use crate::declarations::declared_fault;
 use crate::exprs::expr_found;
 use crate::found::{as_condition, as_value, breaks_if};
-use crate::known::{Frames, local_variable};
+use crate::handled::values_fault;
+use crate::known::Frames;
 use crate::loops::for_fault;
 use crate::operators::simple_test;
-use crate::repeated::Repeats;
-use crate::sources::source_fault;
 use crate::statements::{Context, simple_fault};
-use crate::types::{type_fault, type_of};
 use crate::view::same_name;
-use indexmap::IndexSet;
 use psm_list::{Boxed, List, OneOrMore};
 use psm_rules::{Fault, Found, Rule, earlier};
-use psm_scope::{DeclaredCondition, FrameKind, Names};
-use psm_sqlstate::SqlState;
+use psm_scope::FrameKind;
 use psm_text::Name;
 use psm_token::Place;
-use psm_tree::{
-    Block, Branch, CursorDeclaration, Declaration, Expr, Handler, HandlerKind, HandlerValue, Label,
-    Statement,
-};
-use std::alloc::{AllocError, Global};
+use psm_tree::{Block, Branch, Expr, Handler, HandlerKind, Identifier, Label, Statement};
+use std::alloc::AllocError;
 
 /// The first fault of a statement.
 #[cycle(statement)]
+#[tactic(auto, using(crate::proofs::StatementEquations::statement_equations))]
 pub(crate) fn statement_fault<'w, 'a>(
     statement: &'a Statement,
     c: Context<'w, 'a>,
@@ -50,7 +50,8 @@ pub(crate) fn statement_fault<'w, 'a>(
             ..
         } => {
             let fault = searched(branches, c, frames)?;
-            Ok(earlier(fault, all(otherwise.items(), c, frames)?))
+            let others = all(otherwise, c, frames)?;
+            Ok(earlier(fault, others))
         }
         Statement::Case {
             operand,
@@ -58,14 +59,9 @@ pub(crate) fn statement_fault<'w, 'a>(
             otherwise,
             ..
         } => {
-            let fault = match operand {
-                None => searched(branches, c, frames)?,
-                Some(e) => {
-                    let found = expr_found(c.alloc, e.get(), c.view(frames))?;
-                    simple(branches, c, frames, as_value(found))?
-                }
-            };
-            Ok(earlier(fault, all(otherwise.items(), c, frames)?))
+            let fault = case_fault(branches, c, frames, operand)?;
+            let others = all(otherwise, c, frames)?;
+            Ok(earlier(fault, others))
         }
         Statement::Simple(simple) => simple_fault(simple.get(), c, frames),
     }
@@ -73,12 +69,15 @@ pub(crate) fn statement_fault<'w, 'a>(
 
 #[cycle(statement)]
 fn all<'w, 'a>(
-    statements: &'a [Boxed<Statement>],
+    statements: &'a List<Boxed<Statement>>,
     c: Context<'w, 'a>,
     frames: &mut Frames<'a>,
-) -> Result<Option<Fault>, AllocError> {
+) -> Result<Option<Fault>, AllocError>
+    ensures fault { IfOk result (λ f. f ≡ all (context c.entry frames.old) (map statement_fault statements.now)) }
+    ensures kept { IfOk result (λ _. frames.new ≡ frames.old) }
+{
     let mut fault = None;
-    for statement in statements {
+    for statement in statements.items() {
         let own = statement_fault(statement.get(), c, frames)?;
         fault = earlier(fault, own);
     }
@@ -90,35 +89,49 @@ fn several<'w, 'a>(
     statements: &'a OneOrMore<Boxed<Statement>>,
     c: Context<'w, 'a>,
     frames: &mut Frames<'a>,
-) -> Result<Option<Fault>, AllocError> {
-    let fault = statement_fault(statements.first.get(), c, frames)?;
-    Ok(earlier(fault, all(statements.rest.items(), c, frames)?))
+) -> Result<Option<Fault>, AllocError>
+    ensures fault { IfOk result (λ f. f ≡ all (context c.entry frames.old) (several (several_map statement_fault statements.now))) }
+    ensures kept { IfOk result (λ _. frames.new ≡ frames.old) }
+{
+    let mut fault = statement_fault(statements.first.get(), c, frames)?;
+    for statement in statements.rest.items() {
+        let own = statement_fault(statement.get(), c, frames)?;
+        fault = earlier(fault, own);
+    }
+    Ok(fault)
 }
 
 // ---- labels
 
-fn label_fault(frames: &Frames, label: &Option<Label>) -> Option<Fault> {
+fn label_fault(frames: &Frames, label: &Option<Label>) -> Option<Fault>
+    ensures { result ≡ label_of frames.now label.now }
+{
     match label {
         None => None,
         Some(label) => {
             let start = &label.start;
             let is_seen = frames.label(&start.name).is_some();
             let repeated = breaks_if(is_seen, Rule::LabelRepeated, start.place);
-            match &label.end {
-                None => repeated,
-                Some(end) => {
-                    let differs = !same_name(&start.name, &end.name);
-                    earlier(
-                        repeated,
-                        breaks_if(differs, Rule::EndLabelDiffers, end.place),
-                    )
-                }
-            }
+            earlier(repeated, end_label_fault(start, &label.end))
         }
     }
 }
 
-fn label_name(label: &Option<Label>) -> Option<&Name> {
+fn end_label_fault(start: &Identifier, end: &Option<Identifier>) -> Option<Fault>
+    ensures { result ≡ end_label_fault start.now end.now }
+{
+    match end {
+        None => None,
+        Some(end) => {
+            let differs = !same_name(&start.name, &end.name);
+            breaks_if(differs, Rule::EndLabelDiffers, end.place)
+        }
+    }
+}
+
+fn label_name(label: &Option<Label>) -> Option<&Name>
+    ensures { option_copied result ≡ label_name label.now }
+{
     match label {
         None => None,
         Some(label) => Some(&label.start.name),
@@ -127,38 +140,69 @@ fn label_name(label: &Option<Label>) -> Option<&Name> {
 
 // ---- IF and CASE
 
+// Branches whose tests are conditions.
 #[cycle(statement)]
 fn searched<'w, 'a>(
     branches: &'a OneOrMore<Boxed<Branch>>,
     c: Context<'w, 'a>,
     frames: &mut Frames<'a>,
-) -> Result<Option<Fault>, AllocError> {
+) -> Result<Option<Fault>, AllocError>
+    ensures fault { IfOk result (λ f. f ≡ first_of (searched (context c.entry frames.old) (several (several_map branch_part branches.now)))) }
+    ensures kept { IfOk result (λ _. frames.new ≡ frames.old) }
+{
     let mut fault = searched_branch(branches.first.get(), c, frames)?;
     for branch in branches.rest.items() {
-        fault = earlier(fault, searched_branch(branch.get(), c, frames)?);
+        let own = searched_branch(branch.get(), c, frames)?;
+        fault = earlier(fault, own);
     }
     Ok(fault)
 }
 
-// The test is a condition.
 #[cycle(statement)]
+#[tactic(auto, using(crate::proofs::StatementEquations::part_of_branch))]
 fn searched_branch<'w, 'a>(
     branch: &'a Branch,
     c: Context<'w, 'a>,
     frames: &mut Frames<'a>,
-) -> Result<Option<Fault>, AllocError> {
+) -> Result<Option<Fault>, AllocError>
+    ensures fault { IfOk result (λ f. let b = branch_part branch.now (context c.entry frames.old) in f ≡ earlier (as_condition b.0).fault b.1) }
+    ensures kept { IfOk result (λ _. frames.new ≡ frames.old) }
+{
     let test = expr_found(c.alloc, branch.test.get(), c.view(frames))?;
     let fault = several(&branch.statements, c, frames)?;
     Ok(earlier(as_condition(test).fault, fault))
 }
 
 #[cycle(statement)]
+fn case_fault<'w, 'a>(
+    branches: &'a OneOrMore<Boxed<Branch>>,
+    c: Context<'w, 'a>,
+    frames: &mut Frames<'a>,
+    operand: &Option<Boxed<Expr>>,
+) -> Result<Option<Fault>, AllocError>
+    ensures fault { IfOk result (λ f. f ≡ first_of (case_branches (context c.entry frames.old) operand.now (several (several_map branch_part branches.now)))) }
+    ensures kept { IfOk result (λ _. frames.new ≡ frames.old) }
+{
+    match operand {
+        None => searched(branches, c, frames),
+        Some(e) => {
+            let found = expr_found(c.alloc, e.get(), c.view(frames))?;
+            simple(branches, c, frames, as_value(found))
+        }
+    }
+}
+
+// Branches whose tests an operand goes with, each by itself.
+#[cycle(statement)]
 fn simple<'w, 'a>(
     branches: &'a OneOrMore<Boxed<Branch>>,
     c: Context<'w, 'a>,
     frames: &mut Frames<'a>,
     operand: Found,
-) -> Result<Option<Fault>, AllocError> {
+) -> Result<Option<Fault>, AllocError>
+    ensures fault { IfOk result (λ f. f ≡ first_of (operand.fault ∷ simple (context c.entry frames.old) operand (several (several_map branch_part branches.now)))) }
+    ensures kept { IfOk result (λ _. frames.new ≡ frames.old) }
+{
     let first = simple_branch(branches.first.get(), c, frames, operand)?;
     let mut fault = earlier(operand.fault, first);
     for branch in branches.rest.items() {
@@ -168,14 +212,17 @@ fn simple<'w, 'a>(
     Ok(fault)
 }
 
-// The operand goes with each WHEN by itself.
 #[cycle(statement)]
+#[tactic(auto, using(crate::proofs::StatementEquations::part_of_branch))]
 fn simple_branch<'w, 'a>(
     branch: &'a Branch,
     c: Context<'w, 'a>,
     frames: &mut Frames<'a>,
     operand: Found,
-) -> Result<Option<Fault>, AllocError> {
+) -> Result<Option<Fault>, AllocError>
+    ensures fault { IfOk result (λ f. let b = branch_part branch.now (context c.entry frames.old) in f ≡ earlier (simple_test operand b.0).fault b.1) }
+    ensures kept { IfOk result (λ _. frames.new ≡ frames.old) }
+{
     let test = expr_found(c.alloc, branch.test.get(), c.view(frames))?;
     let fault = several(&branch.statements, c, frames)?;
     Ok(earlier(simple_test(operand, test).fault, fault))
@@ -184,12 +231,16 @@ fn simple_branch<'w, 'a>(
 // ---- blocks
 
 #[cycle(statement)]
+#[tactic(auto, using(crate::proofs::StatementEquations::block_equations))]
 fn block_fault<'w, 'a>(
     block: &'a Block,
     c: Context<'w, 'a>,
     frames: &mut Frames<'a>,
     label: Option<&'a Name>,
-) -> Result<Option<Fault>, AllocError> {
+) -> Result<Option<Fault>, AllocError>
+    ensures fault { IfOk result (λ f. f ≡ block_fault block.now (option_copied label.entry) (context c.entry frames.old)) }
+    ensures kept { IfOk result (λ _. frames.new ≡ frames.old) }
+{
     match block {
         Block::Compound {
             atomic,
@@ -199,14 +250,12 @@ fn block_fault<'w, 'a>(
             statements,
             ..
         } => {
-            let declared = declared_fault(c, frames, label, declarations, cursors)?;
-            let values = values_fault(c.alloc, frames, handlers.items())?;
-            let fault = earlier(declared, values);
-            let actions = handlers_fault(handlers.items(), c, frames, *atomic)?;
-            let fault = earlier(fault, actions);
-            let fault = earlier(fault, all(statements.items(), c, frames)?);
+            let own = declared_fault(c, frames, label, declarations, cursors)?;
+            let values = values_fault(c.alloc, frames, handlers)?;
+            let actions = handlers_fault(handlers, c, frames, *atomic)?;
+            let fault = all(statements, c, frames)?;
             frames.pop();
-            Ok(fault)
+            Ok(earlier(own, earlier(earlier(values, actions), fault)))
         }
         Block::Loop { statements, .. } => loop_fault(statements, c, frames, label),
         Block::While {
@@ -215,7 +264,8 @@ fn block_fault<'w, 'a>(
             ..
         } => {
             let test = test_fault(c, frames, test.get())?;
-            Ok(earlier(test, loop_fault(statements, c, frames, label)?))
+            let fault = loop_fault(statements, c, frames, label)?;
+            Ok(earlier(test, fault))
         }
         Block::Repeat {
             statements,
@@ -223,7 +273,8 @@ fn block_fault<'w, 'a>(
             ..
         } => {
             let fault = loop_fault(statements, c, frames, label)?;
-            Ok(earlier(fault, test_fault(c, frames, until.get())?))
+            let test = test_fault(c, frames, until.get())?;
+            Ok(earlier(fault, test))
         }
         Block::For {
             head,
@@ -242,7 +293,9 @@ fn test_fault<'w, 'a>(
     c: Context<'w, 'a>,
     frames: &Frames<'a>,
     test: &Expr,
-) -> Result<Option<Fault>, AllocError> {
+) -> Result<Option<Fault>, AllocError>
+    ensures { IfOk result (λ f. f ≡ test_part (context c.entry frames.now).view test.now) }
+{
     let found = expr_found(c.alloc, test, c.view(frames))?;
     Ok(as_condition(found).fault)
 }
@@ -253,109 +306,14 @@ fn loop_fault<'w, 'a>(
     c: Context<'w, 'a>,
     frames: &mut Frames<'a>,
     label: Option<&'a Name>,
-) -> Result<Option<Fault>, AllocError> {
+) -> Result<Option<Fault>, AllocError>
+    ensures fault { IfOk result (λ f. f ≡ all (in_loop (option_copied label.entry) (context c.entry frames.old)) (several (several_map statement_fault statements.now))) }
+    ensures kept { IfOk result (λ _. frames.new ≡ frames.old) }
+{
     frames.push(FrameKind::Loop(label))?;
     let fault = several(statements, c, frames)?;
     frames.pop();
     Ok(fault)
-}
-
-// ---- declarations
-
-// Goes into the frame of a compound statement, with all that it declares.
-fn declared_fault<'w, 'a>(
-    c: Context<'w, 'a>,
-    frames: &mut Frames<'a>,
-    label: Option<&'a Name>,
-    declarations: &'a List<Boxed<Declaration>>,
-    cursors: &'a List<Boxed<CursorDeclaration>>,
-) -> Result<Option<Fault>, AllocError> {
-    frames.push(FrameKind::Compound(label))?;
-    let mut fault = None;
-    let mut variables = Repeats::new(c.alloc, Rule::DeclarationRepeated);
-    let mut conditions = Repeats::new(c.alloc, Rule::DeclarationRepeated);
-    for declaration in declarations.items() {
-        let own = declaration_fault(c, frames, declaration.get())?;
-        fault = earlier(fault, own);
-        match declaration.get() {
-            Declaration::Variables { names, .. } => {
-                variables.add(&names.first)?;
-                variables.add_all(names.rest.items())?;
-            }
-            Declaration::Condition { name, .. } => conditions.add(name)?,
-        }
-        declare(c.alloc, frames, declaration.get())?;
-    }
-    let repeated = earlier(variables.fault(), conditions.fault());
-    let cursors = cursors_fault(c, frames, cursors)?;
-    Ok(earlier(earlier(repeated, fault), cursors))
-}
-
-// A DEFAULT sees the variables of the declarations before its own.
-fn declaration_fault<'w, 'a>(
-    c: Context<'w, 'a>,
-    frames: &Frames<'a>,
-    declaration: &Declaration,
-) -> Result<Option<Fault>, AllocError> {
-    match declaration {
-        Declaration::Variables { kind, default, .. } => {
-            let known = type_of(kind);
-            let fault = type_fault(kind, known);
-            match default {
-                None => Ok(fault),
-                Some(e) => {
-                    let found = expr_found(c.alloc, e.get(), c.view(frames))?;
-                    Ok(earlier(fault, source_fault(known, found)))
-                }
-            }
-        }
-        Declaration::Condition { state, .. } => match state {
-            None => Ok(None),
-            Some(state) => state_fault(c.alloc, state),
-        },
-    }
-}
-
-fn declare<'a>(
-    alloc: Global,
-    frames: &mut Frames<'a>,
-    declaration: &'a Declaration,
-) -> Result<(), AllocError> {
-    match declaration {
-        Declaration::Variables { names, kind, .. } => {
-            let known = local_variable(type_of(kind));
-            frames.declare_variable(&names.first.name, known)?;
-            for name in names.rest.items() {
-                frames.declare_variable(&name.name, known)?;
-            }
-        }
-        Declaration::Condition { name, state, .. } => {
-            let state = match state {
-                None => None,
-                Some(state) => good_state(alloc, &state.text)?,
-            };
-            frames.declare_condition(&name.name, 0, state)?;
-        }
-    }
-    Ok(())
-}
-
-// The cursors, which don't see each other.
-fn cursors_fault<'w, 'a>(
-    c: Context<'w, 'a>,
-    frames: &mut Frames<'a>,
-    cursors: &'a List<Boxed<CursorDeclaration>>,
-) -> Result<Option<Fault>, AllocError> {
-    let mut names = Repeats::new(c.alloc, Rule::DeclarationRepeated);
-    let mut fault = None;
-    for declared in cursors.items() {
-        let declared = declared.get();
-        names.add(&declared.name)?;
-        let (own, cursor) = declared_cursor(c.alloc, declared, c.view(frames))?;
-        fault = earlier(fault, own);
-        frames.declare_cursor(&declared.name.name, cursor)?;
-    }
-    Ok(earlier(names.fault(), fault))
 }
 
 // ---- handlers
@@ -363,13 +321,16 @@ fn cursors_fault<'w, 'a>(
 // The faults of the handlers themselves, and of the actions, which see no label from outside.
 #[cycle(statement)]
 fn handlers_fault<'w, 'a>(
-    handlers: &'a [Boxed<Handler>],
+    handlers: &'a List<Boxed<Handler>>,
     c: Context<'w, 'a>,
     frames: &mut Frames<'a>,
     atomic: bool,
-) -> Result<Option<Fault>, AllocError> {
+) -> Result<Option<Fault>, AllocError>
+    ensures fault { IfOk result (λ f. f ≡ first_of (handlers_fault (context c.entry frames.old) atomic (map handler_part handlers.now))) }
+    ensures kept { IfOk result (λ _. frames.new ≡ frames.old) }
+{
     let mut fault = None;
-    for handler in handlers {
+    for handler in handlers.items() {
         let own = handler_fault(handler.get(), c, frames, atomic)?;
         fault = earlier(fault, own);
     }
@@ -377,149 +338,29 @@ fn handlers_fault<'w, 'a>(
 }
 
 #[cycle(statement)]
+#[tactic(auto, using(crate::proofs::StatementEquations::part_of_handler))]
 fn handler_fault<'w, 'a>(
     handler: &'a Handler,
     c: Context<'w, 'a>,
     frames: &mut Frames<'a>,
     atomic: bool,
-) -> Result<Option<Fault>, AllocError> {
-    let undo = breaks_if(
-        handler.kind == HandlerKind::Undo && !atomic,
-        Rule::UndoNeedsAtomic,
-        handler.at,
-    );
+) -> Result<Option<Fault>, AllocError>
+    ensures fault { IfOk result (λ f. let h = handler_part handler.now in f ≡ earlier (h.own atomic) (h.action (inside (context c.entry frames.old) Action))) }
+    ensures kept { IfOk result (λ _. frames.new ≡ frames.old) }
+{
+    let own = undo_fault(handler.at, handler.kind, atomic);
     frames.push(FrameKind::Action)?;
     let fault = statement_fault(handler.action.get(), c, frames)?;
     frames.pop();
-    Ok(earlier(undo, fault))
+    Ok(earlier(own, fault))
 }
 
-/// The five characters of an SQLSTATE, as a key.
-#[derive(Clone, Copy, PartialEq, Eq, Hash)]
-struct StateKey {
-    first: u32,
-    last: u8,
-}
-
-impl StateKey {
-    fn of(state: SqlState) -> StateKey {
-        match state.text().as_bytes() {
-            [a, b, c, d, e] => StateKey {
-                first: u32::from_be_bytes([*a, *b, *c, *d]),
-                last: *e,
-            },
-            _ => StateKey { first: 0, last: 0 },
-        }
+// UNDO stands in an ATOMIC block alone.
+fn undo_fault(place: Place, kind: HandlerKind, atomic: bool) -> Option<Fault>
+    ensures { result ≡ undo_fault place kind atomic }
+{
+    match kind {
+        HandlerKind::Continue | HandlerKind::Exit => None,
+        HandlerKind::Undo => breaks_if(!atomic, Rule::UndoNeedsAtomic, place),
     }
-}
-
-/// What the handlers of a block handle so far.
-#[derive(Drop)]
-struct Handled<'a> {
-    states: IndexSet<StateKey>,
-    names: Names<'a, ()>,
-    exceptions: bool,
-    warnings: bool,
-    no_data: bool,
-}
-
-impl<'a> Handled<'a> {
-    fn new(alloc: Global) -> Handled<'a> {
-        Handled {
-            states: IndexSet::new(alloc),
-            names: Names::new(alloc),
-            exceptions: false,
-            warnings: false,
-            no_data: false,
-        }
-    }
-
-    // Whether a value stands before; it then stands too.
-    fn repeats(
-        &mut self,
-        alloc: Global,
-        frames: &Frames,
-        value: &'a HandlerValue,
-    ) -> Result<bool, AllocError> {
-        match value {
-            HandlerValue::State(state) => self.repeats_state(good_state(alloc, &state.text)?),
-            HandlerValue::Name(name) => match frames.condition(&name.name) {
-                None => Ok(false),
-                Some(
-                    DeclaredCondition {
-                        state: Some(state),
-                        ..
-                    },
-                ) => self.repeats_state(Some(state)),
-                Some(DeclaredCondition { state: None, .. }) => {
-                    let added = self.names.add(&name.name, ())?;
-                    Ok(!added)
-                }
-            },
-            HandlerValue::SqlException { .. } => {
-                let before = self.exceptions;
-                self.exceptions = true;
-                Ok(before)
-            }
-            HandlerValue::SqlWarning { .. } => {
-                let before = self.warnings;
-                self.warnings = true;
-                Ok(before)
-            }
-            HandlerValue::NotFound { .. } => {
-                let before = self.no_data;
-                self.no_data = true;
-                Ok(before)
-            }
-        }
-    }
-
-    fn repeats_state(&mut self, state: Option<SqlState>) -> Result<bool, AllocError> {
-        match state {
-            None => Ok(false),
-            Some(state) => {
-                let added = self.states.insert(StateKey::of(state))?;
-                Ok(!added)
-            }
-        }
-    }
-}
-
-// The values of all handlers of a block, in order: none stands twice.
-fn values_fault<'a>(
-    alloc: Global,
-    frames: &Frames,
-    handlers: &'a [Boxed<Handler>],
-) -> Result<Option<Fault>, AllocError> {
-    let mut handled = Handled::new(alloc);
-    let mut fault = None;
-    for handler in handlers {
-        let values = &handler.get().values;
-        fault = earlier(
-            fault,
-            value_fault(alloc, frames, &values.first, &mut handled)?,
-        );
-        for value in values.rest.items() {
-            fault = earlier(fault, value_fault(alloc, frames, value, &mut handled)?);
-        }
-    }
-    Ok(fault)
-}
-
-fn value_fault<'a>(
-    alloc: Global,
-    frames: &Frames,
-    value: &'a HandlerValue,
-    handled: &mut Handled<'a>,
-) -> Result<Option<Fault>, AllocError> {
-    let own = match value {
-        HandlerValue::State(state) => state_fault(alloc, state)?,
-        HandlerValue::Name(name) => condition_name_fault(frames, name),
-        HandlerValue::SqlException { .. }
-        | HandlerValue::SqlWarning { .. }
-        | HandlerValue::NotFound { .. } => None,
-    };
-    let repeats = handled.repeats(alloc, frames, value)?;
-    let place: Place = value.place();
-    Ok(earlier(own, breaks_if(repeats, Rule::ConditionValueRepeated, place)))
 }

@@ -4,9 +4,12 @@
 mod blocks;
 mod conditions;
 mod cursors;
+mod declarations;
+mod declaring;
 mod exprs;
 mod files;
 mod found;
+mod handled;
 mod known;
 mod logged;
 mod loops;

@@ -1,17 +1,15 @@
 -- The first fault of a block with its declarations, and of statements in it (ISO/IEC 9075-4:1996, compound statements).
-use Rattle.std.specs.Prelude.{ℕ, suc, nat_eq, Bool, true, false, not, ◌&&◌, ◌||◌, Option, Some, None, is_some, List, [], ◌∷◌, ◌++◌, map, length, option_map, if◌then◌else◌}
+use Rattle.std.specs.Prelude.{ℕ, Bool, true, false, not, ◌&&◌, ◌||◌, Option, Some, None, is_some, List, [], ◌∷◌, ◌++◌, map, option_map, if◌then◌else◌}
 use Rattle.std.specs.List.{list_all, list_any}
-use Rattle.psm_list.specs.Several.{Several}
 use Rattle.psm_token.specs.declared.place.Place.{Place}
 use Rattle.psm_value.specs.declared.sqltype.SqlType.{SqlType}
 use Rattle.psm_value.specs.declared.sqltype.SqlType.TheVariants as types
-use Rattle.psm_scope.specs.Frames.{Spelling, is_spelled, Declared, Frame, undeclared}
+use Rattle.psm_scope.specs.Frames.{Spelling, is_spelled, Frame, undeclared}
 use Rattle.psm_scope.specs.Frames as frame
 use Rattle.psm_scope.specs.Lookup.{Meaning, named}
 use Rattle.psm_scope.specs.Lookup as lookup
+use Rattle.psm_scope.specs.Scopes.{declared_here, redeclared}
 use Rattle.psm_tree.specs.declared.name.Identifier.{Identifier}
-use Rattle.psm_tree.specs.Names.{Names}
-use Rattle.psm_tree.specs.declared.types.DataType.{DataType}
 use Rattle.psm_tree.specs.declared.types.State.{State}
 use Rattle.psm_tree.specs.declared.name.Target.{Target}
 use Rattle.psm_tree.specs.declared.expr.Expr.{Expr, out-Expr}
@@ -24,8 +22,10 @@ use Rattle.psm_tree.specs.declared.expr.Select.{Select, out-Select}
 use Rattle.psm_tree.specs.declared.statement.Statement.{Statement}
 use Rattle.psm_tree.specs.declared.statement.Block.TheOpen.{Block-F, Statement-F, Branch-F, Handler-F}
 use Rattle.psm_tree.specs.declared.statement.Block.TheOpen as layers
-use Rattle.psm_tree.specs.declared.statement.Block.TheFolds.{fold-Statement}
-use Rattle.psm_tree.specs.declared.statement.Label.{Label}
+use Rattle.psm_tree.specs.declared.statement.Block.TheFolds.{fold-Block, fold-Statement, fold-Branch, fold-Handler}
+use Rattle.psm_tree.specs.declared.statement.Block.{Block}
+use Rattle.psm_tree.specs.declared.statement.Branch.{Branch}
+use Rattle.psm_tree.specs.declared.statement.Handler.{Handler}
 use Rattle.psm_tree.specs.declared.statement.ForHead.{ForHead}
 use Rattle.psm_tree.specs.declared.statement.ForCursor.{ForCursor}
 use Rattle.psm_tree.specs.declared.statement.OrderedQuery.{OrderedQuery}
@@ -47,13 +47,11 @@ use Rattle.psm_rules.specs.Faults.{breaks, breaks_if, earlier, first_of}
 use Rattle.psm_rules.specs.declared.found.Found.{Found}
 use Rattle.psm_rules.specs.Found.{as_value, as_condition}
 use Rattle.psm_rules.specs.declared.shape.Shape.{Shape}
-use Rattle.psm_rules.specs.declared.shape.Typed.{Typed}
 use Rattle.psm_rules.specs.declared.shape.Family.{Family}
 use Rattle.psm_rules.specs.declared.shape.Shape.TheVariants.{Value, Untyped}
 use Rattle.psm_rules.specs.declared.shape.Family.TheVariants.{Numbers, Texts}
 use Rattle.psm_rules.specs.Shapes.{family_of}
 use Rattle.psm_rules.specs.declared.shape.Shape.TheVariants as shape
-use Rattle.psm_rules.specs.Shapes as families
 use Rattle.psm_rules.specs.StatementFaults.{Context, inside, found, several, repeated, source_fault, state_fault, good_state, declared_condition, name_of_condition_fault, label_of, label_name, simple_fault}
 use Rattle.psm_rules.specs.Types.{type_of}
 use Rattle.psm_scope.specs.declared.known.Variable.{Variable}
@@ -62,17 +60,23 @@ use Rattle.psm_rules.specs.View.{View, World, Cursor, Columns, Frames, on_row}
 
 -- ---- declarations of variables and conditions
 
--- what a block has declared
-abbrev pub Declares : Type 0
-Declares = Declared Variable DeclaredCondition Cursor
-
 -- a name that is declared again stays what it is
 abbrev pub declared_once : {A : Type 0} → List (Spelling × A) → Spelling → A → List (Spelling × A)
 declared_once xs n x = if is_some (named n xs) then xs else xs ++ (n, x) ∷ []
 
-abbrev pub all_declared : {A : Type 0} → List (Spelling × A) → List Identifier → A → List (Spelling × A)
-all_declared xs [] x = xs
-all_declared xs (n ∷ ns) x = all_declared (declared_once xs n.name x) ns x
+-- what stands declared behind a declaration in the innermost frame
+abbrev pub with_variable : Frames → Spelling → Variable → Frames
+with_variable frames n x = let d = declared_here frames in redeclared frames (record d { variables = declared_once d.variables n x })
+
+abbrev pub with_condition : Frames → Spelling → DeclaredCondition → Frames
+with_condition frames n x = let d = declared_here frames in redeclared frames (record d { conditions = declared_once d.conditions n x })
+
+abbrev pub with_cursor : Frames → Spelling → Cursor → Frames
+with_cursor frames n x = let d = declared_here frames in redeclared frames (record d { cursors = declared_once d.cursors n x })
+
+abbrev pub with_variables : Frames → List Identifier → Variable → Frames
+with_variables frames [] x = frames
+with_variables frames (n ∷ ns) x = with_variables (with_variable frames n.name x) ns x
 
 abbrev pub local_variable : Option SqlType → Variable
 local_variable kind = record { kind = kind; slot = 0; assignable = true }
@@ -82,10 +86,9 @@ abbrev pub state_of : Option State → Option Spelling
 state_of None = None
 state_of (Some s) = good_state s.text
 
--- what stands declared behind a declaration
-abbrev pub behind : Declares → Declaration → Declares
-behind d (declarations.Variables place names kind default) = record d { variables = all_declared d.variables (several names) (local_variable (type_of kind)) }
-behind d (declarations.Condition place name state) = record d { conditions = declared_once d.conditions name.name (record { number = 0; state = state_of state }) }
+abbrev pub behind : Frames → Declaration → Frames
+behind frames (declarations.Variables place names kind default) = with_variables frames (several names) (local_variable (type_of kind))
+behind frames (declarations.Condition place name state) = with_condition frames name.name (record { number = 0; state = state_of state })
 
 abbrev pub default_fault : View → Option SqlType → Option Expr → Option Fault
 default_fault view kind None = None
@@ -100,27 +103,33 @@ abbrev pub declaration_fault : View → Declaration → Option Fault
 declaration_fault view (declarations.Variables place names kind default) = earlier (type_fault kind (type_of kind)) (default_fault view (type_of kind) default)
 declaration_fault view (declarations.Condition place name state) = optional_state_fault state
 
-abbrev pub compound : Option Spelling → Declares → Frame Variable DeclaredCondition Cursor
-compound label d = frame.Compound label d
+abbrev pub in_frames : View → Frames → View
+in_frames view frames = record view { frames = frames }
 
-abbrev pub declarations_fault : Context → Option Spelling → Declares → List Declaration → List (Option Fault)
-declarations_fault c label d [] = []
-declarations_fault c label d (x ∷ xs) = declaration_fault (inside c (compound label d)).view x ∷ declarations_fault c label (behind d x) xs
+abbrev pub declarations_fault : View → List Declaration → List (Option Fault)
+declarations_fault view [] = []
+declarations_fault view (x ∷ xs) = declaration_fault view x ∷ declarations_fault (in_frames view (behind view.frames x)) xs
 
-abbrev pub declared_by : Declares → List Declaration → Declares
-declared_by d [] = d
-declared_by d (x ∷ xs) = declared_by (behind d x) xs
+abbrev pub declared_by : Frames → List Declaration → Frames
+declared_by frames [] = frames
+declared_by frames (x ∷ xs) = declared_by (behind frames x) xs
 
 -- the names of variables, and those of conditions
+abbrev pub variables_of : Declaration → List Identifier
+variables_of (declarations.Variables place names kind default) = several names
+variables_of (declarations.Condition place name state) = []
+
 abbrev pub variable_names : List Declaration → List Identifier
 variable_names [] = []
-variable_names (declarations.Variables place names kind default ∷ xs) = several names ++ variable_names xs
-variable_names (declarations.Condition place name state ∷ xs) = variable_names xs
+variable_names (x ∷ xs) = variables_of x ++ variable_names xs
+
+abbrev pub conditions_of : Declaration → List Identifier
+conditions_of (declarations.Variables place names kind default) = []
+conditions_of (declarations.Condition place name state) = name ∷ []
 
 abbrev pub condition_names : List Declaration → List Identifier
 condition_names [] = []
-condition_names (declarations.Variables place names kind default ∷ xs) = condition_names xs
-condition_names (declarations.Condition place name state ∷ xs) = name ∷ condition_names xs
+condition_names (x ∷ xs) = conditions_of x ++ condition_names xs
 
 -- ---- the order of a query: exactly the key, all upwards or all downwards
 
@@ -159,17 +168,20 @@ abbrev pub cursor_fault : View → CursorDeclaration → Option Fault
 cursor_fault view x = let q = found_query view x.query in
     first_of (query_fault q ∷ misplaced_set true (first_set q.picks) ∷ order_fault view.world q.table x.query.order ∷ [])
 
-abbrev pub with_cursor : Context → Declares → CursorDeclaration → Declares
-with_cursor c d x = record d { cursors = declared_once d.cursors x.name.name (cursor_on (found_query c.view x.query) (is_updatable x.insensitive x.updatability) false) }
+abbrev pub declared_cursor : View → CursorDeclaration → Cursor
+declared_cursor view x = cursor_on (found_query view x.query) (is_updatable x.insensitive x.updatability) false
 
 -- each sees what stands before it
-abbrev pub cursors_fault : Context → Option Spelling → Declares → List CursorDeclaration → List (Option Fault)
-cursors_fault c label d [] = []
-cursors_fault c label d (x ∷ xs) = let seen = inside c (compound label d) in cursor_fault seen.view x ∷ cursors_fault c label (with_cursor seen d x) xs
+abbrev pub behind_cursor : View → CursorDeclaration → View
+behind_cursor view x = in_frames view (with_cursor view.frames x.name.name (declared_cursor view x))
 
-abbrev pub with_cursors : Context → Option Spelling → Declares → List CursorDeclaration → Declares
-with_cursors c label d [] = d
-with_cursors c label d (x ∷ xs) = with_cursors c label (with_cursor (inside c (compound label d)) d x) xs
+abbrev pub cursors_fault : View → List CursorDeclaration → List (Option Fault)
+cursors_fault view [] = []
+cursors_fault view (x ∷ xs) = cursor_fault view x ∷ cursors_fault (behind_cursor view x) xs
+
+abbrev pub with_cursors : View → List CursorDeclaration → Frames
+with_cursors view [] = view.frames
+with_cursors view (x ∷ xs) = with_cursors (behind_cursor view x) xs
 
 -- ---- handlers
 
@@ -339,9 +351,12 @@ for_items columns before (i ∷ others) = item_of_for before i ∷ for_items col
 abbrev pub items_in : View → Select → List ForItem
 items_in view select = let s = out-Select select in let on = on_row view (row_of view s.table s.alias) in map (for_item on) (several s.picks)
 
+-- the faults beside those of the items: no set function stands in FOR
+abbrev pub for_query_fault : QueryFound → Option Fault
+for_query_fault q = first_of (misplaced_set true (first_set q.picks) ∷ table_fault q.table q.columns ∷ test_fault q.test ∷ [])
+
 abbrev pub for_fault : World → QueryFound → List ForItem → Option Order → Option Fault
-for_fault world q items order = first_of (first_of (for_items (columns_known q.columns) [] items) ∷ misplaced_set true (first_set q.picks)
-    ∷ table_fault q.table q.columns ∷ test_fault q.test ∷ order_fault world q.table order ∷ [])
+for_fault world q items order = first_of (first_of (for_items (columns_known q.columns) [] items) ∷ for_query_fault q ∷ order_fault world q.table order ∷ [])
 
 abbrev pub for_cursors : QueryFound → Option ForCursor → List (Spelling × Cursor)
 for_cursors q None = []
@@ -399,17 +414,32 @@ abbrev pub handlers_fault : Context → Bool → List HandlerPart → List (Opti
 handlers_fault c atomic [] = []
 handlers_fault c atomic (h ∷ hs) = earlier (h.own atomic) (h.action (inside c frame.Action)) ∷ handlers_fault c atomic hs
 
-abbrev pub nothing : Declares
-nothing = undeclared
+-- what a block declares itself: the first fault, and what stands declared behind it
+abbrev pub opened : Option Spelling → View → View
+opened label view = in_frames view (frame.Compound label undeclared ∷ view.frames)
+
+abbrev pub declared_view : View → List Declaration → View
+declared_view view xs = in_frames view (declared_by view.frames xs)
+
+abbrev pub declared_fault : Option Spelling → View → List Declaration → List CursorDeclaration → Option Fault
+declared_fault label view xs cursors =
+    first_of (repeated rule.DeclarationRepeated (variable_names xs) ∷ repeated rule.DeclarationRepeated (condition_names xs)
+    ∷ repeated rule.DeclarationRepeated (map (λ x. x.name) cursors) ∷ first_of (declarations_fault (opened label view) xs)
+    ∷ first_of (cursors_fault (declared_view (opened label view) xs) cursors) ∷ [])
+
+abbrev pub declared_frames : Option Spelling → View → List Declaration → List CursorDeclaration → Frames
+declared_frames label view xs cursors = with_cursors (declared_view (opened label view) xs) cursors
+
+abbrev pub within_frames : Context → Frames → Context
+within_frames c frames = record c { view = in_frames c.view frames }
+
+-- the faults of the values of a block's handlers, of its handlers and of its statements
+abbrev pub body_fault : Context → Bool → List HandlerPart → List Part → Option Fault
+body_fault c atomic handlers statements = first_of (first_of (values_fault c.view.frames [] (all_values handlers)) ∷ first_of (handlers_fault c atomic handlers) ∷ all c statements ∷ [])
 
 abbrev pub compound_fault : Option Spelling → Context → Bool → List Declaration → List CursorDeclaration → List HandlerPart → List Part → Option Fault
-compound_fault label c atomic xs cursors handlers statements =
-    let d = declared_by nothing xs in
-    let whole = inside c (compound label (with_cursors c label d cursors)) in
-    first_of (repeated rule.DeclarationRepeated (variable_names xs) ∷ repeated rule.DeclarationRepeated (condition_names xs)
-    ∷ repeated rule.DeclarationRepeated (map (λ x. x.name) cursors) ∷ first_of (declarations_fault c label nothing xs)
-    ∷ first_of (cursors_fault c label d cursors) ∷ first_of (values_fault whole.view.frames [] (all_values handlers))
-    ∷ first_of (handlers_fault whole atomic handlers) ∷ all whole statements ∷ [])
+compound_fault label c atomic xs cursors handlers statements = earlier (declared_fault label c.view xs cursors)
+    (body_fault (within_frames c (declared_frames label c.view xs cursors)) atomic handlers statements)
 
 abbrev pub block_layer : Block-F BlockPart Part BranchPart HandlerPart → BlockPart
 block_layer (layers.Compound place atomic xs cursors handlers statements) label c = compound_fault label c atomic xs cursors handlers statements
@@ -444,6 +474,15 @@ branch_layer branch c = (found c.view branch.test, all c (several branch.stateme
 abbrev pub handler_layer : Handler-F BlockPart Part BranchPart HandlerPart → HandlerPart
 handler_layer h = record { values = several h.values; own = undo_fault h.«at» h.kind; action = h.action }
 
--- the first fault of a statement
+-- the first fault of a statement, and what a block, a branch and a handler are where they stand
 abbrev pub statement_fault : Statement → Part
 statement_fault = fold-Statement BlockPart Part BranchPart HandlerPart block_layer statement_layer branch_layer handler_layer
+
+abbrev pub block_fault : Block → BlockPart
+block_fault = fold-Block BlockPart Part BranchPart HandlerPart block_layer statement_layer branch_layer handler_layer
+
+abbrev pub branch_part : Branch → BranchPart
+branch_part = fold-Branch BlockPart Part BranchPart HandlerPart block_layer statement_layer branch_layer handler_layer
+
+abbrev pub handler_part : Handler → HandlerPart
+handler_part = fold-Handler BlockPart Part BranchPart HandlerPart block_layer statement_layer branch_layer handler_layer
