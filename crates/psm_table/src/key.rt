@@ -1,6 +1,8 @@
 ghost use Rattle.std.specs.Prelude.{◌≡◌, ◌++◌, IfOk};
 ghost use Rattle.psm_table.specs.Key.{key_order, values_at, AreColumnsOf};
+ghost use Rattle.psm_table.specs.Place.{probe_key, FitsProbe};
 
+use crate::probe::{Probe, order_of};
 use crate::row::{Row, copied};
 use psm_value::Datum;
 use std::alloc::{AllocError, Global};
@@ -80,6 +82,17 @@ impl Key {
 }
 
 impl Key {
+    /// The order of the key and what is looked for.
+    pub(crate) fn order(&self, probe: Probe<'_>) -> Ordering
+        requires { FitsProbe probe }
+        ensures { result ≡ key_order self.now (probe_key probe.entry) }
+    {
+        match (&self.parts, probe) {
+            (Parts::One([value]), Probe::One(sought)) => order_of(value, sought),
+            _ => Probe::Of(self.values()).order(probe),
+        }
+    }
+
     /// The row's values in the columns, followed by those in its key.
     pub(crate) fn of_entry(
         alloc: Global,

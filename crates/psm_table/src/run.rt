@@ -140,7 +140,7 @@ impl<V: Drop> Run<V> {
         ensures { result ≡ begins (λ p. is_gt (key_order p.key (probe_key probe.entry))) self.now }
     {
         match self.pairs.as_slice() {
-            [first, ..] => Probe::Of(first.key.values()).order(probe).is_gt(),
+            [first, ..] => first.key.order(probe).is_gt(),
             [] => false,
         }
     }
@@ -180,11 +180,12 @@ impl<V: Drop> Run<V> {
         ensures found { IfOk result (IsAt (probe_key probe.entry) self.now) }
         ensures absent { IfErr result (IsGap (probe_key probe.entry) self.now) }
     {
+        let sought = probe.narrowed();
         let mut low = 0;
         let mut high = self.pairs.len();
         while low < high {
             let middle = low + (high - low) / 2;
-            match Probe::Of(self.pairs[middle].key.values()).order(probe) {
+            match self.pairs[middle].key.order(sought) {
                 Ordering::Less => low = middle + 1,
                 Ordering::Equal => return Ok(middle),
                 Ordering::Greater => high = middle,
