@@ -1,11 +1,13 @@
 //! Keys that are looked for, lent from a row or a list of values.
 ghost use Rattle.std.specs.Prelude.{◌≡◌, ◌<◌, ◌++◌, length, slice_index_or};
 ghost use Rattle.psm_value.specs.declared.datum.Datum.TheVariants.{Null};
+ghost use Rattle.psm_num.specs.Order.{order};
 ghost use Rattle.psm_value.specs.Order.{data_order};
 ghost use Rattle.psm_table.specs.Key.{key_order};
 ghost use Rattle.psm_table.specs.Map.{prefix_order};
 ghost use Rattle.psm_table.specs.Place.{probe_key, FitsProbe};
 
+use psm_num::Dec;
 use psm_value::Datum;
 use std::cmp::Ordering;
 
@@ -94,14 +96,25 @@ impl<'a> Probe<'a> {
     }
 }
 
-/// The order of two values. Numbers of one scale are compared by their digits alone.
-#[tactic(auto, using(crate::proofs::Orders::same_scale))]
+/// The order of two values.
 pub(crate) fn order_of(a: &Datum, b: &Datum) -> Ordering
     ensures { result ≡ data_order a.now b.now }
 {
     match (a, b) {
-        (Datum::Num(a), Datum::Num(b)) if a.scale() == b.scale() => a.coef().cmp(&b.coef()),
+        (Datum::Num(a), Datum::Num(b)) => order_of_numbers(*a, *b),
         _ => a.total_cmp(b),
+    }
+}
+
+/// The order of two numbers. Those of one scale are compared by their digits alone.
+#[tactic(auto, using(crate::proofs::Orders::same_scale))]
+pub(crate) fn order_of_numbers(a: Dec, b: Dec) -> Ordering
+    ensures { result ≡ order a b }
+{
+    if a.scale() == b.scale() {
+        a.coef().cmp(&b.coef())
+    } else {
+        a.cmp(b)
     }
 }
 
