@@ -1,6 +1,6 @@
 -- CHECKs over rows, of which some are known to pass.
 use Rattle.std.proofs.Common.{◌≡◌, ℕ, List, [], ◌∷◌, ◌++◌, Bool, true, false, ◌&&◌, refl, ap, sym, ◌∙◌, Result, Ok, Err}
-use Rattle.std.specs.Prelude.{All, if◌then◌else◌}
+use Rattle.std.specs.Prelude.{All}
 use Rattle.std.proofs.lemmas.List.Elements.{All-cons, All-head, All-nil, All-tail}
 use Rattle.psm_sqlstate.specs.declared.state.SqlState.{SqlState}
 use Rattle.psm_value.specs.declared.datum.Datum.{Datum}

@@ -1,8 +1,8 @@
 -- Tables that are legal for their CHECKs, before and after a statement.
-use Rattle.std.proofs.Common.{◌≡◌, ℕ, List, [], ◌∷◌, ◌++◌, Bool, true, false, ◌&&◌, refl, ap, sym, subst, ◌∙◌, Result, Ok, Err}
+use Rattle.std.proofs.Common.{◌≡◌, ℕ, List, [], ◌∷◌, ◌++◌, Bool, true, false, ◌&&◌, refl, ap, subst, ◌∙◌, Result, Ok, Err}
 use Rattle.std.specs.Prelude.{All, Option, codes, if◌then◌else◌, length, nat_lt}
 use Rattle.std.specs.List.{list_all}
-use Rattle.std.proofs.lemmas.List.Elements.{All-cons, All-head, All-nil, All-tail}
+use Rattle.std.proofs.lemmas.List.Elements.{All-cons, All-head, All-tail}
 use Rattle.psm_sqlstate.specs.declared.state.SqlState.{SqlState}
 use Rattle.psm_value.specs.declared.datum.Datum.{Datum}
 use Rattle.psm_value.specs.declared.truth.Truth.{Truth}
@@ -13,8 +13,7 @@ use Rattle.psm_table.specs.Definition.{kinds_of}
 use Rattle.psm_table.specs.Evaluator.{Evaluator, and_then, mapped, test_of}
 use Rattle.psm_table.specs.Queries.{is_met}
 use Rattle.psm_table.specs.Table.{most_rows}
-use Rattle.psm_table.proofs.Checks.{all_pass, each_passes, passing_rows, Passes}
-use Rattle.psm_table.proofs.Ordered.{all_in_order}
+use Rattle.psm_table.proofs.Checks.{all_pass, each_passes, Passes}
 use Rattle.psm_table.proofs.Rules.{both, first_true, keep-in_order, second_true}
 
 abbrev Row : Type 0

@@ -3,6 +3,7 @@ pub mod Counts
 pub mod Entered
 pub mod Filters
 pub mod Halves
+pub mod Heads
 pub mod Holds
 pub mod Joined
 pub mod KeyLaws
@@ -24,3 +25,4 @@ pub mod Undo
 pub mod UniqueLaws
 pub mod Uniques
 pub mod Walks
+pub mod Advancing

@@ -1,9 +1,13 @@
 -- Keys compared value by value.
-use Rattle.std.proofs.Common.{◌≡◌, ℕ, zero, suc, ◌+◌, ◌<◌, ◌≤◌, List, [], ◌∷◌, length, get_or, drop, refl, ap, ◌∙◌, add-one, arith}
+use Rattle.std.proofs.Common.{◌≡◌, ℕ, zero, suc, ◌+◌, ◌<◌, ◌≤◌, ◌^◌, ◌*ℤ◌, pos, List, [], ◌∷◌, length, get_or, drop, refl, ap, sym, ◌∙◌, add-one, arith}
 use Rattle.std.specs.Prelude.{min}
 use Rattle.std.specs.declared.cmp.Ordering.TheVariants.{Equal}
-use Rattle.std.specs.Ordering.{ordering_then, nat_cmp}
+use Rattle.std.specs.Ordering.{int_cmp, ordering_then, nat_cmp}
 use Rattle.std.proofs.lemmas.Bool.Decides.{nat_tests}
+use Rattle.psm_num.specs.Num.{Num}
+use Rattle.psm_num.specs.Order.{order}
+use Rattle.psm_num.proofs.OrderLaws.{int_cmp-times}
+use Rattle.psm_num.proofs.Powers.{power_pos}
 use Rattle.psm_value.specs.declared.datum.Datum.{Datum}
 use Rattle.psm_value.specs.Order.{data_order}
 use Rattle.psm_table.specs.Key.{key_order}
@@ -42,3 +46,8 @@ past (x ∷ a) (suc i) l = past a i (omega arith)
 -- keys that have no further value
 pub key_order-past : (a b : List Datum) (i : ℕ) → length a ≤ i → length b ≤ i → key_order (drop i a) (drop i b) ≡ Equal
 key_order-past a b i l m = ap (λ x. key_order x (drop i b)) (past a i l) ∙ ap (λ y. key_order [] y) (past b i m)
+
+-- numbers of one scale are ordered as their coefficients
+pub same_scale : (a b : Num) → a.scale ≡ b.scale → int_cmp a.coef b.coef ≡ order a b
+same_scale a b e =
+    sym (int_cmp-times a.coef b.coef (10 ^ b.scale) (power_pos b.scale)) ∙ ap (λ s. int_cmp (a.coef *ℤ pos (10 ^ b.scale)) (b.coef *ℤ pos (10 ^ s))) (sym e)

@@ -1,9 +1,10 @@
 -- Pairs in ascending order, in runs one after the other.
-use Rattle.std.specs.Prelude.{◌≡◌, ℕ, ◌+◌, ◌-◌, ◌<◌, ◌≤◌, Bool, true, false, List, [], ◌∷◌, ◌++◌, length, take, drop, All, slice_index_or}
+use Rattle.std.specs.Prelude.{◌≡◌, ℕ, ◌+◌, ◌-◌, ◌<◌, ◌≤◌, Bool, true, false, List, [], ◌∷◌, ◌++◌, length, take, drop, All, slice_index_or, Option, None}
 use Rattle.std.specs.declared.cmp.Ordering.TheVariants.{Less, Greater}
 use Rattle.psm_value.specs.declared.datum.Datum.{Datum}
 use Rattle.psm_table.specs.declared.map.Pair.{Pair}
-use Rattle.psm_table.specs.Key.{key_order}
+use Rattle.psm_num.specs.Num.{Num}
+use Rattle.psm_table.specs.Key.{key_order, number_of}
 
 -- a run has memory for so many pairs
 abbrev pub most_pairs : ℕ
@@ -14,6 +15,11 @@ module _ {V : Type 0} where
   abbrev pub joined : List (List (Pair V)) → List (Pair V)
   joined [] = []
   joined (r ∷ rs) = r ++ joined rs
+
+  -- the number that is the first pair's key, if it is one
+  abbrev pub head_of : List (Pair V) → Option Num
+  head_of [] = None
+  head_of (p ∷ ps) = number_of p.key
 
   -- a run has a pair, and room for one more
   pub record IsRun (run : List (Pair V)) : Type 0 where

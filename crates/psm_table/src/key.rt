@@ -1,7 +1,10 @@
 ghost use Rattle.std.specs.Prelude.{◌≡◌, ◌++◌, IfOk};
-ghost use Rattle.psm_table.specs.Key.{key_order, values_at, AreColumnsOf};
+ghost use Rattle.psm_table.specs.Key.{key_order, number_of, values_at, AreColumnsOf};
+ghost use Rattle.psm_table.specs.Place.{probe_key, FitsProbe};
 
+use crate::probe::{Probe, order_of};
 use crate::row::{Row, copied};
+use psm_num::Dec;
 use psm_value::Datum;
 use std::alloc::{AllocError, Global};
 use std::cmp::Ordering;
@@ -80,6 +83,27 @@ impl Key {
 }
 
 impl Key {
+    /// The number that is the whole key, if it is one.
+    pub(crate) fn number(&self) -> Option<Dec>
+        ensures { result ≡ number_of self.now }
+    {
+        match self.values() {
+            [Datum::Num(number)] => Some(*number),
+            _ => None,
+        }
+    }
+
+    /// The order of the key and what is looked for.
+    pub(crate) fn order(&self, probe: Probe<'_>) -> Ordering
+        requires { FitsProbe probe }
+        ensures { result ≡ key_order self.now (probe_key probe.entry) }
+    {
+        match (&self.parts, probe) {
+            (Parts::One([value]), Probe::One(sought)) => order_of(value, sought),
+            _ => Probe::Of(self.values()).order(probe),
+        }
+    }
+
     /// The row's values in the columns, followed by those in its key.
     pub(crate) fn of_entry(
         alloc: Global,

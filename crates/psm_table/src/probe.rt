@@ -1,16 +1,21 @@
 //! Keys that are looked for, lent from a row or a list of values.
 ghost use Rattle.std.specs.Prelude.{◌≡◌, ◌<◌, ◌++◌, length, slice_index_or};
 ghost use Rattle.psm_value.specs.declared.datum.Datum.TheVariants.{Null};
+ghost use Rattle.psm_num.specs.Order.{order};
+ghost use Rattle.psm_value.specs.Order.{data_order};
 ghost use Rattle.psm_table.specs.Key.{key_order};
 ghost use Rattle.psm_table.specs.Map.{prefix_order};
 ghost use Rattle.psm_table.specs.Place.{probe_key, FitsProbe};
 
+use psm_num::Dec;
 use psm_value::Datum;
 use std::cmp::Ordering;
 
 /// What is looked for.
 #[derive(Clone, Copy)]
 pub(crate) enum Probe<'a> {
+    /// One value.
+    One(&'a Datum),
     /// These values.
     Of(&'a [Datum]),
     /// The values of a row in some columns.
@@ -27,11 +32,28 @@ pub(crate) enum Probe<'a> {
 }
 
 impl<'a> Probe<'a> {
+    /// The same values; a single one is lent by itself.
+    pub(crate) fn narrowed(self) -> Probe<'a>
+        requires { FitsProbe self }
+        ensures key { probe_key result ≡ probe_key self.entry }
+        ensures fits { FitsProbe result }
+    {
+        match self {
+            Probe::Of([value]) => Probe::One(value),
+            Probe::In {
+                columns: [column],
+                row,
+            } => Probe::One(&row[*column as usize]),
+            _ => self,
+        }
+    }
+
     /// How many values are looked for.
     pub(crate) fn len(self) -> usize
         ensures { result ≡ length (probe_key self.entry) }
     {
         match self {
+            Probe::One(_) => 1,
             Probe::Of(values) => values.len(),
             Probe::In { columns, .. } => columns.len(),
             Probe::Both { columns, key, .. } => columns.len() + key.len(),
@@ -45,6 +67,7 @@ impl<'a> Probe<'a> {
         ensures { result.now ≡ slice_index_or (probe_key self.entry) i Null }
     {
         match self {
+            Probe::One(value) => value,
             Probe::Of(values) => &values[i],
             Probe::In { columns, row } => &row[columns[i] as usize],
             Probe::Both { columns, key, row } => {
@@ -64,12 +87,34 @@ impl<'a> Probe<'a> {
         ensures { result ≡ key_order (probe_key self.entry) (probe_key other.entry) }
     {
         for i in 0..self.len().min(other.len()) {
-            match self.value(i).total_cmp(other.value(i)) {
+            match order_of(self.value(i), other.value(i)) {
                 Ordering::Equal => {}
                 unequal => return unequal,
             }
         }
         self.len().cmp(&other.len())
+    }
+}
+
+/// The order of two values.
+pub(crate) fn order_of(a: &Datum, b: &Datum) -> Ordering
+    ensures { result ≡ data_order a.now b.now }
+{
+    match (a, b) {
+        (Datum::Num(a), Datum::Num(b)) => order_of_numbers(*a, *b),
+        _ => a.total_cmp(b),
+    }
+}
+
+/// The order of two numbers. Those of one scale are compared by their digits alone.
+#[tactic(auto, using(crate::proofs::Orders::same_scale))]
+pub(crate) fn order_of_numbers(a: Dec, b: Dec) -> Ordering
+    ensures { result ≡ order a b }
+{
+    if a.scale() == b.scale() {
+        a.coef().cmp(&b.coef())
+    } else {
+        a.cmp(b)
     }
 }
 

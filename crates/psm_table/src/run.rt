@@ -1,22 +1,24 @@
 //! Runs of pairs in ascending order of their keys, each in memory of its own that is taken when it is made.
-ghost use Rattle.std.specs.Prelude.{◌≡◌, ◌+◌, ◌<◌, ◌≤◌, [], ◌++◌, length, filter, insert, not, slice_get, is_some, List, IfOk, IfSome, IfErr, IsSome, None, Some};
+ghost use Rattle.std.specs.Prelude.{◌≡◌, ◌+◌, ◌<◌, ◌≤◌, [], ◌++◌, length, filter, insert, not, nat_eq, if◌then◌else◌, slice_get, is_some, List, IfOk, IfSome, IfErr, IsSome, None, Some};
 ghost use Rattle.std.specs.Vec.{vec_len, vec_capacity};
 ghost use Rattle.std.specs.Bool.{OnTrue, OnFalse};
 ghost use Rattle.std.specs.Option.{option_copied};
 ghost use Rattle.std.specs.Ordering.{is_gt, is_lt};
 ghost use Rattle.psm_table.specs.Held.{row_of};
-ghost use Rattle.psm_table.specs.Key.{key_order, values_at, AreColumnsOf};
+ghost use Rattle.psm_table.specs.Key.{key_order, number_of, values_at, AreColumnsOf};
 ghost use Rattle.psm_table.specs.Map.{value_of, pairs_from, pairs_above, pairs_below, prefix_order, with_pair, with_value};
 ghost use Rattle.psm_table.specs.Place.{probe_key, FitsProbe, IsAt, IsGap};
 ghost use Rattle.psm_value.specs.declared.datum.Datum.{Datum};
 ghost use Rattle.psm_table.specs.declared.map.Pair.{Pair};
 ghost use Rattle.psm_table.specs.Rows.{last_of};
-ghost use Rattle.psm_table.specs.Runs.{begins, most_pairs, IsRun};
+ghost use Rattle.psm_table.specs.Runs.{begins, head_of, most_pairs, IsRun};
 
 use crate::key::Key;
 use crate::map::{Copied, Pair, Test};
-use crate::probe::{Probe, order_of_prefix};
+use crate::probe::{Probe, order_of_numbers, order_of_prefix};
 use crate::row::Row;
+use psm_num::Dec;
+use psm_value::Datum;
 use std::alloc::{AllocError, Global};
 use std::cmp::Ordering;
 use std::marker::Model;
@@ -29,20 +31,23 @@ const MOST_PAIRS: usize = 64;
 #[derive(Drop)]
 pub(crate) struct Run<V> {
     pairs: Vec<Pair<V>>,
+    /// The number that is the first pair's key, if it is one. A search among runs compares it without a look at
+    /// the pairs, which lie elsewhere.
+    head: Option<Dec>,
 }
 
 impl<V> Model for Run<V> {
-    ghost use Rattle.std.specs.Prelude.{◌≤◌, length, List};
+    ghost use Rattle.std.specs.Prelude.{◌≡◌, ◌≤◌, length, List};
     ghost use Rattle.std.specs.Vec.{vec_capacity};
     ghost use Rattle.psm_table.specs.declared.map.Pair.{Pair};
     ghost use Rattle.psm_table.specs.Map.{AreAscending};
-    ghost use Rattle.psm_table.specs.Runs.{most_pairs};
+    ghost use Rattle.psm_table.specs.Runs.{head_of, most_pairs};
 
     ghost Value = { List (Pair V) };
 
     ghost view = { λ r. r.pairs.items };
 
-    ghost invariant = { λ r. AreAscending r.pairs.items × (length r.pairs.items ≤ most_pairs) × (most_pairs ≤ vec_capacity r.pairs) };
+    ghost invariant = { λ r. AreAscending r.pairs.items × (length r.pairs.items ≤ most_pairs) × (most_pairs ≤ vec_capacity r.pairs) × (r.head ≡ head_of r.pairs.items) };
 }
 
 impl<V: Drop> Run<V> {
@@ -52,6 +57,7 @@ impl<V: Drop> Run<V> {
     {
         Ok(Run {
             pairs: Vec::with_capacity(alloc, MOST_PAIRS)?,
+            head: None,
         })
     }
 
@@ -92,6 +98,7 @@ impl<V: Drop> Run<V> {
         match self.find(Probe::Of(key.values())) {
             Ok(_) => {}
             Err(at) => {
+                self.head = head_with(self.head, at, &key);
                 insert_reserved(&mut self.pairs, at, Pair { key, value });
             }
         }
@@ -139,8 +146,20 @@ impl<V: Drop> Run<V> {
         requires { FitsProbe probe }
         ensures { result ≡ begins (λ p. is_gt (key_order p.key (probe_key probe.entry))) self.now }
     {
+        match (self.head, probe) {
+            (Some(first), Probe::One(Datum::Num(sought))) => order_of_numbers(
+                first, *sought,
+            ).is_gt(),
+            _ => self.first_is_above(probe),
+        }
+    }
+
+    fn first_is_above(&self, probe: Probe<'_>) -> bool
+        requires { FitsProbe probe }
+        ensures { result ≡ begins (λ p. is_gt (key_order p.key (probe_key probe.entry))) self.now }
+    {
         match self.pairs.as_slice() {
-            [first, ..] => Probe::Of(first.key.values()).order(probe).is_gt(),
+            [first, ..] => first.key.order(probe).is_gt(),
             [] => false,
         }
     }
@@ -180,11 +199,12 @@ impl<V: Drop> Run<V> {
         ensures found { IfOk result (IsAt (probe_key probe.entry) self.now) }
         ensures absent { IfErr result (IsGap (probe_key probe.entry) self.now) }
     {
+        let sought = probe.narrowed();
         let mut low = 0;
         let mut high = self.pairs.len();
         while low < high {
             let middle = low + (high - low) / 2;
-            match Probe::Of(self.pairs[middle].key.values()).order(probe) {
+            match self.pairs[middle].key.order(sought) {
                 Ordering::Less => low = middle + 1,
                 Ordering::Equal => return Ok(middle),
                 Ordering::Greater => high = middle,
@@ -207,6 +227,7 @@ impl<V: Drop> Run<V> {
                 insert_reserved(&mut upper.pairs, 0, pair);
             }
         }
+        upper.head = head_of(upper.pairs.as_slice());
         upper
     }
 
@@ -222,6 +243,7 @@ impl<V: Drop> Run<V> {
                 let _pair = self.pairs.remove(left);
             }
         }
+        self.head = head_of(self.pairs.as_slice());
     }
 }
 
@@ -237,7 +259,10 @@ impl<V: Copied + Drop> Run<V> {
                 value: pair.value.copied(alloc)?,
             })?;
         }
-        Ok(Run { pairs })
+        Ok(Run {
+            pairs,
+            head: self.head,
+        })
     }
 }
 
@@ -291,6 +316,23 @@ impl Run<Option<Row>> {
             Err(_) => None,
         }
     }
+}
+
+/// The number that is the first pair's key, if it is one.
+fn head_of<V: Drop>(pairs: &[Pair<V>]) -> Option<Dec>
+    ensures { result ≡ head_of pairs.now }
+{
+    match pairs {
+        [first, ..] => first.key.number(),
+        [] => None,
+    }
+}
+
+/// The number that is the first pair's key, if it is one, once a pair is put in at a place.
+fn head_with(head: Option<Dec>, at: usize, key: &Key) -> Option<Dec>
+    ensures { result ≡ (if nat_eq at 0 then number_of key.now else head) }
+{
+    if at == 0 { key.number() } else { head }
 }
 
 /// Puts an item in at a place. It takes no memory.

@@ -21,11 +21,12 @@ pub(crate) fn locate<V: Drop>(runs: &[Run<V>], probe: Probe<'_>) -> usize
     requires runs { All IsRun runs.now }
     ensures { 0 < length runs.now → IsIn (probe_key probe.entry) runs.now result }
 {
+    let sought = probe.narrowed();
     let mut low = 0;
     let mut high = runs.len();
     while low < high {
         let middle = low + (high - low) / 2;
-        if runs[middle].begins_above(probe) {
+        if runs[middle].begins_above(sought) {
             high = middle;
         } else {
             low = middle + 1;

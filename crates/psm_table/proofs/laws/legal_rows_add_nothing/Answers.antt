@@ -1,4 +1,4 @@
-use Rattle.psm_table.proofs.Checks.{each_passes, passing_rows}
+use Rattle.psm_table.proofs.Checks.{passing_rows}
 use Rattle.psm_table.proofs.Rules.{keep-new}
 use Rattle.psm_table.proofs.Legal.{legal_passes}
 use Rattle.psm_table.proofs.laws.legal_rows_add_nothing.Goals as goal

@@ -9,6 +9,7 @@ invariant-loop-self g l =
     × (most_pairs / 2 ≤ length l.self-inside.pairs.items)
     × (most_pairs ≤ vec_capacity l.self-inside.pairs)
     × (most_pairs ≤ vec_capacity l.upper-inside.pairs)
+    × (l.self-inside.head ≡ l.initial.self-inside.head)
 
 abbrev pub decreases-loop-self : goal.decreases-loop-self
 decreases-loop-self g l = length l.self-inside.pairs.items

@@ -11,7 +11,7 @@ loop-low-preserved-in-Less g c =
     between_less (probe_key c.args.probe) c.args.self.now (subst AreAscending same c.self.invariant.0) c.loop-low.low c.loop-low.high
     (c.loop-low.low + (c.loop-low.high - c.loop-low.low) / 2) c.index.result.now c.loop-low.invariant (omega arith) (omega arith)
     (subst (λ l. c.index.result.now ≡ get_or l (c.loop-low.low + (c.loop-low.high - c.loop-low.low) / 2) c.index.result.now) same c.index.ensures)
-    (ap (λ k. key_order k (probe_key c.args.probe)) (sym c.values.ensures) ∙ sym c.in-Less.ensures)
+    (ap (key_order c.index.result.now.key) (sym c.narrowed-sought.ensures.key) ∙ sym c.in-Less.ensures)
 
 pub loop-low-preserved : goal.loop-low-preserved
 loop-low-preserved g c =
@@ -19,7 +19,7 @@ loop-low-preserved g c =
     between_greater (probe_key c.args.probe) c.args.self.now (subst AreAscending same c.self.invariant.0) c.loop-low.low c.loop-low.high
     (c.loop-low.low + (c.loop-low.high - c.loop-low.low) / 2) c.index.result.now c.loop-low.invariant (omega arith) (omega arith)
     (subst (λ l. c.index.result.now ≡ get_or l (c.loop-low.low + (c.loop-low.high - c.loop-low.low) / 2) c.index.result.now) same c.index.ensures)
-    (ap (λ k. key_order k (probe_key c.args.probe)) (sym c.values.ensures) ∙ sym c.in-Greater.ensures)
+    (ap (key_order c.index.result.now.key) (sym c.narrowed-sought.ensures.key) ∙ sym c.in-Greater.ensures)
 
 pub returns-in-Equal-clause-found : goal.returns-in-Equal-clause-found
 returns-in-Equal-clause-found g c =
@@ -27,7 +27,7 @@ returns-in-Equal-clause-found g c =
     is_at (probe_key c.args.probe) c.args.self.now (subst AreAscending same c.self.invariant.0)
     (c.loop-low.low + (c.loop-low.high - c.loop-low.low) / 2) c.index.result.now (omega (arith, c.loop-low.invariant.bound))
     (subst (λ l. c.index.result.now ≡ get_or l (c.loop-low.low + (c.loop-low.high - c.loop-low.low) / 2) c.index.result.now) same c.index.ensures)
-    (ap (λ k. key_order k (probe_key c.args.probe)) (sym c.values.ensures) ∙ sym c.in-Equal.ensures)
+    (ap (key_order c.index.result.now.key) (sym c.narrowed-sought.ensures.key) ∙ sym c.in-Equal.ensures)
 
 pub returns-clause-absent : goal.returns-clause-absent
 returns-clause-absent g c =

@@ -1,9 +1,12 @@
 use Rattle.std.proofs.Common.{◌≤◌, ap, sym, subst, ◌∙◌, length, arith}
+use Rattle.std.specs.Prelude.{nat_eq, if◌then◌else◌}
 use Rattle.psm_table.specs.declared.map.Pair.{Pair}
 use Rattle.psm_table.specs.Map.{AreAscending, value_of}
 use Rattle.psm_table.specs.Place.{IsAt, IsGap}
-use Rattle.psm_table.specs.Runs.{most_pairs}
+use Rattle.psm_table.specs.Key.{number_of}
+use Rattle.psm_table.specs.Runs.{head_of, most_pairs}
 use Rattle.psm_table.proofs.Filters.{none_some}
+use Rattle.psm_table.proofs.Heads.{head-insert}
 use Rattle.psm_table.proofs.Pairs.{ascending-with_pair, inserted, value_some}
 use Rattle.psm_table.proofs.run.Run.insert.Goals as goal
 
@@ -16,6 +19,8 @@ invariant_of-self g c =
       subst AreAscending (sym (c.insert_reserved.ensures.items ∙ inserted p c.self.inside.pairs.items c.in-Err.at gap)) (ascending-with_pair p c.self.inside.pairs.items c.self.invariant.0),
       room,
       omega (arith, c.insert_reserved.ensures.capacity, c.self.invariant.2),
+      c.head_with-self-inside.ensures ∙ ap (λ h. if nat_eq c.in-Err.at 0 then number_of c.args.key else h) c.self.invariant.3
+          ∙ sym (ap head_of c.insert_reserved.ensures.items ∙ head-insert c.self.inside.pairs.items c.in-Err.at p gap.inside),
     )
 
 pub returns-in-Ok-clause-pairs : goal.returns-in-Ok-clause-pairs
