@@ -53,12 +53,12 @@ module _ (def : TableDef) (columns : List Letter) (letters : columns ≡ letters
   pub checks_from : (checks : List (List Line)) → list_all (gives_truth columns []) checks ≡ true → SuitChecks checks def
   checks_from checks e = subst (λ (l : List Letter). list_all (gives_truth l []) checks ≡ true) letters e
 
-  module _ (vars : List Datum) (kinds : are_of (N ∷ []) vars ≡ true) where
-    pub sets_from : (sets : List SetItem) → list_all (fits_set columns (N ∷ [])) sets ≡ true → SuitSets sets vars def
-    sets_from sets e = record { variables = N ∷ []; kinds = kinds; fits = subst (λ (l : List Letter). list_all (fits_set l (N ∷ [])) sets ≡ true) letters e }
+  module _ (vars : List Datum) (kinds : are_of (N ∷ N ∷ []) vars ≡ true) where
+    pub sets_from : (sets : List SetItem) → list_all (fits_set columns (N ∷ N ∷ [])) sets ≡ true → SuitSets sets vars def
+    sets_from sets e = record { variables = N ∷ N ∷ []; kinds = kinds; fits = subst (λ (l : List Letter). list_all (fits_set l (N ∷ N ∷ [])) sets ≡ true) letters e }
 
-    pub test_from : (test : Option (List Line)) → option_map_or (gives_truth columns (N ∷ [])) test true ≡ true → SuitsTest test vars def
-    test_from test e = record { variables = N ∷ []; kinds = kinds; fits = subst (λ (l : List Letter). option_map_or (gives_truth l (N ∷ [])) test true ≡ true) letters e }
+    pub test_from : (test : Option (List Line)) → option_map_or (gives_truth columns (N ∷ N ∷ [])) test true ≡ true → SuitsTest test vars def
+    test_from test e = record { variables = N ∷ N ∷ []; kinds = kinds; fits = subst (λ (l : List Letter). option_map_or (gives_truth l (N ∷ N ∷ [])) test true ≡ true) letters e }
 
-    pub query_from : (query : Query) → fits_query columns (N ∷ []) query ≡ true → SuitsTable query vars def
-    query_from query e = record { variables = N ∷ []; kinds = kinds; fits = subst (λ (l : List Letter). fits_query l (N ∷ []) query ≡ true) letters e }
+    pub query_from : (query : Query) → fits_query columns (N ∷ N ∷ []) query ≡ true → SuitsTable query vars def
+    query_from query e = record { variables = N ∷ N ∷ []; kinds = kinds; fits = subst (λ (l : List Letter). fits_query l (N ∷ N ∷ []) query ≡ true) letters e }

@@ -145,8 +145,8 @@ pub fn all_rows(alloc: Global, table: &Table) -> Result<Vec<Row>, Fault> {
     Ok(rows)
 }
 
-// The number 2.
+// The number 2, and null.
 fn variables(alloc: Global) -> Result<Vec<Datum>, Fault> {
     let two = Dec::new(2, 0).ok_or(Fault::NoRow)?;
-    Ok(vec![in alloc; Datum::Num(two)]?)
+    Ok(vec![in alloc; Datum::Num(two), Datum::Null]?)
 }

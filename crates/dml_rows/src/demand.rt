@@ -38,7 +38,7 @@ pub fn demand_sets(
 ) -> Result<(), Fault>
     ensures { OnOk result (SuitSets sets.now vars.now table.now.contents.def) }
 {
-    let variables = &[Letter::N];
+    let variables = &[Letter::N, Letter::N];
     let columns = column_letters(alloc, table.def())?;
     if Letter::are_of(variables, vars) && suit_sets(sets, columns.as_slice(), variables) {
         Ok(())
@@ -56,7 +56,7 @@ pub fn demand_test(
 ) -> Result<(), Fault>
     ensures { OnOk result (SuitsTest (option_copied test.entry) vars.now table.now.contents.def) }
 {
-    let variables = &[Letter::N];
+    let variables = &[Letter::N, Letter::N];
     let columns = column_letters(alloc, table.def())?;
     if Letter::are_of(variables, vars) && is_test(test, columns.as_slice(), variables) {
         Ok(())
@@ -83,7 +83,7 @@ pub fn demand_query(
 ) -> Result<(), Fault>
     ensures { OnOk result (SuitsTable query.now vars.now table.now.contents.def) }
 {
-    let variables = &[Letter::N];
+    let variables = &[Letter::N, Letter::N];
     let columns = column_letters(alloc, table.def())?;
     if Letter::are_of(variables, vars) && suits(query, columns.as_slice(), variables) {
         Ok(())

@@ -12,7 +12,7 @@
 //!
 //! A test may lack, and `delete all` and `update all` stand for statements without one. In a text a tilde stands for a blank. A line of
 //! code is the letters of its operands, or a minus sign for none, a colon, and its operation; a number behind a point
-//! belongs to the operation. Variable 0 is the number 2.
+//! belongs to the operation. Variable 0 is the number 2, and variable 1 is null and a number.
 //!
 //! All is done in a store that keeps copies and in one that keeps a journal, and behind the statement stands what
 //! they answer, or both answers where they differ. A line that begins with `#` is printed as it is, and behind an empty

@@ -14,7 +14,7 @@ ghost use Rattle.psm_dml.specs.Suits.{SuitsTest};
 
 use psm_exprcode::{ExprCode, Operand};
 use psm_table::{Key, List, Row, Table};
-use psm_tablecode::{first, following, truth};
+use psm_tablecode::{first, following, truth, walk_of};
 use psm_value::{Datum, Truth, ValueFault};
 use std::alloc::{AllocError, Global};
 
@@ -33,14 +33,15 @@ pub(crate) fn met_keys(
 {
     let mut stack = Vec::new(alloc);
     let mut keys = Vec::new(alloc);
-    let mut next = first(table, false);
+    let walk = walk_of(alloc, table, false, test, vars)?;
+    let mut next = first(table, &walk);
     for at in 0..table.len() {
         let Some(row) = next else {
             break;
         };
         let key = met_key(alloc, &mut stack, table, test, row, vars)?;
         add_key(&mut keys, key)?;
-        next = following(table, false, row);
+        next = following(table, &walk, row);
     }
     Ok(List::of(keys))
 }

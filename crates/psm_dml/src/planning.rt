@@ -16,7 +16,7 @@ use crate::finding::meets;
 use crate::setting::set_row;
 use psm_exprcode::{ExprCode, Operand, SetItem};
 use psm_table::{Key, List, Row, Table};
-use psm_tablecode::{first, following};
+use psm_tablecode::{first, following, walk_of};
 use psm_value::{Datum, ValueFault};
 use std::alloc::{AllocError, Global};
 
@@ -43,14 +43,15 @@ pub(crate) fn changes(
 {
     let mut stack = Vec::new(alloc);
     let mut changes = Vec::new(alloc);
-    let mut next = first(table, false);
+    let walk = walk_of(alloc, table, false, test, vars)?;
+    let mut next = first(table, &walk);
     for at in 0..table.len() {
         let Some(row) = next else {
             break;
         };
         let change = change_of(alloc, &mut stack, table, sets, test, row, vars)?;
         add_change(&mut changes, change)?;
-        next = following(table, false, row);
+        next = following(table, &walk, row);
     }
     Ok(List::of(changes))
 }

@@ -1,8 +1,7 @@
 -- A walk over rows, one after another.
-use Rattle.std.proofs.Common.{◌≡◌, ℕ, zero, suc, ◌+◌, ◌<◌, ◌≤◌, Bool, true, false, List, [], ◌∷◌, length, drop, refl, ap, sym, subst, ◌∙◌, arith, Option, Some, None, Result, Ok, Err}
+use Rattle.std.proofs.Common.{◌≡◌, ℕ, zero, suc, ◌+◌, ◌<◌, ◌≤◌, Bool, true, false, List, [], ◌∷◌, drop, refl, ap, sym, subst, ◌∙◌, arith, Option, Some, None, Result, Ok, Err}
 use Rattle.std.specs.Prelude.{All, map, slice_get, if◌then◌else◌}
 use Rattle.std.specs.List.{cons_option}
-use Rattle.std.proofs.lemmas.List.{length-reverse}
 use Rattle.std.proofs.lemmas.List.Elements.{All-nil, All-cons, All-head, All-tail}
 use Rattle.std.proofs.lemmas.Option.{get_or_from_slice_get, slice_get_within}
 use Rattle.psm_sqlstate.specs.declared.state.SqlState.{SqlState}
@@ -71,11 +70,6 @@ module _ (items : Items) (start : Gathered) (test : List Datum → Result Truth 
     past [] (suc i) e = refl
     past (r ∷ rows) zero e = cc
     past (r ∷ rows) (suc i) e = past rows i e
-
--- a walk goes over all rows
-pub length_walk : (downward : Bool) (rows : List (List Datum)) → length (in_walk downward rows) ≡ length rows
-length_walk true rows = length-reverse rows
-length_walk false rows = refl
 
 -- ---- how many values a tally may have counted
 

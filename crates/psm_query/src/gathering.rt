@@ -16,7 +16,7 @@ use crate::answer::Answer;
 use crate::tally::{Tally, is_null};
 use psm_exprcode::{Aggregate, Items, Query};
 use psm_table::{Row, Table};
-use psm_tablecode::{first, following, taken};
+use psm_tablecode::{first, following, taken, walk_of};
 use psm_value::{Datum, ValueFault};
 use std::alloc::{AllocError, Global};
 use std::marker::Model;
@@ -38,7 +38,7 @@ impl Model for Gathering {
 }
 
 impl Gathering {
-    /// All rows of the table.
+    /// All rows of the table, or the one of the key for which the test asks.
     pub(crate) fn of_rows(
         alloc: Global,
         table: &Table,
@@ -50,14 +50,15 @@ impl Gathering {
     {
         let mut stack = Vec::new(alloc);
         let mut gathering = Gathering::nothing(alloc, &query.items)?;
-        let mut next = first(table, query.downward);
+        let walk = walk_of(alloc, table, query.downward, query.test.as_ref(), vars)?;
+        let mut next = first(table, &walk);
         for at in 0..table.len() {
             let Some(row) = next else {
                 break;
             };
             let values = taken(alloc, &mut stack, query, row, vars)?;
             gathering.take(&query.items, values)?;
-            next = following(table, query.downward, row);
+            next = following(table, &walk, row);
         }
         Ok(gathering)
     }

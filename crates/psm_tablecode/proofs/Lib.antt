@@ -1,5 +1,9 @@
 pub mod Collecting
+pub mod Conjunctions
 pub mod Faults
 pub mod Fitting
 pub mod Follows
+pub mod KeyWalks
 pub mod Results
+pub mod Sought
+pub mod Windows

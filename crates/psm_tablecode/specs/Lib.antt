@@ -1,3 +1,4 @@
+pub mod Asked
 pub mod Codes
 pub mod Faults
 pub mod Rows

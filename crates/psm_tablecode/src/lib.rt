@@ -2,14 +2,17 @@
 //! the rows (ISO/IEC 9075:1992, clauses 6 to 8).
 #![tactic(auto)]
 
+mod asking;
 mod evaluating;
+mod laws;
 mod raising;
 mod suiting;
 mod walking;
 
 pub use evaluating::{meets, taken, truth, value, values};
+pub use laws::access_by_key;
 pub use psm_cond::DataFault;
 pub use psm_exprcode::{Aggregate, ExprCode, Items, Operand, Query, SetFunction};
 pub use raising::raised;
 pub use suiting::{column_letters, gives_truth, gives_value, suits};
-pub use walking::{first, following};
+pub use walking::{Walk, first, following, walk_of};

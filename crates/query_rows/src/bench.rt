@@ -29,7 +29,7 @@ pub fn asked<S: Store>(alloc: Global, store: &S, query: &Query) -> Result<String
     requires bench { IsBench (defs_of (S.tables store.now)) }
     requires table { query.now.table ≡ 0 }
 {
-    let variables = &[Letter::N, Letter::T];
+    let variables = &[Letter::N, Letter::T, Letter::N];
     let vars = variables_of(alloc)?;
     let columns = column_letters(alloc, store.table(0).def())?;
     if Letter::are_of(variables, vars.as_slice()) && suits(query, columns.as_slice(), variables) {
@@ -39,10 +39,10 @@ pub fn asked<S: Store>(alloc: Global, store: &S, query: &Query) -> Result<String
     }
 }
 
-// The number 2, and null.
+// The number 2, and two nulls.
 fn variables_of(alloc: Global) -> Result<Vec<Datum>, Fault> {
     let two = Dec::new(2, 0).ok_or(Fault::NoRow)?;
-    Ok(vec![in alloc; Datum::Num(two), Datum::Null]?)
+    Ok(vec![in alloc; Datum::Num(two), Datum::Null, Datum::Null]?)
 }
 
 fn told(alloc: Global, answer: Result<Answer, DataFault>) -> Result<String, Fault> {

@@ -52,6 +52,8 @@ fn plain(word: &str) -> Option<Op> {
         "LT" => Op::Less,
         "GT" => Op::Greater,
         "ISNULL" => Op::IsNull,
+        "AND" => Op::And,
+        "OR" => Op::Or,
         "NOT" => Op::Not,
         _ => return None,
     })

@@ -6,7 +6,8 @@
 //! two items stands a comma between blanks. An item is code, or in each item a set function stands in front of its
 //! code, as in `SUM -:COL.2`; `COUNT *` has no code.
 //! A line of code is the letters of its operands, or a minus sign for none, a colon, and its operation; a number
-//! behind a point belongs to the operation. Variable 0 is the number 2 and variable 1 is null and a text.
+//! behind a point belongs to the operation. Variable 0 is the number 2, variable 1 is null and a text, and variable 2
+//! is null and a number.
 //!
 //! All is done in a store that keeps copies and in one that keeps a journal, and behind the row stands what they
 //! answer, or both answers where they differ. A line that begins with `#` is printed as it is, and behind an empty

@@ -1,4 +1,4 @@
-use Rattle.std.proofs.Common.{◌≡◌, ◌≤◌, List, length, Some, None, Ok, ap, sym, subst, ◌∙◌, arith}
+use Rattle.std.proofs.Common.{◌≡◌, ◌≤◌, List, length, Some, None, false, Ok, Err, ap, sym, subst, ◌∙◌, arith}
 use Rattle.std.specs.Prelude.{slice_get, IfSome}
 use Rattle.std.specs.Option.{option_copied}
 use Rattle.std.proofs.lemmas.Option.{slice_get_past}
@@ -6,8 +6,11 @@ use Rattle.std.proofs.lemmas.Result.{err_from_is_err_and}
 use Rattle.psm_value.specs.declared.datum.Datum.{Datum}
 use Rattle.psm_table.specs.Definition.{IsRow}
 use Rattle.psm_table.specs.Evaluator.{test_of}
+use Rattle.psm_tablecode.specs.Asked.{rows_of}
 use Rattle.psm_tablecode.specs.Codes.{over}
 use Rattle.psm_tablecode.specs.Suits.{letters_of}
+use Rattle.psm_tablecode.proofs.KeyWalks.{rows_few, walked_by}
+use Rattle.psm_tablecode.proofs.Results.{gives_by}
 use Rattle.psm_tablecode.proofs.Fitting.{row_letters, test_runs}
 use Rattle.psm_dml.specs.Changes.{changing, row_set}
 use Rattle.psm_dml.proofs.Assigning.{assign}
@@ -28,15 +31,16 @@ change_of-requires-clause-sets c =
 
 pub returns-in_err-change-clause-changes : goal.returns-in_err-change-clause-changes
 returns-in_err-change-clause-changes c =
-    let rows : List (List Datum) = c.args.table.now.contents.rows in
+    let rows : List (List Datum) = rows_of c.args.table.now.contents c.in_ok-walk.walk in
     let here : slice_get rows c.loop-at.at ≡ Some c.in-Some.row.now = sym c.loop-at.invariant.here ∙ ap option_copied c.in-Some.is in
-    let p = err_from_is_err_and c.from_residual.result c.from_residual.ensures.1 in
-    rw (p.1, p.2) (walks_fault (test_of (over c.args.vars.now) (option_copied c.args.test)) (changing c.args.table.now.contents.def.key (row_set c.args.vars.now c.args.table.now.contents.def c.args.sets.now)) rows
-    c.loop-at.at c.in-Some.row.now c.in_err-change.field-0.0 c.loop-at.changes.items here c.in_err-change.ensures c.loop-at.invariant.so_far)
+    let p = err_from_is_err_and c.from_residual-in_err-change.result c.from_residual-in_err-change.ensures.1 in
+    let all = walked_by c.args.table.now.contents c.args.vars.now (option_copied c.args.test) (changing c.args.table.now.contents.def.key (row_set c.args.vars.now c.args.table.now.contents.def c.args.sets.now)) c.in_ok-walk.ensures.table.ascend false c.in_ok-walk.walk c.in_ok-walk.ensures.walk in
+    rw (p.1, p.2) (gives_by (_) (_) (Err c.in_err-change.field-0.0) (sym all) (walks_fault (test_of (over c.args.vars.now) (option_copied c.args.test)) (changing c.args.table.now.contents.def.key (row_set c.args.vars.now c.args.table.now.contents.def c.args.sets.now)) rows
+    c.loop-at.at c.in-Some.row.now c.in_err-change.field-0.0 c.loop-at.changes.items here c.in_err-change.ensures c.loop-at.invariant.so_far))
 
 pub loop-at-preserved : goal.loop-at-preserved
 loop-at-preserved c =
-    let rows : List (List Datum) = c.args.table.now.contents.rows in
+    let rows : List (List Datum) = rows_of c.args.table.now.contents c.in_ok-walk.walk in
     let here : slice_get rows c.loop-at.at ≡ Some c.in-Some.row.now = sym c.loop-at.invariant.here ∙ ap option_copied c.in-Some.is in
     record {
       here = c.following-next.ensures.here c.loop-at.at here;
@@ -47,10 +51,12 @@ loop-at-preserved c =
 
 pub returns-clause-changes : goal.returns-clause-changes
 returns-clause-changes c =
-    let rows : List (List Datum) = c.args.table.now.contents.rows in
+    let rows : List (List Datum) = rows_of c.args.table.now.contents c.in_ok-walk.walk in
     let none : slice_get rows c.loop-at.at ≡ None = elim c.loop-at-test.branch [
-      | else-loop-at-test w ↦ let past : length rows ≤ c.loop-at.at = omega (arith, w.loop-at-test.false, c.len-at-end.ensures.value) in slice_get_past rows c.loop-at.at past
+      | else-loop-at-test w ↦ let past : length rows ≤ c.loop-at.at = omega (arith, rows_few c.args.table.now.contents c.in_ok-walk.walk, w.loop-at-test.false, c.len-at-end.ensures.value) in slice_get_past rows c.loop-at.at past
       | then-loop-at-test+in_default w ↦ sym c.loop-at.invariant.here ∙ ap option_copied w.in_default.is
     ] in
-    walks_end (test_of (over c.args.vars.now) (option_copied c.args.test)) (changing c.args.table.now.contents.def.key (row_set c.args.vars.now c.args.table.now.contents.def c.args.sets.now)) rows
+    let all = walked_by c.args.table.now.contents c.args.vars.now (option_copied c.args.test) (changing c.args.table.now.contents.def.key (row_set c.args.vars.now c.args.table.now.contents.def c.args.sets.now)) c.in_ok-walk.ensures.table.ascend false c.in_ok-walk.walk c.in_ok-walk.ensures.walk in
+    sym all
+    ∙ walks_end (test_of (over c.args.vars.now) (option_copied c.args.test)) (changing c.args.table.now.contents.def.key (row_set c.args.vars.now c.args.table.now.contents.def c.args.sets.now)) rows
     c.loop-at.at c.loop-at.changes.items none c.loop-at.invariant.so_far ∙ ap Ok (sym c.of.ensures)

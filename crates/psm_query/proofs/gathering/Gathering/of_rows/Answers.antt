@@ -1,4 +1,4 @@
-use Rattle.std.proofs.Common.{◌≡◌, ◌+◌, ◌≤◌, List, length, Some, None, ap, sym, subst, ◌∙◌, arith}
+use Rattle.std.proofs.Common.{◌≡◌, ◌+◌, ◌≤◌, List, length, Some, None, Err, ap, sym, subst, ◌∙◌, arith}
 use Rattle.std.specs.Prelude.{slice_get, IfSome}
 use Rattle.std.specs.Option.{option_copied}
 use Rattle.std.proofs.lemmas.Option.{slice_get_past}
@@ -6,18 +6,21 @@ use Rattle.std.proofs.lemmas.Result.{err_from_is_err_and}
 use Rattle.psm_value.specs.declared.datum.Datum.{Datum}
 use Rattle.psm_table.specs.Definition.{IsRow}
 use Rattle.psm_table.specs.Evaluator.{mapped, test_of}
-use Rattle.psm_table.specs.Queries.{in_walk, walked}
+use Rattle.psm_table.specs.Queries.{walked}
+use Rattle.psm_tablecode.specs.Asked.{rows_of, walk_for}
 use Rattle.psm_tablecode.specs.Codes.{over}
 use Rattle.psm_query.specs.Gathered.{Gathered, nothing, with_rows, AreUpTo}
 use Rattle.psm_tablecode.specs.Rows.{values_for}
+use Rattle.psm_tablecode.proofs.Results.{gives_by}
+use Rattle.psm_tablecode.proofs.KeyWalks.{rows_few, walked_by}
 use Rattle.psm_tablecode.proofs.Fitting.{suits_row}
-use Rattle.psm_query.proofs.Goes.{goes_end, goes_fault, goes_next, length_walk, up_to_nothing, up_to_taken}
+use Rattle.psm_query.proofs.Goes.{goes_end, goes_fault, goes_next, up_to_nothing, up_to_taken}
 use Rattle.psm_query.proofs.gathering.Gathering.of_rows.Goals as goal
 use Rattle.psm_query.proofs.gathering.Gathering.of_rows.Goals.{else-loop-at-test, then-loop-at-test+in_default}
 
 pub loop-at-init : goal.loop-at-init
 loop-at-init c =
-    let order : List (List Datum) = in_walk c.args.query.now.downward c.args.table.now.contents.rows in
+    let order : List (List Datum) = rows_of c.args.table.now.contents c.in_ok-walk.walk in
     record {
       here = c.first-next.ensures.here;
       fits = c.first-next.ensures.fits;
@@ -32,15 +35,18 @@ taken-requires c =
 
 pub returns-in_err-values : goal.returns-in_err-values
 returns-in_err-values c =
-    let order : List (List Datum) = in_walk c.args.query.now.downward c.args.table.now.contents.rows in
+    let order : List (List Datum) = rows_of c.args.table.now.contents c.in_ok-walk.walk in
     let here : slice_get order c.loop-at.at ≡ Some c.in-Some.row.now = sym c.loop-at.invariant.here ∙ ap option_copied c.in-Some.is in
     let p = err_from_is_err_and c.from_residual-in_err-values.result c.from_residual-in_err-values.ensures.1 in
-    rw (p.1, p.2) (goes_fault c.args.query.now.items (nothing c.args.query.now.items) (test_of (over c.args.vars.now) c.args.query.now.test) (values_for c.args.vars.now c.args.query.now.items) order
-    c.loop-at.at c.in-Some.row.now c.in_err-values.field-0.0 c.loop-at.gathering here c.in_err-values.ensures c.loop-at.invariant.so_far)
+    let same : c.in_ok-walk.walk ≡ walk_for c.args.table.now.contents c.args.query.now.downward c.args.vars.now c.args.query.now.test = c.in_ok-walk.ensures.walk ∙ ap (walk_for c.args.table.now.contents c.args.query.now.downward c.args.vars.now) c.as_ref.ensures.value in
+    let all = walked_by c.args.table.now.contents c.args.vars.now c.args.query.now.test (values_for c.args.vars.now c.args.query.now.items) c.in_ok-walk.ensures.table.ascend c.args.query.now.downward c.in_ok-walk.walk same in
+    let due = ap (mapped (with_rows c.args.query.now.items (nothing c.args.query.now.items))) (sym all) in
+    rw (p.1, p.2) (gives_by (_) (_) (Err c.in_err-values.field-0.0) due (goes_fault c.args.query.now.items (nothing c.args.query.now.items) (test_of (over c.args.vars.now) c.args.query.now.test) (values_for c.args.vars.now c.args.query.now.items) order
+    c.loop-at.at c.in-Some.row.now c.in_err-values.field-0.0 c.loop-at.gathering here c.in_err-values.ensures c.loop-at.invariant.so_far))
 
 pub loop-at-preserved : goal.loop-at-preserved
 loop-at-preserved c =
-    let order : List (List Datum) = in_walk c.args.query.now.downward c.args.table.now.contents.rows in
+    let order : List (List Datum) = rows_of c.args.table.now.contents c.in_ok-walk.walk in
     let here : slice_get order c.loop-at.at ≡ Some c.in-Some.row.now = sym c.loop-at.invariant.here ∙ ap option_copied c.in-Some.is in
     record {
       here = c.following-next.ensures.here c.loop-at.at here;
@@ -53,11 +59,14 @@ loop-at-preserved c =
 
 pub returns : goal.returns
 returns c =
-    let order : List (List Datum) = in_walk c.args.query.now.downward c.args.table.now.contents.rows in
-    let long : length order ≡ length c.args.table.now.contents.rows = length_walk c.args.query.now.downward c.args.table.now.contents.rows in
+    let order : List (List Datum) = rows_of c.args.table.now.contents c.in_ok-walk.walk in
+    let few : length order ≤ length c.args.table.now.contents.rows = rows_few c.args.table.now.contents c.in_ok-walk.walk in
     let none : slice_get order c.loop-at.at ≡ None = elim c.loop-at-test.branch [
-      | else-loop-at-test w ↦ let past : length order ≤ c.loop-at.at = omega (arith, long, w.loop-at-test.false, c.len-at-end.ensures.value) in slice_get_past order c.loop-at.at past
+      | else-loop-at-test w ↦ let past : length order ≤ c.loop-at.at = omega (arith, few, w.loop-at-test.false, c.len-at-end.ensures.value) in slice_get_past order c.loop-at.at past
       | then-loop-at-test+in_default w ↦ sym c.loop-at.invariant.here ∙ ap option_copied w.in_default.is
     ] in
-    goes_end c.args.query.now.items (nothing c.args.query.now.items) (test_of (over c.args.vars.now) c.args.query.now.test) (values_for c.args.vars.now c.args.query.now.items) order
+    let same : c.in_ok-walk.walk ≡ walk_for c.args.table.now.contents c.args.query.now.downward c.args.vars.now c.args.query.now.test = c.in_ok-walk.ensures.walk ∙ ap (walk_for c.args.table.now.contents c.args.query.now.downward c.args.vars.now) c.as_ref.ensures.value in
+    let all = walked_by c.args.table.now.contents c.args.vars.now c.args.query.now.test (values_for c.args.vars.now c.args.query.now.items) c.in_ok-walk.ensures.table.ascend c.args.query.now.downward c.in_ok-walk.walk same in
+    ap (mapped (with_rows c.args.query.now.items (nothing c.args.query.now.items))) (sym all)
+    ∙ goes_end c.args.query.now.items (nothing c.args.query.now.items) (test_of (over c.args.vars.now) c.args.query.now.test) (values_for c.args.vars.now c.args.query.now.items) order
     c.loop-at.at c.loop-at.gathering none c.loop-at.invariant.so_far

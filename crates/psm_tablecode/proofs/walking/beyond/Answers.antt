@@ -3,7 +3,7 @@ use Rattle.std.specs.Prelude.{reverse, slice_get}
 use Rattle.psm_value.specs.declared.datum.Datum.{Datum}
 use Rattle.psm_table.specs.Queries.{in_walk}
 use Rattle.psm_tablecode.proofs.Follows.{row_after-next, row_before-next}
-use Rattle.psm_tablecode.proofs.walking.following.Goals as goal
+use Rattle.psm_tablecode.proofs.walking.beyond.Goals as goal
 
 pub returns-then-downward-clause-here : goal.returns-then-downward-clause-here
 returns-then-downward-clause-here c = λ at e.

@@ -1,0 +1,131 @@
+-- A walk over the row of the key for which a test asks takes what a walk over all rows takes.
+use Rattle.std.proofs.Common.{◌≡◌, ℕ, suc, ◌+◌, ◌≤◌, Bool, true, false, List, [], ◌∷◌, length, refl, ap, sym, ◌∙◌, arith, Option, Some, None, Result, Ok}
+use Rattle.std.specs.Prelude.{cond, filter, find, reverse, slice_get, if◌then◌else◌}
+use Rattle.std.specs.List.{cons_option}
+use Rattle.std.specs.Ordering.{is_eq}
+use Rattle.std.specs.declared.cmp.Ordering.{Ordering}
+use Rattle.std.specs.declared.cmp.Ordering.TheVariants.{Less, Equal, Greater}
+use Rattle.std.proofs.lemmas.List.{length-reverse}
+use Rattle.psm_sqlstate.specs.declared.state.SqlState.{SqlState}
+use Rattle.psm_value.specs.declared.datum.Datum.{Datum}
+use Rattle.psm_value.specs.declared.truth.Truth.{Truth}
+use Rattle.psm_value.specs.declared.truth.Truth.TheVariants.{True, False, Unknown}
+use Rattle.psm_exprcode.specs.declared.op.Line.{Line}
+use Rattle.psm_table.specs.Evaluator.{and_then, mapped, test_of}
+use Rattle.psm_table.specs.Key.{key_order, row_order, values_at}
+use Rattle.psm_table.specs.Queries.{in_walk, is_met, taken, walked}
+use Rattle.psm_table.specs.Rows.{row_with, IsAscending}
+use Rattle.psm_table.specs.Table.{keyed, Contents}
+use Rattle.psm_table.proofs.Filters.{AllPairs-rest, filter-empty}
+use Rattle.psm_table.proofs.Undo.{after_equal}
+use Rattle.psm_tablecode.specs.Asked.{key_asked, rows_from, rows_of, walk_for}
+use Rattle.psm_tablecode.specs.Codes.{over}
+use Rattle.psm_tablecode.specs.declared.walking.Walk.{Walk}
+use Rattle.psm_tablecode.proofs.Follows.{filter-reverse}
+use Rattle.psm_tablecode.proofs.Results.{mapped-same}
+use Rattle.psm_tablecode.proofs.Sought.{asked_only, asked_quiet}
+
+-- ---- the rows of a key
+
+module _ (columns : List ℕ) (key : List Datum) where
+  abbrev Has : List Datum → Bool
+  Has row = is_eq (row_order columns key row)
+
+  abbrev Rises : List Datum → List Datum → Type 0
+  Rises a b = key_order (values_at columns a) (values_at columns b) ≡ Less
+
+  has_first : (row : List Datum) (rows : List (List Datum)) (o : Ordering) → IsAscending columns (row ∷ rows) → row_order columns key row ≡ o
+      → filter Has rows ≡ cons_option (row_with columns key rows) []
+      → cond (is_eq o) (row ∷ filter Has rows) (filter Has rows) ≡ cons_option (cond (is_eq o) (Some row) (row_with columns key rows)) []
+  has_first row rows Less up e h = h
+  has_first row rows Equal up e h = let g = after_equal columns key row rows up e in ap (λ l. row ∷ l) (filter-empty Has rows (λ k d l. ap is_eq (g k d l)))
+  has_first row rows Greater up e h = h
+
+  has-one : (rows : List (List Datum)) → IsAscending columns rows → filter Has rows ≡ cons_option (row_with columns key rows) []
+  has-one [] up = refl
+  has-one (row ∷ rows) up = has_first row rows (row_order columns key row) up refl (has-one rows (AllPairs-rest Rises row rows up))
+
+  reverse-one : (o : Option (List Datum)) → reverse (cons_option o []) ≡ cons_option o []
+  reverse-one None = refl
+  reverse-one (Some row) = refl
+
+  has-walk : (downward : Bool) (rows : List (List Datum)) → IsAscending columns rows → filter Has (in_walk downward rows) ≡ cons_option (row_with columns key rows) []
+  has-walk true rows up = sym (filter-reverse Has rows) ∙ ap (λ (l : List (List Datum)). reverse l) (has-one rows up) ∙ reverse-one (row_with columns key rows)
+  has-walk false rows up = has-one rows up
+
+  -- ---- a test that raises nothing, and that rows of the key alone meet
+
+  module _ {A : Type 0} (test : List Datum → Result Truth SqlState) (take : List Datum → Result A SqlState)
+      (quiet : (row : List Datum) → (t : Truth) × (test row ≡ Ok t)) (only : (row : List Datum) → test row ≡ Ok True → row_order columns key row ≡ Equal) where
+    passed_over : (row : List Datum) (t : Truth) → test row ≡ Ok t → Has row ≡ false → taken test take row ≡ Ok None
+    passed_over row True e n = let has : Has row ≡ true = ap is_eq (only row e) in cc
+    passed_over row False e n = ap (λ (r : Result Truth SqlState). and_then r (λ met. if is_met met then mapped (λ a. Some a) (take row) else Ok None)) e
+    passed_over row Unknown e n = ap (λ (r : Result Truth SqlState). and_then r (λ met. if is_met met then mapped (λ a. Some a) (take row) else Ok None)) e
+
+    walked_first : (row : List Datum) (rows : List (List Datum)) (b : Bool) → Has row ≡ b → walked test take rows ≡ walked test take (filter Has rows)
+        → walked test take (row ∷ rows) ≡ walked test take (cond b (row ∷ filter Has rows) (filter Has rows))
+    walked_first row rows true e h = ap (λ w. and_then (taken test take row) (λ a. mapped (λ more. cons_option a more) w)) h
+    walked_first row rows false e h =
+        ap (λ (t : Result (Option A) SqlState). and_then t (λ a. mapped (λ more. cons_option a more) (walked test take rows))) (passed_over row (quiet row).0 (quiet row).1 e)
+        ∙ mapped-same (walked test take rows) ∙ h
+
+    walked-has : (rows : List (List Datum)) → walked test take rows ≡ walked test take (filter Has rows)
+    walked-has [] = refl
+    walked-has (row ∷ rows) = walked_first row rows (Has row) refl (walked-has rows)
+
+    pub walked-key : (downward : Bool) (rows : List (List Datum)) → IsAscending columns rows → walked test take (cons_option (row_with columns key rows) []) ≡ walked test take (in_walk downward rows)
+    walked-key downward rows up = sym (walked-has (in_walk downward rows) ∙ ap (walked test take) (has-walk downward rows up))
+
+-- ---- walks
+
+module _ {A : Type 0} (t : Contents) (vars : List Datum) (test : Option (List Line)) (take : List Datum → Result A SqlState) (up : IsAscending t.def.key t.rows) where
+  for_key : (downward : Bool) (lines : List Line) (o : Option (List Datum)) → key_asked t.def.key vars (Some lines) ≡ o
+      → walked (test_of (over vars) (Some lines)) take (rows_from t downward o) ≡ walked (test_of (over vars) (Some lines)) take (in_walk downward t.rows)
+  for_key downward lines None e = refl
+  for_key downward lines (Some key) e =
+      walked-key t.def.key key (test_of (over vars) (Some lines)) take (λ row. asked_quiet row vars t.def.key lines key e) (λ row. asked_only row vars t.def.key lines key e) downward t.rows up
+
+  for_test : (downward : Bool) (o : Option (List Line)) → walked (test_of (over vars) o) take (rows_of t (walk_for t downward vars o)) ≡ walked (test_of (over vars) o) take (in_walk downward t.rows)
+  for_test downward None = refl
+  for_test downward (Some lines) = for_key downward lines (key_asked t.def.key vars (Some lines)) refl
+
+  pub walked_for : (downward : Bool) → walked (test_of (over vars) test) take (rows_of t (walk_for t downward vars test)) ≡ walked (test_of (over vars) test) take (in_walk downward t.rows)
+  walked_for downward = for_test downward test
+
+  pub walked_by : (downward : Bool) (walk : Walk) → walk ≡ walk_for t downward vars test → walked (test_of (over vars) test) take (rows_of t walk) ≡ walked (test_of (over vars) test) take (in_walk downward t.rows)
+  walked_by downward walk e = ap (λ (w : Walk). walked (test_of (over vars) test) take (rows_of t w)) e ∙ walked_for downward
+
+-- no walk has more rows than the table
+found_few : (p : List Datum → Bool) (row : List Datum) (rows : List (List Datum)) (b : Bool) → length (cons_option (find p rows) []) ≤ length rows → length (cons_option (cond b (Some row) (find p rows)) []) ≤ length (row ∷ rows)
+found_few p row rows true h = omega arith
+found_few p row rows false h = omega (arith, h)
+
+find_few : (p : List Datum → Bool) (rows : List (List Datum)) → length (cons_option (find p rows) []) ≤ length rows
+find_few p [] = omega arith
+find_few p (row ∷ rows) = found_few p row rows (p row) (find_few p rows)
+
+from_few : (t : Contents) (downward : Bool) (o : Option (List Datum)) → length (rows_from t downward o) ≤ length t.rows
+from_few t true None = omega (arith, length-reverse t.rows)
+from_few t false None = omega arith
+from_few t downward (Some key) = find_few (λ row. is_eq (row_order t.def.key key row)) t.rows
+
+pub rows_few : (t : Contents) (walk : Walk) → length (rows_of t walk) ≤ length t.rows
+rows_few t walk = from_few t walk.downward walk.key
+
+-- ---- the row of a key
+
+first_one : (o : Option (List Datum)) → slice_get (cons_option o []) 0 ≡ o
+first_one None = refl
+first_one (Some row) = refl
+
+none_behind : (o : Option (List Datum)) (at : ℕ) (row : List Datum) → slice_get (cons_option o []) at ≡ Some row → slice_get (cons_option o []) (at + 1) ≡ None
+none_behind None at row e = refl
+none_behind (Some r) at row e = let n : at + 1 ≡ suc at = omega arith in ap (slice_get (r ∷ [])) n
+
+pub key_first : (t : Contents) (walk : Walk) (key : List Datum) → walk.key ≡ Some key → slice_get (rows_of t walk) 0 ≡ keyed t key
+key_first t walk key e = ap (λ (o : Option (List Datum)). slice_get (rows_from t walk.downward o) 0) e ∙ first_one (keyed t key)
+
+pub key_last : (t : Contents) (walk : Walk) (key row : List Datum) (at : ℕ) → walk.key ≡ Some key → slice_get (rows_of t walk) at ≡ Some row → slice_get (rows_of t walk) (at + 1) ≡ None
+key_last t walk key row at e h =
+    ap (λ (o : Option (List Datum)). slice_get (rows_from t walk.downward o) (at + 1)) e
+    ∙ none_behind (keyed t key) at row (sym (ap (λ (o : Option (List Datum)). slice_get (rows_from t walk.downward o) at) e) ∙ h)

@@ -1,0 +1,24 @@
+//! What access by key rests on.
+ghost use Rattle.std.specs.Prelude.{◌≡◌, ℕ, true, Bool, List, Option, Result, Ok, Some};
+ghost use Rattle.std.specs.declared.cmp.Ordering.TheVariants.{Equal};
+ghost use Rattle.psm_sqlstate.specs.declared.state.SqlState.{SqlState};
+ghost use Rattle.psm_value.specs.declared.datum.Datum.{Datum};
+ghost use Rattle.psm_value.specs.declared.truth.Truth.{Truth};
+ghost use Rattle.psm_value.specs.declared.truth.Truth.TheVariants.{True};
+ghost use Rattle.psm_exprcode.specs.declared.op.Line.{Line};
+ghost use Rattle.psm_table.specs.Evaluator.{test_of};
+ghost use Rattle.psm_table.specs.Key.{row_order};
+ghost use Rattle.psm_table.specs.Queries.{in_walk, walked};
+ghost use Rattle.psm_table.specs.Table.{Contents, IsTable};
+ghost use Rattle.psm_tablecode.specs.Asked.{key_asked, rows_of, walk_for};
+ghost use Rattle.psm_tablecode.specs.Codes.{over};
+
+/// What access by key rests on (ISO/IEC 9075:1992, 7.6 and 8.2). A test that asks for a key raises no condition on any row,
+/// and is true on rows with that key alone: numbers are equal by value and texts with the shorter padded, and nothing is
+/// equal to null. So on a table, whose keys ascend, a statement takes of the row with the key what it takes of all rows. What
+/// it takes of a row is named by a number here, whatever it is.
+pub fn access_by_key()
+    ensures quiet { (columns : List ℕ) (test : List Line) (vars row key : List Datum) → key_asked columns vars (Some test) ≡ Some key → (t : Truth) × (test_of (over vars) (Some test) row ≡ Ok t) }
+    ensures only { (columns : List ℕ) (test : List Line) (vars row key : List Datum) → key_asked columns vars (Some test) ≡ Some key → test_of (over vars) (Some test) row ≡ Ok True → row_order columns key row ≡ Equal }
+    ensures walk { (t : Contents) (downward : Bool) (test : Option (List Line)) (vars : List Datum) (take : List Datum → Result ℕ SqlState) → IsTable t → walked (test_of (over vars) test) take (rows_of t (walk_for t downward vars test)) ≡ walked (test_of (over vars) test) take (in_walk downward t.rows) }
+{}
