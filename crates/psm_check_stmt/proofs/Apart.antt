@@ -1,16 +1,19 @@
 -- Routines that can't be told apart, as they are kept.
-use Rattle.std.proofs.Common.{◌≡◌, Bool, true, false, ◌&&◌, ◌||◌, not, nat_eq, map, List, [], ◌∷◌, ◌++◌, refl, sym, ap, ◌∙◌}
+use Rattle.std.proofs.Common.{◌≡◌, Bool, true, false, ◌&&◌, ◌||◌, not, List, [], ◌∷◌, ◌++◌, refl, sym, ap, ◌∙◌}
 use Rattle.std.specs.Prelude.{if◌then◌else◌}
 use Rattle.std.specs.List.{list_any}
 use Rattle.std.specs.Cmp.Lexicographic.{pointwise, same_text}
+use Rattle.std.specs.Cow.{cow_slice_items}
 use Rattle.std.proofs.lemmas.List.Folds.{list_any-append}
 use Rattle.indexmap.specs.IndexSet.{insert_key}
 use Rattle.psm_scope.specs.Frames.{is_spelled}
-use Rattle.psm_scope.specs.declared.kinds.ArgKind.{ArgKind}
+use Rattle.psm_scope.specs.Keys.{same_function}
+use Rattle.psm_scope.specs.KindNumbers.{is_kind}
+use Rattle.psm_scope.specs.declared.key.CallKey.{CallKey}
+use Rattle.psm_scope.specs.declared.key.FunctionKey.{FunctionKey}
+use Rattle.psm_scope.proofs.Exactly.{are_kinds-Decides}
 use Rattle.psm_tree.specs.declared.file.Routine.{Routine}
-use Rattle.psm_rules.specs.FileFaults.{is_function, kind_number, kinds_of, repeats_function, repeats_procedure, same_functions, same_kinds, same_procedures}
-use Rattle.psm_check_stmt.specs.declared.told.FunctionKey.{FunctionKey}
-use Rattle.psm_check_stmt.specs.declared.told.ProcedureKey.{ProcedureKey}
+use Rattle.psm_rules.specs.FileFaults.{is_function, kinds_of, repeats_function, repeats_procedure, same_functions, same_procedures}
 use Rattle.psm_check_stmt.specs.Told.{AreTold, is_function_key}
 
 -- ---- choices
@@ -55,36 +58,26 @@ module _ {K : Type 0} (eq : K → K → Bool) (p : K → Bool) (k : K) (same : (
 
 -- ---- the keys of functions
 
-abbrev pub same_function_key : FunctionKey → FunctionKey → Bool
-same_function_key a b = is_spelled a.name.name.now b.name.name.now && pointwise nat_eq a.kinds.items b.kinds.items
-
-same_numbers : (ks ls : List ArgKind) → pointwise nat_eq (map kind_number ks) (map kind_number ls) ≡ same_kinds ks ls
-same_numbers [] [] = refl
-same_numbers [] (l ∷ ls) = refl
-same_numbers (k ∷ ks) [] = refl
-same_numbers (k ∷ ks) (l ∷ ls) = ap (λ b. nat_eq (kind_number k) (kind_number l) && b) (same_numbers ks ls)
-
-module _ (r : Routine) (k : FunctionKey) (name : k.name.name.now ≡ r.name.name) (kinds : k.kinds.items ≡ map kind_number (kinds_of r)) where
-  -- what its key tells of it
+-- what the key of a function tells of it
+module _ (r : Routine) (k : FunctionKey) (name : k.name.name.now ≡ r.name.name) (kinds : cow_slice_items k.kinds ≡ kinds_of r) where
   function_key_is : (q : Routine) → is_function_key q k ≡ same_functions q r
   function_key_is q =
-      ap (λ n. is_spelled q.name.name n && pointwise nat_eq (map kind_number (kinds_of q)) k.kinds.items) name
-      ∙ ap (λ l. is_spelled q.name.name r.name.name && pointwise nat_eq (map kind_number (kinds_of q)) l) kinds
-      ∙ ap (λ b. is_spelled q.name.name r.name.name && b) (same_numbers (kinds_of q) (kinds_of r))
+      ap (λ n. is_spelled q.name.name n && pointwise is_kind (kinds_of q) (cow_slice_items k.kinds)) name
+      ∙ ap (λ l. is_spelled q.name.name r.name.name && pointwise is_kind (kinds_of q) l) kinds
 
-function_keys_same : (q : Routine) (k a : FunctionKey) → same_function_key k a ≡ true → is_function_key q k ≡ is_function_key q a
+function_keys_same : (q : Routine) (k a : FunctionKey) → same_function k a ≡ true → is_function_key q k ≡ is_function_key q a
 function_keys_same q k a e =
-    let t = both (is_spelled k.name.name.now a.name.name.now) (pointwise nat_eq k.kinds.items a.kinds.items) e in
-    ap (λ n. is_spelled q.name.name n && pointwise nat_eq (map kind_number (kinds_of q)) k.kinds.items) (same_text k.name.name.now a.name.name.now (sym t.0))
-    ∙ ap (λ l. is_spelled q.name.name a.name.name.now && pointwise nat_eq (map kind_number (kinds_of q)) l) (same_text k.kinds.items a.kinds.items (sym t.1))
+    let t = both (is_spelled k.name.name.now a.name.name.now) (pointwise is_kind (cow_slice_items k.kinds) (cow_slice_items a.kinds)) e in
+    ap (λ n. is_spelled q.name.name n && pointwise is_kind (kinds_of q) (cow_slice_items k.kinds)) (same_text k.name.name.now a.name.name.now (sym t.0))
+    ∙ ap (λ l. is_spelled q.name.name a.name.name.now && pointwise is_kind (kinds_of q) l) ((are_kinds-Decides (cow_slice_items k.kinds) (cow_slice_items a.kinds)).0 t.1)
 
-module _ (functions : List FunctionKey) (procedures : List ProcedureKey) (before : List Routine) (told : AreTold functions procedures before)
-    (r : Routine) (is : is_function r ≡ true) (k : FunctionKey) (name : k.name.name.now ≡ r.name.name) (kinds : k.kinds.items ≡ map kind_number (kinds_of r)) where
-  pub function_added : (new : List FunctionKey) → new ≡ insert_key same_function_key functions k → AreTold new procedures (r ∷ before)
+module _ (functions : List FunctionKey) (procedures : List CallKey) (before : List Routine) (told : AreTold functions procedures before)
+    (r : Routine) (is : is_function r ≡ true) (k : FunctionKey) (name : k.name.name.now ≡ r.name.name) (kinds : cow_slice_items k.kinds ≡ kinds_of r) where
+  pub function_added : (new : List FunctionKey) → new ≡ insert_key same_function functions k → AreTold new procedures (r ∷ before)
   function_added new e = record {
     of_functions = λ q.
         ap (list_any (is_function_key q)) e
-        ∙ inserted same_function_key (is_function_key q) k (function_keys_same q k) functions
+        ∙ inserted same_function (is_function_key q) k (function_keys_same q k) functions
         ∙ ap (λ b. b || list_any (is_function_key q) functions) (function_key_is r k name kinds q)
         ∙ ap (λ b. same_functions q r || b) (told.of_functions q)
         ∙ sym (ap (λ b. (b && same_functions q r) || repeats_function before q) is);

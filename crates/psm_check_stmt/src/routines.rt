@@ -24,8 +24,8 @@ use std::alloc::{AllocError, Global};
 
 // ---- what routines declare
 
-/// The kind of a type, also of one that is out of range.
-pub(crate) fn kind_of(form: &TypeForm) -> ArgKind
+// The kind of a type, also of one that is out of range.
+fn kind_of(form: &TypeForm) -> ArgKind
     ensures { result ≡ kind_of form.now }
 {
     match form {
@@ -37,14 +37,15 @@ pub(crate) fn kind_of(form: &TypeForm) -> ArgKind
     }
 }
 
-fn kinds_of(alloc: Global, parameters: &[Parameter]) -> Result<List<ArgKind>, AllocError>
-    ensures { IfOk result (λ kinds. kinds ≡ map (λ p. kind_of p.kind.form) parameters.now) }
+/// The kinds of the parameters.
+pub(crate) fn kinds_of(alloc: Global, parameters: &[Parameter]) -> Result<Vec<ArgKind>, AllocError>
+    ensures { IfOk result (λ kinds. kinds.items ≡ map (λ p. kind_of p.kind.form) parameters.now) }
 {
     let mut kinds = Vec::new(alloc);
     for parameter in parameters {
         kinds.push(kind_of(&parameter.kind.form))?;
     }
-    Ok(List::of(kinds))
+    Ok(kinds)
 }
 
 fn mode_of(mode: Mode) -> ParameterMode
@@ -126,7 +127,7 @@ fn declare_function<'a>(
     let kinds = kinds_of(alloc, routine.parameters.items())?;
     world
         .functions
-        .push(&routine.name.name, kinds, type_of(returned))?;
+        .push(&routine.name.name, List::of(kinds), type_of(returned))?;
     Ok(())
 }
 

@@ -1,74 +1,24 @@
 //! Routines that can't be told apart.
-ghost use Rattle.std.specs.Prelude.{◌≡◌, ◌∷◌, [], true, false, map, IfOk};
-ghost use Rattle.std.proofs.Common.{rules};
-ghost use Rattle.std.specs.Cmp.Rules.{comparing, hashing};
-ghost use Rattle.std.specs.Hash as fed;
-ghost use Rattle.std.specs.Prelude.{encode_utf8_all};
-ghost use Rattle.psm_scope.specs.Frames.{is_spelled};
-ghost use Rattle.psm_rules.specs.FileFaults.{is_function, kind_number, kind_of, told_apart};
+ghost use Rattle.std.specs.Prelude.{◌≡◌, ◌∷◌, [], true, false, IfOk};
+ghost use Rattle.psm_rules.specs.FileFaults.{is_function, told_apart};
 ghost use Rattle.psm_check_stmt.specs.Told.{IsFunctionKey};
 
 use crate::routine_log::RoutineLog;
-use crate::routines::kind_of;
+use crate::routines::kinds_of;
 use indexmap::IndexSet;
-use psm_check_expr::{breaks_if, same_name};
+use psm_check_expr::breaks_if;
 use psm_rules::{Fault, Rule};
-use psm_scope::ArgKind;
-use psm_text::Name;
-use psm_tree::{Parameter, Routine};
+use psm_scope::{CallKey, FunctionKey, NameKey};
+use psm_tree::Routine;
 use std::alloc::{AllocError, Global};
-use std::hash::{Hash, Hasher};
+use std::borrow::CowSlice;
 use std::marker::Model;
-
-/// A lent name as a key.
-#[derive(Clone, Copy)]
-pub(crate) struct NameKey<'a> {
-    name: &'a Name,
-}
-
-impl<'a> PartialEq for NameKey<'a> {
-    ghost eq = { λ a b. is_spelled a.name.now b.name.now };
-
-    ghost laws = { Prim.search (comparing, rules) };
-
-    fn eq(&self, other: &NameKey<'a>) -> bool {
-        same_name(self.name, other.name)
-    }
-}
-
-impl<'a> Eq for NameKey<'a> {
-    ghost laws = { Prim.search (comparing, rules) };
-}
-
-impl<'a> Hash for NameKey<'a> {
-    ghost hash_input = { λ a. fed.str (encode_utf8_all a.name.now) };
-
-    ghost respects_eq = { Prim.search (hashing, rules) };
-
-    fn hash<H: Hasher>(&self, state: &mut H) {
-        self.name.as_str().hash(state);
-    }
-}
-
-/// What tells a function from others: its name and the kinds of its parameters, by their numbers.
-#[derive(PartialEq, Eq, Hash, Drop)]
-pub(crate) struct FunctionKey<'a> {
-    name: NameKey<'a>,
-    kinds: Vec<u8>,
-}
-
-/// What tells a procedure from others: its name and how many parameters it has.
-#[derive(Clone, Copy, PartialEq, Eq, Hash)]
-pub(crate) struct ProcedureKey<'a> {
-    name: NameKey<'a>,
-    count: usize,
-}
 
 /// The routines so far, the last first.
 #[derive(Drop)]
 pub(crate) struct Told<'a> {
     functions: IndexSet<FunctionKey<'a>>,
-    procedures: IndexSet<ProcedureKey<'a>>,
+    procedures: IndexSet<CallKey<'a>>,
     log: RoutineLog,
 }
 
@@ -133,7 +83,7 @@ impl<'a> Told<'a> {
         ensures fault { IfOk result (λ f. f ≡ told_apart r.now self.old) }
         ensures before { IfOk result (λ _. self.new ≡ r.now ∷ self.old) }
     {
-        let key = ProcedureKey {
+        let key = CallKey {
             name: NameKey { name: &r.name.name },
             count: r.parameters.items().len(),
         };
@@ -143,34 +93,12 @@ impl<'a> Told<'a> {
     }
 }
 
+// What tells a function from others: its name and the kinds of its parameters.
 fn function_key<'a>(alloc: Global, r: &'a Routine) -> Result<FunctionKey<'a>, AllocError>
     ensures { IfOk result (λ key. IsFunctionKey r.now key) }
 {
     Ok(FunctionKey {
         name: NameKey { name: &r.name.name },
-        kinds: kind_numbers(alloc, r.parameters.items())?,
+        kinds: CowSlice::Owned(kinds_of(alloc, r.parameters.items())?),
     })
-}
-
-fn kind_numbers(alloc: Global, parameters: &[Parameter]) -> Result<Vec<u8>, AllocError>
-    ensures { IfOk result (λ numbers. numbers.items ≡ map kind_number (map (λ p. kind_of p.kind.form) parameters.now)) }
-{
-    let mut numbers = Vec::new(alloc);
-    for parameter in parameters {
-        numbers.push(kind_number(kind_of(&parameter.kind.form)))?;
-    }
-    Ok(numbers)
-}
-
-fn kind_number(kind: ArgKind) -> u8
-    ensures { result ≡ kind_number kind }
-{
-    match kind {
-        ArgKind::SmallInt => 0,
-        ArgKind::Integer => 1,
-        ArgKind::Numeric => 2,
-        ArgKind::Char => 3,
-        ArgKind::VarChar => 4,
-        ArgKind::Null => 5,
-    }
 }
