@@ -1,6 +1,7 @@
 -- The first fault of a module file (ISO/IEC 9075:1992, 11.3, and ISO/IEC 9075-4:1996, module definitions).
 use Rattle.std.specs.Prelude.{ℕ, nat_eq, Bool, true, false, not, ◌&&◌, ◌||◌, Option, Some, None, is_some, Result, Ok, Err, List, [], ◌∷◌, ◌++◌, map, length, slice_get, if◌then◌else◌}
 use Rattle.std.specs.List.{list_any}
+use Rattle.std.specs.Cmp.Lexicographic.{pointwise}
 use Rattle.psm_num.specs.Num.{Num}
 use Rattle.psm_num.specs.Arithmetic.{negated}
 use Rattle.psm_value.specs.Stored.{stored}
@@ -9,6 +10,7 @@ use Rattle.psm_value.specs.declared.datum.Datum.TheVariants as datum
 use Rattle.psm_value.specs.declared.sqltype.SqlType.{SqlType}
 use Rattle.psm_scope.specs.Frames.{Spelling, is_spelled, undeclared}
 use Rattle.psm_scope.specs.Frames as frame
+use Rattle.psm_scope.specs.KindNumbers.{is_kind}
 use Rattle.psm_scope.specs.declared.kinds.ArgKind.{ArgKind}
 use Rattle.psm_scope.specs.declared.kinds.ArgKind.TheVariants as kind
 use Rattle.psm_tree.specs.declared.name.Identifier.{Identifier}
@@ -243,28 +245,13 @@ with_routines world (r ∷ rs) = with_routines (with_routine world r r.returns) 
 
 -- ---- routines that can't be told apart
 
--- the number of a kind
-abbrev pub kind_number : ArgKind → ℕ
-kind_number kind.SmallInt = 0
-kind_number kind.Integer = 1
-kind_number kind.Numeric = 2
-kind_number kind.Char = 3
-kind_number kind.VarChar = 4
-kind_number kind.Null = 5
-
-abbrev pub same_kinds : List ArgKind → List ArgKind → Bool
-same_kinds [] [] = true
-same_kinds [] (b ∷ bs) = false
-same_kinds (a ∷ others) [] = false
-same_kinds (a ∷ others) (b ∷ bs) = nat_eq (kind_number a) (kind_number b) && same_kinds others bs
-
 -- procedures of one name have different numbers of parameters
 abbrev pub same_procedures : Routine → Routine → Bool
 same_procedures a b = is_spelled a.name.name b.name.name && nat_eq (length a.parameters) (length b.parameters)
 
 -- functions of one name have different kinds of parameters
 abbrev pub same_functions : Routine → Routine → Bool
-same_functions a b = is_spelled a.name.name b.name.name && same_kinds (kinds_of a) (kinds_of b)
+same_functions a b = is_spelled a.name.name b.name.name && pointwise is_kind (kinds_of a) (kinds_of b)
 
 abbrev pub repeats_function : List Routine → Routine → Bool
 repeats_function before r = list_any (λ b. is_function b && same_functions r b) before
@@ -305,16 +292,16 @@ returning_branch b = some (several b.statements)
 abbrev pub returning_handler : Handler-F Bool Bool Bool Bool → Bool
 returning_handler h = h.action
 
-abbrev pub has_return : Statement → Bool
+unfoldable pub has_return : Statement → Bool
 has_return = fold-Statement Bool Bool Bool Bool returning_block returning_statement returning_branch returning_handler
 
-abbrev pub block_returns : Block → Bool
+unfoldable pub block_returns : Block → Bool
 block_returns = fold-Block Bool Bool Bool Bool returning_block returning_statement returning_branch returning_handler
 
-abbrev pub branch_returns : Branch → Bool
+unfoldable pub branch_returns : Branch → Bool
 branch_returns = fold-Branch Bool Bool Bool Bool returning_block returning_statement returning_branch returning_handler
 
-abbrev pub handler_returns : Handler → Bool
+unfoldable pub handler_returns : Handler → Bool
 handler_returns = fold-Handler Bool Bool Bool Bool returning_block returning_statement returning_branch returning_handler
 
 -- ---- notes: an alternative stands at most once, DETERMINISTIC and NOT DETERMINISTIC being one
