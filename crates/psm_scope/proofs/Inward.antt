@@ -7,7 +7,8 @@ use Rattle.std.proofs.Math.Seq.{set-append_seam}
 use Rattle.std.proofs.lemmas.Option.{slice_get_read}
 use Rattle.psm_scope.specs.Frames.{Spelling, Frame, Routine, Compound, Loop, For, Action, declared_in, is_spelled}
 use Rattle.psm_scope.specs.Lookup.{condition, cursor, is_called, labels, named, or_else, sees_past, variable, variables_called}
-use Rattle.psm_scope.specs.Scopes.{Declares, Part, can_declare_here, is_action, labelled}
+use Rattle.std.specs.Option.{option_map}
+use Rattle.psm_scope.specs.Scopes.{Declares, Part, can_declare_here, is_action, labelled, level}
 use Rattle.psm_scope.proofs.Calls.{dropped}
 
 -- the frame at a depth
@@ -149,3 +150,24 @@ module _ {V C K : Type 0} (fs : List (Frame V C K)) (k : ℕ) (f : Frame V C K) 
       ap (λ o. or_else o (named l (labels (drop (k + 1) fs)))) h
       ∙ ap (λ b. if b then None else or_else (labelled l f) (named l (labels (drop (k + 1) fs)))) g
       ∙ sym here
+
+-- ---- levels
+
+module _ {V C K : Type 0} (fs : List (Frame V C K)) (k : ℕ) (f : Frame V C K) (e : slice_get fs k ≡ Some f) (l : Spelling) where
+  level_here : level l (drop k fs) ≡ (if is_action f then None else or_else (option_map (λ loops. length (drop (k + 1) fs)) (labelled l f)) (level l (drop (k + 1) fs)))
+  level_here = ap (level l) (sym (next fs k f e))
+
+  pub level_hidden : true ≡ is_action f → None ≡ level l (drop k fs)
+  level_hidden g = ap (λ b. if b then None else or_else (option_map (λ loops. length (drop (k + 1) fs)) (labelled l f)) (level l (drop (k + 1) fs))) g ∙ sym level_here
+
+  pub level_found : (loops : Bool) → false ≡ is_action f → Some loops ≡ labelled l f → Some (length (drop (k + 1) fs)) ≡ level l (drop k fs)
+  level_found loops g h =
+      ap (λ o. or_else (option_map (λ loops. length (drop (k + 1) fs)) o) (level l (drop (k + 1) fs))) h
+      ∙ ap (λ b. if b then None else or_else (option_map (λ loops. length (drop (k + 1) fs)) (labelled l f)) (level l (drop (k + 1) fs))) g
+      ∙ sym level_here
+
+  pub level_outer : false ≡ is_action f → None ≡ labelled l f → level l (drop (k + 1) fs) ≡ level l (drop k fs)
+  level_outer g h =
+      ap (λ o. or_else (option_map (λ loops. length (drop (k + 1) fs)) o) (level l (drop (k + 1) fs))) h
+      ∙ ap (λ b. if b then None else or_else (option_map (λ loops. length (drop (k + 1) fs)) (labelled l f)) (level l (drop (k + 1) fs))) g
+      ∙ sym level_here

@@ -1,11 +1,11 @@
 -- The frames around a statement as they are kept.
-use Rattle.std.specs.Prelude.{◌≡◌, Bool, true, false, List, [], ◌∷◌, ◌++◌, Option, Some, None, IsSome, Result, Ok, Err, if◌then◌else◌}
-use Rattle.std.specs.Option.{option_copied}
+use Rattle.std.specs.Prelude.{◌≡◌, ℕ, length, Bool, true, false, List, [], ◌∷◌, ◌++◌, Option, Some, None, IsSome, Result, Ok, Err, if◌then◌else◌}
+use Rattle.std.specs.Option.{option_copied, option_map}
 use Rattle.std.specs.declared.alloc.AllocError.{AllocError}
 use Rattle.psm_scope.specs.declared.frame.FrameKind.{FrameKind}
 use Rattle.psm_scope.specs.declared.frame.FrameKind.TheVariants as kind
 use Rattle.psm_scope.specs.Frames.{Spelling, Declared, Frame, Routine, Compound, Loop, For, Action, declared_in, undeclared}
-use Rattle.psm_scope.specs.Lookup.{is_label, named}
+use Rattle.psm_scope.specs.Lookup.{is_label, named, or_else}
 
 abbrev pub frame_of : {V C K : Type 0} → FrameKind → Declared V C K → Frame V C K
 frame_of (kind.Routine name) d = Routine name.now d
@@ -48,6 +48,11 @@ labelled l (Compound label d) = if is_label l label then Some false else None
 labelled l (Loop label) = if is_label l label then Some true else None
 labelled l (For label name d) = if is_label l label then Some true else None
 labelled l Action = None
+
+-- how many frames are around the one with that label, where it is seen; an action sees none from outside
+abbrev pub level : {V C K : Type 0} → Spelling → List (Frame V C K) → Option ℕ
+level l [] = None
+level l (f ∷ outer) = if is_action f then None else or_else (option_map (λ loops. length outer) (labelled l f)) (level l outer)
 
 -- ---- the innermost frame
 

@@ -3,7 +3,7 @@ ghost use Rattle.std.specs.Prelude.{◌≡◌, ◌<◌, [], ◌∷◌, Some, dro
 ghost use Rattle.std.specs.Option.{option_copied};
 ghost use Rattle.psm_scope.specs.Frames.{undeclared};
 ghost use Rattle.psm_scope.specs.Lookup.{condition, cursor, labels, meant, named, qualified, variable};
-ghost use Rattle.psm_scope.specs.Scopes.{Declares, can_declare_here, frame_of, the_conditions, the_cursors, the_variables};
+ghost use Rattle.psm_scope.specs.Scopes.{Declares, can_declare_here, frame_of, level, the_conditions, the_cursors, the_variables};
 
 use crate::frame::{Frame, FrameKind};
 use crate::known::{DeclaredCondition, Variable};
@@ -150,6 +150,29 @@ impl<'a, K: Drop> Frames<'a, K> {
             }
             if let Some(loops) = frame.labelled(label) {
                 return Some(loops);
+            }
+        }
+        None
+    }
+
+    /// How many frames there are.
+    pub fn len(&self) -> usize
+        ensures { result ≡ length self.now }
+    {
+        self.frames.len()
+    }
+
+    /// How many frames are around the one with a label, where it is seen. An action sees no label from outside.
+    pub fn level(&self, label: &Name) -> Option<usize>
+        ensures { result ≡ level label.now self.now }
+    {
+        for depth in 0..self.frames.len() {
+            let frame = self.at(depth);
+            if frame.is_action() {
+                return None;
+            }
+            if let Some(_loops) = frame.labelled(label) {
+                return Some(self.frames.len() - 1 - depth);
             }
         }
         None

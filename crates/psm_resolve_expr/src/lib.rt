@@ -1,0 +1,11 @@
+//! Expressions and queries with their names put away: each name is the column, the variable, the table or the function that it
+//! means where it stands.
+#![tactic(auto)]
+
+mod exprs;
+mod made;
+mod sight;
+
+pub use exprs::{made_of, query_made};
+pub use made::{Made, MadeQuery};
+pub use sight::{Frames, Sight, on_row};

@@ -1,0 +1,12 @@
+use Rattle.std.proofs.Common.{◌∙◌}
+use Rattle.psm_scope.proofs.Inward.{level_found, level_hidden, level_outer}
+use Rattle.psm_scope.proofs.frames.Frames.level.Goals as goal
+
+pub returns-then-is_action : goal.returns-then-is_action
+returns-then-is_action g c =
+    level_hidden c.args.self.now c.loop-depth.depth c.at-frame.result.now c.at-frame.ensures c.args.label.now c.if-is_action.ensures ∙ c.loop-depth.invariant
+
+pub loop-depth-preserved : goal.loop-depth-preserved
+loop-depth-preserved g c =
+    level_outer c.args.self.now c.loop-depth.depth c.at-frame.result.now c.at-frame.ensures c.args.label.now c.if-is_action.ensures c.in_default.ensures
+    ∙ c.loop-depth.invariant
