@@ -7,7 +7,7 @@ ghost use Rattle.psm_build.specs.Building.{Accepts, Builds, BuildsScript, Builds
 use crate::fault::{BuildFault, refused_rule};
 use crate::read::{module_tree, script_tree};
 use psm_built::{Script, Signature, built_module, built_script};
-use psm_check::file_fault;
+use psm_check_stmt::file_fault;
 use psm_straight::{Code, lower};
 use psm_tree::FileTree;
 use std::alloc::Global;

@@ -1,18 +1,15 @@
 -- The first fault of a block with its declarations, and of statements in it (ISO/IEC 9075-4:1996, compound statements).
-use Rattle.std.specs.Prelude.{ℕ, suc, nat_eq, Bool, true, false, not, ◌&&◌, ◌||◌, Option, Some, None, is_some, List, [], ◌∷◌, ◌++◌, map, length, option_map, if◌then◌else◌}
+use Rattle.std.specs.Prelude.{ℕ, Bool, true, false, not, ◌&&◌, ◌||◌, Option, Some, None, is_some, List, [], ◌∷◌, ◌++◌, map, option_map, if◌then◌else◌}
 use Rattle.std.specs.List.{list_all, list_any}
-use Rattle.psm_list.specs.Several.{Several}
 use Rattle.psm_token.specs.declared.place.Place.{Place}
 use Rattle.psm_value.specs.declared.sqltype.SqlType.{SqlType}
 use Rattle.psm_value.specs.declared.sqltype.SqlType.TheVariants as types
-use Rattle.psm_scope.specs.Frames.{Spelling, is_spelled, Declared, Frame, undeclared}
+use Rattle.psm_scope.specs.Frames.{Spelling, is_spelled, Frame, undeclared}
 use Rattle.psm_scope.specs.Frames as frame
 use Rattle.psm_scope.specs.Lookup.{Meaning, named}
 use Rattle.psm_scope.specs.Lookup as lookup
 use Rattle.psm_scope.specs.Scopes.{declared_here, redeclared}
 use Rattle.psm_tree.specs.declared.name.Identifier.{Identifier}
-use Rattle.psm_tree.specs.Names.{Names}
-use Rattle.psm_tree.specs.declared.types.DataType.{DataType}
 use Rattle.psm_tree.specs.declared.types.State.{State}
 use Rattle.psm_tree.specs.declared.name.Target.{Target}
 use Rattle.psm_tree.specs.declared.expr.Expr.{Expr, out-Expr}
@@ -29,7 +26,6 @@ use Rattle.psm_tree.specs.declared.statement.Block.TheFolds.{fold-Block, fold-St
 use Rattle.psm_tree.specs.declared.statement.Block.{Block}
 use Rattle.psm_tree.specs.declared.statement.Branch.{Branch}
 use Rattle.psm_tree.specs.declared.statement.Handler.{Handler}
-use Rattle.psm_tree.specs.declared.statement.Label.{Label}
 use Rattle.psm_tree.specs.declared.statement.ForHead.{ForHead}
 use Rattle.psm_tree.specs.declared.statement.ForCursor.{ForCursor}
 use Rattle.psm_tree.specs.declared.statement.OrderedQuery.{OrderedQuery}
@@ -51,13 +47,11 @@ use Rattle.psm_rules.specs.Faults.{breaks, breaks_if, earlier, first_of}
 use Rattle.psm_rules.specs.declared.found.Found.{Found}
 use Rattle.psm_rules.specs.Found.{as_value, as_condition}
 use Rattle.psm_rules.specs.declared.shape.Shape.{Shape}
-use Rattle.psm_rules.specs.declared.shape.Typed.{Typed}
 use Rattle.psm_rules.specs.declared.shape.Family.{Family}
 use Rattle.psm_rules.specs.declared.shape.Shape.TheVariants.{Value, Untyped}
 use Rattle.psm_rules.specs.declared.shape.Family.TheVariants.{Numbers, Texts}
 use Rattle.psm_rules.specs.Shapes.{family_of}
 use Rattle.psm_rules.specs.declared.shape.Shape.TheVariants as shape
-use Rattle.psm_rules.specs.Shapes as families
 use Rattle.psm_rules.specs.StatementFaults.{Context, inside, found, several, repeated, source_fault, state_fault, good_state, declared_condition, name_of_condition_fault, label_of, label_name, simple_fault}
 use Rattle.psm_rules.specs.Types.{type_of}
 use Rattle.psm_scope.specs.declared.known.Variable.{Variable}
@@ -481,14 +475,14 @@ abbrev pub handler_layer : Handler-F BlockPart Part BranchPart HandlerPart → H
 handler_layer h = record { values = several h.values; own = undo_fault h.«at» h.kind; action = h.action }
 
 -- the first fault of a statement, and what a block, a branch and a handler are where they stand
-abbrev pub statement_fault : Statement → Part
+unfoldable pub statement_fault : Statement → Part
 statement_fault = fold-Statement BlockPart Part BranchPart HandlerPart block_layer statement_layer branch_layer handler_layer
 
-abbrev pub block_fault : Block → BlockPart
+unfoldable pub block_fault : Block → BlockPart
 block_fault = fold-Block BlockPart Part BranchPart HandlerPart block_layer statement_layer branch_layer handler_layer
 
-abbrev pub branch_part : Branch → BranchPart
+unfoldable pub branch_part : Branch → BranchPart
 branch_part = fold-Branch BlockPart Part BranchPart HandlerPart block_layer statement_layer branch_layer handler_layer
 
-abbrev pub handler_part : Handler → HandlerPart
+unfoldable pub handler_part : Handler → HandlerPart
 handler_part = fold-Handler BlockPart Part BranchPart HandlerPart block_layer statement_layer branch_layer handler_layer

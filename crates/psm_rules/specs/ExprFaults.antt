@@ -459,17 +459,17 @@ abbrev pub select_layer : Select-F (Of Found) PickPart LinkPart (Of QueryFound) 
 select_layer select view = let inside = on_row view (row_of view select.table select.alias) in
     record { picks = seen_in inside select.picks; table = select.table; columns = table_named view select.table.name; test = seen_option inside select.condition }
 
-abbrev pub expr_found : Expr → View → Found
+unfoldable pub expr_found : Expr → View → Found
 expr_found = fold-Expr (Of Found) PickPart LinkPart (Of QueryFound) WhenPart expr_layer pick_layer link_layer select_layer when_layer
 
-abbrev pub pick_found : Pick → View → PickFound
+unfoldable pub pick_found : Pick → View → PickFound
 pick_found = fold-Pick (Of Found) PickPart LinkPart (Of QueryFound) WhenPart expr_layer pick_layer link_layer select_layer when_layer
 
-abbrev pub link_found : Link → View → (Operator × Found)
+unfoldable pub link_found : Link → View → (Operator × Found)
 link_found = fold-Link (Of Found) PickPart LinkPart (Of QueryFound) WhenPart expr_layer pick_layer link_layer select_layer when_layer
 
-abbrev pub when_found : When → View → (Found × Found)
+unfoldable pub when_found : When → View → (Found × Found)
 when_found = fold-When (Of Found) PickPart LinkPart (Of QueryFound) WhenPart expr_layer pick_layer link_layer select_layer when_layer
 
-abbrev pub query_found : Select → View → QueryFound
+unfoldable pub query_found : Select → View → QueryFound
 query_found = fold-Select (Of Found) PickPart LinkPart (Of QueryFound) WhenPart expr_layer pick_layer link_layer select_layer when_layer

@@ -305,16 +305,16 @@ returning_branch b = some (several b.statements)
 abbrev pub returning_handler : Handler-F Bool Bool Bool Bool → Bool
 returning_handler h = h.action
 
-abbrev pub has_return : Statement → Bool
+unfoldable pub has_return : Statement → Bool
 has_return = fold-Statement Bool Bool Bool Bool returning_block returning_statement returning_branch returning_handler
 
-abbrev pub block_returns : Block → Bool
+unfoldable pub block_returns : Block → Bool
 block_returns = fold-Block Bool Bool Bool Bool returning_block returning_statement returning_branch returning_handler
 
-abbrev pub branch_returns : Branch → Bool
+unfoldable pub branch_returns : Branch → Bool
 branch_returns = fold-Branch Bool Bool Bool Bool returning_block returning_statement returning_branch returning_handler
 
-abbrev pub handler_returns : Handler → Bool
+unfoldable pub handler_returns : Handler → Bool
 handler_returns = fold-Handler Bool Bool Bool Bool returning_block returning_statement returning_branch returning_handler
 
 -- ---- notes: an alternative stands at most once, DETERMINISTIC and NOT DETERMINISTIC being one

@@ -1,7 +1,0 @@
-use Rattle.std.proofs.Common.{◌≡◌, ◌++◌, drop, map}
-use Rattle.psm_rules.specs.Found.{shape_of}
-use Rattle.psm_rules.specs.ExprFaults.{kind_of}
-use Rattle.psm_check.proofs.exprs.kinds_of.Given as goal
-
-abbrev pub invariant-loop-value : goal.invariant-loop-value
-invariant-loop-value l = l.kinds.items ++ map (λ f. kind_of (shape_of f)) (drop l.value-index l.values) ≡ map (λ f. kind_of (shape_of f)) l.values

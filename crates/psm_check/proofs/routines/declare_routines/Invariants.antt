@@ -1,6 +1,0 @@
-use Rattle.std.proofs.Common.{◌≡◌, drop}
-use Rattle.psm_rules.specs.FileFaults.{with_routines}
-use Rattle.psm_check.proofs.routines.declare_routines.Given as goal
-
-abbrev pub invariant-loop-routine : goal.invariant-loop-routine
-invariant-loop-routine l = with_routines l.world (drop l.routine-index l.routines) ≡ with_routines l.fn.world l.routines

@@ -1,7 +1,0 @@
-pub mod ForItems
-pub mod Handling
-pub mod InRoutine
-pub mod Keys
-pub mod Listed
-pub mod Seen
-pub mod Told

@@ -1,0 +1,25 @@
+//! The checker's half over expressions and queries: their first fault and the shapes of their values, with what is seen around them.
+#![tactic(auto)]
+
+mod exprs;
+mod found;
+mod known;
+mod operators;
+mod queries;
+mod results;
+mod shapes;
+mod types;
+mod view;
+mod world;
+
+pub use exprs::{expr_found, query_found};
+pub use found::{as_condition, as_value, breaks, breaks_if, faults_in, of_family};
+pub use known::{CheckedCursor, Frames};
+pub use operators::simple_test;
+pub use queries::{
+    PickFound, QueryFound, first_set, may_be, misplaced_set, row_of, table_fault, test_fault,
+};
+pub use shapes::{family_of, is_of, typed};
+pub use types::{type_fault, type_of};
+pub use view::{RowTable, View, name_in, on_row, same_name, spelling};
+pub use world::{Columns, Key, World};

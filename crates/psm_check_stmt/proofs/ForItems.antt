@@ -1,0 +1,96 @@
+-- The layers of items and of names, and frames with the variables of items.
+use Rattle.std.proofs.Common.{◌≡◌, ℕ, ◌<◌, ◌+◌, suc, true, List, [], ◌∷◌, length, get_or, drop, Option, Some, None, map, option_map, refl, ap, sym, ◌∙◌, add-one, zero, arith}
+use Rattle.std.specs.Prelude.{slice_get}
+use Rattle.psm_scope.proofs.Calls.{dropped}
+use Rattle.psm_value.specs.declared.sqltype.SqlType.{SqlType}
+use Rattle.psm_scope.specs.Frames.{Spelling}
+use Rattle.psm_scope.specs.Scopes.{can_declare_here, declared_here, redeclared}
+use Rattle.psm_scope.specs.declared.known.Variable.{Variable}
+use Rattle.psm_tree.specs.declared.expr.Expr.TheVariants as exprs
+use Rattle.psm_tree.specs.declared.expr.Pick.TheVariants as picked
+use Rattle.psm_scope.specs.Lookup.{RowTable}
+use Rattle.psm_tree.specs.declared.expr.Pick.{Pick}
+use Rattle.psm_tree.specs.declared.expr.Select.{Select, out-Select}
+use Rattle.psm_rules.specs.View.{Columns, Frames, View, on_row, table_named}
+use Rattle.psm_rules.specs.StatementFaults.{several}
+use Rattle.psm_rules.specs.ExprFaults.{QueryFound, columns_known, pick_found, query_found, row_of, seen, spelling}
+use Rattle.psm_rules.specs.BlockFaults.{declared_once, local_variable, with_columns, with_variable}
+use Rattle.psm_check_stmt.specs.ForItems.{variables_here, with_variables_here}
+use Rattle.psm_check_expr.proofs.Equations.{found_query}
+use Rattle.psm_check_stmt.proofs.Innermost.{declared_again, declared_now}
+
+pub ruleset pick_layers = (picked.outs-All, picked.outs-Expr, picked.outs-CountRows, picked.outs-Aggregate)
+
+pub ruleset expr_layers = (exprs.outs-Null, exprs.outs-Number, exprs.outs-Text, exprs.outs-Name, exprs.outs-Junction, exprs.outs-Not, exprs.outs-Compare, exprs.outs-IsNull, exprs.outs-Between, exprs.outs-In, exprs.outs-Like, exprs.outs-Chain, exprs.outs-Signed, exprs.outs-Call, exprs.outs-Parenthesized, exprs.outs-Subquery, exprs.outs-Exists, exprs.outs-Case, exprs.outs-Cast, exprs.outs-Coalesce, exprs.outs-NullIf, exprs.outs-Function, exprs.outs-Position, exprs.outs-Substring, exprs.outs-Trim)
+
+-- ---- an item behind the first
+
+met_at : {A B C : Type 0} (f : A → C) (g : B → C) (xs : List A) (zs : List B) (k : ℕ) (x : A) (z : B)
+    → map f xs ≡ map g zs → k < length zs → x ≡ get_or xs k x → z ≡ get_or zs k z → f x ≡ g z
+met_at f g xs [] k x z e lt p q = absurd (omega (arith, lt))
+met_at f g [] (w ∷ ws) k x z e lt p q = cc
+met_at f g (v ∷ vs) (w ∷ ws) zero x z e lt p q = let h : f v ≡ g w = cc in ap f p ∙ h ∙ sym (ap g q)
+met_at f g (v ∷ vs) (w ∷ ws) (suc k) x z e lt p q = let h : map f vs ≡ map g ws = cc in met_at f g vs ws k x z h (omega (arith, lt)) p q
+
+pub picked_at : {A B C : Type 0} (f : A → C) (g : B → C) (xs : List A) (y : B) (ys others : List B) (k : ℕ) (x : A) (z : B)
+    → map f xs ≡ map g (y ∷ ys) → others ≡ ys → k < length others → x ≡ get_or xs (k + 1) x → z ≡ get_or others k z → f x ≡ g z
+picked_at f g xs y ys others k x z e o lt p q =
+    let n : length others ≡ length ys = ap length o in
+    let h : suc k < length (y ∷ ys) = omega (arith, lt, n) in
+    met_at f g xs (y ∷ ys) (suc k) x z e h (rw add-one at p) (q ∙ ap (λ l. get_or l k z) o)
+
+-- ---- a column
+
+column_at : (columns : Columns) (k : ℕ) (name : Spelling) (kind : Option SqlType)
+    → option_map (λ p. p.0) (slice_get columns k) ≡ Some name → option_map (λ p. p.1) (slice_get columns k) ≡ Some kind → drop k columns ≡ (name, kind) ∷ drop (k + 1) columns
+column_at columns k name kind n t = rw add-one (dropped columns (name, kind) k (both (slice_get columns k) n t))
+  where
+    both : (o : Option (Spelling × Option SqlType)) → option_map (λ p. p.0) o ≡ Some name → option_map (λ p. p.1) o ≡ Some kind → o ≡ Some (name, kind)
+    both None n t = cc
+    both (Some p) n t = let h : p.0 ≡ name = cc in let j : p.1 ≡ kind = cc in ap (λ a. Some (a, p.1)) h ∙ ap (λ b. Some (name, b)) j
+
+-- ---- what is found in the query
+
+found_columns : (select : Select) (view : View) → (query_found select view).columns ≡ table_named view (out-Select select).table.name
+found_columns select view = ap (λ q. q.columns) (found_query select view)
+
+-- on the rows of its table
+abbrev pub inside : Select → View → View
+inside select view = let s = out-Select select in on_row view (row_of view s.table s.alias)
+
+seen_all : (view : View) (ps : List Pick) → seen view (map pick_found ps) ≡ map (λ p. pick_found p view) ps
+seen_all view [] = refl
+seen_all view (p ∷ ps) = ap (λ l. pick_found p view ∷ l) (seen_all view ps)
+
+pub found_picks : (select : Select) (view on : View) (q : QueryFound) → q ≡ query_found select view → on ≡ inside select view → q.picks ≡ map (λ p. pick_found p on) (several (out-Select select).picks)
+found_picks select view on q e i =
+    let s = out-Select select in
+    ap (λ q. q.picks) (e ∙ found_query select view)
+    ∙ ap (λ l. pick_found s.picks.first (inside select view) ∷ l) (seen_all (inside select view) s.picks.rest)
+    ∙ ap (λ v. map (λ p. pick_found p v) (several s.picks)) (sym i)
+
+pub found_inside : (select : Select) (view on : View) (q : QueryFound) (row : RowTable (Option SqlType)) → q ≡ query_found select view
+    → row ≡ record { name = (out-Select select).table.name; alias = spelling (out-Select select).alias; columns = columns_known q.columns } → on ≡ on_row view row → on ≡ inside select view
+found_inside select view on q row e r o =
+    let s = out-Select select in
+    o ∙ ap (on_row view) r ∙ ap (λ columns. on_row view (record { name = s.table.name; alias = spelling s.alias; columns = columns_known columns })) (ap (λ q. q.columns) e ∙ found_columns select view)
+
+-- ---- the variables of the innermost frame
+
+-- more variables on frames that have other ones
+variables_again : (frames : Frames) (vs : List (Spelling × Variable)) (more : List (Spelling × Variable) → List (Spelling × Variable)) → can_declare_here frames ≡ true
+    → with_variables_here (with_variables_here frames vs) (more (variables_here (with_variables_here frames vs))) ≡ with_variables_here frames (more vs)
+variables_again frames vs more h =
+    let d = record (declared_here frames) { variables = vs } in
+    let e = declared_now frames d h in
+    ap (λ d. redeclared (redeclared frames (record (declared_here frames) { variables = vs })) (record d { variables = more d.variables })) e
+    ∙ declared_again frames d (record d { variables = more vs })
+
+pub columns_next : (start frames new : Frames) (columns : Columns) (k : ℕ) (name : Spelling) (kind : Option SqlType) → can_declare_here frames ≡ true
+    → option_map (λ p. p.0) (slice_get columns k) ≡ Some name → option_map (λ p. p.1) (slice_get columns k) ≡ Some kind → new ≡ with_variable frames name (local_variable kind)
+    → with_variables_here frames (with_columns (variables_here frames) (drop k columns)) ≡ start → with_variables_here new (with_columns (variables_here new) (drop (k + 1) columns)) ≡ start
+columns_next start frames new columns k name kind can n t e so_far =
+    ap (λ f. with_variables_here f (with_columns (variables_here f) (drop (k + 1) columns))) e
+    ∙ variables_again frames (declared_once (variables_here frames) name (local_variable kind)) (λ vs. with_columns vs (drop (k + 1) columns)) can
+    ∙ ap (λ l. with_variables_here frames (with_columns (variables_here frames) l)) (sym (column_at columns k name kind n t))
+    ∙ so_far

@@ -1,0 +1,16 @@
+pub mod Apart
+pub mod Bounds
+pub mod ColumnTypes
+pub mod ForItems
+pub mod Going
+pub mod Handling
+pub mod Innermost
+pub mod NamesSoFar
+pub mod Noted
+pub mod Once
+pub mod Orders
+pub mod Pairs
+pub mod Returning
+pub mod StatementEquations
+pub mod TableKeys
+pub mod Walks

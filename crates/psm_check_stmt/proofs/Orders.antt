@@ -1,0 +1,59 @@
+-- An order against the key of a table.
+use Rattle.std.proofs.Common.{suc, ◌≡◌, ◌≢◌, Bool, true, false, ◌&&◌, ◌||◌, not, List, [], ◌∷◌, length, map, refl, ap, sym, ◌∙◌}
+use Rattle.std.specs.List.{list_all}
+use Rattle.std.specs.Prelude.{Option, Some, option_map, if◌then◌else◌}
+use Rattle.psm_scope.specs.Frames.{Spelling, is_spelled}
+use Rattle.psm_scope.specs.Lookup.{named}
+use Rattle.psm_tree.specs.declared.name.Identifier.{Identifier}
+use Rattle.psm_tree.specs.declared.statement.OrderColumn.{OrderColumn}
+use Rattle.psm_tree.specs.declared.statement.Order.{Order}
+use Rattle.psm_rules.specs.BlockFaults.{order_of, same_names}
+use Rattle.psm_check_expr.specs.Keys.{key_names}
+use Rattle.psm_check_expr.specs.declared.world.Key.{Key}
+
+and_false : (a b : Bool) → b ≡ false → false ≡ (a && b)
+and_false true b e = sym e
+and_false false b e = refl
+
+pub names_differ : (names : List Identifier) (columns : List OrderColumn) → length names ≢ length columns → false ≡ same_names (map (λ n. n.name) names) (map (λ c. c.column.name) columns)
+names_differ [] [] h = absurd (h refl)
+names_differ [] (c ∷ cs) h = refl
+names_differ (n ∷ ns) [] h = refl
+names_differ (n ∷ ns) (c ∷ cs) h = and_false (is_spelled n.name c.column.name) (same_names (map (λ n. n.name) ns) (map (λ c. c.column.name) cs)) (sym (names_differ ns cs (λ e. h (ap suc e))))
+
+-- ---- all downwards or all upwards
+
+or_none : (a : Bool) → a ≡ (a || false)
+or_none true = refl
+or_none false = refl
+
+one_way_at : (b : Bool) (down up : Bool) → b ≡ true → down ≡ ((b && down) || (not b && up))
+one_way_at b down up e = or_none down ∙ ap (λ b. (b && down) || (not b && up)) (sym e)
+
+other_way_at : (b : Bool) (down up : Bool) → b ≡ false → up ≡ ((b && down) || (not b && up))
+other_way_at b down up e = ap (λ b. (b && down) || (not b && up)) (sym e)
+
+pub all_down : (first : OrderColumn) (rest : List OrderColumn) → first.descending ≡ true
+    → list_all (λ c. c.descending) rest ≡ (list_all (λ c. c.descending) (first ∷ rest) || list_all (λ c. not c.descending) (first ∷ rest))
+all_down first rest e = one_way_at first.descending (list_all (λ c. c.descending) rest) (list_all (λ c. not c.descending) rest) e
+
+pub all_up : (first : OrderColumn) (rest : List OrderColumn) → first.descending ≡ false
+    → list_all (λ c. not c.descending) rest ≡ (list_all (λ c. c.descending) (first ∷ rest) || list_all (λ c. not c.descending) (first ∷ rest))
+all_up first rest e = other_way_at first.descending (list_all (λ c. c.descending) rest) (list_all (λ c. not c.descending) rest) e
+
+pub ruleset one_way = (all_down, all_up)
+
+-- ---- the keys as they are kept
+
+named_key : (n : Spelling) (keys : List (Spelling × Key)) → named n (map (λ p. (p.0, key_names p.1)) keys) ≡ option_map {T = Key} {U = List Spelling} key_names (named n keys)
+named_key n [] = refl
+named_key n (p ∷ more) = by (is_spelled n p.0) (named_key n more)
+  where
+    by : (b : Bool) → named n (map (λ p. (p.0, key_names p.1)) more) ≡ option_map {T = Key} {U = List Spelling} key_names (named n more)
+        → ◌≡◌ {A = Option (List Spelling)} (if b then Some (key_names p.1) else named n (map (λ p. (p.0, key_names p.1)) more)) (option_map {T = Key} {U = List Spelling} key_names (if b then Some p.1 else named n more))
+    by true e = refl
+    by false e = e
+
+pub kept_order : (n : Spelling) (keys : List (Spelling × Key)) (order : Order) (found : Option Key) → found ≡ named n keys
+    → order_of (named n (map (λ p. (p.0, key_names p.1)) keys)) order ≡ order_of (option_map {T = Key} {U = List Spelling} key_names found) order
+kept_order n keys order found e = ap (λ k. order_of k order) (named_key n keys ∙ ap (option_map {T = Key} {U = List Spelling} key_names) (sym e))

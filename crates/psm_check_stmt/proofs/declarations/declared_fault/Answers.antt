@@ -1,0 +1,14 @@
+use Rattle.std.proofs.Common.{ap, drop, ◌∙◌}
+use Rattle.std.specs.Option.{option_copied}
+use Rattle.psm_rules.specs.BlockFaults.{declared_by, with_cursors}
+use Rattle.psm_check_stmt.specs.InRoutine.{context}
+use Rattle.psm_check_stmt.proofs.Innermost.{popped}
+use Rattle.psm_check_stmt.proofs.declarations.declared_fault.Goals as goal
+
+pub returns-clause-outer : goal.returns-clause-outer
+returns-clause-outer c =
+    let cursors = c.args.cursors.now in
+    let xs = c.args.declarations.now in
+    let declared = c.in_ok-fault.ensures.frames ∙ ap (λ frames. declared_by frames xs) c.in_ok-push.ensures.ok in
+    ap (drop 1) (c.in_ok-cursors_fault.ensures.frames ∙ ap (λ frames. with_cursors (context c.args.c frames).view cursors) declared)
+    ∙ popped (option_copied c.args.label) (context c.args.c c.args.frames.now).view xs cursors

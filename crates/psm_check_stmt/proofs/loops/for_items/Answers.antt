@@ -1,0 +1,20 @@
+use Rattle.std.proofs.Common.{ap, map, ◌∙◌}
+use Rattle.psm_tree.specs.declared.expr.Select.{out-Select}
+use Rattle.psm_rules.specs.View.{on_row}
+use Rattle.psm_rules.specs.ExprFaults.{columns_known, spelling}
+use Rattle.psm_check_stmt.specs.InRoutine.{context}
+use Rattle.psm_check_expr.specs.Seen.{pick_of, row_table, seen_in_view}
+use Rattle.psm_check_stmt.proofs.ForItems.{found_inside, found_picks}
+use Rattle.psm_check_stmt.proofs.loops.for_items.Goals as goal
+
+pub items_of_picks-requires : goal.items_of_picks-requires
+items_of_picks-requires c =
+    let select = c.args.select.now in
+    let view = (context c.args.c c.args.frames.now).view in
+    let q = c.args.query.now in
+    let on = seen_in_view c.on_row-view.result in
+    let row = row_table c.row_of-row.result in
+    let inside = found_inside select view on q row c.requires
+    (c.row_of-row.ensures ∙ ap (λ q. record { name = (out-Select select).table.name; alias = spelling (out-Select select).alias; columns = columns_known q.columns }) c.query.view_is)
+    (c.on_row-view.ensures ∙ ap (λ v. on_row v row) c.view.ensures) in
+    ap (map pick_of) c.as_slice.ensures.value ∙ ap (λ q. q.picks) c.query.view_is ∙ found_picks select view on q c.requires inside

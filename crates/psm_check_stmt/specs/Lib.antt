@@ -1,0 +1,6 @@
+pub mod ForItems
+pub mod Handling
+pub mod InRoutine
+pub mod Keys
+pub mod Listed
+pub mod Told

@@ -1,0 +1,364 @@
+//! The first fault of a statement with statements in it.
+ghost use Rattle.std.specs.Prelude.{◌≡◌, ◌∷◌, IfOk, map};
+ghost use Rattle.std.specs.Option.{option_copied};
+ghost use Rattle.psm_list.specs.Several.{several_map};
+ghost use Rattle.psm_rules.specs.Faults.{earlier, first_of};
+ghost use Rattle.psm_rules.specs.Found.{as_condition};
+ghost use Rattle.psm_rules.specs.ExprFaults.{simple_test};
+ghost use Rattle.psm_rules.specs.StatementFaults.{end_label_fault, inside, label_name, label_of, several};
+ghost use Rattle.psm_rules.specs.BlockFaults.{all, block_fault, branch_part, case_branches, handler_part, handlers_fault, in_loop, searched, simple, statement_fault, test_part, undo_fault};
+ghost use Rattle.psm_scope.specs.Frames.{Action};
+ghost use Rattle.psm_check_stmt.specs.InRoutine.{context};
+
+use crate::declarations::declared_fault;
+use crate::handled::values_fault;
+use crate::loops::for_fault;
+use crate::statements::{Context, simple_fault};
+use psm_check_expr::{
+    Frames, as_condition, as_value, breaks_if, expr_found, same_name, simple_test,
+};
+use psm_list::{Boxed, List, OneOrMore};
+use psm_rules::{Fault, Found, Rule, earlier};
+use psm_scope::FrameKind;
+use psm_text::Name;
+use psm_token::Place;
+use psm_tree::{Block, Branch, Expr, Handler, HandlerKind, Identifier, Label, Statement};
+use std::alloc::AllocError;
+
+/// The first fault of a statement.
+#[cycle(statement)]
+#[tactic(auto, using(crate::proofs::StatementEquations::statement_equations))]
+pub(crate) fn statement_fault<'w, 'a>(
+    statement: &'a Statement,
+    c: Context<'w, 'a>,
+    frames: &mut Frames<'a>,
+) -> Result<Option<Fault>, AllocError>
+    ensures fault { IfOk result (λ f. f ≡ statement_fault statement.now (context c.entry frames.old)) }
+    ensures kept { IfOk result (λ _. frames.new ≡ frames.old) }
+{
+    match statement {
+        Statement::Block { label, block } => {
+            let own = label_fault(frames, label);
+            let fault = block_fault(block.get(), c, frames, label_name(label))?;
+            Ok(earlier(own, fault))
+        }
+        Statement::If {
+            branches,
+            otherwise,
+            ..
+        } => {
+            let fault = searched(branches, c, frames)?;
+            let others = all(otherwise, c, frames)?;
+            Ok(earlier(fault, others))
+        }
+        Statement::Case {
+            operand,
+            branches,
+            otherwise,
+            ..
+        } => {
+            let fault = case_fault(branches, c, frames, operand)?;
+            let others = all(otherwise, c, frames)?;
+            Ok(earlier(fault, others))
+        }
+        Statement::Simple(simple) => simple_fault(simple.get(), c, frames),
+    }
+}
+
+#[cycle(statement)]
+fn all<'w, 'a>(
+    statements: &'a List<Boxed<Statement>>,
+    c: Context<'w, 'a>,
+    frames: &mut Frames<'a>,
+) -> Result<Option<Fault>, AllocError>
+    ensures fault { IfOk result (λ f. f ≡ all (context c.entry frames.old) (map statement_fault statements.now)) }
+    ensures kept { IfOk result (λ _. frames.new ≡ frames.old) }
+{
+    let mut fault = None;
+    for statement in statements.items() {
+        let own = statement_fault(statement.get(), c, frames)?;
+        fault = earlier(fault, own);
+    }
+    Ok(fault)
+}
+
+#[cycle(statement)]
+fn several<'w, 'a>(
+    statements: &'a OneOrMore<Boxed<Statement>>,
+    c: Context<'w, 'a>,
+    frames: &mut Frames<'a>,
+) -> Result<Option<Fault>, AllocError>
+    ensures fault { IfOk result (λ f. f ≡ all (context c.entry frames.old) (several (several_map statement_fault statements.now))) }
+    ensures kept { IfOk result (λ _. frames.new ≡ frames.old) }
+{
+    let mut fault = statement_fault(statements.first.get(), c, frames)?;
+    for statement in statements.rest.items() {
+        let own = statement_fault(statement.get(), c, frames)?;
+        fault = earlier(fault, own);
+    }
+    Ok(fault)
+}
+
+// ---- labels
+
+fn label_fault(frames: &Frames, label: &Option<Label>) -> Option<Fault>
+    ensures { result ≡ label_of frames.now label.now }
+{
+    match label {
+        None => None,
+        Some(label) => {
+            let start = &label.start;
+            let is_seen = frames.label(&start.name).is_some();
+            let repeated = breaks_if(is_seen, Rule::LabelRepeated, start.place);
+            earlier(repeated, end_label_fault(start, &label.end))
+        }
+    }
+}
+
+fn end_label_fault(start: &Identifier, end: &Option<Identifier>) -> Option<Fault>
+    ensures { result ≡ end_label_fault start.now end.now }
+{
+    match end {
+        None => None,
+        Some(end) => {
+            let differs = !same_name(&start.name, &end.name);
+            breaks_if(differs, Rule::EndLabelDiffers, end.place)
+        }
+    }
+}
+
+fn label_name(label: &Option<Label>) -> Option<&Name>
+    ensures { option_copied result ≡ label_name label.now }
+{
+    match label {
+        None => None,
+        Some(label) => Some(&label.start.name),
+    }
+}
+
+// ---- IF and CASE
+
+// Branches whose tests are conditions.
+#[cycle(statement)]
+fn searched<'w, 'a>(
+    branches: &'a OneOrMore<Boxed<Branch>>,
+    c: Context<'w, 'a>,
+    frames: &mut Frames<'a>,
+) -> Result<Option<Fault>, AllocError>
+    ensures fault { IfOk result (λ f. f ≡ first_of (searched (context c.entry frames.old) (several (several_map branch_part branches.now)))) }
+    ensures kept { IfOk result (λ _. frames.new ≡ frames.old) }
+{
+    let mut fault = searched_branch(branches.first.get(), c, frames)?;
+    for branch in branches.rest.items() {
+        let own = searched_branch(branch.get(), c, frames)?;
+        fault = earlier(fault, own);
+    }
+    Ok(fault)
+}
+
+#[cycle(statement)]
+#[tactic(auto, using(crate::proofs::StatementEquations::part_of_branch))]
+fn searched_branch<'w, 'a>(
+    branch: &'a Branch,
+    c: Context<'w, 'a>,
+    frames: &mut Frames<'a>,
+) -> Result<Option<Fault>, AllocError>
+    ensures fault { IfOk result (λ f. let b = branch_part branch.now (context c.entry frames.old) in f ≡ earlier (as_condition b.0).fault b.1) }
+    ensures kept { IfOk result (λ _. frames.new ≡ frames.old) }
+{
+    let test = expr_found(c.alloc, branch.test.get(), c.view(frames))?;
+    let fault = several(&branch.statements, c, frames)?;
+    Ok(earlier(as_condition(test).fault, fault))
+}
+
+#[cycle(statement)]
+fn case_fault<'w, 'a>(
+    branches: &'a OneOrMore<Boxed<Branch>>,
+    c: Context<'w, 'a>,
+    frames: &mut Frames<'a>,
+    operand: &Option<Boxed<Expr>>,
+) -> Result<Option<Fault>, AllocError>
+    ensures fault { IfOk result (λ f. f ≡ first_of (case_branches (context c.entry frames.old) operand.now (several (several_map branch_part branches.now)))) }
+    ensures kept { IfOk result (λ _. frames.new ≡ frames.old) }
+{
+    match operand {
+        None => searched(branches, c, frames),
+        Some(e) => {
+            let found = expr_found(c.alloc, e.get(), c.view(frames))?;
+            simple(branches, c, frames, as_value(found))
+        }
+    }
+}
+
+// Branches whose tests an operand goes with, each by itself.
+#[cycle(statement)]
+fn simple<'w, 'a>(
+    branches: &'a OneOrMore<Boxed<Branch>>,
+    c: Context<'w, 'a>,
+    frames: &mut Frames<'a>,
+    operand: Found,
+) -> Result<Option<Fault>, AllocError>
+    ensures fault { IfOk result (λ f. f ≡ first_of (operand.fault ∷ simple (context c.entry frames.old) operand (several (several_map branch_part branches.now)))) }
+    ensures kept { IfOk result (λ _. frames.new ≡ frames.old) }
+{
+    let first = simple_branch(branches.first.get(), c, frames, operand)?;
+    let mut fault = earlier(operand.fault, first);
+    for branch in branches.rest.items() {
+        let own = simple_branch(branch.get(), c, frames, operand)?;
+        fault = earlier(fault, own);
+    }
+    Ok(fault)
+}
+
+#[cycle(statement)]
+#[tactic(auto, using(crate::proofs::StatementEquations::part_of_branch))]
+fn simple_branch<'w, 'a>(
+    branch: &'a Branch,
+    c: Context<'w, 'a>,
+    frames: &mut Frames<'a>,
+    operand: Found,
+) -> Result<Option<Fault>, AllocError>
+    ensures fault { IfOk result (λ f. let b = branch_part branch.now (context c.entry frames.old) in f ≡ earlier (simple_test operand b.0).fault b.1) }
+    ensures kept { IfOk result (λ _. frames.new ≡ frames.old) }
+{
+    let test = expr_found(c.alloc, branch.test.get(), c.view(frames))?;
+    let fault = several(&branch.statements, c, frames)?;
+    Ok(earlier(simple_test(operand, test).fault, fault))
+}
+
+// ---- blocks
+
+#[cycle(statement)]
+#[tactic(auto, using(crate::proofs::StatementEquations::block_equations))]
+fn block_fault<'w, 'a>(
+    block: &'a Block,
+    c: Context<'w, 'a>,
+    frames: &mut Frames<'a>,
+    label: Option<&'a Name>,
+) -> Result<Option<Fault>, AllocError>
+    ensures fault { IfOk result (λ f. f ≡ block_fault block.now (option_copied label.entry) (context c.entry frames.old)) }
+    ensures kept { IfOk result (λ _. frames.new ≡ frames.old) }
+{
+    match block {
+        Block::Compound {
+            atomic,
+            declarations,
+            cursors,
+            handlers,
+            statements,
+            ..
+        } => {
+            let own = declared_fault(c, frames, label, declarations, cursors)?;
+            let values = values_fault(c.alloc, frames, handlers)?;
+            let actions = handlers_fault(handlers, c, frames, *atomic)?;
+            let fault = all(statements, c, frames)?;
+            frames.pop();
+            Ok(earlier(own, earlier(earlier(values, actions), fault)))
+        }
+        Block::Loop { statements, .. } => loop_fault(statements, c, frames, label),
+        Block::While {
+            test,
+            statements,
+            ..
+        } => {
+            let test = test_fault(c, frames, test.get())?;
+            let fault = loop_fault(statements, c, frames, label)?;
+            Ok(earlier(test, fault))
+        }
+        Block::Repeat {
+            statements,
+            until,
+            ..
+        } => {
+            let fault = loop_fault(statements, c, frames, label)?;
+            let test = test_fault(c, frames, until.get())?;
+            Ok(earlier(fault, test))
+        }
+        Block::For {
+            head,
+            statements,
+            ..
+        } => {
+            let own = for_fault(c, frames, label, head.get())?;
+            let fault = several(statements, c, frames)?;
+            frames.pop();
+            Ok(earlier(own, fault))
+        }
+    }
+}
+
+fn test_fault<'w, 'a>(
+    c: Context<'w, 'a>,
+    frames: &Frames<'a>,
+    test: &Expr,
+) -> Result<Option<Fault>, AllocError>
+    ensures { IfOk result (λ f. f ≡ test_part (context c.entry frames.now).view test.now) }
+{
+    let found = expr_found(c.alloc, test, c.view(frames))?;
+    Ok(as_condition(found).fault)
+}
+
+#[cycle(statement)]
+fn loop_fault<'w, 'a>(
+    statements: &'a OneOrMore<Boxed<Statement>>,
+    c: Context<'w, 'a>,
+    frames: &mut Frames<'a>,
+    label: Option<&'a Name>,
+) -> Result<Option<Fault>, AllocError>
+    ensures fault { IfOk result (λ f. f ≡ all (in_loop (option_copied label.entry) (context c.entry frames.old)) (several (several_map statement_fault statements.now))) }
+    ensures kept { IfOk result (λ _. frames.new ≡ frames.old) }
+{
+    frames.push(FrameKind::Loop(label))?;
+    let fault = several(statements, c, frames)?;
+    frames.pop();
+    Ok(fault)
+}
+
+// ---- handlers
+
+// The faults of the handlers themselves, and of the actions, which see no label from outside.
+#[cycle(statement)]
+fn handlers_fault<'w, 'a>(
+    handlers: &'a List<Boxed<Handler>>,
+    c: Context<'w, 'a>,
+    frames: &mut Frames<'a>,
+    atomic: bool,
+) -> Result<Option<Fault>, AllocError>
+    ensures fault { IfOk result (λ f. f ≡ first_of (handlers_fault (context c.entry frames.old) atomic (map handler_part handlers.now))) }
+    ensures kept { IfOk result (λ _. frames.new ≡ frames.old) }
+{
+    let mut fault = None;
+    for handler in handlers.items() {
+        let own = handler_fault(handler.get(), c, frames, atomic)?;
+        fault = earlier(fault, own);
+    }
+    Ok(fault)
+}
+
+#[cycle(statement)]
+#[tactic(auto, using(crate::proofs::StatementEquations::part_of_handler))]
+fn handler_fault<'w, 'a>(
+    handler: &'a Handler,
+    c: Context<'w, 'a>,
+    frames: &mut Frames<'a>,
+    atomic: bool,
+) -> Result<Option<Fault>, AllocError>
+    ensures fault { IfOk result (λ f. let h = handler_part handler.now in f ≡ earlier (h.own atomic) (h.action (inside (context c.entry frames.old) Action))) }
+    ensures kept { IfOk result (λ _. frames.new ≡ frames.old) }
+{
+    let own = undo_fault(handler.at, handler.kind, atomic);
+    frames.push(FrameKind::Action)?;
+    let fault = statement_fault(handler.action.get(), c, frames)?;
+    frames.pop();
+    Ok(earlier(own, fault))
+}
+
+// UNDO stands in an ATOMIC block alone.
+fn undo_fault(place: Place, kind: HandlerKind, atomic: bool) -> Option<Fault>
+    ensures { result ≡ undo_fault place kind atomic }
+{
+    match kind {
+        HandlerKind::Continue | HandlerKind::Exit => None,
+        HandlerKind::Undo => breaks_if(!atomic, Rule::UndoNeedsAtomic, place),
+    }
+}

@@ -1,0 +1,244 @@
+//! SQLSTATEs, conditions and the diagnostics area.
+ghost use Rattle.std.specs.Prelude.{◌≡◌, IfOk, true, map, string_bytes};
+ghost use Rattle.std.specs.List.{list_all};
+ghost use Rattle.psm_sqlstate.specs.State.{is_state_character};
+ghost use Rattle.psm_rules.specs.Faults.{first_of};
+ghost use Rattle.psm_rules.specs.StatementFaults.{condition_fault, condition_item_family, diagnostics_fault, good_state, is_same_family, is_state, is_success, item_fault, message_fault, name_of_condition_fault, number_fault, number_type_fault, several, signalled_fault, state_fault, statement_item_family};
+ghost use Rattle.psm_check_expr.specs.Seen.{seen_in_view};
+
+use crate::sources::{assigned_type, family_due, target_fault, variable_of};
+use psm_check_expr::{Frames, View, as_value, breaks, breaks_if, expr_found, of_family};
+use psm_list::{Boxed, OneOrMore};
+use psm_rules::{Family, Fault, Rule, earlier};
+use psm_scope::Variable;
+use psm_sqlstate::SqlState;
+use psm_text::Text;
+use psm_token::Place;
+use psm_tree::{
+    Condition, ConditionInformation, ConditionItem, ConditionNumber, Diagnostics, Expr, Identifier,
+    Signalled, State, StatementInformation, StatementItem, Target,
+};
+use std::alloc::{AllocError, Global};
+
+/// The SQLSTATE of a text that is one, and not one of success.
+pub(crate) fn good_state(alloc: Global, text: &Text) -> Result<Option<SqlState>, AllocError>
+    ensures { IfOk result (λ s. s ≡ good_state text.now) }
+{
+    if is_state(text.chars()) && !is_success(text.chars()) {
+        let spelled = spelled(alloc, text.chars())?;
+        Ok(SqlState::read(spelled.as_str()))
+    } else {
+        Ok(None)
+    }
+}
+
+fn is_state(text: &[char]) -> bool
+    ensures { result ≡ is_state text.now }
+{
+    text.len() == 5 && are_state_characters(text)
+}
+
+fn are_state_characters(text: &[char]) -> bool
+    ensures { result ≡ list_all is_state_character text.now }
+{
+    text.iter().all(|c| is_state_character(*c))
+}
+
+fn is_state_character(c: char) -> bool
+    ensures { result ≡ is_state_character c }
+{
+    c.is_ascii_digit() || c.is_ascii_uppercase()
+}
+
+fn is_success(text: &[char]) -> bool
+    ensures { result ≡ is_success text.now }
+{
+    match text {
+        ['0', '0', ..] => true,
+        _ => false,
+    }
+}
+
+// The characters of an SQLSTATE as a string.
+fn spelled(alloc: Global, text: &[char]) -> Result<String, AllocError>
+    requires { list_all is_state_character text.now ≡ true }
+    ensures { IfOk result (λ s. string_bytes s ≡ text.now) }
+{
+    let mut spelled = String::new(alloc);
+    for c in text {
+        spelled.push(*c)?;
+    }
+    Ok(spelled)
+}
+
+/// A text that is no SQLSTATE, or one of success.
+pub(crate) fn state_fault(alloc: Global, state: &State) -> Result<Option<Fault>, AllocError>
+    ensures { IfOk result (λ f. f ≡ state_fault state.now) }
+{
+    let good = good_state(alloc, &state.text)?;
+    Ok(breaks_if(good.is_none(), Rule::BadSqlState, state.at))
+}
+
+/// A condition that isn't declared.
+pub(crate) fn condition_name_fault(frames: &Frames, name: &Identifier) -> Option<Fault>
+    ensures { result ≡ name_of_condition_fault frames.now name.now }
+{
+    breaks_if(
+        frames.condition(&name.name).is_none(),
+        Rule::UnknownCondition,
+        name.place,
+    )
+}
+
+fn condition_fault(
+    alloc: Global,
+    frames: &Frames,
+    condition: &Condition,
+) -> Result<Option<Fault>, AllocError>
+    ensures { IfOk result (λ f. f ≡ condition_fault frames.now condition.now) }
+{
+    match condition {
+        Condition::Name(name) => Ok(condition_name_fault(frames, name)),
+        Condition::State(state) => state_fault(alloc, state),
+    }
+}
+
+/// What SIGNAL or RESIGNAL signals.
+pub(crate) fn signalled_fault(
+    alloc: Global,
+    signalled: &Signalled,
+    view: View,
+) -> Result<Option<Fault>, AllocError>
+    ensures { IfOk result (λ f. f ≡ signalled_fault (seen_in_view view.entry) signalled.now) }
+{
+    let fault = condition_fault(alloc, view.frames, &signalled.condition)?;
+    Ok(earlier(fault, message_fault(alloc, &signalled.message, view)?))
+}
+
+fn message_fault(
+    alloc: Global,
+    message: &Option<Boxed<Expr>>,
+    view: View,
+) -> Result<Option<Fault>, AllocError>
+    ensures { IfOk result (λ f. f ≡ message_fault (seen_in_view view.entry) message.now) }
+{
+    match message {
+        None => Ok(None),
+        Some(message) => {
+            let found = expr_found(alloc, message.get(), view)?;
+            Ok(of_family(Family::Texts, as_value(found)).fault)
+        }
+    }
+}
+
+// ---- diagnostics
+
+fn statement_item_family(item: StatementItem) -> Family
+    ensures { result ≡ statement_item_family item }
+{
+    match item {
+        StatementItem::Number | StatementItem::RowCount => Family::Numbers,
+        StatementItem::More => Family::Texts,
+    }
+}
+
+fn condition_item_family(item: ConditionItem) -> Family
+    ensures { result ≡ condition_item_family item }
+{
+    match item {
+        ConditionItem::ConditionNumber | ConditionItem::MessageLength => Family::Numbers,
+        ConditionItem::ReturnedSqlState
+        | ConditionItem::ConditionIdentifier
+        | ConditionItem::MessageText
+        | ConditionItem::TableName
+        | ConditionItem::CursorName => Family::Texts,
+    }
+}
+
+fn is_same_family(due: Option<Family>, family: Family) -> bool
+    ensures { result ≡ is_same_family due family }
+{
+    match due {
+        None => true,
+        Some(due) => due == family,
+    }
+}
+
+// An item for a target; where they don't fit the fault is at the item.
+fn item_fault(frames: &Frames, target: &Target, place: Place, family: Family) -> Option<Fault>
+    ensures { result ≡ item_fault frames.now target.now place family }
+{
+    let known = variable_of(frames, target);
+    let due = family_due(assigned_type(known));
+    let mixed = breaks_if(!is_same_family(due, family), Rule::FamiliesMixed, place);
+    earlier(target_fault(target.place(), known), mixed)
+}
+
+fn statement_item_fault(frames: &Frames, i: &StatementInformation) -> Option<Fault>
+    ensures { result ≡ item_fault frames.now i.now.target i.now.place (statement_item_family i.now.item) }
+{
+    item_fault(frames, &i.target, i.place, statement_item_family(i.item))
+}
+
+fn statement_items_fault(frames: &Frames, items: &OneOrMore<StatementInformation>) -> Option<Fault>
+    ensures { result ≡ first_of (map (λ i. item_fault frames.now i.target i.place (statement_item_family i.item)) (several items.now)) }
+{
+    let mut fault = statement_item_fault(frames, &items.first);
+    for i in items.rest.items() {
+        fault = earlier(fault, statement_item_fault(frames, i));
+    }
+    fault
+}
+
+fn condition_item_fault(frames: &Frames, i: &ConditionInformation) -> Option<Fault>
+    ensures { result ≡ item_fault frames.now i.now.target i.now.place (condition_item_family i.now.item) }
+{
+    item_fault(frames, &i.target, i.place, condition_item_family(i.item))
+}
+
+fn condition_items_fault(frames: &Frames, items: &OneOrMore<ConditionInformation>) -> Option<Fault>
+    ensures { result ≡ first_of (map (λ i. item_fault frames.now i.target i.place (condition_item_family i.item)) (several items.now)) }
+{
+    let mut fault = condition_item_fault(frames, &items.first);
+    for i in items.rest.items() {
+        fault = earlier(fault, condition_item_fault(frames, i));
+    }
+    fault
+}
+
+// The number of the condition, in a variable of a number.
+fn number_fault(frames: &Frames, number: &ConditionNumber) -> Option<Fault>
+    ensures { result ≡ number_fault frames.now number.now }
+{
+    match number {
+        ConditionNumber::Number { .. } => None,
+        ConditionNumber::Target(target) => {
+            number_type_fault(target.place(), variable_of(frames, target))
+        }
+    }
+}
+
+fn number_type_fault(place: Place, known: Option<Variable>) -> Option<Fault>
+    ensures { result ≡ number_type_fault place known }
+{
+    match known {
+        None => breaks(Rule::UnknownName, place),
+        Some(known) => {
+            let is_number = is_same_family(family_due(known.kind), Family::Numbers);
+            breaks_if(!is_number, Rule::FamiliesMixed, place)
+        }
+    }
+}
+
+/// What GET DIAGNOSTICS asks for.
+pub(crate) fn diagnostics_fault(frames: &Frames, diagnostics: &Diagnostics) -> Option<Fault>
+    ensures { result ≡ diagnostics_fault frames.now diagnostics.now }
+{
+    match diagnostics {
+        Diagnostics::Statement { items } => statement_items_fault(frames, items),
+        Diagnostics::Condition { number, items } => earlier(
+            number_fault(frames, number),
+            condition_items_fault(frames, items),
+        ),
+    }
+}

@@ -1,0 +1,230 @@
+//! What the handlers of a block handle: nothing twice.
+ghost use Rattle.std.specs.Prelude.{◌≡◌, ◌∷◌, [], IfOk, map, option_map};
+ghost use Rattle.psm_rules.specs.Faults.{first_of};
+ghost use Rattle.psm_rules.specs.StatementFaults.{several};
+ghost use Rattle.psm_rules.specs.BlockFaults.{ByName, ByState, Exceptions, NoData, Warnings, all_values, handler_part, handles, named_value, value_fault, value_place, values_fault};
+ghost use Rattle.psm_check_stmt.specs.Handling.{AreHandled, FindsIn, Notes, NotesKnown};
+
+use crate::conditions::{condition_name_fault, good_state, state_fault};
+use indexmap::IndexSet;
+use psm_check_expr::{Frames, breaks_if};
+use psm_list::{Boxed, List, OneOrMore};
+use psm_rules::{Fault, Rule, earlier};
+use psm_scope::{DeclaredCondition, Names};
+use psm_sqlstate::SqlState;
+use psm_text::Name;
+use psm_token::Place;
+use psm_tree::{Handler, HandlerValue, Identifier};
+use std::alloc::{AllocError, Global};
+
+// The five characters of an SQLSTATE.
+fn characters(state: &SqlState) -> [u8; 5]
+    ensures { result ≡ state.now }
+{
+    match state.text().as_bytes() {
+        [a, b, c, d, e] => [*a, *b, *c, *d, *e],
+        _ => unreachable!(),
+    }
+}
+
+/// What the handlers of a block handle so far.
+#[derive(Drop)]
+struct Handled<'a> {
+    states: IndexSet<[u8; 5]>,
+    names: Names<'a, ()>,
+    exceptions: bool,
+    warnings: bool,
+    no_data: bool,
+}
+
+impl<'a> Handled<'a> {
+    fn new(alloc: Global) -> Handled<'a>
+        ensures { AreHandled result [] }
+    {
+        Handled {
+            states: IndexSet::new(alloc),
+            names: Names::new(alloc),
+            exceptions: false,
+            warnings: false,
+            no_data: false,
+        }
+    }
+
+    // Whether a value stands before; it then stands too.
+    fn repeats(
+        &mut self,
+        alloc: Global,
+        frames: &Frames,
+        value: &'a HandlerValue,
+    ) -> Result<bool, AllocError>
+        ensures { IfOk result (λ b. NotesKnown (handles frames.now value.now) self.old self.new b) }
+    {
+        match value {
+            HandlerValue::State(state) => {
+                let state = good_state(alloc, &state.text)?;
+                self.repeats_good(&state)
+            }
+            HandlerValue::Name(name) => {
+                let known = frames.condition(&name.name);
+                self.repeats_declared(name, &known)
+            }
+            HandlerValue::SqlException { .. } => Ok(self.repeats_exceptions()),
+            HandlerValue::SqlWarning { .. } => Ok(self.repeats_warnings()),
+            HandlerValue::NotFound { .. } => Ok(self.repeats_no_data()),
+        }
+    }
+
+    fn repeats_good(&mut self, state: &Option<SqlState>) -> Result<bool, AllocError>
+        ensures { IfOk result (λ b. NotesKnown (option_map (λ s. ByState s) state.now) self.old self.new b) }
+    {
+        match state {
+            None => Ok(false),
+            Some(state) => self.repeats_state(state),
+        }
+    }
+
+    fn repeats_declared(
+        &mut self,
+        name: &'a Identifier,
+        known: &Option<DeclaredCondition>,
+    ) -> Result<bool, AllocError>
+        ensures { IfOk result (λ b. NotesKnown (option_map (λ d. named_value name.now.name d.state) known.now) self.old self.new b) }
+    {
+        match known {
+            None => Ok(false),
+            Some(known) => self.repeats_named(name, &known.state),
+        }
+    }
+
+    fn repeats_named(
+        &mut self,
+        name: &'a Identifier,
+        state: &Option<SqlState>,
+    ) -> Result<bool, AllocError>
+        ensures { IfOk result (λ b. Notes (named_value name.now.name state.now) self.old self.new b) }
+    {
+        match state {
+            None => self.repeats_name(&name.name),
+            Some(state) => self.repeats_state(state),
+        }
+    }
+
+    fn repeats_state(&mut self, state: &SqlState) -> Result<bool, AllocError>
+        ensures { IfOk result (λ b. Notes (ByState state.now) self.old self.new b) }
+    {
+        let added = self.states.insert(characters(state))?;
+        Ok(!added)
+    }
+
+    fn repeats_name(&mut self, name: &'a Name) -> Result<bool, AllocError>
+        ensures { IfOk result (λ b. Notes (ByName name.now) self.old self.new b) }
+    {
+        let added = self.names.add(name, ())?;
+        Ok(!added)
+    }
+
+    fn repeats_exceptions(&mut self) -> bool
+        ensures { Notes Exceptions self.old self.new result }
+    {
+        let before = self.exceptions;
+        self.exceptions = true;
+        before
+    }
+
+    fn repeats_warnings(&mut self) -> bool
+        ensures { Notes Warnings self.old self.new result }
+    {
+        let before = self.warnings;
+        self.warnings = true;
+        before
+    }
+
+    fn repeats_no_data(&mut self) -> bool
+        ensures { Notes NoData self.old self.new result }
+    {
+        let before = self.no_data;
+        self.no_data = true;
+        before
+    }
+}
+
+/// The first fault of the values of all handlers of a block, in order: none stands twice.
+pub(crate) fn values_fault<'a>(
+    alloc: Global,
+    frames: &Frames,
+    handlers: &'a List<Boxed<Handler>>,
+) -> Result<Option<Fault>, AllocError>
+    ensures { IfOk result (λ f. f ≡ first_of (values_fault frames.now [] (all_values (map handler_part handlers.now)))) }
+{
+    let mut handled = Handled::new(alloc);
+    let mut fault = None;
+    for handler in handlers.items() {
+        let own = handler_values_fault(alloc, frames, handler.get(), &mut handled)?;
+        fault = earlier(fault, own);
+    }
+    Ok(fault)
+}
+
+fn handler_values_fault<'a>(
+    alloc: Global,
+    frames: &Frames,
+    handler: &'a Handler,
+    handled: &mut Handled<'a>,
+) -> Result<Option<Fault>, AllocError>
+    ensures { IfOk result (λ f. FindsIn frames.now (handler_part handler.now).values handled.old handled.new f) }
+{
+    several_values_fault(alloc, frames, &handler.values, handled)
+}
+
+fn several_values_fault<'a>(
+    alloc: Global,
+    frames: &Frames,
+    values: &'a OneOrMore<HandlerValue>,
+    handled: &mut Handled<'a>,
+) -> Result<Option<Fault>, AllocError>
+    ensures { IfOk result (λ f. FindsIn frames.now (several values.now) handled.old handled.new f) }
+{
+    let mut fault = value_fault(alloc, frames, &values.first, handled)?;
+    for value in values.rest.items() {
+        let own = value_fault(alloc, frames, value, handled)?;
+        fault = earlier(fault, own);
+    }
+    Ok(fault)
+}
+
+fn value_fault<'a>(
+    alloc: Global,
+    frames: &Frames,
+    value: &'a HandlerValue,
+    handled: &mut Handled<'a>,
+) -> Result<Option<Fault>, AllocError>
+    ensures { IfOk result (λ f. FindsIn frames.now (value.now ∷ []) handled.old handled.new f) }
+{
+    let own = unrepeated_fault(alloc, frames, value)?;
+    let repeats = handled.repeats(alloc, frames, value)?;
+    let repeated = breaks_if(repeats, Rule::ConditionValueRepeated, value_place(value));
+    Ok(earlier(own, repeated))
+}
+
+// The fault of a value by itself.
+fn unrepeated_fault(
+    alloc: Global,
+    frames: &Frames,
+    value: &HandlerValue,
+) -> Result<Option<Fault>, AllocError>
+    ensures { IfOk result (λ f. f ≡ value_fault frames.now value.now) }
+{
+    match value {
+        HandlerValue::State(state) => state_fault(alloc, state),
+        HandlerValue::Name(name) => Ok(condition_name_fault(frames, name)),
+        HandlerValue::SqlException { .. }
+        | HandlerValue::SqlWarning { .. }
+        | HandlerValue::NotFound { .. } => Ok(None),
+    }
+}
+
+fn value_place(value: &HandlerValue) -> Place
+    ensures { result ≡ value_place value.now }
+{
+    value.place()
+}

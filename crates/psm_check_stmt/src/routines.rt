@@ -1,0 +1,419 @@
+//! The first fault of a routine, and what routines declare.
+ghost use Rattle.std.specs.Prelude.{◌≡◌, ◌∷◌, ◌<◌, [], map, true, IfOk};
+ghost use Rattle.psm_scope.specs.Scopes.{can_declare_here};
+ghost use Rattle.psm_rules.specs.declared.rule.Rule.TheVariants as rules_of;
+ghost use Rattle.psm_rules.specs.Faults.{first_of};
+ghost use Rattle.psm_rules.specs.BlockFaults.{statement_fault};
+ghost use Rattle.psm_rules.specs.StatementFaults.{repeated, several};
+ghost use Rattle.psm_rules.specs.FileFaults.{block_returns, body_context, branch_returns, handler_returns, has_return, is_in, kind_of, kind_of_routine, mode_of, note_number, notes_fault, parameter_fault, parameter_of, parameter_variable, result_fault, return_fault, returns, routine_fault, routine_frames, some, with_parameter, with_routine, with_routines};
+ghost use Rattle.psm_check_stmt.specs.InRoutine.{within_of};
+
+use crate::blocks::statement_fault;
+use crate::repeated::Repeats;
+use crate::statements::{Context, Within};
+use crate::told::Told;
+use psm_check_expr::{Frames, World, breaks_if, type_fault, type_of};
+use psm_list::{Boxed, List, OneOrMore};
+use psm_rules::{Fault, Rule, earlier};
+use psm_scope::{ArgKind, FrameKind, ParameterMode, ParameterScope, ProcedureScope, Variable};
+use psm_tree::{
+    Block, Branch, DataType, Handler, Mode, Note, NoteForm, Parameter, Routine, Simple, Statement,
+    TypeForm,
+};
+use std::alloc::{AllocError, Global};
+
+// ---- what routines declare
+
+/// The kind of a type, also of one that is out of range.
+pub(crate) fn kind_of(form: &TypeForm) -> ArgKind
+    ensures { result ≡ kind_of form.now }
+{
+    match form {
+        TypeForm::SmallInt => ArgKind::SmallInt,
+        TypeForm::Integer => ArgKind::Integer,
+        TypeForm::Numeric(_) => ArgKind::Numeric,
+        TypeForm::Char(_) => ArgKind::Char,
+        TypeForm::VarChar(_) => ArgKind::VarChar,
+    }
+}
+
+fn kinds_of(alloc: Global, parameters: &[Parameter]) -> Result<List<ArgKind>, AllocError>
+    ensures { IfOk result (λ kinds. kinds ≡ map (λ p. kind_of p.kind.form) parameters.now) }
+{
+    let mut kinds = Vec::new(alloc);
+    for parameter in parameters {
+        kinds.push(kind_of(&parameter.kind.form))?;
+    }
+    Ok(List::of(kinds))
+}
+
+fn mode_of(mode: Mode) -> ParameterMode
+    ensures { result ≡ mode_of mode }
+{
+    match mode {
+        Mode::In => ParameterMode::In,
+        Mode::Out => ParameterMode::Out,
+        Mode::InOut => ParameterMode::InOut,
+    }
+}
+
+fn parameters_of(
+    alloc: Global,
+    parameters: &[Parameter],
+) -> Result<List<ParameterScope>, AllocError>
+    ensures { IfOk result (λ known. known ≡ map parameter_of parameters.now) }
+{
+    let mut known = Vec::new(alloc);
+    for parameter in parameters {
+        known.push(ParameterScope {
+            mode: mode_of(parameter.mode),
+            kind: type_of(&parameter.kind),
+        })?;
+    }
+    Ok(List::of(known))
+}
+
+/// Declares the routines of a file.
+pub(crate) fn declare_routines<'a>(
+    alloc: Global,
+    routines: &'a [Routine],
+    world: &mut World<'a>,
+) -> Result<(), AllocError>
+    ensures { IfOk result (λ _. world.new ≡ with_routines world.old routines.now) }
+{
+    for routine in routines {
+        declare_routine(alloc, routine, world)?;
+    }
+    Ok(())
+}
+
+fn declare_routine<'a>(
+    alloc: Global,
+    routine: &'a Routine,
+    world: &mut World<'a>,
+) -> Result<(), AllocError>
+    ensures { IfOk result (λ _. world.new ≡ with_routine world.old routine.now routine.now.returns) }
+{
+    match &routine.returns {
+        None => declare_procedure(alloc, routine, world),
+        Some(t) => declare_function(alloc, routine, t, world),
+    }
+}
+
+fn declare_procedure<'a>(
+    alloc: Global,
+    routine: &'a Routine,
+    world: &mut World<'a>,
+) -> Result<(), AllocError>
+    ensures { IfOk result (λ _. world.new ≡ with_routine world.old routine.now None) }
+{
+    let known = ProcedureScope {
+        number: 0,
+        parameters: parameters_of(alloc, routine.parameters.items())?,
+    };
+    world.procedures.add(&routine.name.name, known)?;
+    Ok(())
+}
+
+fn declare_function<'a>(
+    alloc: Global,
+    routine: &'a Routine,
+    returned: &DataType,
+    world: &mut World<'a>,
+) -> Result<(), AllocError>
+    ensures { IfOk result (λ _. world.new ≡ with_routine world.old routine.now (Some returned.now)) }
+{
+    let kinds = kinds_of(alloc, routine.parameters.items())?;
+    world
+        .functions
+        .push(&routine.name.name, kinds, type_of(returned))?;
+    Ok(())
+}
+
+// ---- the body of a function has a RETURN, in an action perhaps
+
+#[cycle(returning)]
+#[tactic(auto, using(crate::proofs::Returning::statement_returns))]
+fn has_return(statement: &Statement) -> bool
+    ensures { result ≡ has_return statement.now }
+{
+    match statement {
+        Statement::Block { block, .. } => block_returns(block.get()),
+        Statement::If {
+            branches,
+            otherwise,
+            ..
+        }
+        | Statement::Case {
+            branches,
+            otherwise,
+            ..
+        } => {
+            branch_returns(branches.first.get())
+                || branches_return(branches.rest.items())
+                || one_returns(otherwise.items())
+        }
+        Statement::Simple(simple) => is_return(simple.get()),
+    }
+}
+
+fn is_return(simple: &Simple) -> bool
+    ensures { result ≡ returns simple.now }
+{
+    match simple {
+        Simple::Return { .. } => true,
+        _ => false,
+    }
+}
+
+#[cycle(returning)]
+fn one_returns(statements: &[Boxed<Statement>]) -> bool
+    ensures { result ≡ some (map has_return statements.now) }
+{
+    for statement in statements {
+        if has_return(statement.get()) {
+            return true;
+        }
+    }
+    false
+}
+
+#[cycle(returning)]
+fn several_return(statements: &OneOrMore<Boxed<Statement>>) -> bool
+    ensures { result ≡ some (map has_return (several statements.now)) }
+{
+    if has_return(statements.first.get()) {
+        return true;
+    }
+    for statement in statements.rest.items() {
+        if has_return(statement.get()) {
+            return true;
+        }
+    }
+    false
+}
+
+#[cycle(returning)]
+fn branches_return(branches: &[Boxed<Branch>]) -> bool
+    ensures { result ≡ some (map branch_returns branches.now) }
+{
+    for branch in branches {
+        if branch_returns(branch.get()) {
+            return true;
+        }
+    }
+    false
+}
+
+#[cycle(returning)]
+#[tactic(auto, using(crate::proofs::Returning::returns_branch))]
+fn branch_returns(branch: &Branch) -> bool
+    ensures { result ≡ branch_returns branch.now }
+{
+    several_return(&branch.statements)
+}
+
+#[cycle(returning)]
+#[tactic(auto, using(crate::proofs::Returning::returns_handler))]
+fn handlers_return(handlers: &[Boxed<Handler>]) -> bool
+    ensures { result ≡ some (map handler_returns handlers.now) }
+{
+    for handler in handlers {
+        if has_return(handler.get().action.get()) {
+            return true;
+        }
+    }
+    false
+}
+
+#[cycle(returning)]
+#[tactic(auto, using(crate::proofs::Returning::block_returns_equations))]
+fn block_returns(block: &Block) -> bool
+    ensures { result ≡ block_returns block.now }
+{
+    match block {
+        Block::Compound {
+            handlers,
+            statements,
+            ..
+        } => handlers_return(handlers.items()) || one_returns(statements.items()),
+        Block::Loop { statements, .. }
+        | Block::While { statements, .. }
+        | Block::Repeat { statements, .. }
+        | Block::For { statements, .. } => several_return(statements),
+    }
+}
+
+// ---- notes: an alternative stands at most once, DETERMINISTIC and NOT DETERMINISTIC being one
+
+fn notes_fault(notes: &[Note]) -> Option<Fault>
+    ensures { result ≡ first_of (notes_fault [] notes.now) }
+{
+    let mut seen = [false; 5];
+    let mut fault = None;
+    for note in notes {
+        let number = note_number(note.form);
+        let repeated = seen[number];
+        seen[number] = true;
+        fault = earlier(fault, breaks_if(repeated, Rule::NoteRepeated, note.place));
+    }
+    fault
+}
+
+fn note_number(form: NoteForm) -> usize
+    ensures number { result ≡ note_number form }
+    ensures few { result < 5 }
+{
+    match form {
+        NoteForm::Language => 0,
+        NoteForm::Deterministic | NoteForm::NotDeterministic => 1,
+        NoteForm::ContainsSql => 2,
+        NoteForm::ReadsSqlData => 3,
+        NoteForm::ModifiesSqlData => 4,
+    }
+}
+
+// ---- parameters
+
+fn is_in(mode: Mode) -> bool
+    ensures { result ≡ is_in mode }
+{
+    match mode {
+        Mode::In => true,
+        Mode::Out | Mode::InOut => false,
+    }
+}
+
+fn parameter_fault(of_function: bool, parameter: &Parameter) -> Option<Fault>
+    ensures { result ≡ parameter_fault of_function parameter.now }
+{
+    let mode = breaks_if(
+        of_function && !is_in(parameter.mode),
+        Rule::ModeNotAllowed,
+        parameter.place,
+    );
+    earlier(mode, type_fault(&parameter.kind, type_of(&parameter.kind)))
+}
+
+fn parameters_fault(of_function: bool, parameters: &[Parameter]) -> Option<Fault>
+    ensures { result ≡ first_of (map (parameter_fault of_function) parameters.now) }
+{
+    let mut fault = None;
+    for parameter in parameters {
+        fault = earlier(fault, parameter_fault(of_function, parameter));
+    }
+    fault
+}
+
+// The first parameter whose name stands before.
+fn parameter_names_fault(
+    alloc: Global,
+    parameters: &[Parameter],
+) -> Result<Option<Fault>, AllocError>
+    ensures { IfOk result (λ f. f ≡ repeated rules_of.ParameterRepeated (map (λ p. p.name) parameters.now)) }
+{
+    let mut names = Repeats::new(alloc, Rule::ParameterRepeated);
+    for parameter in parameters {
+        names.add(&parameter.name)?;
+    }
+    Ok(names.fault())
+}
+
+// The frame of a routine, in which its parameters are variables.
+fn routine_frames<'a>(alloc: Global, r: &'a Routine) -> Result<Frames<'a>, AllocError>
+    ensures { IfOk result (λ frames. frames ≡ routine_frames r.now) }
+{
+    let mut frames = Frames::new(alloc);
+    frames.push(FrameKind::Routine(&r.name.name))?;
+    for parameter in r.parameters.items() {
+        declare_parameter(&mut frames, parameter)?;
+    }
+    Ok(frames)
+}
+
+fn declare_parameter<'a>(
+    frames: &mut Frames<'a>,
+    parameter: &'a Parameter,
+) -> Result<(), AllocError>
+    requires { can_declare_here frames.old ≡ true }
+    ensures declared { IfOk result (λ _. frames.new ≡ with_parameter frames.old parameter.now) }
+    ensures inside { IfOk result (λ _. can_declare_here frames.new ≡ true) }
+{
+    frames.declare_variable(&parameter.name.name, parameter_variable(parameter))?;
+    Ok(())
+}
+
+fn parameter_variable(parameter: &Parameter) -> Variable
+    ensures { result ≡ parameter_variable parameter.now }
+{
+    Variable {
+        kind: type_of(&parameter.kind),
+        slot: 0,
+        assignable: !is_in(parameter.mode),
+    }
+}
+
+// ---- a routine
+
+/// The first fault of a routine.
+pub(crate) fn routine_fault<'a>(
+    alloc: Global,
+    world: &World<'a>,
+    told: &mut Told<'a>,
+    r: &'a Routine,
+) -> Result<Option<Fault>, AllocError>
+    ensures fault { IfOk result (λ f. f ≡ routine_fault world.now told.old r.now) }
+    ensures before { IfOk result (λ _. told.new ≡ r.now ∷ told.old) }
+{
+    let apart = told.fault(alloc, r)?;
+    let fault = earlier(apart, return_fault(r));
+    let names = parameter_names_fault(alloc, r.parameters.items())?;
+    let fault = earlier(fault, names);
+    let parameters = parameters_fault(r.returns.is_some(), r.parameters.items());
+    let fault = earlier(fault, parameters);
+    let fault = earlier(fault, result_fault(&r.returns));
+    let fault = earlier(fault, notes_fault(r.notes.items()));
+    Ok(earlier(fault, body_fault(alloc, world, r)?))
+}
+
+// A function without RETURN.
+fn return_fault(r: &Routine) -> Option<Fault>
+    ensures { result ≡ return_fault r.now }
+{
+    let without = r.returns.is_some() && !has_return(r.body.get());
+    breaks_if(without, Rule::FunctionWithoutReturn, r.name.place)
+}
+
+fn result_fault(returned: &Option<DataType>) -> Option<Fault>
+    ensures { result ≡ result_fault returned.now }
+{
+    match returned {
+        None => None,
+        Some(t) => type_fault(t, type_of(t)),
+    }
+}
+
+fn within(returned: &Option<DataType>) -> Within
+    ensures { within_of result ≡ kind_of_routine returned.now }
+{
+    match returned {
+        None => Within::Procedure,
+        Some(t) => Within::Function(type_of(t)),
+    }
+}
+
+fn body_fault<'a>(
+    alloc: Global,
+    world: &World<'a>,
+    r: &'a Routine,
+) -> Result<Option<Fault>, AllocError>
+    ensures { IfOk result (λ f. f ≡ statement_fault r.now.body (body_context world.now r.now)) }
+{
+    let c = Context {
+        alloc,
+        world,
+        within: within(&r.returns),
+    };
+    let mut frames = routine_frames(alloc, r)?;
+    statement_fault(r.body.get(), c, &mut frames)
+}
