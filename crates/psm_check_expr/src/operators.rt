@@ -252,8 +252,8 @@ fn argument(family: Family, f: Found) -> Found
     of_family(family, as_value(f))
 }
 
-// What a function of one text comes to.
-fn text_result(function: TextFunction) -> Typed
+/// What a function of one text comes to.
+pub fn text_result(function: TextFunction) -> Typed
     ensures { result ≡ text_result function }
 {
     match function {

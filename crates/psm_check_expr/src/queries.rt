@@ -110,7 +110,8 @@ fn set_argument(function: SetFunction, argument: Found) -> Found
     }
 }
 
-fn set_result(function: SetFunction, t: Typed) -> Typed
+/// What a set function over values of a type comes to.
+pub fn set_result(function: SetFunction, t: Typed) -> Typed
     ensures { result ≡ set_result function t }
 {
     match function {

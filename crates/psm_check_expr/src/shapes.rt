@@ -9,19 +9,19 @@ use psm_scope::ArgKind;
 use psm_value::SqlType;
 
 /// What CHAR_LENGTH and POSITION come to.
-pub(crate) const INTEGER: Typed = Typed {
+pub const INTEGER: Typed = Typed {
     kind: ArgKind::Integer,
     scale: 0,
 };
 
 /// What a literal of a text comes to.
-pub(crate) const CHARACTER: Typed = Typed {
+pub const CHARACTER: Typed = Typed {
     kind: ArgKind::Char,
     scale: 0,
 };
 
 /// What a function of a text comes to.
-pub(crate) const VARYING: Typed = Typed {
+pub const VARYING: Typed = Typed {
     kind: ArgKind::VarChar,
     scale: 0,
 };
@@ -67,7 +67,7 @@ pub fn typed(t: SqlType) -> Typed
 }
 
 /// What a number comes to: without decimals it is INTEGER where it fits in 32 bits.
-pub(crate) fn of_literal(n: Dec) -> Typed
+pub fn of_literal(n: Dec) -> Typed
     ensures { result ≡ of_literal n }
 {
     let scale = n.scale();
@@ -97,7 +97,7 @@ fn rank(kind: ArgKind) -> u8
 }
 
 /// A sum, a difference or a quotient.
-pub(crate) fn at_larger_scale(a: Typed, b: Typed) -> Typed
+pub fn at_larger_scale(a: Typed, b: Typed) -> Typed
     ensures { result ≡ at_larger_scale a b }
 {
     Typed {
@@ -107,7 +107,7 @@ pub(crate) fn at_larger_scale(a: Typed, b: Typed) -> Typed
 }
 
 /// The type so far with one result more.
-pub(crate) fn joined(so_far: Option<Typed>, shape: Shape) -> Option<Typed>
+pub fn joined(so_far: Option<Typed>, shape: Shape) -> Option<Typed>
     ensures { result ≡ joined so_far shape }
 {
     match shape {
