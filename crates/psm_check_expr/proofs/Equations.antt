@@ -1,5 +1,5 @@
 -- What is found in each kind of expression, by its layer.
-use Rattle.std.proofs.Common.{◌≡◌, ℕ, Bool, List, [], ◌∷◌, Option, Some, None, map, option_map, refl, ap, ◌∙◌}
+use Rattle.std.proofs.Common.{◌≡◌, ℕ, Bool, List, [], ◌∷◌, Option, Some, None, map, option_map, refl, ap, sym, ◌∙◌}
 use denote.Hole.Carrier
 use Rattle.psm_num.specs.Num.{Num}
 use Rattle.psm_list.specs.Several.{Several, several_map}
@@ -146,6 +146,40 @@ unfolding roll-Expr Carrier.roll
 found-Trim place side text view = ap (λ f. f view) (expr_rolled (layers.Trim place side text))
 
 pub ruleset expr_equations = (found-Null, found-Number, found-Text, found-Name, found-Junction, found-Not, found-Compare, found-IsNull, found-Between, found-In, found-Like, found-Chain, found-Signed, found-Call, found-Parenthesized, found-Subquery, found-Exists, found-Case, found-Cast, found-Coalesce, found-NullIf, found-Function, found-Position, found-Substring, found-Trim)
+
+-- ---- the forms with a part that may be absent, from what is found in their parts
+
+pub like_by : (e value pattern v p : Expr) (negated : Bool) (escape : Option Expr) (view : View) (first second whole : Found) (third : Option Found)
+    → e ≡ exprs.Like negated value pattern escape → v ≡ value → p ≡ pattern → first ≡ expr_found v view → second ≡ expr_found p view
+    → third ≡ seen_option view (option_map expr_found escape) → whole ≡ like_found first.place (as_value first ∷ as_value second ∷ else_of third) → whole ≡ expr_found e view
+like_by e value pattern v p negated escape view first second whole third is a b f s t w =
+    w
+    ∙ ap (λ x. like_found x.place (as_value x ∷ as_value second ∷ else_of third)) (f ∙ ap (λ y. expr_found y view) a)
+    ∙ ap (λ x. like_found (expr_found value view).place (as_value (expr_found value view) ∷ as_value x ∷ else_of third)) (s ∙ ap (λ y. expr_found y view) b)
+    ∙ ap (λ x. like_found (expr_found value view).place (as_value (expr_found value view) ∷ as_value (expr_found pattern view) ∷ else_of x)) t
+    ∙ sym (found-Like negated value pattern escape view)
+    ∙ ap (λ y. expr_found y view) (sym is)
+
+pub substring_by : (e text from v p : Expr) (place : Place) (length : Option Expr) (view : View) (first second whole : Found) (third : Option Found)
+    → e ≡ exprs.Substring place text from length → v ≡ text → p ≡ from → first ≡ expr_found v view → second ≡ expr_found p view
+    → third ≡ seen_option view (option_map expr_found length) → whole ≡ function_found place varying (argument Texts first ∷ argument Numbers second ∷ with_length third) → whole ≡ expr_found e view
+substring_by e text from v p place length view first second whole third is a b f s t w =
+    w
+    ∙ ap (λ x. function_found place varying (argument Texts x ∷ argument Numbers second ∷ with_length third)) (f ∙ ap (λ y. expr_found y view) a)
+    ∙ ap (λ x. function_found place varying (argument Texts (expr_found text view) ∷ argument Numbers x ∷ with_length third)) (s ∙ ap (λ y. expr_found y view) b)
+    ∙ ap (λ x. function_found place varying (argument Texts (expr_found text view) ∷ argument Numbers (expr_found from view) ∷ with_length x)) t
+    ∙ sym (found-Substring place text from length view)
+    ∙ ap (λ y. expr_found y view) (sym is)
+
+pub case_by : (e : Expr) (place : Place) (operand : Option Expr) (whens : Several When) (otherwise : Option Expr) (view : View) (first last : Option Found) (whole : Found)
+    → e ≡ exprs.Case place operand whens otherwise → first ≡ seen_option view (option_map expr_found operand) → last ≡ seen_option view (option_map expr_found otherwise)
+    → whole ≡ case_found place first (seen_in view (several_map when_found whens)) last → whole ≡ expr_found e view
+case_by e place operand whens otherwise view first last whole is f l w =
+    w
+    ∙ ap (λ x. case_found place x (seen_in view (several_map when_found whens)) last) f
+    ∙ ap (λ x. case_found place (seen_option view (option_map expr_found operand)) (seen_in view (several_map when_found whens)) x) l
+    ∙ sym (found-Case place operand whens otherwise view)
+    ∙ ap (λ y. expr_found y view) (sym is)
 
 -- ---- queries
 
