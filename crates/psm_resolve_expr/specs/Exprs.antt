@@ -59,7 +59,9 @@ use Rattle.psm_resolved.specs.declared.expr.Operator.TheVariants as operators
 use Rattle.psm_resolved.specs.declared.expr.TextFunction.{TextFunction}
 use Rattle.psm_resolved.specs.declared.expr.TextFunction.TheVariants as functions
 use Rattle.psm_resolve_expr.specs.Sight.{Sight, on_row, name_in, table_at}
-use Rattle.psm_resolve_expr.specs.Made.{Made, MadePick, MadeQuery, Values, OfAll, values_in, sets_in, of_meaning, called, kind_of, operated, joined_in, shape_of_result, scale_of_result, shape_of_type}
+use Rattle.psm_resolve_expr.specs.declared.made.Made.{Made}
+use Rattle.psm_resolve_expr.specs.declared.made.MadeQuery.{MadeQuery}
+use Rattle.psm_resolve_expr.specs.Made.{MadePick, Values, OfAll, values_in, sets_in, of_meaning, called, kind_of, operated, joined_in, shape_of_result, scale_of_result, shape_of_type}
 
 -- ---- operators and functions
 
@@ -128,6 +130,9 @@ when_of w = roll-ResolvedWhen (record { test = w.0.expr; result = w.1.expr })
 abbrev pub chained : Shape → List (WrittenOperator × Made) → Shape
 chained left [] = left
 chained left (l ∷ links) = chained (operated l.0 left l.1.shape) links
+
+abbrev pub chain_of : Made → List (WrittenOperator × Made) → Made
+chain_of first links = record { expr = exprs.Chain first.expr (map link_of links); shape = chained first.shape links }
 
 abbrev pub signed : Sign → Made → Made
 signed Plus m = m
@@ -216,7 +221,7 @@ abbrev pub any_at : {A : Type 0} → Sight → Option (Sight → A) → Option A
 any_at sight part = option_map (λ p. p sight) part
 
 abbrev pub call_of : Sight → Identifier → List Made → Made
-call_of sight name arguments = called arguments (function sight.world.functions name.name (map (λ a. kind_of a.shape) arguments))
+call_of sight name arguments = called (map expr_in arguments) (function sight.world.functions name.name (map (λ a. kind_of a.shape) arguments))
 
 abbrev pub expr_layer : Layer → Sight → Made
 expr_layer (layers.Null place) sight = record { expr = exprs.Null; shape = Untyped }
@@ -230,10 +235,7 @@ expr_layer (layers.IsNull negated operand) sight = condition (exprs.IsNull negat
 expr_layer (layers.Between negated operand low high) sight = condition (exprs.Between negated (operand sight).expr (low sight).expr (high sight).expr)
 expr_layer (layers.In negated operand list) sight = condition (exprs.In negated (operand sight).expr (several_map expr_in (at sight list)))
 expr_layer (layers.Like negated operand pattern escape) sight = condition (exprs.Like negated (operand sight).expr (pattern sight).expr (optional_in (any_at sight escape)))
-expr_layer (layers.Chain first links) sight = record {
-  expr = exprs.Chain (first sight).expr (map link_of (all_at sight links));
-  shape = chained (first sight).shape (all_at sight links);
-}
+expr_layer (layers.Chain first links) sight = chain_of (first sight) (all_at sight links)
 expr_layer (layers.Signed place sign operand) sight = signed sign (operand sight)
 expr_layer (layers.Call function arguments) sight = call_of sight function (all_at sight arguments)
 expr_layer (layers.Parenthesized place expr) sight = expr sight

@@ -21,11 +21,7 @@ use Rattle.psm_tree.specs.declared.expr.Operator.TheVariants as written
 use Rattle.psm_resolved.specs.declared.expr.ResolvedExpr.{ResolvedExpr}
 use Rattle.psm_resolved.specs.declared.expr.ResolvedExpr.TheVariants as exprs
 use Rattle.psm_resolved.specs.declared.expr.ResolvedItem.{ResolvedItem}
-use Rattle.psm_resolved.specs.declared.expr.ResolvedQuery.{ResolvedQuery}
-
-pub record Made : Type 0 where
-  pub expr : ResolvedExpr
-  pub shape : Shape
+use Rattle.psm_resolve_expr.specs.declared.made.Made.{Made}
 
 -- ---- shapes
 
@@ -85,9 +81,9 @@ kind_of (Value t) = t.kind
 kind_of Untyped = kind.Null
 kind_of Condition = kind.Null
 
-abbrev pub called : List Made → Result (ℕ × Option SqlType) ChoiceFault → Made
-called arguments (Ok p) = record { expr = exprs.Call p.0 (map (λ a. a.expr) arguments); shape = shape_of_type p.1 }
-called arguments (Err fault) = record { expr = exprs.Call 0 (map (λ a. a.expr) arguments); shape = Untyped }
+abbrev pub called : List ResolvedExpr → Result (ℕ × Option SqlType) ChoiceFault → Made
+called arguments (Ok p) = record { expr = exprs.Call p.0 arguments; shape = shape_of_type p.1 }
+called arguments (Err fault) = record { expr = exprs.Call 0 arguments; shape = Untyped }
 
 -- ---- queries
 
@@ -95,11 +91,6 @@ called arguments (Err fault) = record { expr = exprs.Call 0 (map (λ a. a.expr) 
 pub data MadePick : Type 0 where
   Values : List Made → MadePick
   OfAll : ResolvedItem → Shape → MadePick
-
--- a query with the shapes of its items
-pub record MadeQuery : Type 0 where
-  pub query : ResolvedQuery
-  pub shapes : List Shape
 
 abbrev pub values_in : List MadePick → List Made
 values_in [] = []

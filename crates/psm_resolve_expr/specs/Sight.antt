@@ -8,7 +8,7 @@ use Rattle.psm_scope.specs.declared.known.DeclaredCondition.{DeclaredCondition}
 use Rattle.psm_rules.specs.View.{World, Columns}
 use Rattle.psm_tree.specs.declared.name.Identifier.{Identifier}
 use Rattle.psm_tree.specs.declared.name.Target.{Target}
-use Rattle.psm_rules.specs.ExprFaults.{spelling, columns_known}
+use Rattle.psm_rules.specs.ExprFaults.{spelling}
 
 -- a cursor is known by its number
 abbrev pub Frames : Type 0
@@ -24,12 +24,12 @@ abbrev pub on_row : Sight → RowTable (Option SqlType) → Sight
 on_row sight row = record sight { row = Some row }
 
 -- what a name means: on a row the table's columns come first
+abbrev pub meant_in : Frames → Option (RowTable (Option SqlType)) → Target → Option (Meaning Variable (Option SqlType))
+meant_in frames None t = as_variable (meant t.first.name (spelling t.second) frames)
+meant_in frames (Some row) t = meant_on_row t.first.name (spelling t.second) row frames
+
 abbrev pub name_in : Sight → Target → Option (Meaning Variable (Option SqlType))
-name_in sight t = in_row sight.row
-  where
-    in_row : Option (RowTable (Option SqlType)) → Option (Meaning Variable (Option SqlType))
-    in_row None = as_variable (meant t.first.name (spelling t.second) sight.frames)
-    in_row (Some row) = meant_on_row t.first.name (spelling t.second) row sight.frames
+name_in sight t = meant_in sight.frames sight.row t
 
 -- a table with its number
 abbrev pub table_at : Sight → Spelling → Option (ℕ × Columns)

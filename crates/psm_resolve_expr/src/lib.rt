@@ -3,7 +3,12 @@
 #![tactic(auto)]
 
 mod exprs;
+mod forms;
 mod made;
+mod operators;
+mod parts;
+mod picks;
+mod shapes;
 mod sight;
 
 pub use exprs::{made_of, query_made};
