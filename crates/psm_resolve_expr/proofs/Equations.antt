@@ -33,6 +33,7 @@ use Rattle.psm_rules.specs.ExprFaults.{spelling, text_result}
 use Rattle.psm_scope.specs.Routines.{function}
 use Rattle.psm_resolve_expr.specs.declared.made.Made.{Made}
 use Rattle.psm_resolve_expr.specs.declared.made.MadeQuery.{MadeQuery}
+use Rattle.psm_resolve_expr.specs.declared.parts.Branches.{Branches}
 use Rattle.psm_resolve_expr.specs.Sight.{Sight, name_in, on_row, table_at}
 use Rattle.psm_resolve_expr.specs.Made.{MadePick, Values, OfAll, called, of_meaning, scale_of_result, shape_of_result}
 use Rattle.psm_resolve_expr.specs.Exprs.{Of, expr_in, optional_in, condition, value, type_known, comparison_of, junction_of, function_of, side_of, set_of, link_of, chain_of, signed, columns_on, columns_in, number_of, set_item, shape_of_set, only_shape, query_of, at, all_at, any_at, expr_layer, pick_layer, link_layer, select_layer, when_layer, made_of, pick_made, link_made, query_made, when_made}
@@ -40,11 +41,9 @@ use Rattle.psm_resolve_expr.specs.Parts.{arguments_of, branch_of, branches_of, c
 use Rattle.psm_resolve_expr.proofs.Joined.{case_joined, picks_gathered}
 
 expr_rolled : (layer : Expr-F Expr Pick Link Select When) → made_of (roll-Expr layer) ≡ expr_layer (map-Expr Expr Pick Link Select When (Of Made) (Of MadePick) (Of (WrittenOperator × Made)) (Of MadeQuery) (Of (Made × Made)) made_of pick_made link_made query_made when_made layer)
-unfolding made_of pick_made link_made query_made when_made
 expr_rolled layer = fold-roll-Expr (Of Made) (Of MadePick) (Of (WrittenOperator × Made)) (Of MadeQuery) (Of (Made × Made)) expr_layer pick_layer link_layer select_layer when_layer layer
 
 pick_rolled : (layer : Pick-F Expr Pick Link Select When) → pick_made (roll-Pick layer) ≡ pick_layer (map-Pick Expr Pick Link Select When (Of Made) (Of MadePick) (Of (WrittenOperator × Made)) (Of MadeQuery) (Of (Made × Made)) made_of pick_made link_made query_made when_made layer)
-unfolding made_of pick_made link_made query_made when_made
 pick_rolled layer = fold-roll-Pick (Of Made) (Of MadePick) (Of (WrittenOperator × Made)) (Of MadeQuery) (Of (Made × Made)) expr_layer pick_layer link_layer select_layer when_layer layer
 
 pub made-Null : (place : Place) (sight : Sight) → made_of (written.Null place) sight ≡ record { expr = exprs.Null; shape = Untyped }
@@ -154,14 +153,23 @@ made-Trim place side text sight = ap (λ f. f sight) (expr_rolled (layers.Trim p
 
 pub ruleset made_equations = (made-Null, made-Number, made-Text, made-Name, made-Junction, made-Not, made-Compare, made-IsNull, made-Between, made-In, made-Like, made-Chain, made-Signed, made-Call, made-Parenthesized, made-Subquery, made-Exists, made-Case, made-Cast, made-Coalesce, made-NullIf, made-Function, made-Position, made-Substring, made-Trim)
 
+-- CASE, from what is made of its parts
+pub case_by : (e : Expr) (place : Place) (operand : Option Expr) (whens : Several When) (otherwise : Option Expr) (sight : Sight) (first last : Option Made) (branches : Branches)
+    → e ≡ written.Case place operand whens otherwise → first ≡ any_at sight (option_map made_of operand) → branches ≡ branches_of (at sight (several_map when_made whens))
+    → last ≡ any_at sight (option_map made_of otherwise) → case_in first branches last ≡ made_of e sight
+case_by e place operand whens otherwise sight first last branches is f b l =
+    ap (λ o. case_in o branches last) f
+    ∙ ap (λ bs. case_in (any_at sight (option_map made_of operand)) bs last) b
+    ∙ ap (case_in (any_at sight (option_map made_of operand)) (branches_of (at sight (several_map when_made whens)))) l
+    ∙ sym (made-Case place operand whens otherwise sight)
+    ∙ ap (λ w. made_of w sight) (sym is)
+
 -- ---- parts
 
 pub made_link : (link : Link) (sight : Sight) → link_made link sight ≡ ((out-Link link).operator, made_of (out-Link link).operand sight)
-unfolding made_of pick_made link_made query_made when_made
 made_link link sight = ap (λ f. f sight) (fold_out-Link (Of Made) (Of MadePick) (Of (WrittenOperator × Made)) (Of MadeQuery) (Of (Made × Made)) expr_layer pick_layer link_layer select_layer when_layer link)
 
 pub made_when : (when : When) (sight : Sight) → when_made when sight ≡ (made_of (out-When when).test sight, made_of (out-When when).result sight)
-unfolding made_of pick_made link_made query_made when_made
 made_when when sight = ap (λ f. f sight) (fold_out-When (Of Made) (Of MadePick) (Of (WrittenOperator × Made)) (Of MadeQuery) (Of (Made × Made)) expr_layer pick_layer link_layer select_layer when_layer when)
 
 -- ---- queries
@@ -199,7 +207,6 @@ query_layer place picks table alias (Some test) sight = refl
 
 pub made_query : (q : Select) (sight : Sight) → query_made q sight ≡ (let s = out-Select q in
     query_in (number_of (table_at sight s.table.name)) (with_picks none_picked (all_at (inside q sight) (map pick_made (s.picks.first ∷ s.picks.rest)))) (any_at (inside q sight) (option_map made_of s.condition)))
-unfolding made_of pick_made link_made query_made when_made
 made_query q sight = let o = out-Select q in
     ap (λ f. f sight) (fold_out-Select (Of Made) (Of MadePick) (Of (WrittenOperator × Made)) (Of MadeQuery) (Of (Made × Made)) expr_layer pick_layer link_layer select_layer when_layer q)
     ∙ query_layer o.place o.picks o.table o.alias o.condition sight
