@@ -1,5 +1,5 @@
 -- What is made of each form of an expression, by its layer.
-use Rattle.std.proofs.Common.{◌≡◌, ℕ, Bool, List, [], ◌∷◌, ◌++◌, Option, Some, None, map, option_map, refl, ap, sym, ◌∙◌}
+use Rattle.std.proofs.Common.{◌≡◌, ℕ, Bool, List, [], ◌∷◌, Option, Some, None, map, option_map, refl, ap, sym, ◌∙◌}
 use denote.Hole.Carrier
 use Rattle.psm_num.specs.Num.{Num}
 use Rattle.psm_list.specs.Several.{Several, several_map}
@@ -36,8 +36,8 @@ use Rattle.psm_resolve_expr.specs.declared.made.MadeQuery.{MadeQuery}
 use Rattle.psm_resolve_expr.specs.declared.parts.Branches.{Branches}
 use Rattle.psm_resolve_expr.specs.Sight.{Sight, name_in, on_row, table_at}
 use Rattle.psm_resolve_expr.specs.Made.{MadePick, Values, OfAll, called, of_meaning, scale_of_result, shape_of_result}
-use Rattle.psm_resolve_expr.specs.Exprs.{Of, expr_in, optional_in, condition, value, type_known, comparison_of, junction_of, function_of, side_of, set_of, link_of, chain_of, signed, columns_on, columns_in, number_of, set_item, shape_of_set, only_shape, query_of, at, all_at, any_at, expr_layer, pick_layer, link_layer, select_layer, when_layer, made_of, pick_made, link_made, query_made, when_made}
-use Rattle.psm_resolve_expr.specs.Parts.{arguments_of, branch_of, branches_of, case_in, none_picked, operands_of, query_in, with_picks}
+use Rattle.psm_resolve_expr.specs.Exprs.{Of, optional_in, condition, value, type_known, comparison_of, junction_of, function_of, side_of, set_of, chain_of, signed, columns_on, columns_in, number_of, set_item, shape_of_set, only_shape, query_of, at, all_at, any_at, expr_layer, pick_layer, link_layer, select_layer, when_layer, made_of, pick_made, link_made, query_made, when_made}
+use Rattle.psm_resolve_expr.specs.Parts.{arguments_of, branches_of, case_in, none_picked, operands_of, query_in, with_picks}
 use Rattle.psm_resolve_expr.proofs.Joined.{case_joined, picks_gathered}
 
 expr_rolled : (layer : Expr-F Expr Pick Link Select When) → made_of (roll-Expr layer) ≡ expr_layer (map-Expr Expr Pick Link Select When (Of Made) (Of MadePick) (Of (WrittenOperator × Made)) (Of MadeQuery) (Of (Made × Made)) made_of pick_made link_made query_made when_made layer)

@@ -1,16 +1,14 @@
 -- The expression, or the query, without names that stands for one with names at a place (ISO/IEC 9075:1992, clauses 6 to 8).
 -- Parentheses and the sign `+` leave nothing behind.
-use Rattle.std.specs.Prelude.{ℕ, suc, Bool, true, false, Option, Some, None, List, [], ◌∷◌, ◌++◌, map, is_some, option_map}
+use Rattle.std.specs.Prelude.{ℕ, suc, false, Option, Some, None, List, [], ◌∷◌, ◌++◌, map, option_map}
 use Rattle.psm_list.specs.Several.{Several, several_map}
 use Rattle.psm_text.specs.declared.parts.Side.{Side}
 use Rattle.psm_text.specs.declared.parts.Side.TheVariants as sides
 use Rattle.psm_value.specs.declared.sqltype.SqlType.{SqlType}
 use Rattle.psm_value.specs.declared.sqltype.SqlType.TheVariants as types
-use Rattle.psm_scope.specs.Frames.{Spelling}
 use Rattle.psm_scope.specs.Lookup.{RowTable}
 use Rattle.psm_scope.specs.Routines.{function}
 use Rattle.psm_tree.specs.declared.name.Identifier.{Identifier}
-use Rattle.psm_tree.specs.declared.types.DataType.{DataType}
 use Rattle.psm_tree.specs.declared.types.Sign.{Sign}
 use Rattle.psm_tree.specs.declared.types.Sign.TheVariants.{Plus, Minus}
 use Rattle.psm_tree.specs.declared.expr.Expr.{Expr}
@@ -41,14 +39,14 @@ use Rattle.psm_rules.specs.declared.shape.Typed.{Typed}
 use Rattle.psm_rules.specs.Shapes.{integer, character, varying, of_literal, typed}
 use Rattle.psm_rules.specs.Types.{type_of}
 use Rattle.psm_rules.specs.View.{Columns}
-use Rattle.psm_rules.specs.ExprFaults.{spelling, columns_known, set_result, text_result}
+use Rattle.psm_rules.specs.ExprFaults.{spelling, set_result, text_result}
 use Rattle.psm_resolved.specs.declared.expr.ResolvedExpr.{ResolvedExpr}
 use Rattle.psm_resolved.specs.declared.expr.ResolvedExpr.TheVariants as exprs
 use Rattle.psm_resolved.specs.declared.expr.ResolvedItems.TheVariants as items
 use Rattle.psm_resolved.specs.declared.expr.ResolvedItem.{ResolvedItem, roll-ResolvedItem}
 use Rattle.psm_resolved.specs.declared.expr.ResolvedItems.{ResolvedItems}
 use Rattle.psm_resolved.specs.declared.expr.ResolvedLink.{ResolvedLink, roll-ResolvedLink}
-use Rattle.psm_resolved.specs.declared.expr.ResolvedQuery.{ResolvedQuery, roll-ResolvedQuery}
+use Rattle.psm_resolved.specs.declared.expr.ResolvedQuery.{roll-ResolvedQuery}
 use Rattle.psm_resolved.specs.declared.expr.ResolvedWhen.{ResolvedWhen, roll-ResolvedWhen}
 use Rattle.psm_resolved.specs.declared.expr.Junction.{Junction}
 use Rattle.psm_resolved.specs.declared.expr.Junction.TheVariants as junctions

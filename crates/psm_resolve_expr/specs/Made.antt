@@ -1,9 +1,7 @@
 -- What is made of a part of an expression: an expression or a query without names, with the shape of its value. What nothing
 -- declares is no part of an accepted file: NULL stands for an unknown name, and the number 0 for an unknown table or function.
-use Rattle.std.specs.Prelude.{ℕ, Bool, true, false, Option, Some, None, Result, Ok, Err, List, [], ◌∷◌, ◌++◌, map, length, option_map}
-use Rattle.psm_list.specs.Several.{Several, several_map}
+use Rattle.std.specs.Prelude.{ℕ, Option, Some, None, Result, Ok, Err, List, [], ◌∷◌, ◌++◌}
 use Rattle.psm_value.specs.declared.sqltype.SqlType.{SqlType}
-use Rattle.psm_value.specs.declared.sqltype.SqlType.TheVariants as types
 use Rattle.psm_scope.specs.Lookup as lookup
 use Rattle.psm_scope.specs.Lookup.{Meaning}
 use Rattle.psm_scope.specs.declared.known.Variable.{Variable}

@@ -6,7 +6,6 @@ use Rattle.psm_scope.specs.Lookup.{RowTable, Meaning, meant, meant_on_row, as_va
 use Rattle.psm_scope.specs.declared.known.Variable.{Variable}
 use Rattle.psm_scope.specs.declared.known.DeclaredCondition.{DeclaredCondition}
 use Rattle.psm_rules.specs.View.{World, Columns}
-use Rattle.psm_tree.specs.declared.name.Identifier.{Identifier}
 use Rattle.psm_tree.specs.declared.name.Target.{Target}
 use Rattle.psm_rules.specs.ExprFaults.{spelling}
 

@@ -131,7 +131,9 @@ pub fn made_of(alloc: Global, e: &Expr, sight: Sight) -> Result<Made, AllocError
             forms::null_if(alloc, left, right)
         }
         Expr::Function {
-            function, argument, ..
+            function,
+            argument,
+            ..
         } => {
             let argument = made_of(alloc, argument.get(), sight)?;
             forms::text_function(alloc, *function, argument)
@@ -142,7 +144,10 @@ pub fn made_of(alloc: Global, e: &Expr, sight: Sight) -> Result<Made, AllocError
             forms::position(alloc, part, whole)
         }
         Expr::Substring {
-            text, from, length, ..
+            text,
+            from,
+            length,
+            ..
         } => {
             let text = made_of(alloc, text.get(), sight)?;
             let from = made_of(alloc, from.get(), sight)?;
@@ -337,12 +342,7 @@ fn picks_made(
 
 #[cycle(expression)]
 #[tactic(auto, using(crate::proofs::Equations::pick_equations))]
-fn push_pick(
-    alloc: Global,
-    pick: &Pick,
-    sight: Sight,
-    picks: &mut Picks,
-) -> Result<(), AllocError>
+fn push_pick(alloc: Global, pick: &Pick, sight: Sight, picks: &mut Picks) -> Result<(), AllocError>
     ensures { IfOk result (λ _. picks.new ≡ with_pick picks.old (pick_made pick.now (seen_at sight.entry))) }
 {
     match pick {
@@ -353,7 +353,9 @@ fn push_pick(
         }
         Pick::CountRows { .. } => picks.push_count(),
         Pick::Aggregate {
-            function, argument, ..
+            function,
+            argument,
+            ..
         } => {
             let made = made_of(alloc, argument.get(), sight)?;
             picks.push_aggregate(*function, made)

@@ -26,9 +26,7 @@ use psm_resolved::{ResolvedExpr, ResolvedLink};
 use psm_rules::Shape;
 use psm_scope::Meant;
 use psm_text::Text;
-use psm_tree::{
-    Comparison, DataType, Identifier, Junction, Sign, Target, TextFunction, TrimSide,
-};
+use psm_tree::{Comparison, DataType, Identifier, Junction, Sign, Target, TextFunction, TrimSide};
 use std::alloc::{AllocError, Global};
 
 // ---- constants and names
@@ -209,7 +207,10 @@ pub(crate) fn called(
     ensures { IfOk result (λ m. m ≡ called arguments.exprs (function (seen_at sight.entry).world.functions name.now.name arguments.kinds)) }
 {
     let world = sight.world;
-    match world.functions.function(&name.name, arguments.kinds.items()) {
+    match world
+        .functions
+        .function(&name.name, arguments.kinds.items())
+    {
         Ok((number, returned)) => {
             let shape = shape_of_type(returned);
             call(alloc, number, arguments.exprs, shape)

@@ -1,4 +1,4 @@
-use Rattle.std.proofs.Common.{◌≡◌, ◌++◌, ◌∷◌, None, drop, map}
+use Rattle.std.proofs.Common.{◌≡◌, ◌++◌, ◌∷◌, drop, map}
 use Rattle.psm_list.specs.Several.{several_map}
 use Rattle.psm_resolve_expr.specs.Exprs.{all_at, at, chained, expr_in, link_made, link_of, made_of, pick_made, when_made, when_of}
 use Rattle.psm_resolve_expr.specs.Made.{joined_in, kind_of}
