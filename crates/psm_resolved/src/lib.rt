@@ -5,12 +5,20 @@
 mod code;
 mod expr;
 mod exprs;
+mod file;
 mod operators;
 mod setting;
+mod statement;
 mod writer;
 
 pub use code::row_code;
 pub use expr::{
     Comparison, Junction, Operator, ResolvedExpr, ResolvedItem, ResolvedItems, ResolvedLink,
     ResolvedQuery, ResolvedWhen, TextFunction,
+};
+pub use file::{ParameterMode, ResolvedFile, ResolvedParameter, ResolvedRoutine, ResolvedTable};
+pub use statement::{
+    ResolvedArgument, ResolvedBlock, ResolvedBranch, ResolvedCondition, ResolvedCursor,
+    ResolvedDeclaration, ResolvedDiagnostics, ResolvedFor, ResolvedHandler, ResolvedNumber,
+    ResolvedRows, ResolvedSet, ResolvedSignal, ResolvedSimple, ResolvedStatement, ResolvedWhere,
 };

@@ -1,0 +1,4 @@
+pub mod Numbering
+pub mod Statements
+pub mod Blocks
+pub mod Files

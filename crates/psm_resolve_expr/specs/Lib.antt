@@ -1,0 +1,5 @@
+pub mod Sight
+pub mod Made
+pub mod Exprs
+pub mod Parts
+pub mod Seen

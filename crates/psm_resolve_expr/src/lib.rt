@@ -1,0 +1,16 @@
+//! Expressions and queries with their names put away: each name is the column, the variable, the table or the function that it
+//! means where it stands.
+#![tactic(auto)]
+
+mod exprs;
+mod forms;
+mod made;
+mod operators;
+mod parts;
+mod picks;
+mod shapes;
+mod sight;
+
+pub use exprs::{made_of, query_made};
+pub use made::{Made, MadeQuery};
+pub use sight::{Frames, Sight, on_row};

@@ -1,0 +1,77 @@
+//! Operators and functions of the language, as they stand in expressions without names.
+ghost use Rattle.std.specs.Prelude.{◌≡◌};
+ghost use Rattle.psm_resolve_expr.specs.Exprs.{comparison_of, function_of, junction_of, operator_of, set_of, side_of};
+
+use psm_exprcode::SetFunction;
+use psm_resolved::{Comparison, Junction, Operator, TextFunction};
+use psm_text::Side;
+use psm_tree::{
+    Comparison as WrittenComparison, Junction as WrittenJunction, Operator as WrittenOperator,
+    SetFunction as WrittenSet, TextFunction as WrittenFunction, TrimSide,
+};
+
+pub(crate) fn junction_of(junction: WrittenJunction) -> Junction
+    ensures { result ≡ junction_of junction }
+{
+    match junction {
+        WrittenJunction::And => Junction::And,
+        WrittenJunction::Or => Junction::Or,
+    }
+}
+
+pub(crate) fn comparison_of(operator: WrittenComparison) -> Comparison
+    ensures { result ≡ comparison_of operator }
+{
+    match operator {
+        WrittenComparison::Equal => Comparison::Equal,
+        WrittenComparison::NotEqual => Comparison::NotEqual,
+        WrittenComparison::Less => Comparison::Less,
+        WrittenComparison::LessEqual => Comparison::LessEqual,
+        WrittenComparison::Greater => Comparison::Greater,
+        WrittenComparison::GreaterEqual => Comparison::GreaterEqual,
+    }
+}
+
+pub(crate) fn operator_of(operator: WrittenOperator) -> Operator
+    ensures { result ≡ operator_of operator }
+{
+    match operator {
+        WrittenOperator::Add => Operator::Add,
+        WrittenOperator::Subtract => Operator::Subtract,
+        WrittenOperator::Concatenate => Operator::Concatenate,
+        WrittenOperator::Multiply => Operator::Multiply,
+        WrittenOperator::Divide => Operator::Divide,
+    }
+}
+
+pub(crate) fn function_of(function: WrittenFunction) -> TextFunction
+    ensures { result ≡ function_of function }
+{
+    match function {
+        WrittenFunction::CharLength => TextFunction::CharLength,
+        WrittenFunction::Upper => TextFunction::Upper,
+        WrittenFunction::Lower => TextFunction::Lower,
+    }
+}
+
+pub(crate) fn side_of(side: TrimSide) -> Side
+    ensures { result ≡ side_of side }
+{
+    match side {
+        TrimSide::Leading => Side::Leading,
+        TrimSide::Trailing => Side::Trailing,
+        TrimSide::Both => Side::Both,
+    }
+}
+
+pub(crate) fn set_of(function: WrittenSet) -> SetFunction
+    ensures { result ≡ set_of function }
+{
+    match function {
+        WrittenSet::Count => SetFunction::Count,
+        WrittenSet::Sum => SetFunction::Sum,
+        WrittenSet::Avg => SetFunction::Avg,
+        WrittenSet::Min => SetFunction::Min,
+        WrittenSet::Max => SetFunction::Max,
+    }
+}

@@ -1,0 +1,74 @@
+//! What is made of lists of expressions.
+ghost use Rattle.std.specs.Prelude.{◌≡◌, ◌∷◌, ◌++◌, [], IfOk};
+ghost use Rattle.psm_resolve_expr.specs.Exprs.{link_of};
+ghost use Rattle.psm_resolve_expr.specs.Made.{operated};
+ghost use Rattle.psm_resolve_expr.specs.Parts.{branch_of};
+
+use crate::made::Made;
+use crate::operators::operator_of;
+use crate::shapes::operated;
+use psm_list::{Boxed, List, OneOrMore};
+use psm_resolved::{ResolvedExpr, ResolvedLink, ResolvedWhen};
+use psm_rules::{Shape, Typed};
+use psm_scope::ArgKind;
+use psm_tree::Operator;
+use std::alloc::{AllocError, Global};
+
+/// Operands of one operator, and the type of the result that one of them is.
+#[derive(Drop)]
+pub(crate) struct Operands {
+    pub exprs: OneOrMore<Boxed<ResolvedExpr>>,
+    pub result: Option<Typed>,
+}
+
+/// Arguments of a call, and the kinds by which a function is chosen.
+#[derive(Drop)]
+pub(crate) struct Arguments {
+    pub exprs: List<Boxed<ResolvedExpr>>,
+    pub kinds: List<ArgKind>,
+}
+
+/// A branch of CASE, and the shape of its result.
+#[derive(Drop)]
+pub(crate) struct Branch {
+    pub when: Boxed<ResolvedWhen>,
+    pub shape: Shape,
+}
+
+/// The branches of CASE, and the type of their result.
+#[derive(Drop)]
+pub(crate) struct Branches {
+    pub whens: OneOrMore<Boxed<ResolvedWhen>>,
+    pub result: Option<Typed>,
+}
+
+/// `WHEN test THEN result`.
+pub(crate) fn when_then(alloc: Global, test: Made, value: Made) -> Result<Branch, AllocError>
+    ensures { IfOk result (λ w. w ≡ branch_of (test, value)) }
+{
+    let shape = value.shape;
+    let when = ResolvedWhen {
+        test: test.expr,
+        result: value.expr,
+    };
+    let when = Boxed::new(alloc, when)?;
+    Ok(Branch { when, shape })
+}
+
+/// Puts an operator and its operand behind others; the shape is that of the value with it.
+pub(crate) fn push_operand(
+    links: &mut Vec<ResolvedLink>,
+    operator: Operator,
+    left: Shape,
+    operand: Made,
+) -> Result<Shape, AllocError>
+    ensures links { IfOk result (λ _. links.new.items ≡ links.old.items ++ link_of (operator, operand) ∷ []) }
+    ensures shape { IfOk result (λ s. s ≡ operated operator left operand.shape) }
+{
+    let shape = operated(operator, left, operand.shape)?;
+    links.push(ResolvedLink {
+        operator: operator_of(operator),
+        operand: operand.expr,
+    })?;
+    Ok(shape)
+}

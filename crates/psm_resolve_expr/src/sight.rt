@@ -1,0 +1,119 @@
+//! What is seen at a place, and what names mean there.
+ghost use Rattle.std.specs.Prelude.{◌≡◌, option_map};
+ghost use Rattle.std.specs.Option.{option_copied};
+ghost use Rattle.psm_scope.specs.Lookup.{as_variable, column_meant, is_table, meant, place_named};
+ghost use Rattle.psm_scope.specs.Rows.{meaning_of};
+ghost use Rattle.psm_rules.specs.ExprFaults.{columns_known};
+ghost use Rattle.psm_check_expr.specs.Seen.{row_table};
+ghost use Rattle.psm_resolve_expr.specs.Sight.{name_in, on_row, table_at};
+ghost use Rattle.psm_resolve_expr.specs.Exprs.{columns_in, number_of};
+ghost use Rattle.psm_resolve_expr.specs.Seen.{seen_at};
+
+use psm_check_expr::{Columns, RowTable, World, same_name, spelling};
+use psm_scope::Meant;
+use psm_text::Name;
+use psm_tree::Target;
+use psm_value::SqlType;
+
+/// The frames around a statement, in which a cursor is known by its number.
+pub type Frames<'a> = psm_scope::Frames<'a, u32>;
+
+/// What is seen at a place: in a control expression there is no row.
+#[derive(Clone, Copy)]
+pub struct Sight<'v, 'a> {
+    pub world: &'v World<'a>,
+    pub frames: &'v Frames<'a>,
+    pub row: Option<RowTable<'v, 'a>>,
+}
+
+/// The same on the rows of a table.
+pub fn on_row<'v, 'a>(sight: Sight<'v, 'a>, row: RowTable<'v, 'a>) -> Sight<'v, 'a>
+    ensures { seen_at result ≡ on_row (seen_at sight.entry) (row_table row.entry) }
+{
+    Sight {
+        world: sight.world,
+        frames: sight.frames,
+        row: Some(row),
+    }
+}
+
+// ---- columns and variables
+
+/// What a name means, if it means anything: on a row the table's columns come first.
+pub(crate) fn name_in(sight: Sight, target: &Target) -> Option<Meant>
+    ensures { option_map meaning_of result ≡ name_in (seen_at sight.entry) target.now }
+{
+    let second = spelling(&target.second);
+    match sight.row {
+        None => variable_in(sight.frames, &target.first.name, second),
+        Some(row) => match column_in(row, &target.first.name, second) {
+            Some((number, kind)) => Some(Meant::Column(number, kind)),
+            None => variable_in(sight.frames, &target.first.name, second),
+        },
+    }
+}
+
+fn variable_in(frames: &Frames, first: &Name, second: Option<&Name>) -> Option<Meant>
+    ensures { option_map meaning_of result ≡ as_variable (meant first.now (option_copied second.entry) frames.now) }
+{
+    match frames.meant(first, second) {
+        None => None,
+        Some(known) => Some(Meant::Variable(known)),
+    }
+}
+
+// The column that a name means.
+fn column_in(row: RowTable, first: &Name, second: Option<&Name>) -> Option<(u32, Option<SqlType>)>
+    ensures { result ≡ column_meant first.now (option_copied second.entry) (row_table row.entry) }
+{
+    match second {
+        None => column_named(row.columns, first),
+        Some(name) => {
+            if is_table(row, first) {
+                column_named(row.columns, name)
+            } else {
+                None
+            }
+        }
+    }
+}
+
+// Whether a qualifier is the table's name or its alias.
+fn is_table(row: RowTable, qualifier: &Name) -> bool
+    ensures { result ≡ is_table qualifier.now (row_table row.entry) }
+{
+    match row.alias {
+        None => same_name(qualifier, row.name),
+        Some(alias) => same_name(qualifier, row.name) || same_name(qualifier, alias),
+    }
+}
+
+fn column_named(columns: Option<&Columns>, name: &Name) -> Option<(u32, Option<SqlType>)>
+    ensures { result ≡ place_named 0 name.now (columns_known (option_copied columns.entry)) }
+{
+    match columns {
+        None => None,
+        Some(columns) => columns.find(name),
+    }
+}
+
+// ---- tables
+
+/// The number of a table.
+pub(crate) fn table_number(sight: Sight, table: &Name) -> u32
+    ensures { result ≡ number_of (table_at (seen_at sight.entry) table.now) }
+{
+    let world = sight.world;
+    match world.tables.place(table) {
+        None => 0,
+        Some(number) => number,
+    }
+}
+
+/// The columns of a table.
+pub(crate) fn table_columns<'v, 'a>(sight: Sight<'v, 'a>, table: &Name) -> Option<&'v Columns<'a>>
+    ensures { columns_known (option_copied result) ≡ columns_in (table_at (seen_at sight.entry) table.now) }
+{
+    let world = sight.world;
+    world.columns(table)
+}
