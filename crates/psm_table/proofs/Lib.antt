@@ -24,3 +24,4 @@ pub mod Undo
 pub mod UniqueLaws
 pub mod Uniques
 pub mod Walks
+pub mod Advancing

@@ -1,12 +1,11 @@
 -- What INSERT, UPDATE and DELETE make of the rows of a table (ISO/IEC 9075:1992, 13.7 to 13.10, and 11.7 to 11.9 for
 -- its rules).
-use Rattle.std.specs.Prelude.{◌≡◌, Bool, true, false, ℕ, ◌+◌, List, [], ◌∷◌, ◌++◌, length, map, codes, nat_lt, not, ◌&&◌, Option, Some, None, Result, Ok, Err, slice_index_or, slice_set, if◌then◌else◌, zip}
+use Rattle.std.specs.Prelude.{◌≡◌, Bool, true, false, ℕ, List, [], ◌∷◌, ◌++◌, length, codes, nat_lt, not, ◌&&◌, Option, Result, Ok, Err, slice_index_or, slice_set, if◌then◌else◌, zip}
 use Rattle.psm_sqlstate.specs.declared.state.SqlState.{SqlState}
 use Rattle.std.specs.List.{list_all}
 use Rattle.std.specs.Ordering.{is_le, is_eq, is_ne}
 use Rattle.psm_value.specs.Stored.{stored}
 use Rattle.psm_value.specs.declared.datum.Datum.{Datum}
-use Rattle.psm_value.specs.declared.datum.Datum.TheVariants.{Null}
 use Rattle.psm_value.specs.declared.sqltype.SqlType.{SqlType}
 use Rattle.psm_value.specs.declared.truth.Truth.{Truth}
 use Rattle.psm_value.specs.declared.truth.Truth.TheVariants.{True, False, Unknown}
@@ -17,7 +16,6 @@ use Rattle.psm_table.specs.Queries.{is_met}
 use Rattle.psm_table.specs.Rows.{without}
 use Rattle.psm_table.specs.Table.{most_rows}
 use Rattle.psm_table.specs.Unique.{conflict, is_null, has_null}
-use Rattle.psm_table.specs.declared.definition.Column.{Column}
 use Rattle.psm_table.specs.declared.definition.TableDef.{TableDef}
 
 -- a table's definition, with its CHECKs

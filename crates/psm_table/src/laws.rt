@@ -1,10 +1,12 @@
 //! Laws of tables.
-ghost use Rattle.std.specs.Prelude.{◌≡◌, ◌&&◌, ◌∷◌, ◌++◌, [], ℕ, true, All, AllPairs, List, None, Option, Some, false};
+ghost use Rattle.std.specs.Prelude.{◌≡◌, ◌&&◌, ◌∷◌, ◌++◌, [], ℕ, true, All, AllPairs, List, None, Ok, Option, Some, false};
 ghost use Rattle.std.specs.List.{list_all};
 ghost use Rattle.psm_value.specs.declared.datum.Datum.{Datum};
 ghost use Rattle.psm_table.specs.declared.definition.TableDef.{TableDef};
 ghost use Rattle.psm_table.specs.Changing.{are_apart, deleted, in_order, inserted, is_before, is_filled, keep_rules, rows_pass, updated, updated_at, Changed, IsLegal, Moved, Schema, SetItem};
+ghost use Rattle.psm_table.specs.Cursors.{Position, advanced, current, lies_past, without_row as left_row};
 ghost use Rattle.psm_table.specs.Evaluator.{Evaluator};
+ghost use Rattle.psm_table.specs.Queries.{Query};
 ghost use Rattle.psm_table.specs.Key.{values_at};
 ghost use Rattle.psm_table.specs.Rows.{put, row_with, IsAscending};
 ghost use Rattle.psm_table.specs.Table.{keyed, namesake, with_row, without_row, Contents, IsTable};
@@ -47,4 +49,12 @@ pub fn statements_leave_legal_tables()
     ensures updated { (ev plain : Evaluator ℕ) (schema : Schema ℕ) (sets : List (SetItem ℕ)) (test : Option ℕ) (rows : List (List Datum)) (c : Changed) → updated ev plain schema sets test rows ≡ Ok c → IsLegal plain schema c.rows }
     ensures deleted { (ev plain : Evaluator ℕ) (schema : Schema ℕ) (test : Option ℕ) (rows : List (List Datum)) (c : Changed) → IsLegal plain schema rows → deleted ev test rows ≡ Ok c → IsLegal plain schema c.rows }
     ensures updated_at { (ev plain : Evaluator ℕ) (schema : Schema ℕ) (sets : List (SetItem ℕ)) (row : List Datum) (rows : List (List Datum)) (m : Moved) → updated_at ev plain schema sets row rows ≡ Ok m → IsLegal plain schema m.rows }
+{}
+
+/// What a cursor does (ISO/IEC 9075:1992, 13.3): a row that FETCH finds lies past the key that the cursor reached, a cursor that is
+/// past the last row stays there whatever rows there are, and one that has lost its row stands on none.
+pub fn cursor_laws()
+    ensures onward { (ev : Evaluator ℕ) (query : Query ℕ) (key : List ℕ) (rows : List (List Datum)) (p q : Position) (row : List Datum) → advanced ev query key rows p ≡ Ok (Some row, q) → lies_past key query.downward p.bound row ≡ true }
+    ensures past { (ev : Evaluator ℕ) (query : Query ℕ) (key : List ℕ) (rows : List (List Datum)) (p : Position) → p.is_past_last ≡ true → advanced ev query key rows p ≡ Ok (None, p) }
+    ensures lost { (key : List ℕ) (rows : List (List Datum)) (p : Position) → current key rows (left_row p) ≡ None }
 {}

@@ -17,7 +17,8 @@ pub use definition::{Column, TableDef};
 pub use fault::RowFault;
 pub use key::Key;
 pub use laws::{
-    legal_rows_add_nothing, order_of_rows, statements_leave_legal_tables, undo_laws, unique_laws,
+    cursor_laws, legal_rows_add_nothing, order_of_rows, statements_leave_legal_tables, undo_laws,
+    unique_laws,
 };
 pub use psm_list::List;
 pub use psm_text::Name;
