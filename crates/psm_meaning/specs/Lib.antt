@@ -12,3 +12,5 @@ pub mod Statements
 pub mod Blocks
 pub mod Flow
 pub mod Meaning
+pub mod Lines
+pub mod Session
