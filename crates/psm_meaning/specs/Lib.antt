@@ -14,3 +14,4 @@ pub mod Flow
 pub mod Meaning
 pub mod Lines
 pub mod Session
+pub mod Fits
