@@ -125,14 +125,14 @@ delete_rows file table test = do
 -- ---- positioned statements
 
 -- the row on which a cursor stands
+abbrev pub standing_on : ResolvedCursor → Option (List Datum) → Act (List Datum)
+standing_on x None = wrong_state x
+standing_on x (Some row) = got row
+
 abbrev pub row_of_cursor : ResolvedCursor → Contents → Cursor → Act (List Datum)
 row_of_cursor x t Closed = wrong_state x
 row_of_cursor x t (Insensitive rows) = wrong_state x
-row_of_cursor x t (Plain p vars) = found (current t.def.key t.rows p)
-  where
-    found : Option (List Datum) → Act (List Datum)
-    found None = wrong_state x
-    found (Some row) = got row
+row_of_cursor x t (Plain p vars) = standing_on x (current t.def.key t.rows p)
 
 -- a cursor whose row is gone stands on none
 abbrev pub left_by : Cursor → Cursor

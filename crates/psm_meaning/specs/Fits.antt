@@ -2,6 +2,7 @@
 use Rattle.std.specs.Prelude.{◌≡◌, ◌⊎◌, ℕ}
 use Rattle.psm_resolved.specs.declared.expr.ResolvedExpr.{ResolvedExpr}
 use Rattle.psm_meaning.specs.State.{State, Place}
+use Rattle.psm_meaning.specs.Session.{Session, Cut}
 use Rattle.psm_meaning.specs.Acts.{Ends, Stopped, NoHeight, Evaluated, Done, Task, Meaning}
 
 -- the height was too small for the first, or the two are the same
@@ -15,3 +16,7 @@ SameEnd r s = (r.outcome ≡ Stopped NoHeight) ⊎ (r ≡ s)
 pub record Fits (m n : Meaning) : Type 0 where
   pub value : (e : ResolvedExpr) (st : State) → Same (m.value e st) (n.value e st)
   pub done : (t : Task) (place : Place) (st : State) → SameEnd (m.done t place st) (n.done t place st)
+
+-- the same of sessions
+abbrev pub SameSession : Session → Session → Type 0
+SameSession r s = (r.end ≡ Cut NoHeight) ⊎ (r ≡ s)

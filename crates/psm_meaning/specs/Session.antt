@@ -11,7 +11,7 @@ use Rattle.psm_resolved.specs.declared.file.ResolvedRoutine.{ResolvedRoutine}
 use Rattle.psm_resolved.specs.declared.file.ResolvedTable.{ResolvedTable}
 use Rattle.psm_meaning.specs.State.{State, cleared, with_tables}
 use Rattle.psm_meaning.specs.Acts.{Stop, NoTurns, NoHeight, Lacking, Given, Got, Raises, Ends, Evaluated, Meaning, Act, got, raises, ends, change, of_state, present, ◌>>=◌, ◌>>◌}
-use Rattle.psm_meaning.specs.Calls.{Ended, activated, procedure_at}
+use Rattle.psm_meaning.specs.Calls.{activated, procedure_at}
 use Rattle.psm_meaning.specs.Data.{put_in}
 use Rattle.psm_meaning.specs.Lines.{condition_lines, first_line, naming, ok_line, row_lines, turns_used_line, value_lines}
 use Rattle.psm_meaning.specs.Meaning.{meaning}
@@ -41,18 +41,15 @@ at_command s = record { tables = s.tables; area = clear; turns = s.turns; depth 
 -- ---- commands: the lines behind the first one
 
 -- a procedure that ended well prints its OUT and INOUT parameters
-abbrev pub call_lines : ResolvedRoutine → Ended → Act (List ℕ)
-call_lines r e = well e.returned
-  where
-    well : Option Datum → Act (List ℕ)
-    well None = got (value_lines r.parameters e.variables ++ ok_line)
-    well (Some d) = ends Lacking
+abbrev pub call_lines : ResolvedRoutine → Option Datum → List Datum → Act (List ℕ)
+call_lines r None vars = got (value_lines r.parameters vars ++ ok_line)
+call_lines r (Some d) vars = ends Lacking
 
 abbrev pub called : ResolvedFile → ℕ → List Datum → Act (List ℕ)
 called file procedure args = do
   r ← present (procedure_at file procedure)
   e ← activated r args
-  call_lines r e
+  call_lines r e.returned e.variables
 
 abbrev pub inserted : ResolvedFile → ℕ → List ℕ → List (List Datum) → Act (List ℕ)
 inserted file table columns rows = do

@@ -2,4 +2,6 @@
 //! and laws of them. It has no code that runs.
 #![tactic(auto)]
 
-pub fn nothing() {}
+mod laws;
+
+pub use laws::more_height_changes_nothing;
