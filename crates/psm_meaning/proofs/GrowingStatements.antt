@@ -1,0 +1,217 @@
+-- The same of every statement, and so of a step: more height leaves a meaning as it is.
+use Rattle.std.proofs.Common.{arith, ◌≡◌, ◌⊎◌, inl, inr, ℕ, zero, suc, ◌≤◌, ◌+◌, ◌-◌, sym, subst, Bool, true, false, List, [], ◌∷◌, Option, Some, None, refl, ap, if◌then◌else◌, nat_eq}
+use Rattle.std.specs.Prelude.{◌&&◌, codes}
+use Rattle.psm_value.specs.declared.datum.Datum.{Datum}
+use Rattle.psm_value.specs.declared.truth.Truth as truth
+use Rattle.psm_value.specs.Truth.{is_certain}
+use Rattle.psm_cond.specs.declared.handlers.HandlerKind.{HandlerKind}
+use Rattle.psm_cond.specs.declared.handlers.HandlerKind.TheVariants.{Continue, Exit, Undo}
+use Rattle.psm_table.specs.Cursors.{Closed}
+use Rattle.psm_table.specs.Table.{Contents}
+use Rattle.psm_resolved.specs.declared.expr.ResolvedExpr.{ResolvedExpr, out-ResolvedExpr}
+use Rattle.psm_resolved.specs.declared.file.ResolvedFile.{ResolvedFile}
+use Rattle.psm_resolved.specs.declared.statement.ResolvedBlock.{ResolvedBlock, out-ResolvedBlock}
+use Rattle.psm_resolved.specs.declared.statement.ResolvedBranch.{ResolvedBranch, out-ResolvedBranch}
+use Rattle.psm_resolved.specs.declared.statement.ResolvedCursor.{ResolvedCursor}
+use Rattle.psm_resolved.specs.declared.statement.ResolvedDeclaration.{ResolvedDeclaration}
+use Rattle.psm_resolved.specs.declared.statement.ResolvedFor.{ResolvedFor}
+use Rattle.psm_resolved.specs.declared.statement.ResolvedHandler.{ResolvedHandler, out-ResolvedHandler}
+use Rattle.psm_resolved.specs.declared.statement.ResolvedSimple.{ResolvedSimple}
+use Rattle.psm_resolved.specs.declared.statement.ResolvedSimple.TheVariants as simples
+use Rattle.psm_resolved.specs.declared.statement.ResolvedStatement.{ResolvedStatement, out-ResolvedStatement}
+use Rattle.psm_resolved.specs.declared.statement.ResolvedStatement.TheOpen.{ResolvedStatement-F}
+use Rattle.psm_resolved.specs.declared.statement.ResolvedStatement.TheOpen as layers
+use Rattle.psm_meaning.specs.State.{State, Place, with_cursor}
+use Rattle.psm_meaning.specs.Acts.{Outcome, Normal, Leave, Iterate, Return, Raised, Away, Stopped, NoHeight, Evaluated, Done, Task, Do, Round, Meaning, Act, Deed, of_state, ends_as, all, part, truth_of}
+use Rattle.psm_meaning.specs.Statements.{returned, simple}
+use Rattle.psm_meaning.specs.Blocks.{Block, default_of, declared, all_declared, undone, arrived, is_left_by_exception, put_back, ended, entered, finding, compound}
+use Rattle.psm_meaning.specs.Flow.{branched, else_of, cased, repeated, looped, while_true, until_true, kept, row_of_for, over_row, round, rounds, for_each}
+use Rattle.psm_meaning.specs.Meaning.{statement, task, step, nothing, meaning}
+use Rattle.psm_meaning.specs.Fits.{Same, SameEnd, Fits}
+use Rattle.psm_meaning.proofs.Growing.{Grows, grows-bind, grows-value_of, grows-truth_of, grown, evaluated}
+use Rattle.psm_meaning.proofs.GrowingValues.{grows-evaluated, grows-is_equal}
+use Rattle.psm_meaning.proofs.GrowingActs.{grows-assign_each, grows-assign_all, grows-set, grows-call, grows-signal, grows-resignal, grows-get_diagnostics, grows-open_cursor, grows-open, grows-close, grows-next, grows-fetch, grows-select_into, grows-insert, grows-update, grows-delete}
+use Rattle.psm_meaning.proofs.GrowingDeeds.{GrowsDone, Follows, done-ends_as, done-changing, done-if, done-behind, done-part, done-all, done-at_turn, done-action, done-raised, done-after, done-stated}
+
+-- ---- simple statements
+
+grows-returned : {m n : Meaning} → Fits m n → (place : Place) (e : ResolvedExpr) → Grows m n (returned place e)
+grows-returned fits place e = search evaluated
+
+done-simple : {m n : Meaning} → Fits m n → (file : ResolvedFile) (place : Place) (s : ResolvedSimple) → GrowsDone m n (simple file place s)
+done-simple fits file place (simples.Set slot source) = done-stated fits place (grows-set fits place slot source)
+done-simple fits file place (simples.Call procedure arguments) = done-stated fits place (grows-call fits file place procedure arguments)
+done-simple fits file place (simples.Return e) = done-after fits place (grows-returned fits place e) (λ d. done-ends_as (Return d))
+done-simple fits file place (simples.Leave level) = done-ends_as (Leave level)
+done-simple fits file place (simples.Iterate level) = done-ends_as (Iterate level)
+done-simple fits file place (simples.Signal s) = done-stated fits place (grows-signal fits place s)
+done-simple fits file place (simples.Resignal s) = done-stated fits place (grows-resignal fits place s)
+done-simple fits file place (simples.GetDiagnostics d) = done-stated fits place (grows-get_diagnostics place d)
+done-simple fits file place (simples.SelectInto query slots) = done-stated fits place (grows-select_into place query slots)
+done-simple fits file place (simples.Insert table columns rows) = done-stated fits place (grows-insert fits file table columns rows)
+done-simple fits file place (simples.Update table sets which) = done-stated fits place (grows-update file place table sets which)
+done-simple fits file place (simples.Delete table which) = done-stated fits place (grows-delete file place table which)
+done-simple fits file place (simples.Open cursor) = done-stated fits place (grows-open place cursor)
+done-simple fits file place (simples.Fetch cursor slots) = done-stated fits place (grows-fetch place cursor slots)
+done-simple fits file place (simples.Close cursor) = done-stated fits place (grows-close place cursor)
+
+-- ---- blocks
+
+grows-default_of : {m n : Meaning} → Fits m n → (e : Option ResolvedExpr) → Grows m n (default_of e)
+grows-default_of fits None = search grown
+grows-default_of fits (Some e) = grows-value_of fits e
+
+grows-declared : {m n : Meaning} → Fits m n → (place : Place) (x : ResolvedDeclaration) → Grows m n (declared place x)
+grows-declared fits place x = grows-bind (grows-default_of fits x.default) (λ d. grows-assign_each place x.slots d)
+
+grows-all_declared : {m n : Meaning} → Fits m n → (place : Place) (xs : List ResolvedDeclaration) → Grows m n (all_declared place xs)
+grows-all_declared fits place [] = search grown
+grows-all_declared fits place (x ∷ xs) = grows-bind (grows-declared fits place x) (λ u. grows-all_declared fits place xs)
+
+done-undone : {m n : Meaning} {run : Deed} (kind : HandlerKind) (found : List Contents) → GrowsDone m n run → GrowsDone m n (undone kind found run)
+done-undone Continue found h = h
+done-undone Exit found h = h
+done-undone Undo found h = done-changing h
+
+done-arrived : {m n : Meaning} → Fits m n → (level : ℕ) (place : Place) (found : List Contents) (o : Outcome) → GrowsDone m n (arrived level place found o)
+done-arrived fits level place found Normal = done-ends_as _
+done-arrived fits level place found (Leave l) = done-ends_as _
+done-arrived fits level place found (Iterate l) = done-ends_as _
+done-arrived fits level place found (Return d) = done-ends_as _
+done-arrived fits level place found (Raised c) = done-ends_as _
+done-arrived fits level place found (Away l h c) = done-if (nat_eq l level) (done-undone (out-ResolvedHandler h).kind found (done-action fits place h)) (done-ends_as (Away l h c))
+done-arrived fits level place found (Stopped stop) = done-ends_as _
+
+done-put_back : {m n : Meaning} {deed : Deed} (b : Bool) (found : List Contents) → GrowsDone m n deed → GrowsDone m n (put_back b found deed)
+done-put_back false found h = h
+done-put_back true found h = done-changing h
+
+done-ended : {m n : Meaning} (level : ℕ) (atomic : Bool) (cursors : List ResolvedCursor) (found : List Contents) (o : Outcome) → GrowsDone m n (ended level atomic cursors found o)
+done-ended level atomic cursors found o = done-changing (done-put_back (atomic && is_left_by_exception o) found (done-ends_as _))
+
+stops-put_back : (b : Bool) (found : List Contents) (m : Meaning) (st : State) → (put_back b found (ends_as (Stopped NoHeight)) m st).outcome ≡ Stopped NoHeight
+stops-put_back false found m st = refl
+stops-put_back true found m st = refl
+
+done-entered : {m n : Meaning} → Fits m n → (level : ℕ) (b : Block) (place : Place) (found : List Contents) → GrowsDone m n (entered level b place found)
+done-entered {m = m} fits level b place found = done-behind (done-behind (done-all fits _ b.statements) (record { grows = done-arrived fits level _ found; passes = λ st. refl }))
+    (record { grows = done-ended level b.atomic b.cursors found; passes = λ st. stops-put_back _ found m _ })
+
+done-finding : {m n : Meaning} {go : List Contents → Deed} → ((found : List Contents) → GrowsDone m n (go found)) → GrowsDone m n (finding go)
+done-finding h = record { same = λ st. (h st.tables).same st }
+
+done-compound : {m n : Meaning} → Fits m n → (level : ℕ) (b : Block) (place : Place) → GrowsDone m n (compound level b place)
+done-compound fits level b place = done-after fits place (grows-all_declared fits place b.declarations) (λ u. done-changing (done-finding (done-entered fits level b place)))
+
+-- ---- IF and CASE
+
+done-branched : {m n : Meaning} → Fits m n → (place : Place) (test : ResolvedExpr → Act truth.Truth) → ((e : ResolvedExpr) → Grows m n (test e)) → (branches : List ResolvedBranch) {otherwise : Deed} → GrowsDone m n otherwise → GrowsDone m n (branched place test branches otherwise)
+done-branched fits place test h [] k = k
+done-branched fits place test h (b ∷ branches) k = done-after fits place (h (out-ResolvedBranch b).test) (λ t. done-if (is_certain t) (done-all fits place _) (done-branched fits place test h branches k))
+
+done-else_of : {m n : Meaning} → Fits m n → (place : Place) (ss : List ResolvedStatement) → GrowsDone m n (else_of place ss)
+done-else_of fits place [] = done-raised fits place (of_state (codes "20000"))
+done-else_of fits place (s ∷ ss) = done-all fits place (s ∷ ss)
+
+done-cased : {m n : Meaning} → Fits m n → (place : Place) (e : Option ResolvedExpr) (branches : List ResolvedBranch) {otherwise : Deed} → GrowsDone m n otherwise → GrowsDone m n (cased place e branches otherwise)
+done-cased fits place None branches k = done-branched fits place _ (grows-truth_of fits) branches k
+done-cased fits place (Some e) branches k = done-after fits place (grows-value_of fits e) (λ d. done-branched fits place _ (grows-is_equal fits d) branches k)
+
+-- ---- loops
+
+follows-repeated : {m n : Meaning} (level : ℕ) {again : Deed} → GrowsDone m n again → Follows m n (repeated level again)
+follows-repeated level h = record { grows = each level h; passes = λ st. refl }
+  where
+    each : {m n : Meaning} (level : ℕ) {again : Deed} → GrowsDone m n again → (o : Outcome) → GrowsDone m n (repeated level again o)
+    each level h Normal = h
+    each level h (Leave l) = done-ends_as _
+    each level h (Iterate l) = done-if (nat_eq l level) h (done-ends_as (Iterate l))
+    each level h (Return d) = done-ends_as _
+    each level h (Raised c) = done-ends_as _
+    each level h (Away l k c) = done-ends_as _
+    each level h (Stopped stop) = done-ends_as _
+
+done-looped : {m n : Meaning} → Fits m n → (level : ℕ) (place : Place) (ss : List ResolvedStatement) {again : Deed} → GrowsDone m n again → GrowsDone m n (looped level place ss again)
+done-looped fits level place ss h = done-at_turn (done-behind (done-all fits place ss) (follows-repeated level h))
+
+done-while_true : {m n : Meaning} → Fits m n → (level : ℕ) (place : Place) (test : ResolvedExpr) (ss : List ResolvedStatement) {again : Deed} → GrowsDone m n again → GrowsDone m n (while_true level place test ss again)
+done-while_true fits level place test ss h = done-at_turn (done-after fits place (grows-truth_of fits test) (λ t. done-if (is_certain t) (done-behind (done-all fits place ss) (follows-repeated level h)) (done-ends_as Normal)))
+
+done-until_true : {m n : Meaning} → Fits m n → (level : ℕ) (place : Place) (ss : List ResolvedStatement) (until : ResolvedExpr) {again : Deed} → GrowsDone m n again → GrowsDone m n (until_true level place ss until again)
+done-until_true fits level place ss until h = done-at_turn (done-behind (done-all fits place ss) (follows-repeated level (done-after fits place (grows-truth_of fits until) (λ t. done-if (is_certain t) (done-ends_as Normal) h))))
+
+-- ---- FOR
+
+grows-kept : {m n : Meaning} (place : Place) (slots : List ℕ) (row : Option (List Datum)) → Grows m n (kept place slots row)
+grows-kept place slots None = search grown
+grows-kept place slots (Some ds) = search (grown, grows-assign_all)
+
+grows-row_of_for : {m n : Meaning} (place : Place) (head : ResolvedFor) → Grows m n (row_of_for place head)
+grows-row_of_for place head = grows-bind (grows-next head.cursor) (λ row. grows-kept place head.slots row)
+
+done-over_row : {m n : Meaning} → Fits m n → (level : ℕ) (place : Place) (head : ResolvedFor) (ss : List ResolvedStatement) {again : Deed} → GrowsDone m n again → (row : Option (List Datum)) → GrowsDone m n (over_row level place head ss again row)
+done-over_row fits level place head ss h None = done-ends_as Normal
+done-over_row fits level place head ss h (Some ds) = done-behind (done-all fits _ ss) (follows-repeated level h)
+
+done-round : {m n : Meaning} → Fits m n → (level : ℕ) (place : Place) (head : ResolvedFor) (ss : List ResolvedStatement) {again : Deed} → GrowsDone m n again → GrowsDone m n (round level place head ss again)
+done-round fits level place head ss h = done-at_turn (done-after fits place (grows-row_of_for place head) (done-over_row fits level place head ss h))
+
+done-rounds : {m n : Meaning} → Fits m n → (level : ℕ) (place : Place) (head : ResolvedFor) (ss : List ResolvedStatement) → GrowsDone m n (rounds level place head ss)
+done-rounds fits level place head ss = record { same = λ st. fits.done (Round level head ss) place st }
+
+done-for_each : {m n : Meaning} → Fits m n → (level : ℕ) (place : Place) (head : ResolvedFor) (ss : List ResolvedStatement) → GrowsDone m n (for_each level place head ss)
+done-for_each fits level place head ss = done-after fits place (grows-open_cursor head.cursor) (λ u. done-behind (done-rounds fits level place head ss) (record { grows = λ o. done-changing {f = with_cursor head.cursor.number Closed} (done-ends_as o); passes = λ st. refl }))
+
+-- ---- steps
+
+done-statement : {m n : Meaning} → Fits m n → (file : ResolvedFile) (place : Place) {again : Deed} → GrowsDone m n again → (s : ResolvedStatement-F ResolvedStatement ResolvedBlock ResolvedBranch ResolvedHandler) → GrowsDone m n (statement file place again s)
+done-statement fits file place h (layers.Compound level block) = done-compound fits level (out-ResolvedBlock block) place
+done-statement fits file place h (layers.Loop level ss) = done-looped fits level place ss h
+done-statement fits file place h (layers.While level test ss) = done-while_true fits level place test ss h
+done-statement fits file place h (layers.Repeat level ss until) = done-until_true fits level place ss until h
+done-statement fits file place h (layers.For level head ss) = done-for_each fits level place head ss
+done-statement fits file place h (layers.If branches otherwise) = done-branched fits place _ (grows-truth_of fits) branches (done-all fits place otherwise)
+done-statement fits file place h (layers.Case e branches otherwise) = done-cased fits place e branches (done-else_of fits place otherwise)
+done-statement fits file place h (layers.Simple s) = done-simple fits file place s
+
+done-task : {m n : Meaning} → Fits m n → (file : ResolvedFile) (t : Task) (place : Place) → GrowsDone m n (task file t place)
+done-task fits file (Do s) place = done-statement fits file place (done-part fits place s) (out-ResolvedStatement s)
+done-task fits file (Round level head ss) place = done-round fits level place head ss (done-rounds fits level place head ss)
+
+-- a step under meanings of which the second is to more height
+pub fits-step : (file : ResolvedFile) {m n : Meaning} → Fits m n → Fits (step file m) (step file n)
+fits-step file fits = record {
+  value = λ e st. (grows-evaluated fits file (out-ResolvedExpr e)).same st;
+  done = λ t place st. (done-task fits file t place).same st;
+}
+
+fits-nothing : (m : Meaning) → Fits nothing m
+fits-nothing m = record { value = λ e st. inl refl; done = λ t place st. inl refl }
+
+pub fits-next : (file : ResolvedFile) (h : ℕ) → Fits (meaning file h) (meaning file (suc h))
+fits-next file zero = fits-nothing _
+fits-next file (suc h) = fits-step file (fits-next file h)
+
+-- ---- any height above
+
+same-trans : {A : Type 0} {r s t : Evaluated A} → Same r s → Same s t → Same r t
+same-trans (inl e) k = inl e
+same-trans {r = r} {s = s} {t = t} (inr p) k = subst (λ x. Same x t) (sym p) k
+
+end-trans : {r s t : Done} → SameEnd r s → SameEnd s t → SameEnd r t
+end-trans (inl e) k = inl e
+end-trans {r = r} {s = s} {t = t} (inr p) k = subst (λ x. SameEnd x t) (sym p) k
+
+fits-trans : {l m n : Meaning} → Fits l m → Fits m n → Fits l n
+fits-trans p q = record { value = λ e st. same-trans (p.value e st) (q.value e st); done = λ t place st. end-trans (p.done t place st) (q.done t place st) }
+
+fits-refl : (m : Meaning) → Fits m m
+fits-refl m = record { value = λ e st. inr refl; done = λ t place st. inr refl }
+
+fits-more : (file : ResolvedFile) (h more : ℕ) → Fits (meaning file h) (meaning file (more + h))
+fits-more file h zero = let e : 0 + h ≡ h = omega arith in subst (λ k. Fits (meaning file h) (meaning file k)) (sym e) (fits-refl _)
+fits-more file h (suc more) = let e : suc more + h ≡ suc (more + h) = omega arith in
+    subst (λ k. Fits (meaning file h) (meaning file k)) (sym e) (fits-trans (fits-more file h more) (fits-next file (more + h)))
+
+pub fits-above : (file : ResolvedFile) (h k : ℕ) → h ≤ k → Fits (meaning file h) (meaning file k)
+fits-above file h k p = let e : k - h + h ≡ k = omega (arith, p) in subst (λ x. Fits (meaning file h) (meaning file x)) e (fits-more file h (k - h))

@@ -1,0 +1,17 @@
+pub mod State
+pub mod Acts
+pub mod Raising
+pub mod Rows
+pub mod Calls
+pub mod Values
+pub mod Assigning
+pub mod Signalling
+pub mod Cursors
+pub mod Data
+pub mod Statements
+pub mod Blocks
+pub mod Flow
+pub mod Meaning
+pub mod Lines
+pub mod Session
+pub mod Fits

@@ -1,0 +1,76 @@
+-- What happens where a condition is raised (ISO/IEC 9075-4:1996): the choice of a handler, and what the handler does.
+use Rattle.std.specs.Prelude.{ℕ, List, [], ◌∷◌, map, Option, Some, None, if◌then◌else◌}
+use Rattle.psm_sqlstate.specs.Kind.{kind_of}
+use Rattle.psm_cond.specs.Choice.{chosen, highest, is_exception, rank}
+use Rattle.psm_cond.specs.Condition.{Entries}
+use Rattle.psm_cond.specs.declared.entry.Entry.{Entry}
+use Rattle.psm_cond.specs.declared.handlers.HandlerKind.{HandlerKind}
+use Rattle.psm_cond.specs.declared.handlers.HandlerKind.TheVariants.{Continue, Exit, Undo}
+use Rattle.psm_resolved.specs.declared.statement.ResolvedHandler.{ResolvedHandler, out-ResolvedHandler}
+use Rattle.psm_meaning.specs.State.{State, Scope, Place, cleared, holding}
+use Rattle.psm_meaning.specs.Acts.{Given, Got, Raises, Ends, Outcome, Normal, Raised, Away, Stopped, Done, Do, Meaning, Act, Deed, ends_as, behind, changing, at_turn}
+
+-- ---- the choice
+
+-- a handler, the scope that it stands in, and the scopes outside
+pub record Candidate : Type 0 where
+  pub handler : ResolvedHandler
+  pub scope : Scope
+  pub outside : List Scope
+
+-- the handlers in scope, each scope by itself
+abbrev pub candidates : List Scope → List (List Candidate)
+candidates [] = []
+candidates (s ∷ outer) = map (λ h. record { handler = h; scope = s; outside = outer }) s.handlers ∷ candidates outer
+
+-- how specific a handler's match of a condition is, of which the first entry decides
+abbrev pub candidate_rank : Entry → Candidate → ℕ
+candidate_rank e c = highest (rank e) (out-ResolvedHandler c.handler).values
+
+-- the most specific handler of the innermost scope that has a match
+abbrev pub choice : Entry → List Scope → Option Candidate
+choice e scopes = chosen (candidate_rank e) (candidates scopes)
+
+-- ---- actions
+
+-- an action that ends normally leaves success in the area
+abbrev pub after_action : Outcome → Deed
+after_action Normal = changing cleared (ends_as Normal)
+after_action o = ends_as o
+
+-- the action of a handler at a place, for the condition that is in the area
+abbrev pub action : Place → ResolvedHandler → Deed
+action place h = behind (λ m st. m.done (Do (out-ResolvedHandler h).action) (record place { acting = st.area ∷ place.acting }) st) after_action
+
+-- ---- raising
+
+-- CONTINUE runs its action where the condition was raised, at the place outside the handler's block; EXIT and UNDO leave the blocks
+-- inside their own first
+abbrev pub handled : Place → Entries → Candidate → HandlerKind → Deed
+handled place c k Continue = action (record place { cursors = k.scope.cursors; scopes = k.outside }) k.handler
+handled place c k Exit = ends_as (Away k.scope.level k.handler c)
+handled place c k Undo = ends_as (Away k.scope.level k.handler c)
+
+-- a handler uses a turn; without one an exception leaves, and a completion condition changes nothing in the flow
+abbrev pub answered : Place → Entries → Option Candidate → Deed
+answered place c None = ends_as (if is_exception (kind_of c.first.state) then Raised c else Normal)
+answered place c (Some k) = at_turn (handled place c k (out-ResolvedHandler k.handler).kind)
+
+-- a condition is raised at a place: the area takes it, and then a handler is looked for
+abbrev pub raised : Place → Entries → Deed
+raised place c = changing (holding c) (answered place c (choice c.first place.scopes))
+
+-- ---- evaluations that stand in a statement
+
+abbrev pub settled : {A : Type 0} → Place → Given A → (A → Deed) → Deed
+settled place (Got a) go = go a
+settled place (Raises c) go = raised place c
+settled place (Ends stop) go = ends_as (Stopped stop)
+
+-- what is done behind an evaluation; a condition of it is raised at the statement, which is passed over then
+abbrev pub after : {A : Type 0} → Place → Act A → (A → Deed) → Deed
+after place act go m st = let r = act m st in settled place r.given go m r.state
+
+-- a statement that is an evaluation alone
+abbrev pub stated : Place → Act (Unit {0}) → Deed
+stated place act = after place act (λ _. ends_as Normal)

@@ -1,0 +1,112 @@
+-- SIGNAL, RESIGNAL and GET DIAGNOSTICS (ISO/IEC 9075-4:1996, and 9075:1992, 18.1).
+use Rattle.std.specs.Prelude.{ℕ, suc, Bool, false, List, [], ◌∷◌, length, codes, slice_get, Option, Some, None, if◌then◌else◌}
+use Rattle.std.specs.Ordering.{is_eq}
+use Rattle.std.specs.declared.cmp.Ordering.{Ordering}
+use Rattle.psm_value.specs.declared.datum.Datum.{Datum}
+use Rattle.psm_value.specs.declared.datum.Datum.TheVariants.{Null, Num, Text}
+use Rattle.psm_value.specs.Order.{compared}
+use Rattle.psm_cond.specs.Area.{Diagnostics}
+use Rattle.psm_cond.specs.Condition.{Entries, alone, «behind» as in_front}
+use Rattle.psm_cond.specs.Entry.{entry_of, name_text}
+use Rattle.psm_cond.specs.Item.{entries_of, entry_item, statement_item, whole}
+use Rattle.psm_cond.specs.declared.entry.Entry.{Entry}
+use Rattle.psm_resolved.specs.declared.expr.ResolvedExpr.{ResolvedExpr}
+use Rattle.psm_resolved.specs.declared.statement.ResolvedCondition.{ResolvedCondition}
+use Rattle.psm_resolved.specs.declared.statement.ResolvedCondition.TheVariants.{State, Own}
+use Rattle.psm_resolved.specs.declared.statement.ResolvedDiagnostics.{ResolvedDiagnostics}
+use Rattle.psm_resolved.specs.declared.statement.ResolvedDiagnostics.TheVariants.{Statement, Condition}
+use Rattle.psm_resolved.specs.declared.statement.ResolvedNumber.{ResolvedNumber}
+use Rattle.psm_resolved.specs.declared.statement.ResolvedNumber.TheVariants.{Constant, Variable}
+use Rattle.psm_resolved.specs.declared.statement.ResolvedSignal.{ResolvedSignal}
+use Rattle.psm_meaning.specs.State.{Place, cleared}
+use Rattle.psm_meaning.specs.Acts.{Lacking, Act, got, raises, ends, change, read, present, of_state, value_of, variable, ◌>>=◌, ◌>>◌}
+use Rattle.psm_meaning.specs.Assigning.{assign}
+
+-- ---- the condition that is signalled
+
+-- a condition without an SQLSTATE is 45000 and keeps its name
+abbrev pub entry_for : Place → ResolvedCondition → Act Entry
+entry_for place (State s) = got (entry_of s)
+entry_for place (Own n) = do
+  name ← present (slice_get place.routine.conditions n)
+  got (record (entry_of (codes "45000")) { own = Some n; identifier = name_text name })
+
+-- a null text counts as empty
+abbrev pub message_text : Datum → Act (List ℕ)
+message_text Null = got []
+message_text (Num n) = ends Lacking
+message_text (Text t) = got t
+
+-- the message that is set, or that of the SQLSTATE
+abbrev pub with_message : Option ResolvedExpr → Entry → Act Entry
+with_message None e = got e
+with_message (Some x) e = do
+  d ← value_of x
+  t ← message_text d
+  got (record e { message = t })
+
+abbrev pub signalled : Place → ResolvedSignal → Act Entry
+signalled place s = do
+  e ← entry_for place s.condition
+  with_message s.message e
+
+abbrev pub signal : Place → ResolvedSignal → Act (Unit {0})
+signal place s = do
+  change cleared
+  e ← signalled place s
+  raises (alone e)
+
+-- ---- RESIGNAL
+
+-- the condition that activated the innermost running action
+abbrev pub activating : List Diagnostics → Act Entries
+activating [] = raises (of_state (codes "0K000"))
+activating (a ∷ outer) = got a.entries
+
+-- alone it raises that condition again; with a condition, whose message is evaluated first, it puts that one in front
+abbrev pub resignal : Place → Option ResolvedSignal → Act (Unit {0})
+resignal place None = do
+  change cleared
+  c ← activating place.acting
+  raises c
+resignal place (Some s) = do
+  change cleared
+  e ← signalled place s
+  c ← activating place.acting
+  raises (in_front e c)
+
+-- ---- GET DIAGNOSTICS, which leaves the area as it is
+
+-- items go into their variables in order
+abbrev pub assign_items : {I : Type 0} → Place → (I → Datum) → List (ℕ × I) → Act (Unit {0})
+assign_items place item [] = got tt
+assign_items place item (i ∷ items) = do
+  assign place i.0 (item i.1)
+  assign_items place item items
+
+abbrev pub equal : Option Ordering → Bool
+equal None = false
+equal (Some o) = is_eq o
+
+-- the entry whose number, counted from one on, is the value, with its number
+abbrev pub entry_numbered : ℕ → List Entry → Datum → Option (ℕ × Entry)
+entry_numbered n [] d = None
+entry_numbered n (e ∷ es) d = if equal (compared d (whole n)) then Some (n, e) else entry_numbered (suc n) es d
+
+abbrev pub numbered : Option (ℕ × Entry) → Act (ℕ × Entry)
+numbered None = raises (of_state (codes "35000"))
+numbered (Some e) = got e
+
+abbrev pub number_given : ResolvedNumber → Act Datum
+number_given (Constant n) = got (Num n)
+number_given (Variable slot) = variable slot
+
+abbrev pub get_diagnostics : Place → ResolvedDiagnostics → Act (Unit {0})
+get_diagnostics place (Statement items) = do
+  a ← read (λ st. st.area)
+  assign_items place (statement_item (length (entries_of a.entries)) a.entries.more a.rows) items
+get_diagnostics place (Condition number items) = do
+  a ← read (λ st. st.area)
+  d ← number_given number
+  e ← numbered (entry_numbered 1 (entries_of a.entries) d)
+  assign_items place (entry_item e.0 e.1) items

@@ -1,0 +1,7 @@
+//! What the statements of a module and the commands of a script mean (ISO/IEC 9075-4:1996): definitions over trees without names,
+//! and laws of them. It has no code that runs.
+#![tactic(auto)]
+
+mod laws;
+
+pub use laws::more_height_changes_nothing;
