@@ -1,4 +1,0 @@
-pub mod Numbering
-pub mod Statements
-pub mod Blocks
-pub mod Files
