@@ -1,14 +1,13 @@
 -- Evaluations under two meanings of their parts, of which the second is to more height.
-use Rattle.std.proofs.Common.{◌≡◌, ◌⊎◌, inl, inr, ℕ, zero, suc, Bool, true, false, List, [], ◌∷◌, Option, Some, None, Result, Ok, Err, refl, ap, subst, if◌then◌else◌}
-use Rattle.psm_value.specs.declared.datum.Datum.{Datum}
+use Rattle.std.proofs.Common.{inl, inr, ℕ, zero, suc, Bool, true, false, List, [], ◌∷◌, Option, Some, None, Result, Ok, Err, refl, ap, subst, if◌then◌else◌}
 use Rattle.psm_exprcode.specs.declared.operand.Operand.{Operand}
 use Rattle.psm_exprcode.specs.declared.operand.Operand.TheVariants.{Value, Truth}
 use Rattle.psm_sqlstate.specs.declared.state.SqlState.{SqlState}
 use Rattle.psm_cond.specs.Condition.{Entries}
 use Rattle.psm_resolved.specs.declared.expr.ResolvedExpr.{ResolvedExpr}
-use Rattle.psm_meaning.specs.State.{State, Place}
-use Rattle.psm_meaning.specs.Acts.{Stop, Given, Got, Raises, Ends, NoHeight, Evaluated, Meaning, Act, got, raises, ends, go_on, ◌>>=◌, ◌>>◌, read, change, present, tried, spent, turn, operand, as_value, as_truth, value_of, truth_of, values, variable}
-use Rattle.psm_meaning.specs.Fits.{Same, SameEnd, Fits}
+use Rattle.psm_meaning.specs.State.{State}
+use Rattle.psm_meaning.specs.Acts.{Stop, Given, Got, Raises, Ends, Evaluated, Meaning, Act, got, raises, ends, go_on, ◌>>=◌, read, change, present, tried, spent, turn, operand, as_value, as_truth, value_of, truth_of, values, variable}
+use Rattle.psm_meaning.specs.Fits.{Same, Fits}
 
 -- wherever the height was great enough for an evaluation under the first meaning, it is the same under the second
 pub record Grows (m n : Meaning) {A : Type 0} (act : Act A) : Type 0 where

@@ -1,11 +1,11 @@
 -- The same of the evaluations that stand in simple statements.
-use Rattle.std.proofs.Common.{ℕ, zero, suc, Bool, true, false, List, [], ◌∷◌, Option, Some, None, Result, Ok, Err, inr, refl, if◌then◌else◌}
+use Rattle.std.proofs.Common.{ℕ, zero, suc, Bool, true, false, List, [], ◌∷◌, Option, Some, None, Result, Ok, Err, inr, refl}
 use Rattle.psm_value.specs.declared.datum.Datum.{Datum}
 use Rattle.psm_value.specs.declared.datum.Datum.TheVariants.{Null, Num, Text}
 use Rattle.psm_cond.specs.Area.{Diagnostics}
 use Rattle.psm_cond.specs.declared.entry.Entry.{Entry}
 use Rattle.psm_table.specs.Changing.{Failure, Raised, OfTable}
-use Rattle.psm_table.specs.Cursors.{Cursor, Closed, Plain, Insensitive, current}
+use Rattle.psm_table.specs.Cursors.{Cursor, Closed, Plain, Insensitive}
 use Rattle.psm_table.specs.Queries.{Items, Rows, Sets}
 use Rattle.psm_table.specs.Table.{Contents}
 use Rattle.psm_table.specs.declared.definition.TableDef.{TableDef}
@@ -31,8 +31,8 @@ use Rattle.psm_meaning.specs.State.{Place}
 use Rattle.psm_meaning.specs.Acts.{Meaning}
 use Rattle.psm_meaning.specs.Assigning.{assign, assign_each, assign_all, retrieve, retrieve_all, set, arguments_given, given_back, ended_well, call}
 use Rattle.psm_meaning.specs.Signalling.{entry_for, message_text, with_message, signalled, signal, activating, resignal, assign_items, numbered, number_given, get_diagnostics}
-use Rattle.psm_meaning.specs.Cursors.{declared_at, cursor_now, open_as, opened, «open», let_go, close, items_on, items_of_found, next_of, next, warned, fetched_into, fetch, only_row, select_into}
-use Rattle.psm_meaning.specs.Data.{schema_at, unless_failed, leaves, some_row, all_values, some_rows, rows_given, put_in, insert, update_rows, delete_rows, standing_on, row_of_cursor, leave_row, update_at, delete_at, update, delete}
+use Rattle.psm_meaning.specs.Cursors.{cursor_now, open_as, opened, «open», let_go, close, items_on, items_of_found, next_of, next, warned, fetched_into, fetch, only_row, select_into}
+use Rattle.psm_meaning.specs.Data.{unless_failed, some_row, all_values, some_rows, rows_given, put_in, insert, update_rows, delete_rows, standing_on, row_of_cursor, leave_row, update_at, delete_at, update, delete}
 use Rattle.psm_meaning.specs.Fits.{Fits}
 use Rattle.psm_meaning.proofs.Growing.{Grows, grows-bind, grows-got, grows-value_of, grows-variable, grows-values, grown, evaluated}
 use Rattle.psm_meaning.proofs.GrowingValues.{grows-table_now, grows-answer_of, grows-activated}

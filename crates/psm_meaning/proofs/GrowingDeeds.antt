@@ -1,12 +1,12 @@
 -- The same of statements that are put together, and of what is done where a condition is raised.
-use Rattle.std.proofs.Common.{◌≡◌, ◌⊎◌, inl, inr, ℕ, zero, suc, Bool, true, false, List, [], ◌∷◌, Option, Some, None, refl, ap, subst, ◌∙◌, if◌then◌else◌}
+use Rattle.std.proofs.Common.{◌≡◌, inl, inr, ℕ, zero, suc, Bool, true, false, List, [], ◌∷◌, Option, Some, None, refl, ap, subst, ◌∙◌, if◌then◌else◌}
 use Rattle.psm_cond.specs.Condition.{Entries}
 use Rattle.psm_cond.specs.declared.handlers.HandlerKind.{HandlerKind}
 use Rattle.psm_cond.specs.declared.handlers.HandlerKind.TheVariants.{Continue, Exit, Undo}
 use Rattle.psm_resolved.specs.declared.statement.ResolvedHandler.{ResolvedHandler, out-ResolvedHandler}
 use Rattle.psm_resolved.specs.declared.statement.ResolvedStatement.{ResolvedStatement}
-use Rattle.psm_meaning.specs.State.{State, Place, holding, cleared}
-use Rattle.psm_meaning.specs.Acts.{Stop, Given, Got, Raises, Ends, Evaluated, Outcome, Normal, Leave, Iterate, Return, Raised, Away, Stopped, NoHeight, Done, Do, Meaning, Act, Deed, ends_as, behind, changing, part, if_normal, all, spending, at_turn}
+use Rattle.psm_meaning.specs.State.{State, Place, holding}
+use Rattle.psm_meaning.specs.Acts.{Given, Got, Raises, Ends, Evaluated, Outcome, Normal, Leave, Iterate, Return, Raised, Away, Stopped, NoHeight, Done, Do, Meaning, Act, Deed, ends_as, behind, changing, part, if_normal, all, spending, at_turn}
 use Rattle.psm_meaning.specs.Raising.{Candidate, choice, after_action, action, handled, answered, raised, settled, after, stated}
 use Rattle.psm_meaning.specs.Fits.{Same, SameEnd, Fits}
 use Rattle.psm_meaning.proofs.Growing.{Grows}

@@ -1,12 +1,12 @@
 -- The same of scripts.
-use Rattle.std.proofs.Common.{◌≡◌, ◌⊎◌, inl, inr, ℕ, suc, ◌≤◌, List, [], ◌∷◌, ◌++◌, Bool, Option, Some, None, refl, ap, subst}
+use Rattle.std.proofs.Common.{◌≡◌, ◌⊎◌, inl, inr, ℕ, suc, ◌≤◌, List, [], ◌∷◌, Bool, Option, Some, None, refl, ap, subst}
 use Rattle.psm_value.specs.declared.datum.Datum.{Datum}
 use Rattle.psm_resolved.specs.declared.expr.ResolvedQuery.{ResolvedQuery}
 use Rattle.psm_resolved.specs.declared.file.ResolvedFile.{ResolvedFile}
 use Rattle.psm_resolved.specs.declared.file.ResolvedRoutine.{ResolvedRoutine}
-use Rattle.psm_meaning.specs.Acts.{NoHeight, Given, Got, Raises, Ends, Evaluated, Meaning, Act}
+use Rattle.psm_meaning.specs.Acts.{NoHeight, Evaluated, Meaning, Act}
 use Rattle.psm_meaning.specs.Lines.{first_line}
-use Rattle.psm_meaning.specs.Session.{Command, Call, Insert, Select, Commit, Rollback, Standing, at_command, call_lines, called, inserted, answer_lines, selected, Played, Went, Stopped, ended, run, played, Session, Cut, going_on, commands_from, command_name, session_to, at_start}
+use Rattle.psm_meaning.specs.Session.{Command, Call, Insert, Select, Commit, Rollback, Standing, at_command, call_lines, called, inserted, answer_lines, selected, Played, Went, Stopped, ended, run, played, Session, going_on, commands_from, command_name, session_to, at_start}
 use Rattle.psm_meaning.specs.Fits.{Same, Fits, SameSession}
 use Rattle.psm_meaning.proofs.Growing.{Grows, grows-bind, grown}
 use Rattle.psm_meaning.proofs.GrowingValues.{grows-activated, grows-answer_of}

@@ -1,5 +1,5 @@
 -- The same of every statement, and so of a step: more height leaves a meaning as it is.
-use Rattle.std.proofs.Common.{arith, ◌≡◌, ◌⊎◌, inl, inr, ℕ, zero, suc, ◌≤◌, ◌+◌, ◌-◌, sym, subst, Bool, true, false, List, [], ◌∷◌, Option, Some, None, refl, ap, if◌then◌else◌, nat_eq}
+use Rattle.std.proofs.Common.{arith, ◌≡◌, inl, inr, ℕ, zero, suc, ◌≤◌, ◌+◌, ◌-◌, sym, subst, Bool, true, false, List, [], ◌∷◌, Option, Some, None, refl, nat_eq}
 use Rattle.std.specs.Prelude.{◌&&◌, codes}
 use Rattle.psm_value.specs.declared.datum.Datum.{Datum}
 use Rattle.psm_value.specs.declared.truth.Truth as truth
@@ -22,7 +22,7 @@ use Rattle.psm_resolved.specs.declared.statement.ResolvedStatement.{ResolvedStat
 use Rattle.psm_resolved.specs.declared.statement.ResolvedStatement.TheOpen.{ResolvedStatement-F}
 use Rattle.psm_resolved.specs.declared.statement.ResolvedStatement.TheOpen as layers
 use Rattle.psm_meaning.specs.State.{State, Place, with_cursor}
-use Rattle.psm_meaning.specs.Acts.{Outcome, Normal, Leave, Iterate, Return, Raised, Away, Stopped, NoHeight, Evaluated, Done, Task, Do, Round, Meaning, Act, Deed, of_state, ends_as, all, part, truth_of}
+use Rattle.psm_meaning.specs.Acts.{Outcome, Normal, Leave, Iterate, Return, Raised, Away, Stopped, NoHeight, Evaluated, Done, Task, Do, Round, Meaning, Act, Deed, of_state, ends_as}
 use Rattle.psm_meaning.specs.Statements.{returned, simple}
 use Rattle.psm_meaning.specs.Blocks.{Block, default_of, declared, all_declared, undone, arrived, is_left_by_exception, put_back, ended, entered, finding, compound}
 use Rattle.psm_meaning.specs.Flow.{branched, else_of, cased, repeated, looped, while_true, until_true, kept, row_of_for, over_row, round, rounds, for_each}

@@ -1,12 +1,12 @@
 -- The same of expressions: activations, and every form of expression.
-use Rattle.std.proofs.Common.{◌≡◌, ◌⊎◌, inl, inr, ℕ, zero, suc, Bool, true, false, List, [], ◌∷◌, Option, Some, None, Result, Ok, Err, refl, ap, subst, if◌then◌else◌}
+use Rattle.std.proofs.Common.{inl, inr, ℕ, Bool, List, [], ◌∷◌, Option, Some, None, Ok, Err, ap, subst}
 use Rattle.psm_list.specs.Several.{Several}
 use Rattle.psm_value.specs.declared.datum.Datum.{Datum}
 use Rattle.psm_value.specs.declared.sqltype.SqlType.{SqlType}
 use Rattle.psm_value.specs.declared.truth.Truth as truth
 use Rattle.psm_value.specs.Truth.{is_certain}
 use Rattle.psm_exprcode.specs.declared.operand.Operand.{Operand}
-use Rattle.psm_exprcode.specs.declared.operand.Operand.TheVariants.{Value, Truth}
+use Rattle.psm_exprcode.specs.declared.operand.Operand.TheVariants.{Value}
 use Rattle.psm_exprcode.specs.Comparison.{is_null}
 use Rattle.psm_exprcode.specs.Evaluated as rows
 use Rattle.psm_resolved.specs.declared.expr.Junction.{Junction}
@@ -23,13 +23,13 @@ use Rattle.psm_resolved.specs.declared.file.ParameterMode.TheVariants.{In, Out, 
 use Rattle.psm_resolved.specs.declared.file.ResolvedFile.{ResolvedFile}
 use Rattle.psm_resolved.specs.declared.file.ResolvedParameter.{ResolvedParameter}
 use Rattle.psm_resolved.specs.declared.file.ResolvedRoutine.{ResolvedRoutine}
-use Rattle.psm_meaning.specs.State.{State, Place, returned_to}
-use Rattle.psm_meaning.specs.Acts.{Given, Evaluated, Outcome, Normal, Leave, Iterate, Return, Raised, Away, Stopped, NoHeight, Ends, Done, Meaning, Act, ◌>>=◌, got}
+use Rattle.psm_meaning.specs.State.{State, returned_to}
+use Rattle.psm_meaning.specs.Acts.{Evaluated, Outcome, Normal, Leave, Iterate, Return, Raised, Away, Stopped, Done, Meaning, Act}
 use Rattle.psm_meaning.specs.Calls.{passed, entered, bounded, ending, run_body, apart, activated, result_of, called, body_place, begun}
 use Rattle.psm_meaning.specs.Rows.{table_now, answer_of}
 use Rattle.psm_meaning.specs.Values.{Layer, there, came, worked, of_one, of_two, of_three, operands, joined, linked, among, scaled, else_of, is_equal, chosen, cased, first_set, scalar, evaluated}
 use Rattle.psm_meaning.specs.Fits.{Same, SameEnd, Fits}
-use Rattle.psm_meaning.proofs.Growing.{Grows, grows-bind, grows-if, grows-got, grows-raises, grows-ends, grows-value_of, grows-truth_of, grows-operand, grows-values, grown, evaluated as grown_parts}
+use Rattle.psm_meaning.proofs.Growing.{Grows, grows-bind, grows-if, grows-got, grows-value_of, grows-truth_of, grows-operand, grows-values, grown, evaluated as grown_parts}
 
 pub grows-table_now : {m n : Meaning} (table : ℕ) → Grows m n (table_now table)
 grows-table_now table = search grown

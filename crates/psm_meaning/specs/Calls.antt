@@ -14,7 +14,7 @@ use Rattle.psm_resolved.specs.declared.file.ResolvedFile.{ResolvedFile}
 use Rattle.psm_resolved.specs.declared.file.ResolvedParameter.{ResolvedParameter}
 use Rattle.psm_resolved.specs.declared.file.ResolvedRoutine.{ResolvedRoutine}
 use Rattle.psm_meaning.specs.State.{State, Place, cleared, returned_to}
-use Rattle.psm_meaning.specs.Acts.{Given, Got, Raises, Ends, Lacking, Evaluated, Outcome, Normal, Leave, Iterate, Return, Raised, Away, Stopped, Done, Do, Meaning, Act, got, raises, ends, change, read, present, of_state, tried, turn, ◌>>=◌, ◌>>◌}
+use Rattle.psm_meaning.specs.Acts.{Lacking, Outcome, Normal, Leave, Iterate, Return, Raised, Away, Stopped, Do, Act, got, raises, ends, change, read, present, of_state, tried, turn, ◌>>=◌, ◌>>◌}
 
 -- ---- routines by their numbers
 

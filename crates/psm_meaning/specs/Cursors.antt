@@ -1,7 +1,7 @@
 -- Cursors and retrieval into variables (ISO/IEC 9075:1992, 13.1 to 13.5).
-use Rattle.std.specs.Prelude.{ℕ, Bool, true, false, List, [], ◌∷◌, codes, find, nat_eq, slice_get, Option, Some, None, if◌then◌else◌}
+use Rattle.std.specs.Prelude.{ℕ, Bool, true, false, List, [], ◌∷◌, codes, find, nat_eq, slice_get, Option, Some, None}
 use Rattle.psm_value.specs.declared.datum.Datum.{Datum}
-use Rattle.psm_cond.specs.Condition.{Entries, alone}
+use Rattle.psm_cond.specs.Condition.{alone}
 use Rattle.psm_cond.specs.Entry.{entry_of, name_text}
 use Rattle.psm_table.specs.Cursors.{Cursor, Closed, Plain, Insensitive, advanced, before_first}
 use Rattle.psm_table.specs.Evaluator.{values_of}

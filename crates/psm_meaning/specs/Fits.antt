@@ -1,5 +1,5 @@
 -- What more height does to a meaning: nothing, where the height was great enough.
-use Rattle.std.specs.Prelude.{◌≡◌, ◌⊎◌, ℕ}
+use Rattle.std.specs.Prelude.{◌≡◌, ◌⊎◌}
 use Rattle.psm_resolved.specs.declared.expr.ResolvedExpr.{ResolvedExpr}
 use Rattle.psm_meaning.specs.State.{State, Place}
 use Rattle.psm_meaning.specs.Session.{Session, Cut}

@@ -6,7 +6,6 @@ use Rattle.psm_value.specs.Truth.{is_certain}
 use Rattle.psm_table.specs.Cursors.{Closed}
 use Rattle.psm_resolved.specs.declared.expr.ResolvedExpr.{ResolvedExpr}
 use Rattle.psm_resolved.specs.declared.statement.ResolvedBranch.{ResolvedBranch, out-ResolvedBranch}
-use Rattle.psm_resolved.specs.declared.statement.ResolvedCursor.{ResolvedCursor}
 use Rattle.psm_resolved.specs.declared.statement.ResolvedFor.{ResolvedFor}
 use Rattle.psm_resolved.specs.declared.statement.ResolvedStatement.{ResolvedStatement}
 use Rattle.psm_meaning.specs.State.{Place, seeing, with_cursor}

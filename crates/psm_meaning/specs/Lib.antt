@@ -15,3 +15,4 @@ pub mod Meaning
 pub mod Lines
 pub mod Session
 pub mod Fits
+pub mod Heights

@@ -1,6 +1,6 @@
 -- What expressions and statements mean (ISO/IEC 9075-4:1996): one step, where it is known what parts mean, and then all steps
 -- to a height. A height that is great enough for a file, its turns and a statement is in Heights; a greater one changes nothing.
-use Rattle.std.specs.Prelude.{ℕ, zero, suc, ◌∷◌, []}
+use Rattle.std.specs.Prelude.{ℕ, zero, suc}
 use Rattle.psm_resolved.specs.declared.expr.ResolvedExpr.{out-ResolvedExpr}
 use Rattle.psm_resolved.specs.declared.file.ResolvedFile.{ResolvedFile}
 use Rattle.psm_resolved.specs.declared.statement.ResolvedBlock.{ResolvedBlock, out-ResolvedBlock}

@@ -7,8 +7,8 @@ use Rattle.psm_cond.specs.declared.entry.Entry.{Entry}
 use Rattle.psm_cond.specs.declared.handlers.HandlerKind.{HandlerKind}
 use Rattle.psm_cond.specs.declared.handlers.HandlerKind.TheVariants.{Continue, Exit, Undo}
 use Rattle.psm_resolved.specs.declared.statement.ResolvedHandler.{ResolvedHandler, out-ResolvedHandler}
-use Rattle.psm_meaning.specs.State.{State, Scope, Place, cleared, holding}
-use Rattle.psm_meaning.specs.Acts.{Given, Got, Raises, Ends, Outcome, Normal, Raised, Away, Stopped, Done, Do, Meaning, Act, Deed, ends_as, behind, changing, at_turn}
+use Rattle.psm_meaning.specs.State.{Scope, Place, cleared, holding}
+use Rattle.psm_meaning.specs.Acts.{Given, Got, Raises, Ends, Outcome, Normal, Raised, Away, Stopped, Do, Act, Deed, ends_as, behind, changing, at_turn}
 
 -- ---- the choice
 

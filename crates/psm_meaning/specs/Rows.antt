@@ -1,5 +1,5 @@
 -- Row expressions and queries as tables evaluate them: over the columns of a row, and over variables.
-use Rattle.std.specs.Prelude.{ℕ, List, [], map, slice_get, Option}
+use Rattle.std.specs.Prelude.{ℕ, List, map, slice_get}
 use Rattle.psm_value.specs.declared.datum.Datum.{Datum}
 use Rattle.psm_table.specs.Evaluator.{Evaluator}
 use Rattle.psm_table.specs.Queries.{Aggregate, Answer, Items, Query, answer}
@@ -15,7 +15,7 @@ use Rattle.psm_resolved.specs.declared.expr.ResolvedLink.{ResolvedLink}
 use Rattle.psm_resolved.specs.declared.expr.ResolvedQuery.{ResolvedQuery, out-ResolvedQuery}
 use Rattle.psm_resolved.specs.declared.expr.ResolvedWhen.{ResolvedWhen}
 use Rattle.psm_resolved.specs.RowValue.{row_value}
-use Rattle.psm_meaning.specs.Acts.{Act, ◌>>=◌, ◌>>◌, present, read, tried}
+use Rattle.psm_meaning.specs.Acts.{Act, ◌>>=◌, present, read, tried}
 
 -- the evaluation over these variables
 abbrev pub over : List Datum → Evaluator ResolvedExpr

@@ -1,16 +1,14 @@
 -- What a module and a script mean together: the pieces of text that the commands print, in order, and the tables that they leave.
-use Rattle.std.specs.Prelude.{ℕ, zero, suc, Bool, true, false, List, [], ◌∷◌, ◌++◌, codes, map, slice_get, Option, Some, None, if◌then◌else◌}
+use Rattle.std.specs.Prelude.{ℕ, suc, Bool, true, false, List, [], ◌∷◌, ◌++◌, codes, map, slice_get, Option, Some, None}
 use Rattle.psm_value.specs.declared.datum.Datum.{Datum}
 use Rattle.psm_cond.specs.Area.{clear}
-use Rattle.psm_cond.specs.Condition.{Entries}
-use Rattle.psm_table.specs.Queries.{Answer}
 use Rattle.psm_table.specs.Table.{Contents, empty_table}
 use Rattle.psm_resolved.specs.declared.expr.ResolvedQuery.{ResolvedQuery}
 use Rattle.psm_resolved.specs.declared.file.ResolvedFile.{ResolvedFile}
 use Rattle.psm_resolved.specs.declared.file.ResolvedRoutine.{ResolvedRoutine}
 use Rattle.psm_resolved.specs.declared.file.ResolvedTable.{ResolvedTable}
-use Rattle.psm_meaning.specs.State.{State, cleared, with_tables}
-use Rattle.psm_meaning.specs.Acts.{Stop, NoTurns, NoHeight, Lacking, Given, Got, Raises, Ends, Evaluated, Meaning, Act, got, raises, ends, change, of_state, present, ◌>>=◌, ◌>>◌}
+use Rattle.psm_meaning.specs.State.{State}
+use Rattle.psm_meaning.specs.Acts.{Stop, NoTurns, NoHeight, Lacking, Given, Got, Raises, Ends, Meaning, Act, got, raises, ends, of_state, present, ◌>>=◌, ◌>>◌}
 use Rattle.psm_meaning.specs.Calls.{activated, procedure_at}
 use Rattle.psm_meaning.specs.Data.{put_in}
 use Rattle.psm_meaning.specs.Lines.{condition_lines, first_line, naming, ok_line, row_lines, turns_used_line, value_lines}

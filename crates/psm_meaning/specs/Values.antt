@@ -25,7 +25,7 @@ use Rattle.psm_resolved.specs.declared.expr.ResolvedWhen.{ResolvedWhen, out-Reso
 use Rattle.psm_resolved.specs.declared.file.ResolvedFile.{ResolvedFile}
 use Rattle.psm_resolved.specs.Outcomes.{at_scale}
 use Rattle.psm_resolved.specs.RowValue.{listed, tested, value_layer}
-use Rattle.psm_meaning.specs.Acts.{Lacking, Act, got, raises, ends, of_state, operand, value_of, truth_of, values, ◌>>=◌, ◌>>◌}
+use Rattle.psm_meaning.specs.Acts.{Lacking, Act, got, raises, ends, of_state, operand, value_of, truth_of, values, ◌>>=◌}
 use Rattle.psm_meaning.specs.Calls.{called}
 use Rattle.psm_meaning.specs.Rows.{answer_of}
 
