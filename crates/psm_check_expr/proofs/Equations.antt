@@ -190,3 +190,9 @@ query_layer place picks table alias (Some condition) view = refl
 pub found_query : (q : Select) (view : View) → query_found q view ≡ query_seen q view
 unfolding expr_found pick_found link_found query_found when_found
 found_query q view = let o = out-Select q in ap (λ f. f view) (fold_out-Select (Of Found) PickPart LinkPart (Of QueryFound) WhenPart expr_layer pick_layer link_layer select_layer when_layer q) ∙ query_layer o.place o.picks o.table o.alias o.condition view
+
+pub found_table : (q : Select) (view : View) → (query_found q view).table ≡ (out-Select q).table
+found_table q view = ap (λ f. f.table) (found_query q view)
+
+pub found_columns : (q : Select) (view : View) → (query_found q view).columns ≡ table_named view (out-Select q).table.name
+found_columns q view = ap (λ f. f.columns) (found_query q view)

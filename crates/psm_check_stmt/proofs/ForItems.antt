@@ -11,12 +11,12 @@ use Rattle.psm_tree.specs.declared.expr.Pick.TheVariants as picked
 use Rattle.psm_scope.specs.Lookup.{RowTable}
 use Rattle.psm_tree.specs.declared.expr.Pick.{Pick}
 use Rattle.psm_tree.specs.declared.expr.Select.{Select, out-Select}
-use Rattle.psm_rules.specs.View.{Columns, Frames, View, on_row, table_named}
+use Rattle.psm_rules.specs.View.{Columns, Frames, View, on_row}
 use Rattle.psm_rules.specs.StatementFaults.{several}
 use Rattle.psm_rules.specs.ExprFaults.{QueryFound, columns_known, pick_found, query_found, row_of, seen, spelling}
 use Rattle.psm_rules.specs.BlockFaults.{declared_once, local_variable, with_columns, with_variable}
 use Rattle.psm_check_stmt.specs.ForItems.{variables_here, with_variables_here}
-use Rattle.psm_check_expr.proofs.Equations.{found_query}
+use Rattle.psm_check_expr.proofs.Equations.{found_columns, found_query}
 use Rattle.psm_check_stmt.proofs.Innermost.{declared_again, declared_now}
 
 pub ruleset pick_layers = (picked.outs-All, picked.outs-Expr, picked.outs-CountRows, picked.outs-Aggregate)
@@ -50,9 +50,6 @@ column_at columns k name kind n t = rw add-one (dropped columns (name, kind) k (
     both (Some p) n t = let h : p.0 ≡ name = cc in let j : p.1 ≡ kind = cc in ap (λ a. Some (a, p.1)) h ∙ ap (λ b. Some (name, b)) j
 
 -- ---- what is found in the query
-
-found_columns : (select : Select) (view : View) → (query_found select view).columns ≡ table_named view (out-Select select).table.name
-found_columns select view = ap (λ q. q.columns) (found_query select view)
 
 -- on the rows of its table
 abbrev pub inside : Select → View → View

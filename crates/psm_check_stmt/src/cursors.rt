@@ -152,6 +152,7 @@ pub(crate) fn cursor_on<'a>(
 }
 
 /// The first fault of a cursor's declaration, and the cursor.
+#[tactic(auto, using(psm_check_expr::proofs::Equations::found_table))]
 pub(crate) fn declared_cursor<'a>(
     alloc: Global,
     declared: &'a CursorDeclaration,

@@ -165,6 +165,7 @@ pub(crate) fn values_fault<'a>(
     Ok(fault)
 }
 
+#[tactic(auto, using(crate::proofs::StatementEquations::part_of_handler))]
 fn handler_values_fault<'a>(
     alloc: Global,
     frames: &Frames,

@@ -38,6 +38,7 @@ struct NamedColumn<'a> {
 }
 
 /// The first fault of FOR's head. Goes into the frame of its statements.
+#[tactic(auto, using(psm_check_expr::proofs::Equations::found_columns))]
 pub(crate) fn for_fault<'w, 'a>(
     c: Context<'w, 'a>,
     frames: &mut Frames<'a>,
@@ -66,6 +67,7 @@ struct HeadFound<'a> {
     order: Option<Fault>,
 }
 
+#[tactic(auto, using(psm_check_expr::proofs::Equations::found_table))]
 fn head_found<'w, 'a>(
     c: Context<'w, 'a>,
     frames: &Frames<'a>,
@@ -145,6 +147,7 @@ struct ForItem<'a> {
 }
 
 // The items of the query, on the rows of its table.
+#[tactic(auto, using(psm_check_expr::proofs::Equations::found_columns))]
 fn for_items<'a>(
     c: Context<'_, 'a>,
     frames: &Frames<'a>,

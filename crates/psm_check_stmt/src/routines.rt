@@ -215,16 +215,23 @@ fn branch_returns(branch: &Branch) -> bool
 }
 
 #[cycle(returning)]
-#[tactic(auto, using(crate::proofs::Returning::returns_handler))]
 fn handlers_return(handlers: &[Boxed<Handler>]) -> bool
     ensures { result ≡ some (map handler_returns handlers.now) }
 {
     for handler in handlers {
-        if has_return(handler.get().action.get()) {
+        if handler_returns(handler.get()) {
             return true;
         }
     }
     false
+}
+
+#[cycle(returning)]
+#[tactic(auto, using(crate::proofs::Returning::returns_handler))]
+fn handler_returns(handler: &Handler) -> bool
+    ensures { result ≡ handler_returns handler.now }
+{
+    has_return(handler.action.get())
 }
 
 #[cycle(returning)]
