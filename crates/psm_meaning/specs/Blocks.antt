@@ -96,9 +96,13 @@ ended level atomic cursors found o = changing (closed cursors) (put_back (atomic
 abbrev pub Block : Type 0
 Block = ResolvedBlock-F ResolvedStatement ResolvedBlock ResolvedBranch ResolvedHandler
 
--- the statement list of a block whose declarations are evaluated, then a handler's action, and then its end
+-- its statement list, in which its handlers are in scope
+abbrev pub listed : ℕ → Block → Place → Deed
+listed level b place = all (in_scope level b.handlers b.cursors place) b.statements
+
+-- its list, then the action of a handler of its own that was chosen there, and then its end
 abbrev pub entered : ℕ → Block → Place → List Contents → Deed
-entered level b place found = behind (behind (all (in_scope level b.handlers b.cursors place) b.statements) (arrived level (seeing b.cursors place) found)) (ended level b.atomic b.cursors found)
+entered level b place found = behind (behind (listed level b place) (arrived level (seeing b.cursors place) found)) (ended level b.atomic b.cursors found)
 
 -- the tables as they are now are those that the block finds
 abbrev pub finding : (List Contents → Deed) → Deed
