@@ -1,6 +1,6 @@
 -- Routines that can't be told apart, as they are kept.
 use Rattle.std.proofs.Common.{◌≡◌, Bool, true, false, ◌&&◌, ◌||◌, not, List, [], ◌∷◌, ◌++◌, refl, sym, ap, ◌∙◌}
-use Rattle.std.specs.Prelude.{if◌then◌else◌}
+use Rattle.std.specs.Prelude.{nat_eq, Option, if◌then◌else◌}
 use Rattle.std.specs.List.{list_any}
 use Rattle.std.specs.Cmp.Lexicographic.{pointwise, same_text}
 use Rattle.std.specs.Cow.{cow_slice_items}
@@ -13,7 +13,10 @@ use Rattle.psm_scope.specs.declared.key.CallKey.{CallKey}
 use Rattle.psm_scope.specs.declared.key.FunctionKey.{FunctionKey}
 use Rattle.psm_scope.proofs.Exactly.{are_kinds-Decides}
 use Rattle.psm_tree.specs.declared.file.Routine.{Routine}
-use Rattle.psm_rules.specs.FileFaults.{is_function, kinds_of, repeats_function, repeats_procedure, same_functions, same_procedures}
+use Rattle.psm_rules.specs.declared.fault.Fault.{Fault}
+use Rattle.psm_rules.specs.declared.rule.Rule.TheVariants as rule
+use Rattle.psm_rules.specs.Faults.{breaks_if}
+use Rattle.psm_rules.specs.FileFaults.{is_function, kinds_of, repeats_function, repeats_procedure, same_functions, same_procedures, told_apart}
 use Rattle.psm_check_stmt.specs.Told.{AreTold, is_function_key}
 
 -- ---- choices
@@ -32,6 +35,10 @@ or_last true true = refl
 or_last true false = refl
 or_last false true = refl
 or_last false false = refl
+
+not_not : (b : Bool) → not (not b) ≡ b
+not_not true = refl
+not_not false = refl
 
 both : (a b : Bool) → (a && b) ≡ true → (a ≡ true) × (b ≡ true)
 both true b e = (refl, e)
@@ -73,6 +80,20 @@ function_keys_same q k a e =
 
 module _ (functions : List FunctionKey) (procedures : List CallKey) (before : List Routine) (told : AreTold functions procedures before)
     (r : Routine) (is : is_function r ≡ true) (k : FunctionKey) (name : k.name.name.now ≡ r.name.name) (kinds : cow_slice_items k.kinds ≡ kinds_of r) where
+  function_told : list_any (same_function k) functions ≡ repeats_function before r
+  function_told =
+      ap (λ n. list_any (λ a. pointwise nat_eq n a.name.name.now && pointwise is_kind (cow_slice_items k.kinds) (cow_slice_items a.kinds)) functions) name
+      ∙ ap (λ l. list_any (λ a. pointwise nat_eq r.name.name a.name.name.now && pointwise is_kind l (cow_slice_items a.kinds)) functions) kinds
+      ∙ told.of_functions r
+
+  -- a function whose key is there already can't be told apart
+  pub function_apart : (added : Bool) → added ≡ not (list_any (same_function k) functions) → (fault : Option Fault) → fault ≡ breaks_if (not added) rule.FunctionsNotDistinct r.name.place → fault ≡ told_apart r before
+  function_apart added e fault f =
+      f
+      ∙ ap (λ b. breaks_if (not b) rule.FunctionsNotDistinct r.name.place) (e ∙ ap not function_told)
+      ∙ ap (λ b. breaks_if b rule.FunctionsNotDistinct r.name.place) (not_not (repeats_function before r))
+      ∙ sym (ap (λ b. if b then breaks_if (repeats_function before r) rule.FunctionsNotDistinct r.name.place else breaks_if (repeats_procedure before r) rule.ProcedureRepeated r.name.place) is)
+
   pub function_added : (new : List FunctionKey) → new ≡ insert_key same_function functions k → AreTold new procedures (r ∷ before)
   function_added new e = record {
     of_functions = λ q.

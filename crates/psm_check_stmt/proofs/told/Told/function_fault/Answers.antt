@@ -1,7 +1,15 @@
-use Rattle.std.proofs.Common.{sym, subst}
+use Rattle.std.proofs.Common.{ap, sym, subst, ◌∙◌}
+use Rattle.psm_rules.specs.FileFaults.{told_apart}
 use Rattle.psm_check_stmt.specs.Told.{AreTold}
-use Rattle.psm_check_stmt.proofs.Apart.{function_added}
+use Rattle.psm_check_stmt.proofs.Apart.{function_added, function_apart}
 use Rattle.psm_check_stmt.proofs.told.Told.function_fault.Goals as goal
+
+pub returns-clause-fault : goal.returns-clause-fault
+returns-clause-fault c =
+    let told = c.self.inside in
+    function_apart told.functions.keys told.procedures.keys told.log.routines c.self.invariant c.args.r.now c.requires c.in_ok-key.key c.in_ok-key.ensures.0 c.in_ok-key.ensures.1
+    c.in_ok-added.added c.in_ok-added.ensures.added c.breaks_if.result c.breaks_if.ensures
+    ∙ ap (told_apart c.args.r.now) c.self.view_is
 
 pub invariant_of-self-2 : goal.invariant_of-self-2
 invariant_of-self-2 c =
