@@ -11,13 +11,13 @@ use psm_undostore::{Store, UndoStore};
 use psm_value::Dec;
 use std::alloc::Global;
 
-/// A store whose table has no row yet.
+/// A store whose table has no row yet. The numbers beside the keys may be UNIQUE.
 #[tactic(auto, using(crate::proofs::PairsRows::new_store))]
-pub fn empty(alloc: Global) -> Result<UndoStore, RowFault>
+pub fn empty(alloc: Global, unique: bool) -> Result<UndoStore, RowFault>
     ensures pairs { IfOk result HasPairs }
     ensures marks { IfOk result (λ s. s.marks ≡ 0) }
 {
-    let def = definition(alloc)?;
+    let def = definition(alloc, unique)?;
     Ok(UndoStore::new(alloc, vec![in alloc; def]?)?)
 }
 
@@ -73,14 +73,15 @@ pub fn number_in(row: &Row) -> i64 {
     }
 }
 
-fn row(alloc: Global, key: Dec, number: u32) -> Result<Row, RowFault>
+/// A row of these numbers.
+pub fn row(alloc: Global, key: Dec, number: u32) -> Result<Row, RowFault>
     ensures { IfOk result IsPair }
 {
     let number = Dec::new(i64::from(number), 0).unwrap();
     Ok(Row::of(vec![in alloc; Datum::Num(key), Datum::Num(number)]?))
 }
 
-fn definition(alloc: Global) -> Result<TableDef, RowFault>
+fn definition(alloc: Global, unique: bool) -> Result<TableDef, RowFault>
     ensures defined { IfOk result IsDefinition }
     ensures pairs { IfOk result IsPairsTable }
 {
@@ -90,8 +91,16 @@ fn definition(alloc: Global) -> Result<TableDef, RowFault>
         name: name(alloc, "pairs")?,
         columns: List::of(vec![in alloc; id, number]?),
         key: List::of(vec![in alloc; 0u32]?),
-        unique: List::of(Vec::new(alloc)),
+        unique: lists(alloc, unique)?,
     })
+}
+
+fn lists(alloc: Global, unique: bool) -> Result<List<List<u32>>, RowFault> {
+    let mut lists = Vec::new(alloc);
+    if unique {
+        lists.push(List::of(vec![in alloc; 1u32]?))?;
+    }
+    Ok(List::of(lists))
 }
 
 fn column(alloc: Global, word: &str) -> Result<Column, RowFault>
