@@ -12,7 +12,7 @@ pub rows-requires-clause-suits : goal.rows-requires-clause-suits
 rows-requires-clause-suits g c =
     let vars : List Datum = c.as_slice-then-suits.result.now in
     let columns : List Letter = c.as_slice-then-are_of.result.now in
-    let variables : List Letter = N ∷ T ∷ [] in
+    let variables : List Letter = N ∷ T ∷ N ∷ [] in
     let letters : columns ≡ letters_of c.table.result.now.contents.def = c.as_slice-then-are_of.ensures.value ∙ c.in_ok-columns.ensures ∙ ap (λ (d : TableDef). letters_of d) c.def.ensures.value in
     let same : vars ≡ c.as_slice.result.now = c.as_slice-then-suits.ensures.value ∙ sym c.as_slice.ensures.value in
     let kinds : are_of variables vars ≡ true = ap (λ (vs : List Datum). are_of variables vs) same ∙ sym c.are_of.ensures ∙ c.if-are_of.true in
