@@ -1,5 +1,6 @@
 -- The statement without names that stands for one without statements in it (ISO/IEC 9075-4:1996, and 9075:1992, clause 13). What
 -- nothing declares is no part of an accepted file: the number 0 stands for it.
+use Rattle.std.specs.Ascii.{codes}
 use Rattle.std.specs.Prelude.{ℕ, zero, suc, Bool, true, false, Option, Some, None, List, [], ◌∷◌, ◌++◌, map, length, option_map}
 use Rattle.psm_list.specs.Several.{Several}
 use Rattle.psm_cond.specs.declared.item.StatementItem.{StatementItem}
@@ -140,7 +141,98 @@ call_of sight es (Some p) = made.Call p.number (arguments_of sight p.parameters 
 
 -- ---- conditions: a name that is declared FOR an SQLSTATE is that SQLSTATE
 
--- an SQLSTATE that is none is no part of an accepted file
-abbrev pub state_or_none : Option Spelling → Spelling
-state_or_none None = []
-state_or_none (Some s) = s
+-- a text that is no SQLSTATE is no part of an accepted file
+abbrev pub state_or_success : Option Spelling → Spelling
+state_or_success None = codes "00000"
+state_or_success (Some s) = s
+
+abbrev pub state_of : State → Spelling
+state_of s = state_or_success (rules.good_state s.text)
+
+abbrev pub declared_as : Option DeclaredCondition → ResolvedCondition
+declared_as None = conditions.Own 0
+declared_as (Some c) = numbered c.number c.state
+  where
+    numbered : ℕ → Option Spelling → ResolvedCondition
+    numbered n None = conditions.Own n
+    numbered n (Some s) = conditions.State s
+
+abbrev pub condition_of : Frames → Condition → ResolvedCondition
+condition_of frames (signals.Name n) = declared_as (lookup.condition n.name frames)
+condition_of frames (signals.State s) = conditions.State (state_of s)
+
+abbrev pub signal_of : Sight → Signalled → ResolvedSignal
+signal_of sight s = record { condition = condition_of sight.frames s.condition; message = option_map (expr_at sight) s.message }
+
+-- ---- diagnostics
+
+abbrev pub statement_item : WrittenStatementItem → StatementItem
+statement_item written_statement_items.Number = statement_items.Number
+statement_item written_statement_items.More = statement_items.More
+statement_item written_statement_items.RowCount = statement_items.RowCount
+
+abbrev pub condition_item : WrittenConditionItem → ConditionItem
+condition_item written_condition_items.ConditionNumber = condition_items.ConditionNumber
+condition_item written_condition_items.ReturnedSqlState = condition_items.ReturnedSqlState
+condition_item written_condition_items.ConditionIdentifier = condition_items.ConditionIdentifier
+condition_item written_condition_items.MessageText = condition_items.MessageText
+condition_item written_condition_items.MessageLength = condition_items.MessageLength
+condition_item written_condition_items.TableName = condition_items.TableName
+condition_item written_condition_items.CursorName = condition_items.CursorName
+
+abbrev pub number_of : Frames → ConditionNumber → ResolvedNumber
+number_of frames (numbers.Number place n) = condition_numbers.Constant n
+number_of frames (numbers.Target t) = condition_numbers.Variable (slot_of frames t)
+
+abbrev pub diagnostics_of : Frames → Diagnostics → ResolvedDiagnostics
+diagnostics_of frames (diagnostics.Statement items) = gotten.Statement (map (λ i. (slot_of frames i.target, statement_item i.item)) (several items))
+diagnostics_of frames (diagnostics.Condition number items) = gotten.Condition (number_of frames number) (map (λ i. (slot_of frames i.target, condition_item i.item)) (several items))
+
+-- ---- rows
+
+-- each column, where none is named
+abbrev pub all_places : ℕ → Columns → List ℕ
+all_places i [] = []
+all_places i (c ∷ columns) = i ∷ all_places (suc i) columns
+
+abbrev pub inserted : Columns → Option Names → List ℕ
+inserted columns None = all_places 0 columns
+inserted columns (Some names) = map (column_of columns) (several names)
+
+abbrev pub row_of : Sight → Values → List ResolvedExpr
+row_of sight row = map (expr_at sight) (several row.values)
+
+abbrev pub rows_of : Sight → InsertSource → ResolvedRows
+rows_of sight (sources.Values values) = rows.Values (map (row_of sight) (several values))
+rows_of sight (sources.Query query) = rows.Query (query_made query sight).query
+
+-- the rows of a table that a statement changes
+abbrev pub on_table : Sight → Identifier → Sight
+on_table sight table = on_row sight (record { name = table.name; alias = None; columns = columns_of sight table })
+
+abbrev pub set_of : Sight → Columns → Assignment → ResolvedSet
+set_of sight columns a = record { column = column_of columns a.column; source = expr_at sight a.source }
+
+abbrev pub which_in : Sight → Identifier → Option Where → ResolvedWhere
+which_in sight table None = which_of.All
+which_in sight table (Some (wheres.Condition e)) = which_of.Test (expr_at (on_table sight table) e)
+which_in sight table (Some (wheres.Current n)) = which_of.Current (cursor_of sight.frames n)
+
+-- ---- statements
+
+abbrev pub simple_of : Sight → Simple → ResolvedSimple
+simple_of sight (simples.Set place target source) = made.Set (slot_of sight.frames target) (expr_at sight source)
+simple_of sight (simples.Call place procedure_name es) = call_of sight es (procedure procedure_name.name (length es) sight.world.procedures)
+simple_of sight (simples.Return place source) = made.Return (expr_at sight source)
+simple_of sight (simples.Leave place label) = made.Leave (level_of sight.frames label)
+simple_of sight (simples.Iterate place label) = made.Iterate (level_of sight.frames label)
+simple_of sight (simples.Signal place signalled) = made.Signal (signal_of sight signalled)
+simple_of sight (simples.Resignal place signalled) = made.Resignal (option_map (signal_of sight) signalled)
+simple_of sight (simples.GetDiagnostics place which d) = made.GetDiagnostics (diagnostics_of sight.frames d)
+simple_of sight (simples.SelectInto query targets) = made.SelectInto (query_made query sight).query (slots_of sight.frames (several targets))
+simple_of sight (simples.Insert place table names source) = made.Insert (table_of sight table) (inserted (columns_of sight table) names) (rows_of sight source)
+simple_of sight (simples.Update place table assignments which) = made.Update (table_of sight table) (map (set_of (on_table sight table) (columns_of sight table)) (several assignments)) (which_in sight table which)
+simple_of sight (simples.Delete place table which) = made.Delete (table_of sight table) (which_in sight table which)
+simple_of sight (simples.Open place cursor) = made.Open (cursor_of sight.frames cursor)
+simple_of sight (simples.Fetch place cursor targets) = made.Fetch (cursor_of sight.frames cursor) (slots_of sight.frames (several targets))
+simple_of sight (simples.Close place cursor) = made.Close (cursor_of sight.frames cursor)
