@@ -1,5 +1,5 @@
 -- Frames with the innermost last in memory.
-use Rattle.std.proofs.Common.{◌≡◌, ◌<◌, ◌+◌, ◌-◌, ℕ, suc, Bool, true, false, true≢false, length, drop, get_or, set, List, [], ◌∷◌, ◌++◌, reverse, refl, ap, sym, subst, ◌∙◌, arith}
+use Rattle.std.proofs.Common.{◌≡◌, ◌<◌, ◌+◌, ◌-◌, ℕ, suc, Bool, true, false, true≢false, length, drop, get_or, set, List, [], ◌∷◌, ◌++◌, reverse, refl, ap, sym, subst, ◌∙◌, length-drop, arith}
 use Rattle.std.specs.Prelude.{Some, None, slice_get, Result, Ok, Err, if◌then◌else◌}
 use Rattle.std.specs.declared.alloc.AllocError.{AllocError}
 use Rattle.std.proofs.lemmas.List.{reverse-append, length-reverse, get_or-reverse}
@@ -152,6 +152,10 @@ module _ {V C K : Type 0} (fs : List (Frame V C K)) (k : ℕ) (f : Frame V C K) 
       ∙ sym here
 
 -- ---- levels
+
+-- how many are further out
+pub counted : {A : Type 0} (xs : List A) (n k : ℕ) → n ≡ length xs → n - 1 - k ≡ length (drop (k + 1) xs)
+counted xs n k e = let d : length (drop (k + 1) xs) ≡ length xs - (k + 1) = length-drop (k + 1) xs in omega (arith, e, d)
 
 module _ {V C K : Type 0} (fs : List (Frame V C K)) (k : ℕ) (f : Frame V C K) (e : slice_get fs k ≡ Some f) (l : Spelling) where
   level_here : level l (drop k fs) ≡ (if is_action f then None else or_else (option_map (λ loops. length (drop (k + 1) fs)) (labelled l f)) (level l (drop (k + 1) fs)))

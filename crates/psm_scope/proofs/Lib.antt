@@ -1,4 +1,6 @@
 pub mod Calls
+pub mod Exactly
+pub mod Found
 pub mod Headed
 pub mod Inward
 pub mod Least

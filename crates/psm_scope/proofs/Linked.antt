@@ -10,7 +10,8 @@ use Rattle.std.proofs.lemmas.Slice.Eq.{bytes_eq-Decides}
 use Rattle.psm_scope.specs.declared.key.CallKey.{CallKey}
 use Rattle.psm_scope.specs.declared.signatures.Function.{Function}
 use Rattle.psm_scope.specs.Choice.{Signature}
-use Rattle.psm_scope.specs.Signatures.{IsLinked, is_called, is_called_at, last_below, same_call, signature_of}
+use Rattle.psm_scope.specs.Signatures.{IsLinked, is_called, is_called_at, last_below, signature_of}
+use Rattle.psm_scope.specs.Keys.{same_call}
 
 -- ---- a list with one item more
 
@@ -29,7 +30,7 @@ got_within [] x y (suc k) e = cc
 got_within (z ∷ zs) x y zero e = omega arith
 got_within (z ∷ zs) x y (suc k) e = let r : k ≤ length zs = got_within zs x y k e in omega (arith, r)
 
-map_last : {A B : Type 0} (f : A → B) (xs : List A) (x : A) → map f (xs ++ x ∷ []) ≡ map f xs ++ f x ∷ []
+pub map_last : {A B : Type 0} (f : A → B) (xs : List A) (x : A) → map f (xs ++ x ∷ []) ≡ map f xs ++ f x ∷ []
 map_last f [] x = refl
 map_last f (y ∷ ys) x = ap (λ l. f y ∷ l) (map_last f ys x)
 
@@ -37,7 +38,7 @@ length_last : {A : Type 0} (xs : List A) (x : A) → length (xs ++ x ∷ []) ≡
 length_last [] x = refl
 length_last (y ∷ ys) x = ap suc (length_last ys x)
 
-length_map : {A B : Type 0} (f : A → B) (xs : List A) → length (map f xs) ≡ length xs
+pub length_map : {A B : Type 0} (f : A → B) (xs : List A) → length (map f xs) ≡ length xs
 length_map f [] = refl
 length_map f (x ∷ xs) = ap suc (length_map f xs)
 

@@ -1,5 +1,8 @@
 pub mod Choice
+pub mod Exact
 pub mod Frames
+pub mod Keys
+pub mod KindNumbers
 pub mod Lookup
 pub mod Names
 pub mod Pass

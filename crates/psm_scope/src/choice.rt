@@ -1,6 +1,8 @@
 //! The choice of the function that a call means.
-ghost use Rattle.std.specs.Prelude.{◌≡◌, ◌<◌, length, List as Seq};
+ghost use Rattle.std.specs.Prelude.{◌≡◌, ◌<◌, length, IfSome, List as Seq};
+ghost use Rattle.std.specs.List.{list_all};
 ghost use Rattle.psm_scope.specs.Choice.{Candidate, all_go, chosen, goes_to, is_number as number, is_text as text, only, rank};
+ghost use Rattle.psm_scope.specs.Exact.{is_typed};
 ghost use Rattle.psm_scope.specs.Pass.{IsAsLong, Sees, added, order, order_in};
 
 use crate::fault::ChoiceFault;
@@ -21,13 +23,56 @@ struct Best<'a> {
 /// determination). A function is a candidate where it has the name and the number of arguments, and each argument's kind goes to
 /// the parameter's: upwards in SMALLINT, INTEGER, NUMERIC; upwards in CHAR, VARCHAR; NULL goes to all. For each argument that isn't
 /// NULL, from the left, the candidates with the lowest kind of parameter stay. `NoRoutine` comes exactly where there is no candidate,
-/// and `Ambiguous` exactly where more than one stays. It takes no memory, and looks only at functions of that name and number of
-/// parameters, each once.
+/// and `Ambiguous` exactly where more than one stays. It takes no memory. Where no argument is NULL, a function with exactly the
+/// arguments' kinds is found at once. Else only functions of that name and number of parameters are looked at, each once.
 pub fn choose_routine(
     routines: &Signatures,
     name: &Name,
     kinds: &[ArgKind],
 ) -> Result<u32, ChoiceFault>
+    ensures { result ≡ chosen routines.now name.now kinds.now }
+{
+    match exact(routines, name, kinds) {
+        Some(choice) => choice,
+        None => best_routine(routines, name, kinds),
+    }
+}
+
+// The choice where a function has exactly the arguments' kinds.
+fn exact(routines: &Signatures, name: &Name, kinds: &[ArgKind]) -> Option<Result<u32, ChoiceFault>>
+    ensures { IfSome result (λ choice. choice ≡ chosen routines.now name.now kinds.now) }
+{
+    if !are_typed(kinds) {
+        return None;
+    }
+    match routines.exact(name, kinds) {
+        None => None,
+        Some(functions) => Some(functions.choice()),
+    }
+}
+
+fn are_typed(kinds: &[ArgKind]) -> bool
+    ensures { result ≡ list_all is_typed kinds.now }
+{
+    kinds.iter().all(|kind| is_typed(*kind))
+}
+
+// Whether an argument of a kind has a type.
+fn is_typed(kind: ArgKind) -> bool
+    ensures { result ≡ is_typed kind }
+{
+    match kind {
+        ArgKind::Null => false,
+        ArgKind::SmallInt
+        | ArgKind::Integer
+        | ArgKind::Numeric
+        | ArgKind::Char
+        | ArgKind::VarChar => true,
+    }
+}
+
+// The choice among all functions of that name and number of parameters.
+fn best_routine(routines: &Signatures, name: &Name, kinds: &[ArgKind]) -> Result<u32, ChoiceFault>
     ensures { result ≡ chosen routines.now name.now kinds.now }
 {
     let mut best = None;

@@ -166,13 +166,13 @@ impl<'a, K: Drop> Frames<'a, K> {
     pub fn level(&self, label: &Name) -> Option<usize>
         ensures { result ≡ level label.now self.now }
     {
-        for depth in 0..self.frames.len() {
+        for depth in 0..self.len() {
             let frame = self.at(depth);
             if frame.is_action() {
                 return None;
             }
             if let Some(_loops) = frame.labelled(label) {
-                return Some(self.frames.len() - 1 - depth);
+                return Some(self.len() - 1 - depth);
             }
         }
         None

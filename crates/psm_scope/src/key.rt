@@ -1,24 +1,33 @@
-//! Names as keys of maps.
+//! Keys of maps.
 ghost use Rattle.std.specs.Prelude.{◌≡◌, nat_eq, encode_utf8_all};
 ghost use Rattle.std.proofs.Common.{rules};
 ghost use Rattle.std.specs.Cmp.Lexicographic.{pointwise};
 ghost use Rattle.std.specs.Cmp.Rules.{comparing, hashing};
 ghost use Rattle.std.specs.Hash as fed;
 
+use crate::kinds::ArgKind;
 use psm_text::Name;
+use std::borrow::CowSlice;
 use std::hash::{Hash, Hasher};
 
-/// A lent name as a key.
+/// A lent name as a key of a map.
 #[derive(Clone, Copy, Debug)]
-pub(crate) struct NameKey<'a> {
-    pub(crate) name: &'a Name,
+pub struct NameKey<'a> {
+    pub name: &'a Name,
 }
 
-/// The name and the number of arguments of a call, as a key.
+/// The name and the number of arguments of a call, as a key of a map.
 #[derive(Clone, Copy, Debug, PartialEq, Eq, Hash)]
-pub(crate) struct CallKey<'a> {
-    pub(crate) name: NameKey<'a>,
-    pub(crate) count: usize,
+pub struct CallKey<'a> {
+    pub name: NameKey<'a>,
+    pub count: usize,
+}
+
+/// The name of a function and the kinds of its parameters, as a key of a map. The kinds are lent to look for one.
+#[derive(PartialEq, Eq, Hash, Drop)]
+pub struct FunctionKey<'a> {
+    pub name: NameKey<'a>,
+    pub kinds: CowSlice<'a, ArgKind>,
 }
 
 /// Whether two names have the same characters.

@@ -22,16 +22,3 @@ pub struct DeclaredCondition {
     /// The SQLSTATE that it is another name of, if any.
     pub state: Option<SqlState>,
 }
-
-/// What is known of a cursor (ISO/IEC 9075:1992, 13.1).
-#[derive(Clone, Copy, Debug, PartialEq, Eq)]
-pub struct DeclaredCursor {
-    /// Its number in the routine.
-    pub number: u32,
-    /// The number of its table. `None` where there is no such table.
-    pub table: Option<u32>,
-    /// Whether positioned statements may use it.
-    pub updatable: bool,
-    /// Whether it is a FOR statement's, which OPEN, FETCH and CLOSE may not name.
-    pub of_for: bool,
-}

@@ -1,15 +1,19 @@
 //! The functions that can be called.
-ghost use Rattle.std.specs.Prelude.{◌≡◌, ◌<◌, ◌++◌, [], ◌∷◌, length, IfSome, Some, slice_get, OnOk, OnErr};
+ghost use Rattle.std.specs.Prelude.{◌≡◌, ◌<◌, ◌++◌, [], ◌∷◌, length, IfSome, Some, slice_get, IfOk, OnOk, OnErr};
 ghost use Rattle.std.specs.Option.{option_map};
+ghost use Rattle.std.specs.Cow.{cow_slice_items};
 ghost use Rattle.psm_scope.specs.Choice.{Signature};
+ghost use Rattle.psm_scope.specs.Exact.{exact, exact_of};
 ghost use Rattle.psm_scope.specs.Signatures.{last_below};
 
-use crate::key::{CallKey, NameKey};
+use crate::index::{Exact, Index};
+use crate::key::{CallKey, FunctionKey, NameKey};
 use crate::kinds::ArgKind;
 use indexmap::IndexMap;
 use psm_list::List;
 use psm_text::Name;
 use std::alloc::{AllocError, Global};
+use std::borrow::CowSlice;
 use std::marker::Model;
 
 /// A function that can be called.
@@ -21,24 +25,25 @@ struct Function<'a> {
     earlier: Option<u32>,
 }
 
-/// A list of functions, each a name with the kinds of its parameters, numbered from 0. A look-up by name and number of parameters
-/// goes through an index. The names are lent.
+/// A list of functions, each a name with the kinds of its parameters, numbered from 0. A look-up by name and number of parameters, or
+/// by name and kinds, goes through an index. The names are lent.
 #[derive(Drop)]
 pub struct Signatures<'a> {
+    alloc: Global,
     functions: Vec<Function<'a>>,
-    latest: IndexMap<CallKey<'a>, u32>,
+    index: Index<'a>,
 }
 
 impl<'a> Model for Signatures<'a> {
     ghost use Rattle.std.specs.Prelude.{List, map};
     ghost use Rattle.psm_scope.specs.Choice.{Signature};
-    ghost use Rattle.psm_scope.specs.Signatures.{IsLinked, signature_of};
+    ghost use Rattle.psm_scope.specs.Signatures.{IsFound, IsLinked, signature_of};
 
     ghost Value = { List Signature };
 
     ghost view = { λ s. map signature_of s.functions.items };
 
-    ghost invariant = { λ s. IsLinked s.functions.items s.latest.entries };
+    ghost invariant = { λ s. IsLinked s.functions.items s.index.latest.entries × IsFound s.functions.items s.index.exact.entries };
 }
 
 impl<'a> Signatures<'a> {
@@ -47,8 +52,12 @@ impl<'a> Signatures<'a> {
         ensures { result ≡ [] }
     {
         Signatures {
+            alloc,
             functions: Vec::new(alloc),
-            latest: IndexMap::new(alloc),
+            index: Index {
+                latest: IndexMap::new(alloc),
+                exact: IndexMap::new(alloc),
+            },
         }
     }
 
@@ -62,11 +71,12 @@ impl<'a> Signatures<'a> {
             return Err(AllocError);
         }
         self.functions.reserve(1)?;
-        let key = CallKey {
+        let call = CallKey {
             name: NameKey { name },
             count: kinds.items().len(),
         };
-        let earlier = self.latest.insert(key, number as u32)?;
+        let function = function_key(self.alloc, name, kinds.items())?;
+        let earlier = self.index.add(call, function, number as u32)?;
         self.functions.push(Function {
             name,
             kinds,
@@ -98,7 +108,18 @@ impl<'a> Signatures<'a> {
             name: NameKey { name },
             count,
         };
-        self.latest.get(&key).copied()
+        self.index.latest.get(&key).copied()
+    }
+
+    /// The functions with that name and exactly those kinds of parameters.
+    pub(crate) fn exact(&self, name: &Name, kinds: &[ArgKind]) -> Option<Exact>
+        ensures { result ≡ exact_of (exact 0 name.now kinds.now self.now) }
+    {
+        let key = FunctionKey {
+            name: NameKey { name },
+            kinds: CowSlice::Borrowed(kinds),
+        };
+        self.index.exact.get(&key).copied()
     }
 
     /// The number of the last function before that one with its name and number of parameters.
@@ -108,4 +129,18 @@ impl<'a> Signatures<'a> {
     {
         self.functions[number as usize].earlier
     }
+}
+
+fn function_key<'a>(
+    alloc: Global,
+    name: &'a Name,
+    kinds: &[ArgKind],
+) -> Result<FunctionKey<'a>, AllocError>
+    ensures name { IfOk result (λ key. key.name.name.now ≡ name.now) }
+    ensures kinds { IfOk result (λ key. cow_slice_items key.kinds ≡ kinds.now) }
+{
+    Ok(FunctionKey {
+        name: NameKey { name },
+        kinds: CowSlice::Owned(Vec::from_slice(alloc, kinds)?),
+    })
 }

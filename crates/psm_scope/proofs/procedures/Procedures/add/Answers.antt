@@ -1,7 +1,7 @@
 use Rattle.std.proofs.Common.{◌≡◌, ◌∷◌, [], ◌++◌, length, true, is_some, refl, sym, ap, ◌∙◌, subst}
 use Rattle.indexmap.proofs.CallerLemmas.{insert_entry-new}
 use Rattle.psm_scope.specs.declared.key.CallKey.{CallKey}
-use Rattle.psm_scope.specs.Signatures.{same_call}
+use Rattle.psm_scope.specs.Keys.{same_call}
 use Rattle.psm_scope.proofs.Headed.{is_there, last_headed, new_headed}
 use Rattle.std.specs.Prelude.{None}
 use Rattle.psm_scope.specs.Routines.{procedure}

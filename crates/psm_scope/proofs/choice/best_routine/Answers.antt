@@ -1,8 +1,8 @@
 use Rattle.std.proofs.Common.{sym, ◌∙◌, subst, arith}
 use Rattle.std.specs.Prelude.{Some}
 use Rattle.psm_scope.proofs.Calls.{Walks, walk_starts, walk_within, walk_falls, walk_takes, walk_passes, walk_long}
-use Rattle.psm_scope.proofs.choice.choose_routine.Goals.{then-all_go, else-all_go}
-use Rattle.psm_scope.proofs.choice.choose_routine.Goals as goal
+use Rattle.psm_scope.proofs.choice.best_routine.Goals.{then-all_go, else-all_go}
+use Rattle.psm_scope.proofs.choice.best_routine.Goals as goal
 
 pub loop-at-init : goal.loop-at-init
 loop-at-init c = walk_starts c.args.routines.now c.args.name.now c.args.kinds.now c.last-at.result (grind (arith, c.last-at.ensures))

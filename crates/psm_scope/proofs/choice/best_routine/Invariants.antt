@@ -1,5 +1,5 @@
 use Rattle.psm_scope.proofs.Calls.{Walks, left}
-use Rattle.psm_scope.proofs.choice.choose_routine.Given as goal
+use Rattle.psm_scope.proofs.choice.best_routine.Given as goal
 
 abbrev pub invariant-loop-at : goal.invariant-loop-at
 invariant-loop-at l = Walks l.routines l.name l.kinds l.at l.best
