@@ -1,5 +1,5 @@
 //! Laws of code and of its runs.
-ghost use Rattle.std.specs.Prelude.{◌≡◌, ◌×◌, ℕ, List, [], None};
+ghost use Rattle.std.specs.Prelude.{◌≡◌, ℕ, List, [], None};
 ghost use Rattle.psm_value.specs.declared.datum.Datum.{Datum};
 ghost use Rattle.psm_table.specs.Table.{Contents};
 ghost use Rattle.psm_code.specs.declared.code.RawCode.{RawCode};
