@@ -13,18 +13,18 @@ over_stays code (suc n) e m = over_stays code n e m
 
 -- first so many rows, and then others
 pub rows-more : (code : RawCode) (n k : ℕ) (t : Turned) → rows code (n + k) t ≡ rows code k (rows code n t)
-rows-more code zero k t = refl
-rows-more code (suc n) k t = rows-more code n k (row_on code t)
+rows-more code zero k t = let none : 0 + k ≡ k = omega arith in ap (λ j. rows code j t) none
+rows-more code (suc n) k t = let one : suc n + k ≡ suc (n + k) = omega arith in ap (λ j. rows code j t) one ∙ rows-more code n k (row_on code t)
 
 -- a run that is over after so many rows is over after more
 pub over_later : (code : RawCode) (n k : ℕ) (t : Turned) (e : End) (m : Machine) → rows code n t ≡ Over e m → rows code (n + k) t ≡ Over e m
 over_later code n k t e m h = rows-more code n k t ∙ ap (rows code k) h ∙ over_stays code k e m
 
-end_of : Turned → End → End
+abbrev end_of : Turned → End → End
 end_of (More m) e = e
 end_of (Over f m) e = f
 
-machine_of : Turned → Machine
+abbrev machine_of : Turned → Machine
 machine_of (More m) = m
 machine_of (Over e m) = m
 

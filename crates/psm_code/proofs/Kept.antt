@@ -10,7 +10,8 @@ use Rattle.psm_code.specs.declared.lines.CodeLine.{CodeLine}
 use Rattle.psm_code.specs.declared.lines.NumberedLine.{NumberedLine}
 use Rattle.psm_code.specs.Numbered.{line_of, lines_of, AreStatedIn}
 
-with_stack : NumberedLine → List Letter → CodeLine
+-- the line with the letters of its stack
+abbrev pub with_stack : NumberedLine → List Letter → CodeLine
 with_stack l s = record { context = l.context; resume = l.resume; stack = s; instruction = l.instruction }
 
 pub lines_kept : (old new : List (List Letter)) (lines : List NumberedLine) → Extends old new → AreStatedIn old lines → lines_of new lines ≡ lines_of old lines

@@ -1,5 +1,5 @@
 -- What each instruction does, and runs of code: one row of the table of instructions after another.
-use Rattle.std.specs.Prelude.{ℕ, zero, suc, Bool, true, false, List, [], ◌∷◌, codes, slice_get, nat_eq, Option, Some, None, if◌then◌else◌}
+use Rattle.std.specs.Prelude.{◌≡◌, ℕ, zero, suc, Bool, true, false, List, [], ◌∷◌, codes, slice_get, nat_eq, Option, Some, None, if◌then◌else◌}
 use Rattle.psm_sqlstate.specs.declared.state.SqlState.{SqlState}
 use Rattle.psm_value.specs.declared.datum.Datum.{Datum}
 use Rattle.psm_value.specs.Fetched.{fetched}
@@ -21,7 +21,7 @@ use Rattle.psm_code.specs.declared.lines.CodeLine.{CodeLine}
 use Rattle.psm_code.specs.Calling.{call, «end», result, returning, started}
 use Rattle.psm_code.specs.Parts.{block_at, handler_at, line_at, routine_at, slots_of}
 use Rattle.psm_code.specs.Plans.{plan}
-use Rattle.psm_code.specs.Querying.{close, exists, fetch, next, scalar, select_row}
+use Rattle.psm_code.specs.Querying.{close, exists, fetch, next, «open», scalar, select_row}
 use Rattle.psm_code.specs.Raising.{block_left, raised}
 use Rattle.psm_code.specs.Signalling.{item_of_condition, item_of_statement, resignal, resignal_condition, resignal_message, signal, signal_message}
 use Rattle.psm_code.specs.State.{Frame, InBlock, InAction, Machine, End, Lacking, Turned, More, Over, at_line, cleared, warning, with_running, with_variable}

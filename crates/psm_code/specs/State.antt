@@ -69,7 +69,6 @@ with_cursor number c m = with_running (λ a. record a { cursors = slice_set a.cu
 abbrev pub with_rows : ℕ → Contents → ℕ → Machine → Machine
 with_rows table c count m = record m { tables = slice_set m.tables table c; area = record m.area { rows = count } }
 
-
 -- the first warning of a statement stays
 abbrev pub first_warning : SqlState → Option SqlState → Option SqlState
 first_warning s None = Some s

@@ -62,11 +62,19 @@ pub enum Plan {
         test: Option<ExprCode>,
     },
     /// The rows that meet the test are taken out.
-    Delete { table: u32, test: Option<ExprCode> },
+    Delete {
+        table: u32,
+        test: Option<ExprCode>,
+    },
     /// The row on which a cursor stands is changed.
-    UpdateAt { cursor: u32, sets: List<SetItem> },
+    UpdateAt {
+        cursor: u32,
+        sets: List<SetItem>,
+    },
     /// The row on which a cursor stands is taken out.
-    DeleteAt { cursor: u32 },
+    DeleteAt {
+        cursor: u32,
+    },
 }
 
 /// A procedure or a function, which may break the rules of code.
