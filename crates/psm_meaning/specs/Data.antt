@@ -1,5 +1,5 @@
 -- INSERT, UPDATE and DELETE (ISO/IEC 9075:1992, 13.6 to 13.10).
-use Rattle.std.specs.Prelude.{ℕ, zero, suc, Bool, true, false, List, [], ◌∷◌, codes, map, nat_eq, slice_get, Option, Some, None, Result, Ok, Err, if◌then◌else◌}
+use Rattle.std.specs.Prelude.{ℕ, zero, suc, Bool, true, false, List, [], ◌∷◌, codes, map, slice_get, Option, Some, None, Result, Ok, Err}
 use Rattle.psm_value.specs.declared.datum.Datum.{Datum}
 use Rattle.psm_cond.specs.Condition.{alone}
 use Rattle.psm_cond.specs.Entry.{entry_of, name_text}
@@ -7,8 +7,8 @@ use Rattle.psm_table.specs.Changing.{Failure, Raised, OfTable, Schema, SetItem, 
 use Rattle.psm_table.specs.Cursors.{Cursor, Closed, Plain, Insensitive, current, without_row}
 use Rattle.psm_table.specs.Evaluator.{Evaluator}
 use Rattle.psm_table.specs.Table.{Contents}
-use Rattle.psm_table.specs.declared.definition.Column.{Column}
 use Rattle.psm_table.specs.declared.definition.TableDef.{TableDef}
+use Rattle.psm_tablecode.specs.NewRows.{new_row}
 use Rattle.psm_resolved.specs.declared.expr.ResolvedExpr.{ResolvedExpr}
 use Rattle.psm_resolved.specs.declared.file.ResolvedFile.{ResolvedFile}
 use Rattle.psm_resolved.specs.declared.file.ResolvedTable.{ResolvedTable}
@@ -51,20 +51,6 @@ some_row zero = raises (of_state (codes "02000"))
 some_row (suc n) = got tt
 
 -- ---- INSERT
-
--- the value for the column at a place, or its DEFAULT
-abbrev pub value_for : ℕ → List ℕ → List Datum → Datum → Datum
-value_for place [] ds default = default
-value_for place (c ∷ cs) [] default = default
-value_for place (c ∷ cs) (d ∷ ds) default = if nat_eq c place then d else value_for place cs ds default
-
--- the row of a table in which some columns, by their places, have these values; its columns are counted from a place
-abbrev pub row_from : ℕ → List Column → List ℕ → List Datum → List Datum
-row_from place [] columns ds = []
-row_from place (c ∷ cs) columns ds = value_for place columns ds c.default ∷ row_from (suc place) cs columns ds
-
-abbrev pub new_row : TableDef → List ℕ → List Datum → List Datum
-new_row def columns ds = row_from 0 def.columns columns ds
 
 -- the values of all expressions of all rows
 abbrev pub all_values : List (List ResolvedExpr) → Act (List (List Datum))

@@ -1,0 +1,15 @@
+pub mod Numbered
+pub mod State
+pub mod Steps
+pub mod Parts
+pub mod Instructions
+pub mod Raising
+pub mod Calling
+pub mod Querying
+pub mod Plans
+pub mod Signalling
+pub mod Rows
+pub mod Rules
+pub mod TableRules
+pub mod PlanRules
+pub mod RoutineRules

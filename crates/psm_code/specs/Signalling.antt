@@ -1,0 +1,115 @@
+-- SIGNAL, RESIGNAL and GET DIAGNOSTICS in code (ISO/IEC 9075-4:1996, and 9075:1992, 18.1).
+use Rattle.std.specs.Prelude.{ℕ, suc, Bool, false, List, [], ◌∷◌, length, codes, slice_get, Option, Some, None, if◌then◌else◌}
+use Rattle.std.specs.Ordering.{is_eq}
+use Rattle.std.specs.declared.cmp.Ordering.{Ordering}
+use Rattle.psm_value.specs.declared.datum.Datum.{Datum}
+use Rattle.psm_value.specs.declared.datum.Datum.TheVariants.{Null, Num, Text}
+use Rattle.psm_value.specs.Order.{compared}
+use Rattle.psm_cond.specs.Condition.{Entries, alone, «behind» as in_front}
+use Rattle.psm_cond.specs.Entry.{entry_of, name_text}
+use Rattle.psm_cond.specs.Item.{entries_of, entry_item, statement_item, whole}
+use Rattle.psm_cond.specs.declared.entry.Entry.{Entry}
+use Rattle.psm_cond.specs.declared.handlers.Declared.{Declared}
+use Rattle.psm_cond.specs.declared.handlers.Declared.TheVariants.{OfState, Named}
+use Rattle.psm_cond.specs.declared.item.ConditionItem.{ConditionItem}
+use Rattle.psm_cond.specs.declared.item.StatementItem.{StatementItem}
+use Rattle.psm_code.specs.declared.code.RawRoutine.{RawRoutine}
+use Rattle.psm_code.specs.State.{Frame, InBlock, InAction, Lacking}
+use Rattle.psm_code.specs.Steps.{Act, got, raises, ends, of_state, pop, present, put_value, read, ◌>>=◌, ◌>>◌}
+
+-- ---- the condition that is signalled
+
+-- a condition without an SQLSTATE is 45000 and keeps its name
+abbrev pub entry_for : ℕ → Declared → Entry
+entry_for n (OfState s) = entry_of s
+entry_for n (Named name) = record (entry_of (codes "45000")) { own = Some n; identifier = name_text name }
+
+abbrev pub declared : RawRoutine → ℕ → Act Entry
+declared r n = do
+  x ← present (slice_get r.handlers.declared n)
+  got (entry_for n x)
+
+-- a null text counts as empty
+abbrev pub message_text : Datum → Act (List ℕ)
+message_text Null = got []
+message_text (Num n) = ends Lacking
+message_text (Text t) = got t
+
+-- the message is the last operand
+abbrev pub with_message : Entry → Act Entry
+with_message e = do
+  d ← pop
+  t ← message_text d
+  got (record e { message = t })
+
+abbrev pub signal : RawRoutine → ℕ → Act (Unit {0})
+signal r n = do
+  e ← declared r n
+  raises (alone e)
+
+abbrev pub signal_message : RawRoutine → ℕ → Act (Unit {0})
+signal_message r n = do
+  e ← declared r n
+  with_it ← with_message e
+  raises (alone with_it)
+
+-- ---- RESIGNAL
+
+-- the condition that activated the innermost running action
+abbrev pub activating : List Frame → Act Entries
+activating [] = raises (of_state (codes "0K000"))
+activating (InBlock k found ∷ frames) = activating frames
+activating (InAction n resume area ∷ frames) = got area.entries
+
+abbrev pub handling : Act Entries
+handling = do
+  frames ← read (λ m. m.running.frames)
+  activating frames
+
+abbrev pub resignal : Act (Unit {0})
+resignal = do
+  c ← handling
+  raises c
+
+abbrev pub resignal_with : Entry → Act (Unit {0})
+resignal_with e = do
+  c ← handling
+  raises (in_front e c)
+
+abbrev pub resignal_condition : RawRoutine → ℕ → Act (Unit {0})
+resignal_condition r n = do
+  e ← declared r n
+  resignal_with e
+
+abbrev pub resignal_message : RawRoutine → ℕ → Act (Unit {0})
+resignal_message r n = do
+  e ← declared r n
+  with_it ← with_message e
+  resignal_with with_it
+
+-- ---- GET DIAGNOSTICS, which leaves the area as it is
+
+abbrev pub item_of_statement : StatementItem → Act (Unit {0})
+item_of_statement i = do
+  a ← read (λ m. m.area)
+  put_value (statement_item (length (entries_of a.entries)) a.entries.more a.rows i)
+
+abbrev pub equal : Option Ordering → Bool
+equal None = false
+equal (Some o) = is_eq o
+
+-- the entry whose number, counted from one on, is the value, with its number
+abbrev pub entry_numbered : ℕ → List Entry → Datum → Option (ℕ × Entry)
+entry_numbered n [] d = None
+entry_numbered n (e ∷ es) d = if equal (compared d (whole n)) then Some (n, e) else entry_numbered (suc n) es d
+
+abbrev pub numbered : Option (ℕ × Entry) → Act (ℕ × Entry)
+numbered None = raises (of_state (codes "35000"))
+numbered (Some e) = got e
+
+abbrev pub item_of_condition : ConditionItem → Act (Unit {0})
+item_of_condition i = do
+  a ← read (λ m. m.area)
+  d ← pop
+  e ← numbered (entry_numbered 1 (entries_of a.entries) d)
+  put_value (entry_item e.0 e.1 i)

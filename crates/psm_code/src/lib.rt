@@ -1,0 +1,15 @@
+//! Code of routines (ISO/IEC 9075-4:1996): the instructions of a stack machine, what each takes from the operands and leaves on
+//! them, and what a run of the code comes to.
+#![tactic(auto)]
+
+mod code;
+mod instruction;
+mod laws;
+mod lines;
+mod rule;
+
+pub use code::{CodeCursor, CodeTable, Parameter, ParameterMode, Plan, RawCode, RawRoutine};
+pub use instruction::Instruction;
+pub use laws::{empty_code_is_right, runs_have_one_end};
+pub use lines::{CodeLine, Lines};
+pub use rule::CodeRule;
