@@ -1,11 +1,9 @@
 -- What height is enough for: evaluations and what is done, from at most so many turns on, under a meaning of their parts.
 use Rattle.std.proofs.Common.{arith, ◌≡◌, ◌≤◌, ℕ, zero, suc, Bool, true, false, Option, Some, None, IfSome, List, [], ◌∷◌, refl, if◌then◌else◌}
-use Rattle.psm_cond.specs.Condition.{Entries}
-use Rattle.psm_exprcode.specs.declared.operand.Operand.{Operand}
 use Rattle.psm_resolved.specs.declared.expr.ResolvedExpr.{ResolvedExpr}
 use Rattle.psm_resolved.specs.declared.file.ResolvedFile.{ResolvedFile}
 use Rattle.psm_meaning.specs.State.{State, Place}
-use Rattle.psm_meaning.specs.Acts.{Stop, Given, Got, Raises, Ends, Evaluated, Outcome, Normal, Leave, Iterate, Return, Raised, Away, Stopped, Done, Task, Meaning, Act, go_on, ◌>>=◌, ◌>>◌, present, spent, turn, operand, value_of, truth_of, values, Deed}
+use Rattle.psm_meaning.specs.Acts.{Given, Got, Raises, Ends, Evaluated, Outcome, Normal, Leave, Iterate, Return, Raised, Away, Stopped, Task, Meaning, Act, go_on, ◌>>=◌, ◌>>◌, present, spent, turn, operand, value_of, truth_of, values, Deed}
 use Rattle.psm_meaning.specs.Heights.{expr_size, exprs_size, file_size}
 use Rattle.psm_meaning.specs.Enough.{AreWithin, IsActionWithin}
 use Rattle.psm_meaning.proofs.Pure.{IsHigh, High, Pure, pure-as_value, pure-as_truth, pure-got}
@@ -32,8 +30,10 @@ well-going (Raises c) go st p q h = record { high = tt; left = omega arith }
 well-going (Ends stop) go st p q h = record { high = q; left = omega arith }
 
 pub keeps-bind : {m : Meaning} {turns : ℕ} {A B : Type 0} {act : Act A} {go : A → Act B} → Keeps m turns act → ((a : A) → Keeps m turns (go a)) → Keeps m turns (◌>>=◌ act go)
-keeps-bind {m = m} {act = act} {go = go} k h = record { well = λ st p. let w = k.well st p in
-    well-more w.left (well-going (act m st).given go (act m st).state (omega (arith, w.left, p)) w.high h) }
+keeps-bind {m = m} {act = act} {go = go} k h = record {
+  well = λ st p. let w = k.well st p in
+      well-more w.left (well-going (act m st).given go (act m st).state (omega (arith, w.left, p)) w.high h);
+}
 
 -- what is there has what all that can be there have
 pub keeps-present : {m : Meaning} {turns : ℕ} {A B : Type 0} (P : A → Type 0) (x : Option A) {go : A → Act B} → IfSome x P → ((a : A) → P a → Keeps m turns (go a)) → Keeps m turns (◌>>=◌ (present x) go)
@@ -71,15 +71,6 @@ paid-more file left p (Return d) q = omega (arith, p, q)
 paid-more file left p (Raised c) q = omega (arith, p, q)
 paid-more file left p (Away level h c) q = (omega (arith, p, q.0), q.1)
 paid-more file left p (Stopped stop) q = (omega (arith, p, q.0), q.1)
-
-pub paid-le : (file : ResolvedFile) (turns left : ℕ) (o : Outcome) → Paid file turns left o → left ≤ turns
-paid-le file turns left Normal q = q
-paid-le file turns left (Leave level) q = q
-paid-le file turns left (Iterate level) q = q
-paid-le file turns left (Return d) q = q
-paid-le file turns left (Raised c) q = q
-paid-le file turns left (Away level h c) q = omega (arith, q.0)
-paid-le file turns left (Stopped stop) q = q.0
 
 pub record Pays (file : ResolvedFile) (m : Meaning) (turns : ℕ) (deed : Deed) : Type 0 where
   pub paid : (st : State) → st.turns ≤ turns → Paid file st.turns (deed m st).state.turns (deed m st).outcome

@@ -1,5 +1,5 @@
 -- The same of statements that are put together, and of what is done where a condition is raised.
-use Rattle.std.proofs.Common.{arith, ◌≡◌, ◌≤◌, ◌&&◌, ℕ, zero, suc, Bool, true, false, List, [], ◌∷◌, map, Option, Some, None, IfSome, All, refl, sym, subst, if◌then◌else◌}
+use Rattle.std.proofs.Common.{arith, ◌≡◌, ◌≤◌, ◌&&◌, ℕ, zero, suc, Bool, true, false, List, [], ◌∷◌, map, Option, Some, None, IfSome, All, refl, if◌then◌else◌}
 use Rattle.std.proofs.lemmas.List.Elements.{All-nil, All-head, All-tail, All-cons}
 use Rattle.std.specs.Prelude.{nat_lt, nat_le}
 use Rattle.psm_sqlstate.specs.Kind.{kind_of}
@@ -11,14 +11,14 @@ use Rattle.psm_cond.specs.declared.handlers.HandlerKind.TheVariants.{Continue, E
 use Rattle.psm_resolved.specs.declared.file.ResolvedFile.{ResolvedFile}
 use Rattle.psm_resolved.specs.declared.statement.ResolvedHandler.{ResolvedHandler, out-ResolvedHandler}
 use Rattle.psm_resolved.specs.declared.statement.ResolvedStatement.{ResolvedStatement}
-use Rattle.psm_meaning.specs.State.{State, Scope, Place, cleared, holding}
-use Rattle.psm_meaning.specs.Acts.{NoTurns, NoHeight, Lacking, Given, Got, Raises, Ends, Evaluated, Outcome, Normal, Leave, Iterate, Return, Raised, Away, Stopped, Do, Meaning, Act, Deed, ends_as, behind, changing, part, if_normal, all, spending, at_turn}
+use Rattle.psm_meaning.specs.State.{State, Scope, Place, holding}
+use Rattle.psm_meaning.specs.Acts.{Given, Got, Raises, Ends, Outcome, Normal, Leave, Iterate, Return, Raised, Away, Stopped, Do, Meaning, Act, Deed, ends_as, behind, changing, part, if_normal, all, spending, at_turn}
 use Rattle.psm_meaning.specs.Raising.{Candidate, candidates, candidate_rank, choice, after_action, action, handled, answered, raised, settled, after, stated}
 use Rattle.psm_meaning.specs.Heights.{file_size, statement_size}
-use Rattle.psm_meaning.specs.Enough.{AreWithin, IsActionWithin}
-use Rattle.psm_meaning.proofs.Pure.{IsHigh, High}
+use Rattle.psm_meaning.specs.Enough.{AreWithin, IsActionWithin, IsScopeWithin}
+use Rattle.psm_meaning.proofs.Pure.{High}
 use Rattle.psm_meaning.proofs.Sizes.{statements_size}
-use Rattle.psm_meaning.proofs.Enough.{Keeps, Paid, paid-more, paid-le, Pays, Parts, Later}
+use Rattle.psm_meaning.proofs.Enough.{Keeps, Paid, paid-more, Pays, Parts, Later}
 
 -- ---- ends
 
@@ -35,6 +35,11 @@ pays-changing {file = file} {m = m} {deed = deed} f e h = record { paid = λ st 
 pub pays-if : {file : ResolvedFile} {m : Meaning} {turns : ℕ} (b : Bool) {p q : Deed} → Pays file m turns p → Pays file m turns q → Pays file m turns (if b then p else q)
 pays-if true h k = h
 pays-if false h k = k
+
+-- LEAVE of one's own label ends normally
+pub paid-own : (file : ResolvedFile) (b : Bool) (l before now : ℕ) → now ≤ before → Paid file before now (if b then Normal else Leave l)
+paid-own file true l before now p = p
+paid-own file false l before now p = p
 
 -- what follows an outcome owes no more than the outcome did
 pub record Follows (file : ResolvedFile) (m : Meaning) (turns : ℕ) (go : Outcome → Deed) : Type 0 where
@@ -106,9 +111,6 @@ pays-action {m = m} parts place w h p = pays-behind (record { paid = λ st q. (p
 abbrev pub IsCandidate : ResolvedFile → Candidate → Type 0
 IsCandidate file k = IsActionWithin file k.handler × AreWithin file k.outside
 
-abbrev ScopeWithin : ResolvedFile → Scope → Type 0
-ScopeWithin file s = All (IsActionWithin file) s.handlers
-
 some_chosen_in : {A : Type 0} (P : A → Type 0) (rank : A → ℕ) (xs : List A) → All P xs → IfSome (chosen_in rank xs) P
 some_chosen_in P rank [] h = tt
 some_chosen_in P rank (x ∷ xs) h = one P (nat_lt 0 (rank x) && nat_le (highest rank xs) (rank x)) x (chosen_in rank xs) (All-head P x xs h) (some_chosen_in P rank xs (All-tail P x xs h))
@@ -136,7 +138,7 @@ in_scope file s outer w (k ∷ ks) h = All-cons (IsCandidate file) _ _ (All-head
 
 every_candidate : (file : ResolvedFile) (scopes : List Scope) → AreWithin file scopes → Every (IsCandidate file) (candidates scopes)
 every_candidate file [] w = tt
-every_candidate file (s ∷ outer) w = (in_scope file s outer (All-tail (ScopeWithin file) s outer w) s.handlers (All-head (ScopeWithin file) s outer w), every_candidate file outer (All-tail (ScopeWithin file) s outer w))
+every_candidate file (s ∷ outer) w = (in_scope file s outer (All-tail (IsScopeWithin file) s outer w) s.handlers (All-head (IsScopeWithin file) s outer w), every_candidate file outer (All-tail (IsScopeWithin file) s outer w))
 
 some_choice : (file : ResolvedFile) (e : Entry) (scopes : List Scope) → AreWithin file scopes → IfSome (choice e scopes) (IsCandidate file)
 some_choice file e scopes w = some_chosen (IsCandidate file) (candidate_rank e) (candidates scopes) (every_candidate file scopes w)
@@ -165,8 +167,10 @@ paid-settled later place w (Raises c) go before st p q g h = paid-then (pays-rai
 paid-settled later place w (Ends stop) go before st p q g h = (q, g)
 
 pub pays-after : {file : ResolvedFile} {m : Meaning} {turns : ℕ} → Later file m turns → (place : Place) → AreWithin file place.scopes → {A : Type 0} {act : Act A} {go : A → Deed} → Keeps m turns act → ((a : A) → Pays file m turns (go a)) → Pays file m turns (after place act go)
-pays-after {m = m} later place w {act = act} {go = go} k h = record { paid = λ st p. let r = k.well st p in
-    paid-settled later place w (act m st).given go st.turns (act m st).state p r.left r.high h }
+pays-after {m = m} later place w {act = act} {go = go} k h = record {
+  paid = λ st p. let r = k.well st p in
+      paid-settled later place w (act m st).given go st.turns (act m st).state p r.left r.high h;
+}
 
 pub pays-stated : {file : ResolvedFile} {m : Meaning} {turns : ℕ} → Later file m turns → (place : Place) → AreWithin file place.scopes → {act : Act (Unit {0})} → Keeps m turns act → Pays file m turns (stated place act)
 pays-stated later place w k = pays-after later place w k (λ u. pays-normal)

@@ -1,5 +1,5 @@
 -- The same of IF, CASE and loops, and so of a step; and what height is enough.
-use Rattle.std.proofs.Common.{arith, ◌≡◌, ◌≤◌, ◌+◌, ◌*◌, ℕ, zero, suc, Bool, true, false, List, [], ◌∷◌, map, length, Option, Some, None, nat_eq, refl, mul-le-mul_right, suc-mul, add-mul, if◌then◌else◌}
+use Rattle.std.proofs.Common.{arith, ◌≤◌, ◌+◌, ◌*◌, ℕ, zero, suc, Bool, true, false, List, [], ◌∷◌, map, Option, Some, None, nat_eq, mul-le-mul_right, suc-mul, add-mul, if◌then◌else◌}
 use Rattle.std.specs.Prelude.{codes}
 use Rattle.psm_value.specs.declared.datum.Datum.{Datum}
 use Rattle.psm_value.specs.declared.truth.Truth as truth
@@ -7,7 +7,7 @@ use Rattle.psm_value.specs.Truth.{is_certain}
 use Rattle.psm_table.specs.Cursors.{Closed}
 use Rattle.psm_resolved.specs.declared.expr.ResolvedExpr.{ResolvedExpr, out-ResolvedExpr}
 use Rattle.psm_resolved.specs.declared.file.ResolvedFile.{ResolvedFile}
-use Rattle.psm_resolved.specs.declared.statement.ResolvedBlock.{ResolvedBlock, out-ResolvedBlock}
+use Rattle.psm_resolved.specs.declared.statement.ResolvedBlock.{ResolvedBlock}
 use Rattle.psm_resolved.specs.declared.statement.ResolvedBranch.{ResolvedBranch, out-ResolvedBranch}
 use Rattle.psm_resolved.specs.declared.statement.ResolvedFor.{ResolvedFor}
 use Rattle.psm_resolved.specs.declared.statement.ResolvedHandler.{ResolvedHandler}
@@ -15,17 +15,16 @@ use Rattle.psm_resolved.specs.declared.statement.ResolvedStatement.{ResolvedStat
 use Rattle.psm_resolved.specs.declared.statement.ResolvedStatement.TheOpen.{ResolvedStatement-F}
 use Rattle.psm_resolved.specs.declared.statement.ResolvedStatement.TheOpen as layers
 use Rattle.psm_meaning.specs.State.{State, Place, seeing, with_cursor}
-use Rattle.psm_meaning.specs.Acts.{Outcome, Normal, Leave, Iterate, Return, Raised, Away, Stopped, Task, Do, Round, Meaning, Act, Deed, of_state, ends_as, changing, part, all, truth_of}
-use Rattle.psm_meaning.specs.Flow.{branched, else_of, cased, repeated, looped, while_true, until_true, kept, row_of_for, over_row, round, rounds, for_each}
+use Rattle.psm_meaning.specs.Acts.{Outcome, Normal, Leave, Iterate, Return, Raised, Away, Stopped, Task, Do, Round, Meaning, Act, Deed, of_state, ends_as, changing}
+use Rattle.psm_meaning.specs.Flow.{branched, else_of, cased, repeated, looped, while_true, until_true, over_row, round, for_each}
 use Rattle.psm_meaning.specs.Meaning.{statement, task, step, meaning}
-use Rattle.psm_meaning.specs.Heights.{total, expr_size, option_size, for_size, file_size, statement_size, height_for}
+use Rattle.psm_meaning.specs.Heights.{total, expr_size, option_size, for_size, file_size, height_for}
 use Rattle.psm_meaning.specs.Enough.{AreWithin}
-use Rattle.psm_meaning.proofs.Pure.{Pure, pure-bind, pure-got, pure}
-use Rattle.psm_meaning.proofs.PureActs.{pure-assign_all, pure-open_cursor, pure-next}
+use Rattle.psm_meaning.proofs.PureActs as pures
 use Rattle.psm_meaning.proofs.Sizes.{expr_size-out, expr_size-pos, branch_size, branch_size-out, statements_size, size_of_statement, statement_size-out, task_size, task_size-pos}
-use Rattle.psm_meaning.proofs.Enough.{Keeps, keeps-pure, Paid, paid-more, Pays, Parts, Later, later-le, keeps-value_of, keeps-truth_of}
+use Rattle.psm_meaning.proofs.Enough.{keeps-pure, Paid, Pays, Parts, Later, later-le, keeps-value_of, keeps-truth_of}
 use Rattle.psm_meaning.proofs.EnoughValues.{Tests, keeps-is_equal, keeps-evaluated}
-use Rattle.psm_meaning.proofs.EnoughDeeds.{Follows, pays-ends_as, pays-normal, pays-changing, pays-if, pays-behind, paid-then, pays-all, owes-pays, pays-at_turn, pays-raised, pays-after}
+use Rattle.psm_meaning.proofs.EnoughDeeds.{Follows, pays-normal, pays-if, pays-behind, paid-then, pays-all, owes-pays, pays-at_turn, pays-raised, pays-after, paid-own}
 use Rattle.psm_meaning.proofs.EnoughStatements.{pays-simple, pays-compound}
 
 -- ---- IF and CASE
@@ -44,10 +43,6 @@ pays-cased parts later place w None branches p q k = pays-branched parts later p
 pays-cased parts later place w (Some e) branches p q k = pays-after later place w (keeps-value_of parts.value e p) (λ d. pays-branched parts later place w _ (keeps-is_equal parts.value d) branches q k)
 
 -- ---- loops: each round has a turn of its own
-
-paid-own : (file : ResolvedFile) (b : Bool) (l before now : ℕ) → now ≤ before → Paid file before now (if b then Normal else Leave l)
-paid-own file true l before now p = p
-paid-own file false l before now p = p
 
 paid-iterate : {file : ResolvedFile} {m : Meaning} {turns : ℕ} {again : Deed} → Pays file m turns again → (b : Bool) (l before : ℕ) (st : State) → before ≤ turns → st.turns ≤ before → Paid file before ((if b then again else ends_as (Iterate l)) m st).state.turns ((if b then again else ends_as (Iterate l)) m st).outcome
 paid-iterate h true l before st p q = paid-then h st p q
@@ -85,25 +80,18 @@ pays-until_true later level place w ss until p r h = pays-at_turn (λ left q. le
 
 -- ---- FOR
 
-pure-kept : (place : Place) (slots : List ℕ) (row : Option (List Datum)) → Pure (kept place slots row)
-pure-kept place slots None = pure-got None
-pure-kept place slots (Some ds) = pure-bind (pure-assign_all place slots ds) (λ u. pure-got (Some ds))
-
-pure-row_of_for : (place : Place) (head : ResolvedFor) → Pure (row_of_for place head)
-pure-row_of_for place head = pure-bind (pure-next head.cursor) (λ row. pure-kept place head.slots row)
-
 pays-over_row : {file : ResolvedFile} {m : Meaning} {turns : ℕ} → Parts file m turns (file_size file) → (level : ℕ) (place : Place) → AreWithin file place.scopes → (head : ResolvedFor) (ss : List ResolvedStatement) → statements_size ss ≤ file_size file → {again : Deed} → Pays file m turns again → (row : Option (List Datum)) → Pays file m turns (over_row level place head ss again row)
 pays-over_row parts level place w head ss p h None = pays-normal
 pays-over_row parts level place w head ss p h (Some ds) = pays-behind (pays-all parts (seeing (head.cursor ∷ []) place) w ss p) (follows-repeated level h)
 
 pays-round : {file : ResolvedFile} {m : Meaning} {turns : ℕ} → Later file m turns → (level : ℕ) (place : Place) → AreWithin file place.scopes → (head : ResolvedFor) (ss : List ResolvedStatement) → statements_size ss ≤ file_size file → {again : Deed} → Again file m turns again → Pays file m turns (round level place head ss again)
-pays-round later level place w head ss p h = pays-at_turn (λ left q. owes-pays (pays-after (less q later) place w (keeps-pure (pure-row_of_for place head)) (pays-over_row (later left q) level place w head ss p (h left q))))
+pays-round later level place w head ss p h = pays-at_turn (λ left q. owes-pays (pays-after (less q later) place w (keeps-pure (pures.pure-row_of_for place head)) (pays-over_row (later left q) level place w head ss p (h left q))))
 
 follows-closed : {file : ResolvedFile} {m : Meaning} {turns : ℕ} (number : ℕ) → Follows file m turns (λ o. changing (with_cursor number Closed) (ends_as o))
 follows-closed number = record { paid = λ o before st p q. q }
 
 pays-for_each : {file : ResolvedFile} {m : Meaning} {turns size : ℕ} → Parts file m turns size → Later file m turns → (level : ℕ) (place : Place) → AreWithin file place.scopes → (head : ResolvedFor) (ss : List ResolvedStatement) → for_size head + statements_size ss ≤ size → Pays file m turns (for_each level place head ss)
-pays-for_each parts later level place w head ss p = pays-after later place w (keeps-pure (pure-open_cursor head.cursor)) (λ u.
+pays-for_each parts later level place w head ss p = pays-after later place w (keeps-pure (pures.pure-open_cursor head.cursor)) (λ u.
     pays-behind (parts.done (Round level head ss) place w p) (follows-closed head.cursor.number))
 
 -- ---- steps

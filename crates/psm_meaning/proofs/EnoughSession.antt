@@ -1,8 +1,7 @@
 -- The same of scripts, and the laws.
-use Rattle.std.proofs.Common.{arith, ◌≡◌, ◌≤◌, ◌⊎◌, inl, inr, ℕ, suc, List, [], ◌∷◌, Bool, Option, Some, None, Contains, filter, slice_get, not, refl, sym, subst, ap}
+use Rattle.std.proofs.Common.{arith, ◌≡◌, ◌≤◌, inl, inr, ℕ, suc, List, [], ◌∷◌, Contains, not, sym, subst}
 use Rattle.psm_value.specs.declared.datum.Datum.{Datum}
 use Rattle.psm_resolved.specs.declared.expr.ResolvedExpr.{ResolvedExpr}
-use Rattle.psm_resolved.specs.declared.expr.ResolvedQuery.{ResolvedQuery}
 use Rattle.psm_resolved.specs.declared.file.ResolvedFile.{ResolvedFile}
 use Rattle.psm_resolved.specs.declared.file.ResolvedRoutine.{ResolvedRoutine}
 use Rattle.psm_resolved.specs.declared.statement.ResolvedStatement.{ResolvedStatement}
@@ -12,37 +11,23 @@ use Rattle.psm_meaning.specs.Acts as acts
 use Rattle.psm_meaning.specs.Calls.{returns, activated, procedure_at}
 use Rattle.psm_meaning.specs.Lines.{first_line}
 use Rattle.psm_meaning.specs.Meaning.{meaning}
-use Rattle.psm_meaning.specs.Session.{Command, Call, Insert, Select, Commit, Rollback, Standing, at_command, call_lines, called, inserted, answer_lines, selected, Played, Went, Stopped, ended, run, played, End, Done, Cut, Session, going_on, commands_from, command_name, session_to, at_start}
+use Rattle.psm_meaning.specs.Session.{Command, Call, Insert, Select, Commit, Rollback, Standing, at_command, called, inserted, selected, Played, Went, Stopped, ended, run, played, End, Done, Cut, Session, going_on, commands_from, command_name, session_to, at_start}
 use Rattle.psm_meaning.specs.Heights.{expr_size, statement_size, file_size, height_for, session}
 use Rattle.psm_meaning.specs.Enough.{AreWithin}
 use Rattle.psm_meaning.specs.Fits.{SameSession}
-use Rattle.psm_meaning.proofs.Pure.{IsHigh, High, Pure, pure-bind, pure-got, pure-lacking, pure-raises}
-use Rattle.psm_meaning.proofs.PureActs.{pure-answer_of, pure-put_in}
+use Rattle.psm_meaning.proofs.Pure.{IsHigh, High}
+use Rattle.psm_meaning.proofs.PureActs as pures
 use Rattle.psm_meaning.proofs.Sizes.{BodyWithin, body_of-le, body-le}
-use Rattle.psm_meaning.proofs.Enough.{Well, Keeps, keeps-pure, keeps-bind, keeps-present, Paid, Later, later-le}
+use Rattle.psm_meaning.proofs.Enough.{Keeps, keeps-pure, keeps-bind, keeps-present, Paid, Later}
 use Rattle.psm_meaning.proofs.EnoughValues.{keeps-activated}
 use Rattle.psm_meaning.proofs.EnoughFlow.{parts-height_for, later-height_for}
 use Rattle.psm_meaning.proofs.GrowingSession.{same-session}
 
 -- ---- commands
 
-pure-call_lines : (r : ResolvedRoutine) (d : Option Datum) (vars : List Datum) → Pure (call_lines r d vars)
-pure-call_lines r None vars = pure-got _
-pure-call_lines r (Some d) vars = pure-lacking
-
 keeps-called : {file : ResolvedFile} {m : Meaning} {turns : ℕ} → Later file m turns → (procedure : ℕ) (args : List Datum) → Keeps m turns (called file procedure args)
 keeps-called {file = file} later procedure args = keeps-present (BodyWithin (file_size file)) (procedure_at file procedure) (body_of-le file (λ r. not (returns r.returns)) procedure) (λ r p.
-    keeps-bind (keeps-activated later r p args) (λ e. keeps-pure (pure-call_lines r e.returned e.variables)))
-
-pure-inserted : (file : ResolvedFile) (table : ℕ) (columns : List ℕ) (rows : List (List Datum)) → Pure (inserted file table columns rows)
-pure-inserted file table columns rows = pure-bind (pure-put_in file table columns rows) (λ u. pure-got _)
-
-pure-answer_lines : (skipped : Bool) (rows : List (List Datum)) → Pure (answer_lines skipped rows)
-pure-answer_lines skipped [] = pure-raises _
-pure-answer_lines skipped (r ∷ rows) = pure-got _
-
-pure-selected : (query : ResolvedQuery) → Pure (selected query)
-pure-selected query = pure-bind (pure-answer_of query) (λ a. pure-answer_lines a.skipped a.rows)
+    keeps-bind (keeps-activated later r p args) (λ e. keeps-pure (pures.pure-call_lines r e.returned e.variables)))
 
 -- a command that went on with no more turns, or stopped for another want than of height
 abbrev Fine : ℕ → Played → Type 0
@@ -61,8 +46,8 @@ fine-run {m = m} first s act p k = let r = act m (at_command s) in let w = k.wel
 
 fine-played : {file : ResolvedFile} {m : Meaning} {turns : ℕ} → Later file m turns → (first : List ℕ) (s : Standing) (c : Command) → s.turns ≤ turns → Fine s.turns (played file m first s c)
 fine-played {file = file} later first s (Call procedure args) p = fine-run first s (called file procedure args) p (keeps-called later procedure args)
-fine-played {file = file} later first s (Insert table columns rows) p = fine-run first s (inserted file table columns rows) p (keeps-pure (pure-inserted file table columns rows))
-fine-played later first s (Select query) p = fine-run first s (selected query) p (keeps-pure (pure-selected query))
+fine-played {file = file} later first s (Insert table columns rows) p = fine-run first s (inserted file table columns rows) p (keeps-pure (pures.pure-inserted file table columns rows))
+fine-played later first s (Select query) p = fine-run first s (selected query) p (keeps-pure (pures.pure-selected query))
 fine-played later first s Commit p = omega arith
 fine-played later first s Rollback p = omega arith
 

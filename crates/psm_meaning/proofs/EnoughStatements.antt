@@ -1,7 +1,6 @@
 -- The same of simple statements and of compound statements.
-use Rattle.std.proofs.Common.{arith, ◌≡◌, ◌≤◌, ◌&&◌, ℕ, suc, Bool, true, false, List, [], ◌∷◌, map, filter, slice_get, length, not, Option, Some, None, All, nat_eq, refl, sym, subst, ◌∙◌, if◌then◌else◌}
+use Rattle.std.proofs.Common.{arith, ◌≡◌, ◌≤◌, ◌&&◌, ℕ, suc, Bool, true, false, List, [], ◌∷◌, map, not, Option, Some, None, All, nat_eq, refl, sym, subst, if◌then◌else◌}
 use Rattle.std.proofs.lemmas.List.Elements.{All-nil, All-cons}
-use Rattle.psm_value.specs.declared.datum.Datum.{Datum}
 use Rattle.psm_value.specs.declared.datum.Datum.TheVariants.{Null}
 use Rattle.psm_cond.specs.Condition.{Entries, alone, «behind» as in_front}
 use Rattle.psm_cond.specs.declared.entry.Entry.{Entry}
@@ -22,23 +21,23 @@ use Rattle.psm_resolved.specs.declared.statement.ResolvedRows.TheVariants.{Value
 use Rattle.psm_resolved.specs.declared.statement.ResolvedSignal.{ResolvedSignal}
 use Rattle.psm_resolved.specs.declared.statement.ResolvedSimple.{ResolvedSimple}
 use Rattle.psm_resolved.specs.declared.statement.ResolvedSimple.TheVariants as simples
-use Rattle.psm_meaning.specs.State.{State, Scope, Place, seeing, with_cursor, with_tables}
-use Rattle.psm_meaning.specs.Acts.{Outcome, Normal, Leave, Iterate, Return, Raised, Away, Stopped, Meaning, Act, Deed, ends_as, raises, changing}
-use Rattle.psm_meaning.specs.Calls.{returns, activated, procedure_at}
+use Rattle.psm_meaning.specs.State.{State, Place, seeing, with_cursor, with_tables}
+use Rattle.psm_meaning.specs.Acts.{Outcome, Normal, Leave, Iterate, Return, Raised, Away, Stopped, Meaning, Deed, ends_as}
+use Rattle.psm_meaning.specs.Calls.{returns, procedure_at}
 use Rattle.psm_meaning.specs.Assigning.{set, arguments_given, call}
 use Rattle.psm_meaning.specs.Cursors.{closed}
 use Rattle.psm_meaning.specs.Signalling.{with_message, signalled, signal, resignal}
 use Rattle.psm_meaning.specs.Data.{all_values, rows_given, insert}
 use Rattle.psm_meaning.specs.Statements.{returned, simple}
-use Rattle.psm_meaning.specs.Blocks.{Block, default_of, declared, all_declared, undone, taken_over, arrived, is_left_by_exception, left, put_back, ended, listed, entered, finding, compound}
-use Rattle.psm_meaning.specs.Heights.{total, expr_size, exprs_size, option_size, argument_size, signal_size, perhaps_signal_size, rows_size, simple_size, declaration_size, file_size, statement_size}
-use Rattle.psm_meaning.specs.Enough.{AreWithin, IsActionWithin}
-use Rattle.psm_meaning.proofs.Pure.{Pure, pure-got, pure-raises, pure-cleared, pure-present, pure-tried, pure-variable, pure}
+use Rattle.psm_meaning.specs.Blocks.{Block, default_of, declared, all_declared, undone, taken_over, arrived, is_left_by_exception, left, put_back, ended, entered, finding, compound}
+use Rattle.psm_meaning.specs.Heights.{total, expr_size, exprs_size, option_size, argument_size, signal_size, perhaps_signal_size, rows_size, simple_size, declaration_size, file_size}
+use Rattle.psm_meaning.specs.Enough.{AreWithin, IsActionWithin, IsScopeWithin}
+use Rattle.psm_meaning.proofs.Pure.{pure-got, pure-raises, pure-cleared, pure-present, pure-tried, pure-variable}
 use Rattle.psm_meaning.proofs.PureActs as pures
 use Rattle.psm_meaning.proofs.Sizes.{BodyWithin, handler_size, handler_size-out, block_size, block_size-out, statements_size, body_of-le}
-use Rattle.psm_meaning.proofs.Enough.{Keeps, keeps-pure, keeps-bind, keeps-present, Paid, paid-more, paid-le, Pays, Parts, Later, later-le, Values as Evaluates, keeps-value_of, keeps-values}
+use Rattle.psm_meaning.proofs.Enough.{Keeps, keeps-pure, keeps-bind, keeps-present, Paid, paid-more, Pays, Parts, Later, Values as Evaluates, keeps-value_of, keeps-values}
 use Rattle.psm_meaning.proofs.EnoughValues.{keeps-activated}
-use Rattle.psm_meaning.proofs.EnoughDeeds.{Follows, Owes, pays-ends_as, pays-normal, pays-changing, pays-behind, paid-then, pays-all, pays-action, pays-after, pays-stated}
+use Rattle.psm_meaning.proofs.EnoughDeeds.{Follows, pays-ends_as, pays-changing, pays-behind, pays-all, pays-action, pays-after, pays-stated, paid-own}
 
 -- ---- evaluations that stand in simple statements
 
@@ -150,11 +149,7 @@ closed-turns (x ∷ xs) st = closed-turns xs (with_cursor x.number Closed st)
 
 paid-left : (file : ResolvedFile) (level : ℕ) (o : Outcome) (before now : ℕ) → Paid file before now o → Paid file before now (left level o)
 paid-left file level Normal before now p = p
-paid-left file level (Leave l) before now p = one file (nat_eq l level) l before now p
-  where
-    one : (file : ResolvedFile) (b : Bool) (l before now : ℕ) → now ≤ before → Paid file before now (if b then Normal else Leave l)
-    one file true l before now p = p
-    one file false l before now p = p
+paid-left file level (Leave l) before now p = paid-own file (nat_eq l level) l before now p
 paid-left file level (Iterate l) before now p = p
 paid-left file level (Return d) before now p = p
 paid-left file level (Raised c) before now p = p
@@ -166,8 +161,10 @@ paid-put_back file m true found o before st p = p
 paid-put_back file m false found o before st p = p
 
 follows-ended : {file : ResolvedFile} {m : Meaning} {turns : ℕ} (level : ℕ) (atomic : Bool) (cursors : List ResolvedCursor) (found : List Contents) → Follows file m turns (ended level atomic cursors found)
-follows-ended {file = file} {m = m} level atomic cursors found = record { paid = λ o before st p q. paid-put_back file m (atomic && is_left_by_exception o) found (left level o) before (closed cursors st)
-    (subst (λ n. Paid file before n (left level o)) (sym (closed-turns cursors st)) (paid-left file level o before st.turns q)) }
+follows-ended {file = file} {m = m} level atomic cursors found = record {
+  paid = λ o before st p q. paid-put_back file m (atomic && is_left_by_exception o) found (left level o) before (closed cursors st)
+      (subst (λ n. Paid file before n (left level o)) (sym (closed-turns cursors st)) (paid-left file level o before st.turns q));
+}
 
 -- ---- compound statements
 
@@ -175,12 +172,9 @@ handlers-within : (file : ResolvedFile) (hs : List ResolvedHandler) → total (m
 handlers-within file [] p = All-nil (IsActionWithin file)
 handlers-within file (h ∷ hs) p = All-cons (IsActionWithin file) h hs (omega (arith, p, handler_size-out h)) (handlers-within file hs (omega (arith, p)))
 
-abbrev ScopeWithin : ResolvedFile → Scope → Type 0
-ScopeWithin file s = All (IsActionWithin file) s.handlers
-
 pays-entered : {file : ResolvedFile} {m : Meaning} {turns size : ℕ} → Parts file m turns size → Later file m turns → (level : ℕ) (b : Block) (place : Place) → AreWithin file place.scopes → total (map handler_size b.handlers) ≤ file_size file → statements_size b.statements ≤ size → (found : List Contents) → Pays file m turns (entered level b place found)
 pays-entered {file = file} parts later level b place w p q found = pays-behind
-    (pays-behind (pays-all parts _ (All-cons (ScopeWithin file) _ place.scopes (handlers-within file b.handlers p) w) b.statements q) (follows-arrived later level (seeing b.cursors place) w found))
+    (pays-behind (pays-all parts _ (All-cons (IsScopeWithin file) _ place.scopes (handlers-within file b.handlers p) w) b.statements q) (follows-arrived later level (seeing b.cursors place) w found))
     (follows-ended level b.atomic b.cursors found)
 
 pays-finding : {file : ResolvedFile} {m : Meaning} {turns : ℕ} {go : List Contents → Deed} → ((found : List Contents) → Pays file m turns (go found)) → Pays file m turns (finding go)

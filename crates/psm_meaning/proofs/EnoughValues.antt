@@ -1,5 +1,5 @@
 -- The same of activations and of every form of expression.
-use Rattle.std.proofs.Common.{arith, ◌≤◌, ℕ, suc, Bool, List, [], ◌∷◌, map, length, filter, slice_get, Option, Some, None, not}
+use Rattle.std.proofs.Common.{arith, ◌≤◌, ℕ, suc, Bool, List, [], ◌∷◌, map, length, Option, Some, None}
 use Rattle.std.proofs.lemmas.List.Elements.{All-nil}
 use Rattle.psm_list.specs.Several.{Several}
 use Rattle.psm_value.specs.declared.datum.Datum.{Datum}
@@ -7,7 +7,7 @@ use Rattle.psm_value.specs.declared.datum.Datum.TheVariants.{Null}
 use Rattle.psm_value.specs.declared.truth.Truth as truth
 use Rattle.psm_value.specs.Truth.{is_certain}
 use Rattle.psm_exprcode.specs.declared.operand.Operand.{Operand}
-use Rattle.psm_exprcode.specs.declared.operand.Operand.TheVariants.{Value, Truth}
+use Rattle.psm_exprcode.specs.declared.operand.Operand.TheVariants.{Value}
 use Rattle.psm_exprcode.specs.Comparison.{is_null}
 use Rattle.psm_exprcode.specs.Evaluated as rows
 use Rattle.psm_resolved.specs.declared.expr.Junction.{Junction}
@@ -22,12 +22,11 @@ use Rattle.psm_resolved.specs.declared.expr.ResolvedWhen.{ResolvedWhen, out-Reso
 use Rattle.psm_resolved.specs.declared.file.ResolvedFile.{ResolvedFile}
 use Rattle.psm_resolved.specs.declared.file.ResolvedRoutine.{ResolvedRoutine}
 use Rattle.psm_resolved.specs.RowValue.{listed}
-use Rattle.psm_meaning.specs.State.{State, Scope, returned_to}
-use Rattle.psm_meaning.specs.Acts.{Evaluated, Outcome, Normal, Leave, Iterate, Return, Raised, Away, Stopped, Do, Meaning, Act}
-use Rattle.psm_meaning.specs.Calls.{Ended, returns, function_at, ending, run_body, apart, activated, called, body_place, begun}
-use Rattle.psm_meaning.specs.Values.{Layer, there, worked, of_one, of_two, of_three, operands, joined, linked, among, scaled, else_of, is_equal, chosen, cased, first_set, evaluated}
+use Rattle.psm_meaning.specs.State.{State}
+use Rattle.psm_meaning.specs.Acts.{Outcome, Normal, Leave, Iterate, Return, Raised, Away, Stopped, Do, Meaning, Act}
+use Rattle.psm_meaning.specs.Calls.{returns, function_at, ending, run_body, apart, activated, called, body_place, begun}
+use Rattle.psm_meaning.specs.Values.{Layer, there, of_one, of_two, of_three, operands, joined, linked, among, else_of, is_equal, chosen, cased, first_set, evaluated}
 use Rattle.psm_meaning.specs.Heights.{total, expr_size, exprs_size, option_size, statement_size, file_size}
-use Rattle.psm_meaning.specs.Enough.{IsActionWithin}
 use Rattle.psm_meaning.proofs.Pure.{pure, pure-got}
 use Rattle.psm_meaning.proofs.PureActs.{pure-answer_of, pure-entered, pure-bounded, pure-result_of, pure-worked, pure-scaled, pure-scalar}
 use Rattle.psm_meaning.proofs.Sizes.{BodyWithin, size_of, link_size, link_size-out, when_size, when_size-out, body_of-le}
@@ -45,8 +44,10 @@ well-ending file m turns (Away level h c) st p = record { high = tt; left = omeg
 well-ending file m turns (Stopped stop) st p = record { high = p.1; left = p.0 }
 
 keeps-run_body : {file : ResolvedFile} {m : Meaning} {turns : ℕ} → Parts file m turns (file_size file) → (r : ResolvedRoutine) → statement_size r.body ≤ file_size file → (ds : List Datum) → Keeps m turns (run_body r ds)
-keeps-run_body {file = file} {m = m} parts r p ds = record { well = λ st q. let d = m.done (Do r.body) (body_place r) (begun r ds st) in
-    well-ending file m st.turns d.outcome d.state ((parts.done (Do r.body) (body_place r) (All-nil _) p).paid (begun r ds st) q) }
+keeps-run_body {file = file} {m = m} parts r p ds = record {
+  well = λ st q. let d = m.done (Do r.body) (body_place r) (begun r ds st) in
+      well-ending file m st.turns d.outcome d.state ((parts.done (Do r.body) (body_place r) (All-nil _) p).paid (begun r ds st) q);
+}
 
 keeps-apart : {m : Meaning} {turns : ℕ} {A : Type 0} {act : Act A} → Keeps m turns act → Keeps m turns (apart act)
 keeps-apart h = record { well = λ st p. record { high = (h.well st p).high; left = (h.well st p).left } }

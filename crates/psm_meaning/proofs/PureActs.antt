@@ -18,6 +18,7 @@ use Rattle.psm_resolved.specs.declared.file.ParameterMode.{ParameterMode}
 use Rattle.psm_resolved.specs.declared.file.ParameterMode.TheVariants as modes
 use Rattle.psm_resolved.specs.declared.file.ResolvedFile.{ResolvedFile}
 use Rattle.psm_resolved.specs.declared.file.ResolvedParameter.{ResolvedParameter}
+use Rattle.psm_resolved.specs.declared.file.ResolvedRoutine.{ResolvedRoutine}
 use Rattle.psm_resolved.specs.declared.statement.ResolvedArgument.{ResolvedArgument}
 use Rattle.psm_resolved.specs.declared.statement.ResolvedArgument.TheVariants.{In, Out, InOut}
 use Rattle.psm_resolved.specs.declared.statement.ResolvedCondition.{ResolvedCondition}
@@ -25,6 +26,7 @@ use Rattle.psm_resolved.specs.declared.statement.ResolvedCondition.TheVariants.{
 use Rattle.psm_resolved.specs.declared.statement.ResolvedCursor.{ResolvedCursor}
 use Rattle.psm_resolved.specs.declared.statement.ResolvedDiagnostics.{ResolvedDiagnostics}
 use Rattle.psm_resolved.specs.declared.statement.ResolvedDiagnostics.TheVariants.{Statement, Condition}
+use Rattle.psm_resolved.specs.declared.statement.ResolvedFor.{ResolvedFor}
 use Rattle.psm_resolved.specs.declared.statement.ResolvedNumber.{ResolvedNumber}
 use Rattle.psm_resolved.specs.declared.statement.ResolvedNumber.TheVariants.{Constant, Variable}
 use Rattle.psm_resolved.specs.declared.statement.ResolvedSet.{ResolvedSet}
@@ -38,7 +40,9 @@ use Rattle.psm_meaning.specs.Assigning.{assign, assign_each, assign_all, retriev
 use Rattle.psm_meaning.specs.Signalling.{entry_for, message_text, activating, assign_items, numbered, number_given, get_diagnostics}
 use Rattle.psm_meaning.specs.Cursors.{cursor_now, open_as, opened, «open», let_go, close, items_on, items_of_found, next_of, next, warned, fetched_into, fetch, only_row, select_into}
 use Rattle.psm_meaning.specs.Data.{unless_failed, some_row, some_rows, put_in, update_rows, delete_rows, standing_on, row_of_cursor, leave_row, update_at, delete_at, update, delete}
-use Rattle.psm_meaning.proofs.Pure.{Pure, pure-bind, pure-got, pure-raises, pure-variable, pure}
+use Rattle.psm_meaning.specs.Flow.{kept, row_of_for}
+use Rattle.psm_meaning.specs.Session.{call_lines, inserted, answer_lines, selected}
+use Rattle.psm_meaning.proofs.Pure.{Pure, pure-bind, pure-got, pure-raises, pure-lacking, pure-variable, pure}
 
 -- ---- queries
 
@@ -271,3 +275,28 @@ pub pure-delete : (file : ResolvedFile) (place : Place) (table : ℕ) (which : R
 pure-delete file place table All = search (pure, pure-delete_rows)
 pure-delete file place table (Test e) = search (pure, pure-delete_rows)
 pure-delete file place table (Current cursor) = search (pure, pure-delete_at)
+
+-- ---- FOR
+
+pure-kept : (place : Place) (slots : List ℕ) (row : Option (List Datum)) → Pure (kept place slots row)
+pure-kept place slots None = pure-got None
+pure-kept place slots (Some ds) = pure-bind (pure-assign_all place slots ds) (λ u. pure-got (Some ds))
+
+pub pure-row_of_for : (place : Place) (head : ResolvedFor) → Pure (row_of_for place head)
+pure-row_of_for place head = pure-bind (pure-next head.cursor) (λ row. pure-kept place head.slots row)
+
+-- ---- commands of scripts
+
+pub pure-call_lines : (r : ResolvedRoutine) (d : Option Datum) (vars : List Datum) → Pure (call_lines r d vars)
+pure-call_lines r None vars = pure-got _
+pure-call_lines r (Some d) vars = pure-lacking
+
+pub pure-inserted : (file : ResolvedFile) (table : ℕ) (columns : List ℕ) (rows : List (List Datum)) → Pure (inserted file table columns rows)
+pure-inserted file table columns rows = pure-bind (pure-put_in file table columns rows) (λ u. pure-got _)
+
+pure-answer_lines : (skipped : Bool) (rows : List (List Datum)) → Pure (answer_lines skipped rows)
+pure-answer_lines skipped [] = pure-raises _
+pure-answer_lines skipped (r ∷ rows) = pure-got _
+
+pub pure-selected : (query : ResolvedQuery) → Pure (selected query)
+pure-selected query = pure-bind (pure-answer_of query) (λ a. pure-answer_lines a.skipped a.rows)

@@ -1,5 +1,5 @@
 -- The size of each tree by its layer, and the routines of a file.
-use Rattle.std.proofs.Common.{arith, ◌≡◌, ◌≤◌, ◌+◌, ℕ, zero, suc, Bool, true, false, List, [], ◌∷◌, map, filter, slice_get, cond, length, Option, Some, None, IfSome, All, Contains, subst}
+use Rattle.std.proofs.Common.{arith, ◌≡◌, ◌≤◌, ◌+◌, ℕ, zero, suc, Bool, List, [], ◌∷◌, map, filter, slice_get, length, IfSome, All, Contains, subst}
 use Rattle.std.proofs.lemmas.List.Elements.{All-nil, All-head, All-tail, All-cons, All-filter}
 use Rattle.psm_resolved.specs.declared.expr.ResolvedExpr.{ResolvedExpr, out-ResolvedExpr}
 use Rattle.psm_resolved.specs.declared.expr.ResolvedExpr.TheOpen.{ResolvedExpr-F}
@@ -20,7 +20,7 @@ use Rattle.psm_resolved.specs.declared.statement.ResolvedStatement.TheOpen.{Reso
 use Rattle.psm_resolved.specs.declared.statement.ResolvedStatement.TheOpen as statements
 use Rattle.psm_resolved.specs.declared.statement.ResolvedStatement.TheFolds.{map-ResolvedStatement, fold-ResolvedBlock, fold-ResolvedBranch, fold-ResolvedHandler, fold_out-ResolvedStatement, fold_out-ResolvedBlock, fold_out-ResolvedBranch, fold_out-ResolvedHandler}
 use Rattle.psm_meaning.specs.Acts.{Task, Do, Round}
-use Rattle.psm_meaning.specs.Heights.{total, expr_layer, items_layer, item_layer, link_layer, query_layer, when_layer, expr_size, query_size, option_size, declaration_size, cursor_size, for_size, statement_layer, block_layer, branch_layer, handler_layer, statement_size, routine_size, file_size}
+use Rattle.psm_meaning.specs.Heights.{total, expr_layer, items_layer, item_layer, link_layer, query_layer, when_layer, expr_size, query_size, declaration_size, cursor_size, for_size, statement_layer, block_layer, branch_layer, handler_layer, statement_size, routine_size, file_size}
 
 -- ---- expressions
 
@@ -129,14 +129,6 @@ statement_layer-pos (statements.Simple s) = omega arith
 pub task_size-pos : (t : Task) → 1 ≤ task_size t
 task_size-pos (Do s) = omega (arith, statement_size-out s, statement_layer-pos (out-ResolvedStatement s))
 task_size-pos (Round level head ss) = omega arith
-
--- ---- parts of lists
-
-pub total-head : {A : Type 0} (size : A → ℕ) (x : A) (xs : List A) (k : ℕ) → total (map size (x ∷ xs)) ≤ k → size x ≤ k
-total-head size x xs k p = omega (arith, p)
-
-pub total-tail : {A : Type 0} (size : A → ℕ) (x : A) (xs : List A) (k : ℕ) → total (map size (x ∷ xs)) ≤ k → total (map size xs) ≤ k
-total-tail size x xs k p = omega (arith, p)
 
 -- ---- the routines of a file
 
