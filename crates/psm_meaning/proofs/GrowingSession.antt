@@ -1,36 +1,22 @@
 -- The same of scripts.
-use Rattle.std.proofs.Common.{◌≡◌, ◌⊎◌, inl, inr, ℕ, suc, ◌≤◌, List, [], ◌∷◌, Bool, Option, Some, None, refl, ap, subst}
+use Rattle.std.proofs.Common.{◌≡◌, ◌⊎◌, inl, inr, ℕ, suc, ◌≤◌, List, [], ◌∷◌, refl, ap, subst}
 use Rattle.psm_value.specs.declared.datum.Datum.{Datum}
-use Rattle.psm_resolved.specs.declared.expr.ResolvedQuery.{ResolvedQuery}
 use Rattle.psm_resolved.specs.declared.file.ResolvedFile.{ResolvedFile}
-use Rattle.psm_resolved.specs.declared.file.ResolvedRoutine.{ResolvedRoutine}
 use Rattle.psm_meaning.specs.Acts.{NoHeight, Evaluated, Meaning, Act}
+use Rattle.psm_meaning.specs.Calls.{procedure_at}
 use Rattle.psm_meaning.specs.Lines.{first_line}
-use Rattle.psm_meaning.specs.Session.{Command, Call, Insert, Select, Commit, Rollback, Standing, at_command, call_lines, called, inserted, answer_lines, selected, Played, Went, Stopped, ended, run, played, Session, going_on, commands_from, command_name, session_to, at_start}
+use Rattle.psm_meaning.specs.Session.{Command, Call, Insert, Select, Commit, Rollback, Standing, at_command, called, inserted, selected, Played, Went, Stopped, ended, run, played, Session, going_on, commands_from, command_name, session_to, at_start}
 use Rattle.psm_meaning.specs.Fits.{Same, Fits, SameSession}
-use Rattle.psm_meaning.proofs.Growing.{Grows, grows-bind, grown}
-use Rattle.psm_meaning.proofs.GrowingValues.{grows-activated, grows-answer_of}
-use Rattle.psm_meaning.proofs.GrowingActs.{grows-put_in}
+use Rattle.psm_meaning.proofs.Pure.{pure-present}
+use Rattle.psm_meaning.proofs.PureActs as pures
+use Rattle.psm_meaning.proofs.Growing.{Grows, grows-bind, grows-pure}
+use Rattle.psm_meaning.proofs.GrowingValues.{grows-activated}
 use Rattle.psm_meaning.proofs.GrowingStatements.{fits-above}
 
 -- ---- commands
 
-grows-call_lines : {m n : Meaning} (r : ResolvedRoutine) (d : Option Datum) (vars : List Datum) → Grows m n (call_lines r d vars)
-grows-call_lines r None vars = search grown
-grows-call_lines r (Some d) vars = search grown
-
 grows-called : {m n : Meaning} → Fits m n → (file : ResolvedFile) (procedure : ℕ) (args : List Datum) → Grows m n (called file procedure args)
-grows-called fits file procedure args = search (grown, grows-activated, grows-call_lines)
-
-grows-inserted : {m n : Meaning} (file : ResolvedFile) (table : ℕ) (columns : List ℕ) (rows : List (List Datum)) → Grows m n (inserted file table columns rows)
-grows-inserted file table columns rows = search (grown, grows-put_in)
-
-grows-answer_lines : {m n : Meaning} (skipped : Bool) (rows : List (List Datum)) → Grows m n (answer_lines skipped rows)
-grows-answer_lines skipped [] = search grown
-grows-answer_lines skipped (r ∷ rows) = search grown
-
-grows-selected : {m n : Meaning} (query : ResolvedQuery) → Grows m n (selected query)
-grows-selected query = grows-bind (grows-answer_of query) (λ a. grows-answer_lines a.skipped a.rows)
+grows-called fits file procedure args = grows-bind (grows-pure (pure-present (procedure_at file procedure))) (λ r. grows-bind (grows-activated fits r args) (λ e. grows-pure (pures.pure-call_lines r e.returned e.variables)))
 
 SamePlayed : Played → Played → Type 0
 SamePlayed r s = (r ≡ Stopped NoHeight []) ⊎ (r ≡ s)
@@ -46,8 +32,8 @@ same-run {m = m} {n = n} first s act h = same-ended first s (act m (at_command s
 same-played : {m n : Meaning} → Fits m n → (file : ResolvedFile) (first : List ℕ) (s : Standing) (c : Command) → SamePlayed (played file m first s c) (played file n first s c)
 unfolding SamePlayed
 same-played fits file first s (Call procedure args) = same-run first s (called file procedure args) (grows-called fits file procedure args)
-same-played fits file first s (Insert table columns rows) = same-run first s (inserted file table columns rows) (grows-inserted file table columns rows)
-same-played fits file first s (Select query) = same-run first s (selected query) (grows-selected query)
+same-played fits file first s (Insert table columns rows) = same-run first s (inserted file table columns rows) (grows-pure (pures.pure-inserted file table columns rows))
+same-played fits file first s (Select query) = same-run first s (selected query) (grows-pure (pures.pure-selected query))
 same-played fits file first s Commit = inr refl
 same-played fits file first s Rollback = inr refl
 

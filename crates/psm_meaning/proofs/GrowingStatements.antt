@@ -2,6 +2,7 @@
 use Rattle.std.proofs.Common.{arith, ◌≡◌, inl, inr, ℕ, zero, suc, ◌≤◌, ◌+◌, ◌-◌, sym, subst, Bool, true, false, List, [], ◌∷◌, Option, Some, None, refl, nat_eq}
 use Rattle.std.specs.Prelude.{◌&&◌, codes}
 use Rattle.psm_value.specs.declared.datum.Datum.{Datum}
+use Rattle.psm_value.specs.declared.datum.Datum.TheVariants.{Null}
 use Rattle.psm_value.specs.declared.truth.Truth as truth
 use Rattle.psm_value.specs.Truth.{is_certain}
 use Rattle.psm_cond.specs.declared.handlers.HandlerKind.{HandlerKind}
@@ -25,18 +26,20 @@ use Rattle.psm_meaning.specs.State.{State, Place, with_cursor}
 use Rattle.psm_meaning.specs.Acts.{Outcome, Normal, Leave, Iterate, Return, Raised, Away, Stopped, NoHeight, Evaluated, Done, Task, Do, Round, Meaning, Act, Deed, of_state, ends_as}
 use Rattle.psm_meaning.specs.Statements.{returned, simple}
 use Rattle.psm_meaning.specs.Blocks.{Block, default_of, declared, all_declared, undone, arrived, is_left_by_exception, put_back, ended, entered, finding, compound}
-use Rattle.psm_meaning.specs.Flow.{branched, else_of, cased, repeated, looped, while_true, until_true, kept, row_of_for, over_row, round, rounds, for_each}
+use Rattle.psm_meaning.specs.Flow.{branched, else_of, cased, repeated, looped, while_true, until_true, over_row, round, rounds, for_each}
 use Rattle.psm_meaning.specs.Meaning.{statement, task, step, nothing, meaning}
 use Rattle.psm_meaning.specs.Fits.{Same, SameEnd, Fits}
-use Rattle.psm_meaning.proofs.Growing.{Grows, grows-bind, grows-value_of, grows-truth_of, grown, evaluated}
+use Rattle.psm_meaning.proofs.Pure.{pure-got, pure-present, pure-tried}
+use Rattle.psm_meaning.proofs.PureActs as pures
+use Rattle.psm_meaning.proofs.Growing.{Grows, grows-bind, grows-pure, grows-value_of, grows-truth_of}
 use Rattle.psm_meaning.proofs.GrowingValues.{grows-evaluated, grows-is_equal}
-use Rattle.psm_meaning.proofs.GrowingActs.{grows-assign_each, grows-assign_all, grows-set, grows-call, grows-signal, grows-resignal, grows-get_diagnostics, grows-open_cursor, grows-open, grows-close, grows-next, grows-fetch, grows-select_into, grows-insert, grows-update, grows-delete}
+use Rattle.psm_meaning.proofs.GrowingActs.{grows-set, grows-call, grows-signal, grows-resignal, grows-insert}
 use Rattle.psm_meaning.proofs.GrowingDeeds.{GrowsDone, Follows, done-ends_as, done-changing, done-if, done-behind, done-part, done-all, done-at_turn, done-action, done-raised, done-after, done-stated}
 
 -- ---- simple statements
 
 grows-returned : {m n : Meaning} → Fits m n → (place : Place) (e : ResolvedExpr) → Grows m n (returned place e)
-grows-returned fits place e = search evaluated
+grows-returned fits place e = grows-bind (grows-value_of fits e) (λ d. grows-bind (grows-pure (pure-present place.routine.returns)) (λ t. grows-pure (pure-tried _)))
 
 done-simple : {m n : Meaning} → Fits m n → (file : ResolvedFile) (place : Place) (s : ResolvedSimple) → GrowsDone m n (simple file place s)
 done-simple fits file place (simples.Set slot source) = done-stated fits place (grows-set fits place slot source)
@@ -46,26 +49,26 @@ done-simple fits file place (simples.Leave level) = done-ends_as (Leave level)
 done-simple fits file place (simples.Iterate level) = done-ends_as (Iterate level)
 done-simple fits file place (simples.Signal s) = done-stated fits place (grows-signal fits place s)
 done-simple fits file place (simples.Resignal s) = done-stated fits place (grows-resignal fits place s)
-done-simple fits file place (simples.GetDiagnostics d) = done-stated fits place (grows-get_diagnostics place d)
-done-simple fits file place (simples.SelectInto query slots) = done-stated fits place (grows-select_into place query slots)
+done-simple fits file place (simples.GetDiagnostics d) = done-stated fits place (grows-pure (pures.pure-get_diagnostics place d))
+done-simple fits file place (simples.SelectInto query slots) = done-stated fits place (grows-pure (pures.pure-select_into place query slots))
 done-simple fits file place (simples.Insert table columns rows) = done-stated fits place (grows-insert fits file table columns rows)
-done-simple fits file place (simples.Update table sets which) = done-stated fits place (grows-update file place table sets which)
-done-simple fits file place (simples.Delete table which) = done-stated fits place (grows-delete file place table which)
-done-simple fits file place (simples.Open cursor) = done-stated fits place (grows-open place cursor)
-done-simple fits file place (simples.Fetch cursor slots) = done-stated fits place (grows-fetch place cursor slots)
-done-simple fits file place (simples.Close cursor) = done-stated fits place (grows-close place cursor)
+done-simple fits file place (simples.Update table sets which) = done-stated fits place (grows-pure (pures.pure-update file place table sets which))
+done-simple fits file place (simples.Delete table which) = done-stated fits place (grows-pure (pures.pure-delete file place table which))
+done-simple fits file place (simples.Open cursor) = done-stated fits place (grows-pure (pures.pure-open place cursor))
+done-simple fits file place (simples.Fetch cursor slots) = done-stated fits place (grows-pure (pures.pure-fetch place cursor slots))
+done-simple fits file place (simples.Close cursor) = done-stated fits place (grows-pure (pures.pure-close place cursor))
 
 -- ---- blocks
 
 grows-default_of : {m n : Meaning} → Fits m n → (e : Option ResolvedExpr) → Grows m n (default_of e)
-grows-default_of fits None = search grown
+grows-default_of fits None = grows-pure (pure-got Null)
 grows-default_of fits (Some e) = grows-value_of fits e
 
 grows-declared : {m n : Meaning} → Fits m n → (place : Place) (x : ResolvedDeclaration) → Grows m n (declared place x)
-grows-declared fits place x = grows-bind (grows-default_of fits x.default) (λ d. grows-assign_each place x.slots d)
+grows-declared fits place x = grows-bind (grows-default_of fits x.default) (λ d. grows-pure (pures.pure-assign_each place x.slots d))
 
 grows-all_declared : {m n : Meaning} → Fits m n → (place : Place) (xs : List ResolvedDeclaration) → Grows m n (all_declared place xs)
-grows-all_declared fits place [] = search grown
+grows-all_declared fits place [] = grows-pure (pure-got tt)
 grows-all_declared fits place (x ∷ xs) = grows-bind (grows-declared fits place x) (λ u. grows-all_declared fits place xs)
 
 done-undone : {m n : Meaning} {run : Deed} (kind : HandlerKind) (found : List Contents) → GrowsDone m n run → GrowsDone m n (undone kind found run)
@@ -142,25 +145,18 @@ done-until_true fits level place ss until h = done-at_turn (done-behind (done-al
 
 -- ---- FOR
 
-grows-kept : {m n : Meaning} (place : Place) (slots : List ℕ) (row : Option (List Datum)) → Grows m n (kept place slots row)
-grows-kept place slots None = search grown
-grows-kept place slots (Some ds) = search (grown, grows-assign_all)
-
-grows-row_of_for : {m n : Meaning} (place : Place) (head : ResolvedFor) → Grows m n (row_of_for place head)
-grows-row_of_for place head = grows-bind (grows-next head.cursor) (λ row. grows-kept place head.slots row)
-
 done-over_row : {m n : Meaning} → Fits m n → (level : ℕ) (place : Place) (head : ResolvedFor) (ss : List ResolvedStatement) {again : Deed} → GrowsDone m n again → (row : Option (List Datum)) → GrowsDone m n (over_row level place head ss again row)
 done-over_row fits level place head ss h None = done-ends_as Normal
 done-over_row fits level place head ss h (Some ds) = done-behind (done-all fits _ ss) (follows-repeated level h)
 
 done-round : {m n : Meaning} → Fits m n → (level : ℕ) (place : Place) (head : ResolvedFor) (ss : List ResolvedStatement) {again : Deed} → GrowsDone m n again → GrowsDone m n (round level place head ss again)
-done-round fits level place head ss h = done-at_turn (done-after fits place (grows-row_of_for place head) (done-over_row fits level place head ss h))
+done-round fits level place head ss h = done-at_turn (done-after fits place (grows-pure (pures.pure-row_of_for place head)) (done-over_row fits level place head ss h))
 
 done-rounds : {m n : Meaning} → Fits m n → (level : ℕ) (place : Place) (head : ResolvedFor) (ss : List ResolvedStatement) → GrowsDone m n (rounds level place head ss)
 done-rounds fits level place head ss = record { same = λ st. fits.done (Round level head ss) place st }
 
 done-for_each : {m n : Meaning} → Fits m n → (level : ℕ) (place : Place) (head : ResolvedFor) (ss : List ResolvedStatement) → GrowsDone m n (for_each level place head ss)
-done-for_each fits level place head ss = done-after fits place (grows-open_cursor head.cursor) (λ u. done-behind (done-rounds fits level place head ss) (record { grows = λ o. done-changing {f = with_cursor head.cursor.number Closed} (done-ends_as o); passes = λ st. refl }))
+done-for_each fits level place head ss = done-after fits place (grows-pure (pures.pure-open_cursor head.cursor)) (λ u. done-behind (done-rounds fits level place head ss) (record { grows = λ o. done-changing {f = with_cursor head.cursor.number Closed} (done-ends_as o); passes = λ st. refl }))
 
 -- ---- steps
 

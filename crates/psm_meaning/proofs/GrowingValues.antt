@@ -1,8 +1,8 @@
 -- The same of expressions: activations, and every form of expression.
-use Rattle.std.proofs.Common.{inl, inr, ℕ, Bool, List, [], ◌∷◌, Option, Some, None, Ok, Err, ap, subst}
+use Rattle.std.proofs.Common.{inl, inr, ℕ, Bool, List, [], ◌∷◌, map, Option, Some, None, refl, ap, subst}
 use Rattle.psm_list.specs.Several.{Several}
 use Rattle.psm_value.specs.declared.datum.Datum.{Datum}
-use Rattle.psm_value.specs.declared.sqltype.SqlType.{SqlType}
+use Rattle.psm_value.specs.declared.datum.Datum.TheVariants.{Null}
 use Rattle.psm_value.specs.declared.truth.Truth as truth
 use Rattle.psm_value.specs.Truth.{is_certain}
 use Rattle.psm_exprcode.specs.declared.operand.Operand.{Operand}
@@ -18,50 +18,27 @@ use Rattle.psm_resolved.specs.declared.expr.ResolvedItems.{ResolvedItems}
 use Rattle.psm_resolved.specs.declared.expr.ResolvedLink.{ResolvedLink, out-ResolvedLink}
 use Rattle.psm_resolved.specs.declared.expr.ResolvedQuery.{ResolvedQuery}
 use Rattle.psm_resolved.specs.declared.expr.ResolvedWhen.{ResolvedWhen}
-use Rattle.psm_resolved.specs.declared.file.ParameterMode.{ParameterMode}
-use Rattle.psm_resolved.specs.declared.file.ParameterMode.TheVariants.{In, Out, InOut}
 use Rattle.psm_resolved.specs.declared.file.ResolvedFile.{ResolvedFile}
-use Rattle.psm_resolved.specs.declared.file.ResolvedParameter.{ResolvedParameter}
 use Rattle.psm_resolved.specs.declared.file.ResolvedRoutine.{ResolvedRoutine}
 use Rattle.psm_meaning.specs.State.{State, returned_to}
 use Rattle.psm_meaning.specs.Acts.{Evaluated, Outcome, Normal, Leave, Iterate, Return, Raised, Away, Stopped, Done, Meaning, Act}
-use Rattle.psm_meaning.specs.Calls.{passed, entered, bounded, ending, run_body, apart, activated, result_of, called, body_place, begun}
-use Rattle.psm_meaning.specs.Rows.{table_now, answer_of}
-use Rattle.psm_meaning.specs.Values.{Layer, there, came, worked, of_one, of_two, of_three, operands, joined, linked, among, scaled, else_of, is_equal, chosen, cased, first_set, scalar, evaluated}
+use Rattle.psm_meaning.specs.Calls.{function_at, ending, run_body, apart, activated, called, body_place, begun}
+use Rattle.psm_meaning.specs.Values.{Layer, there, of_one, of_two, of_three, operands, joined, linked, among, else_of, is_equal, chosen, cased, first_set, evaluated}
 use Rattle.psm_meaning.specs.Fits.{Same, SameEnd, Fits}
-use Rattle.psm_meaning.proofs.Growing.{Grows, grows-bind, grows-if, grows-got, grows-value_of, grows-truth_of, grows-operand, grows-values, grown, evaluated as grown_parts}
-
-pub grows-table_now : {m n : Meaning} (table : ℕ) → Grows m n (table_now table)
-grows-table_now table = search grown
-
-pub grows-answer_of : {m n : Meaning} (query : ResolvedQuery) → Grows m n (answer_of query)
-grows-answer_of query = search (grown, grows-table_now)
+use Rattle.psm_meaning.proofs.Pure.{pure-got, pure-present, pure}
+use Rattle.psm_meaning.proofs.PureActs.{pure-answer_of, pure-entered, pure-bounded, pure-result_of, pure-worked, pure-scaled, pure-scalar}
+use Rattle.psm_meaning.proofs.Growing.{Grows, grows-bind, grows-pure, grows-turn, grows-if, grows-value_of, grows-truth_of, grows-operand, grows-values}
 
 -- ---- activations
 
-grows-passed : {m n : Meaning} (mode : ParameterMode) (t : SqlType) (args : List Datum) → Grows m n (passed mode t args)
-grows-passed In t [] = search grown
-grows-passed In t (a ∷ args) = search grown
-grows-passed Out t args = search grown
-grows-passed InOut t [] = search grown
-grows-passed InOut t (a ∷ args) = search grown
-
-grows-entered : {m n : Meaning} (ps : List ResolvedParameter) (args : List Datum) → Grows m n (entered ps args)
-grows-entered [] [] = search grown
-grows-entered [] (a ∷ args) = search grown
-grows-entered (p ∷ ps) args = grows-bind (grows-passed p.mode p.kind args) (λ first. grows-bind (grows-entered ps first.1) (λ others. grows-got _))
-
-grows-bounded : {m n : Meaning} → Grows m n bounded
-grows-bounded = search grown
-
 grows-ending : {m n : Meaning} (o : Outcome) → Grows m n (ending o)
-grows-ending Normal = search grown
-grows-ending (Leave level) = search grown
-grows-ending (Iterate level) = search grown
-grows-ending (Return d) = search grown
-grows-ending (Raised c) = search grown
-grows-ending (Away level h c) = search grown
-grows-ending (Stopped stop) = search grown
+grows-ending Normal = record { same = λ st. inr refl }
+grows-ending (Leave level) = record { same = λ st. inr refl }
+grows-ending (Iterate level) = record { same = λ st. inr refl }
+grows-ending (Return d) = record { same = λ st. inr refl }
+grows-ending (Raised c) = record { same = λ st. inr refl }
+grows-ending (Away level h c) = record { same = λ st. inr refl }
+grows-ending (Stopped stop) = record { same = λ st. inr refl }
 
 ended_same : (m n : Meaning) (r s : Done) → SameEnd r s → Same (ending r.outcome m r.state) (ending s.outcome n s.state)
 ended_same m n r s (inl e) = inl (ap (λ o. (ending o m r.state).given) e)
@@ -78,60 +55,47 @@ grows-apart : {m n : Meaning} {A : Type 0} {act : Act A} → Grows m n act → G
 grows-apart h = record { same = λ st. same_with (returned_to st) _ _ (h.same st) }
 
 pub grows-activated : {m n : Meaning} → Fits m n → (r : ResolvedRoutine) (args : List Datum) → Grows m n (activated r args)
-grows-activated fits r args = search (grown, grows-entered, grows-bounded, grows-apart, grows-run_body)
-
-grows-result_of : {m n : Meaning} (d : Option Datum) → Grows m n (result_of d)
-grows-result_of (Some d) = search grown
-grows-result_of None = search grown
+grows-activated fits r args = grows-bind (grows-pure (pure-entered r.parameters args)) (λ ds. grows-bind (grows-pure pure-bounded) (λ u.
+    grows-bind grows-turn (λ w. grows-apart (grows-run_body fits r ds))))
 
 grows-called : {m n : Meaning} → Fits m n → (file : ResolvedFile) (f : ℕ) (args : List Datum) → Grows m n (called file f args)
-grows-called fits file f args = search (grown, grows-activated, grows-result_of)
+grows-called fits file f args = grows-bind (grows-pure (pure-present (function_at file f))) (λ r. grows-bind (grows-activated fits r args) (λ e. grows-pure (pure-result_of e.returned)))
 
 -- ---- operations
 
-grows-came : {m n : Meaning} (o : rows.Outcome) → Grows m n (came o)
-grows-came None = search grown
-grows-came (Some (Err s)) = search grown
-grows-came (Some (Ok x)) = search grown
-
-grows-worked : {m n : Meaning} (layer : Layer) → Grows m n (worked layer)
-grows-worked layer = record { same = λ st. (grows-came _).same st }
-
 grows-of_one : {m n : Meaning} → Fits m n → (a : ResolvedExpr) (f : rows.Outcome → Layer) → Grows m n (of_one a f)
-grows-of_one fits a f = grows-bind (grows-operand fits a) (λ x. grows-worked (f _))
+grows-of_one fits a f = grows-bind (grows-operand fits a) (λ x. grows-pure (pure-worked (f (there x))))
 
 grows-of_two : {m n : Meaning} → Fits m n → (a b : ResolvedExpr) (f : rows.Outcome → rows.Outcome → Layer) → Grows m n (of_two a b f)
-grows-of_two fits a b f = grows-bind (grows-operand fits a) (λ x. grows-of_one fits b (f _))
+grows-of_two fits a b f = grows-bind (grows-operand fits a) (λ x. grows-of_one fits b (f (there x)))
 
 grows-of_three : {m n : Meaning} → Fits m n → (a b c : ResolvedExpr) (f : rows.Outcome → rows.Outcome → rows.Outcome → Layer) → Grows m n (of_three a b c f)
-grows-of_three fits a b c f = grows-bind (grows-operand fits a) (λ x. grows-of_two fits b c (f _))
+grows-of_three fits a b c f = grows-bind (grows-operand fits a) (λ x. grows-of_two fits b c (f (there x)))
 
 grows-operands : {m n : Meaning} → Fits m n → (es : List ResolvedExpr) → Grows m n (operands es)
-grows-operands fits [] = search grown
-grows-operands fits (e ∷ es) = grows-bind (grows-operand fits e) (λ x. grows-bind (grows-operands fits es) (λ xs. grows-got _))
+grows-operands fits [] = grows-pure (pure-got [])
+grows-operands fits (e ∷ es) = grows-bind (grows-operand fits e) (λ x. grows-bind (grows-operands fits es) (λ xs. grows-pure (pure-got (x ∷ xs))))
 
 grows-joined : {m n : Meaning} → Fits m n → (j : Junction) (x : Operand) (es : List ResolvedExpr) → Grows m n (joined j x es)
-grows-joined fits j x [] = search grown
+grows-joined fits j x [] = grows-pure (pure-got x)
 grows-joined fits j x (e ∷ es) = grows-bind (grows-of_one fits e (λ b. layers.Junction j (record { first = there x; rest = b ∷ [] }))) (λ both. grows-joined fits j both es)
 
 grows-linked : {m n : Meaning} → Fits m n → (x : Operand) (links : List ResolvedLink) → Grows m n (linked x links)
-grows-linked fits x [] = search grown
+grows-linked fits x [] = grows-pure (pure-got x)
 grows-linked fits x (l ∷ links) = grows-bind (grows-of_one fits (out-ResolvedLink l).operand (λ b. layers.Chain (there x) (((out-ResolvedLink l).operator, b) ∷ []))) (λ y. grows-linked fits y links)
 
 grows-among : {m n : Meaning} → Fits m n → (negated : Bool) (e : ResolvedExpr) (list : Several ResolvedExpr) → Grows m n (among negated e list)
-grows-among fits negated e list = search (grown_parts, grows-operands, grows-worked)
+grows-among fits negated e list = grows-bind (grows-operand fits e) (λ x. grows-bind (grows-operand fits list.first) (λ first. grows-bind (grows-operands fits list.rest) (λ others.
+    grows-pure (pure-worked (layers.In negated (there x) (record { first = there first; rest = map there others }))))))
 
 -- ---- choices
 
-grows-scaled : {m n : Meaning} (scale : Option ℕ) (x : Operand) → Grows m n (scaled scale x)
-grows-scaled scale x = grows-came _
-
 grows-else_of : {m n : Meaning} → Fits m n → (e : Option ResolvedExpr) → Grows m n (else_of e)
-grows-else_of fits None = search grown
+grows-else_of fits None = grows-pure (pure-got (Value Null))
 grows-else_of fits (Some e) = grows-operand fits e
 
 pub grows-is_equal : {m n : Meaning} → Fits m n → (d : Datum) (e : ResolvedExpr) → Grows m n (is_equal d e)
-grows-is_equal fits d e = search grown_parts
+grows-is_equal fits d e = grows-bind (grows-value_of fits e) (λ c. grows-pure (pure-got _))
 
 grows-chosen : {m n : Meaning} → Fits m n → (test : ResolvedExpr → Act truth.Truth) → ((e : ResolvedExpr) → Grows m n (test e)) → (whens : List ResolvedWhen) (otherwise : Option ResolvedExpr) → Grows m n (chosen test whens otherwise)
 grows-chosen fits test h [] otherwise = grows-else_of fits otherwise
@@ -143,22 +107,16 @@ grows-cased fits (Some e) whens otherwise = grows-bind (grows-value_of fits e) (
 
 grows-first_set : {m n : Meaning} → Fits m n → (e : ResolvedExpr) (es : List ResolvedExpr) → Grows m n (first_set e es)
 grows-first_set fits e [] = grows-operand fits e
-grows-first_set fits e (f ∷ es) = grows-bind (grows-value_of fits e) (λ d. grows-if (is_null d) (grows-first_set fits f es) (grows-got (Value d)))
-
-grows-scalar : {m n : Meaning} (rs : List (List Datum)) → Grows m n (scalar rs)
-grows-scalar [] = search grown
-grows-scalar ([] ∷ []) = search grown
-grows-scalar ((d ∷ ds) ∷ []) = search grown
-grows-scalar (r ∷ s ∷ rs) = search grown
+grows-first_set fits e (f ∷ es) = grows-bind (grows-value_of fits e) (λ d. grows-if (is_null d) (grows-first_set fits f es) (grows-pure (pure-got (Value d))))
 
 -- ---- expressions
 
 pub grows-evaluated : {m n : Meaning} → Fits m n → (file : ResolvedFile) (layer : ResolvedExpr-F ResolvedExpr ResolvedItems ResolvedItem ResolvedLink ResolvedQuery ResolvedWhen) → Grows m n (evaluated file layer)
-grows-evaluated fits file layers.Null = grows-worked layers.Null
-grows-evaluated fits file (layers.Number n) = grows-worked (layers.Number n)
-grows-evaluated fits file (layers.Text t) = grows-worked (layers.Text t)
-grows-evaluated fits file (layers.Column i) = grows-worked (layers.Column i)
-grows-evaluated fits file (layers.Variable i) = grows-worked (layers.Variable i)
+grows-evaluated fits file layers.Null = grows-pure (pure-worked layers.Null)
+grows-evaluated fits file (layers.Number n) = grows-pure (pure-worked (layers.Number n))
+grows-evaluated fits file (layers.Text t) = grows-pure (pure-worked (layers.Text t))
+grows-evaluated fits file (layers.Column i) = grows-pure (pure-worked (layers.Column i))
+grows-evaluated fits file (layers.Variable i) = grows-pure (pure-worked (layers.Variable i))
 grows-evaluated fits file (layers.Junction j es) = grows-bind (grows-operand fits es.first) (λ x. grows-joined fits j x es.rest)
 grows-evaluated fits file (layers.Not condition) = grows-of_one fits condition (λ a. layers.Not a)
 grows-evaluated fits file (layers.Compare operator left right) = grows-of_two fits left right (λ a b. layers.Compare operator a b)
@@ -170,10 +128,10 @@ grows-evaluated fits file (layers.Like negated value pattern (Some escape)) = gr
 grows-evaluated fits file (layers.Chain first links) = grows-bind (grows-operand fits first) (λ x. grows-linked fits x links)
 grows-evaluated fits file (layers.Negated e) = grows-of_one fits e (λ a. layers.Negated a)
 grows-evaluated fits file (layers.Call f arguments) = grows-bind (grows-values fits arguments) (λ args. grows-called fits file f args)
-grows-evaluated fits file (layers.Scalar query) = grows-bind (grows-answer_of query) (λ a. grows-scalar a.rows)
-grows-evaluated fits file (layers.Exists query) = search (grown, grows-answer_of)
-grows-evaluated fits file (layers.Case e whens otherwise scale) = grows-bind (grows-cased fits e _ otherwise) (λ x. grows-scaled scale x)
-grows-evaluated fits file (layers.Coalesce values scale) = grows-bind (grows-first_set fits values.first values.rest) (λ x. grows-scaled scale x)
+grows-evaluated fits file (layers.Scalar query) = grows-pure (search (pure, pure-answer_of, pure-scalar))
+grows-evaluated fits file (layers.Exists query) = grows-pure (search (pure, pure-answer_of))
+grows-evaluated fits file (layers.Case e whens otherwise scale) = grows-bind (grows-cased fits e _ otherwise) (λ x. grows-pure (pure-scaled scale x))
+grows-evaluated fits file (layers.Coalesce values scale) = grows-bind (grows-first_set fits values.first values.rest) (λ x. grows-pure (pure-scaled scale x))
 grows-evaluated fits file (layers.Cast source to) = grows-of_one fits source (λ a. layers.Cast a to)
 grows-evaluated fits file (layers.NullIf left right) = grows-of_two fits left right (λ a b. layers.NullIf a b)
 grows-evaluated fits file (layers.Function function argument) = grows-of_one fits argument (λ a. layers.Function function a)

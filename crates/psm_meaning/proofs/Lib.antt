@@ -1,6 +1,15 @@
+pub mod Pure
+pub mod PureActs
 pub mod Growing
 pub mod GrowingValues
 pub mod GrowingDeeds
 pub mod GrowingActs
 pub mod GrowingStatements
 pub mod GrowingSession
+pub mod Sizes
+pub mod Enough
+pub mod EnoughValues
+pub mod EnoughDeeds
+pub mod EnoughStatements
+pub mod EnoughFlow
+pub mod EnoughSession

@@ -16,3 +16,4 @@ pub mod Lines
 pub mod Session
 pub mod Fits
 pub mod Heights
+pub mod Enough

@@ -4,4 +4,4 @@
 
 mod laws;
 
-pub use laws::more_height_changes_nothing;
+pub use laws::{height_of_a_file_is_enough, more_height_changes_nothing};

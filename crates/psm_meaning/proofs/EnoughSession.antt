@@ -1,0 +1,94 @@
+-- The same of scripts, and the laws.
+use Rattle.std.proofs.Common.{arith, ◌≡◌, ◌≤◌, inl, inr, ℕ, suc, List, [], ◌∷◌, Contains, not, sym, subst}
+use Rattle.psm_value.specs.declared.datum.Datum.{Datum}
+use Rattle.psm_resolved.specs.declared.expr.ResolvedExpr.{ResolvedExpr}
+use Rattle.psm_resolved.specs.declared.file.ResolvedFile.{ResolvedFile}
+use Rattle.psm_resolved.specs.declared.file.ResolvedRoutine.{ResolvedRoutine}
+use Rattle.psm_resolved.specs.declared.statement.ResolvedStatement.{ResolvedStatement}
+use Rattle.psm_meaning.specs.State.{State, Place}
+use Rattle.psm_meaning.specs.Acts.{Stop, NoTurns, NoHeight, Lacking, Given, Got, Raises, Ends, Outcome, Normal, Leave, Iterate, Return, Raised, Away, Evaluated, Do, Meaning, Act}
+use Rattle.psm_meaning.specs.Acts as acts
+use Rattle.psm_meaning.specs.Calls.{returns, activated, procedure_at}
+use Rattle.psm_meaning.specs.Lines.{first_line}
+use Rattle.psm_meaning.specs.Meaning.{meaning}
+use Rattle.psm_meaning.specs.Session.{Command, Call, Insert, Select, Commit, Rollback, Standing, at_command, called, inserted, selected, Played, Went, Stopped, ended, run, played, End, Done, Cut, Session, going_on, commands_from, command_name, session_to, at_start}
+use Rattle.psm_meaning.specs.Heights.{expr_size, statement_size, file_size, height_for, session}
+use Rattle.psm_meaning.specs.Enough.{AreWithin}
+use Rattle.psm_meaning.specs.Fits.{SameSession}
+use Rattle.psm_meaning.proofs.Pure.{IsHigh, High}
+use Rattle.psm_meaning.proofs.PureActs as pures
+use Rattle.psm_meaning.proofs.Sizes.{BodyWithin, body_of-le, body-le}
+use Rattle.psm_meaning.proofs.Enough.{Keeps, keeps-pure, keeps-bind, keeps-present, Paid, Later}
+use Rattle.psm_meaning.proofs.EnoughValues.{keeps-activated}
+use Rattle.psm_meaning.proofs.EnoughFlow.{parts-height_for, later-height_for}
+use Rattle.psm_meaning.proofs.GrowingSession.{same-session}
+
+-- ---- commands
+
+keeps-called : {file : ResolvedFile} {m : Meaning} {turns : ℕ} → Later file m turns → (procedure : ℕ) (args : List Datum) → Keeps m turns (called file procedure args)
+keeps-called {file = file} later procedure args = keeps-present (BodyWithin (file_size file)) (procedure_at file procedure) (body_of-le file (λ r. not (returns r.returns)) procedure) (λ r p.
+    keeps-bind (keeps-activated later r p args) (λ e. keeps-pure (pures.pure-call_lines r e.returned e.variables)))
+
+-- a command that went on with no more turns, or stopped for another want than of height
+abbrev Fine : ℕ → Played → Type 0
+Fine turns (Went piece next) = next.turns ≤ turns
+Fine turns (Stopped stop pieces) = IsHigh stop
+
+fine-ended : (turns : ℕ) (first : List ℕ) (s : Standing) (g : Given (List ℕ)) (st : State) → High g → st.turns ≤ turns → Fine turns (ended first s g st)
+fine-ended turns first s (Got lines) st h p = p
+fine-ended turns first s (Raises c) st h p = p
+fine-ended turns first s (Ends NoTurns) st h p = h
+fine-ended turns first s (Ends NoHeight) st h p = h
+fine-ended turns first s (Ends Lacking) st h p = h
+
+fine-run : {m : Meaning} {turns : ℕ} (first : List ℕ) (s : Standing) (act : Act (List ℕ)) → s.turns ≤ turns → Keeps m turns act → Fine s.turns (run first s act m)
+fine-run {m = m} first s act p k = let r = act m (at_command s) in let w = k.well (at_command s) p in fine-ended s.turns first s r.given r.state w.high w.left
+
+fine-played : {file : ResolvedFile} {m : Meaning} {turns : ℕ} → Later file m turns → (first : List ℕ) (s : Standing) (c : Command) → s.turns ≤ turns → Fine s.turns (played file m first s c)
+fine-played {file = file} later first s (Call procedure args) p = fine-run first s (called file procedure args) p (keeps-called later procedure args)
+fine-played {file = file} later first s (Insert table columns rows) p = fine-run first s (inserted file table columns rows) p (keeps-pure (pures.pure-inserted file table columns rows))
+fine-played later first s (Select query) p = fine-run first s (selected query) p (keeps-pure (pures.pure-selected query))
+fine-played later first s Commit p = omega arith
+fine-played later first s Rollback p = omega arith
+
+-- ---- sessions
+
+abbrev HighEnd : End → Type 0
+HighEnd Done = Unit {0}
+HighEnd (Cut stop) = IsHigh stop
+
+high-going : (s : Standing) (p : Played) (later : Standing → Session) → Fine s.turns p → ((next : Standing) → next.turns ≤ s.turns → HighEnd (later next).end) → HighEnd (going_on s p later).end
+high-going s (Went piece next) later h k = k next h
+high-going s (Stopped stop pieces) later h k = h
+
+high-commands : {file : ResolvedFile} {m : Meaning} {turns : ℕ} → Later file m turns → (k : ℕ) (cs : List Command) (s : Standing) → s.turns ≤ turns → HighEnd (commands_from file m k cs s).end
+high-commands later k [] s p = tt
+high-commands {file = file} {m = m} later k (c ∷ cs) s p = high-going s (played file m (first_line k (command_name file c)) s c) (commands_from file m (suc k) cs)
+    (fine-played later (first_line k (command_name file c)) s c p) (λ next q. high-commands later (suc k) cs next (omega (arith, p, q)))
+
+-- ---- the laws
+
+pub session-enough : (file : ResolvedFile) (h : ℕ) (commands : List Command) (turns : ℕ) → height_for file turns ≤ h → (session_to file h commands turns).end ≡ Cut NoHeight → ⊥
+session-enough file h commands turns p e = subst HighEnd e (high-commands (later-height_for file h turns p) 1 commands (at_start file turns) (omega arith))
+
+by_height : (file : ResolvedFile) (h : ℕ) (commands : List Command) (turns : ℕ) → SameSession (session file commands turns) (session_to file h commands turns) → session_to file h commands turns ≡ session file commands turns
+by_height file h commands turns (inl e) = absurd (session-enough file (height_for file turns) commands turns (omega arith) e)
+by_height file h commands turns (inr e) = sym e
+
+pub one-session : (file : ResolvedFile) (h : ℕ) (commands : List Command) (turns : ℕ) → height_for file turns ≤ h → session_to file h commands turns ≡ session file commands turns
+one-session file h commands turns p = by_height file h commands turns (same-session file (height_for file turns) h p commands turns)
+
+high-given : {A : Type 0} (g : Given A) → High g → g ≡ Ends NoHeight → ⊥
+high-given g h e = subst High e h
+
+paid-high : (file : ResolvedFile) (turns left : ℕ) (o : Outcome) → Paid file turns left o → o ≡ acts.Stopped NoHeight → ⊥
+paid-high file turns left o p e = (subst (Paid file turns left) e p).1
+
+pub value-enough : (file : ResolvedFile) (h : ℕ) (e : ResolvedExpr) (st : State) → expr_size e ≤ file_size file → height_for file st.turns ≤ h → ((meaning file h).value e st).given ≡ Ends NoHeight → ⊥
+value-enough file h e st p q = high-given _ (((parts-height_for file h st.turns q).value e p).well st (omega arith)).high
+
+pub statement-enough : (file : ResolvedFile) (h : ℕ) (s : ResolvedStatement) (place : Place) (st : State) → statement_size s ≤ file_size file → AreWithin file place.scopes → height_for file st.turns ≤ h → ((meaning file h).done (Do s) place st).outcome ≡ acts.Stopped NoHeight → ⊥
+statement-enough file h s place st p w q = paid-high file _ _ _ (((parts-height_for file h st.turns q).done (Do s) place w p).paid st (omega arith))
+
+pub activation-enough : (file : ResolvedFile) (h : ℕ) (r : ResolvedRoutine) (args : List Datum) (st : State) → Contains file.routines r → height_for file st.turns ≤ h → (activated r args (meaning file h) st).given ≡ Ends NoHeight → ⊥
+activation-enough file h r args st c q = high-given _ ((keeps-activated (later-height_for file h st.turns q) r (body-le file r c) args).well st (omega arith)).high
