@@ -89,6 +89,7 @@ impl<T: Drop> SegStack<T> {
         ensures items { self.new.items ≡ self.old.items }
         ensures room { OnOk result (1 ≤ self.new.spare) }
         ensures grown { self.old.spare ≤ self.new.spare }
+        ensures same { 1 ≤ self.old.spare → self.new ≡ self.old }
         ensures full { OnErr result (self.old.spare ≡ 0) }
         ensures err { OnErr result (self.new ≡ self.old) }
     {
