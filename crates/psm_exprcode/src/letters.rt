@@ -20,7 +20,7 @@ pub(crate) fn is_known(letter: Letter, letters: &[Letter], place: usize) -> bool
 
 /// What is left of a stack where those letters are taken off; none where others stand there.
 #[tactic(auto, using(crate::proofs::Stripping::left_below_some, crate::proofs::Stripping::left_below_none))]
-pub(crate) fn left(stacks: &Stacks, stack: usize, taken: Letters) -> Option<usize>
+pub fn left(stacks: &Stacks, stack: usize, taken: Letters) -> Option<usize>
     requires { stack < length stacks.now }
     ensures letters { option_map (stack_at stacks.now) result ≡ left_of (letters_of taken) (stack_at stacks.now stack) }
     ensures there { IfSome result (λ rest. rest < length stacks.now) }
@@ -61,7 +61,7 @@ fn left_by_one(stacks: &Stacks, stack: usize, letter: Option<Letter>) -> Option<
 
 /// Whether a stack is that below, with the letters that are put on it.
 #[tactic(auto, using(crate::proofs::Stripping::same_on_some, crate::proofs::Stripping::same_on_none))]
-pub(crate) fn are_stated(stacks: &Stacks, put: Letters, below: usize, stated: usize) -> bool
+pub fn are_stated(stacks: &Stacks, put: Letters, below: usize, stated: usize) -> bool
     requires below { below < length stacks.now }
     requires stated { stated < length stacks.now }
     ensures { result ≡ same_stack (letters_of put ++ stack_at stacks.now below) (stack_at stacks.now stated) }

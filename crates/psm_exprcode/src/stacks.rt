@@ -18,7 +18,7 @@ pub(crate) struct Node {
 /// Stacks of letters, seen as the list of them, in which each has its number. One that is a letter on another
 /// takes the memory of that letter alone. The stack of no letter, and those of one, are always there.
 #[derive(Debug, Drop)]
-pub(crate) struct Stacks {
+pub struct Stacks {
     nodes: Vec<Node>,
 }
 
@@ -39,7 +39,7 @@ impl Model for Stacks {
 
 impl Stacks {
     /// The stack of no letter, and those of one.
-    pub(crate) fn new(alloc: Global) -> Stacks
+    pub fn new(alloc: Global) -> Stacks
         ensures { result ≡ first_stacks }
     {
         Stacks {
@@ -48,7 +48,7 @@ impl Stacks {
     }
 
     /// The number of the stack of no letter.
-    pub(crate) fn empty(&self) -> usize
+    pub fn empty(&self) -> usize
         ensures there { result < length self.now }
         ensures empty { stack_at self.now result ≡ [] }
     {
@@ -57,7 +57,7 @@ impl Stacks {
     }
 
     /// The number of the stack of that letter alone.
-    pub(crate) fn single(&self, letter: Letter) -> usize
+    pub fn single(&self, letter: Letter) -> usize
         ensures there { result < length self.now }
         ensures single { stack_at self.now result ≡ letter ∷ [] }
     {
@@ -70,7 +70,7 @@ impl Stacks {
     }
 
     /// The last letter of a stack, and the number of what lies below.
-    pub(crate) fn split(&self, number: usize) -> Option<(Letter, usize)>
+    pub fn split(&self, number: usize) -> Option<(Letter, usize)>
         requires { number < length self.now }
         ensures parts { MatchOption result (stack_at self.now number ≡ []) (λ r. stack_at self.now number ≡ r.0 ∷ stack_at self.now r.1) }
         ensures earlier { IfSome result (λ r. r.1 < number) }
@@ -89,7 +89,7 @@ impl Stacks {
     }
 
     /// The letters of a stack, with the last one at the end, in place of those that stand in the vector.
-    pub(crate) fn letters(&self, number: usize, letters: &mut Vec<Letter>) -> Result<(), AllocError>
+    pub fn letters(&self, number: usize, letters: &mut Vec<Letter>) -> Result<(), AllocError>
         requires { number < length self.now }
         ensures { OnOk result (letters.new.items ≡ reverse (stack_at self.now number)) }
     {
@@ -105,7 +105,7 @@ impl Stacks {
 
     /// The number of the stack of these letters, the last one at the end. Memory is taken for those alone that
     /// it doesn't share with the stack of the other number.
-    pub(crate) fn number_of(&mut self, letters: &[Letter], like: usize) -> Result<usize, AllocError>
+    pub fn number_of(&mut self, letters: &[Letter], like: usize) -> Result<usize, AllocError>
         requires { like < length self.old }
         ensures extends { Extends self.old self.new }
         ensures number { IfOk result (λ n. (n < length self.new) × (stack_at self.new n ≡ reverse letters.now)) }
