@@ -16,6 +16,7 @@ use Rattle.psm_table.specs.declared.definition.TableDef.{TableDef}
 use Rattle.psm_table.specs.Changing.{inserted, updated, Changed, Failure, IsLegal}
 use Rattle.psm_table.specs.Table.{Contents}
 use Rattle.psm_table.proofs.Legal.{legal_inserted, legal_updated}
+use Rattle.psm_store.specs.Marks.{most_marks}
 use Rattle.psm_tablecode.specs.Codes.{over}
 use Rattle.psm_tablecode.specs.Suits.{fits_query, gives_truth, letters_of, SuitsTable}
 use Rattle.psm_dml.specs.Changes.{set_of}
@@ -30,6 +31,9 @@ use Rattle.bench_store.proofs.PairsRows.{row_fits}
 -- two numbers, as the variables are
 abbrev pub numbers : Num → Num → List Datum
 numbers a b = data_of.Num a ∷ data_of.Num b ∷ []
+
+pub room_there : (marks : ℕ) → marks ≡ 0 → marks < most_marks
+room_there marks e = omega (arith, e)
 
 module _ (w : Work) where
   -- ---- what is there

@@ -22,6 +22,7 @@ use psm_value::{Datum, Dec};
 use std::alloc::Global;
 
 /// A store whose table has so many rows and which the parts of the statements fit.
+#[tactic(auto, using(crate::proofs::Benches::bare_bench))]
 pub fn prepared(alloc: Global, work: &Work, load: Load) -> Result<UndoStore, Stop>
     ensures bench { IfOk result (λ s. IsBench work.now (tables_of s)) }
     ensures marks { IfOk result (λ s. s.marks ≡ 0) }
@@ -98,6 +99,7 @@ fn insert_all<S: Store>(alloc: Global, store: &mut S, work: &Work, rows: u32) ->
     Ok(u64::from(rows))
 }
 
+#[tactic(auto, using(crate::proofs::Benches::table_is_there, crate::proofs::Benches::checks_there, crate::proofs::Benches::legal_there, crate::proofs::Benches::pair_there, crate::proofs::Benches::room_there, crate::proofs::Benches::inserted_bench))]
 fn insert_one<S: Store>(alloc: Global, store: &mut S, work: &Work, place: u32) -> Result<u32, Stop>
     requires bench { IsBench work.now (S.tables store.old) }
     requires marks { S.marks store.old ≡ 0 }
@@ -134,6 +136,7 @@ fn update_each<S: Store>(
     Ok(changed)
 }
 
+#[tactic(auto, using(crate::proofs::Benches::table_is_there, crate::proofs::Benches::checks_there, crate::proofs::Benches::legal_there, crate::proofs::Benches::setting_there, crate::proofs::Benches::keyed_there, crate::proofs::Benches::room_there, crate::proofs::Benches::updated_bench))]
 fn update_one<S: Store>(
     alloc: Global,
     store: &mut S,
@@ -152,6 +155,7 @@ fn update_one<S: Store>(
     Ok(update(alloc, store, 0, checks, setting, work.keyed.as_ref(), vars)?)
 }
 
+#[tactic(auto, using(crate::proofs::Benches::table_is_there, crate::proofs::Benches::checks_there, crate::proofs::Benches::legal_there, crate::proofs::Benches::raising_there, crate::proofs::Benches::no_test_there, crate::proofs::Benches::room_there, crate::proofs::Benches::updated_bench))]
 fn update_all<S: Store>(alloc: Global, store: &mut S, work: &Work) -> Result<u32, Stop>
     requires bench { IsBench work.now (S.tables store.old) }
     requires marks { S.marks store.old ≡ 0 }
@@ -164,6 +168,7 @@ fn update_all<S: Store>(alloc: Global, store: &mut S, work: &Work) -> Result<u32
 }
 
 // How many rows have a number greater than 99.
+#[tactic(auto, using(crate::proofs::Benches::table_is_there, crate::proofs::Benches::counting_there))]
 fn counted<S: Store>(alloc: Global, store: &S, work: &Work) -> Result<u64, Stop>
     requires bench { IsBench work.now (S.tables store.now) }
     requires table { work.now.counting.table ≡ 0 }

@@ -53,13 +53,14 @@ coming_here [] (suc at) x rest e = cc
 coming_here (y ∷ xs) zero x rest e = let same : y ≡ x = cc in ap Some same
 coming_here (y ∷ xs) (suc at) x rest e = coming_here xs at x rest e
 
+behind_first : {X : Type 0} (ys : List X) (k : ℕ) (x : X) (rest : List X) → drop k ys ≡ x ∷ rest → drop (suc k) ys ≡ rest
+behind_first [] zero x rest e = cc
+behind_first [] (suc k) x rest e = cc
+behind_first (y ∷ ys) zero x rest e = let same : ys ≡ rest = cc in same
+behind_first (y ∷ ys) (suc k) x rest e = behind_first ys k x rest e
+
 pub coming_rest : {X : Type 0} (xs : List X) (at : ℕ) (x : X) (rest : List X) → drop at xs ≡ x ∷ rest → drop (at + 1) xs ≡ rest
-coming_rest xs at x rest e = let n : at + 1 ≡ suc at = omega arith in ap (λ k. drop k xs) n ∙ behind xs at e where
-  behind : (ys : List X) (k : ℕ) → drop k ys ≡ x ∷ rest → drop (suc k) ys ≡ rest
-  behind [] zero f = cc
-  behind [] (suc k) f = cc
-  behind (y ∷ ys) zero f = cc
-  behind (y ∷ ys) (suc k) f = behind ys k f
+coming_rest xs at x rest e = let n : at + 1 ≡ suc at = omega arith in ap (λ k. drop k xs) n ∙ behind_first xs at x rest e
 
 pub coming_none : {X : Type 0} (xs : List X) (at : ℕ) → drop at xs ≡ [] → slice_get xs at ≡ None
 coming_none [] zero e = refl
