@@ -8,6 +8,7 @@ use Rattle.psm_cond.specs.declared.fault.DataFault.{DataFault}
 use Rattle.psm_cond.specs.declared.fault.DataFault.TheVariants as fault
 use Rattle.psm_num.specs.Num.{Num}
 use Rattle.psm_num.proofs.Literals.{and_first, and_second}
+use Rattle.psm_exprcode.specs.declared.op.Letter.{Letter}
 use Rattle.psm_exprcode.specs.declared.op.Line.{Line}
 use Rattle.psm_exprcode.specs.declared.set_item.SetItem.{SetItem}
 use Rattle.psm_value.specs.declared.datum.Datum.{Datum}
@@ -16,7 +17,7 @@ use Rattle.psm_table.specs.declared.definition.TableDef.{TableDef}
 use Rattle.psm_table.specs.Changing.{inserted, updated, Changed, Failure, IsLegal}
 use Rattle.psm_table.specs.Table.{Contents}
 use Rattle.psm_table.proofs.Legal.{legal_inserted, legal_updated}
-use Rattle.psm_store.specs.Marks.{most_marks}
+use Rattle.psm_store.specs.Marks.{defs_of, most_marks}
 use Rattle.psm_tablecode.specs.Codes.{over}
 use Rattle.psm_tablecode.specs.Suits.{fits_query, gives_truth, letters_of, SuitsTable}
 use Rattle.psm_dml.specs.Changes.{set_of}
@@ -24,7 +25,8 @@ use Rattle.psm_dml.specs.Ends.{schema_of, Ends}
 use Rattle.psm_dml.specs.Rows.{IsWhole}
 use Rattle.psm_dml.specs.Suits.{fits_set, SuitChecks, SuitSets, SuitsTest}
 use Rattle.bench_store.specs.Bench.{are_suited, two_numbers, Fits, IsBench}
-use Rattle.bench_store.specs.Pairs.{AreBare, IsPair}
+use Rattle.psm_undostore.specs.Undo.{Undo, tables_of}
+use Rattle.bench_store.specs.Pairs.{AreBare, HasPairs, IsPair, IsPairsTable}
 use Rattle.bench_store.specs.declared.codes.Work.{Work}
 use Rattle.bench_store.proofs.PairsRows.{row_fits}
 
@@ -143,3 +145,22 @@ bare_bench w (x ∷ []) c n h e f =
     let same : x ≡ c = ap (λ (o : Option Contents). unwrap_or o x) e in
     (subst (λ (t : Contents). Fits w t.def) (sym same) f, subst (IsLegal (over []) (schema_of x.def w.checks)) (sym bare) (record { pass = refl; rules = refl }))
 bare_bench w (x ∷ y ∷ more) c n h e f = absurd (omega (arith, n))
+
+-- what fits the letters of the columns
+pub fits_by : (w : Work) (def d : TableDef) (letters columns : List Letter) (b : Bool) → IsPairsTable def → letters ≡ letters_of d → columns ≡ letters → d ≡ def → b ≡ are_suited columns w → b ≡ true → Fits w def
+fits_by w def d letters columns b pairs e f g h t = record {
+  pairs = pairs;
+  suited = ap (λ (x : TableDef). are_suited (letters_of x) w) (sym g) ∙ ap (λ (ls : List Letter). are_suited ls w) (sym (f ∙ e)) ∙ sym h ∙ t;
+}
+
+-- one table of pairs
+pairs_by : (w : Work) (s : Undo) (tables : List Contents) → tables_of s ≡ tables → IsBench w tables → HasPairs s
+pairs_by w s [] e h = absurd h
+pairs_by w s (c ∷ []) e h = record {
+  one = ap length e;
+  pairs = subst (λ (ts : List Contents). All IsPairsTable (defs_of ts)) (sym e) (All-cons IsPairsTable c.def [] h.0.pairs (All-nil IsPairsTable));
+}
+pairs_by w s (c ∷ d ∷ more) e h = absurd h
+
+pub bench_pairs : (w : Work) (s : Undo) → IsBench w (tables_of s) → HasPairs s
+bench_pairs w s h = pairs_by w s (tables_of s) refl h

@@ -194,6 +194,7 @@ fn measured<L: Ledger>(
     })
 }
 
+#[tactic(auto, using(crate::proofs::Benches::bench_pairs))]
 fn measured_load(rt: &impl CpuClock, alloc: Global, load: Load, timed: bool) -> Result<Told> {
     let Ok(work) = Work::new(alloc) else {
         bail!("memory ran out");

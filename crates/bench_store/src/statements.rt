@@ -34,6 +34,7 @@ pub fn prepared(alloc: Global, work: &Work, load: Load) -> Result<UndoStore, Sto
 }
 
 // Demands that the parts of the statements fit the table.
+#[tactic(auto, using(crate::proofs::Benches::fits_by))]
 fn demand(alloc: Global, table: &Table, work: &Work) -> Result<(), Stop>
     requires { IsPairsTable table.now.contents.def }
     ensures { OnOk result (Fits work.now table.now.contents.def) }

@@ -19,17 +19,22 @@ use Rattle.psm_dml.proofs.Walked.{option_all, option_bound, walks_end, walks_fau
 use Rattle.psm_dml.proofs.finding.met_keys.Goals as goal
 use Rattle.psm_dml.proofs.finding.met_keys.Goals.{else-loop-at-test, then-loop-at-test+in_default}
 
+pub met_key-requires-clause-row : goal.met_key-requires-clause-row
+met_key-requires-clause-row c =
+    get_all (IsRow c.args.table.now.contents.def) (rows_of c.args.table.now.contents c.in_ok-walk.walk) c.loop-at.at c.in-Some.row.now c.of-coming.ensures.fit
+    (coming_here (rows_of c.args.table.now.contents c.in_ok-walk.walk) c.loop-at.at c.in-Some.row.now (rows_coming c.next.new.self) (c.loop-at.invariant.left ∙ c.in-Some.ensures))
+
 pub met_key-requires-clause-runs : goal.met_key-requires-clause-runs
 met_key-requires-clause-runs c =
     let fits : IsRow c.args.table.now.contents.def c.in-Some.row.now = get_all (IsRow c.args.table.now.contents.def) (rows_of c.args.table.now.contents c.in_ok-walk.walk) c.loop-at.at c.in-Some.row.now c.of-coming.ensures.fit
-    (coming_here (rows_of c.args.table.now.contents c.in_ok-walk.walk) c.loop-at.at c.in-Some.row.now (rows_coming c.next.new.coming) (c.loop-at.invariant.left ∙ c.in-Some.ensures)) in
+    (coming_here (rows_of c.args.table.now.contents c.in_ok-walk.walk) c.loop-at.at c.in-Some.row.now (rows_coming c.next.new.self) (c.loop-at.invariant.left ∙ c.in-Some.ensures)) in
     test_runs (letters_of c.args.table.now.contents.def) c.requires.variables c.in-Some.row.now c.args.vars.now (row_letters c.args.table.now.contents.def c.in-Some.row.now fits) c.requires.kinds
     (option_copied c.args.test) c.requires.fits
 
 pub returns-in_err-key-clause-keys : goal.returns-in_err-key-clause-keys
 returns-in_err-key-clause-keys c =
     let rows : List (List Datum) = rows_of c.args.table.now.contents c.in_ok-walk.walk in
-    let here : slice_get rows c.loop-at.at ≡ Some c.in-Some.row.now = coming_here rows c.loop-at.at c.in-Some.row.now (rows_coming c.next.new.coming) (c.loop-at.invariant.left ∙ c.in-Some.ensures) in
+    let here : slice_get rows c.loop-at.at ≡ Some c.in-Some.row.now = coming_here rows c.loop-at.at c.in-Some.row.now (rows_coming c.next.new.self) (c.loop-at.invariant.left ∙ c.in-Some.ensures) in
     let p = err_from_is_err_and c.from_residual-in_err-key.result c.from_residual-in_err-key.ensures.1 in
     let all = walked_by c.args.table.now.contents c.args.vars.now (option_copied c.args.test) (key_in c.args.table.now.contents.def.key) c.in_ok-walk.ensures.table.ascend false c.in_ok-walk.walk c.in_ok-walk.ensures.walk in
     rw (p.1, p.2) (gives_by (_) (_) (Err c.in_err-key.field-0.0) (sym all) (walks_fault (test_of (over c.args.vars.now) (option_copied c.args.test)) (key_in c.args.table.now.contents.def.key) rows
@@ -38,9 +43,9 @@ returns-in_err-key-clause-keys c =
 pub loop-at-preserved : goal.loop-at-preserved
 loop-at-preserved c =
     let rows : List (List Datum) = rows_of c.args.table.now.contents c.in_ok-walk.walk in
-    let here : slice_get rows c.loop-at.at ≡ Some c.in-Some.row.now = coming_here rows c.loop-at.at c.in-Some.row.now (rows_coming c.next.new.coming) (c.loop-at.invariant.left ∙ c.in-Some.ensures) in
+    let here : slice_get rows c.loop-at.at ≡ Some c.in-Some.row.now = coming_here rows c.loop-at.at c.in-Some.row.now (rows_coming c.next.new.self) (c.loop-at.invariant.left ∙ c.in-Some.ensures) in
     record {
-      left = coming_rest rows c.loop-at.at c.in-Some.row.now (rows_coming c.next.new.coming) (c.loop-at.invariant.left ∙ c.in-Some.ensures);
+      left = coming_rest rows c.loop-at.at c.in-Some.row.now (rows_coming c.next.new.self) (c.loop-at.invariant.left ∙ c.in-Some.ensures);
       so_far = walks_next (test_of (over c.args.vars.now) (option_copied c.args.test)) (key_in c.args.table.now.contents.def.key) rows
           c.loop-at.at c.in-Some.row.now c.in_ok-key.key c.loop-at.keys.items c.add_key.new.keys.items here c.in_ok-key.ensures.key c.in_ok-add_key.ensures c.loop-at.invariant.so_far;
       fit = option_all (IsKey c.args.table.now.contents.def) c.loop-at.keys.items c.add_key.new.keys.items c.in_ok-key.key c.in_ok-add_key.ensures c.in_ok-key.ensures.fits c.loop-at.invariant.fit;

@@ -20,23 +20,28 @@ use Rattle.psm_dml.proofs.Walked.{walks_end, walks_fault, walks_next}
 use Rattle.psm_dml.proofs.planning.changes.Goals as goal
 use Rattle.psm_dml.proofs.planning.changes.Goals.{else-loop-at-test, then-loop-at-test+in_default}
 
+pub change_of-requires-clause-row : goal.change_of-requires-clause-row
+change_of-requires-clause-row c =
+    get_all (IsRow c.args.table.now.contents.def) (rows_of c.args.table.now.contents c.in_ok-walk.walk) c.loop-at.at c.in-Some.row.now c.of-coming.ensures.fit
+    (coming_here (rows_of c.args.table.now.contents c.in_ok-walk.walk) c.loop-at.at c.in-Some.row.now (rows_coming c.next.new.self) (c.loop-at.invariant.left ∙ c.in-Some.ensures))
+
 pub change_of-requires-clause-runs : goal.change_of-requires-clause-runs
 change_of-requires-clause-runs c =
     let fits : IsRow c.args.table.now.contents.def c.in-Some.row.now = get_all (IsRow c.args.table.now.contents.def) (rows_of c.args.table.now.contents c.in_ok-walk.walk) c.loop-at.at c.in-Some.row.now c.of-coming.ensures.fit
-    (coming_here (rows_of c.args.table.now.contents c.in_ok-walk.walk) c.loop-at.at c.in-Some.row.now (rows_coming c.next.new.coming) (c.loop-at.invariant.left ∙ c.in-Some.ensures)) in
+    (coming_here (rows_of c.args.table.now.contents c.in_ok-walk.walk) c.loop-at.at c.in-Some.row.now (rows_coming c.next.new.self) (c.loop-at.invariant.left ∙ c.in-Some.ensures)) in
     test_runs (letters_of c.args.table.now.contents.def) c.requires.test.variables c.in-Some.row.now c.args.vars.now (row_letters c.args.table.now.contents.def c.in-Some.row.now fits) c.requires.test.kinds
     (option_copied c.args.test) c.requires.test.fits
 
 pub change_of-requires-clause-sets : goal.change_of-requires-clause-sets
 change_of-requires-clause-sets c =
     let fits : IsRow c.args.table.now.contents.def c.in-Some.row.now = get_all (IsRow c.args.table.now.contents.def) (rows_of c.args.table.now.contents c.in_ok-walk.walk) c.loop-at.at c.in-Some.row.now c.of-coming.ensures.fit
-    (coming_here (rows_of c.args.table.now.contents c.in_ok-walk.walk) c.loop-at.at c.in-Some.row.now (rows_coming c.next.new.coming) (c.loop-at.invariant.left ∙ c.in-Some.ensures)) in
+    (coming_here (rows_of c.args.table.now.contents c.in_ok-walk.walk) c.loop-at.at c.in-Some.row.now (rows_coming c.next.new.self) (c.loop-at.invariant.left ∙ c.in-Some.ensures)) in
     assign c.args.sets.now c.args.vars.now c.args.table.now.contents.def c.in-Some.row.now c.requires.sets fits
 
 pub returns-in_err-change-clause-changes : goal.returns-in_err-change-clause-changes
 returns-in_err-change-clause-changes c =
     let rows : List (List Datum) = rows_of c.args.table.now.contents c.in_ok-walk.walk in
-    let here : slice_get rows c.loop-at.at ≡ Some c.in-Some.row.now = coming_here rows c.loop-at.at c.in-Some.row.now (rows_coming c.next.new.coming) (c.loop-at.invariant.left ∙ c.in-Some.ensures) in
+    let here : slice_get rows c.loop-at.at ≡ Some c.in-Some.row.now = coming_here rows c.loop-at.at c.in-Some.row.now (rows_coming c.next.new.self) (c.loop-at.invariant.left ∙ c.in-Some.ensures) in
     let p = err_from_is_err_and c.from_residual-in_err-change.result c.from_residual-in_err-change.ensures.1 in
     let all = walked_by c.args.table.now.contents c.args.vars.now (option_copied c.args.test) (changing c.args.table.now.contents.def.key (row_set c.args.vars.now c.args.table.now.contents.def c.args.sets.now)) c.in_ok-walk.ensures.table.ascend false c.in_ok-walk.walk c.in_ok-walk.ensures.walk in
     rw (p.1, p.2) (gives_by (_) (_) (Err c.in_err-change.field-0.0) (sym all) (walks_fault (test_of (over c.args.vars.now) (option_copied c.args.test)) (changing c.args.table.now.contents.def.key (row_set c.args.vars.now c.args.table.now.contents.def c.args.sets.now)) rows
@@ -45,9 +50,9 @@ returns-in_err-change-clause-changes c =
 pub loop-at-preserved : goal.loop-at-preserved
 loop-at-preserved c =
     let rows : List (List Datum) = rows_of c.args.table.now.contents c.in_ok-walk.walk in
-    let here : slice_get rows c.loop-at.at ≡ Some c.in-Some.row.now = coming_here rows c.loop-at.at c.in-Some.row.now (rows_coming c.next.new.coming) (c.loop-at.invariant.left ∙ c.in-Some.ensures) in
+    let here : slice_get rows c.loop-at.at ≡ Some c.in-Some.row.now = coming_here rows c.loop-at.at c.in-Some.row.now (rows_coming c.next.new.self) (c.loop-at.invariant.left ∙ c.in-Some.ensures) in
     record {
-      left = coming_rest rows c.loop-at.at c.in-Some.row.now (rows_coming c.next.new.coming) (c.loop-at.invariant.left ∙ c.in-Some.ensures);
+      left = coming_rest rows c.loop-at.at c.in-Some.row.now (rows_coming c.next.new.self) (c.loop-at.invariant.left ∙ c.in-Some.ensures);
       so_far = walks_next (test_of (over c.args.vars.now) (option_copied c.args.test)) (changing c.args.table.now.contents.def.key (row_set c.args.vars.now c.args.table.now.contents.def c.args.sets.now)) rows
           c.loop-at.at c.in-Some.row.now c.in_ok-change.change c.loop-at.changes.items c.add_change.new.changes.items here c.in_ok-change.ensures c.in_ok-add_change.ensures c.loop-at.invariant.so_far;
     }

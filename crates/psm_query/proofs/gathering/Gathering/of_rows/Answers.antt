@@ -32,12 +32,12 @@ pub taken-requires : goal.taken-requires
 taken-requires c =
     suits_row c.args.query.now c.args.vars.now c.args.table.now.contents.def c.in-Some.row.now c.requires
     (get_all (IsRow c.args.table.now.contents.def) (rows_of c.args.table.now.contents c.in_ok-walk.walk) c.loop-at.at c.in-Some.row.now c.of-coming.ensures.fit
-    (coming_here (rows_of c.args.table.now.contents c.in_ok-walk.walk) c.loop-at.at c.in-Some.row.now (rows_coming c.next.new.coming) (c.loop-at.invariant.left ∙ c.in-Some.ensures)))
+    (coming_here (rows_of c.args.table.now.contents c.in_ok-walk.walk) c.loop-at.at c.in-Some.row.now (rows_coming c.next.new.self) (c.loop-at.invariant.left ∙ c.in-Some.ensures)))
 
 pub returns-in_err-values : goal.returns-in_err-values
 returns-in_err-values c =
     let order : List (List Datum) = rows_of c.args.table.now.contents c.in_ok-walk.walk in
-    let here : slice_get order c.loop-at.at ≡ Some c.in-Some.row.now = coming_here order c.loop-at.at c.in-Some.row.now (rows_coming c.next.new.coming) (c.loop-at.invariant.left ∙ c.in-Some.ensures) in
+    let here : slice_get order c.loop-at.at ≡ Some c.in-Some.row.now = coming_here order c.loop-at.at c.in-Some.row.now (rows_coming c.next.new.self) (c.loop-at.invariant.left ∙ c.in-Some.ensures) in
     let p = err_from_is_err_and c.from_residual-in_err-values.result c.from_residual-in_err-values.ensures.1 in
     let same : c.in_ok-walk.walk ≡ walk_for c.args.table.now.contents c.args.query.now.downward c.args.vars.now c.args.query.now.test = c.in_ok-walk.ensures.walk ∙ ap (walk_for c.args.table.now.contents c.args.query.now.downward c.args.vars.now) c.as_ref.ensures.value in
     let all = walked_by c.args.table.now.contents c.args.vars.now c.args.query.now.test (values_for c.args.vars.now c.args.query.now.items) c.in_ok-walk.ensures.table.ascend c.args.query.now.downward c.in_ok-walk.walk same in
@@ -48,9 +48,9 @@ returns-in_err-values c =
 pub loop-at-preserved : goal.loop-at-preserved
 loop-at-preserved c =
     let order : List (List Datum) = rows_of c.args.table.now.contents c.in_ok-walk.walk in
-    let here : slice_get order c.loop-at.at ≡ Some c.in-Some.row.now = coming_here order c.loop-at.at c.in-Some.row.now (rows_coming c.next.new.coming) (c.loop-at.invariant.left ∙ c.in-Some.ensures) in
+    let here : slice_get order c.loop-at.at ≡ Some c.in-Some.row.now = coming_here order c.loop-at.at c.in-Some.row.now (rows_coming c.next.new.self) (c.loop-at.invariant.left ∙ c.in-Some.ensures) in
     record {
-      left = coming_rest order c.loop-at.at c.in-Some.row.now (rows_coming c.next.new.coming) (c.loop-at.invariant.left ∙ c.in-Some.ensures);
+      left = coming_rest order c.loop-at.at c.in-Some.row.now (rows_coming c.next.new.self) (c.loop-at.invariant.left ∙ c.in-Some.ensures);
       so_far = goes_next c.args.query.now.items (nothing c.args.query.now.items) (test_of (over c.args.vars.now) c.args.query.now.test) (values_for c.args.vars.now c.args.query.now.items) order
           c.loop-at.at c.in-Some.row.now c.in_ok-values.values c.loop-at.gathering c.take.new.self here c.in_ok-values.ensures c.in_ok-take.ensures c.loop-at.invariant.so_far;
       counts = subst (λ (g : Gathered). AreUpTo (c.loop-at.at + 1) g.tallies) (sym c.in_ok-take.ensures)
