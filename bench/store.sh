@@ -1,7 +1,8 @@
 #!/usr/bin/env bash
 # Measures a store that keeps a journal: the seconds of processor time to put rows in in each order of their keys,
 # to look each key up, to walk the rows, to undo 200 changes under each of some marks, and to change one row under
-# each of some marks.
+# each of some marks; then those of statements: single-row INSERTs with a CHECK, one UPDATE of all rows, a COUNT with a
+# test, and 100000 UPDATEs by key of 20000 rows, each with the numbers beside the keys as they are and UNIQUE.
 #
 #     bench/store.sh [ROWS] [MARKS] [SHORT]
 #
@@ -25,3 +26,9 @@ for measure in rising falling scattered look_up walk; do
 done
 "$program" undo $((marks / 10)) 200 20000 && "$program" undo "$marks" 200 20000 || exit 1
 "$program" marks $((short / 10)) 20000 && "$program" marks "$short" 20000 || exit 1
+for unique in "" _unique; do
+    for statement in insert update_all count; do
+        "$program" $statement$unique $((rows / 10)) && "$program" $statement$unique "$rows" || exit 1
+    done
+    "$program" update_by_key$unique 10000 20000 && "$program" update_by_key$unique 100000 20000 || exit 1
+done

@@ -2,7 +2,7 @@
 use Rattle.std.proofs.Common.{◌≡◌, ℕ, zero, suc, ◌<◌, List, [], ◌∷◌, length, ap, refl, sym, subst, ◌∙◌, arith}
 use Rattle.std.specs.Prelude.{◌≢◌, All, IfSome, Option, Some, unwrap_or, map, slice_get}
 use Rattle.std.proofs.lemmas.List.{length-map}
-use Rattle.std.proofs.lemmas.List.Elements.{All-head, All-tail}
+use Rattle.std.proofs.lemmas.List.Elements.{All-cons, All-head, All-nil, All-tail}
 use Rattle.psm_value.specs.declared.datum.Datum.{Datum}
 use Rattle.psm_value.specs.declared.datum.Datum.TheVariants.{Null}
 use Rattle.psm_value.specs.declared.sqltype.SqlType.{SqlType}
@@ -13,7 +13,7 @@ use Rattle.psm_table.specs.Table.{Contents, empty_table}
 use Rattle.psm_store.specs.Marks.{AnyMark, Keeps, defs_of}
 use Rattle.psm_store.specs.declared.store.Mark.{Mark}
 use Rattle.psm_undostore.specs.Undo.{IsHeld, Undo, stands_for, tables_of}
-use Rattle.bench_store.specs.Pairs.{HasPairs, IsPair, IsPairsTable}
+use Rattle.bench_store.specs.Pairs.{AreBare, HasPairs, IsPair, IsPairsTable}
 
 pub row_fits : (def : TableDef) (row : List Datum) → IsPairsTable def → IsPair row → IsRow def row
 row_fits def row table pair = record {
@@ -62,6 +62,9 @@ new_store d s h e = record {
   one_pair : All IsPairsTable (d ∷ [])
   one_pair zero o l = h
   one_pair (suc k) o l = let never : ⊥ = omega (arith, l) in absurd never
+
+pub new_bare : (d : TableDef) (s : Undo) → tables_of s ≡ empty_table d ∷ [] → AreBare (tables_of s)
+new_bare d s e = subst (λ (ts : List Contents). AreBare ts) (sym e) (All-cons (λ (t : Contents). t.rows ≡ []) (empty_table d) [] refl (All-nil (λ (t : Contents). t.rows ≡ [])))
 
 pub keeps_same : (a : Undo) → Keeps AnyMark (IsHeld a) (stands_for a) (IsHeld a) (stands_for a)
 keeps_same a m held any = (held, refl)

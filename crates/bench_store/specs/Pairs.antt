@@ -6,6 +6,7 @@ use Rattle.psm_value.specs.declared.sqltype.SqlType.TheVariants.{Integer}
 use Rattle.psm_table.specs.declared.definition.TableDef.{TableDef}
 use Rattle.psm_table.specs.Definition.{AreOfFamilies, kinds_of}
 use Rattle.psm_table.specs.Key.{values_at}
+use Rattle.psm_table.specs.Table.{Contents}
 use Rattle.psm_store.specs.Marks.{defs_of}
 use Rattle.psm_undostore.specs.Undo.{Undo, tables_of}
 
@@ -24,3 +25,7 @@ pub record IsPair (row : List Datum) : Type 0 where
 pub record HasPairs (s : Undo) : Type 0 where
   pub one : length (tables_of s) ≡ 1
   pub pairs : All IsPairsTable (defs_of (tables_of s))
+
+-- no table has a row
+abbrev pub AreBare : List Contents → Type 0
+AreBare tables = All (λ t. t.rows ≡ []) tables

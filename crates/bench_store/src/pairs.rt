@@ -1,23 +1,24 @@
 //! A store of one table of two numbers, of which the first is the key, and its calls.
-ghost use Rattle.std.specs.Prelude.{◌≡◌, ◌≢◌, ◌<◌, [], ◌∷◌, All, IfOk, OnOk, IfSome, length, slice_get};
+ghost use Rattle.std.specs.Prelude.{◌≡◌, ◌≢◌, ◌<◌, [], ◌∷◌, All, IfOk, OnOk, IfSome, Some, length, slice_get};
 ghost use Rattle.psm_value.specs.declared.sqltype.SqlType.TheVariants.{Integer};
 ghost use Rattle.psm_table.specs.Definition.{kinds_of, HasColumns, IsDefinition, IsKey, IsRow};
 ghost use Rattle.psm_store.specs.Marks.{AnyMark, Keeps};
 ghost use Rattle.psm_undostore.specs.Undo.{IsHeld, stands_for, tables_of};
-ghost use Rattle.bench_store.specs.Pairs.{HasPairs, IsPair, IsPairsTable};
+ghost use Rattle.bench_store.specs.Pairs.{AreBare, HasPairs, IsPair, IsPairsTable};
 
 use psm_table::{Column, Datum, Key, List, Name, Row, RowFault, SqlType, Table, TableDef};
 use psm_undostore::{Store, UndoStore};
 use psm_value::Dec;
 use std::alloc::Global;
 
-/// A store whose table has no row yet.
-#[tactic(auto, using(crate::proofs::PairsRows::new_store))]
-pub fn empty(alloc: Global) -> Result<UndoStore, RowFault>
+/// A store whose table has no row yet. The numbers beside the keys may be UNIQUE.
+#[tactic(auto, using(crate::proofs::PairsRows::new_store, crate::proofs::PairsRows::new_bare))]
+pub fn empty(alloc: Global, unique: bool) -> Result<UndoStore, RowFault>
     ensures pairs { IfOk result HasPairs }
+    ensures bare { IfOk result (λ s. AreBare (tables_of s)) }
     ensures marks { IfOk result (λ s. s.marks ≡ 0) }
 {
-    let def = definition(alloc)?;
+    let def = definition(alloc, unique)?;
     Ok(UndoStore::new(alloc, vec![in alloc; def]?)?)
 }
 
@@ -60,7 +61,8 @@ pub fn beside(store: &UndoStore, alloc: Global, key: Dec) -> Result<Option<i64>,
 #[tactic(auto, using(crate::proofs::PairsRows::table_of))]
 pub fn table(store: &UndoStore) -> &Table
     requires { HasPairs store.now }
-    ensures { IsPairsTable result.now.contents.def }
+    ensures here { slice_get (tables_of store.now) 0 ≡ Some result.now.contents }
+    ensures pairs { IsPairsTable result.now.contents.def }
 {
     store.table(0)
 }
@@ -73,14 +75,15 @@ pub fn number_in(row: &Row) -> i64 {
     }
 }
 
-fn row(alloc: Global, key: Dec, number: u32) -> Result<Row, RowFault>
+/// A row of these numbers.
+pub fn row(alloc: Global, key: Dec, number: u32) -> Result<Row, RowFault>
     ensures { IfOk result IsPair }
 {
     let number = Dec::new(i64::from(number), 0).unwrap();
     Ok(Row::of(vec![in alloc; Datum::Num(key), Datum::Num(number)]?))
 }
 
-fn definition(alloc: Global) -> Result<TableDef, RowFault>
+fn definition(alloc: Global, unique: bool) -> Result<TableDef, RowFault>
     ensures defined { IfOk result IsDefinition }
     ensures pairs { IfOk result IsPairsTable }
 {
@@ -90,8 +93,16 @@ fn definition(alloc: Global) -> Result<TableDef, RowFault>
         name: name(alloc, "pairs")?,
         columns: List::of(vec![in alloc; id, number]?),
         key: List::of(vec![in alloc; 0u32]?),
-        unique: List::of(Vec::new(alloc)),
+        unique: lists(alloc, unique)?,
     })
+}
+
+fn lists(alloc: Global, unique: bool) -> Result<List<List<u32>>, RowFault> {
+    let mut lists = Vec::new(alloc);
+    if unique {
+        lists.push(List::of(vec![in alloc; 1u32]?))?;
+    }
+    Ok(List::of(lists))
 }
 
 fn column(alloc: Global, word: &str) -> Result<Column, RowFault>

@@ -24,7 +24,7 @@ pub struct Walked {
 pub fn filled(alloc: Global, rows: u32) -> Result<UndoStore, RowFault>
     ensures { IfOk result (λ s. HasPairs s × (s.marks ≡ 0)) }
 {
-    let mut store = empty(alloc)?;
+    let mut store = empty(alloc, false)?;
     fill(&mut store, alloc, Order::Rising, rows)?;
     Ok(store)
 }

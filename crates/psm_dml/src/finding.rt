@@ -14,7 +14,7 @@ ghost use Rattle.psm_dml.specs.Suits.{SuitsTest};
 
 use psm_exprcode::{ExprCode, Operand};
 use psm_table::{Key, List, Row, Table};
-use psm_tablecode::{first, following, truth, walk_of};
+use psm_tablecode::{Coming, truth, walk_of};
 use psm_value::{Datum, Truth, ValueFault};
 use std::alloc::{AllocError, Global};
 
@@ -34,14 +34,13 @@ pub(crate) fn met_keys(
     let mut stack = Vec::new(alloc);
     let mut keys = Vec::new(alloc);
     let walk = walk_of(alloc, table, false, test, vars)?;
-    let mut next = first(table, &walk);
+    let mut coming = Coming::of(table, &walk);
     for at in 0..table.len() {
-        let Some(row) = next else {
+        let Some(row) = coming.next() else {
             break;
         };
         let key = met_key(alloc, &mut stack, table, test, row, vars)?;
         add_key(&mut keys, key)?;
-        next = following(table, &walk, row);
     }
     Ok(List::of(keys))
 }

@@ -16,7 +16,7 @@ use crate::finding::meets;
 use crate::setting::set_row;
 use psm_exprcode::{ExprCode, Operand, SetItem};
 use psm_table::{Key, List, Row, Table};
-use psm_tablecode::{first, following, walk_of};
+use psm_tablecode::{Coming, walk_of};
 use psm_value::{Datum, ValueFault};
 use std::alloc::{AllocError, Global};
 
@@ -44,14 +44,13 @@ pub(crate) fn changes(
     let mut stack = Vec::new(alloc);
     let mut changes = Vec::new(alloc);
     let walk = walk_of(alloc, table, false, test, vars)?;
-    let mut next = first(table, &walk);
+    let mut coming = Coming::of(table, &walk);
     for at in 0..table.len() {
-        let Some(row) = next else {
+        let Some(row) = coming.next() else {
             break;
         };
         let change = change_of(alloc, &mut stack, table, sets, test, row, vars)?;
         add_change(&mut changes, change)?;
-        next = following(table, &walk, row);
     }
     Ok(List::of(changes))
 }

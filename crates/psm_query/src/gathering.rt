@@ -16,7 +16,7 @@ use crate::answer::Answer;
 use crate::tally::{Tally, is_null};
 use psm_exprcode::{Aggregate, Items, Query};
 use psm_table::{Row, Table};
-use psm_tablecode::{first, following, taken, walk_of};
+use psm_tablecode::{Coming, taken, walk_of};
 use psm_value::{Datum, ValueFault};
 use std::alloc::{AllocError, Global};
 use std::marker::Model;
@@ -51,14 +51,13 @@ impl Gathering {
         let mut stack = Vec::new(alloc);
         let mut gathering = Gathering::nothing(alloc, &query.items)?;
         let walk = walk_of(alloc, table, query.downward, query.test.as_ref(), vars)?;
-        let mut next = first(table, &walk);
+        let mut coming = Coming::of(table, &walk);
         for at in 0..table.len() {
-            let Some(row) = next else {
+            let Some(row) = coming.next() else {
                 break;
             };
             let values = taken(alloc, &mut stack, query, row, vars)?;
             gathering.take(&query.items, values)?;
-            next = following(table, &walk, row);
         }
         Ok(gathering)
     }

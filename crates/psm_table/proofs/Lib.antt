@@ -9,6 +9,7 @@ pub mod Joined
 pub mod KeyLaws
 pub mod Keys
 pub mod Legal
+pub mod Lefts
 pub mod Lives
 pub mod Ordered
 pub mod Orders

@@ -4,7 +4,7 @@ use Rattle.psm_value.specs.declared.datum.Datum.{Datum}
 use Rattle.psm_table.specs.declared.map.Pair.{Pair}
 use Rattle.psm_table.specs.declared.map.Position.{Position}
 use Rattle.psm_table.specs.declared.probe.Probe.{Probe}
-use Rattle.psm_table.specs.declared.probe.Probe.TheVariants.{One, Of, In, Both}
+use Rattle.psm_table.specs.declared.probe.Probe.TheVariants.{One, Two, Of, In, Both}
 use Rattle.psm_table.specs.Key.{values_at, AreColumnsOf}
 use Rattle.psm_table.specs.Map.{pairs_below, pairs_above, pair_with}
 use Rattle.psm_table.specs.Runs.{IsIn}
@@ -12,6 +12,7 @@ use Rattle.psm_table.specs.Runs.{IsIn}
 -- the key that is looked for
 abbrev pub probe_key : Probe → List Datum
 probe_key (One value) = value.now ∷ []
+probe_key (Two first second) = first.now ∷ second.now ∷ []
 probe_key (Of key) = key.now
 probe_key (In columns row) = values_at columns.now row.now
 probe_key (Both columns key row) = values_at columns.now row.now ++ values_at key.now row.now
@@ -19,6 +20,7 @@ probe_key (Both columns key row) = values_at columns.now row.now ++ values_at ke
 -- the columns are some of the row's
 abbrev pub FitsProbe : Probe → Type 0
 FitsProbe (One value) = Unit {0}
+FitsProbe (Two first second) = Unit {0}
 FitsProbe (Of key) = Unit {0}
 FitsProbe (In columns row) = AreColumnsOf row.now columns.now
 FitsProbe (Both columns key row) = AreColumnsOf row.now columns.now × AreColumnsOf row.now key.now

@@ -2,7 +2,7 @@ ghost use Rattle.std.specs.Prelude.{◌≡◌, ◌++◌, IfOk};
 ghost use Rattle.psm_table.specs.Key.{key_order, number_of, values_at, AreColumnsOf};
 ghost use Rattle.psm_table.specs.Place.{probe_key, FitsProbe};
 
-use crate::probe::{Probe, order_of};
+use crate::probe::{Probe, order_of, order_of_two};
 use crate::row::{Row, copied};
 use psm_num::Dec;
 use psm_value::Datum;
@@ -100,6 +100,9 @@ impl Key {
     {
         match (&self.parts, probe) {
             (Parts::One([value]), Probe::One(sought)) => order_of(value, sought),
+            (Parts::Many(values), Probe::Two(first, second)) => {
+                order_of_two(values.as_slice(), first, second)
+            }
             _ => Probe::Of(self.values()).order(probe),
         }
     }

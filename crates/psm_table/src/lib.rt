@@ -12,6 +12,7 @@ mod row;
 mod run;
 mod runs;
 mod table;
+mod walk;
 
 pub use definition::{Column, TableDef};
 pub use fault::RowFault;
@@ -25,3 +26,4 @@ pub use psm_text::Name;
 pub use psm_value::{Datum, SqlType, Steps};
 pub use row::Row;
 pub use table::Table;
+pub use walk::RowsLeft;

@@ -8,6 +8,7 @@ ghost use Rattle.psm_table.specs.Place.{ahead, behind, pairs_past, pairs_short_o
 ghost use Rattle.psm_value.specs.declared.datum.Datum.{Datum};
 ghost use Rattle.psm_table.specs.declared.map.Pair.{Pair};
 ghost use Rattle.psm_table.specs.Rows.{last_of};
+ghost use Rattle.psm_table.specs.Runs.{joined};
 
 use crate::key::Key;
 use crate::probe::Probe;
@@ -140,6 +141,13 @@ impl<V: Drop> OrderedMap<V> {
             Some(pair) => Some(pair),
             None => last_before(runs, at),
         }
+    }
+
+    /// Lends the runs.
+    pub(crate) fn runs(&self) -> &[Run<V>]
+        ensures { joined result.now ≡ self.now.pairs }
+    {
+        self.runs.as_slice()
     }
 
     /// The first pair.

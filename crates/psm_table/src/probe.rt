@@ -1,5 +1,5 @@
 //! Keys that are looked for, lent from a row or a list of values.
-ghost use Rattle.std.specs.Prelude.{◌≡◌, ◌<◌, ◌++◌, length, slice_index_or};
+ghost use Rattle.std.specs.Prelude.{◌≡◌, ◌<◌, ◌++◌, ◌∷◌, [], length, slice_index_or};
 ghost use Rattle.psm_value.specs.declared.datum.Datum.TheVariants.{Null};
 ghost use Rattle.psm_num.specs.Order.{order};
 ghost use Rattle.psm_value.specs.Order.{data_order};
@@ -16,6 +16,8 @@ use std::cmp::Ordering;
 pub(crate) enum Probe<'a> {
     /// One value.
     One(&'a Datum),
+    /// Two values.
+    Two(&'a Datum, &'a Datum),
     /// These values.
     Of(&'a [Datum]),
     /// The values of a row in some columns.
@@ -32,7 +34,7 @@ pub(crate) enum Probe<'a> {
 }
 
 impl<'a> Probe<'a> {
-    /// The same values; a single one is lent by itself.
+    /// The same values; one or two are lent by themselves.
     pub(crate) fn narrowed(self) -> Probe<'a>
         requires { FitsProbe self }
         ensures key { probe_key result ≡ probe_key self.entry }
@@ -40,10 +42,16 @@ impl<'a> Probe<'a> {
     {
         match self {
             Probe::Of([value]) => Probe::One(value),
+            Probe::Of([first, second]) => Probe::Two(first, second),
             Probe::In {
                 columns: [column],
                 row,
             } => Probe::One(&row[*column as usize]),
+            Probe::Both {
+                columns: [column],
+                key: [key],
+                row,
+            } => Probe::Two(&row[*column as usize], &row[*key as usize]),
             _ => self,
         }
     }
@@ -54,6 +62,7 @@ impl<'a> Probe<'a> {
     {
         match self {
             Probe::One(_) => 1,
+            Probe::Two(_, _) => 2,
             Probe::Of(values) => values.len(),
             Probe::In { columns, .. } => columns.len(),
             Probe::Both { columns, key, .. } => columns.len() + key.len(),
@@ -68,6 +77,7 @@ impl<'a> Probe<'a> {
     {
         match self {
             Probe::One(value) => value,
+            Probe::Two(first, second) => { if i == 0 { first } else { second } }
             Probe::Of(values) => &values[i],
             Probe::In { columns, row } => &row[columns[i] as usize],
             Probe::Both { columns, key, row } => {
@@ -118,10 +128,28 @@ pub(crate) fn order_of_numbers(a: Dec, b: Dec) -> Ordering
     }
 }
 
+/// The order of a key of two values and two others.
+#[tactic(auto, using(crate::proofs::Orders::order_unequal, crate::proofs::Orders::order_equal))]
+pub(crate) fn order_of_two(key: &[Datum], first: &Datum, second: &Datum) -> Ordering
+    ensures { result ≡ key_order key.now (first.now ∷ second.now ∷ []) }
+{
+    match key {
+        [a, b] => match order_of(a, first) {
+            Ordering::Equal => order_of(b, second),
+            unequal => unequal,
+        },
+        _ => Probe::Of(key).order(Probe::Two(first, second)),
+    }
+}
+
 /// The order of the beginning of a key, as long as what it is compared with, and that.
 pub(crate) fn order_of_prefix(key: &[Datum], probe: Probe<'_>) -> Ordering
     requires { FitsProbe probe }
     ensures { result ≡ prefix_order (probe_key probe.entry) key.now }
 {
-    Probe::Of(&key[..key.len().min(probe.len())]).order(probe)
+    let sought = probe.narrowed();
+    match (key, sought) {
+        ([first, ..], Probe::One(value)) => order_of(first, value),
+        _ => Probe::Of(&key[..key.len().min(sought.len())]).order(sought),
+    }
 }

@@ -127,6 +127,13 @@ impl<V: Drop> Run<V> {
         self.pairs[..smaller].last()
     }
 
+    /// Lends the pairs.
+    pub(crate) fn pairs(&self) -> &[Pair<V>]
+        ensures { result.now ≡ self.now }
+    {
+        self.pairs.as_slice()
+    }
+
     /// The first pair.
     pub(crate) fn first(&self) -> Option<&Pair<V>>
         ensures { option_copied result ≡ slice_get self.now 0 }

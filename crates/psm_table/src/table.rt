@@ -3,6 +3,7 @@ ghost use Rattle.std.specs.Option.{option_copied, ForSome};
 ghost use Rattle.psm_table.specs.Definition.{IsDefinition, IsRow, IsKey, HasColumns};
 ghost use Rattle.psm_table.specs.Held.{entries_of};
 ghost use Rattle.psm_table.specs.Key.{values_at};
+ghost use Rattle.psm_table.specs.Queries.{in_walk};
 ghost use Rattle.psm_table.specs.Rows.{row_after, row_before};
 ghost use Rattle.psm_table.specs.State.{has_key, IsTidy, Inserts, Changes, KeepsRow, StillKeeps};
 ghost use Rattle.psm_table.specs.Table.{IsTable, empty_table, keyed, most_rows, namesake, with_row, without_row};
@@ -15,6 +16,7 @@ use crate::key::Key;
 use crate::map::{HasRow, OrderedMap};
 use crate::probe::Probe;
 use crate::row::Row;
+use crate::walk::RowsLeft;
 use psm_value::Steps;
 use std::alloc::{AllocError, Global};
 use std::marker::Model;
@@ -302,6 +304,14 @@ impl Table {
             columns: self.def.key.items(),
             row: row.values(),
         }))
+    }
+
+    /// A walk over the rows in ascending order of their keys; downward, in descending order. It goes on without a search.
+    pub fn rows(&self, downward: bool) -> RowsLeft<'_>
+        ensures rows { result ≡ in_walk downward self.now.contents.rows }
+        ensures table { IsTable self.now.contents }
+    {
+        RowsLeft::all(&self.rows, downward)
     }
 
     /// Whether a row with another key agrees with the row in a UNIQUE list in which neither has a null

@@ -1,6 +1,6 @@
 -- A walk over the row of the key for which a test asks takes what a walk over all rows takes.
-use Rattle.std.proofs.Common.{◌≡◌, ℕ, suc, ◌+◌, ◌≤◌, Bool, true, false, List, [], ◌∷◌, length, refl, ap, sym, ◌∙◌, arith, Option, Some, None, Result, Ok}
-use Rattle.std.specs.Prelude.{cond, filter, find, reverse, slice_get, if◌then◌else◌}
+use Rattle.std.proofs.Common.{◌≡◌, ℕ, ◌≤◌, Bool, true, false, List, [], ◌∷◌, length, refl, ap, sym, ◌∙◌, arith, Option, Some, None, Result, Ok}
+use Rattle.std.specs.Prelude.{cond, filter, find, reverse, if◌then◌else◌}
 use Rattle.std.specs.List.{cons_option}
 use Rattle.std.specs.Ordering.{is_eq}
 use Rattle.std.specs.declared.cmp.Ordering.{Ordering}
@@ -15,13 +15,13 @@ use Rattle.psm_table.specs.Evaluator.{and_then, mapped, test_of}
 use Rattle.psm_table.specs.Key.{key_order, row_order, values_at}
 use Rattle.psm_table.specs.Queries.{in_walk, is_met, taken, walked}
 use Rattle.psm_table.specs.Rows.{row_with, IsAscending}
-use Rattle.psm_table.specs.Table.{keyed, Contents}
+use Rattle.psm_table.specs.Table.{Contents}
 use Rattle.psm_table.proofs.Filters.{AllPairs-rest, filter-empty}
 use Rattle.psm_table.proofs.Undo.{after_equal}
 use Rattle.psm_tablecode.specs.Asked.{key_asked, rows_from, rows_of, walk_for}
 use Rattle.psm_tablecode.specs.Codes.{over}
 use Rattle.psm_tablecode.specs.declared.walking.Walk.{Walk}
-use Rattle.psm_tablecode.proofs.Follows.{filter-reverse}
+use Rattle.psm_tablecode.proofs.Turned.{filter-reverse}
 use Rattle.psm_tablecode.proofs.Results.{mapped-same}
 use Rattle.psm_tablecode.proofs.Sought.{asked_only, asked_quiet}
 
@@ -111,21 +111,3 @@ from_few t downward (Some key) = find_few (λ row. is_eq (row_order t.def.key ke
 
 pub rows_few : (t : Contents) (walk : Walk) → length (rows_of t walk) ≤ length t.rows
 rows_few t walk = from_few t walk.downward walk.key
-
--- ---- the row of a key
-
-first_one : (o : Option (List Datum)) → slice_get (cons_option o []) 0 ≡ o
-first_one None = refl
-first_one (Some row) = refl
-
-none_behind : (o : Option (List Datum)) (at : ℕ) (row : List Datum) → slice_get (cons_option o []) at ≡ Some row → slice_get (cons_option o []) (at + 1) ≡ None
-none_behind None at row e = refl
-none_behind (Some r) at row e = let n : at + 1 ≡ suc at = omega arith in ap (slice_get (r ∷ [])) n
-
-pub key_first : (t : Contents) (walk : Walk) (key : List Datum) → walk.key ≡ Some key → slice_get (rows_of t walk) 0 ≡ keyed t key
-key_first t walk key e = ap (λ (o : Option (List Datum)). slice_get (rows_from t walk.downward o) 0) e ∙ first_one (keyed t key)
-
-pub key_last : (t : Contents) (walk : Walk) (key row : List Datum) (at : ℕ) → walk.key ≡ Some key → slice_get (rows_of t walk) at ≡ Some row → slice_get (rows_of t walk) (at + 1) ≡ None
-key_last t walk key row at e h =
-    ap (λ (o : Option (List Datum)). slice_get (rows_from t walk.downward o) (at + 1)) e
-    ∙ none_behind (keyed t key) at row (sym (ap (λ (o : Option (List Datum)). slice_get (rows_from t walk.downward o) at) e) ∙ h)

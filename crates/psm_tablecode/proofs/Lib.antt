@@ -1,9 +1,10 @@
 pub mod Collecting
+pub mod Comings
 pub mod Conjunctions
 pub mod Faults
 pub mod Fitting
-pub mod Follows
 pub mod KeyWalks
 pub mod Results
 pub mod Sought
+pub mod Turned
 pub mod Windows

@@ -1,5 +1,6 @@
 pub mod Asked
 pub mod Codes
+pub mod Coming
 pub mod Faults
 pub mod NewRows
 pub mod Rows

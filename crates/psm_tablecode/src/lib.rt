@@ -15,4 +15,4 @@ pub use psm_cond::DataFault;
 pub use psm_exprcode::{Aggregate, ExprCode, Items, Operand, Query, SetFunction};
 pub use raising::raised;
 pub use suiting::{column_letters, gives_truth, gives_value, suits};
-pub use walking::{Walk, first, following, walk_of};
+pub use walking::{Coming, Walk, walk_of};

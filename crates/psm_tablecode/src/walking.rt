@@ -1,14 +1,14 @@
 //! Walks over the rows of a table in the order of their keys, or against it.
-ghost use Rattle.std.specs.Prelude.{◌≡◌, ◌+◌, ℕ, slice_get, IfOk, IfSome, Some};
+ghost use Rattle.std.specs.Prelude.{◌≡◌, ◌∷◌, [], All, IfOk, IfSome, MatchOption};
 ghost use Rattle.std.specs.Option.{option_copied};
 ghost use Rattle.psm_table.specs.Definition.{IsKey, IsRow};
-ghost use Rattle.psm_table.specs.Queries.{in_walk};
 ghost use Rattle.psm_table.specs.Table.{IsTable};
 ghost use Rattle.psm_tablecode.specs.Asked.{rows_of, walk_for};
+ghost use Rattle.psm_tablecode.specs.Coming.{rows_coming};
 
 use crate::asking::key_asked;
 use psm_exprcode::ExprCode;
-use psm_table::{Key, Row, Table};
+use psm_table::{Key, Row, RowsLeft, Table};
 use psm_value::Datum;
 use std::alloc::{AllocError, Global};
 
@@ -40,53 +40,38 @@ pub fn walk_of(
     Ok(Walk { downward, key })
 }
 
-/// The first row of a walk. It takes no memory.
-pub fn first<'a>(table: &'a Table, walk: &Walk) -> Option<&'a Row>
-    requires { IfSome walk.now.key (IsKey table.now.contents.def) }
-    ensures here { option_copied result ≡ slice_get (rows_of table.now.contents walk.now) 0 }
-    ensures fits { IfSome result (λ row. IsRow table.now.contents.def row.now) }
-{
-    match &walk.key {
-        Some(key) => table.get(key),
-        None => outermost(table, walk.downward),
-    }
+/// The rows of a walk that are still to come, in order.
+#[derive(Drop)]
+pub enum Coming<'a> {
+    /// At most one row.
+    One(Option<&'a Row>),
+    /// Rows of a table.
+    All(RowsLeft<'a>),
 }
 
-/// The row that follows a row of a walk in it. It takes no memory, and copies no key.
-pub fn following<'a>(table: &'a Table, walk: &Walk, row: &Row) -> Option<&'a Row>
-    requires { IsRow table.now.contents.def row.now }
-    ensures here { (at : ℕ) → slice_get (rows_of table.now.contents walk.now) at ≡ Some row.now → option_copied result ≡ slice_get (rows_of table.now.contents walk.now) (at + 1) }
-    ensures fits { IfSome result (λ row. IsRow table.now.contents.def row.now) }
-{
-    match &walk.key {
-        Some(_) => None,
-        None => beyond(table, walk.downward, row),
+impl<'a> Coming<'a> {
+    /// All rows of a walk over a table. It takes no memory.
+    #[tactic(auto, using(crate::proofs::Comings::of_key, crate::proofs::Comings::of_all, crate::proofs::Comings::coming_fit))]
+    pub fn of(table: &'a Table, walk: &Walk) -> Coming<'a>
+        requires { IfSome walk.now.key (IsKey table.now.contents.def) }
+        ensures rows { rows_coming result ≡ rows_of table.now.contents walk.now }
+        ensures fit { All (IsRow table.now.contents.def) (rows_of table.now.contents walk.now) }
+    {
+        ascends(table);
+        match &walk.key {
+            Some(key) => Coming::One(table.get(key)),
+            None => Coming::All(table.rows(walk.downward)),
+        }
     }
-}
 
-// The first row of all; downward, the last one.
-fn outermost(table: &Table, downward: bool) -> Option<&Row>
-    ensures here { option_copied result ≡ slice_get (in_walk downward table.now.contents.rows) 0 }
-    ensures fits { IfSome result (λ row. IsRow table.now.contents.def row.now) }
-{
-    if downward {
-        table.prev_before(None)
-    } else {
-        table.next_after(None)
-    }
-}
-
-// The row behind a row of the table; downward, the one before it.
-fn beyond<'a>(table: &'a Table, downward: bool, row: &Row) -> Option<&'a Row>
-    requires { IsRow table.now.contents.def row.now }
-    ensures here { (at : ℕ) → slice_get (in_walk downward table.now.contents.rows) at ≡ Some row.now → option_copied result ≡ slice_get (in_walk downward table.now.contents.rows) (at + 1) }
-    ensures fits { IfSome result (λ row. IsRow table.now.contents.def row.now) }
-{
-    ascends(table);
-    if downward {
-        table.row_before_row(row)
-    } else {
-        table.row_behind(row)
+    /// The next row. It takes no memory, and searches for none.
+    pub fn next(&mut self) -> Option<&'a Row>
+        ensures { MatchOption result (rows_coming self.old ≡ []) (λ row. rows_coming self.old ≡ row.now ∷ rows_coming self.new) }
+    {
+        match self {
+            Coming::One(row) => row.take(),
+            Coming::All(rows) => rows.next(),
+        }
     }
 }
 

@@ -1,5 +1,5 @@
 use Rattle.std.proofs.Common.{◌≡◌, ◌≤◌, List, length, Some, None, false, Ok, Err, ap, sym, subst, ◌∙◌, arith}
-use Rattle.std.specs.Prelude.{slice_get, IfSome}
+use Rattle.std.specs.Prelude.{slice_get}
 use Rattle.std.specs.Option.{option_copied}
 use Rattle.std.proofs.lemmas.Option.{slice_get_past}
 use Rattle.std.proofs.lemmas.Result.{err_from_is_err_and}
@@ -8,7 +8,9 @@ use Rattle.psm_table.specs.Definition.{IsRow}
 use Rattle.psm_table.specs.Evaluator.{test_of}
 use Rattle.psm_tablecode.specs.Asked.{rows_of}
 use Rattle.psm_tablecode.specs.Codes.{over}
+use Rattle.psm_tablecode.specs.Coming.{rows_coming}
 use Rattle.psm_tablecode.specs.Suits.{letters_of}
+use Rattle.psm_tablecode.proofs.Comings.{coming_here, coming_none, coming_rest, get_all}
 use Rattle.psm_tablecode.proofs.KeyWalks.{rows_few, walked_by}
 use Rattle.psm_tablecode.proofs.Results.{gives_by}
 use Rattle.psm_tablecode.proofs.Fitting.{row_letters, test_runs}
@@ -18,21 +20,28 @@ use Rattle.psm_dml.proofs.Walked.{walks_end, walks_fault, walks_next}
 use Rattle.psm_dml.proofs.planning.changes.Goals as goal
 use Rattle.psm_dml.proofs.planning.changes.Goals.{else-loop-at-test, then-loop-at-test+in_default}
 
+pub change_of-requires-clause-row : goal.change_of-requires-clause-row
+change_of-requires-clause-row c =
+    get_all (IsRow c.args.table.now.contents.def) (rows_of c.args.table.now.contents c.in_ok-walk.walk) c.loop-at.at c.in-Some.row.now c.of-coming.ensures.fit
+    (coming_here (rows_of c.args.table.now.contents c.in_ok-walk.walk) c.loop-at.at c.in-Some.row.now (rows_coming c.next.new.self) (c.loop-at.invariant.left ∙ c.in-Some.ensures))
+
 pub change_of-requires-clause-runs : goal.change_of-requires-clause-runs
 change_of-requires-clause-runs c =
-    let fits : IsRow c.args.table.now.contents.def c.in-Some.row.now = subst (λ o. IfSome o (λ r. IsRow c.args.table.now.contents.def r.now)) c.in-Some.is c.loop-at.invariant.fits in
+    let fits : IsRow c.args.table.now.contents.def c.in-Some.row.now = get_all (IsRow c.args.table.now.contents.def) (rows_of c.args.table.now.contents c.in_ok-walk.walk) c.loop-at.at c.in-Some.row.now c.of-coming.ensures.fit
+    (coming_here (rows_of c.args.table.now.contents c.in_ok-walk.walk) c.loop-at.at c.in-Some.row.now (rows_coming c.next.new.self) (c.loop-at.invariant.left ∙ c.in-Some.ensures)) in
     test_runs (letters_of c.args.table.now.contents.def) c.requires.test.variables c.in-Some.row.now c.args.vars.now (row_letters c.args.table.now.contents.def c.in-Some.row.now fits) c.requires.test.kinds
     (option_copied c.args.test) c.requires.test.fits
 
 pub change_of-requires-clause-sets : goal.change_of-requires-clause-sets
 change_of-requires-clause-sets c =
-    let fits : IsRow c.args.table.now.contents.def c.in-Some.row.now = subst (λ o. IfSome o (λ r. IsRow c.args.table.now.contents.def r.now)) c.in-Some.is c.loop-at.invariant.fits in
+    let fits : IsRow c.args.table.now.contents.def c.in-Some.row.now = get_all (IsRow c.args.table.now.contents.def) (rows_of c.args.table.now.contents c.in_ok-walk.walk) c.loop-at.at c.in-Some.row.now c.of-coming.ensures.fit
+    (coming_here (rows_of c.args.table.now.contents c.in_ok-walk.walk) c.loop-at.at c.in-Some.row.now (rows_coming c.next.new.self) (c.loop-at.invariant.left ∙ c.in-Some.ensures)) in
     assign c.args.sets.now c.args.vars.now c.args.table.now.contents.def c.in-Some.row.now c.requires.sets fits
 
 pub returns-in_err-change-clause-changes : goal.returns-in_err-change-clause-changes
 returns-in_err-change-clause-changes c =
     let rows : List (List Datum) = rows_of c.args.table.now.contents c.in_ok-walk.walk in
-    let here : slice_get rows c.loop-at.at ≡ Some c.in-Some.row.now = sym c.loop-at.invariant.here ∙ ap option_copied c.in-Some.is in
+    let here : slice_get rows c.loop-at.at ≡ Some c.in-Some.row.now = coming_here rows c.loop-at.at c.in-Some.row.now (rows_coming c.next.new.self) (c.loop-at.invariant.left ∙ c.in-Some.ensures) in
     let p = err_from_is_err_and c.from_residual-in_err-change.result c.from_residual-in_err-change.ensures.1 in
     let all = walked_by c.args.table.now.contents c.args.vars.now (option_copied c.args.test) (changing c.args.table.now.contents.def.key (row_set c.args.vars.now c.args.table.now.contents.def c.args.sets.now)) c.in_ok-walk.ensures.table.ascend false c.in_ok-walk.walk c.in_ok-walk.ensures.walk in
     rw (p.1, p.2) (gives_by (_) (_) (Err c.in_err-change.field-0.0) (sym all) (walks_fault (test_of (over c.args.vars.now) (option_copied c.args.test)) (changing c.args.table.now.contents.def.key (row_set c.args.vars.now c.args.table.now.contents.def c.args.sets.now)) rows
@@ -41,10 +50,9 @@ returns-in_err-change-clause-changes c =
 pub loop-at-preserved : goal.loop-at-preserved
 loop-at-preserved c =
     let rows : List (List Datum) = rows_of c.args.table.now.contents c.in_ok-walk.walk in
-    let here : slice_get rows c.loop-at.at ≡ Some c.in-Some.row.now = sym c.loop-at.invariant.here ∙ ap option_copied c.in-Some.is in
+    let here : slice_get rows c.loop-at.at ≡ Some c.in-Some.row.now = coming_here rows c.loop-at.at c.in-Some.row.now (rows_coming c.next.new.self) (c.loop-at.invariant.left ∙ c.in-Some.ensures) in
     record {
-      here = c.following-next.ensures.here c.loop-at.at here;
-      fits = c.following-next.ensures.fits;
+      left = coming_rest rows c.loop-at.at c.in-Some.row.now (rows_coming c.next.new.self) (c.loop-at.invariant.left ∙ c.in-Some.ensures);
       so_far = walks_next (test_of (over c.args.vars.now) (option_copied c.args.test)) (changing c.args.table.now.contents.def.key (row_set c.args.vars.now c.args.table.now.contents.def c.args.sets.now)) rows
           c.loop-at.at c.in-Some.row.now c.in_ok-change.change c.loop-at.changes.items c.add_change.new.changes.items here c.in_ok-change.ensures c.in_ok-add_change.ensures c.loop-at.invariant.so_far;
     }
@@ -54,7 +62,7 @@ returns-clause-changes c =
     let rows : List (List Datum) = rows_of c.args.table.now.contents c.in_ok-walk.walk in
     let none : slice_get rows c.loop-at.at ≡ None = elim c.loop-at-test.branch [
       | else-loop-at-test w ↦ let past : length rows ≤ c.loop-at.at = omega (arith, rows_few c.args.table.now.contents c.in_ok-walk.walk, w.loop-at-test.false, c.len-at-end.ensures.value) in slice_get_past rows c.loop-at.at past
-      | then-loop-at-test+in_default w ↦ sym c.loop-at.invariant.here ∙ ap option_copied w.in_default.is
+      | then-loop-at-test+in_default w ↦ coming_none rows c.loop-at.at (c.loop-at.invariant.left ∙ w.in_default.ensures)
     ] in
     let all = walked_by c.args.table.now.contents c.args.vars.now (option_copied c.args.test) (changing c.args.table.now.contents.def.key (row_set c.args.vars.now c.args.table.now.contents.def c.args.sets.now)) c.in_ok-walk.ensures.table.ascend false c.in_ok-walk.walk c.in_ok-walk.ensures.walk in
     sym all

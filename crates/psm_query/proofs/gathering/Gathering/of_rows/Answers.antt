@@ -1,6 +1,5 @@
 use Rattle.std.proofs.Common.{◌≡◌, ◌+◌, ◌≤◌, List, length, Some, None, Err, ap, sym, subst, ◌∙◌, arith}
-use Rattle.std.specs.Prelude.{slice_get, IfSome}
-use Rattle.std.specs.Option.{option_copied}
+use Rattle.std.specs.Prelude.{slice_get}
 use Rattle.std.proofs.lemmas.Option.{slice_get_past}
 use Rattle.std.proofs.lemmas.Result.{err_from_is_err_and}
 use Rattle.psm_value.specs.declared.datum.Datum.{Datum}
@@ -9,8 +8,10 @@ use Rattle.psm_table.specs.Evaluator.{mapped, test_of}
 use Rattle.psm_table.specs.Queries.{walked}
 use Rattle.psm_tablecode.specs.Asked.{rows_of, walk_for}
 use Rattle.psm_tablecode.specs.Codes.{over}
+use Rattle.psm_tablecode.specs.Coming.{rows_coming}
 use Rattle.psm_query.specs.Gathered.{Gathered, nothing, with_rows, AreUpTo}
 use Rattle.psm_tablecode.specs.Rows.{values_for}
+use Rattle.psm_tablecode.proofs.Comings.{coming_here, coming_none, coming_rest, get_all}
 use Rattle.psm_tablecode.proofs.Results.{gives_by}
 use Rattle.psm_tablecode.proofs.KeyWalks.{rows_few, walked_by}
 use Rattle.psm_tablecode.proofs.Fitting.{suits_row}
@@ -22,8 +23,7 @@ pub loop-at-init : goal.loop-at-init
 loop-at-init c =
     let order : List (List Datum) = rows_of c.args.table.now.contents c.in_ok-walk.walk in
     record {
-      here = c.first-next.ensures.here;
-      fits = c.first-next.ensures.fits;
+      left = sym c.of-coming.ensures.rows;
       so_far = ap (λ (g : Gathered). mapped (with_rows c.args.query.now.items g) (walked (test_of (over c.args.vars.now) c.args.query.now.test) (values_for c.args.vars.now c.args.query.now.items) order)) c.in_ok-gathering.ensures;
       counts = subst (λ (g : Gathered). AreUpTo 0 g.tallies) (sym c.in_ok-gathering.ensures) (up_to_nothing c.args.query.now.items);
     }
@@ -31,12 +31,13 @@ loop-at-init c =
 pub taken-requires : goal.taken-requires
 taken-requires c =
     suits_row c.args.query.now c.args.vars.now c.args.table.now.contents.def c.in-Some.row.now c.requires
-    (subst (λ o. IfSome o (λ r. IsRow c.args.table.now.contents.def r.now)) c.in-Some.is c.loop-at.invariant.fits)
+    (get_all (IsRow c.args.table.now.contents.def) (rows_of c.args.table.now.contents c.in_ok-walk.walk) c.loop-at.at c.in-Some.row.now c.of-coming.ensures.fit
+    (coming_here (rows_of c.args.table.now.contents c.in_ok-walk.walk) c.loop-at.at c.in-Some.row.now (rows_coming c.next.new.self) (c.loop-at.invariant.left ∙ c.in-Some.ensures)))
 
 pub returns-in_err-values : goal.returns-in_err-values
 returns-in_err-values c =
     let order : List (List Datum) = rows_of c.args.table.now.contents c.in_ok-walk.walk in
-    let here : slice_get order c.loop-at.at ≡ Some c.in-Some.row.now = sym c.loop-at.invariant.here ∙ ap option_copied c.in-Some.is in
+    let here : slice_get order c.loop-at.at ≡ Some c.in-Some.row.now = coming_here order c.loop-at.at c.in-Some.row.now (rows_coming c.next.new.self) (c.loop-at.invariant.left ∙ c.in-Some.ensures) in
     let p = err_from_is_err_and c.from_residual-in_err-values.result c.from_residual-in_err-values.ensures.1 in
     let same : c.in_ok-walk.walk ≡ walk_for c.args.table.now.contents c.args.query.now.downward c.args.vars.now c.args.query.now.test = c.in_ok-walk.ensures.walk ∙ ap (walk_for c.args.table.now.contents c.args.query.now.downward c.args.vars.now) c.as_ref.ensures.value in
     let all = walked_by c.args.table.now.contents c.args.vars.now c.args.query.now.test (values_for c.args.vars.now c.args.query.now.items) c.in_ok-walk.ensures.table.ascend c.args.query.now.downward c.in_ok-walk.walk same in
@@ -47,10 +48,9 @@ returns-in_err-values c =
 pub loop-at-preserved : goal.loop-at-preserved
 loop-at-preserved c =
     let order : List (List Datum) = rows_of c.args.table.now.contents c.in_ok-walk.walk in
-    let here : slice_get order c.loop-at.at ≡ Some c.in-Some.row.now = sym c.loop-at.invariant.here ∙ ap option_copied c.in-Some.is in
+    let here : slice_get order c.loop-at.at ≡ Some c.in-Some.row.now = coming_here order c.loop-at.at c.in-Some.row.now (rows_coming c.next.new.self) (c.loop-at.invariant.left ∙ c.in-Some.ensures) in
     record {
-      here = c.following-next.ensures.here c.loop-at.at here;
-      fits = c.following-next.ensures.fits;
+      left = coming_rest order c.loop-at.at c.in-Some.row.now (rows_coming c.next.new.self) (c.loop-at.invariant.left ∙ c.in-Some.ensures);
       so_far = goes_next c.args.query.now.items (nothing c.args.query.now.items) (test_of (over c.args.vars.now) c.args.query.now.test) (values_for c.args.vars.now c.args.query.now.items) order
           c.loop-at.at c.in-Some.row.now c.in_ok-values.values c.loop-at.gathering c.take.new.self here c.in_ok-values.ensures c.in_ok-take.ensures c.loop-at.invariant.so_far;
       counts = subst (λ (g : Gathered). AreUpTo (c.loop-at.at + 1) g.tallies) (sym c.in_ok-take.ensures)
@@ -63,7 +63,7 @@ returns c =
     let few : length order ≤ length c.args.table.now.contents.rows = rows_few c.args.table.now.contents c.in_ok-walk.walk in
     let none : slice_get order c.loop-at.at ≡ None = elim c.loop-at-test.branch [
       | else-loop-at-test w ↦ let past : length order ≤ c.loop-at.at = omega (arith, few, w.loop-at-test.false, c.len-at-end.ensures.value) in slice_get_past order c.loop-at.at past
-      | then-loop-at-test+in_default w ↦ sym c.loop-at.invariant.here ∙ ap option_copied w.in_default.is
+      | then-loop-at-test+in_default w ↦ coming_none order c.loop-at.at (c.loop-at.invariant.left ∙ w.in_default.ensures)
     ] in
     let same : c.in_ok-walk.walk ≡ walk_for c.args.table.now.contents c.args.query.now.downward c.args.vars.now c.args.query.now.test = c.in_ok-walk.ensures.walk ∙ ap (walk_for c.args.table.now.contents c.args.query.now.downward c.args.vars.now) c.as_ref.ensures.value in
     let all = walked_by c.args.table.now.contents c.args.vars.now c.args.query.now.test (values_for c.args.vars.now c.args.query.now.items) c.in_ok-walk.ensures.table.ascend c.args.query.now.downward c.in_ok-walk.walk same in

@@ -1,10 +1,8 @@
-use Rattle.std.proofs.Common.{◌≡◌}
-use Rattle.std.specs.Prelude.{IfSome, slice_get}
-use Rattle.std.specs.Option.{option_copied}
-use Rattle.psm_table.specs.Definition.{IsRow}
+use Rattle.std.proofs.Common.{◌≡◌, drop}
 use Rattle.psm_table.specs.Evaluator.{test_of}
 use Rattle.psm_tablecode.specs.Asked.{rows_of}
 use Rattle.psm_tablecode.specs.Codes.{over}
+use Rattle.psm_tablecode.specs.Coming.{rows_coming}
 use Rattle.psm_query.specs.Gathered.{nothing, AreUpTo}
 use Rattle.psm_tablecode.specs.Rows.{values_for}
 use Rattle.psm_query.proofs.Goes.{Goes}
@@ -12,8 +10,7 @@ use Rattle.psm_query.proofs.gathering.Gathering.of_rows.Given as goal
 
 abbrev pub invariant-loop-at : goal.invariant-loop-at
 invariant-loop-at l = record {
-  here : option_copied l.next ≡ slice_get (rows_of l.table.contents l.walk) l.at;
-  fits : IfSome l.next (λ row. IsRow l.table.contents.def row.now);
+  left : drop l.at (rows_of l.table.contents l.walk) ≡ rows_coming l.coming;
   so_far : Goes l.query.items (nothing l.query.items) (test_of (over l.vars) l.query.test) (values_for l.vars l.query.items) (rows_of l.table.contents l.walk) l.at l.gathering;
   counts : AreUpTo l.at l.gathering.tallies;
 }
