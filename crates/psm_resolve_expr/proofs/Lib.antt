@@ -1,2 +1,6 @@
 pub mod Equations
 pub mod Joined
+pub mod Scales
+pub mod Wholes
+pub mod ScaledForms
+pub mod Scaled

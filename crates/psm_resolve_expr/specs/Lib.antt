@@ -3,3 +3,4 @@ pub mod Made
 pub mod Exprs
 pub mod Parts
 pub mod Seen
+pub mod Scales

@@ -4,6 +4,7 @@
 
 mod exprs;
 mod forms;
+mod laws;
 mod made;
 mod operators;
 mod parts;
@@ -12,5 +13,6 @@ mod shapes;
 mod sight;
 
 pub use exprs::{made_of, query_made};
+pub use laws::numbers_have_the_scale_of_their_shape;
 pub use made::{Made, MadeQuery};
 pub use sight::{Frames, Sight, on_row};
