@@ -13,4 +13,4 @@ mod sight;
 
 pub use exprs::{made_of, query_made};
 pub use made::{Made, MadeQuery};
-pub use sight::{Frames, Sight, on_row};
+pub use sight::{Frames, Sight, name_in, on_row, table_columns, table_number};
