@@ -40,7 +40,7 @@ pub fn on_row<'v, 'a>(sight: Sight<'v, 'a>, row: RowTable<'v, 'a>) -> Sight<'v, 
 // ---- columns and variables
 
 /// What a name means, if it means anything: on a row the table's columns come first.
-pub(crate) fn name_in(sight: Sight, target: &Target) -> Option<Meant>
+pub fn name_in(sight: Sight, target: &Target) -> Option<Meant>
     ensures { option_map meaning_of result ≡ name_in (seen_at sight.entry) target.now }
 {
     let second = spelling(&target.second);
@@ -100,7 +100,7 @@ fn column_named(columns: Option<&Columns>, name: &Name) -> Option<(u32, Option<S
 // ---- tables
 
 /// The number of a table.
-pub(crate) fn table_number(sight: Sight, table: &Name) -> u32
+pub fn table_number(sight: Sight, table: &Name) -> u32
     ensures { result ≡ number_of (table_at (seen_at sight.entry) table.now) }
 {
     let world = sight.world;
@@ -111,7 +111,7 @@ pub(crate) fn table_number(sight: Sight, table: &Name) -> u32
 }
 
 /// The columns of a table.
-pub(crate) fn table_columns<'v, 'a>(sight: Sight<'v, 'a>, table: &Name) -> Option<&'v Columns<'a>>
+pub fn table_columns<'v, 'a>(sight: Sight<'v, 'a>, table: &Name) -> Option<&'v Columns<'a>>
     ensures { columns_known (option_copied result) ≡ columns_in (table_at (seen_at sight.entry) table.now) }
 {
     let world = sight.world;

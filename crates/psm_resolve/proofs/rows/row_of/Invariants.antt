@@ -1,0 +1,8 @@
+use Rattle.std.proofs.Common.{◌≡◌, ◌++◌, drop, map}
+use Rattle.psm_rules.specs.StatementFaults.{several}
+use Rattle.psm_resolve_expr.specs.Seen.{seen_at}
+use Rattle.psm_resolve.specs.Statements.{expr_at, row_of}
+use Rattle.psm_resolve.proofs.rows.row_of.Given as goal
+
+abbrev pub invariant-loop-e : goal.invariant-loop-e
+invariant-loop-e l = l.made.items ++ map (expr_at (seen_at l.sight)) (drop l.e-index l.row.values.rest) ≡ row_of (seen_at l.sight) l.row

@@ -1,0 +1,220 @@
+-- The module file without names that stands for one: its tables, and its routines, with the types of their slots.
+use Rattle.std.specs.Prelude.{ℕ, suc, Bool, true, false, not, ◌||◌, Option, Some, None, Result, Ok, Err, List, [], ◌∷◌, ◌++◌, map, nat_eq, option_map, if◌then◌else◌}
+use Rattle.std.specs.List.{list_any}
+use Rattle.psm_list.specs.Several.{Several}
+use Rattle.psm_value.specs.declared.datum.Datum.{Datum}
+use Rattle.psm_value.specs.declared.datum.Datum.TheVariants as data_of
+use Rattle.psm_value.specs.declared.sqltype.SqlType.{SqlType}
+use Rattle.psm_value.specs.Stored.{stored}
+use Rattle.psm_scope.specs.Frames.{Spelling, undeclared}
+use Rattle.psm_scope.specs.Frames as frame
+use Rattle.psm_scope.specs.Lookup.{or_else}
+use Rattle.psm_scope.specs.declared.known.Variable.{Variable}
+use Rattle.psm_rules.specs.View.{World, Columns}
+use Rattle.psm_rules.specs.FileFaults.{no_world, datum_of, columns_of, table_elements, is_in}
+use Rattle.psm_rules.specs.StatementFaults.{several}
+use Rattle.psm_rules.specs.Types.{type_of}
+use Rattle.psm_tree.specs.declared.name.Identifier.{Identifier}
+use Rattle.psm_tree.specs.declared.expr.Expr.{Expr}
+use Rattle.psm_tree.specs.declared.file.ColumnRule.{ColumnRule}
+use Rattle.psm_tree.specs.declared.file.ColumnRuleForm.{ColumnRuleForm}
+use Rattle.psm_tree.specs.declared.file.ColumnRuleForm.TheVariants as column_rules
+use Rattle.psm_tree.specs.declared.file.Element.{Element}
+use Rattle.psm_tree.specs.declared.file.Element.TheVariants as elements
+use Rattle.psm_tree.specs.declared.file.FileTree.{FileTree}
+use Rattle.psm_tree.specs.declared.file.Mode.{Mode}
+use Rattle.psm_tree.specs.declared.file.Mode.TheVariants as modes
+use Rattle.psm_tree.specs.declared.file.Parameter.{Parameter}
+use Rattle.psm_tree.specs.declared.file.Routine.{Routine}
+use Rattle.psm_tree.specs.declared.file.TableRuleForm.{TableRuleForm}
+use Rattle.psm_tree.specs.declared.file.TableRuleForm.TheVariants as table_rules
+use Rattle.psm_tree.specs.declared.file.TableTree.{TableTree}
+use Rattle.psm_tree.specs.declared.types.Constant.{Constant}
+use Rattle.psm_table.specs.declared.definition.Column.{Column}
+use Rattle.psm_table.specs.declared.definition.TableDef.{TableDef}
+use Rattle.psm_resolved.specs.declared.expr.ResolvedExpr.{ResolvedExpr}
+use Rattle.psm_resolved.specs.declared.file.ParameterMode.{ParameterMode}
+use Rattle.psm_resolved.specs.declared.file.ParameterMode.TheVariants as passed
+use Rattle.psm_resolved.specs.declared.file.ResolvedFile.{ResolvedFile}
+use Rattle.psm_resolved.specs.declared.file.ResolvedParameter.{ResolvedParameter}
+use Rattle.psm_resolved.specs.declared.file.ResolvedRoutine.{ResolvedRoutine}
+use Rattle.psm_resolved.specs.declared.file.ResolvedTable.{ResolvedTable}
+use Rattle.psm_resolve_expr.specs.Exprs.{type_known}
+use Rattle.psm_resolve_expr.specs.Sight.{Sight, Frames}
+use Rattle.psm_resolve.specs.Numbering.{Numbering, with_slot, next_slot}
+use Rattle.psm_resolve.specs.Statements.{expr_at, column_of}
+use Rattle.psm_resolve.specs.Blocks.{Told, with_variable, statement_made}
+use Rattle.psm_resolve.specs.Worlds.{known_world}
+
+-- ---- tables
+
+-- the DEFAULT of a column as it is stored there; without one it is null
+abbrev pub stored_as : {E : Type 0} → Result Datum E → Datum
+stored_as (Ok d) = d
+stored_as (Err e) = data_of.Null
+
+abbrev pub default_of : SqlType → Option Constant → Datum
+default_of t None = data_of.Null
+default_of t (Some c) = stored_as (stored t (datum_of c.form))
+
+-- the columns of the primary key that is declared first
+abbrev pub says_primary : ColumnRuleForm → Bool
+says_primary column_rules.NotNull = false
+says_primary column_rules.PrimaryKey = true
+says_primary column_rules.Unique = false
+says_primary (column_rules.Check e) = false
+
+abbrev pub own_key : Identifier → List ColumnRule → Option (List Identifier)
+own_key name [] = None
+own_key name (r ∷ rs) = if says_primary r.form then Some (name ∷ []) else own_key name rs
+
+abbrev pub rule_key : TableRuleForm → Option (List Identifier)
+rule_key (table_rules.PrimaryKey names) = Some (several names)
+rule_key (table_rules.Unique names) = None
+rule_key (table_rules.Check e) = None
+
+abbrev pub element_key : Element → Option (List Identifier)
+element_key (elements.Column name kind default rules) = own_key name rules
+element_key (elements.Rule rule) = rule_key rule.form
+
+abbrev pub key_among : List Element → Option (List Identifier)
+key_among [] = None
+key_among (e ∷ es) = or_else (element_key e) (key_among es)
+
+-- they are known by their places
+abbrev pub places_in : Columns → Option (List Identifier) → List ℕ
+places_in columns None = []
+places_in columns (Some names) = map (column_of columns) names
+
+abbrev pub key_of : Columns → List Element → List ℕ
+key_of columns es = places_in columns (key_among es)
+
+abbrev pub says_not_null : ColumnRuleForm → Bool
+says_not_null column_rules.NotNull = true
+says_not_null column_rules.PrimaryKey = false
+says_not_null column_rules.Unique = false
+says_not_null (column_rules.Check e) = false
+
+-- a column of the key refuses null too
+abbrev pub column_with : List ℕ → ℕ → Spelling → SqlType → Option Constant → List ColumnRule → Column
+column_with key place name t default rules = record {
+  name = name;
+  kind = t;
+  not_null = list_any (λ r. says_not_null r.form) rules || list_any (nat_eq place) key;
+  default = default_of t default;
+}
+
+-- the place behind an element
+abbrev pub next_place : ℕ → Element → ℕ
+next_place place (elements.Column name kind default rules) = suc place
+next_place place (elements.Rule rule) = place
+
+abbrev pub column_in : List ℕ → ℕ → Element → List Column
+column_in key place (elements.Column name kind default rules) = column_with key place name.name (type_known (type_of kind)) default rules ∷ []
+column_in key place (elements.Rule rule) = []
+
+-- the columns, counted from a place
+abbrev pub defined_from : List ℕ → ℕ → List Element → List Column
+defined_from key place [] = []
+defined_from key place (e ∷ es) = column_in key place e ++ defined_from key (next_place place e) es
+
+-- the lists of columns that are UNIQUE
+abbrev pub own_unique : ℕ → ColumnRuleForm → List (List ℕ)
+own_unique place column_rules.NotNull = []
+own_unique place column_rules.PrimaryKey = []
+own_unique place column_rules.Unique = (place ∷ []) ∷ []
+own_unique place (column_rules.Check e) = []
+
+abbrev pub own_uniques : ℕ → List ColumnRule → List (List ℕ)
+own_uniques place [] = []
+own_uniques place (r ∷ rs) = own_unique place r.form ++ own_uniques place rs
+
+abbrev pub rule_unique : Columns → TableRuleForm → List (List ℕ)
+rule_unique columns (table_rules.PrimaryKey names) = []
+rule_unique columns (table_rules.Unique names) = map (column_of columns) (several names) ∷ []
+rule_unique columns (table_rules.Check e) = []
+
+abbrev pub unique_in : Columns → ℕ → Element → List (List ℕ)
+unique_in columns place (elements.Column name kind default rules) = own_uniques place rules
+unique_in columns place (elements.Rule rule) = rule_unique columns rule.form
+
+abbrev pub uniques_from : Columns → ℕ → List Element → List (List ℕ)
+uniques_from columns place [] = []
+uniques_from columns place (e ∷ es) = unique_in columns place e ++ uniques_from columns (next_place place e) es
+
+-- the CHECKs, which see the columns of the table alone
+abbrev pub own_check : Sight → ColumnRuleForm → List ResolvedExpr
+own_check sight column_rules.NotNull = []
+own_check sight column_rules.PrimaryKey = []
+own_check sight column_rules.Unique = []
+own_check sight (column_rules.Check e) = expr_at sight e ∷ []
+
+abbrev pub own_checks : Sight → List ColumnRule → List ResolvedExpr
+own_checks sight [] = []
+own_checks sight (r ∷ rs) = own_check sight r.form ++ own_checks sight rs
+
+abbrev pub rule_check : Sight → TableRuleForm → List ResolvedExpr
+rule_check sight (table_rules.PrimaryKey names) = []
+rule_check sight (table_rules.Unique names) = []
+rule_check sight (table_rules.Check e) = expr_at sight e ∷ []
+
+abbrev pub checks_in : Sight → Element → List ResolvedExpr
+checks_in sight (elements.Column name kind default rules) = own_checks sight rules
+checks_in sight (elements.Rule rule) = rule_check sight rule.form
+
+abbrev pub checks_of : Sight → List Element → List ResolvedExpr
+checks_of sight [] = []
+checks_of sight (e ∷ es) = checks_in sight e ++ checks_of sight es
+
+abbrev pub on_columns : Spelling → Columns → Sight
+on_columns name columns = record { world = no_world; frames = []; row = Some (record { name = name; alias = None; columns = columns }) }
+
+abbrev pub table_made : TableTree → ResolvedTable
+table_made t = let es = table_elements t in let columns = columns_of es in record {
+  definition = record { name = t.name.name; columns = defined_from (key_of columns es) 0 es; key = key_of columns es; unique = uniques_from columns 0 es };
+  checks = checks_of (on_columns t.name.name columns) es;
+}
+
+-- ---- routines
+
+abbrev pub mode_of : Mode → ParameterMode
+mode_of modes.In = passed.In
+mode_of modes.Out = passed.Out
+mode_of modes.InOut = passed.InOut
+
+abbrev pub parameter_made : Parameter → ResolvedParameter
+parameter_made p = record { mode = mode_of p.mode; name = p.name.name; kind = type_known (type_of p.kind) }
+
+-- a parameter has the next slot; one that is IN can't be assigned
+abbrev pub told_parameter : Told → Parameter → Told
+told_parameter told p = let t = type_known (type_of p.kind) in
+    (with_variable told.0 p.name.name (record { kind = Some t; slot = next_slot told.1; assignable = not (is_in p.mode) }), with_slot t told.1)
+
+abbrev pub told_parameters : Told → List Parameter → Told
+told_parameters told [] = told
+told_parameters told (p ∷ ps) = told_parameters (told_parameter told p) ps
+
+abbrev pub nothing_numbered : Numbering
+nothing_numbered = record { slots = []; cursors = 0; conditions = [] }
+
+abbrev pub routine_told : Routine → Told
+routine_told r = told_parameters (frame.Routine r.name.name undeclared ∷ [], nothing_numbered) r.parameters
+
+abbrev pub routine_in : World → Routine → Told → ResolvedRoutine
+routine_in world r told = let body = statement_made r.body (record { world = world; frames = told.0; row = None }) told.1 in record {
+  name = r.name.name;
+  parameters = map parameter_made r.parameters;
+  returns = option_map (λ t. type_known (type_of t)) r.returns;
+  slots = body.1.slots;
+  cursors = body.1.cursors;
+  conditions = body.1.conditions;
+  body = body.0;
+}
+
+abbrev pub routine_made : World → Routine → ResolvedRoutine
+routine_made world r = routine_in world r (routine_told r)
+
+-- ---- the file
+
+abbrev pub file_made : FileTree → ResolvedFile
+file_made f = record { tables = map table_made f.tables; routines = map (routine_made (known_world f)) f.«module».routines }

@@ -1,0 +1,6 @@
+pub mod Numbering
+pub mod Seen
+pub mod Statements
+pub mod Blocks
+pub mod Worlds
+pub mod Files

@@ -1,0 +1,258 @@
+//! Conditions: SQLSTATEs, signals and the diagnostics area.
+ghost use Rattle.std.specs.Prelude.{◌≡◌, ◌∷◌, [], ◌++◌, map, option_map, string_bytes, true, IfOk};
+ghost use Rattle.std.specs.List.{list_all};
+ghost use Rattle.psm_sqlstate.specs.State.{is_state_character};
+ghost use Rattle.psm_resolved.specs.declared.statement.ResolvedSimple.TheVariants as made;
+ghost use Rattle.psm_rules.specs.StatementFaults.{good_state, is_state, is_success, several};
+ghost use Rattle.psm_resolve_expr.specs.Seen.{seen_at};
+ghost use Rattle.psm_resolve.specs.Statements.{condition_item, condition_of, declared_as, diagnostics_of, number_of, signal_of, slot_of, state_of, statement_item};
+
+use crate::known::{optional_at, slot_of};
+use psm_cond::{ConditionItem, StatementItem};
+use psm_list::{Boxed, List, OneOrMore};
+use psm_resolve_expr::{Frames, Sight};
+use psm_resolved::{
+    ResolvedCondition, ResolvedDiagnostics, ResolvedNumber, ResolvedSignal, ResolvedSimple,
+};
+use psm_scope::DeclaredCondition;
+use psm_sqlstate::SqlState;
+use psm_text::Text;
+use psm_tree::{
+    Condition, ConditionInformation, ConditionNumber, Diagnostics, Signalled, State,
+    StatementInformation,
+};
+use std::alloc::{AllocError, Global};
+
+// ---- SQLSTATEs
+
+/// The SQLSTATE of a text that is one, and not one of success.
+pub(crate) fn good_state(alloc: Global, text: &Text) -> Result<Option<SqlState>, AllocError>
+    ensures { IfOk result (λ s. s ≡ good_state text.now) }
+{
+    if is_state(text.chars()) && !is_success(text.chars()) {
+        let spelled = spelled(alloc, text.chars())?;
+        Ok(SqlState::read(spelled.as_str()))
+    } else {
+        Ok(None)
+    }
+}
+
+fn is_state(text: &[char]) -> bool
+    ensures { result ≡ is_state text.now }
+{
+    text.len() == 5 && are_state_characters(text)
+}
+
+fn are_state_characters(text: &[char]) -> bool
+    ensures { result ≡ list_all is_state_character text.now }
+{
+    text.iter().all(|c| is_state_character(*c))
+}
+
+fn is_state_character(c: char) -> bool
+    ensures { result ≡ is_state_character c }
+{
+    c.is_ascii_digit() || c.is_ascii_uppercase()
+}
+
+fn is_success(text: &[char]) -> bool
+    ensures { result ≡ is_success text.now }
+{
+    match text {
+        ['0', '0', ..] => true,
+        _ => false,
+    }
+}
+
+// The characters of an SQLSTATE as a string.
+fn spelled(alloc: Global, text: &[char]) -> Result<String, AllocError>
+    requires { list_all is_state_character text.now ≡ true }
+    ensures { IfOk result (λ s. string_bytes s ≡ text.now) }
+{
+    let mut spelled = String::new(alloc);
+    for c in text {
+        spelled.push(*c)?;
+    }
+    Ok(spelled)
+}
+
+/// The SQLSTATE that is written; 00000 stands for a bad one.
+pub(crate) fn state_of(alloc: Global, state: &State) -> Result<SqlState, AllocError>
+    ensures { IfOk result (λ s. s ≡ state_of state.now) }
+{
+    match good_state(alloc, &state.text)? {
+        None => Ok(SqlState::SUCCESS),
+        Some(state) => Ok(state),
+    }
+}
+
+// ---- signals
+
+/// A declared condition: its SQLSTATE, or else its number.
+pub(crate) fn declared_as(known: Option<DeclaredCondition>) -> ResolvedCondition
+    ensures { result ≡ declared_as known }
+{
+    match known {
+        None => ResolvedCondition::Own(0),
+        Some(known) => match known.state {
+            None => ResolvedCondition::Own(known.number),
+            Some(state) => ResolvedCondition::State(state),
+        },
+    }
+}
+
+fn condition_of(
+    alloc: Global,
+    frames: &Frames,
+    condition: &Condition,
+) -> Result<ResolvedCondition, AllocError>
+    ensures { IfOk result (λ c. c ≡ condition_of frames.now condition.now) }
+{
+    match condition {
+        Condition::Name(name) => Ok(declared_as(frames.condition(&name.name))),
+        Condition::State(state) => {
+            let state = state_of(alloc, state)?;
+            Ok(ResolvedCondition::State(state))
+        }
+    }
+}
+
+fn signal_of(
+    alloc: Global,
+    sight: Sight,
+    signalled: &Signalled,
+) -> Result<Boxed<ResolvedSignal>, AllocError>
+    ensures { IfOk result (λ s. s ≡ signal_of (seen_at sight.entry) signalled.now) }
+{
+    let condition = condition_of(alloc, sight.frames, &signalled.condition)?;
+    let message = optional_at(alloc, sight, &signalled.message)?;
+    Boxed::new(alloc, ResolvedSignal { condition, message })
+}
+
+/// SIGNAL.
+pub(crate) fn signal(
+    alloc: Global,
+    sight: Sight,
+    signalled: &Signalled,
+) -> Result<Boxed<ResolvedSimple>, AllocError>
+    ensures { IfOk result (λ s. s ≡ made.Signal (signal_of (seen_at sight.entry) signalled.now)) }
+{
+    let signal = signal_of(alloc, sight, signalled)?;
+    Boxed::new(alloc, ResolvedSimple::Signal(signal))
+}
+
+/// RESIGNAL.
+pub(crate) fn resignal(
+    alloc: Global,
+    sight: Sight,
+    signalled: &Option<Boxed<Signalled>>,
+) -> Result<Boxed<ResolvedSimple>, AllocError>
+    ensures { IfOk result (λ s. s ≡ made.Resignal (option_map (signal_of (seen_at sight.entry)) signalled.now)) }
+{
+    match signalled {
+        None => Boxed::new(alloc, ResolvedSimple::Resignal(None)),
+        Some(signalled) => {
+            let signal = signal_of(alloc, sight, signalled.get())?;
+            Boxed::new(alloc, ResolvedSimple::Resignal(Some(signal)))
+        }
+    }
+}
+
+// ---- diagnostics
+
+/// GET DIAGNOSTICS.
+pub(crate) fn get_diagnostics(
+    alloc: Global,
+    frames: &Frames,
+    diagnostics: &Diagnostics,
+) -> Result<Boxed<ResolvedSimple>, AllocError>
+    ensures { IfOk result (λ s. s ≡ made.GetDiagnostics (diagnostics_of frames.now diagnostics.now)) }
+{
+    let diagnostics = diagnostics_of(alloc, frames, diagnostics)?;
+    Boxed::new(alloc, ResolvedSimple::GetDiagnostics(diagnostics))
+}
+
+fn diagnostics_of(
+    alloc: Global,
+    frames: &Frames,
+    diagnostics: &Diagnostics,
+) -> Result<Boxed<ResolvedDiagnostics>, AllocError>
+    ensures { IfOk result (λ d. d ≡ diagnostics_of frames.now diagnostics.now) }
+{
+    match diagnostics {
+        Diagnostics::Statement { items } => {
+            let items = statement_items(alloc, frames, items)?;
+            Boxed::new(alloc, ResolvedDiagnostics::Statement { items })
+        }
+        Diagnostics::Condition { number, items } => {
+            let number = number_of(frames, number);
+            let items = condition_items(alloc, frames, items)?;
+            Boxed::new(alloc, ResolvedDiagnostics::Condition { number, items })
+        }
+    }
+}
+
+fn number_of(frames: &Frames, number: &ConditionNumber) -> ResolvedNumber
+    ensures { result ≡ number_of frames.now number.now }
+{
+    match number {
+        ConditionNumber::Number { number, .. } => ResolvedNumber::Constant(*number),
+        ConditionNumber::Target(target) => ResolvedNumber::Variable(slot_of(frames, target)),
+    }
+}
+
+fn statement_items(
+    alloc: Global,
+    frames: &Frames,
+    items: &OneOrMore<StatementInformation>,
+) -> Result<List<(u32, StatementItem)>, AllocError>
+    ensures { IfOk result (λ made. made ≡ map (λ i. (slot_of frames.now i.target, statement_item i.item)) (several items.now)) }
+{
+    let first = &items.first;
+    let mut made = Vec::new(alloc);
+    made.push((slot_of(frames, &first.target), statement_item(first.item)))?;
+    for item in items.rest.items() {
+        made.push((slot_of(frames, &item.target), statement_item(item.item)))?;
+    }
+    Ok(List::of(made))
+}
+
+fn condition_items(
+    alloc: Global,
+    frames: &Frames,
+    items: &OneOrMore<ConditionInformation>,
+) -> Result<List<(u32, ConditionItem)>, AllocError>
+    ensures { IfOk result (λ made. made ≡ map (λ i. (slot_of frames.now i.target, condition_item i.item)) (several items.now)) }
+{
+    let first = &items.first;
+    let mut made = Vec::new(alloc);
+    made.push((slot_of(frames, &first.target), condition_item(first.item)))?;
+    for item in items.rest.items() {
+        made.push((slot_of(frames, &item.target), condition_item(item.item)))?;
+    }
+    Ok(List::of(made))
+}
+
+fn statement_item(item: psm_tree::StatementItem) -> StatementItem
+    ensures { result ≡ statement_item item }
+{
+    match item {
+        psm_tree::StatementItem::Number => StatementItem::Number,
+        psm_tree::StatementItem::More => StatementItem::More,
+        psm_tree::StatementItem::RowCount => StatementItem::RowCount,
+    }
+}
+
+fn condition_item(item: psm_tree::ConditionItem) -> ConditionItem
+    ensures { result ≡ condition_item item }
+{
+    match item {
+        psm_tree::ConditionItem::ConditionNumber => ConditionItem::ConditionNumber,
+        psm_tree::ConditionItem::ReturnedSqlState => ConditionItem::ReturnedSqlstate,
+        psm_tree::ConditionItem::ConditionIdentifier => ConditionItem::ConditionIdentifier,
+        psm_tree::ConditionItem::MessageText => ConditionItem::MessageText,
+        psm_tree::ConditionItem::MessageLength => ConditionItem::MessageLength,
+        psm_tree::ConditionItem::TableName => ConditionItem::TableName,
+        psm_tree::ConditionItem::CursorName => ConditionItem::CursorName,
+    }
+}

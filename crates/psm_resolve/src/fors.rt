@@ -1,0 +1,363 @@
+//! The head of FOR: its query, its cursor, and a variable for each item.
+ghost use Rattle.std.specs.Prelude.{◌≡◌, ◌++◌, ◌∷◌, [], drop, map, not, option_map, Some, None, IfOk, IsTrue};
+ghost use Rattle.std.specs.Option.{option_copied};
+ghost use Rattle.psm_scope.specs.Rows.{meaning_of};
+ghost use Rattle.psm_scope.specs.Scopes.{can_declare_here};
+ghost use Rattle.psm_rules.specs.BlockFaults.{last_name};
+ghost use Rattle.psm_rules.specs.ExprFaults.{columns_known};
+ghost use Rattle.psm_rules.specs.StatementFaults.{several};
+ghost use Rattle.psm_tree.specs.declared.expr.Expr.{out-Expr};
+ghost use Rattle.psm_tree.specs.declared.expr.Pick.{out-Pick};
+ghost use Rattle.psm_tree.specs.declared.expr.Select.{out-Select};
+ghost use Rattle.psm_resolve_expr.specs.Exprs.{made_of, type_known};
+ghost use Rattle.psm_resolve_expr.specs.Seen.{seen_at};
+ghost use Rattle.psm_resolve.specs.Numbering.{next_slot};
+ghost use Rattle.psm_resolve.specs.Seen.{column_seen, control, item_seen};
+ghost use Rattle.psm_resolve.specs.Blocks.{column_items, column_meant, cursor_name, for_items, head_of, is_insensitive, item_column, item_of, item_slots, item_type, items_in, items_of_pick, own_name, told_for_cursor, told_head, told_item, told_items, wide_type};
+
+use crate::declarations::ordered_query;
+use crate::declaring::{declare_cursor, declare_variable};
+use crate::numbering::Numbering;
+use crate::setting::Setting;
+use psm_check_expr::{Columns, family_of, row_of};
+use psm_list::{Boxed, List};
+use psm_resolve_expr::{Frames, Sight, made_of, name_in, on_row, table_columns};
+use psm_resolved::{ResolvedCursor, ResolvedFor, ResolvedQuery};
+use psm_rules::{Family, Shape};
+use psm_scope::{FrameKind, Meant};
+use psm_text::Name;
+use psm_tree::{Expr, ForCursor, ForHead, Identifier, Pick, Select, Target};
+use psm_value::SqlType;
+use std::alloc::{AllocError, Global};
+
+/// The head of FOR. Goes into the frame of its statements.
+#[tactic(auto, using(crate::proofs::Innermost::popped))]
+pub(crate) fn enter_for<'w, 'a>(
+    setting: Setting<'w, 'a>,
+    frames: &mut Frames<'a>,
+    numbering: &mut Numbering<'a>,
+    label: Option<&'a Name>,
+    head: &'a ForHead,
+) -> Result<Boxed<ResolvedFor>, AllocError>
+    ensures made { IfOk result (λ h. h ≡ head_of (control setting.entry frames.old) head.now numbering.old) }
+    ensures frames { IfOk result (λ _. frames.new ≡ (told_head (control setting.entry frames.old) (option_copied label.entry) head.now numbering.old).0) }
+    ensures numbering { IfOk result (λ _. numbering.new ≡ (told_head (control setting.entry frames.old) (option_copied label.entry) head.now numbering.old).1) }
+    ensures outer { IfOk result (λ _. drop 1 frames.new ≡ frames.old) }
+{
+    let query = ordered_query(setting.alloc, setting.control(frames), &head.query)?;
+    let items = for_items(setting, frames, head.query.query.get())?;
+    frames.push(FrameKind::For(label, &head.name.name))?;
+    let number = declare_for_cursor(frames, numbering, &head.cursor)?;
+    let slots = declare_items(setting.alloc, frames, numbering, items.as_slice())?;
+    let made = head_with(setting.alloc, head, number, query, slots)?;
+    Ok(made)
+}
+
+fn head_with(
+    alloc: Global,
+    head: &ForHead,
+    number: u32,
+    query: Boxed<ResolvedQuery>,
+    slots: List<u32>,
+) -> Result<Boxed<ResolvedFor>, AllocError>
+    ensures { IfOk result (λ h. h ≡ record { cursor = record { number = number; name = cursor_name head.now.name head.now.cursor; insensitive = is_insensitive head.now.cursor; updatable = not (is_insensitive head.now.cursor); query = query }; slots = slots }) }
+{
+    let name = cursor_name(head).copy(alloc)?;
+    let insensitive = is_insensitive(&head.cursor);
+    let cursor = ResolvedCursor {
+        number,
+        name,
+        insensitive,
+        updatable: !insensitive,
+        query,
+    };
+    Boxed::new(alloc, ResolvedFor { cursor, slots })
+}
+
+// ---- the cursor
+
+fn cursor_name(head: &ForHead) -> &Name
+    ensures { result.now ≡ cursor_name head.now.name head.now.cursor }
+{
+    match &head.cursor {
+        None => &head.name.name,
+        Some(cursor) => &cursor.name.name,
+    }
+}
+
+fn is_insensitive(cursor: &Option<ForCursor>) -> bool
+    ensures { result ≡ is_insensitive cursor.now }
+{
+    match cursor {
+        None => false,
+        Some(cursor) => cursor.insensitive,
+    }
+}
+
+// The number of the cursor, which can be named where it has a name.
+fn declare_for_cursor<'a>(
+    frames: &mut Frames<'a>,
+    numbering: &mut Numbering<'a>,
+    cursor: &'a Option<ForCursor>,
+) -> Result<u32, AllocError>
+    requires { IsTrue (can_declare_here frames.old) }
+    ensures number { IfOk result (λ number. number ≡ numbering.old.cursors) }
+    ensures frames { IfOk result (λ _. frames.new ≡ (told_for_cursor (frames.old, numbering.old) cursor.now).0) }
+    ensures numbering { IfOk result (λ _. numbering.new ≡ (told_for_cursor (frames.old, numbering.old) cursor.now).1) }
+    ensures open { IfOk result (λ _. IsTrue (can_declare_here frames.new)) }
+{
+    let number = numbering.cursor()?;
+    match cursor {
+        None => Ok(number),
+        Some(cursor) => {
+            declare_cursor(frames, &cursor.name.name, number)?;
+            Ok(number)
+        }
+    }
+}
+
+// ---- the items
+
+/// An item: the name of its variable, where it has one, and the type.
+#[derive(Clone, Copy)]
+pub(crate) struct ForItem<'a> {
+    pub(crate) name: Option<&'a Name>,
+    pub(crate) kind: SqlType,
+}
+
+/// A column that an item names.
+#[derive(Clone, Copy)]
+pub(crate) struct NamedColumn<'a> {
+    pub(crate) name: &'a Name,
+    pub(crate) kind: Option<SqlType>,
+}
+
+// The items of the query, on the rows of its table.
+fn for_items<'w, 'a>(
+    setting: Setting<'w, 'a>,
+    frames: &Frames<'a>,
+    select: &'a Select,
+) -> Result<Vec<ForItem<'a>>, AllocError>
+    ensures { IfOk result (λ items. map item_seen items.items ≡ for_items (control setting.entry frames.now) select.now) }
+{
+    let sight = setting.control(frames);
+    let columns = table_columns(sight, &select.table.name);
+    let inside = on_row(sight, row_of(select, columns));
+    items_in(setting.alloc, inside, columns, select)
+}
+
+fn items_in<'a>(
+    alloc: Global,
+    sight: Sight,
+    columns: Option<&Columns<'a>>,
+    select: &'a Select,
+) -> Result<Vec<ForItem<'a>>, AllocError>
+    ensures { IfOk result (λ items. map item_seen items.items ≡ items_in (seen_at sight.entry) (columns_known (option_copied columns.entry)) (several (out-Select select.now).picks)) }
+{
+    let picks = &select.picks;
+    let mut items = Vec::new(alloc);
+    push_items(alloc, sight, columns, picks.first.get(), &mut items)?;
+    for pick in picks.rest.items() {
+        push_items(alloc, sight, columns, pick.get(), &mut items)?;
+    }
+    Ok(items)
+}
+
+#[tactic(auto, using(crate::proofs::Layers::pick_layers))]
+fn push_items<'a>(
+    alloc: Global,
+    sight: Sight,
+    columns: Option<&Columns<'a>>,
+    pick: &'a Pick,
+    items: &mut Vec<ForItem<'a>>,
+) -> Result<(), AllocError>
+    ensures { IfOk result (λ _. map item_seen items.new.items ≡ map item_seen items.old.items ++ items_of_pick (seen_at sight.entry) (columns_known (option_copied columns.entry)) (out-Pick pick.now)) }
+{
+    match pick {
+        Pick::All { .. } => push_columns(columns, items),
+        Pick::Expr { expr, alias } => {
+            let item = item_of(alloc, sight, expr.get(), alias)?;
+            items.push(item)?;
+            Ok(())
+        }
+        Pick::CountRows { .. } | Pick::Aggregate { .. } => Ok(()),
+    }
+}
+
+fn push_columns<'a>(
+    columns: Option<&Columns<'a>>,
+    items: &mut Vec<ForItem<'a>>,
+) -> Result<(), AllocError>
+    ensures { IfOk result (λ _. map item_seen items.new.items ≡ map item_seen items.old.items ++ column_items (columns_known (option_copied columns.entry))) }
+{
+    match columns {
+        None => Ok(()),
+        Some(columns) => push_each_column(columns, items),
+    }
+}
+
+fn push_each_column<'a>(
+    columns: &Columns<'a>,
+    items: &mut Vec<ForItem<'a>>,
+) -> Result<(), AllocError>
+    ensures { IfOk result (λ _. map item_seen items.new.items ≡ map item_seen items.old.items ++ column_items columns.now) }
+{
+    for place in 0..columns.len() {
+        push_column(columns.name(place), *columns.at(place), items)?;
+    }
+    Ok(())
+}
+
+fn push_column<'a>(
+    name: &'a Name,
+    kind: Option<SqlType>,
+    items: &mut Vec<ForItem<'a>>,
+) -> Result<(), AllocError>
+    ensures { IfOk result (λ _. map item_seen items.new.items ≡ map item_seen items.old.items ++ (Some name.now, type_known kind) ∷ []) }
+{
+    let item = ForItem {
+        name: Some(name),
+        kind: known(kind),
+    };
+    items.push(item)?;
+    Ok(())
+}
+
+fn item_of<'a>(
+    alloc: Global,
+    sight: Sight,
+    e: &'a Expr,
+    alias: &'a Option<Identifier>,
+) -> Result<ForItem<'a>, AllocError>
+    ensures { IfOk result (λ item. item_seen item ≡ item_of (seen_at sight.entry) e.now alias.now) }
+{
+    let column = item_column(sight, e);
+    let kind = item_type(alloc, sight, e, column)?;
+    Ok(ForItem {
+        name: own_name(alias, column),
+        kind,
+    })
+}
+
+// The column that an item is, where it is a name by itself.
+#[tactic(auto, using(crate::proofs::Layers::expr_layers))]
+fn item_column<'a>(sight: Sight, e: &'a Expr) -> Option<NamedColumn<'a>>
+    ensures { option_map column_seen result ≡ item_column (seen_at sight.entry) (out-Expr e.now) }
+{
+    match e {
+        Expr::Name(target) => column_meant(name_in(sight, target), target),
+        _ => None,
+    }
+}
+
+fn column_meant<'a>(meant: Option<Meant>, target: &'a Target) -> Option<NamedColumn<'a>>
+    ensures { option_map column_seen result ≡ column_meant target.now (option_map meaning_of meant) }
+{
+    match meant {
+        Some(Meant::Column(_, kind)) => Some(NamedColumn {
+            name: last_name(target),
+            kind,
+        }),
+        Some(Meant::Variable(_)) | None => None,
+    }
+}
+
+fn last_name(target: &Target) -> &Name
+    ensures { result.now ≡ last_name target.now.first target.now.second }
+{
+    match &target.second {
+        None => &target.first.name,
+        Some(second) => &second.name,
+    }
+}
+
+// The name of an item: its own, or that of its column.
+fn own_name<'a>(alias: &'a Option<Identifier>, column: Option<NamedColumn<'a>>) -> Option<&'a Name>
+    ensures { option_copied result ≡ own_name alias.now (option_map column_seen column.entry) }
+{
+    match alias {
+        Some(alias) => Some(&alias.name),
+        None => match column {
+            None => None,
+            Some(column) => Some(column.name),
+        },
+    }
+}
+
+// A column has the column's type.
+fn item_type(
+    alloc: Global,
+    sight: Sight,
+    e: &Expr,
+    column: Option<NamedColumn>,
+) -> Result<SqlType, AllocError>
+    ensures { IfOk result (λ kind. kind ≡ item_type (option_map column_seen column.entry) (made_of e.now (seen_at sight.entry)).shape) }
+{
+    match column {
+        Some(column) => Ok(known(column.kind)),
+        None => {
+            let made = made_of(alloc, e, sight)?;
+            Ok(wide_type(made.shape))
+        }
+    }
+}
+
+fn known(kind: Option<SqlType>) -> SqlType
+    ensures { result ≡ type_known kind }
+{
+    match kind {
+        None => SqlType::Integer,
+        Some(kind) => kind,
+    }
+}
+
+// Another number has NUMERIC(18, s) and another text VARCHAR(4000).
+fn wide_type(shape: Shape) -> SqlType
+    ensures { result ≡ wide_type shape }
+{
+    match shape {
+        Shape::Value(t) => match family_of(t.kind) {
+            Family::Numbers => SqlType::Numeric { p: 18, s: t.scale },
+            Family::Texts => SqlType::VarChar { n: 4000 },
+        },
+        Shape::Untyped | Shape::Condition => SqlType::Integer,
+    }
+}
+
+// ---- the variables
+
+// The slots of the items, whose variables are declared where they have names.
+fn declare_items<'a>(
+    alloc: Global,
+    frames: &mut Frames<'a>,
+    numbering: &mut Numbering<'a>,
+    items: &[ForItem<'a>],
+) -> Result<List<u32>, AllocError>
+    requires { IsTrue (can_declare_here frames.old) }
+    ensures slots { IfOk result (λ slots. slots ≡ item_slots (next_slot numbering.old) (map item_seen items.now)) }
+    ensures frames { IfOk result (λ _. frames.new ≡ (told_items (frames.old, numbering.old) (map item_seen items.now)).0) }
+    ensures numbering { IfOk result (λ _. numbering.new ≡ (told_items (frames.old, numbering.old) (map item_seen items.now)).1) }
+{
+    let mut slots = Vec::new(alloc);
+    for item in items {
+        slots.push(declare_item(frames, numbering, *item)?)?;
+    }
+    Ok(List::of(slots))
+}
+
+fn declare_item<'a>(
+    frames: &mut Frames<'a>,
+    numbering: &mut Numbering<'a>,
+    item: ForItem<'a>,
+) -> Result<u32, AllocError>
+    requires { IsTrue (can_declare_here frames.old) }
+    ensures slot { IfOk result (λ slot. slot ≡ next_slot numbering.old) }
+    ensures frames { IfOk result (λ _. frames.new ≡ (told_item (frames.old, numbering.old) (item_seen item.entry)).0) }
+    ensures numbering { IfOk result (λ _. numbering.new ≡ (told_item (frames.old, numbering.old) (item_seen item.entry)).1) }
+    ensures open { IfOk result (λ _. IsTrue (can_declare_here frames.new)) }
+{
+    match item.name {
+        None => numbering.slot(item.kind),
+        Some(name) => declare_variable(frames, numbering, name, item.kind),
+    }
+}

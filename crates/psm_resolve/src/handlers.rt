@@ -1,0 +1,67 @@
+//! What handlers handle.
+ghost use Rattle.std.specs.Prelude.{◌≡◌, map, IfOk};
+ghost use Rattle.psm_rules.specs.StatementFaults.{several};
+ghost use Rattle.psm_resolve.specs.Blocks.{kind_of, value_for, value_of};
+
+use crate::conditions::{declared_as, state_of};
+use psm_cond::{ConditionValue, HandlerKind};
+use psm_list::{List, OneOrMore};
+use psm_resolve_expr::Frames;
+use psm_resolved::ResolvedCondition;
+use psm_tree::HandlerValue;
+use std::alloc::{AllocError, Global};
+
+/// How a handler goes on.
+pub(crate) fn kind_of(kind: psm_tree::HandlerKind) -> HandlerKind
+    ensures { result ≡ kind_of kind }
+{
+    match kind {
+        psm_tree::HandlerKind::Continue => HandlerKind::Continue,
+        psm_tree::HandlerKind::Exit => HandlerKind::Exit,
+        psm_tree::HandlerKind::Undo => HandlerKind::Undo,
+    }
+}
+
+/// What a handler handles, where it is declared.
+pub(crate) fn values_of(
+    alloc: Global,
+    frames: &Frames,
+    values: &OneOrMore<HandlerValue>,
+) -> Result<List<ConditionValue>, AllocError>
+    ensures { IfOk result (λ made. made ≡ map (value_of frames.now) (several values.now)) }
+{
+    let mut made = Vec::new(alloc);
+    made.push(value_of(alloc, frames, &values.first)?)?;
+    for value in values.rest.items() {
+        made.push(value_of(alloc, frames, value)?)?;
+    }
+    Ok(List::of(made))
+}
+
+fn value_of(
+    alloc: Global,
+    frames: &Frames,
+    value: &HandlerValue,
+) -> Result<ConditionValue, AllocError>
+    ensures { IfOk result (λ made. made ≡ value_of frames.now value.now) }
+{
+    match value {
+        HandlerValue::State(state) => {
+            let state = state_of(alloc, state)?;
+            Ok(ConditionValue::State(state))
+        }
+        HandlerValue::Name(name) => Ok(value_for(declared_as(frames.condition(&name.name)))),
+        HandlerValue::SqlException { .. } => Ok(ConditionValue::SqlException),
+        HandlerValue::SqlWarning { .. } => Ok(ConditionValue::SqlWarning),
+        HandlerValue::NotFound { .. } => Ok(ConditionValue::NotFound),
+    }
+}
+
+fn value_for(condition: ResolvedCondition) -> ConditionValue
+    ensures { result ≡ value_for condition }
+{
+    match condition {
+        ResolvedCondition::State(state) => ConditionValue::State(state),
+        ResolvedCondition::Own(number) => ConditionValue::Named(number),
+    }
+}

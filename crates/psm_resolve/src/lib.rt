@@ -1,0 +1,24 @@
+//! A module file with its names put away: each name is the slot, the number or the place of what it means where it stands.
+#![tactic(auto)]
+
+mod blocks;
+mod calls;
+mod conditions;
+mod constants;
+mod declarations;
+mod declaring;
+mod files;
+mod forms;
+mod fors;
+mod handlers;
+mod keys;
+mod known;
+mod numbering;
+mod routines;
+mod rows;
+mod setting;
+mod simple;
+mod tables;
+mod worlds;
+
+pub use files::resolve_file;
