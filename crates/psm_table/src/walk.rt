@@ -1,5 +1,5 @@
 //! Walks over the rows of a table, which go on from where they stand.
-ghost use Rattle.std.specs.Prelude.{◌≡◌, ◌∷◌, [], MatchOption};
+ghost use Rattle.std.specs.Prelude.{◌≡◌, ◌∷◌, [], IfNone, MatchOption};
 ghost use Rattle.psm_table.specs.Left.{left_of, turned};
 ghost use Rattle.psm_table.specs.Queries.{in_walk};
 ghost use Rattle.psm_table.specs.Held.{live_rows};
@@ -21,7 +21,8 @@ impl<'a> PairsLeft<'a> {
     /// The next pair.
     #[tactic(auto, using(crate::proofs::Lefts::left_none, crate::proofs::Lefts::left_next, crate::proofs::Lefts::left_run))]
     fn next(&mut self) -> Option<&'a Pair<Option<Row>>>
-        ensures { MatchOption result (left_of self.old ≡ []) (λ pair. left_of self.old ≡ pair.now ∷ left_of self.new) }
+        ensures next { MatchOption result (left_of self.old ≡ []) (λ pair. left_of self.old ≡ pair.now ∷ left_of self.new) }
+        ensures end { IfNone result (left_of self.new ≡ []) }
     {
         'runs: loop {
             if let Some((pair, others)) = outermost(self.pairs, self.downward) {
@@ -81,7 +82,8 @@ impl<'a> RowsLeft<'a> {
 
     /// The next row.
     pub fn next(&mut self) -> Option<&'a Row>
-        ensures { MatchOption result (self.old ≡ []) (λ row. self.old ≡ row.now ∷ self.new) }
+        ensures next { MatchOption result (self.old ≡ []) (λ row. self.old ≡ row.now ∷ self.new) }
+        ensures end { IfNone result (self.new ≡ []) }
     {
         'pairs: while let Some(pair) = self.pairs.next() {
             if let Some(row) = &pair.value {
