@@ -35,3 +35,4 @@ pub mod SimplesChanging
 pub mod Procedures
 pub mod Stepping
 pub mod Running
+pub mod Counting

@@ -5,3 +5,4 @@ pub mod Scheme
 pub mod Agreement
 pub mod Simulation
 pub mod Running
+pub mod Sizes

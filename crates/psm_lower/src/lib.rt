@@ -1,6 +1,7 @@
-//! Which code stands for a module (ISO/IEC 9075-4:1996), and the law that it does what the module means. It has no code that runs.
+//! Which code stands for a module (ISO/IEC 9075-4:1996), the law that it does what the module means, and the code of expressions.
 #![tactic(auto)]
 
 mod laws;
+mod sizes;
 
 pub use laws::code_does_what_its_module_means;
