@@ -1,5 +1,5 @@
 -- How many lines stand for each form of expression, by its layer.
-use Rattle.std.proofs.Common.{arith, ◌≡◌, ◌+◌, ℕ, Bool, List, [], ◌∷◌, ◌++◌, Option, Some, None, map, ap, sym, refl, ◌∙◌, subst, option_map, take, length, ◌≤◌, ◌<◌, get_or}
+use Rattle.std.proofs.Common.{arith, ◌≡◌, ◌+◌, ℕ, List, [], ◌∷◌, ◌++◌, Option, Some, None, map, ap, refl, ◌∙◌, option_map, take, length, ◌≤◌, ◌<◌, get_or}
 use Rattle.psm_list.specs.Several.{Several, several_map}
 use Rattle.psm_resolved.specs.declared.expr.ResolvedExpr.{ResolvedExpr, out-ResolvedExpr}
 use Rattle.std.specs.Prelude.{Result, Ok, Err, IfOk}
@@ -11,12 +11,12 @@ use Rattle.psm_resolved.specs.declared.expr.ResolvedExpr.TheOpen as layers
 use Rattle.psm_resolved.specs.declared.expr.ResolvedExpr.TheFolds.{map-ResolvedExpr, fold-ResolvedItems, fold-ResolvedItem, fold-ResolvedLink, fold-ResolvedQuery, fold-ResolvedWhen, fold_out-ResolvedExpr, fold_out-ResolvedLink, fold_out-ResolvedWhen}
 use Rattle.psm_resolved.specs.declared.expr.ResolvedItems.{ResolvedItems}
 use Rattle.psm_resolved.specs.declared.expr.ResolvedItem.{ResolvedItem}
-use Rattle.psm_resolved.specs.declared.expr.ResolvedLink.{ResolvedLink, out-ResolvedLink}
+use Rattle.psm_resolved.specs.declared.expr.ResolvedLink.{ResolvedLink}
 use Rattle.psm_resolved.specs.declared.expr.ResolvedQuery.{ResolvedQuery}
-use Rattle.psm_resolved.specs.declared.expr.ResolvedWhen.{ResolvedWhen, out-ResolvedWhen}
+use Rattle.psm_resolved.specs.declared.expr.ResolvedWhen.{ResolvedWhen}
 use Rattle.psm_resolved.proofs.Several.{all_items, next_item}
 use Rattle.psm_lower.specs.Expressions.{Layer}
-use Rattle.psm_lower.specs.Sizes.{each_with, lines_layer, items_none, item_none, link_layer, query_none, when_layer, expr_lines, link_lines, when_lines, exprs_lines, not_lines, some_lines, else_lines, scale_lines, case_lines}
+use Rattle.psm_lower.specs.Sizes.{each_with, lines_layer, items_none, item_none, link_layer, query_none, when_layer, expr_lines, link_lines, when_lines, else_lines, scale_lines, case_lines}
 
 abbrev folded_link : ResolvedLink → ℕ
 folded_link = fold-ResolvedLink ℕ (Unit {0}) (Unit {0}) ℕ (Unit {0}) ℕ lines_layer items_none item_none link_layer query_none when_layer
@@ -57,7 +57,6 @@ abbrev pub lines_of : Layer → ℕ
 lines_of (layers.Chain first links) = expr_lines first + each_with 1 (map link_lines links)
 lines_of (layers.Case operand whens otherwise scale) = case_lines (option_map expr_lines operand) (several_map when_lines whens) + else_lines (option_map expr_lines otherwise) + scale_lines scale
 lines_of layer = counted layer
-
 
 same_several : (whens : Several ResolvedWhen) → several_map folded_when whens ≡ several_map when_lines whens
 same_several whens = ap (λ n. record { first = n; rest = map folded_when whens.rest }) (lines_of_when whens.first) ∙ ap (λ ns. record { first = when_lines whens.first; rest = ns }) (same_map folded_when when_lines lines_of_when whens.rest)
@@ -109,3 +108,7 @@ pub compared_behind : (e operand : ResolvedExpr) (whens : Several ResolvedWhen) 
     → IfOk r (λ n. n ≡ put + scale_lines scale) → IfOk r (λ n. n ≡ at + expr_lines e)
 compared_behind e operand whens otherwise scale at first tested put r is h0 h1 h2 h =
     counted_ok r (put + scale_lines scale) (at + expr_lines e) (omega (arith, h0, h1, h2, lines_at e (layers.Case (Some operand) whens otherwise scale) (ap out-ResolvedExpr is ∙ exprs.outs-Case (Some operand) whens otherwise scale))) h
+
+pub each-append : {A : Type 0} (f : A → ℕ) (k : ℕ) (xs ys : List A) → each_with k (map f (xs ++ ys)) ≡ each_with k (map f xs) + each_with k (map f ys)
+each-append f k [] ys = omega arith
+each-append f k (x ∷ xs) ys = omega (arith, each-append f k xs ys)

@@ -36,3 +36,7 @@ pub mod Procedures
 pub mod Stepping
 pub mod Running
 pub mod Counting
+pub mod Adding
+pub mod Standing
+pub mod Putting
+pub mod Choosers

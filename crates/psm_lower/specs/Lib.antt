@@ -6,3 +6,5 @@ pub mod Agreement
 pub mod Simulation
 pub mod Running
 pub mod Sizes
+pub mod Outside
+pub mod Writing

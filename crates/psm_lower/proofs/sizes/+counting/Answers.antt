@@ -1,4 +1,4 @@
-use Rattle.std.proofs.Common.{arith, ◌∙◌, ap, sym, refl, Some}
+use Rattle.std.proofs.Common.{arith, ◌∙◌, ap, refl}
 use Rattle.psm_resolved.specs.declared.expr.ResolvedExpr.TheVariants as exprs
 use Rattle.psm_lower.specs.Sizes.{expr_lines, link_lines, when_lines}
 use Rattle.psm_lower.proofs.Counting.{each_next, searched_behind, compared_behind}
