@@ -1,3 +1,9 @@
 pub mod Ending
 pub mod Kept
 pub mod Replacing
+pub mod Acts
+pub mod Storing
+pub mod Faults
+pub mod Frames
+pub mod Raises
+pub mod Handling
