@@ -111,7 +111,7 @@ module _ (code : RawCode) where
     stand_found (InAction n resume area ∷ frames) k h = let f = ends_stand code r h.handler h.handler.kind resume frames h.ends in stand_found frames f.0 f.1
 
     module _ (l : CodeLine) where
-      left_one : (undo : Bool) (k : ℕ) (found : Option (List Contents)) (m : Machine) → IsFound found → Body code r l m → Body code r l (block_left r undo k found m)
+      pub left_one : (undo : Bool) (k : ℕ) (found : Option (List Contents)) (m : Machine) → IsFound found → Body code r l m → Body code r l (block_left r undo k found m)
       left_one undo k found m f h = record {
         routine = h.routine;
         line = h.line;

@@ -7,3 +7,7 @@ pub mod Faults
 pub mod Frames
 pub mod Raises
 pub mod Handling
+pub mod Going
+pub mod Signals
+pub mod Simple
+pub mod Blocks
