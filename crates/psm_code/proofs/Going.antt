@@ -73,10 +73,8 @@ unless_not true b h e = h
 unless_not false b h e = absurd (cc)
 
 module _ (code : RawCode) (r : RawRoutine) (at : ℕ) (l : CodeLine) (h : RightLine code r at l) where
-  pub next_ahead : (e : Effect) (k x : Letter) (puts rest : List Letter) → instruction_effect code r l.instruction N N ≡ Some e → e.ahead ≡ Some puts → rules.stated_ahead r at (Some puts) rest ≡ true
-      → Next r (suc at) (puts ++ rest) (rules.context_behind r l l.instruction)
-  next_ahead e k x puts rest q a s =
-      let goes : rules.line_goes_ahead code r l.instruction ≡ true = ap rules.goes_ahead q ∙ ap there a in
+  pub next_ahead : (puts rest : List Letter) → rules.line_goes_ahead code r l.instruction ≡ true → rules.stated_ahead r at (Some puts) rest ≡ true → Next r (suc at) (puts ++ rest) (rules.context_behind r l l.instruction)
+  next_ahead puts rest goes s =
       let jumps = where_there (rules.jump_of l.instruction) (is_there r.lines) in
       let line = is_there r.lines (suc at) in
       let targets = and_second jumps (not (rules.line_goes_ahead code r l.instruction) || line) (and_second (where_there l.resume (is_there r.lines)) (jumps && (not (rules.line_goes_ahead code r l.instruction) || line)) h.targets) in
@@ -156,7 +154,8 @@ module _ (code : RawCode) (right : first_fault code ≡ None) (r : RawRoutine) (
       let k = known code r at l line e q in
       let same : k.rest ≡ rest = let o : Some k.rest ≡ Some rest = sym k.left ∙ f in cc in
       let s : rules.stated_ahead r at (Some puts) rest ≡ true = ap (λ t. rules.stated_ahead r at (Some puts) t) (sym same) ∙ ap (λ o. rules.stated_ahead r at o k.rest) (sym a) ∙ k.ahead in
-      let x = next_ahead code r at l line e N N puts rest (q N N) a s in
+      let goes : rules.line_goes_ahead code r l.instruction ≡ true = ap rules.goes_ahead (q N N) ∙ ap there a in
+      let x = next_ahead code r at l line puts rest goes s in
       sits_at (suc at) (puts ++ rest) l.context n.running.frames n h h.body.frames (subst (Next r (suc at) (puts ++ rest)) c x)
 
   -- what an act leads to

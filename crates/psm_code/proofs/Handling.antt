@@ -85,7 +85,7 @@ module _ (code : RawCode) where
   AreFound (InBlock k found ∷ frames) = IsFound found × AreFound frames
   AreFound (InAction n resume area ∷ frames) = AreFound frames
 
-  finds_found : (atomic : Bool) (found : Option (List Contents)) → Finds code atomic found → IsFound found
+  pub finds_found : (atomic : Bool) (found : Option (List Contents)) → Finds code atomic found → IsFound found
   finds_found true None h = tt
   finds_found false None h = tt
   finds_found true (Some tables) h = h

@@ -11,3 +11,4 @@ pub mod Going
 pub mod Signals
 pub mod Simple
 pub mod Blocks
+pub mod Quiet
