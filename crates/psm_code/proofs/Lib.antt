@@ -12,3 +12,4 @@ pub mod Signals
 pub mod Simple
 pub mod Blocks
 pub mod Quiet
+pub mod Operating
