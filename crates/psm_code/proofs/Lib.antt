@@ -13,3 +13,5 @@ pub mod Simple
 pub mod Blocks
 pub mod Quiet
 pub mod Operating
+pub mod Entering
+pub mod Calls
