@@ -15,3 +15,4 @@ pub mod Quiet
 pub mod Operating
 pub mod Entering
 pub mod Calls
+pub mod Evaluating
