@@ -16,3 +16,5 @@ pub mod Operating
 pub mod Entering
 pub mod Calls
 pub mod Evaluating
+pub mod Answering
+pub mod Asking
