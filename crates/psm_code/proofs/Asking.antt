@@ -39,19 +39,19 @@ use Rattle.psm_code.proofs.Faults.{clean_first, clean_second, clean_tail, Clean}
 use Rattle.psm_code.proofs.Answering.{due_value, function_letter, in_walk_all, op_letter, walked_all}
 
 module _ (code : RawCode) (r : RawRoutine) (table : ℕ) where
-  abbrev Columns : List Letter
+  abbrev pub Columns : List Letter
   Columns = columns_at code table
 
-  abbrev Variables : List Letter
+  abbrev pub Variables : List Letter
   Variables = variables_of r
 
   -- ---- what the rules say of items
 
-  abbrev AllFit : List (List Line) → Type 0
+  abbrev pub AllFit : List (List Line) → Type 0
   AllFit [] = Unit {0}
   AllFit (c ∷ cs) = Fits Columns Variables is_value c × AllFit cs
 
-  items_fit : (codes : List (List Line)) → Clean (flat_map (item_in code r table) codes) → AllFit codes
+  pub items_fit : (codes : List (List Line)) → Clean (flat_map (item_in code r table) codes) → AllFit codes
   items_fit [] h = tt
   items_fit (c ∷ cs) h =
       (expr_fits Columns Variables is_value c (clean_first (item_in code r table c) (flat_map (item_in code r table) cs) h), items_fit cs (clean_second (item_in code r table c) (flat_map (item_in code r table) cs) h))

@@ -18,3 +18,4 @@ pub mod Calls
 pub mod Evaluating
 pub mod Answering
 pub mod Asking
+pub mod Queried
