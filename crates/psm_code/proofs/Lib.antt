@@ -19,3 +19,5 @@ pub mod Evaluating
 pub mod Answering
 pub mod Asking
 pub mod Queried
+pub mod Fetching
+pub mod Cursors
