@@ -21,3 +21,4 @@ pub mod Asking
 pub mod Queried
 pub mod Fetching
 pub mod Cursors
+pub mod Rowing
