@@ -141,7 +141,7 @@ activation_stands code n r ds f e h = record {
 
 -- ---- the arguments are taken
 
-values_reversed : (ks : List Letter) → list_all is_value ks ≡ true → list_all is_value (reverse ks) ≡ true
+pub values_reversed : (ks : List Letter) → list_all is_value ks ≡ true → list_all is_value (reverse ks) ≡ true
 values_reversed [] h = refl
 values_reversed (k ∷ ks) h =
     ap (list_all is_value) (reverse-append (k ∷ []) ks) ∙ list_all-append is_value (reverse ks) (k ∷ [])

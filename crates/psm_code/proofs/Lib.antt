@@ -22,3 +22,5 @@ pub mod Queried
 pub mod Fetching
 pub mod Cursors
 pub mod Rowing
+pub mod Legally
+pub mod Planning
