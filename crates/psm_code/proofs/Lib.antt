@@ -24,3 +24,4 @@ pub mod Cursors
 pub mod Rowing
 pub mod Legally
 pub mod Planning
+pub mod Positioned

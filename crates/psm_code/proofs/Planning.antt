@@ -47,10 +47,10 @@ schema_there (u ∷ ts) zero t e = let same : u ≡ t = cc in ap (λ (x : CodeTa
 schema_there (u ∷ ts) (suc i) t e = schema_there ts i t e
 
 module _ (code : RawCode) (r : RawRoutine) (l : CodeLine) (may : may_raise l.instruction ≡ true) where
-  schema_does : (i : ℕ) (t : CodeTable) (s : List Letter) (m : Machine) → slice_get code.tables i ≡ Some t → Has code r l s m → Does code r l (λ x n. (x ≡ schema_of t) × Has code r l s n) (schema_at code i) m
+  pub schema_does : (i : ℕ) (t : CodeTable) (s : List Letter) (m : Machine) → slice_get code.tables i ≡ Some t → Has code r l s m → Does code r l (λ x n. (x ≡ schema_of t) × Has code r l s n) (schema_at code i) m
   schema_does i t s m e h = present_does code r l (λ x n. (x ≡ schema_of t) × Has code r l s n) (slice_get (map schema_of code.tables) i) (schema_of t) m (schema_there code.tables i t e) (refl, h)
 
-  failed_does : {A : Type 0} (Q : A → Type 0) (def : TableDef) (x : Result A Failure) (s : List Letter) (m : Machine) → Has code r l s m → ((a : A) → x ≡ Ok a → Q a) → Does code r l (λ a n. Q a × Has code r l s n) (unless_failed def x) m
+  pub failed_does : {A : Type 0} (Q : A → Type 0) (def : TableDef) (x : Result A Failure) (s : List Letter) (m : Machine) → Has code r l s m → ((a : A) → x ≡ Ok a → Q a) → Does code r l (λ a n. Q a × Has code r l s n) (unless_failed def x) m
   failed_does Q def (Ok a) s m h k = record { comes = (k a refl, h) }
   failed_does Q def (Err (Raised x)) s m h k = record { comes = (may, h.body) }
   failed_does Q def (Err (OfTable x)) s m h k = record { comes = (may, h.body) }
@@ -64,11 +64,11 @@ module _ (code : RawCode) (r : RawRoutine) (l : CodeLine) (may : may_raise l.ins
   some_rows_do (row ∷ rows) s m h = record { comes = h }
 
   -- rows that fit the table and keep its rules
-  record Fine (t : CodeTable) (rows : List (List Datum)) : Type 0 where
-    fit : All (IsRow t.definition) rows
-    legal : IsLegal plain (schema_of t) rows
+  pub record Fine (t : CodeTable) (rows : List (List Datum)) : Type 0 where
+    pub fit : All (IsRow t.definition) rows
+    pub legal : IsLegal plain (schema_of t) rows
 
-  leaves_does : (i : ℕ) (t : CodeTable) (c : Contents) (rows : List (List Datum)) (count : ℕ) (s : List Letter) (m : Machine) → slice_get code.tables i ≡ Some t → c.def ≡ t.definition → Fine t rows → Has code r l s m
+  pub leaves_does : (i : ℕ) (t : CodeTable) (c : Contents) (rows : List (List Datum)) (count : ℕ) (s : List Letter) (m : Machine) → slice_get code.tables i ≡ Some t → c.def ≡ t.definition → Fine t rows → Has code r l s m
       → Does code r l (λ u n. Has code r l s n) (leaves i c rows count) m
   leaves_does i t c rows count s m e q f h = record {
     comes = record {
@@ -125,7 +125,7 @@ module _ (code : RawCode) (r : RawRoutine) (l : CodeLine) (may : may_raise l.ins
     standing_does P None s m k h = record { comes = (may, h.body) }
     standing_does P (Some row) s m k h = record { comes = (k row refl, h) }
 
-    row_does : (c : Contents) (cursor : Cursor) (s : List Letter) (m : Machine) → IsKept g.right.table c → Has code r l s m → Does code r l (λ row n. IsRow g.right.table.definition row × Has code r l s n) (row_of_cursor x c cursor) m
+    pub row_does : (c : Contents) (cursor : Cursor) (s : List Letter) (m : Machine) → IsKept g.right.table c → Has code r l s m → Does code r l (λ row n. IsRow g.right.table.definition row × Has code r l s n) (row_of_cursor x c cursor) m
     row_does c Closed s m k h = record { comes = (may, h.body) }
     row_does c (Insensitive rows) s m k h = record { comes = (may, h.body) }
     row_does c (Plain p vs) s m k h =
@@ -136,6 +136,6 @@ module _ (code : RawCode) (r : RawRoutine) (l : CodeLine) (may : may_raise l.ins
     left_kept (Plain p vs) h = h
     left_kept (Insensitive rows) h = h
 
-    leave_does : (b : Bool) (c : Cursor) (s : List Letter) (m : Machine) → Keeps code r g.query c → Has code r l s m → Does code r l (λ u n. Has code r l s n) (leave_row b number c) m
+    pub leave_does : (b : Bool) (c : Cursor) (s : List Letter) (m : Machine) → Keeps code r g.query c → Has code r l s m → Does code r l (λ u n. Has code r l s n) (leave_row b number c) m
     leave_does true c s m k h = record { comes = with_cursor_has code r l number x declared g (left_by c) s m (left_kept c k) h }
     leave_does false c s m k h = record { comes = h }
