@@ -25,3 +25,4 @@ pub mod Rowing
 pub mod Legally
 pub mod Planning
 pub mod Positioned
+pub mod Changes
