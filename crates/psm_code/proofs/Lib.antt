@@ -26,3 +26,4 @@ pub mod Legally
 pub mod Planning
 pub mod Positioned
 pub mod Changes
+pub mod Sound
