@@ -1,14 +1,12 @@
 -- How the parts of an instruction keep what is always true of a machine, one behind another.
-use Rattle.std.proofs.Common.{◌≡◌, ◌<◌, ℕ, Bool, true, false, ◌&&◌, List, [], ◌∷◌, length, refl, ap, sym, ◌∙◌, Option, Some, None, Result, Ok, Err}
-use Rattle.std.specs.Prelude.{IsTrue}
+use Rattle.std.proofs.Common.{◌≡◌, ◌<◌, ℕ, true, List, [], ◌∷◌, length, refl, Option, Some, Result, Ok, Err}
 use Rattle.psm_sqlstate.specs.declared.state.SqlState.{SqlState}
 use Rattle.psm_value.specs.declared.datum.Datum.{Datum}
-use Rattle.psm_cond.specs.Condition.{Entries}
 use Rattle.psm_exprcode.specs.declared.op.Letter.{Letter}
 use Rattle.psm_exprcode.specs.declared.op.Letter.TheVariants.{N, T, B}
 use Rattle.psm_exprcode.specs.declared.operand.Operand.{Operand}
 use Rattle.psm_exprcode.specs.declared.operand.Operand.TheVariants.{Value, Truth}
-use Rattle.psm_exprcode.specs.Kinds.{has_letter, have, is_of, is_value}
+use Rattle.psm_exprcode.specs.Kinds.{has_letter, have, is_value}
 use Rattle.psm_num.proofs.Literals.{and_first, and_second}
 use Rattle.psm_table.specs.Cursors.{Cursor}
 use Rattle.psm_table.specs.Table.{Contents}
@@ -19,8 +17,8 @@ use Rattle.psm_code.specs.Calling.{most_depth}
 use Rattle.psm_code.specs.Instructions.{may_raise}
 use Rattle.psm_code.specs.Parts.{line_at, routine_at, slots_of}
 use Rattle.psm_code.specs.Sits.{are_stored, is_due, AllWait, AreCursors, AreKept, Stand}
-use Rattle.psm_code.specs.State.{Activation, Frame, Machine, End}
-use Rattle.psm_code.specs.Steps.{Act, Came, Given, Got, Raises, Ends, go_on, left_with, of_state, pop, popped, present, tried, ◌>>=◌}
+use Rattle.psm_code.specs.State.{Activation, Frame, Machine}
+use Rattle.psm_code.specs.Steps.{Act, Given, Got, Raises, Ends, go_on, pop, popped, present, tried, ◌>>=◌}
 
 -- what holds of an activation at a line, of those that called it and of the tables
 pub record Lives (code : RawCode) (r : RawRoutine) (l : CodeLine) (n at : ℕ) (vars : List Datum) (open_ones : List Cursor) (entered : List Frame) (others : List Activation) (now : List Contents) : Type 0 where

@@ -1,38 +1,28 @@
 -- The rows of an answer have the letters of the query's items.
-use Rattle.std.proofs.Common.{◌≡◌, ℕ, zero, suc, ◌+◌, Bool, true, false, ◌&&◌, List, [], ◌∷◌, ◌++◌, length, map, reverse, refl, ap, sym, subst, ◌∙◌, arith, Option, Some, None, Result, Ok, Err}
-use Rattle.std.specs.Prelude.{All, filter, not, slice_get, slice_index_or, if◌then◌else◌}
-use Rattle.std.specs.List.{cons_option, flat_map, list_all}
+use Rattle.std.proofs.Common.{◌≡◌, ℕ, Bool, true, false, List, [], ◌∷◌, length, reverse, refl, ap, sym, subst, ◌∙◌, Option, Some, None, Result, Ok, Err}
+use Rattle.std.specs.Prelude.{All, if◌then◌else◌}
+use Rattle.std.specs.List.{cons_option}
 use Rattle.std.proofs.lemmas.List.{reverse-append}
-use Rattle.std.proofs.lemmas.List.Elements.{All-append, All-cons, All-filter, All-head, All-map, All-nil, All-tail}
-use Rattle.psm_num.proofs.Literals.{and_first, and_second}
+use Rattle.std.proofs.lemmas.List.Elements.{All-append, All-cons, All-head, All-nil, All-tail}
 use Rattle.psm_num.specs.Num as num
 use Rattle.psm_sqlstate.specs.declared.state.SqlState.{SqlState}
 use Rattle.psm_value.specs.declared.datum.Datum.{Datum}
-use Rattle.psm_value.specs.declared.datum.Datum.TheVariants.{Null, Num, Text}
+use Rattle.psm_value.specs.declared.datum.Datum.TheVariants.{Null, Num}
 use Rattle.psm_value.specs.declared.truth.Truth.{Truth}
-use Rattle.psm_exprcode.specs.declared.aggregate.Aggregate.{Aggregate}
 use Rattle.psm_exprcode.specs.declared.aggregate.SetFunction.{SetFunction}
 use Rattle.psm_exprcode.specs.declared.aggregate.SetFunction.TheVariants as sets
-use Rattle.psm_exprcode.specs.declared.items.Items.{Items}
-use Rattle.psm_exprcode.specs.declared.items.Items.TheVariants as items
 use Rattle.psm_exprcode.specs.declared.op.Letter.{Letter}
-use Rattle.psm_exprcode.specs.declared.op.Letter.TheVariants.{N, T, B}
+use Rattle.psm_exprcode.specs.declared.op.Letter.TheVariants.{N}
 use Rattle.psm_exprcode.specs.declared.op.Line.{Line}
-use Rattle.psm_exprcode.specs.Kinds.{are_of, has_letter, is_letter, is_value}
+use Rattle.psm_exprcode.specs.Kinds.{has_letter, is_value}
 use Rattle.psm_exprcode.proofs.Results.{null-letter}
-use Rattle.psm_exprcode.proofs.Standing.{both_true}
 use Rattle.psm_exprcode.proofs.Stripping.{is_letter-same}
-use Rattle.psm_table.specs.Evaluator.{and_then, collected, mapped, test_of, values_of}
+use Rattle.psm_table.specs.Evaluator.{and_then, mapped}
 use Rattle.psm_table.specs.Queries.{answered, averaged, column, finished, first_by, function_of, in_range, in_walk, is_met, known, operand_of, operands_of, ranged, summed, walked, Answer}
 use Rattle.psm_table.specs.Queries as queries
-use Rattle.psm_table.specs.Unique.{is_null}
-use Rattle.psm_tablecode.specs.Codes.{items_of, over, set_function, set_of}
-use Rattle.psm_code.specs.declared.code.RawCode.{RawCode}
-use Rattle.psm_code.specs.declared.code.RawRoutine.{RawRoutine}
-use Rattle.psm_code.specs.Instructions.{columns_at, end_letter, item_letters, set_letter, variables_of}
-use Rattle.psm_code.specs.PlanRules.{is_due, item_in, items_in, operand_in, set_in}
-use Rattle.psm_code.proofs.Evaluating.{end_is, expr_fits, taken, value_letter, Fits}
-use Rattle.psm_code.proofs.Faults.{clean_first, clean_second, clean_tail, Clean}
+use Rattle.psm_tablecode.specs.Codes.{set_function}
+use Rattle.psm_code.specs.Instructions.{end_letter, set_letter}
+use Rattle.psm_code.specs.PlanRules.{is_due}
 
 -- ---- rows of a walk
 

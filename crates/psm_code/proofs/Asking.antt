@@ -1,28 +1,23 @@
 -- The answers of queries of right code.
-use Rattle.std.proofs.Common.{◌≡◌, ℕ, zero, suc, ◌+◌, Bool, true, false, ◌&&◌, List, [], ◌∷◌, ◌++◌, map, reverse, refl, ap, sym, subst, ◌∙◌, arith, Option, Some, None, Result, Ok, Err}
-use Rattle.std.specs.Prelude.{All, filter, not, slice_get, slice_index_or, if◌then◌else◌}
-use Rattle.std.specs.List.{cons_option, flat_map, list_all}
-use Rattle.std.proofs.lemmas.List.{reverse-append}
-use Rattle.std.proofs.lemmas.List.Elements.{All-append, All-cons, All-filter, All-head, All-map, All-nil, All-tail}
+use Rattle.std.proofs.Common.{◌≡◌, ℕ, zero, suc, ◌+◌, Bool, true, false, List, [], ◌∷◌, map, refl, ap, sym, subst, ◌∙◌, arith, Option, Some, None, Result, Ok, Err}
+use Rattle.std.specs.Prelude.{All, not, slice_get, slice_index_or}
+use Rattle.std.specs.List.{flat_map, list_all}
+use Rattle.std.proofs.lemmas.List.Elements.{All-cons, All-filter, All-head, All-nil, All-tail}
 use Rattle.psm_num.proofs.Literals.{and_first, and_second}
-use Rattle.psm_num.specs.Num as num
 use Rattle.psm_sqlstate.specs.declared.state.SqlState.{SqlState}
 use Rattle.psm_value.specs.declared.datum.Datum.{Datum}
-use Rattle.psm_value.specs.declared.datum.Datum.TheVariants.{Null, Num, Text}
-use Rattle.psm_value.specs.declared.truth.Truth.{Truth}
+use Rattle.psm_value.specs.declared.datum.Datum.TheVariants.{Null}
 use Rattle.psm_exprcode.specs.declared.aggregate.Aggregate.{Aggregate}
 use Rattle.psm_exprcode.specs.declared.aggregate.SetFunction.{SetFunction}
 use Rattle.psm_exprcode.specs.declared.aggregate.SetFunction.TheVariants as sets
 use Rattle.psm_exprcode.specs.declared.items.Items.{Items}
 use Rattle.psm_exprcode.specs.declared.items.Items.TheVariants as items
 use Rattle.psm_exprcode.specs.declared.op.Letter.{Letter}
-use Rattle.psm_exprcode.specs.declared.op.Letter.TheVariants.{N, T, B}
+use Rattle.psm_exprcode.specs.declared.op.Letter.TheVariants.{N}
 use Rattle.psm_exprcode.specs.declared.op.Line.{Line}
-use Rattle.psm_exprcode.specs.Kinds.{are_of, has_letter, is_letter, is_value}
-use Rattle.psm_exprcode.proofs.Results.{null-letter}
+use Rattle.psm_exprcode.specs.Kinds.{are_of, has_letter, is_value}
 use Rattle.psm_exprcode.proofs.Standing.{both_true}
-use Rattle.psm_exprcode.proofs.Stripping.{is_letter-same}
-use Rattle.psm_table.specs.Evaluator.{and_then, collected, mapped, test_of, values_of}
+use Rattle.psm_table.specs.Evaluator.{and_then, mapped, test_of, values_of}
 use Rattle.psm_table.specs.Queries.{answered, averaged, column, finished, first_by, function_of, in_range, in_walk, is_met, known, operand_of, operands_of, ranged, summed, walked, Answer}
 use Rattle.psm_table.specs.Queries as queries
 use Rattle.psm_table.specs.Unique.{is_null}
@@ -32,11 +27,10 @@ use Rattle.psm_code.specs.declared.code.RawRoutine.{RawRoutine}
 use Rattle.psm_code.specs.Instructions.{columns_at, end_letter, item_letters, set_letter, variables_of}
 use Rattle.psm_code.specs.PlanRules.{is_due, item_in, items_in, operand_in, set_in}
 use Rattle.psm_code.proofs.Evaluating.{end_is, expr_fits, taken, value_letter, Fits}
-use Rattle.psm_code.proofs.Faults.{clean_first, clean_second, clean_tail, Clean}
-
+use Rattle.psm_code.proofs.Faults.{clean_first, clean_second, Clean}
 -- ---- rows of a walk
 
-use Rattle.psm_code.proofs.Answering.{due_value, function_letter, in_walk_all, op_letter, walked_all}
+use Rattle.psm_code.proofs.Answering.{due_value, function_letter, op_letter, walked_all}
 
 module _ (code : RawCode) (r : RawRoutine) (table : ℕ) where
   abbrev pub Columns : List Letter
@@ -109,7 +103,7 @@ module _ (code : RawCode) (r : RawRoutine) (table : ℕ) where
     row_letters (c ∷ cs) row ds f w e =
         let t = taken (λ e. (over vars).value e row) c cs ds e in
         let first : has_letter (end_letter Columns Variables c) t.first ≡ true =
-            ap (λ k. has_letter k t.first) (end_is Columns Variables is_value c f.0) ∙ value_letter Columns Variables row vars c f.0.end t.first w s f.0.fits f.0.is_due t.is_first in
+        ap (λ k. has_letter k t.first) (end_is Columns Variables is_value c f.0) ∙ value_letter Columns Variables row vars c f.0.end t.first w s f.0.fits f.0.is_due t.is_first in
         ap (are_of (end_letter Columns Variables c ∷ map (end_letter Columns Variables) cs)) (sym t.same)
         ∙ both_true (has_letter (end_letter Columns Variables c) t.first) (are_of (map (end_letter Columns Variables) cs) t.rest) first (row_letters cs row t.rest f.1 w t.is_rest)
 
@@ -150,6 +144,7 @@ module _ (code : RawCode) (r : RawRoutine) (table : ℕ) where
     finished_letters ks rows i (a ∷ ags) ds h at f e = by (function_of (set_function a.function) (known (column rows i))) (finished rows (i + 1) (map set_of ags)) refl (λ rest q. finished_letters ks rows (i + 1) ags rest h next f.1 q) e where
       next : (j : ℕ) (b : Aggregate) → slice_get ags j ≡ Some b → slice_get ks (i + 1 + j) ≡ Some (op_letter Columns Variables b.operand)
       next j b q = let n : i + suc j ≡ i + 1 + j = omega arith in ap (slice_get ks) (sym n) ∙ at (suc j) b q
+
       by : (x : Result Datum SqlState) (y : Result (List Datum) SqlState) → function_of (set_function a.function) (known (column rows i)) ≡ x
           → ((rest : List Datum) → y ≡ Ok rest → are_of (map (λ a. set_letter Columns Variables a.function a.operand) ags) rest ≡ true) → and_then x (λ v. mapped (λ vs. v ∷ vs) y) ≡ Ok ds
           → are_of (set_letter Columns Variables a.function a.operand ∷ map (λ a. set_letter Columns Variables a.function a.operand) ags) ds ≡ true
@@ -159,7 +154,7 @@ module _ (code : RawCode) (r : RawRoutine) (table : ℕ) where
           let here : slice_get ks i ≡ Some (op_letter Columns Variables a.operand) = ap (slice_get ks) (sym z) ∙ at 0 a refl in
           let P : Datum → Type 0 = λ v. has_letter (op_letter Columns Variables a.operand) v ≡ true in
           let first = function_letter Columns Variables a.function a.operand (known (column rows i)) d (operand_value a.function a.operand f.0)
-              (All-filter (λ v. not (is_null v)) P (column rows i) (column_letters ks rows i (op_letter Columns Variables a.operand) h here)) q in
+          (All-filter (λ v. not (is_null v)) P (column rows i) (column_letters ks rows i (op_letter Columns Variables a.operand) h here)) q in
           ap (are_of (set_letter Columns Variables a.function a.operand ∷ map (λ a. set_letter Columns Variables a.function a.operand) ags)) (sym same)
           ∙ both_true (has_letter (set_letter Columns Variables a.function a.operand) d) (are_of (map (λ a. set_letter Columns Variables a.function a.operand) ags) rest) first (k rest refl)
       by (Ok d) (Err x) q k g = absurd (cc)

@@ -1,5 +1,5 @@
 -- Blocks that are entered and left, and actions that end.
-use Rattle.std.proofs.Common.{◌≡◌, ℕ, zero, suc, Bool, true, false, ◌&&◌, ◌||◌, nat_eq, List, [], ◌∷◌, ◌++◌, refl, ap, sym, subst, ◌∙◌, eqb-true, eq-eqb, Option, Some, None}
+use Rattle.std.proofs.Common.{◌≡◌, ℕ, suc, Bool, true, false, ◌||◌, nat_eq, List, [], ◌∷◌, refl, ap, sym, subst, ◌∙◌, eqb-true, eq-eqb, Option, Some, None}
 use Rattle.std.specs.Prelude.{codes, not, reverse, if◌then◌else◌}
 use Rattle.psm_num.proofs.Literals.{and_first, and_second}
 use Rattle.psm_cond.specs.declared.handlers.Block.{Block}
@@ -13,7 +13,7 @@ use Rattle.psm_cond.specs.Handlers.{context_at, parent_of}
 use Rattle.psm_exprcode.specs.declared.op.Letter.{Letter}
 use Rattle.psm_exprcode.specs.declared.op.Letter.TheVariants.{N}
 use Rattle.psm_exprcode.specs.Kinds.{have}
-use Rattle.psm_exprcode.specs.Operations.{Effect, plain}
+use Rattle.psm_exprcode.specs.Operations.{plain}
 use Rattle.psm_table.specs.Table.{Contents}
 use Rattle.psm_code.specs.declared.code.RawCode.{RawCode}
 use Rattle.psm_code.specs.declared.code.RawRoutine.{RawRoutine}
@@ -21,16 +21,16 @@ use Rattle.psm_code.specs.declared.instruction.Instruction.{Instruction}
 use Rattle.psm_code.specs.declared.instruction.Instruction.TheVariants as instruction
 use Rattle.psm_code.specs.declared.lines.CodeLine.{CodeLine}
 use Rattle.psm_code.specs.Instructions.{instruction_effect}
-use Rattle.psm_code.specs.Parts.{block_at, block_of_context, block_of_kind, handler_at, line_at}
+use Rattle.psm_code.specs.Parts.{block_at, block_of_context, block_of_kind, handler_at}
 use Rattle.psm_code.specs.Raising.{block_left}
 use Rattle.psm_code.specs.RoutineRules as rules
 use Rattle.psm_code.specs.RoutineRules.{first_fault}
-use Rattle.psm_code.specs.Rows.{act_ended, action_ended, ahead, at, done, end_action, enter, exit, exited, finding, line_behind, settled, then_ahead, with_frames, Way}
+use Rattle.psm_code.specs.Rows.{act_ended, action_ended, ahead, end_action, enter, exit, exited, finding, line_behind, then_ahead, with_frames, Way}
 use Rattle.psm_code.specs.Rules.{is_some, there}
-use Rattle.psm_code.specs.Sits.{are_bare, is_bare, is_leaving, AreKept, Ends, Finds, IsActing, IsEntered, Stand, StaysRight}
+use Rattle.psm_code.specs.Sits.{are_bare, is_bare, is_leaving, AreKept, Ends, Finds, IsEntered, Stand, StaysRight}
 use Rattle.psm_code.specs.State.{Frame, InBlock, InAction, Lacking, Machine, cleared}
 use Rattle.psm_code.specs.Steps.{change, ends, read}
-use Rattle.psm_code.proofs.Acts.{Body, Does, Has, and_then, present_does}
+use Rattle.psm_code.proofs.Acts.{Does, Has, and_then, present_does}
 use Rattle.psm_code.proofs.Faults.{line_bare, RightRoutine}
 use Rattle.psm_code.proofs.Going.{bears, known, next_ahead, settles, sits_at, Next}
 use Rattle.psm_code.proofs.Handling.{finds_found, left_one}
@@ -80,7 +80,7 @@ module _ (code : RawCode) (right : first_fault code ≡ None) (r : RawRoutine) (
       let stands = (right_here code right r g c resume s i m h).stands in
       let b = there_some (block_at r k) (and_first (there (block_at r k)) (nat_eq (rules.parent_of_context (context_at r.handlers k)) c) stands) in
       let up : c ≡ parent_of (context_at r.handlers k) =
-          sym (eqb-true (rules.parent_of_context (context_at r.handlers k)) c (and_second (there (block_at r k)) (nat_eq (rules.parent_of_context (context_at r.handlers k)) c) stands)) ∙ parent_same (context_at r.handlers k) in
+      sym (eqb-true (rules.parent_of_context (context_at r.handlers k)) c (and_second (there (block_at r k)) (nat_eq (rules.parent_of_context (context_at r.handlers k)) c) stands)) ∙ parent_same (context_at r.handlers k) in
       let frames = InBlock k (finding b.0.atomic m.tables) ∷ m.running.frames in
       let entered : IsEntered code r k (finding b.0.atomic m.tables) k = record { block = b.0; there = b.1; same = refl; finds = finding_finds code b.0.atomic m.tables h.body.tables } in
       let stand : Stand code r frames k = (entered, subst (Stand code r m.running.frames) up h.body.frames) in

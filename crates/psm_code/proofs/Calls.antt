@@ -1,6 +1,6 @@
 -- Calls of routines, and how they end.
-use Rattle.std.proofs.Common.{◌≡◌, ◌⊎◌, inl, inr, ℕ, zero, suc, ◌+◌, ◌<◌, Bool, true, false, ◌&&◌, nat_eq, List, [], ◌∷◌, ◌++◌, length, map, refl, ap, sym, subst, ◌∙◌, arith, eq-eqb, eqb-true, Option, Some, None, Result, Ok, Err}
-use Rattle.std.specs.Prelude.{codes, not, option_map, reverse, slice_get, filter, if◌then◌else◌}
+use Rattle.std.proofs.Common.{◌≡◌, ℕ, suc, ◌+◌, ◌<◌, Bool, true, false, ◌&&◌, List, [], ◌∷◌, ◌++◌, length, map, refl, ap, sym, subst, ◌∙◌, arith, eq-eqb, eqb-true, Option, Some, None}
+use Rattle.std.specs.Prelude.{codes, not, option_map, reverse, slice_get, if◌then◌else◌}
 use Rattle.std.specs.List.{list_all}
 use Rattle.std.proofs.lemmas.List.{length-reverse, length-map}
 use Rattle.psm_num.proofs.Literals.{and_first, and_second}
@@ -11,13 +11,12 @@ use Rattle.psm_value.proofs.Stable.{stored-as_stored}
 use Rattle.psm_exprcode.specs.declared.op.Letter.{Letter}
 use Rattle.psm_exprcode.specs.declared.op.Letter.TheVariants.{N}
 use Rattle.psm_exprcode.specs.declared.operand.Operand.{Operand}
-use Rattle.psm_exprcode.specs.Kinds.{are_of, has_letter, have, is_value, letter_of}
-use Rattle.psm_exprcode.specs.Operations.{Effect, plain}
+use Rattle.psm_exprcode.specs.Kinds.{are_of, has_letter, have, letter_of}
+use Rattle.psm_exprcode.specs.Operations.{Effect}
 use Rattle.psm_exprcode.specs.WellFormed.{is_type, left_of}
 use Rattle.psm_exprcode.proofs.Results.{letter_of-value}
 use Rattle.psm_exprcode.proofs.Standing.{both_true}
 use Rattle.psm_exprcode.proofs.Stripping.{left_of-some}
-use Rattle.psm_table.specs.Table.{Contents}
 use Rattle.psm_code.specs.declared.code.Parameter.{Parameter}
 use Rattle.psm_code.specs.declared.code.ParameterMode.{ParameterMode}
 use Rattle.psm_code.specs.declared.code.ParameterMode.TheVariants.{In, Out, InOut}
@@ -31,18 +30,18 @@ use Rattle.psm_code.specs.Calling.{call, end_of, left_values, most_depth, on_top
 use Rattle.psm_code.specs.Calling as calling
 use Rattle.psm_code.specs.Instructions.{function_effect, instruction_effect, may_raise, of_routine, parameter_letters, procedure_effect}
 use Rattle.psm_code.specs.Instructions as table
-use Rattle.psm_code.specs.Parts.{back, given_back, gives, giving, line_at, routine_at, slots_of, takes, taking}
+use Rattle.psm_code.specs.Parts.{back, given_back, gives, giving, routine_at, takes, taking}
 use Rattle.psm_code.specs.RoutineRules as rules
 use Rattle.psm_code.specs.RoutineRules.{first_fault}
-use Rattle.psm_code.specs.Rows.{call_from, done, here, return, settled, Way}
+use Rattle.psm_code.specs.Rows.{call_from, here, return, settled}
 use Rattle.psm_code.specs.Rules.{is_same, is_some, there, where_there}
 use Rattle.psm_code.specs.Sits.{are_stored, is_call_of, AllWait, AreKept, Sits, Stand, StaysRight, Waits}
 use Rattle.psm_code.specs.State.{Activation, Machine, cleared}
-use Rattle.psm_code.specs.Steps.{Act, change, pop, pops, present, read, tried, turn, ◌>>=◌, ◌>>◌}
-use Rattle.psm_code.proofs.Acts.{Body, Does, Has, and_then, pop_does, present_does, tried_does}
+use Rattle.psm_code.specs.Steps.{Act, change, pops, read, turn, ◌>>=◌, ◌>>◌}
+use Rattle.psm_code.proofs.Acts.{Does, Has, and_then, pop_does, present_does, tried_does}
 use Rattle.psm_code.proofs.Entering.{activation_stands, argument_values, bounded_does, entered_does, first_line, pops_does, turn_does}
-use Rattle.psm_code.proofs.Faults.{clean_each, clean_head, line_right, routine_right, three_hold, two_hold, RightLine, RightRoutine}
-use Rattle.psm_code.proofs.Going.{bears, known, next_ahead, settles, Known, Next}
+use Rattle.psm_code.proofs.Faults.{clean_each, clean_head, line_right, routine_right, three_hold, two_hold, RightRoutine}
+use Rattle.psm_code.proofs.Going.{bears, known, next_ahead, settles}
 use Rattle.psm_code.proofs.Operating.{stored_letter}
 use Rattle.psm_code.proofs.Raises.{there_some, where_some}
 use Rattle.psm_code.proofs.Simple.{right_here, with, Kept}
@@ -88,23 +87,26 @@ module _ (code : RawCode) (right : first_fault code ≡ None) (r : RawRoutine) (
       record {
         running = activation_stands code n q ds first there vs;
         operands = ap (λ s. have (reverse s) []) first.bare;
-        callers = (record {
-          stands = record {
-            routine = r;
-            line = with code right r g c resume s i;
-            routine_there = h.body.routine;
-            line_there = h.body.line;
-            variables = h.body.variables;
-            cursors = h.body.cursors;
-            frames = h.body.frames;
-          };
-          calls = is;
-          effect = e;
-          is_effect = effect;
-          below = rest;
-          is_below = left;
-          operands = h.operands;
-        }, h.body.callers);
+        callers = (
+          record {
+            stands = record {
+              routine = r;
+              line = with code right r g c resume s i;
+              routine_there = h.body.routine;
+              line_there = h.body.line;
+              variables = h.body.variables;
+              cursors = h.body.cursors;
+              frames = h.body.frames;
+            };
+            calls = is;
+            effect = e;
+            is_effect = effect;
+            below = rest;
+            is_below = left;
+            operands = h.operands;
+          },
+          h.body.callers,
+        );
         depth = less;
         tables = h.body.tables;
       }
@@ -128,9 +130,9 @@ module _ (code : RawCode) (right : first_fault code ≡ None) (r : RawRoutine) (
       let has : Has code r l (ks ++ k.rest) m = record { body = h.body; operands = ap (λ s. have s m.running.operands) (sym below) ∙ h.operands } in
       let many : length ks ≡ length (taking q.parameters) = length-reverse (parameter_letters (taking q.parameters)) ∙ length-map (taking q.parameters) (λ p. letter_of p.kind) in
       let popped : (j : Machine) → Has code r l (ks ++ k.rest) j → Does code r l (λ args v. (length args ≡ length (taking q.parameters)) × Has code r l k.rest v) (pops (length (taking q.parameters)) []) j = λ j f.
-          let none : length ks + 0 ≡ length ks = omega arith in
-          let all = subst (λ z. Does code r l (λ args v. (length args ≡ z) × Has code r l k.rest v) (pops (length ks) []) j) none (pops_does code r l ks k.rest [] j (argument_values (taking q.parameters)) f) in
-          subst (λ z. Does code r l (λ args v. (length args ≡ z) × Has code r l k.rest v) (pops z []) j) many all in
+      let none : length ks + 0 ≡ length ks = omega arith in
+      let all = subst (λ z. Does code r l (λ args v. (length args ≡ z) × Has code r l k.rest v) (pops (length ks) []) j) none (pops_does code r l ks k.rest [] j (argument_values (taking q.parameters)) f) in
+      subst (λ z. Does code r l (λ args v. (length args ≡ z) × Has code r l k.rest v) (pops z []) j) many all in
       settles code right r g l (call_from code n) m (bears code right r g l m h.body (λ x. wants))
       (and_then code r l (λ u n. StaysRight code (here n)) _ (call code n) _ m
       (and_then code r l (λ y j. (y ≡ q) × Has code r l (ks ++ k.rest) j) _ _ _ m (present_does code r l _ (routine_at code n) q m there (refl, has)) (λ y j f.
@@ -186,7 +188,7 @@ module _ (code : RawCode) (right : first_fault code ≡ None) where
       let known_one = known code st.routine a.line st.line line w.effect (λ k x. call_same code st.routine callee i k x w.calls ∙ w.is_effect) in
       let same : known_one.rest ≡ w.below = let o : Some known_one.rest ≡ Some w.below = sym known_one.left ∙ w.is_below in cc in
       let stated : rules.stated_ahead st.routine a.line (Some puts) w.below ≡ true =
-          ap (λ t. rules.stated_ahead st.routine a.line (Some puts) t) (sym same) ∙ ap (λ o. rules.stated_ahead st.routine a.line o known_one.rest) (sym q) ∙ known_one.ahead in
+      ap (λ t. rules.stated_ahead st.routine a.line (Some puts) t) (sym same) ∙ ap (λ o. rules.stated_ahead st.routine a.line o known_one.rest) (sym q) ∙ known_one.ahead in
       let goes : rules.line_goes_ahead code st.routine i ≡ true = ap rules.goes_ahead w.is_effect ∙ ap there q in
       let next = next_ahead code st.routine a.line st.line line puts w.below goes stated in
       record {
@@ -246,6 +248,7 @@ given_letters (p ∷ ps) more [] h = absurd (cc)
 given_letters (p ∷ ps) more (v ∷ vs) h = by p.mode (given_letters ps more vs (and_second (is_stored p.kind v) (are_stored (map (λ p. p.kind) ps ++ more) vs) h)) where
   letter : has_letter (letter_of p.kind) v ≡ true
   letter = stored_letter p.kind v (and_first (is_stored p.kind v) (are_stored (map (λ p. p.kind) ps ++ more) vs) h)
+
   by : (mode : ParameterMode) → are_of (parameter_letters (giving ps)) (given_back ps vs) ≡ true → are_of (parameter_letters (if gives mode then p ∷ giving ps else giving ps)) (back mode v (given_back ps vs)) ≡ true
   by In rest = rest
   by Out rest = both_true (has_letter (letter_of p.kind) v) (are_of (parameter_letters (giving ps)) (given_back ps vs)) letter rest
@@ -284,6 +287,8 @@ module _ (code : RawCode) (right : first_fault code ≡ None) (r : RawRoutine) (
       and_then code r l (λ y n. (y ≡ r) × Has code r l k.rest n) _ _ _ n (present_does code r l _ (routine_at code j) r n f.0 (refl, f.1)) (λ y n f.
       and_then code r l (λ u n. (u ≡ t.0) × Has code r l k.rest n) _ _ _ n (present_does code r l _ y.returns t.0 n (ap (λ (y : RawRoutine). y.returns) f.0 ∙ t.1) (refl, f.1)) (λ u n f.
       tried_does code r l (λ v. is_stored t.0 v ≡ true) (Has code r l k.rest) (stored u d) n refl f.1.body f.1 (λ v q. stored-as_stored t.0 d v (ap (λ x. stored x d) (sym f.0) ∙ q)))))))
-      (λ d n f. record { comes = leaves code right n.running.routine (letter_of t.0 ∷ []) (d ∷ []) n.callers (cleared n)
-      (λ a w. function_puts code right n.running.routine r t.0 w.stands.routine w.stands.line.instruction w.effect (caller_stands n.running.routine a w) w.calls w.is_effect f.1.body.routine line.place t.1)
-      (both_true (has_letter (letter_of t.0) d) true (stored_letter t.0 d f.0) refl) f.1.body.callers f.1.body.depth f.1.body.tables }))
+      (λ d n f. record {
+        comes = leaves code right n.running.routine (letter_of t.0 ∷ []) (d ∷ []) n.callers (cleared n)
+            (λ a w. function_puts code right n.running.routine r t.0 w.stands.routine w.stands.line.instruction w.effect (caller_stands n.running.routine a w) w.calls w.is_effect f.1.body.routine line.place t.1)
+            (both_true (has_letter (letter_of t.0) d) true (stored_letter t.0 d f.0) refl) f.1.body.callers f.1.body.depth f.1.body.tables;
+      }))

@@ -8,9 +8,7 @@ use Rattle.psm_num.proofs.Literals.{and_first, and_second}
 use Rattle.psm_value.specs.declared.datum.Datum.{Datum}
 use Rattle.psm_value.specs.declared.sqltype.SqlType.{SqlType}
 use Rattle.psm_exprcode.specs.declared.op.Letter.{Letter}
-use Rattle.psm_exprcode.specs.declared.op.Line.{Line}
 use Rattle.psm_exprcode.specs.declared.query.Query.{Query}
-use Rattle.psm_exprcode.specs.declared.set_item.SetItem as set_code
 use Rattle.psm_exprcode.specs.Kinds.{is_value, letter_of}
 use Rattle.psm_exprcode.specs.Operations.{Effect, plain}
 use Rattle.psm_exprcode.proofs.Results.{letter_of-value}
@@ -21,24 +19,23 @@ use Rattle.psm_code.specs.declared.code.Plan.{Plan}
 use Rattle.psm_code.specs.declared.code.Plan.TheVariants as plans
 use Rattle.psm_code.specs.declared.code.RawCode.{RawCode}
 use Rattle.psm_code.specs.declared.code.RawRoutine.{RawRoutine}
-use Rattle.psm_code.specs.declared.instruction.Instruction.{Instruction}
 use Rattle.psm_code.specs.declared.instruction.Instruction.TheVariants as instruction
 use Rattle.psm_code.specs.declared.lines.CodeLine.{CodeLine}
 use Rattle.psm_code.specs.declared.rule.CodeRule.TheVariants as rule
 use Rattle.psm_code.specs.Instructions.{column_letters, letters_at, letters_in, may_raise, of_plan, plan_letters, table_letters, values_letters, with_letter}
-use Rattle.psm_code.specs.PlanRules.{columns_there, fits_columns, is_positioned, plan_fault, plan_faults, plan_parts}
+use Rattle.psm_code.specs.PlanRules.{columns_there, fits_columns, is_positioned, plan_faults, plan_parts}
 use Rattle.psm_code.specs.Plans.{in_rows, put_in, some_rows}
 use Rattle.psm_code.specs.Plans as planning
 use Rattle.psm_code.specs.RoutineRules as rules
 use Rattle.psm_code.specs.RoutineRules.{first_fault}
-use Rattle.psm_code.specs.Rules.{first_of, is_some, is_there, unless, where_there}
+use Rattle.psm_code.specs.Rules.{is_some, is_there, unless, where_there}
 use Rattle.psm_code.specs.State.{Machine}
 use Rattle.psm_code.specs.Steps.{Act, Given, Got, Raises, Ends, pops, ◌>>=◌}
 use Rattle.psm_code.specs.Querying.{answer_of}
 use Rattle.psm_code.specs.TableRules.{is_column_list}
-use Rattle.psm_code.proofs.Acts.{Body, Comes, Does, Has, and_then, present_does}
+use Rattle.psm_code.proofs.Acts.{Comes, Does, Has, and_then, present_does}
 use Rattle.psm_code.proofs.Entering.{pops_does, values_reversed}
-use Rattle.psm_code.proofs.Faults.{clean_flat, clean_head, two_hold, Clean, RightLine, RightRoutine}
+use Rattle.psm_code.proofs.Faults.{clean_flat, clean_head, two_hold, Clean, RightRoutine}
 use Rattle.psm_code.proofs.Fetching.{right_cursor}
 use Rattle.psm_code.proofs.Going.{bears, choose, goes_straight}
 use Rattle.psm_code.proofs.Planning.{delete_rows_does, put_in_does, some_rows_do, update_rows_does}

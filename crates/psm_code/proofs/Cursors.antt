@@ -1,60 +1,28 @@
 -- The instructions about cursors.
-use Rattle.std.proofs.Common.{◌≡◌, ℕ, zero, suc, Bool, true, false, ◌&&◌, List, [], ◌∷◌, ◌++◌, length, refl, ap, sym, subst, ◌∙◌, Option, Some, None, Result, Ok, Err}
-use Rattle.std.specs.Prelude.{All, IfSome, codes, option_map, reverse, slice_get, slice_set, slice_index_or, filter, if◌then◌else◌}
-use Rattle.std.proofs.lemmas.List.{length-map}
-use Rattle.std.proofs.lemmas.List.Elements.{All-filter, All-head, All-tail}
-use Rattle.psm_num.proofs.Literals.{and_first, and_second}
-use Rattle.psm_sqlstate.specs.declared.state.SqlState.{SqlState}
+use Rattle.std.proofs.Common.{◌≡◌, ℕ, true, List, [], refl, ap, sym, subst, ◌∙◌, Option, Some, None}
+use Rattle.std.specs.Prelude.{codes, option_map, reverse, slice_get}
 use Rattle.psm_value.specs.declared.datum.Datum.{Datum}
-use Rattle.psm_value.specs.declared.datum.Datum.TheVariants.{Null}
-use Rattle.psm_value.specs.declared.truth.Truth.{Truth}
-use Rattle.psm_exprcode.specs.declared.items.Items.{Items}
-use Rattle.psm_exprcode.specs.declared.items.Items.TheVariants as items
 use Rattle.psm_exprcode.specs.declared.op.Letter.{Letter}
-use Rattle.psm_exprcode.specs.declared.op.Letter.TheVariants.{N}
-use Rattle.psm_exprcode.specs.declared.query.Query.{Query}
 use Rattle.psm_exprcode.specs.Kinds.{are_of}
 use Rattle.psm_exprcode.specs.Operations.{Effect}
 use Rattle.psm_exprcode.specs.Operations as table
-use Rattle.psm_exprcode.specs.WellFormed.{left_of}
-use Rattle.psm_table.specs.Cursors.{advanced, arrived, before_first, first_met, lies_past, rows_past, Closed, Cursor, Insensitive, Plain, Position}
-use Rattle.psm_table.specs.Definition.{IsKey}
-use Rattle.psm_table.specs.declared.definition.TableDef.{TableDef}
-use Rattle.psm_table.specs.Evaluator.{and_then as then_of, mapped, test_of, values_of, Evaluator}
-use Rattle.psm_table.specs.Key.{values_at}
-use Rattle.psm_table.specs.Queries.{in_walk, is_met}
-use Rattle.psm_table.specs.Queries as queries
-use Rattle.psm_table.specs.Table.{Contents}
-use Rattle.psm_tablecode.specs.Codes.{over, query_of}
 use Rattle.psm_code.specs.declared.code.CodeCursor.{CodeCursor}
-use Rattle.psm_code.specs.declared.code.CodeTable.{CodeTable}
 use Rattle.psm_code.specs.declared.code.RawCode.{RawCode}
 use Rattle.psm_code.specs.declared.code.RawRoutine.{RawRoutine}
-use Rattle.psm_code.specs.declared.instruction.Instruction.{Instruction}
 use Rattle.psm_code.specs.declared.instruction.Instruction.TheVariants as instruction
-use Rattle.psm_code.specs.declared.lines.CodeLine.{CodeLine}
-use Rattle.psm_code.specs.declared.rule.CodeRule.TheVariants as rule
-use Rattle.psm_code.specs.Instructions.{column_letters, columns_at, columns_of_table, cursor_letters, instruction_effect, item_letters, letters_of_query, may_raise, next_effect, of_cursor, putting, query_letters, variables_of}
-use Rattle.psm_code.specs.Parts.{slots_of}
-use Rattle.psm_code.specs.PlanRules.{cursor_fault, has_rows, items_in}
-use Rattle.psm_code.specs.Querying.{answer_of, close, cursor_now, declared_at, fetch, items_of_found, items_on, let_go, next, next_of, «open», open_as, opened, some_row}
-use Rattle.psm_code.specs.RoutineRules as rules
+use Rattle.psm_code.specs.Instructions.{cursor_letters, instruction_effect, letters_of_query, next_effect, of_cursor, putting, query_letters}
+use Rattle.psm_code.specs.Querying.{close, fetch, next, «open»}
 use Rattle.psm_code.specs.RoutineRules.{first_fault}
-use Rattle.psm_code.specs.Rows.{ahead, at, next_or_end, row_or_end, settled, Way}
-use Rattle.psm_code.specs.Rules.{is_there, where_there}
-use Rattle.psm_code.specs.Sits.{are_stored, AreCursors, IsKept, Keeps, StaysRight}
-use Rattle.psm_code.specs.State.{Machine, with_cursor}
-use Rattle.psm_code.specs.Steps.{Act, change, got, put_values, read, table_now, tried, ◌>>=◌, ◌>>◌}
-use Rattle.psm_code.proofs.Acts.{Body, Does, Has, and_then, present_does, tried_does}
-use Rattle.psm_code.proofs.Answering.{in_walk_all}
-use Rattle.psm_code.proofs.Asking.{items_fit, row_letters}
-use Rattle.psm_code.proofs.Faults.{clean_map, line_right, two_hold, Clean, RightLine, RightRoutine}
-use Rattle.psm_code.proofs.Going.{ahead_right, bears, goes_straight, known, next_away, settles, sits_at, Known, Next}
-use Rattle.psm_code.proofs.Operating.{stored_letters}
-use Rattle.psm_code.proofs.Queried.{answer_does, put_values_do, query_does, right_query, rows_lettered, table_does, variables_do, RightQuery}
-use Rattle.psm_code.proofs.Raises.{there_some, where_some}
+use Rattle.psm_code.specs.Rows.{next_or_end, row_or_end}
+use Rattle.psm_code.specs.Sits.{StaysRight}
+use Rattle.psm_code.specs.State.{Machine}
+use Rattle.psm_code.proofs.Acts.{Does, Has, and_then}
+use Rattle.psm_code.proofs.Faults.{RightRoutine}
+use Rattle.psm_code.proofs.Going.{ahead_right, bears, goes_straight, known, next_away, settles, sits_at, Next}
+use Rattle.psm_code.proofs.Queried.{put_values_do}
+use Rattle.psm_code.proofs.Raises.{there_some}
 use Rattle.psm_code.proofs.Simple.{right_here, with, Kept}
-use Rattle.psm_code.proofs.Fetching.{close_does, fetch_does, next_does, open_does, right_cursor, Comes_row, IsRowOf, Letters, RightCursor}
+use Rattle.psm_code.proofs.Fetching.{close_does, fetch_does, next_does, open_does, right_cursor, Comes_row, IsRowOf, RightCursor}
 
 module _ (code : RawCode) (right : first_fault code ≡ None) (r : RawRoutine) (g : RightRoutine code r) (c : ℕ) (resume : Option ℕ) (s : List Letter) where
   pub open_kept : (n : ℕ) → Kept code right r g c resume s (instruction.Open n)

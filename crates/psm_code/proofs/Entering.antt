@@ -1,8 +1,8 @@
 -- Arguments of a call: they are taken off the operands and stored, and the activation begins at the first line.
-use Rattle.std.proofs.Common.{◌≡◌, ℕ, zero, suc, ◌+◌, ◌<◌, Bool, true, false, ◌&&◌, ◌||◌, nat_eq, nat_lt, List, [], ◌∷◌, ◌++◌, length, map, refl, ap, sym, subst, ◌∙◌, arith, eq-eqb, eqb-true, ltb-true, Option, Some, None, Result, Ok, Err, length-append}
-use Rattle.std.specs.Prelude.{codes, IfSome, not, replicate, reverse, slice_get, filter, if◌then◌else◌}
+use Rattle.std.proofs.Common.{◌≡◌, ℕ, zero, suc, ◌+◌, ◌<◌, Bool, true, false, ◌&&◌, nat_eq, nat_lt, List, [], ◌∷◌, ◌++◌, length, map, refl, ap, sym, subst, ◌∙◌, arith, eqb-true, ltb-true, Option, Some, None, Result, Ok, Err}
+use Rattle.std.specs.Prelude.{codes, IfSome, not, replicate, reverse, slice_get, if◌then◌else◌}
 use Rattle.std.specs.List.{list_all}
-use Rattle.std.proofs.lemmas.List.{length-reverse, reverse-append}
+use Rattle.std.proofs.lemmas.List.{reverse-append}
 use Rattle.std.proofs.lemmas.List.Folds.{list_all-append}
 use Rattle.psm_num.proofs.Literals.{and_first, and_second}
 use Rattle.psm_sqlstate.specs.declared.state.SqlState.{SqlState}
@@ -12,12 +12,12 @@ use Rattle.psm_value.specs.declared.sqltype.SqlType.{SqlType}
 use Rattle.psm_value.specs.Stored.{is_stored, stored}
 use Rattle.psm_value.proofs.Stable.{stored-as_stored}
 use Rattle.psm_exprcode.specs.declared.op.Letter.{Letter}
-use Rattle.psm_exprcode.specs.Kinds.{have, is_value, letter_of}
+use Rattle.psm_exprcode.specs.Kinds.{is_value, letter_of}
 use Rattle.psm_exprcode.specs.declared.query.Query.{Query}
 use Rattle.psm_exprcode.specs.WellFormed.{is_type}
 use Rattle.psm_exprcode.proofs.Results.{letter_of-value}
 use Rattle.psm_exprcode.proofs.Standing.{both_true}
-use Rattle.psm_table.specs.Cursors.{Cursor, Closed}
+use Rattle.psm_table.specs.Cursors.{Closed}
 use Rattle.psm_code.specs.declared.code.CodeCursor.{CodeCursor}
 use Rattle.psm_code.specs.declared.code.Parameter.{Parameter}
 use Rattle.psm_code.specs.declared.code.ParameterMode.{ParameterMode}
@@ -28,15 +28,15 @@ use Rattle.psm_code.specs.declared.lines.CodeLine.{CodeLine}
 use Rattle.psm_code.specs.declared.rule.CodeRule.TheVariants as rule
 use Rattle.psm_code.specs.Calling.{activation, bounded, entered, filled, most_depth, passed}
 use Rattle.psm_code.specs.Instructions.{may_raise, parameter_letters}
-use Rattle.psm_code.specs.Parts.{line_at, routine_at, slots_of, takes, taking}
+use Rattle.psm_code.specs.Parts.{line_at, routine_at, takes, taking}
 use Rattle.psm_code.specs.RoutineRules as rules
 use Rattle.psm_code.specs.Rules.{is_some, there, where_there}
-use Rattle.psm_code.specs.Sits.{are_stored, is_due, AreCursors, Keeps, StandsAt}
-use Rattle.psm_code.specs.State.{Activation, Machine, End}
-use Rattle.psm_code.specs.Steps.{Act, Came, Given, Got, Raises, Ends, go_on, got, of_state, pop, pops, read, spent, tried, turn, ◌>>=◌}
+use Rattle.psm_code.specs.Sits.{are_stored, AreCursors, Keeps, StandsAt}
+use Rattle.psm_code.specs.State.{Machine}
+use Rattle.psm_code.specs.Steps.{Act, Came, Given, Got, Raises, Ends, go_on, got, of_state, pops, read, spent, tried, turn, ◌>>=◌}
 use Rattle.psm_code.specs.Steps.{raises as raise_it}
 use Rattle.psm_code.proofs.Acts.{Body, Comes, Does, Has, and_then, pop_does}
-use Rattle.psm_code.proofs.Faults.{line_right, three_hold, RightLine, RightRoutine}
+use Rattle.psm_code.proofs.Faults.{line_right, three_hold, RightRoutine}
 use Rattle.psm_code.proofs.Raises.{not_some}
 
 -- ---- parameters
@@ -159,7 +159,7 @@ module _ (code : RawCode) (r : RawRoutine) (l : CodeLine) where
       → Does code r l (λ args n. (length args ≡ length ks + length ds) × Has code r l s n) (pops (length ks) ds) m
   pops_does [] s ds m v h = let z : length ds ≡ 0 + length ds = omega arith in record { comes = (z, h) }
   pops_does (k ∷ ks) s ds m v h =
-      and_then code r l _ _ _ _ m (pop_does code r l k (ks ++ s) m (and_first (is_value k) (list_all is_value ks) v) h) (λ d n f. 
+      and_then code r l _ _ _ _ m (pop_does code r l k (ks ++ s) m (and_first (is_value k) (list_all is_value ks) v) h) (λ d n f.
       let g = pops_does ks s (d ∷ ds) n (and_second (is_value k) (list_all is_value ks) v) f.1 in
       let e : length ks + suc (length ds) ≡ suc (length ks) + length ds = omega arith in
       subst (λ i. Does code r l (λ args n. (length args ≡ i) × Has code r l s n) (pops (length ks) (d ∷ ds)) n) e g)

@@ -1,5 +1,5 @@
 -- Expressions of right code, over rows and variables of the letters that they see, come to values of the letters with which they end.
-use Rattle.std.proofs.Common.{◌≡◌, ℕ, zero, suc, Bool, true, false, ◌&&◌, List, [], ◌∷◌, ◌++◌, map, refl, ap, sym, subst, ◌∙◌, Option, Some, None, Result, Ok, Err}
+use Rattle.std.proofs.Common.{◌≡◌, ℕ, suc, Bool, true, false, ◌&&◌, List, [], ◌∷◌, refl, ap, sym, ◌∙◌, Option, Some, None, Result, Ok, Err}
 use Rattle.std.specs.Prelude.{IsSome, if◌then◌else◌}
 use Rattle.psm_num.proofs.Literals.{and_first, and_second}
 use Rattle.psm_sqlstate.specs.declared.state.SqlState.{SqlState}
@@ -14,8 +14,8 @@ use Rattle.psm_exprcode.specs.Kinds.{are_of, has_letter, is_of, is_truths, is_va
 use Rattle.psm_exprcode.specs.WellFormed.{are_lines, does_fit, ends_with, is_line, is_of_kind, lands, of_any_kind}
 use Rattle.psm_exprcode.proofs.Running.{evaluated_letter, evaluated_some}
 use Rattle.psm_exprcode.proofs.Standing.{both_true}
-use Rattle.psm_table.specs.Evaluator.{and_then, collected, mapped, values_of}
-use Rattle.psm_tablecode.specs.Codes.{over, value_in}
+use Rattle.psm_table.specs.Evaluator.{and_then, collected, mapped}
+use Rattle.psm_tablecode.specs.Codes.{value_in}
 use Rattle.psm_code.specs.declared.rule.CodeRule.TheVariants.{Range, Stack}
 use Rattle.psm_code.specs.Instructions.{end_letter, known_end, letter_that, or_number}
 use Rattle.psm_code.specs.Rules.{unless}
@@ -29,9 +29,11 @@ that_some test e h = n (test N) refl h where
   b : (t : Bool) → test B ≡ t → (if t then Some B else None) ≡ Some e → test e ≡ true
   b true q h = let same : B ≡ e = cc in ap test (sym same) ∙ q
   b false q h = absurd (cc)
+
   t : (u : Bool) → test T ≡ u → (if u then Some T else (if test B then Some B else None)) ≡ Some e → test e ≡ true
   t true q h = let same : T ≡ e = cc in ap test (sym same) ∙ q
   t false q h = b (test B) refl h
+
   n : (u : Bool) → test N ≡ u → (if u then Some N else (if test T then Some T else (if test B then Some B else None))) ≡ Some e → test e ≡ true
   n true q h = let same : N ≡ e = cc in ap test (sym same) ∙ q
   n false q h = t (test T) refl h
@@ -46,10 +48,10 @@ that_none test e h =
     let t = if_none (test T) T (if test B then Some B else None) n.1 in
     let b = if_none (test B) B None t.1 in
     each e n.0 t.0 b.0 where
-  each : (e : Letter) → test N ≡ false → test T ≡ false → test B ≡ false → test e ≡ false
-  each N n t b = n
-  each T n t b = t
-  each B n t b = b
+      each : (e : Letter) → test N ≡ false → test T ≡ false → test B ≡ false → test e ≡ false
+      each N n t b = n
+      each T n t b = t
+      each B n t b = b
 
 -- ---- expressions
 

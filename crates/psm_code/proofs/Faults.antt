@@ -1,12 +1,11 @@
 -- What is known of code that breaks no rule, line by line of its listing.
-use Rattle.std.proofs.Common.{◌≡◌, ℕ, zero, suc, ◌+◌, Bool, true, false, ◌&&◌, List, [], ◌∷◌, ◌++◌, length, map, refl, ap, sym, subst, ◌∙◌, arith, Option, Some, None, length-append, append_assoc}
-use Rattle.std.specs.Prelude.{slice_get, not}
+use Rattle.std.proofs.Common.{◌≡◌, ℕ, zero, suc, ◌+◌, Bool, true, false, ◌&&◌, List, [], ◌∷◌, ◌++◌, length, map, refl, ap, sym, subst, ◌∙◌, arith, Option, Some, None, length-append}
+use Rattle.std.specs.Prelude.{slice_get}
 use Rattle.std.specs.List.{flat_map, list_all}
 use Rattle.psm_num.proofs.Literals.{and_first, and_second}
 use Rattle.psm_cond.specs.declared.handlers.Context.{Context}
 use Rattle.psm_cond.specs.declared.handlers.Handler.{Handler}
 use Rattle.psm_code.specs.declared.code.CodeTable.{CodeTable}
-use Rattle.psm_code.specs.declared.code.Parameter.{Parameter}
 use Rattle.psm_code.specs.declared.code.RawCode.{RawCode}
 use Rattle.psm_code.specs.declared.code.RawRoutine.{RawRoutine}
 use Rattle.psm_code.specs.declared.lines.CodeLine.{CodeLine}
@@ -123,7 +122,7 @@ right_line code r at l e =
     let inside = rules.context_there r l.context in
     let around = rules.stands_right r l l.instruction && rules.contexts_follow code r at l in
     let h = seven_hold (inside && rules.names_there code r l.instruction) (rules.are_targets code r at l) (rules.stack_follows code r at l) (rules.is_first_right at l && around)
-        (rules.resumes_right r at l) (where_there (rules.jump_of l.instruction) (rules.uses_turn r at)) (rules.may_stand code r l.instruction) e in
+    (rules.resumes_right r at l) (where_there (rules.jump_of l.instruction) (rules.uses_turn r at)) (rules.may_stand code r l.instruction) e in
     let rest = and_second (rules.is_first_right at l) around h.3 in
     record {
       named = and_second inside (rules.names_there code r l.instruction) h.0;

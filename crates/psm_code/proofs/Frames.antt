@@ -1,8 +1,7 @@
 -- Frames that stand for a context: the blocks whose handlers are asked are among them.
-use Rattle.std.proofs.Common.{◌≡◌, ◌⊎◌, inl, inr, ℕ, zero, suc, ◌+◌, ◌<◌, Bool, true, false, ◌&&◌, ◌||◌, nat_le, nat_eq, nat_lt, List, [], ◌∷◌, length, refl, ap, sym, subst, ◌∙◌, arith, eqb-true, eq-eqb, Option, Some, None}
-use Rattle.std.specs.Prelude.{slice_get, slice_index_or, if◌then◌else◌}
-use Rattle.std.specs.List.{Contains, filter, list_any}
-use Rattle.psm_num.proofs.Literals.{and_first, and_second}
+use Rattle.std.proofs.Common.{◌≡◌, ℕ, zero, suc, ◌+◌, Bool, true, false, ◌&&◌, ◌||◌, nat_le, nat_eq, nat_lt, List, [], ◌∷◌, refl, ap, sym, subst, ◌∙◌, arith, eqb-true, eq-eqb, Option, Some, None}
+use Rattle.std.specs.Prelude.{slice_get, if◌then◌else◌}
+use Rattle.std.specs.List.{filter, list_any}
 use Rattle.psm_cond.specs.declared.handlers.Block.{Block}
 use Rattle.psm_cond.specs.declared.handlers.Context.{Context}
 use Rattle.psm_cond.specs.declared.handlers.ContextKind.{ContextKind}
@@ -16,9 +15,9 @@ use Rattle.psm_table.specs.Table.{Contents}
 use Rattle.psm_code.specs.declared.code.RawCode.{RawCode}
 use Rattle.psm_code.specs.declared.code.RawRoutine.{RawRoutine}
 use Rattle.psm_code.specs.Parts.{block_at, block_of_context, block_of_kind, handler_at}
-use Rattle.psm_code.specs.Raising.{frames_from, frames_inside, is_block}
+use Rattle.psm_code.specs.Raising.{frames_from, is_block}
 use Rattle.psm_code.specs.RoutineRules.{is_action_context, is_action_kind}
-use Rattle.psm_code.specs.Sits.{AreKept, Ends, Finds, IsActing, IsEntered, Resumes, Stand}
+use Rattle.psm_code.specs.Sits.{Ends, IsEntered, Stand}
 use Rattle.psm_code.specs.State.{Frame, InBlock, InAction}
 
 -- ---- the handler that is chosen is declared where it is asked
@@ -183,7 +182,7 @@ module _ (code : RawCode) (r : RawRoutine) where
           let from = from_block rest s.0 h.handler.context s.1 (below_action h.handler m h.handler.kind resume rest h.there h.ends) in
           let f = rec (outside r.handlers i) from.rest (subst (Stand code r from.rest) (sym out) from.stand) e in
           let deep : list_any (is_block p.1.context) (frames_from h.handler.context rest) ≡ true =
-              ap (list_any (is_block p.1.context)) from.is ∙ or_later (nat_eq p.1.context from.number) (list_any (is_block p.1.context) from.rest) f.around in
+          ap (list_any (is_block p.1.context)) from.is ∙ or_later (nat_eq p.1.context from.number) (list_any (is_block p.1.context) from.rest) f.around in
           record { there = f.there; around = from_around h.handler.context p.1.context rest deep }
 
       by_kind : (n k : ℕ) (frames : List Frame) (kind : ContextKind) → Found n → Stand code r frames k → (c : Context) → context_at r.handlers k ≡ Some c → c.kind ≡ kind

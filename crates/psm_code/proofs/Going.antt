@@ -1,6 +1,6 @@
 -- Where an instruction of right code goes on there is a line that states the operands that it leaves.
-use Rattle.std.proofs.Common.{◌≡◌, ◌⊎◌, inl, inr, ℕ, zero, suc, Bool, true, false, ◌&&◌, ◌||◌, nat_eq, List, [], ◌∷◌, ◌++◌, length, refl, ap, sym, subst, ◌∙◌, eqb-true, Option, Some, None}
-use Rattle.std.specs.Prelude.{slice_get, reverse, not}
+use Rattle.std.proofs.Common.{◌≡◌, ◌⊎◌, inl, inr, ℕ, suc, Bool, true, false, ◌&&◌, ◌||◌, List, [], ◌∷◌, ◌++◌, refl, ap, sym, subst, ◌∙◌, eqb-true, Option, Some, None}
+use Rattle.std.specs.Prelude.{reverse, not}
 use Rattle.psm_num.proofs.Literals.{and_first, and_second}
 use Rattle.psm_cond.specs.Condition.{Entries}
 use Rattle.psm_exprcode.specs.declared.op.Letter.{Letter}
@@ -11,7 +11,6 @@ use Rattle.psm_exprcode.specs.WellFormed.{left_of, same_stack}
 use Rattle.psm_exprcode.proofs.Stripping.{is_letter-same, left_of-some}
 use Rattle.psm_code.specs.declared.code.RawCode.{RawCode}
 use Rattle.psm_code.specs.declared.code.RawRoutine.{RawRoutine}
-use Rattle.psm_code.specs.declared.instruction.Instruction.{Instruction}
 use Rattle.psm_code.specs.declared.lines.CodeLine.{CodeLine}
 use Rattle.psm_code.specs.Instructions.{instruction_effect, may_raise}
 use Rattle.psm_code.specs.Parts.{line_at}
@@ -20,7 +19,7 @@ use Rattle.psm_code.specs.RoutineRules.{first_fault}
 use Rattle.psm_code.specs.Rows.{ahead, settled, then_ahead, Way}
 use Rattle.psm_code.specs.Rules.{is_there, there, where_there}
 use Rattle.psm_code.specs.Sits.{Sits, Stand, StaysRight}
-use Rattle.psm_code.specs.State.{Frame, Machine, Over, at_line}
+use Rattle.psm_code.specs.State.{Frame, Machine, at_line}
 use Rattle.psm_code.specs.Steps.{Act, Given, Got, Raises, Ends}
 use Rattle.psm_code.proofs.Acts.{Body, Comes, Does, Has, and_then}
 use Rattle.psm_code.proofs.Faults.{line_right, RightLine, RightRoutine}

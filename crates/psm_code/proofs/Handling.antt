@@ -1,22 +1,15 @@
 -- How frames end where a condition is raised, and how the action of its handler begins.
-use Rattle.std.proofs.Common.{◌≡◌, ◌⊎◌, inl, inr, ℕ, zero, suc, ◌-◌, ◌<◌, Bool, true, false, ◌&&◌, ◌||◌, nat_eq, List, [], ◌∷◌, length, refl, ap, sym, subst, ◌∙◌, arith, eqb-true, Option, Some, None}
+use Rattle.std.proofs.Common.{◌≡◌, ◌⊎◌, inl, inr, ℕ, zero, suc, ◌<◌, Bool, true, false, ◌&&◌, ◌||◌, nat_eq, List, [], ◌∷◌, length, refl, ap, sym, subst, ◌∙◌, arith, eqb-true, Option, Some, None}
 use Rattle.std.specs.Prelude.{IfSome, if◌then◌else◌, slice_get, slice_set, reverse, not, nat_lt}
-use Rattle.std.specs.List.{list_all, list_any}
+use Rattle.std.specs.List.{list_any}
 use Rattle.psm_num.proofs.Literals.{and_first, and_second}
 use Rattle.psm_sqlstate.specs.Kind.{kind_of}
-use Rattle.psm_value.specs.declared.datum.Datum.{Datum}
-use Rattle.psm_cond.specs.declared.entry.Entry.{Entry}
-use Rattle.psm_cond.specs.declared.handlers.Block.{Block}
-use Rattle.psm_cond.specs.declared.handlers.Context.{Context}
-use Rattle.psm_cond.specs.declared.handlers.ContextKind.{ContextKind}
-use Rattle.psm_cond.specs.declared.handlers.ContextKind.TheVariants as kinds
 use Rattle.psm_cond.specs.declared.handlers.Handler.{Handler}
 use Rattle.psm_cond.specs.declared.handlers.HandlerKind.{HandlerKind}
 use Rattle.psm_cond.specs.declared.handlers.HandlerKind.TheVariants.{Continue, Exit, Undo}
 use Rattle.psm_cond.specs.Choice.{chosen, is_exception}
 use Rattle.psm_cond.specs.Condition.{Entries, by_state}
 use Rattle.psm_cond.specs.Handlers.{choice, context_at, handler_rank, number_of, parent_of, scopes, Numbered}
-use Rattle.psm_exprcode.specs.declared.op.Letter.{Letter}
 use Rattle.psm_exprcode.specs.declared.query.Query.{Query}
 use Rattle.psm_exprcode.specs.Kinds.{have}
 use Rattle.psm_table.specs.Cursors.{Cursor, Closed}
@@ -27,20 +20,18 @@ use Rattle.psm_code.specs.declared.code.RawRoutine.{RawRoutine}
 use Rattle.psm_code.specs.declared.instruction.Instruction.{Instruction}
 use Rattle.psm_code.specs.declared.instruction.Instruction.TheVariants as instruction
 use Rattle.psm_code.specs.declared.lines.CodeLine.{CodeLine}
-use Rattle.psm_code.specs.declared.rule.CodeRule.TheVariants as rule
 use Rattle.psm_code.specs.Calling.{most_depth}
-use Rattle.psm_code.specs.Parts.{block_at, block_of_context, block_of_kind, handler_at, line_at, routine_at, slots_of}
+use Rattle.psm_code.specs.Parts.{block_at, handler_at, line_at, routine_at}
 use Rattle.psm_code.specs.Raising.{acting, arrived, asked, asked_at, at_turn, block_left, cursors_of, found_first, frames_from, frames_inside, frames_left, handled, is_block, met, passed_over, put_back, raised, raised_in, undone}
 use Rattle.psm_code.specs.Raising as raising
 use Rattle.psm_code.specs.RoutineRules as rules
 use Rattle.psm_code.specs.RoutineRules.{first_fault}
-use Rattle.psm_code.specs.Rules.{first_of, is_some, is_there, there, unless, where_there}
-use Rattle.psm_code.specs.TableRules.{are_there}
-use Rattle.psm_code.specs.Sits.{are_stored, is_call_of, AllWait, AreCursors, AreKept, Ends, Finds, IsActing, IsEntered, Keeps, Resumes, Sits, Stand, StandsAt, StaysRight}
-use Rattle.psm_code.specs.State.{Activation, Frame, InBlock, InAction, Machine, More, Over, Raised, Turned, closed_cursors, holding}
-use Rattle.psm_code.proofs.Acts.{Body, Lives}
-use Rattle.psm_code.proofs.Faults.{context_right, four_hold, handler_right, clean_head, line_right, routine_right, two_hold, three_hold, RightLine, RightRoutine}
-use Rattle.psm_code.proofs.Frames.{block_among, ends_stand, from_block, walk, From}
+use Rattle.psm_code.specs.Rules.{is_some, is_there, there, where_there}
+use Rattle.psm_code.specs.Sits.{is_call_of, AllWait, AreCursors, AreKept, Ends, Finds, Keeps, Resumes, Sits, Stand, StaysRight}
+use Rattle.psm_code.specs.State.{Activation, Frame, InBlock, InAction, Machine, Over, Raised, Turned, closed_cursors, holding}
+use Rattle.psm_code.proofs.Acts.{Body}
+use Rattle.psm_code.proofs.Faults.{line_right, routine_right, RightLine, RightRoutine}
+use Rattle.psm_code.proofs.Frames.{ends_stand, from_block, walk, From}
 use Rattle.psm_code.proofs.Raises.{begins, blocks, not_some, there_some, where_some}
 
 -- ---- where the run goes on

@@ -1,5 +1,5 @@
 -- A table from which one row is taken out is legal still, and the row on which a cursor stands is one of the table's.
-use Rattle.std.proofs.Common.{◌≡◌, ℕ, Bool, true, false, ◌&&◌, List, [], ◌∷◌, ◌++◌, refl, ap, sym, subst, ◌∙◌, Option, Some, None}
+use Rattle.std.proofs.Common.{◌≡◌, ℕ, Bool, true, false, List, [], ◌∷◌, ◌++◌, refl, subst, ◌∙◌, Option, Some, None}
 use Rattle.std.specs.Prelude.{All, filter, if◌then◌else◌}
 use Rattle.std.specs.List.{list_all}
 use Rattle.std.specs.Ordering.{is_eq, is_gt, is_lt}
@@ -10,7 +10,7 @@ use Rattle.psm_num.proofs.Literals.{and_first, and_second}
 use Rattle.psm_value.specs.declared.datum.Datum.{Datum}
 use Rattle.psm_exprcode.proofs.Standing.{both_true}
 use Rattle.psm_table.specs.declared.definition.TableDef.{TableDef}
-use Rattle.psm_table.specs.Changing.{all_apart, are_apart, is_filled, keep_rules, rows_but, IsLegal, Schema}
+use Rattle.psm_table.specs.Changing.{all_apart, are_apart, is_filled, rows_but, IsLegal, Schema}
 use Rattle.psm_table.specs.Cursors.{current, row_at, row_of_key, Position}
 use Rattle.psm_table.specs.Evaluator.{Evaluator}
 use Rattle.psm_table.specs.Key.{key_order, row_order, values_at}
@@ -56,6 +56,7 @@ module _ (def : TableDef) where
       first =
           let a = and_first (list_all (are_apart def row) rows) (all_apart def rows) h in
           append_list (are_apart def row) (filter p rows) (filter q rows) (filter_list (are_apart def row) p rows a) (filter_list (are_apart def row) q rows a)
+
       by : (a b : Bool) → p row ≡ a → q row ≡ b → all_apart def (filter p rows ++ filter q rows) ≡ true → all_apart def ((if a then row ∷ filter p rows else filter p rows) ++ (if b then row ∷ filter q rows else filter q rows)) ≡ true
       by true true e f k = absurd (other row e f)
       by true false e f k = both_true (list_all (are_apart def row) (filter p rows ++ filter q rows)) (all_apart def (filter p rows ++ filter q rows)) first k

@@ -1,18 +1,17 @@
 -- Operations of expressions among the instructions.
-use Rattle.std.proofs.Common.{◌≡◌, ℕ, zero, suc, Bool, true, false, ◌&&◌, ◌||◌, nat_le, List, [], ◌∷◌, ◌++◌, map, refl, ap, sym, subst, ◌∙◌, Option, Some, None}
+use Rattle.std.proofs.Common.{◌≡◌, ℕ, zero, suc, true, false, List, [], ◌∷◌, ◌++◌, map, refl, ap, sym, subst, ◌∙◌, Option, Some, None}
 use Rattle.std.specs.Prelude.{codes, option_map, reverse, slice_get, nat_eq}
 use Rattle.psm_num.proofs.Literals.{and_first, and_second}
 use Rattle.psm_value.specs.declared.datum.Datum.{Datum}
 use Rattle.psm_value.specs.declared.datum.Datum.TheVariants as data_of
 use Rattle.psm_value.specs.declared.sqltype.SqlType.{SqlType}
 use Rattle.psm_value.specs.declared.sqltype.SqlType.TheVariants.{SmallInt, Integer, Numeric, Char, VarChar}
-use Rattle.psm_value.specs.Stored.{is_in_range, is_stored, scale_of}
+use Rattle.psm_value.specs.Stored.{is_stored}
 use Rattle.psm_exprcode.specs.declared.op.Letter.{Letter}
 use Rattle.psm_exprcode.specs.declared.op.Letter.TheVariants.{N}
 use Rattle.psm_exprcode.specs.declared.op.Op.{Op}
 use Rattle.psm_exprcode.specs.declared.op.Op.TheVariants as op
 use Rattle.psm_exprcode.specs.declared.operand.Operand.{Operand}
-use Rattle.psm_exprcode.specs.declared.operand.Next.{Next as Going}
 use Rattle.psm_exprcode.specs.declared.operand.Next.TheVariants.{Ahead, Jump}
 use Rattle.psm_exprcode.specs.Applied.{Applied, Went, Raised, Lacking, applied}
 use Rattle.psm_exprcode.specs.Kinds.{are_of, has_letter, have, is_value, letter_of}
@@ -24,20 +23,18 @@ use Rattle.psm_exprcode.proofs.Stepping.{names, op_leads}
 use Rattle.psm_exprcode.proofs.Stripping.{left_of-some}
 use Rattle.psm_code.specs.declared.code.RawCode.{RawCode}
 use Rattle.psm_code.specs.declared.code.RawRoutine.{RawRoutine}
-use Rattle.psm_code.specs.declared.instruction.Instruction.{Instruction}
 use Rattle.psm_code.specs.declared.instruction.Instruction.TheVariants as instruction
 use Rattle.psm_code.specs.declared.lines.CodeLine.{CodeLine}
 use Rattle.psm_code.specs.Instructions.{operation_effect, operation_raises}
 use Rattle.psm_code.specs.Parts.{slots_of}
 use Rattle.psm_code.specs.RoutineRules as rules
 use Rattle.psm_code.specs.RoutineRules.{first_fault}
-use Rattle.psm_code.specs.Rows.{applied_as, done, settled}
-use Rattle.psm_code.specs.Rules.{there}
+use Rattle.psm_code.specs.Rows.{applied_as, settled}
 use Rattle.psm_code.specs.Sits.{are_stored, StaysRight}
 use Rattle.psm_code.specs.State.{Machine}
 use Rattle.psm_code.specs.Steps.{of_state}
 use Rattle.psm_code.proofs.Acts.{Body, Has}
-use Rattle.psm_code.proofs.Faults.{RightLine, RightRoutine}
+use Rattle.psm_code.proofs.Faults.{RightRoutine}
 use Rattle.psm_code.proofs.Going.{choose, known_with, next_ahead, next_away, sits_at, bears, Next}
 use Rattle.psm_code.proofs.Handling.{raises}
 use Rattle.psm_code.proofs.Quiet.{raised_marked}

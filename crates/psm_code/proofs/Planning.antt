@@ -1,19 +1,16 @@
 -- Plans: the parts of INSERT, UPDATE and DELETE among the instructions.
-use Rattle.std.proofs.Common.{◌≡◌, ℕ, zero, suc, ◌+◌, ◌*◌, Bool, true, false, ◌&&◌, not, List, [], ◌∷◌, ◌++◌, length, map, refl, ap, sym, subst, ◌∙◌, arith, Option, Some, None, Result, Ok, Err, length-append}
-use Rattle.std.specs.Prelude.{All, IfSome, slice_get, slice_set}
-use Rattle.std.specs.List.{list_all}
-use Rattle.psm_num.proofs.Literals.{and_first, and_second}
+use Rattle.std.proofs.Common.{◌≡◌, ℕ, zero, suc, Bool, true, false, List, [], ◌∷◌, map, refl, ap, sym, subst, ◌∙◌, Option, Some, None, Result, Ok, Err}
+use Rattle.std.specs.Prelude.{All, slice_get, slice_set}
 use Rattle.psm_value.specs.declared.datum.Datum.{Datum}
 use Rattle.psm_exprcode.specs.declared.op.Letter.{Letter}
 use Rattle.psm_exprcode.specs.declared.op.Line.{Line}
-use Rattle.psm_exprcode.specs.declared.query.Query.{Query}
 use Rattle.psm_exprcode.specs.declared.set_item.SetItem as set_code
 use Rattle.psm_table.specs.declared.definition.TableDef.{TableDef}
-use Rattle.psm_table.specs.Changing.{deleted, inserted, rows_but, updated, updated_at, Changed, Failure, IsLegal, Moved, OfTable, Raised, Schema}
-use Rattle.psm_table.specs.Cursors.{current, without_row, Closed, Cursor, Insensitive, Plain}
+use Rattle.psm_table.specs.Changing.{deleted, inserted, updated, Changed, Failure, IsLegal, OfTable, Raised, Schema}
+use Rattle.psm_table.specs.Cursors.{current, Closed, Cursor, Insensitive, Plain}
 use Rattle.psm_table.specs.Definition.{IsRow}
 use Rattle.psm_table.specs.Table.{Contents}
-use Rattle.psm_table.proofs.Legal.{legal_deleted, legal_inserted, legal_updated, legal_updated_at}
+use Rattle.psm_table.proofs.Legal.{legal_deleted, legal_inserted, legal_updated}
 use Rattle.psm_tablecode.specs.Codes.{over}
 use Rattle.psm_tablecode.specs.NewRows.{new_row}
 use Rattle.psm_code.specs.declared.code.CodeCursor.{CodeCursor}
@@ -22,16 +19,14 @@ use Rattle.psm_code.specs.declared.code.RawCode.{RawCode}
 use Rattle.psm_code.specs.declared.code.RawRoutine.{RawRoutine}
 use Rattle.psm_code.specs.declared.lines.CodeLine.{CodeLine}
 use Rattle.psm_code.specs.Instructions.{may_raise}
-use Rattle.psm_code.specs.Parts.{slots_of}
-use Rattle.psm_code.specs.Plans.{delete_at, delete_rows, leave_row, leaves, left_by, plain, put_in, row_of_cursor, schema_at, schema_of, set_item, some_row, some_rows, standing_on, unless_failed, update_at, update_rows}
-use Rattle.psm_code.specs.Sits.{are_stored, AreKept, IsKept, Keeps}
-use Rattle.psm_code.specs.State.{Machine, with_rows}
-use Rattle.psm_code.specs.Steps.{change, read}
-use Rattle.psm_code.proofs.Acts.{Body, Does, Has, and_then, present_does}
-use Rattle.psm_code.proofs.Fetching.{cursor_does, declared_does, with_cursor_has, RightCursor}
-use Rattle.psm_code.proofs.Legally.{legal_but, stands_on}
-use Rattle.psm_code.proofs.Queried.{query_does, table_does, variables_do}
-use Rattle.psm_code.proofs.Rowing.{but_all, deleted_rows, inserted_rows, updated_at_rows, updated_rows}
+use Rattle.psm_code.specs.Plans.{delete_rows, leave_row, leaves, left_by, plain, put_in, row_of_cursor, schema_at, schema_of, set_item, some_row, some_rows, standing_on, unless_failed, update_rows}
+use Rattle.psm_code.specs.Sits.{AreKept, IsKept, Keeps}
+use Rattle.psm_code.specs.State.{Machine}
+use Rattle.psm_code.proofs.Acts.{Does, Has, and_then, present_does}
+use Rattle.psm_code.proofs.Fetching.{with_cursor_has, RightCursor}
+use Rattle.psm_code.proofs.Legally.{stands_on}
+use Rattle.psm_code.proofs.Queried.{table_does, variables_do}
+use Rattle.psm_code.proofs.Rowing.{deleted_rows, inserted_rows, updated_rows}
 
 -- ---- tables
 

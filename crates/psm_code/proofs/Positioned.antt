@@ -1,38 +1,29 @@
 -- Positioned statements among the instructions.
-use Rattle.std.proofs.Common.{◌≡◌, ℕ, zero, suc, ◌+◌, ◌*◌, Bool, true, false, ◌&&◌, not, List, [], ◌∷◌, ◌++◌, length, map, refl, ap, sym, subst, ◌∙◌, arith, Option, Some, None, Result, Ok, Err, length-append}
-use Rattle.std.specs.Prelude.{All, IfSome, slice_get, slice_set}
-use Rattle.std.specs.List.{list_all}
-use Rattle.psm_num.proofs.Literals.{and_first, and_second}
-use Rattle.psm_value.specs.declared.datum.Datum.{Datum}
+use Rattle.std.proofs.Common.{◌≡◌, ℕ, true, List, map, ap, sym, subst, ◌∙◌, Some, Ok}
+use Rattle.std.specs.Prelude.{slice_get}
 use Rattle.psm_exprcode.specs.declared.op.Letter.{Letter}
 use Rattle.psm_exprcode.specs.declared.op.Line.{Line}
 use Rattle.psm_exprcode.specs.declared.query.Query.{Query}
 use Rattle.psm_exprcode.specs.declared.set_item.SetItem as set_code
 use Rattle.psm_table.specs.declared.definition.TableDef.{TableDef}
-use Rattle.psm_table.specs.Changing.{deleted, inserted, rows_but, updated, updated_at, Changed, Failure, IsLegal, Moved, OfTable, Raised, Schema}
-use Rattle.psm_table.specs.Cursors.{current, without_row, Closed, Cursor, Insensitive, Plain}
+use Rattle.psm_table.specs.Changing.{rows_but, updated_at, Moved, Schema}
 use Rattle.psm_table.specs.Definition.{IsRow}
-use Rattle.psm_table.specs.Table.{Contents}
-use Rattle.psm_table.proofs.Legal.{legal_deleted, legal_inserted, legal_updated, legal_updated_at}
+use Rattle.psm_table.proofs.Legal.{legal_updated_at}
 use Rattle.psm_tablecode.specs.Codes.{over}
-use Rattle.psm_tablecode.specs.NewRows.{new_row}
 use Rattle.psm_code.specs.declared.code.CodeCursor.{CodeCursor}
-use Rattle.psm_code.specs.declared.code.CodeTable.{CodeTable}
 use Rattle.psm_code.specs.declared.code.RawCode.{RawCode}
 use Rattle.psm_code.specs.declared.code.RawRoutine.{RawRoutine}
 use Rattle.psm_code.specs.declared.lines.CodeLine.{CodeLine}
 use Rattle.psm_code.specs.Instructions.{may_raise}
-use Rattle.psm_code.specs.Parts.{slots_of}
-use Rattle.psm_code.specs.Plans.{delete_at, delete_rows, leave_row, leaves, left_by, plain, put_in, row_of_cursor, schema_at, schema_of, set_item, some_row, some_rows, standing_on, unless_failed, update_at, update_rows}
-use Rattle.psm_code.specs.Sits.{are_stored, AreKept, IsKept, Keeps}
-use Rattle.psm_code.specs.State.{Machine, with_rows}
+use Rattle.psm_code.specs.Plans.{delete_at, leave_row, leaves, plain, row_of_cursor, schema_at, schema_of, set_item, unless_failed, update_at}
+use Rattle.psm_code.specs.State.{Machine}
 use Rattle.psm_code.specs.Steps.{Act, read, table_now, ◌>>=◌, ◌>>◌}
-use Rattle.psm_code.proofs.Acts.{Body, Does, Has, and_then, present_does}
-use Rattle.psm_code.proofs.Fetching.{cursor_does, declared_does, with_cursor_has, RightCursor}
-use Rattle.psm_code.proofs.Legally.{legal_but, stands_on}
+use Rattle.psm_code.proofs.Acts.{Does, Has, and_then}
+use Rattle.psm_code.proofs.Fetching.{cursor_does, declared_does, RightCursor}
+use Rattle.psm_code.proofs.Legally.{legal_but}
 use Rattle.psm_code.proofs.Queried.{query_does, table_does, variables_do}
-use Rattle.psm_code.proofs.Rowing.{but_all, deleted_rows, inserted_rows, updated_at_rows, updated_rows}
-use Rattle.psm_code.specs.Querying.{cursor_now, declared_at, query_at}
+use Rattle.psm_code.proofs.Rowing.{but_all, updated_at_rows}
+use Rattle.psm_code.specs.Querying.{cursor_now, query_at}
 use Rattle.psm_code.proofs.Planning.{failed_does, leave_does, leaves_does, row_does, schema_does, Fine}
 
 module _ (code : RawCode) (r : RawRoutine) (l : CodeLine) (may : may_raise l.instruction ≡ true) (number : ℕ) (x : CodeCursor) (declared : slice_get r.cursors number ≡ Some x) (g : RightCursor code r x) where
@@ -100,7 +91,7 @@ module _ (code : RawCode) (r : RawRoutine) (l : CodeLine) (may : may_raise l.ins
       and_then code r l _ _ _ _ k (cursor_does code r l number x declared g s k z.1) (λ cursor k w.
       and_then code r l _ _ _ _ k (row_does code r l may number x declared g c cursor s k z.0 w.1) (λ row k v.
       let fine : Fine code r l may t (rows_but c.def row c.rows) = subst (λ (d : TableDef). Fine code r l may t (rows_but d row c.rows)) (sym z.0.same)
-          (record { fit = but_all (IsRow t.definition) t.definition row c.rows z.0.rows; legal = legal_but plain (schema_of t) row c.rows z.0.legal }) in
+      (record { fit = but_all (IsRow t.definition) t.definition row c.rows z.0.rows; legal = legal_but plain (schema_of t) row c.rows z.0.legal }) in
       and_then code r l _ _ _ _ k (leaves_does code r l may g.query.table t c (rows_but c.def row c.rows) 1 s k g.right.there z.0.same fine v.1) (λ u j b. leave_does code r l may number x declared g true cursor s j w.0 b))))
 
   pub delete_at_does : (s : List Letter) (m : Machine) → Has code r l s m → Does code r l (Same s) (delete_at r number) m

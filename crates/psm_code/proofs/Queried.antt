@@ -1,12 +1,12 @@
 -- Queries among the instructions: EXISTS, a query as a value, and SELECT INTO.
-use Rattle.std.proofs.Common.{◌≡◌, ℕ, zero, suc, Bool, true, false, ◌&&◌, List, [], ◌∷◌, ◌++◌, refl, ap, sym, subst, ◌∙◌, Option, Some, None, Result, Ok, Err}
+use Rattle.std.proofs.Common.{◌≡◌, ℕ, zero, suc, Bool, true, false, List, [], ◌∷◌, ◌++◌, refl, ap, sym, subst, ◌∙◌, Option, Some, None}
 use Rattle.std.specs.Prelude.{All, codes, option_map, reverse, slice_get}
 use Rattle.std.specs.List.{list_all}
 use Rattle.std.proofs.lemmas.List.Elements.{All-head}
 use Rattle.psm_num.proofs.Literals.{and_first, and_second}
 use Rattle.psm_value.specs.declared.datum.Datum.{Datum}
 use Rattle.psm_exprcode.specs.declared.op.Letter.{Letter}
-use Rattle.psm_exprcode.specs.declared.op.Letter.TheVariants.{N, T, B}
+use Rattle.psm_exprcode.specs.declared.op.Letter.TheVariants.{B}
 use Rattle.psm_exprcode.specs.declared.operand.Operand.TheVariants.{Truth}
 use Rattle.psm_exprcode.specs.declared.query.Query.{Query}
 use Rattle.psm_exprcode.specs.Comparison.{truth_of}
@@ -20,7 +20,6 @@ use Rattle.psm_tablecode.proofs.Fitting.{row_letters}
 use Rattle.psm_code.specs.declared.code.CodeTable.{CodeTable}
 use Rattle.psm_code.specs.declared.code.RawCode.{RawCode}
 use Rattle.psm_code.specs.declared.code.RawRoutine.{RawRoutine}
-use Rattle.psm_code.specs.declared.instruction.Instruction.{Instruction}
 use Rattle.psm_code.specs.declared.instruction.Instruction.TheVariants as instruction
 use Rattle.psm_code.specs.declared.lines.CodeLine.{CodeLine}
 use Rattle.psm_code.specs.declared.rule.CodeRule.TheVariants as rule
@@ -34,10 +33,10 @@ use Rattle.psm_code.specs.Rules.{is_there}
 use Rattle.psm_code.specs.Sits.{are_stored, AreKept, IsKept}
 use Rattle.psm_code.specs.State.{Machine}
 use Rattle.psm_code.specs.Steps.{Act, put, put_values, read, table_now, ◌>>=◌}
-use Rattle.psm_code.proofs.Acts.{Body, Does, Has, and_then, present_does, tried_does}
+use Rattle.psm_code.proofs.Acts.{Does, Has, and_then, present_does, tried_does}
 use Rattle.psm_code.proofs.Answering.{in_walk_all}
 use Rattle.psm_code.proofs.Asking.{answered_letters, items_values}
-use Rattle.psm_code.proofs.Faults.{clean_first, clean_flat, clean_head, clean_second, clean_tail, two_hold, Clean, RightLine, RightRoutine}
+use Rattle.psm_code.proofs.Faults.{clean_first, clean_flat, clean_head, clean_second, clean_tail, two_hold, Clean, RightRoutine}
 use Rattle.psm_code.proofs.Going.{bears, choose, goes_straight}
 use Rattle.psm_code.proofs.Operating.{stored_letters}
 use Rattle.psm_code.proofs.Raises.{there_some}

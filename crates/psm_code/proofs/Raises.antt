@@ -1,44 +1,25 @@
 -- A condition that is raised at a line of right code finds a handler, a line at which the run goes on, or a caller.
-use Rattle.std.proofs.Common.{◌≡◌, ◌⊎◌, inl, inr, ℕ, zero, suc, ◌-◌, ◌<◌, Bool, true, false, ◌&&◌, nat_eq, List, [], ◌∷◌, length, refl, ap, sym, subst, ◌∙◌, arith, eqb-true, Option, Some, None}
-use Rattle.std.specs.Prelude.{slice_get, slice_set, reverse, not, nat_lt}
-use Rattle.std.specs.List.{list_all, list_any}
+use Rattle.std.proofs.Common.{◌≡◌, ℕ, zero, suc, ◌-◌, Bool, true, ◌&&◌, nat_eq, List, [], ◌∷◌, length, refl, ap, sym, ◌∙◌, arith, eqb-true, Option, Some, None}
+use Rattle.std.specs.Prelude.{slice_get, not, nat_lt}
+use Rattle.std.specs.List.{list_all}
 use Rattle.psm_num.proofs.Literals.{and_first, and_second}
-use Rattle.psm_sqlstate.specs.Kind.{kind_of}
-use Rattle.psm_value.specs.declared.datum.Datum.{Datum}
-use Rattle.psm_cond.specs.declared.entry.Entry.{Entry}
 use Rattle.psm_cond.specs.declared.handlers.Block.{Block}
 use Rattle.psm_cond.specs.declared.handlers.Context.{Context}
 use Rattle.psm_cond.specs.declared.handlers.ContextKind.{ContextKind}
 use Rattle.psm_cond.specs.declared.handlers.ContextKind.TheVariants as kinds
 use Rattle.psm_cond.specs.declared.handlers.Handler.{Handler}
-use Rattle.psm_cond.specs.declared.handlers.HandlerKind.{HandlerKind}
-use Rattle.psm_cond.specs.declared.handlers.HandlerKind.TheVariants.{Continue, Exit, Undo}
-use Rattle.psm_cond.specs.Choice.{chosen, is_exception}
-use Rattle.psm_cond.specs.Condition.{Entries, by_state}
-use Rattle.psm_cond.specs.Handlers.{choice, context_at, handler_rank, number_of, parent_of, scopes, Numbered}
-use Rattle.psm_exprcode.specs.declared.op.Letter.{Letter}
-use Rattle.psm_exprcode.specs.Kinds.{have}
-use Rattle.psm_table.specs.Cursors.{Cursor, Closed}
-use Rattle.psm_table.specs.Table.{Contents}
-use Rattle.psm_code.specs.declared.code.CodeCursor.{CodeCursor}
+use Rattle.psm_cond.specs.Handlers.{context_at}
 use Rattle.psm_code.specs.declared.code.RawCode.{RawCode}
 use Rattle.psm_code.specs.declared.code.RawRoutine.{RawRoutine}
 use Rattle.psm_code.specs.declared.instruction.Instruction.{Instruction}
 use Rattle.psm_code.specs.declared.instruction.Instruction.TheVariants as instruction
 use Rattle.psm_code.specs.declared.lines.CodeLine.{CodeLine}
 use Rattle.psm_code.specs.declared.rule.CodeRule.TheVariants as rule
-use Rattle.psm_code.specs.Calling.{most_depth}
-use Rattle.psm_code.specs.Parts.{block_at, block_of_context, block_of_kind, handler_at, line_at, routine_at, slots_of}
-use Rattle.psm_code.specs.Raising.{acting, arrived, asked, asked_at, at_turn, block_left, cursors_of, found_first, frames_from, frames_inside, frames_left, handled, is_block, met, passed_over, put_back, undone}
-use Rattle.psm_code.specs.Raising as raising
+use Rattle.psm_code.specs.Parts.{block_at, block_of_context, block_of_kind, handler_at, line_at}
 use Rattle.psm_code.specs.RoutineRules as rules
-use Rattle.psm_code.specs.Rules.{first_of, is_some, is_there, there, unless, where_there}
+use Rattle.psm_code.specs.Rules.{is_some, is_there, there, where_there}
 use Rattle.psm_code.specs.TableRules.{are_there}
-use Rattle.psm_code.specs.Sits.{are_stored, AllWait, AreCursors, AreKept, Ends, Finds, IsActing, IsEntered, Keeps, Resumes, Sits, Stand, StandsAt, StaysRight}
-use Rattle.psm_code.specs.State.{Activation, Frame, InBlock, InAction, Machine, More, Over, Turned, closed_cursors, holding}
-use Rattle.psm_code.proofs.Acts.{Body, Lives}
-use Rattle.psm_code.proofs.Faults.{context_right, four_hold, handler_right, clean_head, line_right, two_hold, three_hold, RightLine, RightRoutine}
-use Rattle.psm_code.proofs.Frames.{block_among, from_block, walk, From}
+use Rattle.psm_code.proofs.Faults.{context_right, four_hold, handler_right, clean_head, line_right, two_hold, three_hold, RightRoutine}
 
 -- ---- what is there
 
@@ -99,8 +80,8 @@ module _ (code : RawCode) (r : RawRoutine) (right : RightRoutine code r) where
       let f = handler_right code r n h right e in
       let values = rules.values_of h in
       let t = four_hold (rules.context_there r h.context && list_all (rules.value_there r) values) (is_there r.lines h.pc) (where_there (line_at r h.pc) (rules.is_action_line r (length f.before)))
-          (rules.may_undo r h && (list_all (rules.is_value_right r) values && rules.are_new (rules.values_in h.context f.before) values)) rule.Range rule.Target rule.Context rule.Definition
-          (clean_head _ [] f.clean) in
+      (rules.may_undo r h && (list_all (rules.is_value_right r) values && rules.are_new (rules.values_in h.context f.before) values)) rule.Range rule.Target rule.Context rule.Definition
+      (clean_head _ [] f.clean) in
       let line = there_some (line_at r h.pc) t.1 in
       let is : rules.is_action_line r n line.0 ≡ true = ap (λ i. rules.is_action_line r i line.0) (sym f.long) ∙ where_some (line_at r h.pc) (rules.is_action_line r (length f.before)) line.0 t.2 line.1 in
       record {

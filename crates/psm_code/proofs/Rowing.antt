@@ -1,10 +1,8 @@
 -- The rows that statements leave fit the definition of their table.
-use Rattle.std.proofs.Common.{◌≡◌, ℕ, zero, suc, ◌<◌, Bool, true, false, ◌&&◌, ◌||◌, List, [], ◌∷◌, ◌++◌, length, map, get_or, refl, ap, sym, subst, ◌∙◌, arith, Option, Some, None, Result, Ok, Err}
-use Rattle.std.specs.Prelude.{All, not, slice_get, slice_index_or, slice_set, filter, if◌then◌else◌}
+use Rattle.std.proofs.Common.{◌≡◌, ℕ, zero, suc, Bool, true, false, ◌&&◌, List, [], ◌∷◌, ◌++◌, length, map, get_or, refl, ap, sym, subst, ◌∙◌, arith, Option, Result, Ok, Err}
+use Rattle.std.specs.Prelude.{All, not, slice_index_or, slice_set, filter, if◌then◌else◌}
 use Rattle.std.specs.List.{list_all, list_any, zip}
 use Rattle.std.specs.Ordering.{is_gt, is_lt}
-use Rattle.std.specs.declared.cmp.Ordering.{Ordering}
-use Rattle.std.specs.declared.cmp.Ordering.TheVariants.{Less, Equal, Greater}
 use Rattle.std.proofs.lemmas.List.{length-map}
 use Rattle.std.proofs.lemmas.List.Elements.{All-append, All-cons, All-filter, All-head, All-nil, All-tail}
 use Rattle.psm_num.proofs.Literals.{and_first, and_second}
@@ -16,20 +14,15 @@ use Rattle.psm_value.specs.declared.sqltype.SqlType.TheVariants as types
 use Rattle.psm_value.specs.SqlType.{IsOfFamily}
 use Rattle.psm_value.specs.Stored.{stored}
 use Rattle.psm_value.proofs.Stable.{stored-of_family}
-use Rattle.psm_exprcode.proofs.Standing.{both_true}
 use Rattle.psm_table.specs.declared.definition.Column.{Column}
 use Rattle.psm_table.specs.declared.definition.TableDef.{TableDef}
-use Rattle.psm_table.specs.Changing.{all_apart, are_apart, counting, deleted, divided, ended, has_moved, in_order, inserted, is_before, is_filled, keep_rules, kind_of, moving, new_values, placed_in, rows_but, set_row, stored_row, stored_rows, then_of, updated, updated_at, with_values, Changed, Division, Failure, IsLegal, Moved, Schema, SetItem}
-use Rattle.psm_table.specs.Cursors.{current, row_at, row_of_key, Position}
+use Rattle.psm_table.specs.Changing.{all_apart, counting, deleted, divided, ended, has_moved, in_order, inserted, is_before, is_filled, kind_of, moving, new_values, placed_in, rows_but, set_row, stored_row, stored_rows, then_of, updated, updated_at, with_values, Changed, Division, Failure, Moved, Schema, SetItem}
 use Rattle.psm_table.specs.Definition.{kinds_of, AreOfFamilies, IsRow}
 use Rattle.psm_table.specs.Evaluator.{and_then, mapped, Evaluator}
-use Rattle.psm_table.specs.Key.{key_order, row_order, values_at}
+use Rattle.psm_table.specs.Key.{row_order, values_at}
 use Rattle.psm_table.specs.Unique.{has_null, is_null}
-use Rattle.psm_table.proofs.Checks.{all_pass, each_passes, Passes}
 use Rattle.psm_table.proofs.Legal.{by_division, ended_is, left_all}
-use Rattle.psm_table.proofs.Rules.{apart-turned}
-use Rattle.psm_tablecode.specs.NewRows.{new_row, row_from, value_for}
-use Rattle.std.specs.Ordering.{is_eq}
+use Rattle.psm_tablecode.specs.NewRows.{new_row, row_from}
 
 abbrev Row : Type 0
 Row = List Datum

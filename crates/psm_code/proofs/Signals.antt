@@ -1,10 +1,8 @@
 -- SIGNAL, RESIGNAL and GET DIAGNOSTICS.
-use Rattle.std.proofs.Common.{◌≡◌, ℕ, suc, Bool, true, false, List, [], ◌∷◌, length, refl, ap, sym, ◌∙◌, Option, Some, None}
+use Rattle.std.proofs.Common.{◌≡◌, ℕ, Bool, true, List, [], ◌∷◌, length, refl, Option, Some, None}
 use Rattle.std.specs.Prelude.{slice_get}
-use Rattle.psm_num.proofs.Literals.{and_first, and_second}
 use Rattle.psm_value.specs.declared.datum.Datum.{Datum}
 use Rattle.psm_value.specs.declared.datum.Datum.TheVariants.{Null, Num, Text}
-use Rattle.psm_cond.specs.Condition.{Entries}
 use Rattle.psm_cond.specs.Item.{entries_of, entry_item, statement_item}
 use Rattle.psm_cond.specs.declared.entry.Entry.{Entry}
 use Rattle.psm_cond.specs.declared.handlers.Declared.{Declared}
@@ -13,7 +11,7 @@ use Rattle.psm_cond.specs.declared.item.ConditionItem.TheVariants as of_conditio
 use Rattle.psm_cond.specs.declared.item.StatementItem.{StatementItem}
 use Rattle.psm_cond.specs.declared.item.StatementItem.TheVariants as of_statement
 use Rattle.psm_exprcode.specs.declared.op.Letter.{Letter}
-use Rattle.psm_exprcode.specs.declared.op.Letter.TheVariants.{N, T, B}
+use Rattle.psm_exprcode.specs.declared.op.Letter.TheVariants.{N, T}
 use Rattle.psm_exprcode.specs.declared.operand.Operand.{Operand}
 use Rattle.psm_exprcode.specs.Kinds.{has_letter, have, is_of}
 use Rattle.psm_exprcode.proofs.Standing.{both_true}
@@ -21,10 +19,10 @@ use Rattle.psm_code.specs.declared.code.RawCode.{RawCode}
 use Rattle.psm_code.specs.declared.code.RawRoutine.{RawRoutine}
 use Rattle.psm_code.specs.declared.lines.CodeLine.{CodeLine}
 use Rattle.psm_code.specs.Instructions.{condition_letter, may_raise, statement_letter}
-use Rattle.psm_code.specs.Signalling.{activating, declared, entry_for, entry_numbered, handling, item_of_condition, item_of_statement, message_text, numbered, resignal, resignal_condition, resignal_message, resignal_with, signal, signal_message, with_message}
+use Rattle.psm_code.specs.Signalling.{activating, declared, entry_numbered, handling, item_of_condition, item_of_statement, message_text, numbered, resignal, resignal_condition, resignal_message, resignal_with, signal, signal_message, with_message}
 use Rattle.psm_code.specs.State.{Frame, InBlock, InAction, Machine}
 use Rattle.psm_code.specs.Steps.{put, put_value, read}
-use Rattle.psm_code.proofs.Acts.{Body, Does, Has, and_then, pop_does, present_does}
+use Rattle.psm_code.proofs.Acts.{Does, Has, and_then, pop_does, present_does}
 
 module _ (code : RawCode) (r : RawRoutine) (l : CodeLine) where
   -- an operand more

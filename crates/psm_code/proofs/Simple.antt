@@ -1,28 +1,26 @@
 -- Instructions that go on at the next line or raise a condition: about variables, warnings, turns, conditions and the area.
-use Rattle.std.proofs.Common.{◌≡◌, ◌⊎◌, inl, inr, ℕ, zero, suc, Bool, true, false, ◌&&◌, nat_eq, List, [], ◌∷◌, refl, ap, sym, ◌∙◌, eqb-true, Option, Some, None}
+use Rattle.std.proofs.Common.{◌≡◌, inl, inr, ℕ, zero, suc, List, [], ◌∷◌, refl, ap, eqb-true, Option, None}
 use Rattle.std.specs.Prelude.{codes, option_map, reverse, slice_get}
-use Rattle.psm_cond.specs.declared.handlers.Declared.{Declared}
 use Rattle.psm_cond.specs.declared.item.ConditionItem.{ConditionItem}
 use Rattle.psm_cond.specs.declared.item.StatementItem.{StatementItem}
-use Rattle.psm_value.specs.declared.sqltype.SqlType.{SqlType}
 use Rattle.psm_exprcode.specs.declared.op.Letter.{Letter}
-use Rattle.psm_exprcode.specs.declared.op.Letter.TheVariants.{N, T, B}
+use Rattle.psm_exprcode.specs.declared.op.Letter.TheVariants.{N, T}
 use Rattle.psm_exprcode.specs.Kinds.{letter_of}
-use Rattle.psm_exprcode.specs.Operations.{Effect, plain}
+use Rattle.psm_exprcode.specs.Operations.{plain}
 use Rattle.psm_code.specs.declared.code.RawCode.{RawCode}
 use Rattle.psm_code.specs.declared.code.RawRoutine.{RawRoutine}
 use Rattle.psm_code.specs.declared.instruction.Instruction.{Instruction}
 use Rattle.psm_code.specs.declared.instruction.Instruction.TheVariants as instruction
 use Rattle.psm_code.specs.declared.lines.CodeLine.{CodeLine}
 use Rattle.psm_code.specs.Instructions.{condition_letter, statement_letter, taking_from}
-use Rattle.psm_code.specs.Parts.{line_at, slots_of}
+use Rattle.psm_code.specs.Parts.{slots_of}
 use Rattle.psm_code.specs.RoutineRules.{first_fault}
 use Rattle.psm_code.specs.Rows.{done, retrieve, settled, store, warn}
 use Rattle.psm_code.specs.Signalling.{item_of_condition, item_of_statement, resignal, resignal_condition, resignal_message, signal, signal_message}
 use Rattle.psm_code.specs.Sits.{StaysRight}
 use Rattle.psm_code.specs.State.{Machine, cleared}
 use Rattle.psm_code.specs.Steps.{change, of_state, spent, turn}
-use Rattle.psm_code.proofs.Acts.{Body, Does, Has}
+use Rattle.psm_code.proofs.Acts.{Does, Has}
 use Rattle.psm_code.proofs.Faults.{line_right, RightLine, RightRoutine}
 use Rattle.psm_code.proofs.Going.{bears, goes_straight}
 use Rattle.psm_code.proofs.Handling.{goes_on, raises}

@@ -1,6 +1,6 @@
 -- Code that breaks no rule, and leaves blocks and ends actions without operands, lacks nothing.
-use Rattle.std.proofs.Common.{◌≡◌, ℕ, zero, suc, ◌<◌, Bool, true, List, [], ◌∷◌, length, map, refl, ap, sym, subst, ◌∙◌, arith, Option, Some, None}
-use Rattle.std.specs.Prelude.{reverse, slice_get}
+use Rattle.std.proofs.Common.{◌≡◌, ℕ, zero, suc, ◌<◌, true, List, [], length, map, refl, ap, sym, subst, arith, Option, Some, None}
+use Rattle.std.specs.Prelude.{reverse}
 use Rattle.psm_value.specs.declared.datum.Datum.{Datum}
 use Rattle.psm_exprcode.specs.declared.op.Letter.{Letter}
 use Rattle.psm_exprcode.specs.Kinds.{have}
@@ -9,14 +9,13 @@ use Rattle.psm_code.specs.declared.code.RawCode.{RawCode}
 use Rattle.psm_code.specs.declared.code.RawRoutine.{RawRoutine}
 use Rattle.psm_code.specs.declared.instruction.Instruction.{Instruction}
 use Rattle.psm_code.specs.declared.instruction.Instruction.TheVariants as instruction
-use Rattle.psm_code.specs.declared.lines.CodeLine.{CodeLine}
-use Rattle.psm_code.specs.Calling.{activation, before_start, beginning, begun, entered, most_depth, started}
-use Rattle.psm_code.specs.Parts.{line_at, routine_at, taking}
+use Rattle.psm_code.specs.Calling.{activation, before_start, begun, entered, most_depth, started}
+use Rattle.psm_code.specs.Parts.{routine_at, taking}
 use Rattle.psm_code.specs.RoutineRules.{first_fault}
 use Rattle.psm_code.specs.Rows.{line_done, routine_done, row, row_on, rows, Ran}
 use Rattle.psm_code.specs.Sits.{are_bare, are_stored, is_due, AllWait, AreKept, Sits, StaysRight}
 use Rattle.psm_code.specs.State.{Activation, End, Machine, More, Over, Turned}
-use Rattle.psm_code.specs.Steps.{Act, Came, Given, Got, Raises, Ends, got, go_on, present, spent, turn, ◌>>=◌, ◌>>◌}
+use Rattle.psm_code.specs.Steps.{Act, Given, Got, Raises, Ends, got, go_on, present, spent, turn, ◌>>=◌, ◌>>◌}
 use Rattle.psm_code.proofs.Acts.{Has}
 use Rattle.psm_code.proofs.Blocks.{end_action_kept, enter_kept, exit_kept}
 use Rattle.psm_code.proofs.Calls.{call_function_kept, call_kept, end_kept, return_kept}

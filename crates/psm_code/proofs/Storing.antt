@@ -1,5 +1,5 @@
 -- Variables that are stored into, and pending warnings.
-use Rattle.std.proofs.Common.{◌≡◌, ◌<◌, ℕ, zero, suc, Bool, true, false, ◌&&◌, List, [], ◌∷◌, length, refl, ap, sym, ◌∙◌, Option, Some, None, Result, Ok, Err}
+use Rattle.std.proofs.Common.{◌≡◌, ℕ, zero, suc, Bool, true, false, List, [], ◌∷◌, refl, ap, sym, ◌∙◌, Option, Some, None}
 use Rattle.std.specs.Prelude.{slice_get, slice_set}
 use Rattle.psm_num.proofs.Literals.{and_first, and_second}
 use Rattle.psm_sqlstate.specs.declared.state.SqlState.{SqlState}
@@ -20,8 +20,8 @@ use Rattle.psm_code.specs.Parts.{slots_of}
 use Rattle.psm_code.specs.Rows.{losing, retrieve, store, warn, warned}
 use Rattle.psm_code.specs.Sits.{are_stored}
 use Rattle.psm_code.specs.State.{Machine, with_variable}
-use Rattle.psm_code.specs.Steps.{change, of_state}
-use Rattle.psm_code.proofs.Acts.{Body, Has, Does, and_then, pop_does, present_does, tried_does}
+use Rattle.psm_code.specs.Steps.{change}
+use Rattle.psm_code.proofs.Acts.{Has, Does, and_then, pop_does, present_does, tried_does}
 
 -- a value of the type in a slot
 set_stored : (ts : List SqlType) (vs : List Datum) (slot : ℕ) (t : SqlType) (d : Datum) → are_stored ts vs ≡ true → slice_get ts slot ≡ Some t → is_stored t d ≡ true → are_stored ts (slice_set vs slot d) ≡ true
