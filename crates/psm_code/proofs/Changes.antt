@@ -68,7 +68,7 @@ at_columns : (ks : List Letter) (columns : List ℕ) (ls : List Letter) → list
 at_columns ks [] ls v e = let none : List Letter = [] in let same : none ≡ ls = cc in subst (Values []) same (record { long = refl; values = refl })
 at_columns ks (c ∷ cs) ls v e = with_first ks c cs (slice_get ks c) (letters_at ks cs) ls v refl (λ us f. at_columns ks cs us v f) e
 
-kinds_values : (ts : List SqlType) → list_all is_value (map letter_of ts) ≡ true
+pub kinds_values : (ts : List SqlType) → list_all is_value (map letter_of ts) ≡ true
 kinds_values [] = refl
 kinds_values (t ∷ ts) = both_true (is_value (letter_of t)) (list_all is_value (map letter_of ts)) (letter_of-value t) (kinds_values ts)
 

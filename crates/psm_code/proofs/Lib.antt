@@ -27,3 +27,4 @@ pub mod Planning
 pub mod Positioned
 pub mod Changes
 pub mod Sound
+pub mod Suiting

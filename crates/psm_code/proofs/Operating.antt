@@ -14,12 +14,13 @@ use Rattle.psm_exprcode.specs.declared.op.Op.TheVariants as op
 use Rattle.psm_exprcode.specs.declared.operand.Operand.{Operand}
 use Rattle.psm_exprcode.specs.declared.operand.Next.TheVariants.{Ahead, Jump}
 use Rattle.psm_exprcode.specs.Applied.{Applied, Went, Raised, Lacking, applied}
+use Rattle.psm_exprcode.specs.Fits.{Fits}
 use Rattle.psm_exprcode.specs.Kinds.{are_of, has_letter, have, is_value, letter_of}
 use Rattle.psm_exprcode.specs.Operations.{Effect, effect, plain}
 use Rattle.psm_exprcode.specs.WellFormed.{is_bounded}
 use Rattle.psm_exprcode.proofs.Results.{letter_of-value}
 use Rattle.psm_exprcode.proofs.Standing.{both_true, is_in, IsAhead, IsAway, Leads}
-use Rattle.psm_exprcode.proofs.Stepping.{names, op_leads}
+use Rattle.psm_exprcode.proofs.Stepping.{names, op_fits, op_leads}
 use Rattle.psm_exprcode.proofs.Stripping.{left_of-some}
 use Rattle.psm_code.specs.declared.code.RawCode.{RawCode}
 use Rattle.psm_code.specs.declared.code.RawRoutine.{RawRoutine}
@@ -156,3 +157,15 @@ module _ (code : RawCode) (right : first_fault code ≡ None) (r : RawRoutine) (
       comes_to (applied o m.running.operands [] m.running.variables) m e.ahead e.away k.rest p
       (op_leads o t.kind ch.other k.rest m.running.operands [] m.running.variables t.is_kind (op_bounded code r o constant line.named) t.named (ap (λ s. have s m.running.operands) (sym below) ∙ h.operands))
       h.body (λ state q. raised_marked o m.running.operands [] m.running.variables state q)
+
+  -- and it finds what it needs
+  pub operation_fits : (m : Machine) → Has code r Line (reverse s) m → Fits o m.running.operands [] m.running.variables
+  operation_fits m h =
+      let line = right_here code right r g c resume s (instruction.Operation o) m h in
+      let ch = choose code r m.running.line Line line in
+      let t = op_table code r o m.running.variables ch.kind ch.other ch.is_kind h.body.variables line.named line.place in
+      let e = effect o t.kind ch.other in
+      let k = known_with code r m.running.line Line line e ch t.is in
+      let constant = and_first (rules.constant_fits (instruction.Operation o)) _ line.stack in
+      let below : reverse s ≡ e.takes ++ k.rest = left_of-some e.takes (reverse s) k.rest k.left in
+      op_fits o t.kind ch.other k.rest m.running.operands [] m.running.variables t.is_kind (op_bounded code r o constant line.named) t.named (ap (λ s. have s m.running.operands) (sym below) ∙ h.operands)
