@@ -28,3 +28,4 @@ pub mod Positioned
 pub mod Changes
 pub mod Sound
 pub mod Suiting
+pub mod Sounding

@@ -1,6 +1,6 @@
 -- What right code gives to those that evaluate its expressions, queries and plans, and that choose among its handlers.
-use Rattle.std.proofs.Common.{◌≡◌, ℕ, zero, suc, ◌+◌, Bool, true, false, ◌&&◌, ◌||◌, nat_eq, nat_le, nat_lt, List, [], ◌∷◌, ◌++◌, length, map, refl, ap, sym, subst, ◌∙◌, arith, Option, Some, None}
-use Rattle.std.specs.Prelude.{IsTrue, not, reverse, slice_get}
+use Rattle.std.proofs.Common.{◌≡◌, ℕ, zero, suc, Bool, true, false, ◌&&◌, ◌||◌, nat_lt, List, [], ◌∷◌, ◌++◌, length, map, refl, ap, sym, subst, ◌∙◌, arith, Option, Some, None}
+use Rattle.std.specs.Prelude.{not, reverse, slice_get}
 use Rattle.std.specs.List.{flat_map, list_all}
 use Rattle.std.specs.Option.{option_map_or}
 use Rattle.std.proofs.lemmas.List.{length-map}
@@ -18,7 +18,7 @@ use Rattle.psm_exprcode.specs.declared.op.Op.{Op}
 use Rattle.psm_exprcode.specs.declared.query.Query.{Query}
 use Rattle.psm_exprcode.specs.declared.set_item.SetItem.{SetItem}
 use Rattle.psm_exprcode.specs.Fits.{Fits as OperationFits}
-use Rattle.psm_exprcode.specs.Kinds.{are_of, is_letter, is_value, letter_of, some_value}
+use Rattle.psm_exprcode.specs.Kinds.{is_letter, is_value, letter_of}
 use Rattle.psm_exprcode.specs.WellFormed.{does_fit}
 use Rattle.psm_exprcode.proofs.Standing.{both_true}
 use Rattle.psm_exprcode.proofs.Stripping.{is_letter-same}
@@ -27,21 +27,19 @@ use Rattle.psm_tablecode.specs.Suits.{fits_query, give_items, gives_operand, giv
 use Rattle.psm_code.specs.declared.code.CodeTable.{CodeTable}
 use Rattle.psm_code.specs.declared.code.RawCode.{RawCode}
 use Rattle.psm_code.specs.declared.code.RawRoutine.{RawRoutine}
-use Rattle.psm_code.specs.declared.instruction.Instruction.{Instruction}
 use Rattle.psm_code.specs.declared.instruction.Instruction.TheVariants as instruction
-use Rattle.psm_code.specs.declared.lines.CodeLine.{CodeLine}
 use Rattle.psm_code.specs.declared.rule.CodeRule.TheVariants as rule
 use Rattle.psm_code.specs.Instructions.{column_letters, columns_at, columns_of_table, variables_of}
 use Rattle.psm_code.specs.Parts.{slots_of}
-use Rattle.psm_code.specs.PlanRules.{is_column_letter, is_due, item_in, items_in, operand_in, set_faults, set_in, set_line, sets_in, test_in}
+use Rattle.psm_code.specs.PlanRules.{is_column_letter, is_due, item_in, items_in, operand_in, set_faults, set_in, set_line, test_in}
 use Rattle.psm_code.specs.RoutineRules.{first_fault}
-use Rattle.psm_code.specs.Rules.{each_after, first_of, is_among, is_there, unless, where_there}
+use Rattle.psm_code.specs.Rules.{each_after, is_among, is_there, where_there}
 use Rattle.psm_code.specs.Sits.{are_stored, Sits}
 use Rattle.psm_code.specs.State.{Machine}
-use Rattle.psm_code.specs.TableRules.{column_fault, expr_faults, key_fault, name_fault, table_faults, unique_fault}
+use Rattle.psm_code.specs.TableRules.{column_fault, expr_faults, key_fault, name_fault, unique_fault}
 use Rattle.psm_code.proofs.Acts.{Has}
 use Rattle.psm_code.proofs.Evaluating.{expr_fits, Fits}
-use Rattle.psm_code.proofs.Faults.{clean_first, clean_head, clean_second, clean_tail, routine_right, two_hold, table_right, Clean, RightRoutine}
+use Rattle.psm_code.proofs.Faults.{clean_first, clean_head, clean_second, clean_tail, routine_right, two_hold, table_right, Clean}
 use Rattle.psm_code.proofs.Changes.{kinds_values}
 use Rattle.psm_code.proofs.Operating.{operation_fits, stored_letters}
 use Rattle.psm_code.proofs.Queried.{RightQuery}
@@ -160,7 +158,7 @@ checks_suit code n t right e =
 
 -- ---- SET
 
-there_below : {A : Type 0} (xs : List A) (n : ℕ) → is_there xs n ≡ true → nat_lt n (length xs) ≡ true
+pub there_below : {A : Type 0} (xs : List A) (n : ℕ) → is_there xs n ≡ true → nat_lt n (length xs) ≡ true
 there_below [] n h = absurd (cc)
 there_below (x ∷ xs) zero h = grind arith
 there_below (x ∷ xs) (suc n) h = grind (arith, there_below xs n h)
