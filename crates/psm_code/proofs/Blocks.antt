@@ -27,11 +27,11 @@ use Rattle.psm_code.specs.RoutineRules as rules
 use Rattle.psm_code.specs.RoutineRules.{first_fault}
 use Rattle.psm_code.specs.Rows.{act_ended, action_ended, ahead, end_action, enter, exit, exited, finding, line_behind, then_ahead, with_frames, Way}
 use Rattle.psm_code.specs.Rules.{is_some, there}
-use Rattle.psm_code.specs.Sits.{are_bare, is_bare, is_leaving, AreKept, Ends, Finds, IsEntered, Stand, StaysRight}
+use Rattle.psm_code.specs.Sits.{AreKept, Ends, Finds, IsEntered, Stand, StaysRight}
 use Rattle.psm_code.specs.State.{Frame, InBlock, InAction, Lacking, Machine, cleared}
 use Rattle.psm_code.specs.Steps.{change, ends, read}
 use Rattle.psm_code.proofs.Acts.{Does, Has, and_then, present_does}
-use Rattle.psm_code.proofs.Faults.{line_bare, RightRoutine}
+use Rattle.psm_code.proofs.Faults.{line_right, RightRoutine}
 use Rattle.psm_code.proofs.Going.{bears, known, next_ahead, settles, sits_at, Next}
 use Rattle.psm_code.proofs.Handling.{finds_found, left_one}
 use Rattle.psm_code.proofs.Raises.{blocks, left, not_some, there_some}
@@ -122,62 +122,61 @@ module _ (code : RawCode) (right : first_fault code ≡ None) (r : RawRoutine) (
 
   -- ---- ENDACT
 
-  module _ (bare : are_bare code ≡ true) where
-    no_stack : (i : Instruction) (m : Machine) → is_leaving i ≡ true → Has code r (with code right r g c resume s i) (reverse s) m → s ≡ []
-    no_stack i m w h =
-        let b = line_bare code m.running.routine m.running.line r (with code right r g c resume s i) bare h.body.routine h.body.line in
-        not_some s (ap (λ t. not t || not (is_some s)) (sym w) ∙ b)
+  no_stack : (i : Instruction) (m : Machine) → rules.stands_alone i ≡ true → Has code r (with code right r g c resume s i) (reverse s) m → s ≡ []
+  no_stack i m w h =
+      let b = (right_here code right r g c resume s i m h).bare in
+      not_some s (ap (λ t. not t || not (is_some s)) (sym w) ∙ b)
 
-    -- a line at which an action ends
-    record Behind (n : ℕ) (frames : List Frame) (at : ℕ) : Type 0 where
-      context : ℕ
-      next : Next r at [] context
-      stand : Stand code r frames context
+  -- a line at which an action ends
+  record Behind (n : ℕ) (frames : List Frame) (at : ℕ) : Type 0 where
+    context : ℕ
+    next : Next r at [] context
+    stand : Stand code r frames context
 
-    leaving_bare : (l : CodeLine) (k : ℕ) → l.instruction ≡ instruction.Exit k → is_bare l ≡ true → l.stack ≡ []
-    leaving_bare l k e b = not_some l.stack (ap (λ i. not (is_leaving i) || not (is_some l.stack)) (sym e) ∙ b)
+  leaving_bare : (l : CodeLine) (k : ℕ) → l.instruction ≡ instruction.Exit k → rules.is_bare l ≡ true → l.stack ≡ []
+  leaving_bare l k e b = not_some l.stack (ap (λ i. not (rules.stands_alone i) || not (is_some l.stack)) (sym e) ∙ b)
 
-    exit_line : (l : CodeLine) (n : ℕ) (h : Handler) (frames : List Frame) (m : Machine) → handler_at r n ≡ Some h → Stand code r frames h.context → Has code r l [] m
-        → Does code r l (λ at k. Behind n frames at × Has code r l [] k) (line_behind r h Exit None) m
-    exit_line l n h frames m e f x =
-        let b = blocks code r g n h e in
-        let out = left code r g h.context b.0 b.1 in
-        let empty : out.line.stack ≡ [] = leaving_bare out.line h.context out.is (line_bare code m.running.routine b.0.exit r out.line bare x.body.routine out.there) in
-        and_then code r l (λ y k. (y ≡ b.0) × Has code r l [] k) _ _ _ m (present_does code r l _ (block_at r h.context) b.0 m b.1 (refl, x)) (λ y k q.
-        let next : Next r y.exit [] h.context = subst (λ (y : Block). Next r y.exit [] h.context) (sym q.0) (record { line = out.line; there = out.there; stack = ap reverse empty; same = out.same }) in
-        record { comes = (record { context = h.context; next = next; stand = f }, q.1) })
+  exit_line : (l : CodeLine) (n : ℕ) (h : Handler) (frames : List Frame) (m : Machine) → handler_at r n ≡ Some h → Stand code r frames h.context → Has code r l [] m
+      → Does code r l (λ at k. Behind n frames at × Has code r l [] k) (line_behind r h Exit None) m
+  exit_line l n h frames m e f x =
+      let b = blocks code r g n h e in
+      let out = left code r g h.context b.0 b.1 in
+      let empty : out.line.stack ≡ [] = leaving_bare out.line h.context out.is (line_right code r b.0.exit out.line g out.there).bare in
+      and_then code r l (λ y k. (y ≡ b.0) × Has code r l [] k) _ _ _ m (present_does code r l _ (block_at r h.context) b.0 m b.1 (refl, x)) (λ y k q.
+      let next : Next r y.exit [] h.context = subst (λ (y : Block). Next r y.exit [] h.context) (sym q.0) (record { line = out.line; there = out.there; stack = ap reverse empty; same = out.same }) in
+      record { comes = (record { context = h.context; next = next; stand = f }, q.1) })
 
-    behind_does : (l : CodeLine) (n : ℕ) (h : Handler) (kind : HandlerKind) (resume : Option ℕ) (frames : List Frame) (m : Machine) → handler_at r n ≡ Some h → Ends r h kind resume frames (Stand code r frames) → Has code r l [] m
-        → Does code r l (λ at k. Behind n frames at × Has code r l [] k) (line_behind r h kind resume) m
-    behind_does l n h Continue resume frames m e f x =
-        present_does code r l (λ at k. Behind n frames at × Has code r l [] k) resume f.at m f.some (record { context = f.line.context; next = record { line = f.line; there = f.there; stack = ap reverse f.bare; same = refl }; stand = f.stands }, x)
-    behind_does l n h Exit resume frames m e f x = exit_line l n h frames m e f x
-    behind_does l n h Undo resume frames m e f x = exit_line l n h frames m e f x
+  behind_does : (l : CodeLine) (n : ℕ) (h : Handler) (kind : HandlerKind) (resume : Option ℕ) (frames : List Frame) (m : Machine) → handler_at r n ≡ Some h → Ends r h kind resume frames (Stand code r frames) → Has code r l [] m
+      → Does code r l (λ at k. Behind n frames at × Has code r l [] k) (line_behind r h kind resume) m
+  behind_does l n h Continue resume frames m e f x =
+      present_does code r l (λ at k. Behind n frames at × Has code r l [] k) resume f.at m f.some (record { context = f.line.context; next = record { line = f.line; there = f.there; stack = ap reverse f.bare; same = refl }; stand = f.stands }, x)
+  behind_does l n h Exit resume frames m e f x = exit_line l n h frames m e f x
+  behind_does l n h Undo resume frames m e f x = exit_line l n h frames m e f x
 
-    abbrev Sits_way : Way → Machine → Type 0
-    Sits_way way n = StaysRight code (way n)
+  abbrev Sits_way : Way → Machine → Type 0
+  Sits_way way n = StaysRight code (way n)
 
-    ends_right : (n : ℕ) (frames : List Frame) (m : Machine) → rules.is_action_context n (context_at r.handlers c) ≡ true → Stand code r frames c → Has code r (with code right r g c resume s (instruction.EndAction n)) [] m
-        → Does code r (with code right r g c resume s (instruction.EndAction n)) Sits_way (action_ended r n frames) m
-    ends_right n [] m a f h = let none : false ≡ true = ap (λ k. rules.is_action_context n (context_at r.handlers k)) (sym f) ∙ a in absurd (cc)
-    ends_right n (InBlock j found ∷ frames) m a f h = absurd (not_both n f.0.block (context_at r.handlers c) a f.0.there)
-    ends_right n (InAction j resumes area ∷ frames) m a f h = by (nat_eq n j) refl where
-      by : (t : Bool) → nat_eq n j ≡ t → Does code r (with code right r g c resume s (instruction.EndAction n)) Sits_way (if t then act_ended r n resumes frames else ends Lacking) m
-      by false d = let same : nat_eq n j ≡ true = eq-eqb n j (same_action n j (context_at r.handlers c) a f.same) in absurd (cc)
-      by true d =
-          let l = with code right r g c resume s (instruction.EndAction n) in
-          let there : handler_at r n ≡ Some f.handler = ap (handler_at r) (eqb-true n j d) ∙ f.there in
-          and_then code r l (λ y k. (y ≡ f.handler) × Has code r l [] k) _ _ _ m (present_does code r l _ (handler_at r n) f.handler m there (refl, h)) (λ y k q.
-          and_then code r l _ _ _ _ k (subst (λ (y : Handler). Does code r l (λ at k. Behind n frames at × Has code r l [] k) (line_behind r y y.kind resumes) k) (sym q.0) (behind_does l n f.handler f.handler.kind resumes frames k there f.ends q.1)) (λ at k z.
-          let next : Has code r l [] (cleared k) = record { body = z.1.body; operands = z.1.operands } in
-          record { comes = sits_at code right r g l at [] z.0.context frames (cleared k) next z.0.stand z.0.next }))
+  ends_right : (n : ℕ) (frames : List Frame) (m : Machine) → rules.is_action_context n (context_at r.handlers c) ≡ true → Stand code r frames c → Has code r (with code right r g c resume s (instruction.EndAction n)) [] m
+      → Does code r (with code right r g c resume s (instruction.EndAction n)) Sits_way (action_ended r n frames) m
+  ends_right n [] m a f h = let none : false ≡ true = ap (λ k. rules.is_action_context n (context_at r.handlers k)) (sym f) ∙ a in absurd (cc)
+  ends_right n (InBlock j found ∷ frames) m a f h = absurd (not_both n f.0.block (context_at r.handlers c) a f.0.there)
+  ends_right n (InAction j resumes area ∷ frames) m a f h = by (nat_eq n j) refl where
+    by : (t : Bool) → nat_eq n j ≡ t → Does code r (with code right r g c resume s (instruction.EndAction n)) Sits_way (if t then act_ended r n resumes frames else ends Lacking) m
+    by false d = let same : nat_eq n j ≡ true = eq-eqb n j (same_action n j (context_at r.handlers c) a f.same) in absurd (cc)
+    by true d =
+        let l = with code right r g c resume s (instruction.EndAction n) in
+        let there : handler_at r n ≡ Some f.handler = ap (handler_at r) (eqb-true n j d) ∙ f.there in
+        and_then code r l (λ y k. (y ≡ f.handler) × Has code r l [] k) _ _ _ m (present_does code r l _ (handler_at r n) f.handler m there (refl, h)) (λ y k q.
+        and_then code r l _ _ _ _ k (subst (λ (y : Handler). Does code r l (λ at k. Behind n frames at × Has code r l [] k) (line_behind r y y.kind resumes) k) (sym q.0) (behind_does l n f.handler f.handler.kind resumes frames k there f.ends q.1)) (λ at k z.
+        let next : Has code r l [] (cleared k) = record { body = z.1.body; operands = z.1.operands } in
+        record { comes = sits_at code right r g l at [] z.0.context frames (cleared k) next z.0.stand z.0.next }))
 
-    pub end_action_kept : (n : ℕ) → Kept code right r g c resume s (instruction.EndAction n)
-    end_action_kept n m h =
-        let i = instruction.EndAction n in
-        let l = with code right r g c resume s i in
-        let empty = no_stack i m refl h in
-        let has : Has code r l [] m = record { body = h.body; operands = ap (λ t. have (reverse t) m.running.operands) (sym empty) ∙ h.operands } in
-        settles code right r g l (end_action r n) m (bears code right r g l m h.body (λ e. absurd (cc)))
-        (and_then code r l (λ frames n. Stand code r frames c × Has code r l [] n) _ (read (λ m. m.running.frames)) (action_ended r n) m (record { comes = (h.body.frames, has) })
-        (λ frames k f. ends_right n frames k (right_here code right r g c resume s i m h).stands f.0 f.1))
+  pub end_action_kept : (n : ℕ) → Kept code right r g c resume s (instruction.EndAction n)
+  end_action_kept n m h =
+      let i = instruction.EndAction n in
+      let l = with code right r g c resume s i in
+      let empty = no_stack i m refl h in
+      let has : Has code r l [] m = record { body = h.body; operands = ap (λ t. have (reverse t) m.running.operands) (sym empty) ∙ h.operands } in
+      settles code right r g l (end_action r n) m (bears code right r g l m h.body (λ e. absurd (cc)))
+      (and_then code r l (λ frames n. Stand code r frames c × Has code r l [] n) _ (read (λ m. m.running.frames)) (action_ended r n) m (record { comes = (h.body.frames, has) })
+      (λ frames k f. ends_right n frames k (right_here code right r g c resume s i m h).stands f.0 f.1))

@@ -1,7 +1,7 @@
 -- What is known of code that breaks no rule, line by line of its listing.
 use Rattle.std.proofs.Common.{◌≡◌, ℕ, zero, suc, ◌+◌, Bool, true, false, ◌&&◌, List, [], ◌∷◌, ◌++◌, length, map, refl, ap, sym, subst, ◌∙◌, arith, Option, Some, None, length-append}
 use Rattle.std.specs.Prelude.{slice_get}
-use Rattle.std.specs.List.{flat_map, list_all}
+use Rattle.std.specs.List.{flat_map}
 use Rattle.psm_num.proofs.Literals.{and_first, and_second}
 use Rattle.psm_cond.specs.declared.handlers.Context.{Context}
 use Rattle.psm_cond.specs.declared.handlers.Handler.{Handler}
@@ -17,7 +17,6 @@ use Rattle.psm_code.specs.PlanRules.{cursor_fault, plan_faults, query_faults}
 use Rattle.psm_code.specs.RoutineRules.{code_faults, context_fault, context_faults, declared_fault, first_fault, handler_fault, line_fault, line_faults, parameter_fault, routine_fault, routine_faults, type_fault}
 use Rattle.psm_code.specs.RoutineRules as rules
 use Rattle.psm_code.specs.Rules.{each_after, fault_in, first_of, unless, where_there}
-use Rattle.psm_code.specs.Sits.{are_bare, is_bare}
 use Rattle.psm_code.specs.TableRules.{table_faults}
 
 -- ---- lines without a fault
@@ -99,6 +98,7 @@ pub record RightLine (code : RawCode) (r : RawRoutine) (at : ℕ) (l : CodeLine)
   pub named : rules.names_there code r l.instruction ≡ true
   pub inside : rules.context_there r l.context ≡ true
   pub targets : rules.are_targets code r at l ≡ true
+  pub bare : rules.is_bare l ≡ true
   pub stack : rules.stack_follows code r at l ≡ true
   pub first : rules.is_first_right at l ≡ true
   pub stands : rules.stands_right r l l.instruction ≡ true
@@ -121,14 +121,15 @@ pub right_line : (code : RawCode) (r : RawRoutine) (at : ℕ) (l : CodeLine) →
 right_line code r at l e =
     let inside = rules.context_there r l.context in
     let around = rules.stands_right r l l.instruction && rules.contexts_follow code r at l in
-    let h = seven_hold (inside && rules.names_there code r l.instruction) (rules.are_targets code r at l) (rules.stack_follows code r at l) (rules.is_first_right at l && around)
+    let h = seven_hold (inside && rules.names_there code r l.instruction) (rules.are_targets code r at l) (rules.is_bare l && rules.stack_follows code r at l) (rules.is_first_right at l && around)
     (rules.resumes_right r at l) (where_there (rules.jump_of l.instruction) (rules.uses_turn r at)) (rules.may_stand code r l.instruction) e in
     let rest = and_second (rules.is_first_right at l) around h.3 in
     record {
       named = and_second inside (rules.names_there code r l.instruction) h.0;
       inside = and_first inside (rules.names_there code r l.instruction) h.0;
       targets = h.1;
-      stack = h.2;
+      bare = and_first (rules.is_bare l) (rules.stack_follows code r at l) h.2;
+      stack = and_second (rules.is_bare l) (rules.stack_follows code r at l) h.2;
       first = and_first (rules.is_first_right at l) around h.3;
       stands = and_first (rules.stands_right r l l.instruction) (rules.contexts_follow code r at l) rest;
       contexts = and_second (rules.stands_right r l l.instruction) (rules.contexts_follow code r at l) rest;
@@ -227,13 +228,3 @@ handler_right code r n h g e =
     let k = clean_each (handler_fault r) [] r.handlers.handlers n h g.handlers e in
     let z : 0 + n ≡ n = omega arith in
     record { before = k.before; long = k.long ∙ z; clean = k.clean }
-
--- ---- lines at which blocks and actions end
-
-all_at : {A : Type 0} (test : A → Bool) (xs : List A) (i : ℕ) (x : A) → list_all test xs ≡ true → slice_get xs i ≡ Some x → test x ≡ true
-all_at test [] i x h e = absurd (cc)
-all_at test (y ∷ ys) zero x h e = let same : y ≡ x = cc in ap test (sym same) ∙ and_first (test y) (list_all test ys) h
-all_at test (y ∷ ys) (suc i) x h e = all_at test ys i x (and_second (test y) (list_all test ys) h) e
-
-pub line_bare : (code : RawCode) (n at : ℕ) (r : RawRoutine) (l : CodeLine) → are_bare code ≡ true → routine_at code n ≡ Some r → line_at r at ≡ Some l → is_bare l ≡ true
-line_bare code n at r l h e g = all_at is_bare r.lines at l (all_at (λ r. list_all is_bare r.lines) code.routines n r h e) g

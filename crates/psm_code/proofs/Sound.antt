@@ -13,7 +13,7 @@ use Rattle.psm_code.specs.Calling.{activation, before_start, begun, entered, mos
 use Rattle.psm_code.specs.Parts.{routine_at, taking}
 use Rattle.psm_code.specs.RoutineRules.{first_fault}
 use Rattle.psm_code.specs.Rows.{line_done, routine_done, row, row_on, rows, Ran}
-use Rattle.psm_code.specs.Sits.{are_bare, are_stored, is_due, AllWait, AreKept, Sits, StaysRight}
+use Rattle.psm_code.specs.Sits.{are_stored, is_due, AllWait, AreKept, Sits, StaysRight}
 use Rattle.psm_code.specs.State.{Activation, End, Machine, More, Over, Turned}
 use Rattle.psm_code.specs.Steps.{Act, Given, Got, Raises, Ends, got, go_on, present, spent, turn, ◌>>=◌, ◌>>◌}
 use Rattle.psm_code.proofs.Acts.{Has}
@@ -29,7 +29,7 @@ use Rattle.psm_code.proofs.Simple.{clear_kept, condition_kept, no_case_kept, no_
 
 -- ---- one row
 
-module _ (code : RawCode) (right : first_fault code ≡ None) (bare : are_bare code ≡ true) where
+module _ (code : RawCode) (right : first_fault code ≡ None) where
   kept : (r : RawRoutine) (g : RightRoutine code r) (c : ℕ) (resume : Option ℕ) (s : List Letter) (i : Instruction) → Kept code right r g c resume s i
   kept r g c resume s (instruction.Operation o) = operation_kept code right r g c resume s o
   kept r g c resume s instruction.Clear = clear_kept code right r g c resume s
@@ -39,7 +39,7 @@ module _ (code : RawCode) (right : first_fault code ≡ None) (bare : are_bare c
   kept r g c resume s instruction.Turn = turn_kept code right r g c resume s
   kept r g c resume s (instruction.Enter k) = enter_kept code right r g c resume s k
   kept r g c resume s (instruction.Exit k) = exit_kept code right r g c resume s k
-  kept r g c resume s (instruction.EndAction n) = end_action_kept code right r g c resume s bare n
+  kept r g c resume s (instruction.EndAction n) = end_action_kept code right r g c resume s n
   kept r g c resume s (instruction.Call n) = call_kept code right r g c resume s n
   kept r g c resume s (instruction.CallFunction n) = call_function_kept code right r g c resume s n
   kept r g c resume s instruction.Return = return_kept code right r g c resume s
@@ -145,7 +145,7 @@ module _ (code : RawCode) (right : first_fault code ≡ None) (n : ℕ) (r : Raw
 over_right : (code : RawCode) (t : Turned) (e : End) (m : Machine) → StaysRight code t → t ≡ Over e m → (is_due e ≡ true) × AreKept code.tables m.tables
 over_right code t e m h q = subst (StaysRight code) q h
 
-pub run_right : (code : RawCode) → first_fault code ≡ None → are_bare code ≡ true → (n : ℕ) (r : RawRoutine) → routine_at code n ≡ Some r → (args : List Datum) (tables : List Contents) (turns : ℕ) → length args ≡ length (taking r.parameters)
+pub run_right : (code : RawCode) → first_fault code ≡ None → (n : ℕ) (r : RawRoutine) → routine_at code n ≡ Some r → (args : List Datum) (tables : List Contents) (turns : ℕ) → length args ≡ length (taking r.parameters)
     → AreKept code.tables tables → (e : End) (m : Machine) → Ran code n args tables turns e m → (is_due e ≡ true) × AreKept code.tables m.tables
-run_right code right bare n r there args tables turns long k e m ran =
-    over_right code (rows code ran.count (started code n args tables turns)) e m (rows_right code right bare ran.count (started code n args tables turns) (starts code right n r there args tables turns long k)) ran.leads
+run_right code right n r there args tables turns long k e m ran =
+    over_right code (rows code ran.count (started code n args tables turns)) e m (rows_right code right ran.count (started code n args tables turns) (starts code right n r there args tables turns long k)) ran.leads

@@ -1,6 +1,6 @@
 -- What is always true of a machine that runs code which breaks no rule: each instruction finds what it needs.
-use Rattle.std.specs.Prelude.{◌≡◌, ◌<◌, ℕ, Bool, true, false, ◌&&◌, ◌||◌, not, List, [], ◌∷◌, length, reverse, slice_get, nat_eq, All, IsTrue, IfSome, Option, Some, None}
-use Rattle.std.specs.List.{list_all, list_any}
+use Rattle.std.specs.Prelude.{◌≡◌, ◌<◌, ℕ, Bool, true, false, ◌&&◌, List, [], ◌∷◌, length, reverse, slice_get, nat_eq, All, IsTrue, IfSome, Option, Some, None}
+use Rattle.std.specs.List.{list_any}
 use Rattle.psm_value.specs.declared.datum.Datum.{Datum}
 use Rattle.psm_value.specs.declared.sqltype.SqlType.{SqlType}
 use Rattle.psm_value.specs.Stored.{is_stored}
@@ -32,7 +32,6 @@ use Rattle.psm_code.specs.Parts.{block_at, handler_at, line_at, routine_at, slot
 use Rattle.psm_code.specs.Plans.{plain, schema_of}
 use Rattle.psm_code.specs.Raising.{is_block}
 use Rattle.psm_code.specs.RoutineRules.{is_action_context}
-use Rattle.psm_code.specs.Rules.{is_some}
 use Rattle.psm_code.specs.State.{Activation, Frame, InBlock, InAction, Machine, End, Ended, Raised, NoTurns, Lacking, Turned, More, Over}
 
 -- ---- tables
@@ -173,17 +172,3 @@ is_due Lacking = false
 abbrev pub StaysRight : RawCode → Turned → Type 0
 StaysRight code (More m) = Sits code m
 StaysRight code (Over e m) = IsTrue (is_due e) × AreKept code.tables m.tables
-
--- ---- lines at which blocks and actions end
-
-abbrev pub is_leaving : Instruction → Bool
-is_leaving (instruction.Exit k) = true
-is_leaving (instruction.EndAction n) = true
-is_leaving i = false
-
--- whether a block is left and an action is ended without operands
-abbrev pub is_bare : CodeLine → Bool
-is_bare l = not (is_leaving l.instruction) || not (is_some l.stack)
-
-abbrev pub are_bare : RawCode → Bool
-are_bare code = list_all (λ r. list_all is_bare r.lines) code.routines
