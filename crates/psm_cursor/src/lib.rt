@@ -2,6 +2,8 @@
 #![tactic(auto)]
 
 mod cursor;
+mod fetching;
 mod place;
+mod walking;
 
 pub use cursor::Cursor;
