@@ -134,7 +134,6 @@ impl Cursor {
     }
 
     /// The items of the next row over the table of the query.
-    #[tactic(auto, using(crate::proofs::Fetched::fetches_plain, crate::proofs::Fetched::fetches_next))]
     fn next_of(
         &mut self,
         alloc: Global,

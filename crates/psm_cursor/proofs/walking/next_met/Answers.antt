@@ -10,6 +10,6 @@ use Rattle.psm_cursor.proofs.walking.next_met.Goals as goal
 pub meets-requires : goal.meets-requires
 meets-requires c =
     let fits : IsRow c.args.table.now.contents.def c.in-Some.row.now =
-        subst (λ (o : Option (Bor (List Datum))). IfSome (option_copied o) (IsRow c.args.table.now.contents.def)) c.in-Some.is c.loop-next.invariant.fits in
+    subst (λ (o : Option (Bor (List Datum))). IfSome (option_copied o) (IsRow c.args.table.now.contents.def)) c.in-Some.is c.loop-next.invariant.fits in
     subst (λ (r : List Datum). IfSome c.args.query.now.test (Runs r c.args.vars.now)) (sym c.values.ensures)
     (suits_row c.args.query.now c.args.vars.now c.args.table.now.contents.def c.in-Some.row.now c.requires.suits fits).test
