@@ -5,7 +5,7 @@ use Rattle.psm_value.specs.declared.datum.Datum.{Datum}
 use Rattle.psm_table.specs.Definition.{IsRow}
 use Rattle.psm_tablecode.specs.Suits.{Runs}
 use Rattle.psm_tablecode.proofs.Fitting.{suits_row}
-use Rattle.psm_cursor.proofs.walking.next_met.Goals as goal
+use Rattle.psm_cursor.proofs.walking.met_behind.Goals as goal
 
 pub meets-requires : goal.meets-requires
 meets-requires c =
