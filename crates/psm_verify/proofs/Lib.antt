@@ -1,3 +1,5 @@
+pub mod Each
 pub mod Going
 pub mod Placing
+pub mod Stable
 pub mod Texts

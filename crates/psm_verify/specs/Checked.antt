@@ -1,5 +1,5 @@
 -- Faults that are looked for line by line of a listing.
-use Rattle.std.specs.Prelude.{◌≡◌, ℕ, suc, ◌+◌, Bool, true, false, List, [], ◌∷◌, Option, Some, None, Result, Ok, Err}
+use Rattle.std.specs.Prelude.{◌≡◌, ℕ, suc, ◌+◌, Bool, true, false, List, [], ◌∷◌, slice_get, take, Option, Some, None, Result, Ok, Err}
 use Rattle.psm_code.specs.declared.rule.CodeRule.{CodeRule}
 use Rattle.psm_code.specs.declared.rule.CodeRule.TheVariants.{Stack}
 use Rattle.psm_verify.specs.declared.fault.CodeFault.{CodeFault}
@@ -22,3 +22,11 @@ Finds due (Err Memory) = Unit {0}
 abbrev pub passing : Bool → ℕ → ℕ → Result ℕ CodeFault
 passing true n count = Ok (suc n + count)
 passing false n count = Err (record { line = n; rule = Stack })
+
+-- the lines of the item at a place, which sees those before it
+abbrev pub item_in : {A B : Type 0} → (List A → A → List B) → List A → Option A → List B
+item_in f before None = []
+item_in f before (Some x) = f before x
+
+abbrev pub item_at : {A B : Type 0} → (List A → A → List B) → List A → ℕ → List B
+item_at f xs at = item_in f (take at xs) (slice_get xs at)

@@ -4,8 +4,10 @@
 mod expressions;
 mod fault;
 mod listing;
+mod numbers;
 mod operands;
 mod placed;
 mod same;
+mod tables;
 
 pub use fault::CodeFault;
