@@ -1,5 +1,5 @@
 -- Lines of a listing one part after another.
-use Rattle.std.proofs.Common.{◌≡◌, ℕ, suc, ◌+◌, List, [], ◌∷◌, ◌++◌, length, ap, sym, subst, ◌∙◌, arith, Option, Some, None, Result, Ok, Err}
+use Rattle.std.proofs.Common.{◌≡◌, ℕ, suc, List, [], ◌∷◌, ◌++◌, ap, sym, subst, Option, Some, None, Result, Ok, Err}
 use Rattle.psm_code.specs.declared.rule.CodeRule.{CodeRule}
 use Rattle.psm_verify.specs.declared.fault.CodeFault.{CodeFault}
 use Rattle.psm_verify.specs.declared.fault.Stop.{Stop}

@@ -1,5 +1,6 @@
 pub mod Each
 pub mod Going
 pub mod Placing
+pub mod Scenes
 pub mod Stable
 pub mod Texts

@@ -1,7 +1,7 @@
 -- The lines of an expression by their places.
-use Rattle.std.proofs.Common.{◌≡◌, ℕ, zero, suc, ◌+◌, ◌-◌, ◌<◌, ◌≤◌, Bool, true, false, ◌&&◌, ◌||◌, nat_lt, nat_eq, List, [], ◌∷◌, ◌++◌, length, drop, get_or, refl, ap, sym, subst, ◌∙◌, arith, Option, Some, None, Result, Ok, Err, ltb-true}
-use Rattle.std.specs.Prelude.{option_map, reverse, slice_get, if◌then◌else◌}
-use Rattle.std.proofs.Math.Seq.{drop-cons, drop-length}
+use Rattle.std.proofs.Common.{◌≡◌, ℕ, zero, suc, ◌+◌, ◌-◌, ◌<◌, ◌≤◌, Bool, true, false, ◌&&◌, ◌||◌, nat_lt, nat_eq, List, [], ◌∷◌, ◌++◌, length, drop, refl, ap, sym, ◌∙◌, arith, Option, Some, None, Ok, ltb-true}
+use Rattle.std.specs.Prelude.{reverse, slice_get, if◌then◌else◌}
+use Rattle.std.proofs.Math.Seq.{drop-cons}
 use Rattle.std.proofs.lemmas.List.{length-drop}
 use Rattle.std.proofs.lemmas.Option.{slice_get_within, get_or_from_slice_get}
 use Rattle.psm_num.proofs.Literals.{and_first, and_second}
@@ -12,12 +12,11 @@ use Rattle.psm_exprcode.specs.declared.op.Op.{Op}
 use Rattle.psm_exprcode.specs.declared.op.Op.TheVariants as op
 use Rattle.psm_exprcode.specs.Kinds.{some_letter, some_value}
 use Rattle.psm_exprcode.specs.Operations.{Effect, effect}
-use Rattle.psm_exprcode.specs.WellFormed.{are_lines, are_stated, does_fit, ends_with, goes_ahead, goes_away, goes_on_with, is_bounded, is_known, is_line, is_of_kind, lands, leads, left_of}
-use Rattle.psm_code.specs.declared.rule.CodeRule.{CodeRule}
+use Rattle.psm_exprcode.specs.WellFormed.{are_lines, are_stated, does_fit, goes_ahead, goes_away, goes_on_with, is_bounded, is_known, is_line, is_of_kind, lands, leads, left_of}
 use Rattle.psm_code.specs.declared.rule.CodeRule.TheVariants.{Range, Stack}
 use Rattle.psm_code.specs.Instructions.{known_end, letter_that}
 use Rattle.psm_code.specs.Rules.{first_of, there, unless, where_there}
-use Rattle.psm_code.specs.TableRules.{expr_at, expr_faults, expr_line_fault, expr_line_faults, names_there, possible_end}
+use Rattle.psm_code.specs.TableRules.{expr_at, expr_faults, expr_line_faults, names_there, possible_end}
 use Rattle.psm_verify.specs.Checked.{checked, passing}
 use Rattle.psm_verify.specs.Placed.{ahead_at, away_at, fault_at, fault_of, fault_of_line, goes_on_at, is_right, is_right_of, lands_at, leads_at, right_at}
 

@@ -1,8 +1,8 @@
 -- Values that a type takes as they are.
-use Rattle.std.proofs.Common.{◌≡◌, ℕ, ℤ, Bool, true, false, ◌&&◌, List, refl, ap, sym, ◌∙◌, arith, Result, Ok, Err}
+use Rattle.std.proofs.Common.{◌≡◌, ℕ, Bool, true, false, List, refl, ap, sym, ◌∙◌, arith, Result, Ok, Err}
 use Rattle.std.specs.Prelude.{◌↔◌, IsTrue, nat_eq}
 use Rattle.std.specs.Ordering.{int_eq}
-use Rattle.std.specs.Cmp.Lexicographic.{pointwise, same_text, other_text}
+use Rattle.std.specs.Cmp.Lexicographic.{same_text, other_text}
 use Rattle.psm_num.proofs.Literals.{and_first, and_second}
 use Rattle.psm_num.specs.Num.{Num}
 use Rattle.psm_sqlstate.specs.declared.state.SqlState.{SqlState}

@@ -1,7 +1,7 @@
 -- Names that are the same.
 use Rattle.std.proofs.Common.{◌≡◌, ℕ, Bool, true, false, List, refl, sym}
-use Rattle.std.specs.Prelude.{◌↔◌, IsTrue, nat_eq}
-use Rattle.std.specs.Cmp.Lexicographic.{pointwise, same_text, other_text}
+use Rattle.std.specs.Prelude.{◌↔◌, IsTrue}
+use Rattle.std.specs.Cmp.Lexicographic.{same_text, other_text}
 use Rattle.psm_code.specs.Rules.{is_same}
 
 pub same_is : (b : Bool) (xs ys : List ℕ) → IsTrue b ↔ (xs ≡ ys) → b ≡ is_same xs ys

@@ -2,12 +2,15 @@
 #![tactic(auto)]
 
 mod expressions;
+mod changes;
 mod fault;
 mod listing;
 mod numbers;
 mod operands;
 mod placed;
+mod plans;
 mod same;
+mod scene;
 mod tables;
 
 pub use fault::CodeFault;

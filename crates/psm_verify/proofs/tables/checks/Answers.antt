@@ -1,7 +1,6 @@
-use Rattle.std.proofs.Common.{[], refl, rules, arith}
+use Rattle.std.proofs.Common.{[], rules, arith}
 use Rattle.psm_exprcode.specs.Kinds.{is_letter}
 use Rattle.psm_exprcode.specs.declared.op.Letter.TheVariants.{B}
-use Rattle.psm_code.specs.Instructions.{column_letters}
 use Rattle.psm_code.specs.TableRules.{expr_faults}
 use Rattle.psm_verify.proofs.Each.{flat_go, flat_stop}
 use Rattle.psm_verify.proofs.tables.checks.Goals as goal

@@ -2,7 +2,6 @@ use Rattle.std.proofs.Common.{◌≡◌, [], drop}
 use Rattle.std.specs.List.{flat_map}
 use Rattle.psm_exprcode.specs.Kinds.{is_letter}
 use Rattle.psm_exprcode.specs.declared.op.Letter.TheVariants.{B}
-use Rattle.psm_code.specs.Instructions.{column_letters}
 use Rattle.psm_code.specs.TableRules.{expr_faults}
 use Rattle.psm_verify.specs.Checked.{checked}
 use Rattle.psm_verify.proofs.tables.checks.Given as goal

@@ -1,4 +1,4 @@
-use Rattle.std.proofs.Common.{rules, arith, length, ap}
+use Rattle.std.proofs.Common.{rules, arith}
 use Rattle.psm_code.specs.TableRules.{table_faults}
 use Rattle.psm_verify.proofs.Each.{after_go, after_stop}
 use Rattle.psm_verify.proofs.tables.tables.Goals as goal

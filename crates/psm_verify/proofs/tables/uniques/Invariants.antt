@@ -1,4 +1,4 @@
-use Rattle.std.proofs.Common.{◌≡◌, [], drop, take, map}
+use Rattle.std.proofs.Common.{◌≡◌, drop, map}
 use Rattle.psm_code.specs.TableRules.{unique_fault}
 use Rattle.psm_verify.specs.Checked.{checked}
 use Rattle.psm_verify.proofs.tables.uniques.Given as goal

@@ -1,0 +1,18 @@
+-- What is known of code and of a routine before its lines are looked at.
+use Rattle.std.specs.Prelude.{◌≡◌, Bool, false, List, map, Option, Some, None}
+use Rattle.psm_exprcode.specs.declared.op.Letter.{Letter}
+use Rattle.psm_exprcode.specs.Kinds.{is_letter}
+use Rattle.psm_code.specs.declared.code.RawCode.{RawCode}
+use Rattle.psm_code.specs.declared.code.RawRoutine.{RawRoutine}
+use Rattle.psm_code.specs.Instructions.{column_letters, letters_of_query, variables_of}
+
+-- the letters of the columns of each table, those of the variables, and those of the items of each query
+pub record Known (code : RawCode) (r : RawRoutine) (columns : List (List Letter)) (variables : List Letter) (items : List (List Letter)) : Type 0 where
+  pub columns_are : columns ≡ map column_letters code.tables
+  pub variables_are : variables ≡ variables_of r
+  pub items_are : items ≡ map (letters_of_query code r) r.queries
+
+-- whether an item is of a column's letter
+abbrev pub fits_column : Option Letter → Letter → Bool
+fits_column None item = false
+fits_column (Some l) item = is_letter l item
