@@ -1,3 +1,5 @@
 pub mod Checked
+pub mod Listed
+pub mod NewAt
 pub mod Placed
 pub mod Scene

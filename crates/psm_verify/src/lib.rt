@@ -4,11 +4,15 @@
 mod expressions;
 mod changes;
 mod fault;
+mod handlers;
+mod handling;
 mod listing;
 mod numbers;
 mod operands;
+mod parts;
 mod placed;
 mod plans;
+mod routines;
 mod same;
 mod scene;
 mod tables;
