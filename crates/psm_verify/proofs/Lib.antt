@@ -1,8 +1,10 @@
+pub mod Callings
 pub mod Contexts
 pub mod Each
 pub mod Going
 pub mod NewValues
 pub mod Placing
 pub mod Scenes
+pub mod Slots
 pub mod Stable
 pub mod Texts

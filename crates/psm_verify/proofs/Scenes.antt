@@ -11,11 +11,12 @@ use Rattle.psm_code.specs.declared.code.RawRoutine.{RawRoutine}
 use Rattle.psm_code.specs.Instructions.{columns_at, letters_at, parameter_letters, variables_of, with_letter}
 use Rattle.psm_code.specs.PlanRules.{are_items, expr_in}
 use Rattle.psm_code.specs.TableRules.{expr_faults}
+use Rattle.psm_verify.specs.declared.calls.Call.{Call}
 use Rattle.psm_verify.specs.Scene.{Known, fits_column}
 
-pub expr_in_is : (code : RawCode) (r : RawRoutine) (letters : List (List Letter)) (variables columns : List Letter) (items : List (List Letter)) (table : ℕ) (due : Letter → Bool) (lines : List Line)
-    → Known code r letters variables items → columns ≡ columns_at code table → expr_faults columns variables due lines ≡ expr_in code r table due lines
-expr_in_is code r letters variables columns items table due lines k e =
+pub expr_in_is : (code : RawCode) (r : RawRoutine) (letters : List (List Letter)) (variables columns : List Letter) (items : List (List Letter)) (calls : List Call) (table : ℕ) (due : Letter → Bool) (lines : List Line)
+    → Known code r letters variables items calls → columns ≡ columns_at code table → expr_faults columns variables due lines ≡ expr_in code r table due lines
+expr_in_is code r letters variables columns items calls table due lines k e =
     ap (λ c. expr_faults c variables due lines) e ∙ ap (λ v. expr_faults (columns_at code table) v due lines) k.variables_are
 
 -- ---- items for columns

@@ -4,13 +4,16 @@ use Rattle.psm_exprcode.specs.declared.op.Letter.{Letter}
 use Rattle.psm_exprcode.specs.Kinds.{is_letter}
 use Rattle.psm_code.specs.declared.code.RawCode.{RawCode}
 use Rattle.psm_code.specs.declared.code.RawRoutine.{RawRoutine}
+use Rattle.psm_verify.specs.declared.calls.Call.{Call}
+use Rattle.psm_verify.specs.Called.{call_of}
 use Rattle.psm_code.specs.Instructions.{column_letters, letters_of_query, variables_of}
 
--- the letters of the columns of each table, those of the variables, and those of the items of each query
-pub record Known (code : RawCode) (r : RawRoutine) (columns : List (List Letter)) (variables : List Letter) (items : List (List Letter)) : Type 0 where
+-- the letters of the columns of each table, those of the variables, those of the items of each query, and those of each routine's calls
+pub record Known (code : RawCode) (r : RawRoutine) (columns : List (List Letter)) (variables : List Letter) (items : List (List Letter)) (calls : List Call) : Type 0 where
   pub columns_are : columns ≡ map column_letters code.tables
   pub variables_are : variables ≡ variables_of r
   pub items_are : items ≡ map (letters_of_query code r) r.queries
+  pub calls_are : calls ≡ map call_of code.routines
 
 -- whether an item is of a column's letter
 abbrev pub fits_column : Option Letter → Letter → Bool

@@ -2,10 +2,14 @@
 #![tactic(auto)]
 
 mod expressions;
+mod calls;
 mod changes;
+mod effects;
 mod fault;
 mod handlers;
 mod handling;
+mod instructions;
+mod lines;
 mod listing;
 mod numbers;
 mod operands;

@@ -5,6 +5,7 @@ ghost use Rattle.psm_code.specs.Instructions as instructions;
 ghost use Rattle.psm_exprcode.specs.declared.aggregate.SetFunction.TheVariants.{Min};
 ghost use Rattle.psm_verify.specs.Scene.{Known};
 
+use crate::calls::Call;
 use crate::expressions::known_end;
 use psm_code::{CodeTable, Parameter, RawCode, RawRoutine};
 use psm_exprcode::{Aggregate, ExprCode, Items, Letter, SetFunction};
@@ -13,8 +14,8 @@ use psm_tablecode::column_letters;
 use psm_value::SqlType;
 use std::alloc::{AllocError, Global};
 
-/// Code and one of its routines, with the letters of the columns of all tables, of the routine's variables, and of the items of its
-/// queries.
+/// Code and one of its routines, with the letters of the columns of all tables, of the routine's variables, of the items of its
+/// queries, and of what routines are called with.
 #[derive(Clone, Copy)]
 pub(crate) struct Scene<'a> {
     pub(crate) code: &'a RawCode,
@@ -22,7 +23,8 @@ pub(crate) struct Scene<'a> {
     pub(crate) columns: &'a [List<Letter>],
     pub(crate) variables: &'a [Letter],
     pub(crate) items: &'a [List<Letter>],
-    ghost known: { Known code.now routine.now columns.now variables.now items.now },
+    pub(crate) calls: &'a [Call],
+    ghost known: { Known code.now routine.now columns.now variables.now items.now calls.now },
 }
 
 impl<'a> Scene<'a> {
