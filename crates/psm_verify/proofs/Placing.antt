@@ -75,10 +75,10 @@ leads_is end lines at e s g = goes_on_is end lines at e (left_of e.takes s) g
 
 -- ---- lines
 
-some_letter_is : (f g : Letter → Bool) → ((x : Letter) → f x ≡ g x) → some_letter f ≡ some_letter g
+pub some_letter_is : (f g : Letter → Bool) → ((x : Letter) → f x ≡ g x) → some_letter f ≡ some_letter g
 some_letter_is f g h = ap (λ b. b || (f T || f B)) (h N) ∙ ap (λ b. g N || (b || f B)) (h T) ∙ ap (λ b. g N || (g T || b)) (h B)
 
-some_value_is : (f g : Letter → Bool) → ((x : Letter) → f x ≡ g x) → some_value f ≡ some_value g
+pub some_value_is : (f g : Letter → Bool) → ((x : Letter) → f x ≡ g x) → some_value f ≡ some_value g
 some_value_is f g h = ap (λ b. b || f T) (h N) ∙ ap (λ b. g N || b) (h T)
 
 pub line_is : (may : Op → Letter → Bool) (end : Letter) (lines : List Line) (at : ℕ) (l : Line) → at < length lines → is_line may end at l (drop (suc at) lines) ≡ is_right may end at l.op (reverse l.stack) lines

@@ -5,3 +5,5 @@ pub mod Moves
 pub mod NewAt
 pub mod Placed
 pub mod Scene
+pub mod Stated
+pub mod Verified

@@ -1,5 +1,9 @@
 -- What an instruction does to the operands, as the verifier holds it, without its name.
-use Rattle.std.specs.Prelude.{ℕ, Bool, true, false, ◌&&◌, List, [], ◌∷◌, ◌++◌, Option, Some, None, option_map}
+use Rattle.std.specs.Prelude.{ℕ, Bool, true, false, ◌&&◌, List, [], ◌∷◌, ◌++◌, Option, Some, None, option_map, replicate, slice_get}
+use Rattle.std.specs.List.{flat_map}
+use Rattle.psm_exprcode.specs.declared.op.Letter.TheVariants.{N}
+use Rattle.psm_exprcode.specs.Kinds.{some_letter, some_value}
+use Rattle.psm_code.specs.Rules.{there}
 use Rattle.psm_exprcode.specs.declared.op.Letter.{Letter}
 use Rattle.psm_exprcode.specs.Operations as table
 use Rattle.psm_exprcode.specs.Table.{letters_of}
@@ -8,8 +12,8 @@ use Rattle.psm_code.specs.declared.code.RawCode.{RawCode}
 use Rattle.psm_code.specs.declared.code.RawRoutine.{RawRoutine}
 use Rattle.psm_code.specs.declared.instruction.Instruction.{Instruction}
 use Rattle.psm_code.specs.declared.instruction.Instruction.TheVariants.{Change}
-use Rattle.psm_code.specs.Instructions.{instruction_effect}
-use Rattle.psm_code.specs.RoutineRules.{stated_ahead, stated_away}
+use Rattle.psm_code.specs.Instructions.{instruction_effect, of_plan, plan_letters}
+use Rattle.psm_code.specs.RoutineRules.{constant_fits, stated_ahead, stated_away}
 use Rattle.psm_verify.specs.declared.effects.Effect.{Effect}
 use Rattle.psm_verify.specs.declared.effects.Run.{Run}
 use Rattle.psm_verify.specs.declared.effects.Run.TheVariants.{Few, Items}
@@ -52,3 +56,38 @@ moves_behind r at m (Some rest) = stated_ahead r at m.ahead rest && stated_away 
 
 abbrev pub moves_follow : RawRoutine → ℕ → List Letter → Moves → Bool
 moves_follow r at s m = moves_behind r at m (left_of m.takes s)
+
+abbrev pub moves_ahead : Option Moves → Bool
+moves_ahead None = false
+moves_ahead (Some m) = there m.ahead
+
+abbrev pub optional_follow : RawRoutine → ℕ → List Letter → Option Moves → Bool
+optional_follow r at s None = false
+optional_follow r at s (Some m) = moves_follow r at s m
+
+-- what a plan takes, if it is there and what it names is
+abbrev pub taken_by_plan : RawCode → RawRoutine → ℕ → Option (List Letter)
+taken_by_plan code r p = of_plan (plan_letters code) (slice_get r.plans p)
+
+abbrev pub plan_follows : RawRoutine → ℕ → List Letter → Option (List Letter) → Bool
+plan_follows r at s None = false
+plan_follows r at s (Some ls) = moves_follow r at s (record { takes = ls; ahead = Some []; away = None })
+
+-- whether an instruction may go on at the line that follows, by whether it changes rows
+abbrev pub ahead_split : RawCode → RawRoutine → Instruction → Bool
+ahead_split code r (Change p) = there (taken_by_plan code r p)
+ahead_split code r i = moves_ahead (moves_at code r i N N)
+
+-- whether the operands follow, by whether it changes rows
+abbrev pub follows_split : RawCode → RawRoutine → ℕ → List Letter → Instruction → Bool
+follows_split code r at s (Change p) = plan_follows r at s (taken_by_plan code r p)
+follows_split code r at s i = constant_fits i && some_value (λ k. some_letter (λ x. optional_follow r at s (moves_at code r i k x)))
+
+-- so many rows of operands, each with the last one first
+abbrev pub given_rows : ℕ → List Letter → List Letter
+given_rows n row = flat_map (λ xs. xs) (replicate n row)
+
+-- some letters before others, if those are there
+abbrev pub prepend : List Letter → Option (List Letter) → Option (List Letter)
+prepend xs None = None
+prepend xs (Some ys) = Some (xs ++ ys)

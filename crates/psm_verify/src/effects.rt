@@ -1,5 +1,5 @@
 //! What the instructions of a routine take from the operands, and what they put in their place.
-ghost use Rattle.std.specs.Prelude.{◌≡◌, ◌++◌, ◌&&◌, ◌<◌, length, reverse, slice_get, option_map, IfOk};
+ghost use Rattle.std.specs.Prelude.{◌≡◌, ◌++◌, ◌&&◌, ◌<◌, length, reverse, slice_get, option_map, Some, IfOk};
 ghost use Rattle.std.specs.Option.{option_copied};
 ghost use Rattle.psm_exprcode.specs.WellFormed.{left_of, same_stack};
 ghost use Rattle.psm_code.specs.Parts.{line_at};
@@ -27,7 +27,22 @@ pub(crate) struct Effect<'a> {
     pub(crate) away: Option<(u32, Run<'a>)>,
 }
 
-// The operands that a line states, the last one first.
+/// The operands that a line states, the last one first.
+pub(crate) fn operands_of(
+    alloc: Global,
+    lines: &Lines,
+    at: usize,
+) -> Result<Vec<Letter>, AllocError>
+    requires { at < length lines.now }
+    ensures { IfOk result (λ letters. Some letters.items ≡ option_map (λ l. reverse l.stack) (slice_get lines.now at)) }
+{
+    let mut letters = Vec::new(alloc);
+    lines.stack(at, &mut letters)?;
+    letters.reverse();
+    Ok(letters)
+}
+
+// The same, if the line is there.
 fn operands_at(
     alloc: Global,
     lines: &Lines,
@@ -36,16 +51,13 @@ fn operands_at(
     ensures { IfOk result (λ letters. option_map (λ v. v.items) letters ≡ option_map (λ l. reverse l.stack) (slice_get lines.now at)) }
 {
     if at < lines.len() {
-        let mut letters = Vec::new(alloc);
-        lines.stack(at, &mut letters)?;
-        letters.reverse();
-        Ok(Some(letters))
+        Ok(Some(operands_of(alloc, lines, at)?))
     } else {
         Ok(None)
     }
 }
 
-fn left_by<'a>(stack: &'a [Letter], taken: &[Letter]) -> Option<&'a [Letter]>
+pub(crate) fn left_by<'a>(stack: &'a [Letter], taken: &[Letter]) -> Option<&'a [Letter]>
     ensures { option_copied result ≡ left_of taken.now stack.now }
 {
     let mut rest = stack;
@@ -136,7 +148,7 @@ fn goes_away(
     }
 }
 
-fn goes_on(
+pub(crate) fn goes_on(
     alloc: Global,
     routine: &RawRoutine,
     at: usize,

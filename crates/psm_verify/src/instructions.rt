@@ -13,7 +13,7 @@ use psm_code::Instruction;
 use psm_cond::{ConditionItem, StatementItem};
 use psm_exprcode::{Entry, Letter, Letters, Op};
 
-fn none() -> Run<'static>
+pub(crate) fn none() -> Run<'static>
     ensures { run_of result ≡ [] }
 {
     Run::Few(Letters::none())
@@ -30,7 +30,7 @@ fn one(letter: Letter) -> Run<'static>
 }
 
 // One that goes on at the line that follows.
-fn plain<'a>(takes: Run<'a>, puts: Run<'a>) -> Effect<'a>
+pub(crate) fn plain<'a>(takes: Run<'a>, puts: Run<'a>) -> Effect<'a>
     ensures { effect_of result ≡ record { takes = run_of takes.entry; ahead = Some (run_of puts.entry); away = None } }
 {
     Effect {

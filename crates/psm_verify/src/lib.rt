@@ -4,6 +4,8 @@
 mod expressions;
 mod calls;
 mod changes;
+mod changing;
+mod code;
 mod effects;
 mod fault;
 mod handlers;
@@ -19,6 +21,10 @@ mod plans;
 mod routines;
 mod same;
 mod scene;
+mod stating;
 mod tables;
+mod verify;
 
+pub use code::Code;
 pub use fault::CodeFault;
+pub use verify::verified;
