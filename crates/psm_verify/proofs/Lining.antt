@@ -36,21 +36,21 @@ apart : (code : RawCode) (r : RawRoutine) (at : ℕ) (l : CodeLine) → line_fau
 apart code r at l =
     let follow : Bool = stack_follows code r at l in
     ap (λ b. first_of (
-        unless (context_there r l.context && names_there code r l.instruction) Range
-        ∷ unless (are_targets code r at l) Target
-        ∷ unless b Stack
-        ∷ unless (first_right at l.context (reverse l.stack) && (stands_right r l l.instruction && contexts_follow code r at l)) Context
-        ∷ unless (resumes_right r at l) Resume
-        ∷ unless (where_there (jump_of l.instruction) (uses_turn r at)) Turn
-        ∷ unless (may_stand code r l.instruction) Place ∷ [])) (sym (follows_is_split code r at (reverse l.stack) l.instruction))
+    unless (context_there r l.context && names_there code r l.instruction) Range
+    ∷ unless (are_targets code r at l) Target
+    ∷ unless b Stack
+    ∷ unless (first_right at l.context (reverse l.stack) && (stands_right r l l.instruction && contexts_follow code r at l)) Context
+    ∷ unless (resumes_right r at l) Resume
+    ∷ unless (where_there (jump_of l.instruction) (uses_turn r at)) Turn
+    ∷ unless (may_stand code r l.instruction) Place ∷ [])) (sym (follows_is_split code r at (reverse l.stack) l.instruction))
     ∙ ap (λ b. first_of (
-        unless (context_there r l.context && names_there code r l.instruction) Range
-        ∷ unless (are_targets code r at l) Target
-        ∷ unless follow Stack
-        ∷ unless ((not (nat_eq at 0) || (nat_eq l.context 0 && not b)) && (stands_right r l l.instruction && contexts_follow code r at l)) Context
-        ∷ unless (resumes_right r at l) Resume
-        ∷ unless (where_there (jump_of l.instruction) (uses_turn r at)) Turn
-        ∷ unless (may_stand code r l.instruction) Place ∷ [])) (some_reversed l.stack)
+    unless (context_there r l.context && names_there code r l.instruction) Range
+    ∷ unless (are_targets code r at l) Target
+    ∷ unless follow Stack
+    ∷ unless ((not (nat_eq at 0) || (nat_eq l.context 0 && not b)) && (stands_right r l l.instruction && contexts_follow code r at l)) Context
+    ∷ unless (resumes_right r at l) Resume
+    ∷ unless (where_there (jump_of l.instruction) (uses_turn r at)) Turn
+    ∷ unless (may_stand code r l.instruction) Place ∷ [])) (some_reversed l.stack)
 
 pub fault_is : (code : RawCode) (r : RawRoutine) (at : ℕ) (l : CodeLine) (s : List Letter)
     → Some l ≡ option_map bare_of (slice_get r.lines at) → Some s ≡ option_map (λ m. reverse m.stack) (slice_get r.lines at)

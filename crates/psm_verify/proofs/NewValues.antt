@@ -36,16 +36,15 @@ handled_next v k h hs = by (nat_eq h.context k) where
 
 -- ---- the values of a handler, one after another
 
-
 among-reverse : (v : ConditionValue) (us : List ConditionValue) → is_value_among v (reverse us) ≡ is_value_among v us
 among-reverse v [] = refl
 among-reverse v (a ∷ us) =
     ap (is_value_among v) (reverse-append (a ∷ []) us) ∙ among-append v (reverse us) (a ∷ [])
     ∙ or-last (is_value_among v (reverse us)) (is_value_among v (a ∷ []))
     ∙ ap (λ b. b || is_value_among v (reverse us)) (alone (is_same_value v a)) ∙ ap (λ b. is_same_value v a || b) (among-reverse v us) where
-  alone : (b : Bool) → (b || false) ≡ b
-  alone true = refl
-  alone false = refl
+      alone : (b : Bool) → (b || false) ≡ b
+      alone true = refl
+      alone false = refl
 
 module _ (vs before : List ConditionValue) (at : ℕ) (v : ConditionValue) where
   longer : at < length vs → v ≡ get_or vs at v → v ∷ (reverse (take at vs) ++ before) ≡ reverse (take (at + 1) vs) ++ before

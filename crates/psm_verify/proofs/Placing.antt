@@ -85,7 +85,7 @@ pub line_is : (may : Op → Letter → Bool) (end : Letter) (lines : List Line) 
 line_is may end lines at l g = ap (λ b. is_bounded l.op && b) (
     some_value_is (λ k. may l.op k && some_letter (λ x. leads end at (effect l.op k x) (reverse l.stack) (drop (suc at) lines))) (is_right_of may end at l.op (reverse l.stack) lines)
     (λ k. ap (λ b. may l.op k && b) (some_letter_is (λ x. leads end at (effect l.op k x) (reverse l.stack) (drop (suc at) lines)) (λ x. leads_at end at (effect l.op k x) (reverse l.stack) lines)
-        (λ x. leads_is end lines at (effect l.op k x) (reverse l.stack) g))))
+    (λ x. leads_is end lines at (effect l.op k x) (reverse l.stack) g))))
 
 behind : (at : ℕ) (lines : List Line) → drop (at + 1) lines ≡ drop (suc at) lines
 behind at lines = let n : at + 1 ≡ suc at = omega arith in ap (λ k. drop k lines) n
@@ -185,8 +185,9 @@ all_pass c v end at n (l ∷ after) h =
 pub passing_is : (c v : List Letter) (due : Letter → Bool) (lines : List Line) (e : Letter) (n count : ℕ) → known_end c v lines ≡ Some e → count ≡ length lines → passing (due e) n count ≡ checked n (expr_faults c v due lines)
 passing_is c v due lines e n count h k =
     ap (passing (due e) n) k ∙ by (due e) ∙ sym (ap (λ o. checked n (expr_at c v due lines o (possible_end due lines))) h) where
-  fits : are_lines (is_of_kind c v) e 0 lines ≡ true
-  fits = and_second (lands e lines 0 []) (are_lines (is_of_kind c v) e 0 lines) (that_passes (does_fit c v lines) e h)
-  by : (b : Bool) → passing b n (length lines) ≡ checked n (unless b Stack ∷ expr_line_faults c v e 0 lines)
-  by true = sym (all_pass c v e 0 (suc n) lines fits)
-  by false = refl
+      fits : are_lines (is_of_kind c v) e 0 lines ≡ true
+      fits = and_second (lands e lines 0 []) (are_lines (is_of_kind c v) e 0 lines) (that_passes (does_fit c v lines) e h)
+
+      by : (b : Bool) → passing b n (length lines) ≡ checked n (unless b Stack ∷ expr_line_faults c v e 0 lines)
+      by true = sym (all_pass c v e 0 (suc n) lines fits)
+      by false = refl

@@ -27,6 +27,7 @@ items_first letters c cs i items = by (slice_get letters c) (letters_at letters 
   last : (b : Bool) → false ≡ (b && false)
   last true = refl
   last false = refl
+
   by : (m : Option Letter) (ls : Option (List Letter)) → are_items (with_letter m ls) (i ∷ items) ≡ (fits_column m i && are_items ls items)
   by None ls = refl
   by (Some l) None = last (is_letter l i)

@@ -22,10 +22,7 @@ pub(crate) struct Call {
 }
 
 /// Those of each routine.
-pub(crate) fn calls_of(
-    alloc: Global,
-    routines: &[RawRoutine],
-) -> Result<Vec<Call>, AllocError>
+pub(crate) fn calls_of(alloc: Global, routines: &[RawRoutine]) -> Result<Vec<Call>, AllocError>
     ensures { IfOk result (λ calls. calls.items ≡ map call_of routines.now) }
 {
     let mut calls = Vec::new(alloc);

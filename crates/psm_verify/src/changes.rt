@@ -69,13 +69,7 @@ impl<'a> Scene<'a> {
         self.test(alloc, line, table, test)
     }
 
-    fn sets(
-        &self,
-        alloc: Global,
-        line: u64,
-        table: usize,
-        sets: &[SetItem],
-    ) -> Result<u64, Stop>
+    fn sets(&self, alloc: Global, line: u64, table: usize, sets: &[SetItem]) -> Result<u64, Stop>
         ensures { Finds (checked line (plans.sets_in self.now.code.now self.now.routine.now table sets.now)) result }
     {
         let mut line = line;
@@ -288,12 +282,7 @@ fn cursor_table(routine: &RawRoutine, cursor: u32) -> Option<u32>
     Some(query.table)
 }
 
-fn set_fault(
-    code: &RawCode,
-    table: usize,
-    before: &[SetItem],
-    set: &SetItem,
-) -> Option<CodeRule>
+fn set_fault(code: &RawCode, table: usize, before: &[SetItem], set: &SetItem) -> Option<CodeRule>
     ensures { result ≡ plans.set_line code.now table before.now set.now }
 {
     if !column_there(code, table, set.column) {

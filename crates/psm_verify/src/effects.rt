@@ -43,11 +43,7 @@ pub(crate) fn operands_of(
 }
 
 // The same, if the line is there.
-fn operands_at(
-    alloc: Global,
-    lines: &Lines,
-    at: usize,
-) -> Result<Option<Vec<Letter>>, AllocError>
+fn operands_at(alloc: Global, lines: &Lines, at: usize) -> Result<Option<Vec<Letter>>, AllocError>
     ensures { IfOk result (λ letters. option_map (λ v. v.items) letters ≡ option_map (λ l. reverse l.stack) (slice_get lines.now at)) }
 {
     if at < lines.len() {

@@ -33,11 +33,7 @@ impl Due {
 }
 
 /// The letter with which an expression over columns and variables of these letters ends, if it fits them.
-pub(crate) fn known_end(
-    columns: &[Letter],
-    variables: &[Letter],
-    code: &ExprCode,
-) -> Option<Letter>
+pub(crate) fn known_end(columns: &[Letter], variables: &[Letter], code: &ExprCode) -> Option<Letter>
     ensures { result ≡ known_end_of columns.now variables.now code.now }
 {
     if code.fits(columns, variables, Letter::N) {

@@ -75,17 +75,10 @@ fn context_fault(routine: &RawRoutine, number: usize, context: &Context) -> Opti
     }
 }
 
-fn block_fault(
-    routine: &RawRoutine,
-    number: usize,
-    parent: u32,
-    block: &Block,
-) -> Option<CodeRule>
+fn block_fault(routine: &RawRoutine, number: usize, parent: u32, block: &Block) -> Option<CodeRule>
     ensures { result ≡ routines.context_fault routine.now number parent (kinds.Block block.now) }
 {
-    if (parent as usize) >= number
-        || !are_there(routine.cursors.items(), block.cursors.items())
-    {
+    if (parent as usize) >= number || !are_there(routine.cursors.items(), block.cursors.items()) {
         Some(CodeRule::Range)
     } else if !line_there(routine, block.exit) {
         Some(CodeRule::Target)
@@ -114,12 +107,7 @@ fn exits(context: usize, instruction: &Instruction) -> bool
     }
 }
 
-fn action_fault(
-    routine: &RawRoutine,
-    number: usize,
-    parent: u32,
-    handler: u32,
-) -> Option<CodeRule>
+fn action_fault(routine: &RawRoutine, number: usize, parent: u32, handler: u32) -> Option<CodeRule>
     ensures { result ≡ routines.context_fault routine.now number parent (kinds.Action handler) }
 {
     if (parent as usize) >= number || !is_there(routine.handlers.handlers.items(), handler) {

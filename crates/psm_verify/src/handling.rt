@@ -30,12 +30,7 @@ pub(crate) fn handlers(alloc: Global, line: u64, routine: &RawRoutine) -> Result
     Ok(line)
 }
 
-fn handler_at(
-    alloc: Global,
-    line: u64,
-    routine: &RawRoutine,
-    at: usize,
-) -> Result<u64, Stop>
+fn handler_at(alloc: Global, line: u64, routine: &RawRoutine, at: usize) -> Result<u64, Stop>
     ensures { Finds (checked line (item_at (routines.handler_fault routine.now) routine.now.handlers.handlers at)) result }
 {
     let handlers = routine.handlers.handlers.items();
@@ -77,11 +72,7 @@ fn handler_fault(
     Ok(definition_fault(routine, before, handler))
 }
 
-fn definition_fault(
-    routine: &RawRoutine,
-    before: &[Handler],
-    handler: &Handler,
-) -> Option<CodeRule>
+fn definition_fault(routine: &RawRoutine, before: &[Handler], handler: &Handler) -> Option<CodeRule>
     ensures { result ≡ rules.unless (routines.may_undo routine.now handler.now && (list_all (routines.is_value_right routine.now) (routines.values_of handler.now) && routines.are_new (routines.values_in handler.now.context before.now) (routines.values_of handler.now))) Definition }
 {
     if may_undo(routine, handler)

@@ -151,10 +151,7 @@ impl<'a> Scene<'a> {
         let call = self.calls.get(number as usize)?;
         let routine = self.code.routines.items().get(number as usize)?;
         match routine.returns {
-            Some(kind) => Some(plain(
-                Run::Items(call.all.items()),
-                one(Letter::of_type(kind)),
-            )),
+            Some(kind) => Some(plain(Run::Items(call.all.items()), one(Letter::of_type(kind)))),
             None => None,
         }
     }

@@ -1,12 +1,12 @@
 //! The verifier of code: it finds the first line of the listing that breaks a rule of code.
 #![tactic(auto)]
 
-mod expressions;
 mod calls;
 mod changes;
 mod changing;
 mod code;
 mod effects;
+mod expressions;
 mod fault;
 mod handlers;
 mod handling;

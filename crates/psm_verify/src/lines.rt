@@ -107,11 +107,7 @@ fn is_function_at(code: &RawCode, number: u32) -> bool
 }
 
 /// Where the instructions about contexts may stand.
-pub(crate) fn stands_right(
-    routine: &RawRoutine,
-    context: u32,
-    instruction: &Instruction,
-) -> bool
+pub(crate) fn stands_right(routine: &RawRoutine, context: u32, instruction: &Instruction) -> bool
     ensures { result ≡ routines.stands_right routine.now (record { context = context; resume = None; stack = []; instruction = instruction.now }) instruction.now }
 {
     match instruction {
@@ -177,11 +173,7 @@ pub(crate) fn is_in(routine: &RawRoutine, context: u32, line: usize) -> bool
 }
 
 /// The context in which an instruction goes on.
-pub(crate) fn context_behind(
-    routine: &RawRoutine,
-    context: u32,
-    instruction: &Instruction,
-) -> u32
+pub(crate) fn context_behind(routine: &RawRoutine, context: u32, instruction: &Instruction) -> u32
     ensures { result ≡ routines.context_behind routine.now (record { context = context; resume = None; stack = []; instruction = instruction.now }) instruction.now }
 {
     match instruction {

@@ -20,12 +20,7 @@ use std::alloc::Global;
 impl<'a> Scene<'a> {
     /// The line of the routine, and those of its parameters, variables, queries, cursors, plans, declared conditions, contexts and
     /// handlers.
-    pub(crate) fn parts(
-        &self,
-        alloc: Global,
-        line: u64,
-        before: &[RawRoutine],
-    ) -> Result<u64, Stop>
+    pub(crate) fn parts(&self, alloc: Global, line: u64, before: &[RawRoutine]) -> Result<u64, Stop>
         ensures { Finds (checked line (part_faults self.now.code.now before.now self.now.routine.now)) result }
     {
         let line = self.first_parts(alloc, line, before)?;
@@ -36,12 +31,7 @@ impl<'a> Scene<'a> {
     }
 
     // Those before the plans.
-    fn first_parts(
-        &self,
-        alloc: Global,
-        line: u64,
-        before: &[RawRoutine],
-    ) -> Result<u64, Stop>
+    fn first_parts(&self, alloc: Global, line: u64, before: &[RawRoutine]) -> Result<u64, Stop>
         ensures { Finds (checked line (first_faults self.now.code.now before.now self.now.routine.now)) result }
     {
         let line = passed(line, routine_fault(before, self.routine))?;

@@ -64,26 +64,14 @@ impl<'a> Scene<'a> {
         }
     }
 
-    fn item(
-        &self,
-        alloc: Global,
-        line: u64,
-        table: usize,
-        code: &ExprCode,
-    ) -> Result<u64, Stop>
+    fn item(&self, alloc: Global, line: u64, table: usize, code: &ExprCode) -> Result<u64, Stop>
         ensures { Finds (checked line (plans.item_in self.now.code.now self.now.routine.now table code.now)) result }
     {
         let line = next(line)?;
         self.expression(alloc, line, table, Due::Value, code)
     }
 
-    fn set(
-        &self,
-        alloc: Global,
-        line: u64,
-        table: usize,
-        set: &Aggregate,
-    ) -> Result<u64, Stop>
+    fn set(&self, alloc: Global, line: u64, table: usize, set: &Aggregate) -> Result<u64, Stop>
         ensures { Finds (checked line (plans.set_in self.now.code.now self.now.routine.now table set.now)) result }
     {
         let line = next(line)?;
@@ -122,13 +110,7 @@ impl<'a> Scene<'a> {
         Ok(line)
     }
 
-    fn items(
-        &self,
-        alloc: Global,
-        line: u64,
-        table: usize,
-        items: &Items,
-    ) -> Result<u64, Stop>
+    fn items(&self, alloc: Global, line: u64, table: usize, items: &Items) -> Result<u64, Stop>
         ensures { Finds (checked line (plans.items_in self.now.code.now self.now.routine.now table items.now)) result }
     {
         match items {

@@ -105,10 +105,7 @@ pub(crate) fn parameters(line: u64, routine: &RawRoutine) -> Result<u64, Stop>
     let parameters = routine.parameters.items();
     let mut line = line;
     for (at, parameter) in parameters.iter().enumerate() {
-        line = passed(
-            line,
-            parameter_fault(routine, &parameters[..at], parameter),
-        )?;
+        line = passed(line, parameter_fault(routine, &parameters[..at], parameter))?;
     }
     Ok(line)
 }

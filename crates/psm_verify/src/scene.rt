@@ -69,10 +69,7 @@ pub(crate) fn letters_of_variables(
     Ok(letters)
 }
 
-fn letters_of_parameters(
-    alloc: Global,
-    parameters: &[Parameter],
-) -> Result<Vec<Letter>, AllocError>
+fn letters_of_parameters(alloc: Global, parameters: &[Parameter]) -> Result<Vec<Letter>, AllocError>
     ensures { IfOk result (λ letters. letters.items ≡ instructions.parameter_letters parameters.now) }
 {
     let mut letters = Vec::new(alloc);
@@ -155,11 +152,7 @@ fn set_letter(columns: &[Letter], variables: &[Letter], set: &Aggregate) -> Lett
     }
 }
 
-fn operand_letter(
-    columns: &[Letter],
-    variables: &[Letter],
-    operand: &Option<ExprCode>,
-) -> Letter
+fn operand_letter(columns: &[Letter], variables: &[Letter], operand: &Option<ExprCode>) -> Letter
     ensures { result ≡ instructions.set_letter columns.now variables.now Min operand.now }
 {
     match operand {

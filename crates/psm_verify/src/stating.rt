@@ -10,7 +10,10 @@ ghost use Rattle.psm_verify.specs.Stated.{bare, bare_of, code_line_fault_at, fir
 use crate::effects::operands_of;
 use crate::fault::Stop;
 use crate::handling::context_there;
-use crate::lines::{context_behind, is_in, is_target, jump_of, jumps_right, jumps_within, resumes_at, stands_right, wants_resume};
+use crate::lines::{
+    context_behind, is_in, is_target, jump_of, jumps_right, jumps_within, resumes_at, stands_right,
+    wants_resume,
+};
 use crate::listing::passed;
 use crate::scene::Scene;
 use psm_code::{CodeRule, Instruction, RawRoutine};

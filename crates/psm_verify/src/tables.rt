@@ -88,9 +88,7 @@ fn name_fault(before: &[CodeTable], table: &CodeTable) -> Option<CodeRule>
 fn is_new_table(before: &[CodeTable], table: &CodeTable) -> bool
     ensures { result ≡ list_all (λ u. not (is_same u.definition.name table.now.definition.name)) before.now }
 {
-    before
-        .iter()
-        .all(|other| !are_same_names(&other.definition.name, &table.definition.name))
+    before.iter().all(|other| !are_same_names(&other.definition.name, &table.definition.name))
 }
 
 #[tactic(auto, using(crate::proofs::Each::after_next, crate::proofs::Going::going_on, crate::proofs::Going::stopped))]
@@ -204,12 +202,7 @@ fn unique_fault(def: &TableDef, places: &[u32]) -> Option<CodeRule>
     }
 }
 
-fn checks(
-    alloc: Global,
-    line: u64,
-    letters: &[Letter],
-    table: &CodeTable,
-) -> Result<u64, Stop>
+fn checks(alloc: Global, line: u64, letters: &[Letter], table: &CodeTable) -> Result<u64, Stop>
     ensures { Finds (checked line (flat_map (rules.expr_faults letters.now [] (is_letter B)) table.now.checks)) result }
 {
     let mut line = line;

@@ -107,7 +107,12 @@ fn routine_lines(
     ensures { Finds (checked line (routine_faults code.now before.now routine.now)) result }
 {
     let variables = letters_of_variables(alloc, routine)?;
-    let items = letters_of_queries(alloc, letters, variables.as_slice(), routine.queries.items())?;
+    let items = letters_of_queries(
+        alloc,
+        letters,
+        variables.as_slice(),
+        routine.queries.items(),
+    )?;
     let scene = Scene {
         code,
         routine,
