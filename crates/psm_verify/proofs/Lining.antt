@@ -1,15 +1,14 @@
 -- The lines of a routine one after another.
-use Rattle.std.proofs.Common.{◌≡◌, ℕ, suc, ◌+◌, ◌<◌, Bool, true, false, ◌&&◌, ◌||◌, not, nat_eq, List, [], ◌∷◌, ◌++◌, length, drop, refl, ap, sym, ◌∙◌, arith, Option, Some, None}
+use Rattle.std.proofs.Common.{◌≡◌, ℕ, suc, ◌+◌, ◌<◌, Bool, true, ◌&&◌, ◌||◌, not, nat_eq, List, [], ◌∷◌, ◌++◌, length, drop, refl, ap, sym, ◌∙◌, arith, Option, Some, None}
 use Rattle.std.specs.Prelude.{option_map, reverse, slice_get}
 use Rattle.std.proofs.lemmas.List.{reverse-append}
 use Rattle.psm_exprcode.specs.declared.op.Letter.{Letter}
 use Rattle.psm_code.specs.declared.code.RawCode.{RawCode}
 use Rattle.psm_code.specs.declared.code.RawRoutine.{RawRoutine}
 use Rattle.psm_code.specs.declared.lines.CodeLine.{CodeLine}
-use Rattle.psm_code.specs.declared.rule.CodeRule.{CodeRule}
 use Rattle.psm_code.specs.declared.rule.CodeRule.TheVariants.{Range, Target, Stack, Context, Resume, Turn, Place}
 use Rattle.psm_code.specs.Rules.{first_of, is_some, unless, where_there}
-use Rattle.psm_code.specs.RoutineRules.{are_targets, context_there, contexts_follow, is_first_right, jump_of, line_fault, line_faults, may_stand, names_there, resumes_right, stack_follows, stands_right, uses_turn}
+use Rattle.psm_code.specs.RoutineRules.{are_targets, context_there, contexts_follow, jump_of, line_fault, line_faults, may_stand, names_there, resumes_right, stack_follows, stands_right, uses_turn}
 use Rattle.psm_verify.specs.Stated.{bare_of, code_line_fault, code_line_fault_at, first_right, line_fault_with}
 use Rattle.psm_verify.proofs.Placing.{is_at, rest_at}
 use Rattle.psm_verify.proofs.Splits.{follows_is_split}

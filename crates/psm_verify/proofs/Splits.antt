@@ -1,6 +1,6 @@
 -- The rules of lines by whether an instruction changes rows, which is where the verifier makes the difference.
-use Rattle.std.proofs.Common.{◌≡◌, ℕ, Bool, true, false, ◌&&◌, ◌||◌, List, [], ◌∷◌, refl, ap, ◌∙◌, Option, Some, None}
-use Rattle.std.specs.Prelude.{codes, option_map, reverse, not}
+use Rattle.std.proofs.Common.{◌≡◌, ℕ, Bool, true, false, ◌&&◌, ◌||◌, List, [], refl, ap, ◌∙◌, Option, Some, None}
+use Rattle.std.specs.Prelude.{codes, option_map}
 use Rattle.psm_exprcode.specs.declared.op.Letter.{Letter}
 use Rattle.psm_exprcode.specs.declared.op.Letter.TheVariants.{N}
 use Rattle.psm_exprcode.specs.Kinds.{some_letter, some_value}
@@ -13,7 +13,7 @@ use Rattle.psm_code.specs.declared.instruction.Instruction.TheVariants as instru
 use Rattle.psm_code.specs.Instructions.{instruction_effect}
 use Rattle.psm_code.specs.Rules.{there}
 use Rattle.psm_code.specs.RoutineRules.{constant_fits, follows_with, goes_ahead, line_goes_ahead, stated_behind}
-use Rattle.psm_verify.specs.Moves.{ahead_split, follows_split, moves_ahead, moves_at, moves_behind, moves_of, optional_follow, plan_follows, taken_by_plan}
+use Rattle.psm_verify.specs.Moves.{ahead_split, follows_split, moves_ahead, moves_behind, moves_of, optional_follow, plan_follows, taken_by_plan}
 use Rattle.psm_verify.proofs.Placing.{some_letter_is, some_value_is}
 
 ahead_of_effect : (o : Option Effect) → goes_ahead o ≡ moves_ahead (option_map moves_of o)

@@ -1,5 +1,5 @@
 -- What an instruction does to the operands, as the verifier holds it, without its name.
-use Rattle.std.specs.Prelude.{ℕ, Bool, true, false, ◌&&◌, List, [], ◌∷◌, ◌++◌, Option, Some, None, option_map, replicate, slice_get}
+use Rattle.std.specs.Prelude.{ℕ, Bool, false, ◌&&◌, List, [], ◌++◌, Option, Some, None, option_map, replicate, slice_get}
 use Rattle.std.specs.List.{flat_map}
 use Rattle.psm_exprcode.specs.declared.op.Letter.TheVariants.{N}
 use Rattle.psm_exprcode.specs.Kinds.{some_letter, some_value}

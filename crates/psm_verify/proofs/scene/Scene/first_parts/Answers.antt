@@ -1,10 +1,9 @@
-use Rattle.std.proofs.Common.{◌≡◌, List, [], ◌∷◌, ◌++◌, Ok, Err, map, refl, rules, ap, sym, subst, ◌∙◌, None}
+use Rattle.std.proofs.Common.{◌≡◌, [], ◌∷◌, ◌++◌, Ok, Err, map, refl, rules, ap, sym, ◌∙◌}
 use Rattle.std.specs.List.{flat_map}
-use Rattle.psm_code.specs.PlanRules.{cursor_fault, plan_faults, query_faults}
+use Rattle.psm_code.specs.PlanRules.{cursor_fault, query_faults}
 use Rattle.psm_code.specs.Rules.{each_after}
-use Rattle.psm_code.specs.RoutineRules.{context_faults, declared_fault, handler_fault, parameter_fault, routine_fault, type_fault}
-use Rattle.psm_verify.specs.Listed.{first_faults}
-use Rattle.psm_verify.specs.Checked.{Finds, checked}
+use Rattle.psm_code.specs.RoutineRules.{parameter_fault, routine_fault, type_fault}
+use Rattle.psm_verify.specs.Checked.{checked}
 use Rattle.psm_verify.proofs.Going.{go, going_on, stop}
 use Rattle.psm_verify.proofs.scene.Scene.first_parts.Goals as goal
 

@@ -1,8 +1,8 @@
-use Rattle.std.proofs.Common.{◌≡◌, List, [], ◌∷◌, ◌++◌, Ok, Err, map, refl, rules, ap, sym, subst, ◌∙◌, None}
+use Rattle.std.proofs.Common.{◌≡◌, Ok, rules}
 use Rattle.psm_code.specs.RoutineRules.{line_faults}
 use Rattle.psm_verify.specs.Listed.{part_faults}
-use Rattle.psm_verify.specs.Checked.{Finds, checked}
-use Rattle.psm_verify.proofs.Going.{go, going_on, stop}
+use Rattle.psm_verify.specs.Checked.{checked}
+use Rattle.psm_verify.proofs.Going.{go, stop}
 use Rattle.psm_verify.proofs.scene.Scene.routine.Goals as goal
 
 pub returns-in_err-line : goal.returns-in_err-line
