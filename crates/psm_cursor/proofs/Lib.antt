@@ -1,0 +1,4 @@
+pub mod Fetched
+pub mod Meeting
+pub mod Standing
+pub mod Walks
