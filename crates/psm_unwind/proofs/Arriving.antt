@@ -1,5 +1,5 @@
 -- What a handler and what is outside come to, by the parts of a machine.
-use Rattle.std.proofs.Common.{◌≡◌, ℕ, zero, suc, ◌+◌, ◌-◌, ◌<◌, Bool, true, false, List, [], ◌∷◌, map, reverse, length, Option, Some, None, Result, Ok, Err, IfOk, OnOk, refl, ap, sym, subst, ◌∙◌, arith, if◌then◌else◌}
+use Rattle.std.proofs.Common.{◌≡◌, ℕ, zero, suc, ◌-◌, ◌<◌, Bool, true, false, List, [], ◌∷◌, map, reverse, length, Option, Some, None, Result, Ok, Err, IfOk, OnOk, refl, ap, sym, subst, ◌∙◌, arith, if◌then◌else◌}
 use Rattle.std.proofs.lemmas.List.{length-map, length-reverse}
 use Rattle.psm_sqlstate.specs.Kind.{kind_of}
 use Rattle.psm_cond.specs.declared.handlers.Handler.{Handler}
@@ -25,7 +25,7 @@ use Rattle.psm_unwind.specs.Raising.{IsPlace, Meets, met_at}
 use Rattle.psm_unwind.specs.declared.run.Frame.{Frame as OpenFrame}
 use Rattle.psm_unwind.specs.Leaving.{cursors_left, inside, outward, tables_left}
 use Rattle.psm_unwind.specs.View.{LeadsTo, frame_of, frames_of}
-use Rattle.psm_unwind.proofs.Leavings.{inside_all, inside_block, left_is, outward_all, outward_block, with_both}
+use Rattle.psm_unwind.proofs.Leavings.{inside_all, inside_block, left_is, outward_all, outward_block}
 
 -- a machine with these parts in place of its own
 abbrev pub with_parts : List Cursor → List Frame → List Activation → List Contents → Machine → Machine
@@ -85,10 +85,10 @@ pub placed : (r : RawRoutine) (l : Option CodeLine) (p : Place) (c : Entries) (m
 placed r None p c m held now x i e h = absurd i
 placed r (Some l) p c m held now x i e h =
     let same : (outside : Machine → Turned) → asked_at r (Some l) c outside m ≡ met_at r p.resume c (choice r.handlers p.context c.first) outside held = λ outside.
-        met_same r l c (choice r.handlers l.context c.first) outside (holding c m)
-        ∙ ap (λ k. met_at r l.resume c (choice r.handlers k c.first) outside (holding c m)) i.0
-        ∙ ap (λ k. met_at r k c (choice r.handlers p.context c.first) outside (holding c m)) i.1
-        ∙ ap (met_at r p.resume c (choice r.handlers p.context c.first) outside) e in
+    met_same r l c (choice r.handlers l.context c.first) outside (holding c m)
+    ∙ ap (λ k. met_at r l.resume c (choice r.handlers k c.first) outside (holding c m)) i.0
+    ∙ ap (λ k. met_at r k c (choice r.handlers p.context c.first) outside (holding c m)) i.1
+    ∙ ap (met_at r p.resume c (choice r.handlers p.context c.first) outside) e in
     meets_same (λ outside. met_at r p.resume c (choice r.handlers p.context c.first) outside held) (λ outside. asked_at r (Some l) c outside m) x now same h
 
 none_of : {A B : Type 0} (f : A → B) (xs : List A) → map f (reverse xs) ≡ [] → xs ≡ []

@@ -1,5 +1,5 @@
 -- The last item of a list is the first one of the list turned round.
-use Rattle.std.proofs.Common.{◌≡◌, ℕ, ◌-◌, List, [], ◌∷◌, ◌++◌, length, map, reverse, Option, Some, None, option_map, slice_get, not, option_to_list, IfSome, refl, ap, sym, ◌∙◌, arith, Bool, true, false}
+use Rattle.std.proofs.Common.{◌≡◌, ℕ, ◌-◌, List, [], ◌∷◌, ◌++◌, length, reverse, Option, Some, None, option_map, slice_get, not, option_to_list, IfSome, refl, ap, sym, ◌∙◌, arith, Bool, true, false}
 use Rattle.std.proofs.lemmas.List.{reverse-append}
 use Rattle.psm_table.specs.Table.{Contents}
 use Rattle.psm_store.specs.declared.store.Mark.{Mark}

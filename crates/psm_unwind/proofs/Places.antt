@@ -1,7 +1,6 @@
 -- Where a line stands, as two readings tell.
-use Rattle.std.proofs.Common.{◌≡◌, ℕ, Option, Some, None, option_map, ap, sym, ◌∙◌}
+use Rattle.std.proofs.Common.{◌≡◌, ℕ, Option, Some, None, option_map, ap, sym}
 use Rattle.psm_code.specs.declared.lines.CodeLine.{CodeLine}
-use Rattle.psm_unwind.specs.declared.parts.Place.{Place}
 use Rattle.psm_unwind.specs.Raising.{IsPlace}
 
 abbrev or_zero : Option ℕ → ℕ

@@ -1,5 +1,5 @@
 -- The view of a run where the marks of its blocks stay.
-use Rattle.std.proofs.Common.{◌≡◌, List, [], ◌∷◌, ◌++◌, map, reverse, Option, Some, None, refl, ap, ◌∙◌}
+use Rattle.std.proofs.Common.{◌≡◌, List, [], ◌∷◌, map, reverse, Some, None, refl, ap, ◌∙◌}
 use Rattle.psm_table.specs.Table.{Contents}
 use Rattle.psm_store.specs.declared.store.Mark.{Mark}
 use Rattle.psm_code.specs.State as code
@@ -7,8 +7,8 @@ use Rattle.psm_unwind.specs.declared.run.Activation.{Activation}
 use Rattle.psm_unwind.specs.declared.run.Frame.{Frame}
 use Rattle.psm_unwind.specs.declared.run.Frame.TheVariants.{Block, Action}
 use Rattle.psm_unwind.specs.declared.run.Run.{Run}
-use Rattle.psm_unwind.specs.Marks.{Each, Stays, marks_in, marks_of, open_marks, with_mark}
-use Rattle.psm_unwind.specs.View.{activation_of, frame_of, frames_of, machine_of}
+use Rattle.psm_unwind.specs.Marks.{Each, Stays, marks_in, marks_of, open_marks}
+use Rattle.psm_unwind.specs.View.{activation_of, frames_of, machine_of}
 use Rattle.psm_unwind.proofs.Nestings.{each_left, each_right}
 
 module _ (at : Mark → List Contents) (new : Mark → Type 0) (at_new : Mark → List Contents) where

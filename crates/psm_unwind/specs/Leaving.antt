@@ -1,5 +1,5 @@
 -- What frames leave behind when the run leaves them: the cursors and the tables.
-use Rattle.std.specs.Prelude.{ℕ, Bool, true, false, not, List, [], ◌∷◌, Option, Some, None, if◌then◌else◌}
+use Rattle.std.specs.Prelude.{ℕ, Bool, false, not, List, [], ◌∷◌, Option, Some, None, if◌then◌else◌}
 use Rattle.psm_table.specs.Cursors.{Cursor}
 use Rattle.psm_table.specs.Table.{Contents}
 use Rattle.psm_code.specs.declared.code.RawRoutine.{RawRoutine}

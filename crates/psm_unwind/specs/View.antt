@@ -1,5 +1,5 @@
 -- A run over a store as a machine.
-use Rattle.std.specs.Prelude.{◌≡◌, ℕ, List, map, reverse, Option, option_map}
+use Rattle.std.specs.Prelude.{◌≡◌, List, map, reverse, option_map}
 use Rattle.psm_table.specs.Table.{Contents}
 use Rattle.psm_store.specs.declared.store.Mark.{Mark}
 use Rattle.psm_code.specs.State as code

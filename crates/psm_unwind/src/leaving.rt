@@ -10,10 +10,10 @@ ghost use Rattle.psm_unwind.specs.Leaving.{cursors_by, cursors_left, inside, is_
 ghost use Rattle.psm_unwind.specs.Marks.{Leaves, Nested, marks_in};
 ghost use Rattle.psm_unwind.specs.View.{frame_of, frames_of};
 
-use crate::cursor::Cursor;
 use crate::parts::block_at;
 use crate::run::Frame;
 use psm_code::RawRoutine;
+use psm_cursor::Cursor;
 use psm_store::{Mark, Steps, Store};
 use std::marker::Brand;
 use std::sync::ledger::{Blank, Ledger};

@@ -2,7 +2,6 @@
 //! ATOMIC block changed is taken back, and the action of a handler begins.
 #![tactic(auto)]
 
-mod cursor;
 mod ending;
 mod leaving;
 mod parts;

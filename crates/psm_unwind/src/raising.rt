@@ -216,7 +216,9 @@ fn handle<S: Store>(
                 return Ok(Outcome::Over(Ending::NoTurns));
             }
             run.turns -= 1;
-            begin(alloc, routine, resume, number, handler, run, store, condition)?;
+            begin(
+                alloc, routine, resume, number, handler, run, store, condition,
+            )?;
             Ok(Outcome::More)
         }
     }
@@ -298,7 +300,13 @@ fn restore<S: Store, L: Ledger>(frames: &[Frame], store: &mut S, blank: Blank)
     ensures fewer { S.marks store.new ≤ S.marks store.old }
     ensures leaves { Leaves (S.holds store.old) (S.at store.old) (marks_in (reverse frames.now)) (S.holds store.new) (S.at store.new) (marks_in (reverse frames.now)) }
 {
-    if let Some(Frame::Block { found: Some(mark), .. }) = frames.last() {
+    if let Some(
+        Frame::Block {
+            found: Some(mark),
+            ..
+        },
+    ) = frames.last()
+    {
         let mut steps: Steps<L> = Steps::open(blank);
         store.rollback(*mark, &mut steps);
     }

@@ -1,7 +1,7 @@
 //! What a run of code changes beside the tables.
 
-use crate::cursor::Cursor;
 use psm_cond::Area;
+use psm_cursor::Cursor;
 use psm_exprcode::Operand;
 use psm_sqlstate::SqlState;
 use psm_store::Mark;

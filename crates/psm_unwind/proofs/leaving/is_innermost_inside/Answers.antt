@@ -1,6 +1,5 @@
 use Rattle.std.proofs.Common.{ap, sym, ◌∙◌, not}
 use Rattle.std.specs.Option.{option_copied}
-use Rattle.psm_unwind.specs.View.{frame_of}
 use Rattle.psm_unwind.proofs.Lasts.{innermost_none, innermost_some}
 use Rattle.psm_unwind.proofs.leaving.is_innermost_inside.Goals as goal
 

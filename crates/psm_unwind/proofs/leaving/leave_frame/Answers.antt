@@ -9,7 +9,7 @@ returns-clause-leaves g c =
     let before = g.S.Store.holds c.args.store.now in
     let at = g.S.Store.at c.args.store.now in
     elim c.match-frame.branch [
-      in-Block+in-Some w ↦
+      | in-Block+in-Some w ↦
           subst (λ st. Leaves before at (marks_in (c.args.frame ∷ [])) (g.S.Store.holds st) (g.S.Store.at st) []) (sym w.store-is)
           (leaves_mark before at (g.S.Store.holds w.let_go.new.store) (g.S.Store.at w.let_go.new.store) (mark_in c.args.frame) w.in-Some.mark (ap mark_in w.in-Block.is ∙ w.in-Some.is) w.let_go.ensures.keeps)
       | in-Block+in_default-found w ↦

@@ -1,4 +1,4 @@
-use Rattle.std.proofs.Common.{refl, ap, sym, ◌∙◌}
+use Rattle.std.proofs.Common.{refl}
 use Rattle.psm_code.specs.Parts.{line_at}
 use Rattle.psm_unwind.specs.View.{machine_of}
 use Rattle.psm_unwind.proofs.Arriving.{if_ok_map, placed}

@@ -1,4 +1,4 @@
-use Rattle.std.proofs.Common.{None, refl, ap, sym, ◌∙◌}
+use Rattle.std.proofs.Common.{None, ap, sym, ◌∙◌}
 use Rattle.psm_sqlstate.specs.Kind.{kind_of}
 use Rattle.psm_cond.specs.Choice.{is_exception}
 use Rattle.psm_code.specs.Raising.{acting, arrived, handled, undone}

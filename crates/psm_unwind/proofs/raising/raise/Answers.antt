@@ -7,8 +7,6 @@ use Rattle.psm_code.specs.Raising.{asked, raised}
 use Rattle.psm_unwind.specs.declared.ending.Ending.TheVariants.{Raised}
 use Rattle.psm_unwind.specs.declared.ending.Outcome.TheVariants.{Over}
 use Rattle.psm_unwind.specs.declared.run.Activation.{Activation}
-use Rattle.psm_unwind.specs.declared.raising.Met.TheVariants.{Here, Outside}
-use Rattle.psm_unwind.specs.Marks.{Nested, Unwinds, open_marks}
 use Rattle.psm_unwind.specs.Raising.{HasLeft, Meets}
 use Rattle.psm_unwind.specs.View.{LeadsTo, activation_of, machine_of}
 use Rattle.psm_unwind.proofs.Arriving.{raised_again, raised_here, raised_out}

@@ -1,5 +1,5 @@
 use Rattle.std.proofs.Common.{List, true, reverse, refl, ap, sym, subst, ◌∙◌}
-use Rattle.psm_code.specs.Raising.{found_first, put_back, undone}
+use Rattle.psm_code.specs.Raising.{found_first, put_back}
 use Rattle.psm_unwind.specs.declared.run.Frame.{Frame}
 use Rattle.psm_unwind.specs.Marks.{Leaves, Nested, Unwinds, marks_in}
 use Rattle.psm_unwind.specs.View.{frames_of, machine_of}
