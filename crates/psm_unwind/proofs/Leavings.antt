@@ -52,12 +52,12 @@ outward_all (f ∷ frames) = outward_all frames
 
 frame_cursors : (r : RawRoutine) (at at0 : Mark → List Contents) (f : OpenFrame) (cs : List Cursor) → cursors_by r (frame_of at f) cs ≡ cursors_by r (frame_of at0 f) cs
 frame_cursors r at at0 (Block k found) cs = refl
-frame_cursors r at at0 (Action h resume area) cs = refl
+frame_cursors r at at0 (Action h resume c rows) cs = refl
 
 frame_found : (new : Mark → Type 0) (at at0 : Mark → List Contents) (f : OpenFrame) → Each (Stays at0 new at) (marks_in (f ∷ [])) → found_by (frame_of at f) ≡ found_by (frame_of at0 f)
 frame_found new at at0 (Block k None) e = refl
 frame_found new at at0 (Block k (Some m)) e = ap Some e.0.1
-frame_found new at at0 (Action h resume area) e = refl
+frame_found new at at0 (Action h resume c rows) e = refl
 
 inside_step : (stop : Option ℕ) (f : Frame) (frames : List Frame) → is_at stop f ≡ false → inside stop (f ∷ frames) ≡ f ∷ inside stop frames
 inside_step stop f frames e = ap (λ b. if b then [] else f ∷ inside stop frames) e
@@ -77,7 +77,7 @@ outward_end stop (f ∷ frames) e = ap (λ b. if b then f ∷ frames else outwar
 pub marks_cons : (f : OpenFrame) (frames : List OpenFrame) → marks_in (f ∷ frames) ≡ marks_in (f ∷ []) ++ marks_in frames
 marks_cons (Block k None) frames = refl
 marks_cons (Block k (Some m)) frames = refl
-marks_cons (Action h resume area) frames = refl
+marks_cons (Action h resume c rows) frames = refl
 
 pub reverse_pop : (xs ys : List OpenFrame) (f : OpenFrame) → xs ≡ ys ++ f ∷ [] → reverse xs ≡ f ∷ reverse ys
 reverse_pop xs ys f e = ap reverse e ∙ reverse-append ys (f ∷ [])

@@ -16,7 +16,7 @@ module _ (at : Mark → List Contents) (new : Mark → Type 0) (at_new : Mark �
   frames_stay [] e = refl
   frames_stay (Block k None ∷ frames) e = ap (λ fs. code.InBlock k None ∷ fs) (frames_stay frames e)
   frames_stay (Block k (Some m) ∷ frames) e = ap (λ t. code.InBlock k (Some t) ∷ frames_of at_new frames) e.0.1 ∙ ap (λ fs. code.InBlock k (Some (at m)) ∷ fs) (frames_stay frames e.1)
-  frames_stay (Action h resume area ∷ frames) e = ap (λ fs. code.InAction h resume area ∷ fs) (frames_stay frames e)
+  frames_stay (Action h resume c rows ∷ frames) e = ap (λ fs. code.InAction h resume (record { entries = c; rows = rows }) ∷ fs) (frames_stay frames e)
 
   activation_stays : (a : Activation) → Each (Stays at new at_new) (marks_in (reverse a.frames.items)) → activation_of at_new a ≡ activation_of at a
   activation_stays a e = ap (λ fs. record (activation_of at a) { frames = fs }) (frames_stay (reverse a.frames.items) e)

@@ -16,7 +16,7 @@ with_mark (Some m) marks = m ∷ marks
 
 abbrev pub mark_in : Frame → Option Mark
 mark_in (Block k found) = found
-mark_in (Action h resume area) = None
+mark_in (Action h resume c rows) = None
 
 abbrev pub marks_in : List Frame → List Mark
 marks_in [] = []

@@ -15,7 +15,7 @@ use Rattle.psm_unwind.specs.declared.run.Run.{Run}
 -- a frame, where a mark stands for these tables
 abbrev pub frame_of : (Mark → List Contents) → Frame → code.Frame
 frame_of at (Block k found) = code.InBlock k (option_map at found)
-frame_of at (Action h resume area) = code.InAction h resume area
+frame_of at (Action h resume c rows) = code.InAction h resume (record { entries = c; rows = rows })
 
 -- frames, of which the innermost comes first
 abbrev pub frames_of : (Mark → List Contents) → List Frame → List code.Frame

@@ -19,7 +19,7 @@ use crate::leaving::leave_until;
 use crate::parts::{Place, handler_at, is_exception, place_of, routine_at};
 use crate::run::{Frame, Run};
 use psm_code::{RawCode, RawRoutine};
-use psm_cond::{Area, Condition, Handler, HandlerKind, choose};
+use psm_cond::{Condition, Handler, HandlerKind, choose};
 use psm_store::{Steps, Store};
 use std::alloc::{AllocError, Global};
 use std::marker::Brand;
@@ -327,13 +327,13 @@ fn act(
     ensures callers { run.new.callers ≡ run.old.callers }
     ensures bound { run.new.marks ≡ run.old.marks }
 {
-    let mut area = Area::new();
-    area.set(alloc, condition)?;
-    area.set_rows(run.area.rows());
+    let activating = condition.copy(alloc)?;
+    let rows = run.area.rows();
     run.running.frames.push(Frame::Action {
         handler: number,
         resume,
-        area,
+        condition: activating,
+        rows,
     })?;
     run.running.line = handler.pc as usize;
     run.running.operands.clear();

@@ -1,6 +1,6 @@
 //! What a run of code changes beside the tables.
 
-use psm_cond::Area;
+use psm_cond::{Area, Condition};
 use psm_cursor::Cursor;
 use psm_exprcode::Operand;
 use psm_sqlstate::SqlState;
@@ -15,11 +15,13 @@ pub enum Frame {
         context: u32,
         found: Option<Mark>,
     },
-    /// The action of the handler with that number, with the line at which CONTINUE goes on and the area that activated it.
+    /// The action of the handler with that number, with the line at which CONTINUE goes on, and the condition that activated it and
+    /// the number of rows that the area had then.
     Action {
         handler: u32,
         resume: Option<u32>,
-        area: Area,
+        condition: Condition,
+        rows: u32,
     },
 }
 
