@@ -11,7 +11,7 @@ use Rattle.psm_exprcode.specs.declared.query.Query.{Query}
 use Rattle.psm_value.specs.declared.datum.Datum.{Datum}
 use Rattle.psm_value.specs.declared.fault.ValueFault.{ValueFault}
 use Rattle.psm_value.specs.declared.fault.ValueFault.TheVariants as value_fault
-use Rattle.psm_table.specs.Cursors.{Closed, Plain, Insensitive, Position}
+use Rattle.psm_table.specs.Cursors.{Cursor, Plain, Insensitive, Position}
 use Rattle.psm_table.specs.Table.{Contents}
 use Rattle.psm_tablecode.specs.Faults.{IsRaised, Tells}
 use Rattle.psm_tablecode.specs.Suits.{Runs, RunItems}
@@ -38,6 +38,13 @@ module _ (query : Query) (t : Contents) where
   fetches_next [] new (Some row) e g = cc
   fetches_next (r ∷ old) new None e g = let none : r ∷ old ≡ old = e ∙ g in absurd (omega (arith, ap length none))
   fetches_next (r ∷ old) new (Some row) e g = let same : r ≡ row = cc in let rest : old ≡ new = cc in (ap (λ (x : List Datum). Ok (Some x)) same, ap Insensitive (sym rest))
+
+  pub fetches_same : (old was new now : Cursor) (result told : Result (Option (List Datum)) DataFault) → old ≡ was → new ≡ now → result ≡ told
+      → Fetches (fetched query t was) was now told → Fetches (fetched query t old) old new result
+  fetches_same old was new now result told e f g h =
+      subst (λ (c : Cursor). Fetches (fetched query t c) c new result) (sym e)
+      (subst (λ (c : Cursor). Fetches (fetched query t was) was c result) (sym f)
+      (subst (λ (r : Result (Option (List Datum)) DataFault). Fetches (fetched query t was) was now r) (sym g) h))
 
 -- the items of a row may be evaluated
 pub items_run : (row values vars : List Datum) (items : Items) (codes all : List (List Line)) → items ≡ Rows codes → all ≡ codes → values ≡ row → RunItems row vars items → All (Runs values vars) all

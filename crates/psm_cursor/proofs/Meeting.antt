@@ -1,5 +1,5 @@
 -- The first row that meets a test, of those behind a key.
-use Rattle.std.proofs.Common.{◌≡◌, suc, ◌<◌, Bool, true, false, List, [], ◌∷◌, length, refl, ap, sym, subst, ◌∙◌, arith, Option, Some, None, Result, Ok, Err}
+use Rattle.std.proofs.Common.{◌≡◌, Bool, true, false, List, ◌∷◌, ap, Option, Some, Result, Ok, Err}
 use Rattle.std.specs.Prelude.{IfSome, if◌then◌else◌}
 use Rattle.psm_sqlstate.specs.declared.state.SqlState.{SqlState}
 use Rattle.psm_value.specs.Answer.{Gives}
@@ -10,7 +10,6 @@ use Rattle.psm_value.specs.declared.truth.Truth.{Truth}
 use Rattle.psm_table.specs.Cursors.{first_met, rows_past}
 use Rattle.psm_table.specs.Definition.{IsRow}
 use Rattle.psm_table.specs.Evaluator.{and_then, mapped}
-use Rattle.psm_table.specs.Key.{values_at}
 use Rattle.psm_table.specs.Queries.{is_met}
 use Rattle.psm_table.specs.Table.{Contents}
 use Rattle.psm_cursor.specs.Fetching.{Finds}

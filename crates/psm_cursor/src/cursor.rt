@@ -1,17 +1,20 @@
 //! Cursors.
 ghost use Rattle.std.specs.Prelude.{◌≡◌, ◌<◌, length, slice_get, IfOk, IfSome};
 ghost use Rattle.std.specs.Option.{option_copied};
-ghost use Rattle.psm_table.specs.Cursors.{Closed, Plain, before_first};
+ghost use Rattle.psm_table.specs.Cursors.{Closed, Insensitive, Plain, before_first};
 ghost use Rattle.psm_table.specs.Definition.{IsRow};
+ghost use Rattle.psm_tablecode.specs.Faults.{Answers};
+ghost use Rattle.psm_tablecode.specs.Suits.{SuitsTable};
 ghost use Rattle.psm_cursor.specs.Current.{current_key, current_row, off_row};
 ghost use Rattle.psm_cursor.specs.Fetching.{fetched, Fetches};
 ghost use Rattle.psm_cursor.specs.Suits.{StandsIn, SuitsCursor};
-ghost use Rattle.psm_cursor.specs.Opened.{is_opened};
+ghost use Rattle.psm_cursor.specs.Opened.{is_opened, opened_over};
 
 use crate::fetching::fetch;
 use crate::place::Place;
 use psm_cond::DataFault;
 use psm_exprcode::Query;
+use psm_query::rows;
 use psm_store::Store;
 use psm_table::{Key, Row, Table};
 use psm_value::Datum;
@@ -60,6 +63,29 @@ impl Cursor {
         Ok(Cursor {
             state: State::Plain(Place::before_first(), copied(alloc, vars)?),
         })
+    }
+
+    /// An insensitive cursor, which has the whole answer of its query now (ISO/IEC 9075:1992, 13.2), or the condition that
+    /// the query raises. It sees nothing of what is done to the table later. The condition is that of the SQLSTATE
+    /// alone.
+    ///
+    /// The table has to be there, and the query's codes have to fit its columns and the variables. Memory may run out
+    /// at any time.
+    #[tactic(auto, using(crate::proofs::Opens::opens, crate::proofs::Opens::opens_fault))]
+    pub fn open_insensitive<S: Store>(
+        alloc: Global,
+        store: &S,
+        query: &Query,
+        vars: &[Datum],
+    ) -> Result<Cursor, DataFault>
+        requires exists { query.now.table < length (S.tables store.now) }
+        requires suits { IfSome (slice_get (S.tables store.now) query.now.table) (λ t. SuitsTable query.now vars.now t.def) }
+        ensures { IfSome (slice_get (S.tables store.now) query.now.table) (λ t. Answers (opened_over query.now vars.now t) result) }
+    {
+        match rows(alloc, store, query, vars) {
+            Ok(answer) => Ok(Cursor::of_rows(answer.into_rows())),
+            Err(fault) => Err(fault),
+        }
     }
 
     /// Whether the cursor is open.
@@ -133,8 +159,16 @@ impl Cursor {
         }
     }
 
+    /// An insensitive cursor with these rows.
+    fn of_rows(rows: Vec<Row>) -> Cursor
+        ensures { result ≡ Insensitive rows.items }
+    {
+        Cursor {
+            state: State::Insensitive(VecDeque::from(rows)),
+        }
+    }
+
     /// The items of the next row over the table of the query.
-    #[tactic(auto, using(crate::proofs::Fetched::fetches_plain, crate::proofs::Fetched::fetches_next))]
     fn next_of(
         &mut self,
         alloc: Global,

@@ -60,12 +60,7 @@ fn advance(
 }
 
 // The items of a row, from the left.
-fn items_on(
-    alloc: Global,
-    items: &Items,
-    row: &Row,
-    vars: &[Datum],
-) -> Result<Row, ValueFault>
+fn items_on(alloc: Global, items: &Items, row: &Row, vars: &[Datum]) -> Result<Row, ValueFault>
     requires rows { HasRows items.now }
     requires run { RunItems row.now vars.now items.now }
     ensures { Gives (values_for vars.now items.now row.now) result }
