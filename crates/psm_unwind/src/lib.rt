@@ -10,5 +10,6 @@ mod run;
 
 pub use ending::{Ending, Outcome};
 pub use leaving::{leave_frame, leave_until};
+pub use parts::{block_at, handler_at, routine_at};
 pub use raising::raise;
 pub use run::{Activation, Frame, Run};

@@ -31,21 +31,21 @@ pub(crate) fn place_of(routine: &RawRoutine, line: usize) -> Option<Place>
 }
 
 /// A routine by its number.
-pub(crate) fn routine_at(code: &RawCode, number: u32) -> Option<&RawRoutine>
+pub fn routine_at(code: &RawCode, number: u32) -> Option<&RawRoutine>
     ensures { option_copied result ≡ routine_at code.now number }
 {
     code.routines.items().get(number as usize)
 }
 
 /// A handler by its number.
-pub(crate) fn handler_at(routine: &RawRoutine, number: u32) -> Option<&Handler>
+pub fn handler_at(routine: &RawRoutine, number: u32) -> Option<&Handler>
     ensures { option_copied result ≡ handler_at routine.now number }
 {
     routine.handlers.handlers.items().get(number as usize)
 }
 
 /// The block of a context. `None` comes where the context is that of an action, and where there is none.
-pub(crate) fn block_at(routine: &RawRoutine, context: u32) -> Option<&Block>
+pub fn block_at(routine: &RawRoutine, context: u32) -> Option<&Block>
     ensures { option_copied result ≡ block_at routine.now context }
 {
     match routine.handlers.context(context) {
