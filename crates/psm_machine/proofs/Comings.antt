@@ -1,5 +1,5 @@
 -- Parts of an instruction, one behind another.
-use Rattle.std.proofs.Common.{◌≡◌, ℕ, zero, suc, ◌<◌, List, [], ◌∷◌, length, Option, Some, None, All, Result, Ok, Err, IsErrAnd, IfSome, slice_get, get_or, refl, ap, sym, subst, ◌∙◌, arith}
+use Rattle.std.proofs.Common.{◌≡◌, ℕ, zero, suc, List, [], ◌∷◌, Option, Some, None, All, Result, Ok, Err, IsErrAnd, slice_get, ap, sym, subst, ◌∙◌, arith}
 use Rattle.psm_code.specs.State.{Machine}
 use Rattle.psm_code.specs.Steps.{Act, Came, go_on}
 use Rattle.psm_unwind.specs.declared.run.Run.{Run}

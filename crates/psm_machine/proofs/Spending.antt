@@ -1,7 +1,7 @@
 -- A turn that is used.
 use Rattle.std.proofs.Common.{◌≡◌, ℕ, zero, suc, ◌-◌, ◌<◌, ap, sym, arith}
 use Rattle.psm_code.specs.State.{Machine}
-use Rattle.psm_code.specs.Steps.{Came, Got, spent}
+use Rattle.psm_code.specs.Steps.{Got, spent}
 
 pub turn_used : (n : ℕ) (m : Machine) → 0 < n → spent n m ≡ record { given = Got tt; machine = record m { turns = n - 1 } }
 turn_used zero m h = absurd (omega (arith, h))

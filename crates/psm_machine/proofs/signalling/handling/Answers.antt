@@ -1,4 +1,4 @@
-use Rattle.std.proofs.Common.{Some, None, reverse, ap, sym, ◌∙◌}
+use Rattle.std.proofs.Common.{Some, reverse, ap, sym, ◌∙◌}
 use Rattle.std.specs.Option.{option_copied}
 use Rattle.psm_unwind.specs.View.{machine_of}
 use Rattle.psm_machine.specs.Coming.{activating_of}

@@ -1,4 +1,3 @@
-use Rattle.std.proofs.Common.{refl}
 use Rattle.psm_unwind.specs.View.{machine_of}
 use Rattle.psm_machine.proofs.Comings.{stopped}
 use Rattle.psm_machine.proofs.signalling.resignal_condition.Goals as goal

@@ -1,4 +1,4 @@
-use Rattle.std.proofs.Common.{ap, refl, sym}
+use Rattle.std.proofs.Common.{ap, sym}
 use Rattle.psm_unwind.specs.View.{machine_of}
 use Rattle.psm_code.specs.Steps.{raises}
 use Rattle.psm_machine.proofs.Comings.{stopped}

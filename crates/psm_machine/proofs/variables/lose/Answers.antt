@@ -1,4 +1,3 @@
-use Rattle.std.proofs.Common.{refl}
 use Rattle.psm_machine.proofs.variables.lose.Goals as goal
 
 pub returns-then-is_cut-clause-due : goal.returns-then-is_cut-clause-due
