@@ -1,0 +1,62 @@
+-- LEAVE and ITERATE: the blocks in between are left one after another.
+use Rattle.std.proofs.Common.{◌≡◌, ℕ, suc, Bool, true, false, List, [], ◌∷◌, nat_eq, subst, Option, Some, if◌then◌else◌}
+use Rattle.psm_exprcode.specs.declared.op.Op.TheVariants as op
+use Rattle.psm_resolved.specs.declared.file.ResolvedFile.{ResolvedFile}
+use Rattle.psm_resolved.specs.declared.file.ResolvedRoutine.{ResolvedRoutine}
+use Rattle.psm_resolved.specs.declared.statement.ResolvedSimple.TheVariants as simples
+use Rattle.psm_meaning.specs.Acts.{Meaning}
+use Rattle.psm_meaning.specs.State.{State}
+use Rattle.psm_meaning.specs.Statements.{simple}
+use Rattle.psm_code.specs.declared.code.RawCode.{RawCode}
+use Rattle.psm_code.specs.declared.code.RawRoutine.{RawRoutine}
+use Rattle.psm_code.specs.declared.instruction.Instruction.TheVariants as instruction
+use Rattle.psm_code.specs.Parts.{routine_at}
+use Rattle.psm_lower.specs.Agreement.{Acting, AreEntered, AreStanding, ComesTo, Entered, Spot, Spotted, Standing, areas, iterating, leaving, with_standing}
+use Rattle.psm_lower.specs.Env.{Around, Env, IfElse, InBlock, InLoop, Iterates, Leaves, Plain, place_of}
+use Rattle.psm_lower.specs.Scheme.{Simple}
+use Rattle.psm_lower.proofs.Doing.{Does, Site, at_line, leads-plain-jump}
+use Rattle.psm_lower.proofs.Exiting.{leads-exit}
+use Rattle.psm_lower.proofs.Raising.{comes-to-from}
+
+-- ---- the loop or the block that is named, or one outside
+
+leave-loop : (code : RawCode) (r : RawRoutine) (spot : Spot) (standing : List Standing) (pc out : ℕ) → routine_at code spot.number ≡ Some r → (others : Type 0) (other : Option Spotted) (st : State)
+    → (others → ComesTo code spot (at_line (with_standing standing spot) pc [] st) other st) → (b : Bool) → IfElse b (Plain r pc (instruction.Operation (op.Jump out))) others
+    → ComesTo code spot (at_line (with_standing standing spot) pc [] st) (if b then Some (record { line = out; standing = standing }) else other) st
+leave-loop code r spot standing pc out p others other st h true l = leads-plain-jump (with_standing standing spot) p l [] st
+leave-loop code r spot standing pc out p others other st h false x = h x
+
+leaves-comes : (file : ResolvedFile) (code : RawCode) (routine : ResolvedRoutine) (r : RawRoutine) (spot : Spot) → routine_at code spot.number ≡ Some r → (level : ℕ) (st : State) (around : List Around) (standing : List Standing) (pc : ℕ)
+    → AreEntered around standing → AreStanding file code routine r standing → Leaves r around level pc → ComesTo code spot (at_line (with_standing standing spot) pc [] st) (leaving around level standing) st
+leaves-comes file code routine r spot p level st [] standing pc e s x = absurd x
+leaves-comes file code routine r spot p level st (InLoop l out again ∷ around) standing pc e s x =
+    leave-loop code r spot standing pc out p (Leaves r around level pc) (leaving around level standing) st (λ y. leaves-comes file code routine r spot p level st around standing pc e s y) (nat_eq level l) x
+leaves-comes file code routine r spot p level st (InBlock l context exit ∷ around) [] pc e s x = absurd e
+leaves-comes file code routine r spot p level st (InBlock l context exit ∷ around) (Entered v outer found ∷ standing) pc e s x =
+    leave-loop code r spot (Entered v outer found ∷ standing) pc exit p (Plain r pc (instruction.Exit context) × Leaves r around level (suc pc)) (leaving around level standing) st
+    (λ y. comes-to-from code spot st (leads-exit spot v outer found standing p s.0.block (subst (λ k. Plain r pc (instruction.Exit k)) e.1 y.0) st) (leaving around level standing)
+    (leaves-comes file code routine r spot p level st around standing (suc pc) e.2 s.1 y.1)) (nat_eq level l) x
+leaves-comes file code routine r spot p level st (InBlock l context exit ∷ around) (Acting n resume area ∷ standing) pc e s x = absurd e
+
+iterates-comes : (file : ResolvedFile) (code : RawCode) (routine : ResolvedRoutine) (r : RawRoutine) (spot : Spot) → routine_at code spot.number ≡ Some r → (level : ℕ) (st : State) (around : List Around) (standing : List Standing) (pc : ℕ)
+    → AreEntered around standing → AreStanding file code routine r standing → Iterates r around level pc → ComesTo code spot (at_line (with_standing standing spot) pc [] st) (iterating around level standing) st
+iterates-comes file code routine r spot p level st [] standing pc e s x = absurd x
+iterates-comes file code routine r spot p level st (InLoop l out again ∷ around) standing pc e s x =
+    leave-loop code r spot standing pc again p (Iterates r around level pc) (iterating around level standing) st (λ y. iterates-comes file code routine r spot p level st around standing pc e s y) (nat_eq level l) x
+iterates-comes file code routine r spot p level st (InBlock l context exit ∷ around) [] pc e s x = absurd e
+iterates-comes file code routine r spot p level st (InBlock l context exit ∷ around) (Entered v outer found ∷ standing) pc e s x =
+    comes-to-from code spot st (leads-exit spot v outer found standing p s.0.block (subst (λ k. Plain r pc (instruction.Exit k)) e.1 x.0) st) (iterating around level standing)
+    (iterates-comes file code routine r spot p level st around standing (suc pc) e.2 s.1 x.1)
+iterates-comes file code routine r spot p level st (InBlock l context exit ∷ around) (Acting n resume area ∷ standing) pc e s x = absurd e
+
+-- ---- the statements
+
+pub does-leave : {file : ResolvedFile} {code : RawCode} {routine : ResolvedRoutine} {r : RawRoutine} {m : Meaning} {env : Env} {spot : Spot} → Site file code routine r m env spot → (level : ℕ) {pc end : ℕ} → Simple file code routine r env end (simples.Leave level) pc
+    → Does file code routine r m env spot end (simple file (place_of routine env (areas spot.standing)) (simples.Leave level)) (at_line spot pc [])
+does-leave {file = file} {code = code} {routine = routine} {r = r} {env = env} {spot = spot} site level {pc = pc} x =
+    record { by = λ st d. (leaves-comes file code routine r spot site.there level st env.around spot.standing pc site.fits.entered site.fits.entries x, d) }
+
+pub does-iterate : {file : ResolvedFile} {code : RawCode} {routine : ResolvedRoutine} {r : RawRoutine} {m : Meaning} {env : Env} {spot : Spot} → Site file code routine r m env spot → (level : ℕ) {pc end : ℕ} → Simple file code routine r env end (simples.Iterate level) pc
+    → Does file code routine r m env spot end (simple file (place_of routine env (areas spot.standing)) (simples.Iterate level)) (at_line spot pc [])
+does-iterate {file = file} {code = code} {routine = routine} {r = r} {env = env} {spot = spot} site level {pc = pc} x =
+    record { by = λ st d. (iterates-comes file code routine r spot site.there level st env.around spot.standing pc site.fits.entered site.fits.entries x, d) }

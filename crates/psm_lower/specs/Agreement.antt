@@ -1,0 +1,270 @@
+-- What a run of the code comes to, where the meaning of a part is known.
+use Rattle.std.specs.Prelude.{◌≡◌, ◌⊎◌, ℕ, suc, Bool, true, false, List, [], ◌∷◌, length, map, nat_eq, Option, Some, None, if◌then◌else◌}
+use Rattle.psm_sqlstate.specs.declared.state.SqlState.{SqlState}
+use Rattle.psm_sqlstate.specs.Kind.{kind_of}
+use Rattle.psm_value.specs.declared.datum.Datum.{Datum}
+use Rattle.psm_cond.specs.Area.{Diagnostics, clear}
+use Rattle.psm_cond.specs.Choice.{is_exception}
+use Rattle.psm_cond.specs.Condition.{Entries, by_state}
+use Rattle.psm_cond.specs.declared.handlers.Handler.{Handler}
+use Rattle.psm_cond.specs.declared.handlers.HandlerKind.{HandlerKind}
+use Rattle.psm_cond.specs.declared.handlers.HandlerKind.TheVariants as kinds
+use Rattle.psm_exprcode.specs.declared.operand.Operand.{Operand}
+use Rattle.psm_table.specs.Table.{Contents}
+use Rattle.psm_resolved.specs.declared.file.ResolvedFile.{ResolvedFile}
+use Rattle.psm_resolved.specs.declared.file.ResolvedRoutine.{ResolvedRoutine}
+use Rattle.psm_resolved.specs.declared.statement.ResolvedHandler.{ResolvedHandler, out-ResolvedHandler}
+use Rattle.psm_meaning.specs.Acts as meaning
+use Rattle.psm_meaning.specs.Acts.{Outcome, Normal, Leave, Iterate, Return, Raised, Away, Stopped, NoTurns, NoHeight, Lacking}
+use Rattle.psm_meaning.specs.State.{State}
+use Rattle.psm_code.specs.declared.code.RawCode.{RawCode}
+use Rattle.psm_code.specs.declared.code.RawRoutine.{RawRoutine}
+use Rattle.psm_code.specs.declared.lines.CodeLine.{CodeLine}
+use Rattle.psm_code.specs.Calling.{left_values}
+use Rattle.psm_code.specs.Parts.{block_at, line_at}
+use Rattle.psm_code.specs.Raising.{put_back, raised, raised_in}
+use Rattle.psm_code.specs.Rows.{rows}
+use Rattle.psm_code.specs.State as ends
+use Rattle.psm_code.specs.State.{Activation, Frame, Machine, Turned, More, Over}
+use Rattle.psm_code.specs.declared.instruction.Instruction.TheVariants as instruction
+use Rattle.psm_lower.specs.Env.{Around, Env, InBlock, InLoop, Plain, Visible, in_action}
+use Rattle.psm_cond.specs.Handlers.{scopes}
+use Rattle.psm_lower.specs.Scheme.{Handles, IsHandler, Stands}
+
+-- ---- runs
+
+-- after some rows a run comes from the one to the other
+pub record Leads (code : RawCode) (from to : Turned) : Type 0 where
+  pub count : ℕ
+  pub leads : rows code count from ≡ to
+
+-- ---- where a run stands
+
+-- a block that has been entered, with the blocks that are visible outside it and the tables that it found where it is ATOMIC; or the
+-- action of a handler
+pub data Standing : Type 0 where
+  Entered : Visible → List Visible → Option (List Contents) → Standing
+  Acting : ℕ → Option ℕ → Diagnostics → Standing
+
+abbrev pub frame_of : Standing → Frame
+frame_of (Entered v outer found) = ends.InBlock v.context found
+frame_of (Acting n resume area) = ends.InAction n resume area
+
+-- the areas that activated the actions which are running, innermost first
+abbrev pub areas : List Standing → List Diagnostics
+areas [] = []
+areas (Entered v outer found ∷ standing) = areas standing
+areas (Acting n resume area ∷ standing) = area ∷ areas standing
+
+-- the routine that runs, by its number, those that called it, and what is entered in it, innermost first
+pub record Spot : Type 0 where
+  pub number : ℕ
+  pub callers : List Activation
+  pub standing : List Standing
+
+abbrev pub with_standing : List Standing → Spot → Spot
+with_standing standing spot = record spot { standing = standing }
+
+-- the machine at a line with some operands, in the state of the meaning
+abbrev pub machine : Spot → ℕ → List Operand → State → Machine
+machine spot line operands st = record {
+  running = record { routine = spot.number; line = line; variables = st.variables; cursors = st.cursors; operands = operands; frames = map frame_of spot.standing };
+  callers = spot.callers;
+  area = st.area;
+  pending = None;
+  turns = st.turns;
+  tables = st.tables;
+}
+
+-- as many routines run as the meaning counts
+abbrev pub IsDeep : Spot → State → Type 0
+IsDeep spot st = st.depth ≡ suc (length spot.callers)
+
+-- ---- blocks whose handlers are in scope are entered
+
+-- the block stands among what is entered: the first of its level and the first of its context; and outside it what is said is in scope
+abbrev pub Reaches : Visible → List Visible → List Standing → Type 0
+Reaches v outer [] = ⊥
+Reaches v outer (Entered w inner found ∷ standing) = ((v ≡ w) × (outer ≡ inner)) ⊎ ((nat_eq v.level w.level ≡ false) × (nat_eq v.context w.context ≡ false) × Reaches v outer standing)
+Reaches v outer (Acting n resume area ∷ standing) = Reaches v outer standing
+
+abbrev pub ReachAll : List Visible → List Standing → Type 0
+ReachAll [] standing = Unit {0}
+ReachAll (v ∷ visible) standing = Reaches v visible standing × ReachAll visible standing
+
+-- the blocks that LEAVE can leave are the innermost ones that are entered
+abbrev pub AreEntered : List Around → List Standing → Type 0
+AreEntered [] standing = Unit {0}
+AreEntered (InLoop l out again ∷ around) standing = AreEntered around standing
+AreEntered (InBlock l context exit ∷ around) [] = ⊥
+AreEntered (InBlock l context exit ∷ around) (Entered v outer found ∷ standing) = (l ≡ v.level) × (context ≡ v.context) × AreEntered around standing
+AreEntered (InBlock l context exit ∷ around) (Acting n resume area ∷ standing) = ⊥
+
+-- ---- how an evaluation comes out: its value on the operands, at a line; a condition, raised at some line of the statement
+
+-- a condition is raised at a line of that context, which goes on at the line resume
+pub record RaisedAt (code : RawCode) (r : RawRoutine) (k behind : ℕ) (spot : Spot) (from : Turned) (c : Entries) (st : State) : Type 0 where
+  pub pc : ℕ
+  pub operands : List Operand
+  pub pending : Option SqlState
+  pub line : CodeLine
+  pub there : line_at r pc ≡ Some line
+  pub context : line.context ≡ k
+  pub resume : line.resume ≡ Some behind
+  pub leads : Leads code from (raised code c (record (machine spot pc operands st) { pending = pending }))
+
+-- the run stops where a turn is due
+pub record Stops (code : RawCode) (from : Turned) : Type 0 where
+  pub last : Machine
+  pub leads : Leads code from (Over ends.NoTurns last)
+
+abbrev pub StopsAs : RawCode → Turned → meaning.Stop → Type 0
+StopsAs code from NoTurns = Stops code from
+StopsAs code from NoHeight = Unit {0}
+StopsAs code from Lacking = Unit {0}
+
+abbrev pub Comes : RawCode → RawRoutine → ℕ → ℕ → Spot → Turned → {A : Type 0} → (A → State → Turned) → meaning.Given A → State → Type 0
+Comes code r context resume spot from to (meaning.Got a) st = Leads code from (to a st) × IsDeep spot st
+Comes code r context resume spot from to (meaning.Raises c) st = RaisedAt code r context resume spot from c st × IsDeep spot st
+Comes code r context resume spot from to (meaning.Ends stop) st = StopsAs code from stop
+
+-- ---- how a statement comes out
+
+-- the tables that the blocks which are left put back
+abbrev pub tables_left : Bool → List Standing → List Contents → List Contents
+tables_left undo [] tables = tables
+tables_left undo (Entered v outer found ∷ standing) tables = tables_left undo standing (put_back undo found tables)
+tables_left undo (Acting n resume area ∷ standing) tables = tables_left undo standing tables
+
+-- LEAVE: the line where the run goes on, and what is entered there
+pub record Spotted : Type 0 where
+  pub line : ℕ
+  pub standing : List Standing
+
+abbrev pub outside : List Standing → List Standing
+outside [] = []
+outside (s ∷ standing) = standing
+
+abbrev pub leaving : List Around → ℕ → List Standing → Option Spotted
+leaving [] level standing = None
+leaving (InLoop l out again ∷ around) level standing = if nat_eq level l then Some (record { line = out; standing = standing }) else leaving around level standing
+leaving (InBlock l context exit ∷ around) level standing = if nat_eq level l then Some (record { line = exit; standing = standing }) else leaving around level (outside standing)
+
+abbrev pub iterating : List Around → ℕ → List Standing → Option Spotted
+iterating [] level standing = None
+iterating (InLoop l out again ∷ around) level standing = if nat_eq level l then Some (record { line = again; standing = standing }) else iterating around level standing
+iterating (InBlock l context exit ∷ around) level standing = iterating around level (outside standing)
+
+abbrev pub ComesTo : RawCode → Spot → Turned → Option Spotted → State → Type 0
+ComesTo code spot from None st = ⊥
+ComesTo code spot from (Some s) st = Leads code from (More (machine (with_standing s.standing spot) s.line [] st))
+
+-- the routine returns the value; the machine has these tables and turns, and success in its area
+pub record Returns (code : RawCode) (spot : Spot) (from : Turned) (d : Datum) (st : State) : Type 0 where
+  pub last : Machine
+  pub tables : last.tables ≡ st.tables
+  pub turns : last.turns ≡ st.turns
+  pub area : last.area ≡ clear
+  pub pending : last.pending ≡ None
+  pub leads : Leads code from (left_values (d ∷ []) spot.callers last)
+
+-- the condition is raised where the routine was called, or ends the run
+abbrev pub raised_outside : RawCode → Entries → List Activation → Machine → Turned
+raised_outside code c [] m = Over (ends.Raised (by_state c)) m
+raised_outside code c (a ∷ callers) m = raised_in code (by_state c) callers (record m { running = a; callers = callers })
+
+pub record LeavesBy (code : RawCode) (spot : Spot) (from : Turned) (c : Entries) (st : State) : Type 0 where
+  pub last : Machine
+  pub tables : last.tables ≡ tables_left true spot.standing st.tables
+  pub turns : last.turns ≡ st.turns
+  pub area : last.area ≡ st.area
+  pub pending : last.pending ≡ None
+  pub leads : Leads code from (raised_outside code c spot.callers last)
+
+-- a handler in the code that stands for one of a block, with its action
+pub record Acts (file : ResolvedFile) (code : RawCode) (routine : ResolvedRoutine) (r : RawRoutine) (outer : List Visible) (v : Visible) (h : ResolvedHandler) (n : ℕ) (coded : Handler) : Type 0 where
+  pub context : ℕ
+  pub last : ℕ
+  pub handler : IsHandler r outer v h n coded context
+  pub action : Stands file code routine r (in_action v context outer) (out-ResolvedHandler h).action coded.pc last
+  pub ends : Plain r last (instruction.EndAction n)
+
+-- EXIT and UNDO: the blocks inside the one of that level are left
+pub record Arrived : Type 0 where
+  pub block : Visible
+  pub outer : List Visible
+  pub found : Option (List Contents)
+  pub standing : List Standing
+  pub tables : List Contents
+
+abbrev pub arriving : Bool → ℕ → List Standing → List Contents → Option Arrived
+arriving undo level [] tables = None
+arriving undo level (Entered v outer found ∷ standing) tables =
+    if nat_eq level v.level then Some (record { block = v; outer = outer; found = found; standing = standing; tables = tables }) else arriving undo level standing (put_back undo found tables)
+arriving undo level (Acting n resume area ∷ standing) tables = arriving undo level standing tables
+
+abbrev pub undone : HandlerKind → Option (List Contents) → List Contents → List Contents
+undone kinds.Continue found tables = tables
+undone kinds.Exit found tables = tables
+undone kinds.Undo found tables = put_back true found tables
+
+abbrev pub goes_on_behind : HandlerKind → Bool
+goes_on_behind kinds.Continue = true
+goes_on_behind kinds.Exit = false
+goes_on_behind kinds.Undo = false
+
+-- the action of the handler begins at its block
+pub record Begins (file : ResolvedFile) (code : RawCode) (routine : ResolvedRoutine) (r : RawRoutine) (spot : Spot) (from : Turned) (h : ResolvedHandler) (a : Arrived) (st : State) : Type 0 where
+  pub number : ℕ
+  pub coded : Handler
+  pub acts : Acts file code routine r a.outer a.block h number coded
+  pub exits : goes_on_behind (out-ResolvedHandler h).kind ≡ false
+  pub leads : Leads code from (More (machine (with_standing (Acting number None st.area ∷ Entered a.block a.outer a.found ∷ a.standing) spot) coded.pc [] (record st { tables = undone (out-ResolvedHandler h).kind a.found a.tables })))
+
+abbrev pub BeginsAt : ResolvedFile → RawCode → ResolvedRoutine → RawRoutine → Spot → Turned → ResolvedHandler → Option Arrived → State → Type 0
+BeginsAt file code routine r spot from h None st = ⊥
+BeginsAt file code routine r spot from h (Some a) st = Begins file code routine r spot from h a st
+
+-- a block of that level is visible
+abbrev pub IsVisible : ℕ → List Visible → Type 0
+IsVisible level [] = ⊥
+IsVisible level (v ∷ visible) = (level ≡ v.level) ⊎ IsVisible level visible
+
+abbrev pub is_raised : Entries → Bool
+is_raised c = is_exception (kind_of c.first.state)
+
+abbrev pub Meets : ResolvedFile → RawCode → ResolvedRoutine → RawRoutine → Env → Spot → Turned → ℕ → Outcome → State → Type 0
+Meets file code routine r env spot from end Normal st = Leads code from (More (machine spot end [] st)) × IsDeep spot st
+Meets file code routine r env spot from end (Leave level) st = ComesTo code spot from (leaving env.around level spot.standing) st × IsDeep spot st
+Meets file code routine r env spot from end (Iterate level) st = ComesTo code spot from (iterating env.around level spot.standing) st × IsDeep spot st
+Meets file code routine r env spot from end (Return d) st = Returns code spot from d st
+Meets file code routine r env spot from end (Raised c) st = LeavesBy code spot from c st
+Meets file code routine r env spot from end (Away level h c) st = BeginsAt file code routine r spot from h (arriving (is_raised c) level spot.standing st.tables) st × IsVisible level env.visible × IsDeep spot st
+Meets file code routine r env spot from end (Stopped stop) st = StopsAs code from stop
+
+-- ---- what is known of the place of a statement
+
+-- a block that has been entered, which those outside it differ from; its exit line, and its handlers in the code
+pub record Entry (file : ResolvedFile) (code : RawCode) (routine : ResolvedRoutine) (r : RawRoutine) (v : Visible) (outer : List Visible) (found : Option (List Contents)) (standing : List Standing) : Type 0 where
+  pub exit : ℕ
+  pub atomic : Bool
+  pub block : block_at r v.context ≡ Some (record { atomic = atomic; exit = exit; cursors = [] })
+  pub reached : ReachAll outer (Entered v outer found ∷ standing)
+  pub handles : Handles file code routine r outer v v.handlers v.coded
+
+abbrev pub AreStanding : ResolvedFile → RawCode → ResolvedRoutine → RawRoutine → List Standing → Type 0
+AreStanding file code routine r [] = Unit {0}
+AreStanding file code routine r (Entered v outer found ∷ standing) = Entry file code routine r v outer found standing × AreStanding file code routine r standing
+AreStanding file code routine r (Acting n resume area ∷ standing) = AreStanding file code routine r standing
+
+-- the handlers of the blocks in scope are those that the search for handlers asks in the code
+abbrev pub AllHandle : ResolvedFile → RawCode → ResolvedRoutine → RawRoutine → List Visible → Type 0
+AllHandle file code routine r [] = Unit {0}
+AllHandle file code routine r (v ∷ outer) = Handles file code routine r outer v v.handlers v.coded × AllHandle file code routine r outer
+
+pub record Fits (file : ResolvedFile) (code : RawCode) (routine : ResolvedRoutine) (r : RawRoutine) (env : Env) (spot : Spot) : Type 0 where
+  pub search : scopes r.handlers env.context ≡ map (λ v. v.coded) env.visible
+  pub handle : AllHandle file code routine r env.visible
+  pub reached : ReachAll env.visible spot.standing
+  pub entered : AreEntered env.around spot.standing
+  pub entries : AreStanding file code routine r spot.standing
