@@ -1,4 +1,5 @@
 pub mod Runs
+pub mod Closing
 pub mod Evaluating
 pub mod Operating
 pub mod Operands
@@ -25,6 +26,8 @@ pub mod SimplesSignal
 pub mod SimplesDiagnostics
 pub mod Answering
 pub mod SimplesInto
+pub mod Moving
+pub mod SimplesCursors
 pub mod SimplesAll
 pub mod Entering
 pub mod Calling
@@ -33,5 +36,6 @@ pub mod Functions
 pub mod SimplesTables
 pub mod SimplesChanging
 pub mod Procedures
+pub mod Rounds
 pub mod Stepping
 pub mod Running

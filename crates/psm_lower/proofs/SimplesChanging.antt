@@ -35,7 +35,7 @@ use Rattle.psm_code.specs.Plans as plans
 use Rattle.psm_code.specs.Rows as code_rows
 use Rattle.psm_code.specs.State.{Turned}
 use Rattle.psm_code.specs.Steps as steps
-use Rattle.psm_lower.specs.Agreement.{Comes, IsDeep, Leads, Spot, areas, machine}
+use Rattle.psm_lower.specs.Agreement.{Comes, IsReady, Leads, Spot, areas, machine}
 use Rattle.psm_lower.specs.Changes.{IsDelete, IsUpdate, PutsRows, SameTable, TablesStand}
 use Rattle.psm_lower.specs.Env.{Env, Raising, place_of}
 use Rattle.psm_lower.specs.Expressions.{IsQuery, stacked}
@@ -139,7 +139,7 @@ evals-put file {code = code} {r = r} {k = k} {behind = behind} {spot = spot} {m 
 }
 
 some-comes : (file : ResolvedFile) (code : RawCode) (r : RawRoutine) (k behind : ℕ) (spot : Spot) (m : Meaning) (pc n : ℕ) → Raising r k behind pc (instruction.Change n) → (table : ℕ) (columns : List ℕ) → SameTable (slice_get file.tables table) (slice_get code.tables table)
-    → (st : State) → IsDeep spot st → (rows : List (List Datum))
+    → (st : State) → IsReady code spot st → (rows : List (List Datum))
     → Comes code r k behind spot (behind_line code (steps.◌>>=◌ (plans.some_rows rows) (plans.put_in code table columns)) (machine spot pc [] st)) (λ u. at_line spot (suc pc) [])
     (acts.◌>>=◌ (meaning.some_rows rows) (meaning.put_in file table columns) m st).given (acts.◌>>=◌ (meaning.some_rows rows) (meaning.put_in file table columns) m st).state
 some-comes file code r k behind spot m pc n l table columns same st d [] = (record { pc = pc; operands = []; pending = None; line = _; there = l.there; context = refl; resume = refl; leads = leads-here }, d)
