@@ -34,6 +34,7 @@ pub mod Calling
 pub mod Returning
 pub mod Functions
 pub mod SimplesTables
+pub mod SimplesPositioned
 pub mod SimplesChanging
 pub mod Procedures
 pub mod Rounds

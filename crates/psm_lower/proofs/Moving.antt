@@ -41,7 +41,7 @@ use Rattle.psm_lower.proofs.Runs.{behind_line, leads-here}
 
 module _ (code : RawCode) (r : RawRoutine) (k behind : ℕ) (spot : Spot) (m : Meaning) (pc : ℕ) (i : Instruction) (l : Raising r k behind pc i) (x : ResolvedCursor) (is : IsCursor r x) (owned : owns spot.standing x.number ≡ true) where
   -- the cursor is set, where the block that declares it is entered
-  deep-set : (c : Cursor) (st : State) → IsReady code spot st → IsReady code spot (with_cursor x.number c st)
+  pub deep-set : (c : Cursor) (st : State) → IsReady code spot st → IsReady code spot (with_cursor x.number c st)
   deep-set c st d = (d.0, others-set (owns spot.standing) st.cursors x.number c owned d.1, all-set (routine_at code spot.number) st.cursors x.number c d.2)
 
   abbrev ComesAs : steps.Act (Unit {0}) → acts.Act (Unit {0}) → State → Type 0

@@ -1,8 +1,9 @@
 -- INSERT, UPDATE and DELETE over their tables: the plan of a line changes a table as the statement does.
-use Rattle.std.proofs.Common.{◌≡◌, ℕ, zero, suc, List, [], map, slice_get, refl, sym, subst, Option, Some, None, option_map, Result, Ok, Err}
+use Rattle.std.proofs.Common.{◌≡◌, ℕ, zero, suc, List, [], map, slice_get, refl, ap, sym, subst, Option, Some, None, option_map, Result, Ok, Err}
 use Rattle.std.proofs.lemmas.Option.{slice_get-map}
 use Rattle.psm_value.specs.declared.datum.Datum.{Datum}
 use Rattle.psm_exprcode.specs.declared.op.Line.{Line}
+use Rattle.psm_exprcode.specs.declared.operand.Operand.{Operand}
 use Rattle.psm_exprcode.specs.declared.set_item.SetItem.{SetItem}
 use Rattle.psm_table.specs.Changing.{Changed, Failure, Raised, OfTable, Schema, deleted, inserted, updated}
 use Rattle.psm_table.specs.Table.{Contents}
@@ -19,16 +20,28 @@ use Rattle.psm_meaning.specs.Data as meaning
 use Rattle.psm_meaning.specs.Rows as trees
 use Rattle.psm_meaning.specs.State.{State}
 use Rattle.psm_code.specs.declared.code.CodeTable.{CodeTable}
+use Rattle.psm_code.specs.declared.code.Plan.{Plan}
 use Rattle.psm_code.specs.declared.code.RawCode.{RawCode}
 use Rattle.psm_code.specs.declared.code.RawRoutine.{RawRoutine}
 use Rattle.psm_code.specs.declared.instruction.Instruction.{Instruction}
+use Rattle.psm_code.specs.declared.instruction.Instruction.TheVariants as instruction
+use Rattle.psm_code.specs.Parts.{routine_at}
 use Rattle.psm_code.specs.Plans as plans
 use Rattle.psm_code.specs.Steps as steps
-use Rattle.psm_lower.specs.Agreement.{Comes, IsReady, Spot, machine}
+use Rattle.psm_lower.specs.Agreement.{Comes, IsReady, Leads, Spot, machine}
 use Rattle.psm_lower.specs.Changes.{IsDelete, IsUpdate, SameTable, TableStands}
 use Rattle.psm_lower.specs.Env.{Raising}
 use Rattle.psm_lower.proofs.Doing.{at_line}
-use Rattle.psm_lower.proofs.Runs.{behind_line, leads-here}
+use Rattle.psm_lower.proofs.Runs.{behind_line, leads-here, leads-line, leads-same}
+
+-- ---- the plan of a line
+
+abbrev planned : RawCode → RawRoutine → Option Plan → steps.Act (Unit {0})
+planned code r x = steps.◌>>=◌ (steps.present x) (plans.done code r)
+
+pub leads-plan : {code : RawCode} {r : RawRoutine} (spot : Spot) {k behind pc n : ℕ} → routine_at code spot.number ≡ Some r → Raising r k behind pc (instruction.Change n) → (p : Plan) → slice_get r.plans n ≡ Some p → (os : List Operand) (st : State)
+    → Leads code (at_line spot pc os st) (behind_line code (plans.done code r p) (machine spot pc os st))
+leads-plan {code = code} {r = r} spot {pc = pc} at l p there os st = leads-same (leads-line at l.there) (ap (λ x. behind_line code (planned code r x) (machine spot pc os st)) there)
 
 -- ---- what the plan and the statement do with a table
 
@@ -56,11 +69,19 @@ module _ (code : RawCode) (r : RawRoutine) (k behind : ℕ) (spot : Spot) (m : M
 
   -- ---- the changed rows, or why nothing is changed
 
-  failed-comes : (thens : Changed → steps.Act (Unit {0})) (means : Changed → Act (Unit {0})) → ((st : State) → IsReady code spot st → (c : Changed) → Agrees (thens c) (means c) st)
-      → (st : State) → IsReady code spot st → (def : TableDef) (x : Result Changed Failure) → Agrees (steps.◌>>=◌ (plans.unless_failed def x) thens) (acts.◌>>=◌ (meaning.unless_failed def x) means) st
-  failed-comes thens means h st d def (Ok c) = h st d c
+  failed-comes : {A : Type 0} (thens : A → steps.Act (Unit {0})) (means : A → Act (Unit {0})) → ((st : State) → IsReady code spot st → (a : A) → Agrees (thens a) (means a) st)
+      → (st : State) → IsReady code spot st → (def : TableDef) (x : Result A Failure) → Agrees (steps.◌>>=◌ (plans.unless_failed def x) thens) (acts.◌>>=◌ (meaning.unless_failed def x) means) st
+  failed-comes thens means h st d def (Ok a) = h st d a
   failed-comes thens means h st d def (Err (Raised s)) = (record { pc = pc; operands = []; pending = None; line = _; there = l.there; context = refl; resume = refl; leads = leads-here }, d)
   failed-comes thens means h st d def (Err (OfTable s)) = (record { pc = pc; operands = []; pending = None; line = _; there = l.there; context = refl; resume = refl; leads = leads-here }, d)
+
+  -- the same result, under a definition that is the same
+  pub same-comes : {A : Type 0} (thens : A → steps.Act (Unit {0})) (means : A → Act (Unit {0})) → ((st : State) → IsReady code spot st → (a : A) → Agrees (thens a) (means a) st)
+      → (st : State) → IsReady code spot st → (own def : TableDef) → own ≡ def → (coded meant : Result A Failure) → coded ≡ meant → Agrees (steps.◌>>=◌ (plans.unless_failed own coded) thens) (acts.◌>>=◌ (meaning.unless_failed def meant) means) st
+  same-comes thens means h st d own def e coded meant same =
+      subst (λ q. Agrees (steps.◌>>=◌ (plans.unless_failed q coded) thens) (acts.◌>>=◌ (meaning.unless_failed def meant) means) st) (sym e)
+      (subst (λ q. Agrees (steps.◌>>=◌ (plans.unless_failed def q) thens) (acts.◌>>=◌ (meaning.unless_failed def meant) means) st) (sym same)
+      (failed-comes thens means h st d def meant))
 
   counted-comes : (table : ℕ) (t : Contents) (rows : List (List Datum)) (st : State) → IsReady code spot st → (count : ℕ)
       → Agrees (steps.◌>>◌ (plans.leaves table t rows count) (plans.some_row count)) (acts.◌>>◌ (meaning.leaves table t rows count) (meaning.some_row count)) st
@@ -69,7 +90,7 @@ module _ (code : RawCode) (r : RawRoutine) (k behind : ℕ) (spot : Spot) (m : M
 
   -- ---- the table
 
-  found-comes : (coded : Contents → steps.Act (Unit {0})) (meant : Contents → Act (Unit {0})) → (st : State) → IsReady code spot st → ((c : Contents) → Agrees (coded c) (meant c) st) → (x : Option Contents)
+  pub found-comes : (coded : Contents → steps.Act (Unit {0})) (meant : Contents → Act (Unit {0})) → (st : State) → IsReady code spot st → ((c : Contents) → Agrees (coded c) (meant c) st) → (x : Option Contents)
       → Agrees (steps.◌>>=◌ (steps.present x) coded) (acts.◌>>=◌ (acts.present x) meant) st
   found-comes coded meant st d h None = tt
   found-comes coded meant st d h (Some c) = h c
@@ -82,7 +103,7 @@ module _ (code : RawCode) (r : RawRoutine) (k behind : ℕ) (spot : Spot) (m : M
   schema-comes table coded meant st d (Some x) None s h = absurd s
   schema-comes table coded meant st d (Some x) (Some y) s h = found-comes (coded (plans.schema_of y)) (meant (meaning.schema_of x)) st d (h x y refl refl s) (slice_get st.tables table)
 
-  table-comes : (file : ResolvedFile) (table : ℕ) (coded : Coded) (meant : Meant) (st : State) → IsReady code spot st → SameTable (slice_get file.tables table) (slice_get code.tables table)
+  pub table-comes : (file : ResolvedFile) (table : ℕ) (coded : Coded) (meant : Meant) (st : State) → IsReady code spot st → SameTable (slice_get file.tables table) (slice_get code.tables table)
       → ((x : ResolvedTable) (y : CodeTable) → slice_get file.tables table ≡ Some x → slice_get code.tables table ≡ Some y → TableStands x y → (c : Contents) → Agrees (coded (plans.schema_of y) c) (meant (meaning.schema_of x) c) st)
       → Agrees (coded_over table coded (slice_get (map plans.schema_of code.tables) table)) (meant_over table meant (slice_get (map meaning.schema_of file.tables) table)) st
   table-comes file table coded meant st d s h =
@@ -133,9 +154,7 @@ module _ (code : RawCode) (r : RawRoutine) (k behind : ℕ) (spot : Spot) (m : M
   changed-comes table t st d own def e coded meant same =
       let thens : Changed → steps.Act (Unit {0}) = λ c. steps.◌>>◌ (plans.leaves table t c.rows c.count) (plans.some_row c.count) in
       let means : Changed → Act (Unit {0}) = λ c. acts.◌>>◌ (meaning.leaves table t c.rows c.count) (meaning.some_row c.count) in
-      subst (λ q. Agrees (steps.◌>>=◌ (plans.unless_failed q coded) thens) (acts.◌>>=◌ (meaning.unless_failed def meant) means) st) (sym e)
-      (subst (λ q. Agrees (steps.◌>>=◌ (plans.unless_failed def q) thens) (acts.◌>>=◌ (meaning.unless_failed def meant) means) st) (sym same)
-      (failed-comes thens means (λ st d c. counted-comes table t c.rows st d c.count) st d def meant))
+      same-comes thens means (λ st d c. counted-comes table t c.rows st d c.count) st d own def e coded meant same
 
   pub update-comes : (file : ResolvedFile) (table : ℕ) → SameTable (slice_get file.tables table) (slice_get code.tables table) → (sets : List ResolvedSet) (test : Option ResolvedExpr) (coded : List SetItem) (coded_test : Option (List Line))
       → IsUpdate file code table sets test coded coded_test → (st : State) → IsReady code spot st → Agrees (plans.update_rows code table coded coded_test) (meaning.update_rows file table sets test) st
