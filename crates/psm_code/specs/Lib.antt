@@ -13,3 +13,4 @@ pub mod Rules
 pub mod TableRules
 pub mod PlanRules
 pub mod RoutineRules
+pub mod Sits

@@ -284,6 +284,27 @@ constant_fits i = true
 abbrev pub stack_follows : RawCode → RawRoutine → ℕ → CodeLine → Bool
 stack_follows code r at l = constant_fits l.instruction && some_value (λ k. some_letter (λ x. follows_with r at (reverse l.stack) (instruction_effect code r l.instruction k x)))
 
+-- no operand stands before these
+abbrev pub stands_alone : Instruction → Bool
+stands_alone instruction.Clear = true
+stands_alone instruction.Warn = true
+stands_alone instruction.Turn = true
+stands_alone (instruction.Enter k) = true
+stands_alone (instruction.Exit k) = true
+stands_alone (instruction.EndAction n) = true
+stands_alone instruction.End = true
+stands_alone instruction.NoReturn = true
+stands_alone (instruction.Open c) = true
+stands_alone (instruction.Close c) = true
+stands_alone (instruction.Signal n) = true
+stands_alone instruction.Resignal = true
+stands_alone (instruction.ResignalCondition n) = true
+stands_alone instruction.NoCase = true
+stands_alone i = false
+
+abbrev pub is_bare : CodeLine → Bool
+is_bare l = not (stands_alone l.instruction) || not (is_some l.stack)
+
 -- ---- contexts
 
 abbrev pub is_in : ℕ → Option CodeLine → Bool
@@ -355,7 +376,7 @@ abbrev pub line_fault : RawCode → RawRoutine → ℕ → CodeLine → Option C
 line_fault code r at l = first_of (
     unless (context_there r l.context && names_there code r l.instruction) Range
     ∷ unless (are_targets code r at l) Target
-    ∷ unless (stack_follows code r at l) Stack
+    ∷ unless (is_bare l && stack_follows code r at l) Stack
     ∷ unless (is_first_right at l && (stands_right r l l.instruction && contexts_follow code r at l)) Context
     ∷ unless (resumes_right r at l) Resume
     ∷ unless (where_there (jump_of l.instruction) (uses_turn r at)) Turn

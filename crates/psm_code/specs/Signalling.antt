@@ -15,7 +15,7 @@ use Rattle.psm_cond.specs.declared.item.ConditionItem.{ConditionItem}
 use Rattle.psm_cond.specs.declared.item.StatementItem.{StatementItem}
 use Rattle.psm_code.specs.declared.code.RawRoutine.{RawRoutine}
 use Rattle.psm_code.specs.State.{Frame, InBlock, InAction, Lacking}
-use Rattle.psm_code.specs.Steps.{Act, got, raises, ends, of_state, pop, present, put_value, read, ◌>>=◌, ◌>>◌}
+use Rattle.psm_code.specs.Steps.{Act, got, raises, ends, of_state, pop, present, put_value, read, ◌>>=◌}
 
 -- ---- the condition that is signalled
 

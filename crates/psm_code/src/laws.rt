@@ -1,10 +1,14 @@
 //! Laws of code and of its runs.
-ghost use Rattle.std.specs.Prelude.{◌≡◌, ℕ, List, [], None};
+ghost use Rattle.std.specs.Prelude.{◌≡◌, ℕ, List, [], length, IsTrue, Some, None};
 ghost use Rattle.psm_value.specs.declared.datum.Datum.{Datum};
 ghost use Rattle.psm_table.specs.Table.{Contents};
 ghost use Rattle.psm_code.specs.declared.code.RawCode.{RawCode};
+ghost use Rattle.psm_code.specs.declared.code.RawRoutine.{RawRoutine};
+ghost use Rattle.psm_code.specs.Calling.{started};
+ghost use Rattle.psm_code.specs.Parts.{routine_at, taking};
 ghost use Rattle.psm_code.specs.RoutineRules.{first_fault};
-ghost use Rattle.psm_code.specs.Rows.{Ran};
+ghost use Rattle.psm_code.specs.Rows.{row, Ran};
+ghost use Rattle.psm_code.specs.Sits.{is_due, AreKept, Sits, StaysRight};
 ghost use Rattle.psm_code.specs.State.{End, Machine};
 
 /// A run of a routine has one end at most, and one machine at that end.
@@ -15,4 +19,13 @@ pub fn runs_have_one_end()
 /// Code without tables and routines breaks no rule.
 pub fn empty_code_is_right()
     ensures { first_fault (record { tables = []; routines = [] }) ≡ None }
+{}
+
+/// Code that breaks no rule lacks nothing: no instruction names what isn't there, and none finds other operands than it takes. What
+/// is always true of a machine is true where a run begins, and each row keeps it. So a run that comes to an end ends with values,
+/// with an exception or for want of turns, and its tables are legal then. The arguments need not be of the parameters' types: where one can't be stored, that is the run's exception.
+pub fn right_code_lacks_nothing()
+    ensures kept { (code : RawCode) → first_fault code ≡ None → (m : Machine) → Sits code m → StaysRight code (row code m) }
+    ensures start { (code : RawCode) → first_fault code ≡ None → (routine : ℕ) (r : RawRoutine) → routine_at code routine ≡ Some r → (args : List Datum) (tables : List Contents) (turns : ℕ) → length args ≡ length (taking r.parameters) → AreKept code.tables tables → StaysRight code (started code routine args tables turns) }
+    ensures run { (code : RawCode) → first_fault code ≡ None → (routine : ℕ) (r : RawRoutine) → routine_at code routine ≡ Some r → (args : List Datum) (tables : List Contents) (turns : ℕ) → length args ≡ length (taking r.parameters) → AreKept code.tables tables → (e : End) (last : Machine) → Ran code routine args tables turns e last → IsTrue (is_due e) × AreKept code.tables last.tables }
 {}

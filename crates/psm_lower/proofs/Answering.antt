@@ -18,7 +18,7 @@ use Rattle.psm_code.specs.declared.instruction.Instruction.{Instruction}
 use Rattle.psm_code.specs.Querying.{answer_of}
 use Rattle.psm_code.specs.State.{Turned}
 use Rattle.psm_code.specs.Steps as steps
-use Rattle.psm_lower.specs.Agreement.{Comes, IsDeep, Spot, machine}
+use Rattle.psm_lower.specs.Agreement.{Comes, IsReady, Spot, machine}
 use Rattle.psm_lower.specs.Env.{Raising}
 use Rattle.psm_lower.specs.Expressions.{IsQuery}
 use Rattle.psm_lower.proofs.Runs.{behind_line, leads-here}
@@ -51,21 +51,21 @@ tree_answers query vars rows = answer (trees.over vars) (trees.query_of query) r
 module _ (code : RawCode) (r : RawRoutine) (k behind : ℕ) (spot : Spot) (m : Meaning) (pc : ℕ) (i : Instruction) (l : Raising r k behind pc i) (below : List Operand) (A : Type 0) (to : A → State → Turned) where
   -- what the line does with the answer agrees with what is meant
   abbrev pub TakesAs : Takes → Means A → Type 0
-  TakesAs takes means = (st : State) → IsDeep spot st → (a : Answer) → Comes code r k behind spot (behind_line code (takes a) (machine spot pc below st)) to (means a m st).given (means a m st).state
+  TakesAs takes means = (st : State) → IsReady code spot st → (a : Answer) → Comes code r k behind spot (behind_line code (takes a) (machine spot pc below st)) to (means a m st).given (means a m st).state
 
-  comes-tried : (takes : Takes) (means : Means A) → TakesAs takes means → (st : State) → IsDeep spot st → (a : Result Answer SqlState)
+  comes-tried : (takes : Takes) (means : Means A) → TakesAs takes means → (st : State) → IsReady code spot st → (a : Result Answer SqlState)
       → Comes code r k behind spot (behind_line code (steps.◌>>=◌ (steps.tried a) takes) (machine spot pc below st)) to (acts.◌>>=◌ (acts.tried a) means m st).given (acts.◌>>=◌ (acts.tried a) means m st).state
   comes-tried takes means h st d (Ok a) = h st d a
   comes-tried takes means h st d (Err s) = (record { pc = pc; operands = below; pending = None; line = _; there = l.there; context = refl; resume = refl; leads = leads-here }, d)
 
-  comes-answered : (takes : Takes) (means : Means A) → TakesAs takes means → (answers meanings : Answers) → ((vars : List Datum) (rows : List (List Datum)) → answers vars rows ≡ meanings vars rows) → (st : State) → IsDeep spot st → (t : Option Contents)
+  comes-answered : (takes : Takes) (means : Means A) → TakesAs takes means → (answers meanings : Answers) → ((vars : List Datum) (rows : List (List Datum)) → answers vars rows ≡ meanings vars rows) → (st : State) → IsReady code spot st → (t : Option Contents)
       → Comes code r k behind spot (behind_line code (answered takes answers t) (machine spot pc below st)) to (meant means meanings t m st).given (meant means meanings t m st).state
   comes-answered takes means h answers meanings e st d None = tt
   comes-answered takes means h answers meanings e st d (Some c) =
       subst (λ a. Comes code r k behind spot (behind_line code (steps.◌>>=◌ (steps.tried a) takes) (machine spot pc below st)) to (meant means meanings (Some c) m st).given (meant means meanings (Some c) m st).state)
       (sym (e st.variables c.rows)) (comes-tried takes means h st d (meanings st.variables c.rows))
 
-  pub comes-asked : (takes : Takes) (means : Means A) → TakesAs takes means → (n : ℕ) (query : ResolvedQuery) → IsQuery r n query → (st : State) → IsDeep spot st
+  pub comes-asked : (takes : Takes) (means : Means A) → TakesAs takes means → (n : ℕ) (query : ResolvedQuery) → IsQuery r n query → (st : State) → IsReady code spot st
       → Comes code r k behind spot (behind_line code (asking takes (slice_get r.queries n)) (machine spot pc below st)) to (acts.◌>>=◌ (trees.answer_of query) means m st).given (acts.◌>>=◌ (trees.answer_of query) means m st).state
   comes-asked takes means h n query q st d =
       let given = (acts.◌>>=◌ (trees.answer_of query) means m st).given in

@@ -18,7 +18,7 @@ use Rattle.psm_code.specs.Parts.{routine_at}
 use Rattle.psm_code.specs.Querying.{is_any, scalar_of}
 use Rattle.psm_code.specs.State.{More}
 use Rattle.psm_code.specs.Steps as steps
-use Rattle.psm_lower.specs.Agreement.{Comes, IsDeep, Spot, machine}
+use Rattle.psm_lower.specs.Agreement.{Comes, IsReady, Spot, machine}
 use Rattle.psm_lower.specs.Env.{Raising}
 use Rattle.psm_lower.specs.Expressions.{IsQuery}
 use Rattle.psm_lower.proofs.Answering.{Means, Takes, comes-asked}
@@ -36,7 +36,7 @@ of_rows means a = means a.rows
 
 module _ (code : RawCode) (r : RawRoutine) (k behind : ℕ) (spot : Spot) (m : Meaning) (pc : ℕ) (i : Instruction) (l : Raising r k behind pc i) (below : List Operand) where
   abbrev RowsAs : (List (List Datum) → steps.Act (Unit {0})) → (List (List Datum) → acts.Act Operand) → Type 0
-  RowsAs takes means = (st : State) → IsDeep spot st → (rows : List (List Datum))
+  RowsAs takes means = (st : State) → IsReady code spot st → (rows : List (List Datum))
       → Comes code r k behind spot (behind_line code (takes rows) (machine spot pc below st)) (λ x st. More (machine spot (suc pc) (x ∷ below) st)) (means rows m st).given (means rows m st).state
 
   scalar-takes : RowsAs scalar_of meant.scalar

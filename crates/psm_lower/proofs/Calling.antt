@@ -22,7 +22,7 @@ use Rattle.psm_code.specs.Raising.{raised}
 use Rattle.psm_code.specs.Rows.{Way, call_from, here, settled}
 use Rattle.psm_code.specs.State.{Activation, Machine, Turned, More}
 use Rattle.psm_code.specs.Steps as steps
-use Rattle.psm_lower.specs.Agreement.{Comes, IsDeep, RaisedAt, Spot, machine}
+use Rattle.psm_lower.specs.Agreement.{Comes, IsReady, RaisedAt, Spot, machine}
 use Rattle.psm_lower.specs.Expressions.{Takes, stacked}
 use Rattle.psm_lower.specs.Simulation.{RoutineStands, parameter_of}
 use Rattle.psm_lower.proofs.Entering.{Gives, entered-same, filled-same, given_as, pops-stacked, wants-as_many}
@@ -45,17 +45,17 @@ module _ (code : RawCode) (r : RawRoutine) (k behind : ℕ) (spot : Spot) (m : M
   raises-here c st = record { pc = pc; operands = below; pending = None; line = line; there = there; context = context; resume = resume; leads = leads-here }
 
   -- a part that leaves the state as it is, with others behind it
-  given-rests : {A C D B : Type 0} (g : Given A) (state : State) (st : State) (to : B → State → Turned) (mgo : A → steps.Act C) (way : C → steps.Act Way) (go : A → Act D) (out : D → Act B) → state ≡ st → IsDeep spot st
+  given-rests : {A C D B : Type 0} (g : Given A) (state : State) (st : State) (to : B → State → Turned) (mgo : A → steps.Act C) (way : C → steps.Act Way) (go : A → Act D) (out : D → Act B) → state ≡ st → IsReady code spot st
       → ((a : A) → Rests code r k behind spot (steps.◌>>=◌ (mgo a) way (machine spot pc below st)) to (meaning.◌>>=◌ (go a) out m st).given (meaning.◌>>=◌ (go a) out m st).state)
       → Rests code r k behind spot (steps.go_on (steps.go_on (given_as g) mgo (machine spot pc below st)).given way (steps.go_on (given_as g) mgo (machine spot pc below st)).machine) to
       (meaning.go_on (meaning.go_on g go m state).given out m (meaning.go_on g go m state).state).given (meaning.go_on (meaning.go_on g go m state).given out m (meaning.go_on g go m state).state).state
   given-rests (Got a) state st to mgo way go out e d h = subst (λ s. Rests code r k behind spot (steps.◌>>=◌ (mgo a) way (machine spot pc below st)) to (meaning.◌>>=◌ (go a) out m s).given (meaning.◌>>=◌ (go a) out m s).state) (sym e) (h a)
-  given-rests (Raises c) state st to mgo way go out e d h = subst (λ s. RaisedAt code r k behind spot (raised code c (machine spot pc below st)) c s × IsDeep spot s) (sym e) (raises-here c st, d)
+  given-rests (Raises c) state st to mgo way go out e d h = subst (λ s. RaisedAt code r k behind spot (raised code c (machine spot pc below st)) c s × IsReady code spot s) (sym e) (raises-here c st, d)
   given-rests (Ends NoTurns) state st to mgo way go out e d h = record { last = machine spot pc below st; leads = leads-here }
   given-rests (Ends NoHeight) state st to mgo way go out e d h = tt
   given-rests (Ends Lacking) state st to mgo way go out e d h = tt
 
-  rests-part : {A C D B : Type 0} (act : Act A) (mact : steps.Act A) (st : State) (to : B → State → Turned) (mgo : A → steps.Act C) (way : C → steps.Act Way) (go : A → Act D) (out : D → Act B) → Gives (act m st) (mact (machine spot pc below st)) st (machine spot pc below st) → IsDeep spot st
+  rests-part : {A C D B : Type 0} (act : Act A) (mact : steps.Act A) (st : State) (to : B → State → Turned) (mgo : A → steps.Act C) (way : C → steps.Act Way) (go : A → Act D) (out : D → Act B) → Gives (act m st) (mact (machine spot pc below st)) st (machine spot pc below st) → IsReady code spot st
       → ((a : A) → Rests code r k behind spot (steps.◌>>=◌ (mgo a) way (machine spot pc below st)) to (meaning.◌>>=◌ (go a) out m st).given (meaning.◌>>=◌ (go a) out m st).state)
       → Rests code r k behind spot (steps.◌>>=◌ (steps.◌>>=◌ mact mgo) way (machine spot pc below st)) to (meaning.◌>>=◌ (meaning.◌>>=◌ act go) out m st).given (meaning.◌>>=◌ (meaning.◌>>=◌ act go) out m st).state
   rests-part act mact st to mgo way go out g d h =
@@ -68,13 +68,13 @@ module _ (code : RawCode) (r : RawRoutine) (k behind : ℕ) (spot : Spot) (m : M
   bounds true st = record { same = refl; stays = refl }
   bounds false st = record { same = refl; stays = refl }
 
-  gives-bounded : (st : State) → IsDeep spot st → Gives (bounded m st) (coded.bounded (machine spot pc below st)) st (machine spot pc below st)
+  gives-bounded : (st : State) → IsReady code spot st → Gives (bounded m st) (coded.bounded (machine spot pc below st)) st (machine spot pc below st)
   gives-bounded st d =
-      subst (λ n. Gives ((if nat_lt n most_depth then meaning.got {A = Unit {0}} tt else meaning.raises (of_state (codes "X0001"))) m st) (coded.bounded (machine spot pc below st)) st (machine spot pc below st)) (sym d) (bounds (nat_lt (suc (length spot.callers)) most_depth) st)
+      subst (λ n. Gives ((if nat_lt n most_depth then meaning.got {A = Unit {0}} tt else meaning.raises (of_state (codes "X0001"))) m st) (coded.bounded (machine spot pc below st)) st (machine spot pc below st)) (sym d.0) (bounds (nat_lt (suc (length spot.callers)) most_depth) st)
 
   -- ---- a turn, and then the routine
 
-  rests-turn : {D B : Type 0} (t : ℕ) (st : State) (to : B → State → Turned) (f : Machine → Machine) (go : Act D) (out : D → Act B) → IsDeep spot st
+  rests-turn : {D B : Type 0} (t : ℕ) (st : State) (to : B → State → Turned) (f : Machine → Machine) (go : Act D) (out : D → Act B) → IsReady code spot st
       → ((left : ℕ) → Comes code r k behind spot (More (f (machine spot pc below (record st { turns = left })))) to (meaning.◌>>=◌ go out m (record st { turns = left })).given (meaning.◌>>=◌ go out m (record st { turns = left })).state)
       → Rests code r k behind spot (steps.go_on (steps.go_on (steps.spent t (machine spot pc below st)).given (λ u. steps.change f) (steps.spent t (machine spot pc below st)).machine).given (λ u. steps.got here)
       (steps.go_on (steps.spent t (machine spot pc below st)).given (λ u. steps.change f) (steps.spent t (machine spot pc below st)).machine).machine)
@@ -90,8 +90,8 @@ module _ (code : RawCode) (r : RawRoutine) (k behind : ℕ) (spot : Spot) (m : M
   then_run routine ps = meaning.◌>>=◌ bounded (λ u. meaning.◌>>=◌ meaning.turn (λ v. apart (run_body routine ps)))
 
   -- the arguments are stored, and the body begins, with a turn used
-  entered-rests : (n : ℕ) (file : ResolvedFile) (callee : RawRoutine) (routine : ResolvedRoutine) → RoutineStands file code routine callee → (args : List Datum) (st : State) → IsDeep spot st → {B : Type 0} (to : B → State → Turned) (out : Ended → Act B)
-      → ((parameters : List Datum) (now : State) → IsDeep spot now → Comes code r k behind spot (More (machine (within spot n pc below now) 0 [] (begun routine parameters now))) to (meaning.◌>>=◌ (apart (run_body routine parameters)) out m now).given (meaning.◌>>=◌ (apart (run_body routine parameters)) out m now).state)
+  entered-rests : (n : ℕ) (file : ResolvedFile) (callee : RawRoutine) (routine : ResolvedRoutine) → RoutineStands file code routine callee → (args : List Datum) (st : State) → IsReady code spot st → {B : Type 0} (to : B → State → Turned) (out : Ended → Act B)
+      → ((parameters : List Datum) (now : State) → IsReady code spot now → Comes code r k behind spot (More (machine (within spot n pc below now) 0 [] (begun routine parameters now))) to (meaning.◌>>=◌ (apart (run_body routine parameters)) out m now).given (meaning.◌>>=◌ (apart (run_body routine parameters)) out m now).state)
       → Rests code r k behind spot (steps.◌>>=◌ (steps.◌>>=◌ (coded.entered callee.parameters args) (after_entry n callee)) (λ u. steps.got here) (machine spot pc below st)) to (meaning.◌>>=◌ (activated routine args) out m st).given (meaning.◌>>=◌ (activated routine args) out m st).state
   entered-rests n file callee routine stands args st d to out h =
       subst (λ qs. Rests code r k behind spot (steps.◌>>=◌ (steps.◌>>=◌ (coded.entered qs args) (after_entry n callee)) (λ u. steps.got here) (machine spot pc below st)) to (meaning.◌>>=◌ (activated routine args) out m st).given (meaning.◌>>=◌ (activated routine args) out m st).state) (sym stands.parameters)
@@ -106,8 +106,8 @@ module _ (code : RawCode) (r : RawRoutine) (k behind : ℕ) (spot : Spot) (m : M
       subst (λ t. Comes code r k behind spot t to (meaning.◌>>=◌ (apart (run_body routine ps)) out m now).given (meaning.◌>>=◌ (apart (run_body routine ps)) out m now).state) (sym begins) (h ps now d)))))
 
   -- the instruction, with its arguments on the operands
-  pub call-rests : (n : ℕ) (file : ResolvedFile) (callee : RawRoutine) (routine : ResolvedRoutine) → routine_at code n ≡ Some callee → RoutineStands file code routine callee → (args : List Datum) → Takes (length args) (Some routine) → (st : State) → IsDeep spot st → {B : Type 0} (to : B → State → Turned) (out : Ended → Act B)
-      → ((parameters : List Datum) (now : State) → IsDeep spot now → Comes code r k behind spot (More (machine (within spot n pc below now) 0 [] (begun routine parameters now))) to (meaning.◌>>=◌ (apart (run_body routine parameters)) out m now).given (meaning.◌>>=◌ (apart (run_body routine parameters)) out m now).state)
+  pub call-rests : (n : ℕ) (file : ResolvedFile) (callee : RawRoutine) (routine : ResolvedRoutine) → routine_at code n ≡ Some callee → RoutineStands file code routine callee → (args : List Datum) → Takes (length args) (Some routine) → (st : State) → IsReady code spot st → {B : Type 0} (to : B → State → Turned) (out : Ended → Act B)
+      → ((parameters : List Datum) (now : State) → IsReady code spot now → Comes code r k behind spot (More (machine (within spot n pc below now) 0 [] (begun routine parameters now))) to (meaning.◌>>=◌ (apart (run_body routine parameters)) out m now).given (meaning.◌>>=◌ (apart (run_body routine parameters)) out m now).state)
       → Rests code r k behind spot (call_from code n (machine spot pc (stacked args below) st)) to (meaning.◌>>=◌ (activated routine args) out m st).given (meaning.◌>>=◌ (activated routine args) out m st).state
   call-rests n file callee routine at stands args count st d to out h =
       let at_call : Machine = machine spot pc (stacked args below) st in

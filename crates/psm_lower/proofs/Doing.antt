@@ -21,7 +21,7 @@ use Rattle.psm_exprcode.specs.Applied.{Went}
 use Rattle.psm_exprcode.specs.declared.operand.Next.TheVariants.{Ahead, Jump}
 use Rattle.psm_code.specs.State.{Turned, More}
 use Rattle.psm_code.specs.Steps as steps
-use Rattle.psm_lower.specs.Agreement.{Comes, Fits, IsDeep, Leads, Meets, Spot, areas, machine}
+use Rattle.psm_lower.specs.Agreement.{Comes, Fits, IsReady, Leads, Meets, Spot, areas, machine}
 use Rattle.psm_lower.specs.Env.{Env, Plain, Raising, place_of}
 use Rattle.psm_lower.specs.Scheme.{StandAll, Stands, more, none}
 use Rattle.psm_lower.specs.Simulation.{Evals, RoutineStands, Simulates}
@@ -38,7 +38,7 @@ pub record Site (file : ResolvedFile) (code : RawCode) (routine : ResolvedRoutin
 
 -- what is done comes out as a run from each state does
 pub record Does (file : ResolvedFile) (code : RawCode) (routine : ResolvedRoutine) (r : RawRoutine) (m : Meaning) (env : Env) (spot : Spot) (end : ℕ) (deed : Deed) (from : State → Turned) : Type 0 where
-  pub by : (st : State) → IsDeep spot st → Meets file code routine r env spot (from st) end (deed m st).outcome (deed m st).state
+  pub by : (st : State) → IsReady code spot st → Meets file code routine r env spot (from st) end (deed m st).outcome (deed m st).state
 
 -- the machine at a line with these operands
 abbrev pub at_line : Spot → ℕ → List Operand → State → Turned
@@ -113,7 +113,7 @@ leads-plain-jump spot p l os st = leads-line p l.there
 
 -- ---- turns
 
-spent-meets : (file : ResolvedFile) (code : RawCode) (routine : ResolvedRoutine) (r : RawRoutine) (m : Meaning) (env : Env) (spot : Spot) (pc end : ℕ) (from : Turned) (deed : Deed) → Does file code routine r m env spot end deed (at_line spot (suc pc) []) → (st : State) → IsDeep spot st
+spent-meets : (file : ResolvedFile) (code : RawCode) (routine : ResolvedRoutine) (r : RawRoutine) (m : Meaning) (env : Env) (spot : Spot) (pc end : ℕ) (from : Turned) (deed : Deed) → Does file code routine r m env spot end deed (at_line spot (suc pc) []) → (st : State) → IsReady code spot st
     → (t : ℕ) → Leads code from (code_rows.settled code (steps.go_on (steps.spent t (machine spot pc [] st)).given (λ u. steps.got ahead) (steps.spent t (machine spot pc [] st)).machine).given (steps.go_on (steps.spent t (machine spot pc [] st)).given (λ u. steps.got ahead) (steps.spent t (machine spot pc [] st)).machine).machine)
     → Meets file code routine r env spot from end (spending t deed m st).outcome (spending t deed m st).state
 spent-meets file code routine r m env spot pc end from deed h st d zero l = record { last = machine spot pc [] st; leads = l }
@@ -128,7 +128,7 @@ does-turn {file = file} {code = code} {routine = routine} {r = r} {m = m} {env =
 -- ---- tests
 
 tested : (file : ResolvedFile) (code : RawCode) (routine : ResolvedRoutine) (r : RawRoutine) (m : Meaning) (env : Env) (spot : Spot) (end next target : ℕ) (below : List Operand) (holds fails : Deed) → Does file code routine r m env spot end holds (at_line spot next below) → Does file code routine r m env spot end fails (at_line spot target below)
-    → (st : State) → IsDeep spot st → (b : Bool) (from : Turned) → Leads code from (if b then at_line spot next below st else at_line spot target below st)
+    → (st : State) → IsReady code spot st → (b : Bool) (from : Turned) → Leads code from (if b then at_line spot next below st else at_line spot target below st)
     → Meets file code routine r env spot from end ((if b then holds else fails) m st).outcome ((if b then holds else fails) m st).state
 tested file code routine r m env spot end next target below holds fails h k st d true from l = meets-from file code routine r env spot end l (holds m st).outcome (holds m st).state (h.by st d)
 tested file code routine r m env spot end next target below holds fails h k st d false from l = meets-from file code routine r env spot end l (fails m st).outcome (fails m st).state (k.by st d)

@@ -14,7 +14,7 @@ use Rattle.psm_code.specs.declared.instruction.Instruction.TheVariants as instru
 use Rattle.psm_code.specs.Parts.{routine_at}
 use Rattle.psm_code.specs.Rows.{applied_as, settled}
 use Rattle.psm_code.specs.State.{Turned, More}
-use Rattle.psm_lower.specs.Agreement.{Comes, IsDeep, Leads, RaisedAt, Spot, StopsAs, machine}
+use Rattle.psm_lower.specs.Agreement.{Comes, IsReady, Leads, RaisedAt, Spot, StopsAs, machine}
 use Rattle.psm_lower.specs.Env.{Raising}
 use Rattle.psm_lower.specs.Simulation.{Evals}
 use Rattle.psm_lower.proofs.Runs.{leads-here, leads-line, leads-to}
@@ -66,7 +66,7 @@ given_of (Went (Jump p) os) = Ends Lacking
 given_of (op.Raised s) = Raises (of_state s)
 given_of op.Lacking = Ends Lacking
 
-came-applied : (code : RawCode) (r : RawRoutine) (k behind : ℕ) (spot : Spot) (pc : ℕ) (o : Op) (os : List Operand) (st : State) → Raising r k behind pc (instruction.Operation o) → IsDeep spot st → (a : Applied)
+came-applied : (code : RawCode) (r : RawRoutine) (k behind : ℕ) (spot : Spot) (pc : ℕ) (o : Op) (os : List Operand) (st : State) → Raising r k behind pc (instruction.Operation o) → IsReady code spot st → (a : Applied)
     → Comes code r k behind spot (settled code (applied_as a (machine spot pc os st)).given (applied_as a (machine spot pc os st)).machine) (λ ps st. More (machine spot (suc pc) ps st)) (given_of a) st
 came-applied code r k behind spot pc o os st l d (Went Ahead ps) = (leads-here, d)
 came-applied code r k behind spot pc o os st l d (Went (Jump p) ps) = tt
@@ -74,7 +74,7 @@ came-applied code r k behind spot pc o os st l d (op.Raised s) = (record { pc = 
 came-applied code r k behind spot pc o os st l d op.Lacking = tt
 
 -- a line that carries out an operation
-pub comes-operation : (code : RawCode) (r : RawRoutine) (k behind : ℕ) (spot : Spot) → routine_at code spot.number ≡ Some r → (pc : ℕ) (o : Op) (os : List Operand) (st : State) → Raising r k behind pc (instruction.Operation o) → IsDeep spot st
+pub comes-operation : (code : RawCode) (r : RawRoutine) (k behind : ℕ) (spot : Spot) → routine_at code spot.number ≡ Some r → (pc : ℕ) (o : Op) (os : List Operand) (st : State) → Raising r k behind pc (instruction.Operation o) → IsReady code spot st
     → Comes code r k behind spot (More (machine spot pc os st)) (λ ps st. More (machine spot (suc pc) ps st)) (given_of (applied o os [] st.variables)) st
 comes-operation code r k behind spot p pc o os st l d =
     comes-from code r k behind spot (λ ps st. More (machine spot (suc pc) ps st)) (leads-line p l.there) (given_of (applied o os [] st.variables)) st (came-applied code r k behind spot pc o os st l d (applied o os [] st.variables))

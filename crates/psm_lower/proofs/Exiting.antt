@@ -15,16 +15,16 @@ use Rattle.psm_code.specs.Steps as steps
 use Rattle.psm_lower.specs.Agreement.{Entered, Leads, Spot, Standing, frame_of, machine, with_standing}
 use Rattle.psm_lower.specs.Env.{Plain, Visible}
 use Rattle.psm_lower.proofs.Doing.{at_line}
-use Rattle.psm_lower.proofs.Leaving.{nat_eq-same}
+use Rattle.psm_lower.proofs.Runs.{nat_eq-same}
 use Rattle.psm_lower.proofs.Runs.{leads-line, leads-same}
 
 abbrev exiting : List Frame → Option (List Contents) → Option CodeBlock → steps.Act (Unit {0})
 exiting frames found x = steps.change (λ m. with_frames frames (record (code_state.with_running (λ a. record a { cursors = code_state.closed_cursors (cursors_of x) a.cursors }) m) { tables = put_back false found m.tables }))
 
--- a block without cursors is left
+-- the block is left, and its cursors are closed
 pub leads-exit : {code : RawCode} {r : RawRoutine} (spot : Spot) (v : Visible) (outer : List Visible) (found : Option (List Contents)) (standing : List Standing) {atomic : Bool} {exit pc : ℕ} → routine_at code spot.number ≡ Some r
-    → block_at r v.context ≡ Some (record { atomic = atomic; exit = exit; cursors = [] }) → Plain r pc (instruction.Exit v.context) → (st : State)
-    → Leads code (at_line (with_standing (Entered v outer found ∷ standing) spot) pc [] st) (at_line (with_standing standing spot) (suc pc) [] st)
+    → block_at r v.context ≡ Some (record { atomic = atomic; exit = exit; cursors = v.own }) → Plain r pc (instruction.Exit v.context) → (st : State)
+    → Leads code (at_line (with_standing (Entered v outer found ∷ standing) spot) pc [] st) (at_line (with_standing standing spot) (suc pc) [] (record st { cursors = code_state.closed_cursors v.own st.cursors }))
 leads-exit {code = code} {r = r} spot v outer found standing {pc = pc} p b l st =
     let m = machine (with_standing (Entered v outer found ∷ standing) spot) pc [] st in
     let frames = map frame_of standing in

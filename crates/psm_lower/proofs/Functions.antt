@@ -14,7 +14,7 @@ use Rattle.psm_code.specs.declared.code.RawRoutine.{RawRoutine}
 use Rattle.psm_code.specs.declared.instruction.Instruction.TheVariants as instruction
 use Rattle.psm_code.specs.Parts.{routine_at}
 use Rattle.psm_code.specs.Rows.{call_from, settled}
-use Rattle.psm_lower.specs.Agreement.{Comes, IsDeep, Spot, machine}
+use Rattle.psm_lower.specs.Agreement.{Comes, IsReady, Spot, machine}
 use Rattle.psm_lower.specs.Env.{Raising}
 use Rattle.psm_lower.specs.Expressions.{IsFunction, Takes, stacked}
 use Rattle.psm_lower.specs.Simulation.{Evals, FileStands, Simulates}
@@ -43,7 +43,7 @@ returning None e = absurd (cc (e))
 returning (Some t) e = (t, refl)
 
 module _ (file : ResolvedFile) (code : RawCode) (m : Meaning) (stands : FileStands file code) (sim : Simulates file code m) (r : RawRoutine) (spot : Spot) (there : routine_at code spot.number ≡ Some r) (k behind : ℕ) where
-  called-comes : (pc n : ℕ) → Raising r k behind pc (instruction.CallFunction n) → (args : List Datum) (below : List Operand) (st : State) → IsDeep spot st → (x : Option ResolvedRoutine) → slice_get file.routines n ≡ x → Takes (length args) x → IfSome x (λ q. returns q.returns ≡ true)
+  called-comes : (pc n : ℕ) → Raising r k behind pc (instruction.CallFunction n) → (args : List Datum) (below : List Operand) (st : State) → IsReady code spot st → (x : Option ResolvedRoutine) → slice_get file.routines n ≡ x → Takes (length args) x → IfSome x (λ q. returns q.returns ≡ true)
       → Comes code r k behind spot (settled code (call_from code n (machine spot pc (stacked args below) st)).given (call_from code n (machine spot pc (stacked args below) st)).machine) (λ y. at_line spot (suc pc) (y ∷ below))
       (meaning.◌>>=◌ (meaning.present x) (λ q. meaning.◌>>=◌ (activated q args) (λ e. result_of e.returned)) m st).given (meaning.◌>>=◌ (meaning.present x) (λ q. meaning.◌>>=◌ (activated q args) (λ e. result_of e.returned)) m st).state
   called-comes pc n l args below st d None e t f = tt
@@ -57,7 +57,7 @@ module _ (file : ResolvedFile) (code : RawCode) (m : Meaning) (stands : FileStan
       → Evals code r k behind spot m (called file function args) (at_line spot pc (stacked args below)) (λ x. at_line spot (suc pc) (x ∷ below))
   called-evals pc n function args f l below =
       let test : ResolvedRoutine → Bool = λ q. returns q.returns in
-      let whole : Option ResolvedRoutine → Type 0 = λ x. (st : State) → IsDeep spot st → Comes code r k behind spot (settled code (call_from code n (machine spot pc (stacked args below) st)).given (call_from code n (machine spot pc (stacked args below) st)).machine) (λ y. at_line spot (suc pc) (y ∷ below))
+      let whole : Option ResolvedRoutine → Type 0 = λ x. (st : State) → IsReady code spot st → Comes code r k behind spot (settled code (call_from code n (machine spot pc (stacked args below) st)).given (call_from code n (machine spot pc (stacked args below) st)).machine) (λ y. at_line spot (suc pc) (y ∷ below))
       (meaning.◌>>=◌ (meaning.present x) (λ q. meaning.◌>>=◌ (activated q args) (λ e. result_of e.returned)) m st).given (meaning.◌>>=◌ (meaning.present x) (λ q. meaning.◌>>=◌ (activated q args) (λ e. result_of e.returned)) m st).state in
       let is_one : IfSome (slice_get file.routines n) (λ q. test q ≡ true) = subst (λ x. IfSome x (λ q. test q ≡ true)) f.0 (filtered test file.routines function) in
       let here : whole (slice_get file.routines n) = λ st d. called-comes pc n l args below st d (slice_get file.routines n) refl f.1 is_one in

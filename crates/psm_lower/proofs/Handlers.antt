@@ -12,8 +12,8 @@ use Rattle.psm_meaning.specs.Raising.{Candidate, candidate_rank, choice}
 use Rattle.psm_code.specs.declared.code.RawCode.{RawCode}
 use Rattle.psm_code.specs.declared.code.RawRoutine.{RawRoutine}
 use Rattle.psm_lower.specs.Env.{Visible, scope_of}
-use Rattle.psm_lower.specs.Scheme.{Handles, IsHandler, handler, no_handler}
-use Rattle.psm_lower.specs.Agreement.{Acts, AllHandle, IsVisible, ReachAll, Reaches, Standing}
+use Rattle.psm_lower.specs.Scheme.{Asks, Handles, IsHandler, handler, no_handler, with_handlers}
+use Rattle.psm_lower.specs.Agreement.{Acts, AllHandle, AllKept, IsVisible, ReachAll, Reaches, Standing, owns}
 
 abbrev pub candidate : Visible → List Visible → ResolvedHandler → Candidate
 candidate v outer h = record { handler = h; scope = scope_of v; outside = map scope_of outer }
@@ -63,6 +63,7 @@ pub record Chosen (file : ResolvedFile) (code : RawCode) (routine : ResolvedRout
   pub acts : Acts file code routine r outer block c.handler p.0 p.1
   pub handle : AllHandle file code routine r outer
   pub reached : ReachAll outer standing
+  pub kept : AllKept (block ∷ outer) (owns standing)
   pub reaches : Reaches block outer standing
   pub own : IsVisible block.level visible
   pub others : (l : ℕ) → IsVisible l outer → IsVisible l visible
@@ -79,18 +80,28 @@ further file code routine r standing v outer None None g = g
 further file code routine r standing v outer None (Some p) g = g
 further file code routine r standing v outer (Some c) None g = g
 further file code routine r standing v outer (Some c) (Some p) g =
-    record { block = g.block; outer = g.outer; same = g.same; acts = g.acts; handle = g.handle; reached = g.reached; reaches = g.reaches; own = inr g.own; others = λ l x. inr (g.others l x) }
+    record { block = g.block; outer = g.outer; same = g.same; acts = g.acts; handle = g.handle; reached = g.reached; kept = g.kept; reaches = g.reaches; own = inr g.own; others = λ l x. inr (g.others l x) }
 
 first-found : (file : ResolvedFile) (code : RawCode) (routine : ResolvedRoutine) (r : RawRoutine) (standing : List Standing) (v : Visible) (outer : List Visible) (x : Option Candidate) (y : Option Numbered) (others : Option Candidate) (more : Option Numbered)
-    → AllHandle file code routine r outer → ReachAll outer standing → Reaches v outer standing → Matches file code routine r v outer x y → Agrees file code routine r standing outer others more → Agrees file code routine r standing (v ∷ outer) (or_else x others) (or_else y more)
-first-found file code routine r standing v outer None None others more a s t m q = further file code routine r standing v outer others more q
-first-found file code routine r standing v outer None (Some p) others more a s t m q = absurd m
-first-found file code routine r standing v outer (Some c) None others more a s t m q = absurd m
-first-found file code routine r standing v outer (Some c) (Some p) others more a s t m q = record { block = v; outer = outer; same = m.0; acts = m.1; handle = a; reached = s; reaches = t; own = inl refl; others = λ l x. inr x }
+    → AllHandle file code routine r outer → ReachAll outer standing → AllKept (v ∷ outer) (owns standing) → Reaches v outer standing → Matches file code routine r v outer x y → Agrees file code routine r standing outer others more → Agrees file code routine r standing (v ∷ outer) (or_else x others) (or_else y more)
+first-found file code routine r standing v outer None None others more a s k t m q = further file code routine r standing v outer others more q
+first-found file code routine r standing v outer None (Some p) others more a s k t m q = absurd m
+first-found file code routine r standing v outer (Some c) None others more a s k t m q = absurd m
+first-found file code routine r standing v outer (Some c) (Some p) others more a s k t m q = record { block = v; outer = outer; same = m.0; acts = m.1; handle = a; reached = s; kept = k; reaches = t; own = inl refl; others = λ l x. inr x }
 
-pub agrees : (file : ResolvedFile) (code : RawCode) (routine : ResolvedRoutine) (r : RawRoutine) (e : Entry) (standing : List Standing) (visible : List Visible) → AllHandle file code routine r visible → ReachAll visible standing
+pub agrees : (file : ResolvedFile) (code : RawCode) (routine : ResolvedRoutine) (r : RawRoutine) (e : Entry) (standing : List Standing) (visible : List Visible) → AllHandle file code routine r visible → ReachAll visible standing → AllKept visible (owns standing)
     → Agrees file code routine r standing visible (choice e (map scope_of visible)) (chosen (handler_rank e) (map (λ v. v.coded) visible))
-agrees file code routine r e standing [] a s = tt
-agrees file code routine r e standing (v ∷ outer) a s =
+agrees file code routine r e standing [] a s k = tt
+agrees file code routine r e standing (v ∷ outer) a s k =
     first-found file code routine r standing v outer (chosen_in (candidate_rank e) (map (candidate v outer) v.handlers)) (chosen_in (handler_rank e) v.coded)
-    (choice e (map scope_of outer)) (chosen (handler_rank e) (map (λ v. v.coded) outer)) a.1 s.1 s.0 (matches-in file code routine r e a.0) (agrees file code routine r e standing outer a.1 s.1)
+    (choice e (map scope_of outer)) (chosen (handler_rank e) (map (λ v. v.coded) outer)) a.1 s.1 k s.0 (matches-in file code routine r e a.0) (agrees file code routine r e standing outer a.1 s.1 k.1)
+
+-- ---- blocks that have no handlers are passed over
+
+pub chosen-with_handlers : (f : Numbered → ℕ) (blocks : List (List Numbered)) → chosen f blocks ≡ chosen f (with_handlers blocks)
+chosen-with_handlers f [] = refl
+chosen-with_handlers f ([] ∷ blocks) = chosen-with_handlers f blocks
+chosen-with_handlers f ((h ∷ hs) ∷ blocks) = ap (or_else (chosen_in f (h ∷ hs))) (chosen-with_handlers f blocks)
+
+pub chosen-asked : (f : Numbered → ℕ) (blocks : List (List Numbered)) (visible : List Visible) → Asks blocks visible → chosen f blocks ≡ chosen f (map (λ v. v.coded) visible)
+chosen-asked f blocks visible a = chosen-with_handlers f blocks ∙ ap (chosen f) a ∙ sym (chosen-with_handlers f (map (λ v. v.coded) visible))

@@ -1,4 +1,5 @@
 pub mod Runs
+pub mod Closing
 pub mod Evaluating
 pub mod Operating
 pub mod Operands
@@ -25,14 +26,18 @@ pub mod SimplesSignal
 pub mod SimplesDiagnostics
 pub mod Answering
 pub mod SimplesInto
+pub mod Moving
+pub mod SimplesCursors
 pub mod SimplesAll
 pub mod Entering
 pub mod Calling
 pub mod Returning
 pub mod Functions
 pub mod SimplesTables
+pub mod SimplesPositioned
 pub mod SimplesChanging
 pub mod Procedures
+pub mod Rounds
 pub mod Stepping
 pub mod Running
 pub mod Counting

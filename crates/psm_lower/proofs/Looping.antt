@@ -13,7 +13,7 @@ use Rattle.psm_code.specs.declared.code.RawCode.{RawCode}
 use Rattle.psm_code.specs.declared.code.RawRoutine.{RawRoutine}
 use Rattle.psm_code.specs.declared.instruction.Instruction.TheVariants as instruction
 use Rattle.psm_code.specs.State.{Turned}
-use Rattle.psm_lower.specs.Agreement.{ComesTo, IsDeep, Leads, Meets, Spot, areas, iterating, leaving}
+use Rattle.psm_lower.specs.Agreement.{ComesTo, IsReady, Leads, Meets, Spot, areas, iterating, leaving}
 use Rattle.psm_lower.specs.Env.{Env, Plain, Raising, inside_loop, place_of}
 use Rattle.psm_lower.specs.Expressions.{Puts}
 use Rattle.psm_lower.specs.Scheme.{Branches, StandAll, branch, no_branch}
@@ -29,16 +29,16 @@ site-loop level out again site = record {
   simulates = site.simulates;
   stands = site.stands;
   there = site.there;
-  fits = record { search = site.fits.search; handle = site.fits.handle; reached = site.fits.reached; entered = site.fits.entered; entries = site.fits.entries };
+  fits = record { search = site.fits.search; handle = site.fits.handle; reached = site.fits.reached; entered = site.fits.entered; entries = site.fits.entries; cursors = site.fits.cursors; kept = site.fits.kept };
 }
 
-left-own : (file : ResolvedFile) (code : RawCode) (routine : ResolvedRoutine) (r : RawRoutine) (env : Env) (spot : Spot) (out level : ℕ) (from : Turned) (st : State) → IsDeep spot st → (b : Bool)
-    → ComesTo code spot from (if b then Some (record { line = out; standing = spot.standing }) else leaving env.around level spot.standing) st → Meets file code routine r env spot from out (if b then Normal else Leave level) st
+left-own : (file : ResolvedFile) (code : RawCode) (routine : ResolvedRoutine) (r : RawRoutine) (env : Env) (spot : Spot) (out level : ℕ) (from : Turned) (st : State) → IsReady code spot st → (b : Bool)
+    → ComesTo code spot from (if b then Some (record { line = out; standing = spot.standing; cursors = st.cursors }) else leaving env.around level spot.standing st.cursors) st → Meets file code routine r env spot from out (if b then Normal else Leave level) st
 left-own file code routine r env spot out level from st d true l = (l, d)
 left-own file code routine r env spot out level from st d false l = (l, d)
 
-again-own : (file : ResolvedFile) (code : RawCode) (routine : ResolvedRoutine) (r : RawRoutine) (m : Meaning) (env : Env) (spot : Spot) (out start level : ℕ) (from : Turned) (again : Deed) → Does file code routine r m env spot out again (at_line spot start []) → (st : State) → IsDeep spot st → (b : Bool)
-    → ComesTo code spot from (if b then Some (record { line = start; standing = spot.standing }) else iterating env.around level spot.standing) st
+again-own : (file : ResolvedFile) (code : RawCode) (routine : ResolvedRoutine) (r : RawRoutine) (m : Meaning) (env : Env) (spot : Spot) (out start level : ℕ) (from : Turned) (again : Deed) → Does file code routine r m env spot out again (at_line spot start []) → (st : State) → IsReady code spot st → (b : Bool)
+    → ComesTo code spot from (if b then Some (record { line = start; standing = spot.standing; cursors = st.cursors }) else iterating env.around level spot.standing st.cursors) st
     → Meets file code routine r env spot from out ((if b then again else ends_as (Iterate level)) m st).outcome ((if b then again else ends_as (Iterate level)) m st).state
 again-own file code routine r m env spot out start level from again h st d true l = meets-from file code routine r env spot out l (again m st).outcome (again m st).state (h.by st d)
 again-own file code routine r m env spot out start level from again h st d false l = (l, d)
@@ -55,7 +55,7 @@ meets-repeated file code routine r m env spot level last out start from again h 
 meets-repeated file code routine r m env spot level last out start from again h l (Stopped stop) st x = x
 
 -- the list, and then again from the line start
-does-list : {file : ResolvedFile} {code : RawCode} {routine : ResolvedRoutine} {r : RawRoutine} {m : Meaning} {env : Env} {spot : Spot} → Site file code routine r m env spot → (level : ℕ) {out start pc last : ℕ} {ss : List ResolvedStatement} {again : Deed}
+pub does-list : {file : ResolvedFile} {code : RawCode} {routine : ResolvedRoutine} {r : RawRoutine} {m : Meaning} {env : Env} {spot : Spot} → Site file code routine r m env spot → (level : ℕ) {out start pc last : ℕ} {ss : List ResolvedStatement} {again : Deed}
     → StandAll file code routine r (inside_loop level out start env) ss pc last → ((st : State) → Leads code (at_line spot last [] st) (at_line spot start [] st)) → Does file code routine r m env spot out again (at_line spot start [])
     → Does file code routine r m env spot out (behind (all (place_of routine env (areas spot.standing)) ss) (repeated level again)) (at_line spot pc [])
 does-list {file = file} {code = code} {routine = routine} {r = r} {m = m} {env = env} {spot = spot} site level {out = out} {start = start} {pc = pc} {last = last} {ss = ss} {again = again} x l h =

@@ -21,7 +21,7 @@ use Rattle.psm_code.specs.declared.code.RawCode.{RawCode}
 use Rattle.psm_code.specs.declared.code.RawRoutine.{RawRoutine}
 use Rattle.psm_code.specs.Parts.{routine_at}
 use Rattle.psm_code.specs.State.{Turned, More}
-use Rattle.psm_lower.specs.Agreement.{Comes, IsDeep, Leads, Spot, machine}
+use Rattle.psm_lower.specs.Agreement.{Comes, IsReady, Leads, Spot, machine}
 use Rattle.psm_lower.specs.Expressions.{Operations, negating, scaling}
 use Rattle.psm_lower.specs.Simulation.{Evals}
 use Rattle.psm_lower.proofs.Evaluating.{comes-from, comes-operation, given_of}
@@ -67,7 +67,7 @@ performed-scaling (Some s) x below vars =
 -- ---- runs
 
 comes-then : (code : RawCode) (r : RawRoutine) (k behind : ℕ) (spot : Spot) (from : Turned) (mid to : List Operand → State → Turned) (go : List Operand → Applied) (st : State)
-    → ((ps : List Operand) → IsDeep spot st → Comes code r k behind spot (mid ps st) to (given_of (go ps)) st)
+    → ((ps : List Operand) → IsReady code spot st → Comes code r k behind spot (mid ps st) to (given_of (go ps)) st)
     → (a : Applied) → Comes code r k behind spot from mid (given_of a) st → Comes code r k behind spot from to (given_of (then_applied a go)) st
 comes-then code r k behind spot from mid to go st h (Went Ahead ps) c = comes-from code r k behind spot to c.0 (given_of (go ps)) st (h ps c.1)
 comes-then code r k behind spot from mid to go st h (Went (Jump p) ps) c = tt
@@ -76,7 +76,7 @@ comes-then code r k behind spot from mid to go st h op.Lacking c = tt
 
 -- lines that carry out operations, as one evaluation
 pub comes-operations : (code : RawCode) (r : RawRoutine) (k behind : ℕ) (spot : Spot) → routine_at code spot.number ≡ Some r → (os : List Op) (pc end : ℕ) (xs : List Operand) (st : State)
-    → Operations r k behind os pc end → IsDeep spot st → Comes code r k behind spot (More (machine spot pc xs st)) (λ ps st. More (machine spot end ps st)) (given_of (performed os xs st.variables)) st
+    → Operations r k behind os pc end → IsReady code spot st → Comes code r k behind spot (More (machine spot pc xs st)) (λ ps st. More (machine spot end ps st)) (given_of (performed os xs st.variables)) st
 comes-operations code r k behind spot p [] pc end xs st l d = (subst (λ n. Leads code (More (machine spot pc xs st)) (More (machine spot n xs st))) l leads-here, d)
 comes-operations code r k behind spot p (o ∷ os) pc end xs st l d =
     comes-then code r k behind spot (More (machine spot pc xs st)) (λ ps st. More (machine spot (suc pc) ps st)) (λ ps st. More (machine spot end ps st)) (λ ps. performed os ps st.variables) st

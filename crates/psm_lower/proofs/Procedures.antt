@@ -27,6 +27,7 @@ use Rattle.psm_code.specs.Parts.{back, routine_at, slots_of}
 use Rattle.psm_code.specs.Rows.{done, settled}
 use Rattle.psm_code.specs.State as code_state
 use Rattle.psm_code.specs.State.{Machine, Turned, More}
+use Rattle.psm_lower.proofs.Closing.{all-begin, all-closed}
 use Rattle.psm_lower.specs.Agreement.{Comes, Fits, Leads, Spot, areas, machine}
 use Rattle.psm_lower.specs.Env.{Env, Plain, Raising, outermost, place_of}
 use Rattle.psm_lower.specs.Expressions.{stacked, wants}
@@ -147,14 +148,14 @@ module _ {file : ResolvedFile} {code : RawCode} {routine : ResolvedRoutine} {r :
             (call-rests code r env.context end spot m mid _ l.there refl refl [] n file q.0 callee q.1 q.2 ds count st d to (behind_call args) (λ ps now deep.
             let inner = within spot n mid [] now in
             let start = begun callee ps now in
-            let fits : Fits file code callee q.0 outermost inner = record { search = refl; handle = tt; reached = tt; entered = tt; entries = tt } in
+            let fits : Fits file code callee q.0 outermost inner = record { search = refl; handle = tt; reached = tt; entered = tt; entries = tt; cursors = record { free = λ i e. refl; split = tt; sees = tt }; kept = tt } in
             let ended = m.done (Do callee.body) (body_place callee) start in
             body-comes file code r env.context end spot m site.there mid _ l.there refl refl [] n q.0 callee q.2.last now deep to (behind_call args) (at_line inner 0 [] start)
             (λ st x. let over = cleared (returned_to now st) in
             comes-from code r env.context end spot to (ends file code spot mid n q.0 callee q.2 q.1 none now st (at_line inner 0 [] start) x) (given_back here args st.variables m over).given (given_back here args st.variables m over).state
             ((evals-given_back here site.there site.stands.slots args callee.parameters f st.variables stores).by over deep))
             (λ v st x. tt)
-            ended.outcome ended.state (site.simulates.done callee q.0 outermost inner q.1 q.2 fits callee.body 0 q.2.last q.2.body start (ap suc deep))));
+            ended.outcome ended.state (site.simulates.done callee q.0 outermost inner q.1 q.2 fits callee.body 0 q.2.last q.2.body start (ap suc deep.0, λ i e. all-closed callee.cursors i, all-begin (routine_at code n) q.0 callee.cursors q.1 q.2.cursors))));
       }
 
   rest-evals : (n mid end pc : ℕ) → (args : List ResolvedArgument) → Arguments file code r env.context end args pc mid → Raising r env.context end mid (instruction.Call n) → Stores r env.context end (λ slot. instruction.Store slot) (slots_given args) (suc mid) end

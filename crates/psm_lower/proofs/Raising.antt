@@ -1,6 +1,7 @@
 -- What comes of a condition that a line raises.
 use Rattle.std.proofs.Common.{◌≡◌, ℕ, List, [], ◌∷◌, map, refl, ap, ◌∙◌, Option, Some, None, if◌then◌else◌}
 use Rattle.psm_cond.specs.declared.handlers.Handler.{Handler}
+use Rattle.psm_table.specs.Cursors.{Cursor}
 use Rattle.psm_resolved.specs.declared.file.ResolvedFile.{ResolvedFile}
 use Rattle.psm_resolved.specs.declared.file.ResolvedRoutine.{ResolvedRoutine}
 use Rattle.psm_resolved.specs.declared.statement.ResolvedHandler.{ResolvedHandler, out-ResolvedHandler}
@@ -18,11 +19,11 @@ use Rattle.psm_code.specs.State as code_state
 use Rattle.psm_code.specs.State.{Activation, Machine, Turned, More, Over}
 use Rattle.psm_code.specs.Steps.{Act, change, ends, go_on, got, present, ◌>>=◌, ◌>>◌}
 use Rattle.psm_lower.specs.Env.{Env, Plain, Visible, in_action, place_of, scope_of}
-use Rattle.psm_lower.specs.Agreement.{Acting, Acts, AllHandle, AreStanding, Arrived, BeginsAt, Entered, Fits, IsDeep, IsVisible, Leads, Meets, ReachAll, Spot, Standing, Spotted, ComesTo, areas, arriving, frame_of, is_raised, iterating, leaving, machine, undone, with_standing}
+use Rattle.psm_lower.specs.Agreement.{Acting, Acts, AllHandle, AllKept, AreStanding, Arrived, BeginsAt, Entered, Fits, IsReady, IsVisible, Leads, Meets, ReachAll, Spot, Standing, Spotted, ComesTo, areas, arriving, frame_of, is_raised, iterating, leaving, machine, owns, undone, with_standing}
 use Rattle.psm_lower.specs.Simulation.{RoutineStands, Simulates}
 use Rattle.psm_lower.proofs.Runs.{leads-same, leads-to, leads-way}
 use Rattle.psm_lower.proofs.Evaluating.{stops-from}
-use Rattle.psm_lower.proofs.Leaving.{nat_eq-same}
+use Rattle.psm_lower.proofs.Runs.{nat_eq-same}
 
 -- ---- the end of an action
 
@@ -50,19 +51,24 @@ pub comes-to-from : (code : RawCode) (spot : Spot) {a b : Turned} (st : State) �
 comes-to-from code spot st p None x = x
 comes-to-from code spot st p (Some s) x = leads-to p x
 
+-- the cursors in the state don't matter
+pub comes-closed : (code : RawCode) (spot : Spot) (from : Turned) (st : State) (cs : List Cursor) (x : Option Spotted) → ComesTo code spot from x (record st { cursors = cs }) → ComesTo code spot from x st
+comes-closed code spot from st cs None x = x
+comes-closed code spot from st cs (Some s) x = x
+
 pub meets-from : (file : ResolvedFile) (code : RawCode) (routine : ResolvedRoutine) (r : RawRoutine) (env : Env) (spot : Spot) {a b : Turned} (end : ℕ) → Leads code a b
     → (o : Outcome) (st : State) → Meets file code routine r env spot b end o st → Meets file code routine r env spot a end o st
 meets-from file code routine r env spot end p Normal st h = (leads-to p h.0, h.1)
-meets-from file code routine r env spot end p (Leave level) st h = (comes-to-from code spot st p (leaving env.around level spot.standing) h.0, h.1)
-meets-from file code routine r env spot end p (Iterate level) st h = (comes-to-from code spot st p (iterating env.around level spot.standing) h.0, h.1)
+meets-from file code routine r env spot end p (Leave level) st h = (comes-to-from code spot st p (leaving env.around level spot.standing st.cursors) h.0, h.1)
+meets-from file code routine r env spot end p (Iterate level) st h = (comes-to-from code spot st p (iterating env.around level spot.standing st.cursors) h.0, h.1)
 meets-from file code routine r env spot end p (Return d) st h = record { last = h.last; tables = h.tables; turns = h.turns; area = h.area; pending = h.pending; leads = leads-to p h.leads }
 meets-from file code routine r env spot end p (Raised c) st h = record { last = h.last; tables = h.tables; turns = h.turns; area = h.area; pending = h.pending; leads = leads-to p h.leads }
-meets-from file code routine r env spot end p (Away level x c) st h = (begins-from file code routine r spot x st p (arriving (is_raised c) level spot.standing st.tables) h.0, h.1, h.2)
+meets-from file code routine r env spot end p (Away level x c) st h = (begins-from file code routine r spot x st p (arriving (is_raised c) level spot.standing st.tables st.cursors) h.0, h.1, h.2)
 meets-from file code routine r env spot end p (Stopped stop) st h = stops-from p stop h
 
 -- ---- the outcome of an action
 
-begins-in : (file : ResolvedFile) (code : RawCode) (routine : ResolvedRoutine) (r : RawRoutine) (inner spot : Spot) (from : Turned) (h : ResolvedHandler) (st : State) → with_standing [] inner ≡ with_standing [] spot
+begins-in : (file : ResolvedFile) (code : RawCode) (routine : ResolvedRoutine) (r : RawRoutine) (inner spot : Spot) (from : Turned) (h : ResolvedHandler) (st : State) → ((standing : List Standing) (line : ℕ) (st : State) → machine (with_standing standing inner) line [] st ≡ machine (with_standing standing spot) line [] st)
     → (x : Option Arrived) → BeginsAt file code routine r inner from h x st → BeginsAt file code routine r spot from h x st
 begins-in file code routine r inner spot from h st e None b = b
 begins-in file code routine r inner spot from h st e (Some a) b = record {
@@ -70,7 +76,7 @@ begins-in file code routine r inner spot from h st e (Some a) b = record {
   coded = b.coded;
   acts = b.acts;
   exits = b.exits;
-  leads = leads-same b.leads (ap (λ s. More (machine (with_standing (Acting b.number None st.area ∷ Entered a.block a.outer a.found ∷ a.standing) s) b.coded.pc [] (record st { tables = undone (out-ResolvedHandler h).kind a.found a.tables }))) e);
+  leads = leads-same b.leads (ap More (e (Acting b.number None st.area ∷ Entered a.block a.outer a.found ∷ a.standing) b.coded.pc (record st { tables = undone (out-ResolvedHandler h).kind a.found a.tables; cursors = a.cursors })));
 }
 
 action-meets : (file : ResolvedFile) (code : RawCode) (routine : ResolvedRoutine) (r : RawRoutine) (env : Env) (spot : Spot) (v : Visible) (outer : List Visible) (k n : ℕ) (resume : Option ℕ) (area : Diagnostics) (from : Turned) (last target : ℕ) (m : Meaning) → ((l : ℕ) → IsVisible l outer → IsVisible l env.visible)
@@ -82,7 +88,7 @@ action-meets file code routine r env spot v outer k n resume area from last targ
 action-meets file code routine r env spot v outer k n resume area from last target m sub e (Return d) st h = record { last = h.last; tables = h.tables; turns = h.turns; area = h.area; pending = h.pending; leads = h.leads }
 action-meets file code routine r env spot v outer k n resume area from last target m sub e (Raised c) st h = record { last = h.last; tables = h.tables; turns = h.turns; area = h.area; pending = h.pending; leads = h.leads }
 action-meets file code routine r env spot v outer k n resume area from last target m sub e (Away level x c) st h =
-    (begins-in file code routine r (acting_spot n resume area spot) spot from x st refl (arriving (is_raised c) level spot.standing st.tables) h.0, sub level h.1, h.2)
+    (begins-in file code routine r (acting_spot n resume area spot) spot from x st (λ standing line st. refl) (arriving (is_raised c) level spot.standing st.tables st.cursors) h.0, sub level h.1, h.2)
 action-meets file code routine r env spot v outer k n resume area from last target m sub e (Stopped stop) st h = h
 
 -- ---- the action of a handler
@@ -93,14 +99,14 @@ reach-acting (v ∷ visible) n resume area standing h = (h.0, reach-acting visib
 
 -- the action begins, with the block of its handler among what is entered, and the run goes on at the line target behind it
 pub acted : (file : ResolvedFile) (code : RawCode) (routine : ResolvedRoutine) (r : RawRoutine) (env : Env) (spot : Spot) (m : Meaning) → Simulates file code m → RoutineStands file code routine r → routine_at code spot.number ≡ Some r
-    → AreStanding file code routine r spot.standing → (v : Visible) (outer : List Visible) (h : ResolvedHandler) (n : ℕ) (coded : Handler) → Acts file code routine r outer v h n coded → AllHandle file code routine r outer → ReachAll outer spot.standing
-    → ((l : ℕ) → IsVisible l outer → IsVisible l env.visible) → (resume : Option ℕ) (target : ℕ) → ((k : Machine) → line_behind r coded coded.kind resume k ≡ got target k) → (from : Turned) (st : State) → IsDeep spot st
+    → AreStanding file code routine r spot.standing → (v : Visible) (outer : List Visible) (h : ResolvedHandler) (n : ℕ) (coded : Handler) → Acts file code routine r outer v h n coded → AllHandle file code routine r outer → ReachAll outer spot.standing → AllKept (v ∷ outer) (owns spot.standing)
+    → ((l : ℕ) → IsVisible l outer → IsVisible l env.visible) → (resume : Option ℕ) (target : ℕ) → ((k : Machine) → line_behind r coded coded.kind resume k ≡ got target k) → (from : Turned) (st : State) → IsReady code spot st
     → Leads code from (More (machine (acting_spot n resume st.area spot) coded.pc [] st))
     → Meets file code routine r env spot from target (meaning.action (record { routine = routine; cursors = v.cursors; scopes = map scope_of outer; acting = areas spot.standing }) h m st).outcome
     (meaning.action (record { routine = routine; cursors = v.cursors; scopes = map scope_of outer; acting = areas spot.standing }) h m st).state
-acted file code routine r env spot m sim rs p standing v outer h n coded a handle reached sub resume target behind from st d l =
+acted file code routine r env spot m sim rs p standing v outer h n coded a handle reached kept sub resume target behind from st d l =
     let inner = acting_spot n resume st.area spot in
-    let fits : Fits file code routine r (in_action v a.context outer) inner = record { search = a.handler.search; handle = handle; reached = reach-acting outer n resume st.area spot.standing reached; entered = tt; entries = standing } in
+    let fits : Fits file code routine r (in_action v a.context outer) inner = record { search = a.handler.search; handle = handle; reached = reach-acting outer n resume st.area spot.standing reached; entered = tt; entries = standing; cursors = kept.0; kept = kept.1 } in
     let done = sim.done routine r (in_action v a.context outer) inner p rs fits (out-ResolvedHandler h).action coded.pc a.last a.action st d in
     let place = place_of routine (in_action v a.context outer) (areas inner.standing) in
     let ended = m.done (Do (out-ResolvedHandler h).action) place st in

@@ -25,7 +25,8 @@ use Rattle.psm_code.specs.Raising.{asked, asked_at, raised, raised_in}
 use Rattle.psm_code.specs.Rows.{done, settled}
 use Rattle.psm_code.specs.State as code_state
 use Rattle.psm_code.specs.State.{Activation, Machine, Turned, More, Over}
-use Rattle.psm_lower.specs.Agreement.{Comes, Fits, IsDeep, Leads, LeavesBy, Meets, RaisedAt, Returns, Spot, machine, raised_outside}
+use Rattle.psm_lower.proofs.Closing.{all-begin, all-closed}
+use Rattle.psm_lower.specs.Agreement.{Comes, Fits, IsReady, Leads, LeavesBy, Meets, RaisedAt, Returns, Spot, machine, raised_outside}
 use Rattle.psm_lower.specs.Env.{outermost}
 use Rattle.psm_lower.specs.Simulation.{RoutineStands, Simulates, last_instruction}
 use Rattle.psm_lower.proofs.Calling.{caller, within}
@@ -69,7 +70,7 @@ module _ (file : ResolvedFile) (code : RawCode) (r : RawRoutine) (k behind : ℕ
   }
 
   -- the body, with what comes behind it
-  pub body-comes : (n : ℕ) (callee : RawRoutine) (routine : ResolvedRoutine) (last : ℕ) (now : State) → IsDeep spot now → {B : Type 0} (to : B → State → Turned) (out : Ended → Act B) (from : Turned)
+  pub body-comes : (n : ℕ) (callee : RawRoutine) (routine : ResolvedRoutine) (last : ℕ) (now : State) → IsReady code spot now → {B : Type 0} (to : B → State → Turned) (out : Ended → Act B) (from : Turned)
       → ((st : State) → Leads code from (at_line (within spot n pc below now) last [] st) → Comes code r k behind spot from to (out (record { returned = None; variables = st.variables }) m (returned_to now st)).given (out (record { returned = None; variables = st.variables }) m (returned_to now st)).state)
       → ((d : Datum) (st : State) → Returns code (within spot n pc below now) from d st → Comes code r k behind spot from to (out (record { returned = Some d; variables = st.variables }) m (returned_to now st)).given (out (record { returned = Some d; variables = st.variables }) m (returned_to now st)).state)
       → (o : Outcome) (st : State) → Meets file code routine callee outermost (within spot n pc below now) from last o st
@@ -108,15 +109,15 @@ module _ (file : ResolvedFile) (code : RawCode) (r : RawRoutine) (k behind : ℕ
       leads-same x.leads (ap More (same-rest x.last a spot.callers clear st.turns st.tables x.area x.pending x.turns x.tables))
 
   -- what is done in the function, and then its value
-  pub function-comes : (sim : Simulates file code m) (n : ℕ) (callee : RawRoutine) (routine : ResolvedRoutine) → RoutineStands file code routine callee → routine_at code n ≡ Some callee → (t : SqlType) → routine.returns ≡ Some t → (ps : List Datum) (now : State) → IsDeep spot now
+  pub function-comes : (sim : Simulates file code m) (n : ℕ) (callee : RawRoutine) (routine : ResolvedRoutine) → RoutineStands file code routine callee → routine_at code n ≡ Some callee → (t : SqlType) → routine.returns ≡ Some t → (ps : List Datum) (now : State) → IsReady code spot now
       → Comes code r k behind spot (More (machine (within spot n pc below now) 0 [] (begun routine ps now))) (λ x. at_line spot (suc pc) (x ∷ below)) (meaning.◌>>=◌ (apart (run_body routine ps)) (λ e. result_of e.returned) m now).given (meaning.◌>>=◌ (apart (run_body routine ps)) (λ e. result_of e.returned) m now).state
   function-comes sim n callee routine stands at t e ps now d =
       let inner = within spot n pc below now in
       let start = begun routine ps now in
       let from = at_line inner 0 [] start in
-      let fits : Fits file code routine callee outermost inner = record { search = refl; handle = tt; reached = tt; entered = tt; entries = tt } in
+      let fits : Fits file code routine callee outermost inner = record { search = refl; handle = tt; reached = tt; entered = tt; entries = tt; cursors = record { free = λ i e. refl; split = tt; sees = tt }; kept = tt } in
       let ended = m.done (Do routine.body) (body_place routine) start in
       body-comes n callee routine stands.last now d (λ x. at_line spot (suc pc) (x ∷ below)) (λ e. result_of e.returned) from
       (λ st l. (without-return n callee routine stands at t e now st from l, d))
       (λ v st x. (returns-value n now st from v x, d))
-      ended.outcome ended.state (sim.done routine callee outermost inner at stands fits routine.body 0 stands.last stands.body start (ap suc d))
+      ended.outcome ended.state (sim.done routine callee outermost inner at stands fits routine.body 0 stands.last stands.body start (ap suc d.0, λ i e. all-closed routine.cursors i, all-begin (routine_at code n) callee routine.cursors at stands.cursors))

@@ -29,6 +29,7 @@ use Rattle.psm_code.specs.Rows.{Ran, done, settled}
 use Rattle.psm_code.specs.State as code_state
 use Rattle.psm_code.specs.State.{Machine, Turned, More, Over}
 use Rattle.psm_code.specs.Steps as steps
+use Rattle.psm_lower.proofs.Closing.{all-begin, all-closed}
 use Rattle.psm_lower.specs.Agreement.{Fits, Leads, Meets, Spot, machine}
 use Rattle.psm_lower.specs.Env.{outermost}
 use Rattle.psm_lower.specs.Running.{RunEnds, RunsAs, first}
@@ -110,14 +111,14 @@ module _ (file : ResolvedFile) (code : RawCode) (stands : FileStands file code) 
       let now = record (first tables turns) { turns = left } in
       let m = meaning_to file h in
       let start = begun routine ps now in
-      let fits : Fits file code routine r outermost alone = record { search = refl; handle = tt; reached = tt; entered = tt; entries = tt } in
+      let fits : Fits file code routine r outermost alone = record { search = refl; handle = tt; reached = tt; entered = tt; entries = tt; cursors = record { free = λ i e. refl; split = tt; sees = tt }; kept = tt } in
       let ended = m.done (Do routine.body) (body_place routine) start in
       let from : Leads code begins (at_line alone 0 [] start) = leads-same l (
       ap (λ ts. More (record (before_start left tables) { running = record { routine = n; line = 0; variables = coded.filled ts ps; cursors = replicate (length r.cursors) Closed; operands = []; frames = [] } })) rs.slots
       ∙ ap (λ ds. More (record (before_start left tables) { running = record { routine = n; line = 0; variables = ds; cursors = replicate (length r.cursors) Closed; operands = []; frames = [] } })) (filled-same routine.slots ps)
       ∙ ap (λ c. More (record (before_start left tables) { running = record { routine = n; line = 0; variables = calls.filled routine.slots ps; cursors = replicate c Closed; operands = []; frames = [] } })) rs.cursors) in
       body-runs r rs at m now ended.outcome ended.state
-      (meets-from file code routine r outermost alone rs.last from ended.outcome ended.state ((simulates file code stands h).done routine r outermost alone at rs fits routine.body 0 rs.last rs.body start refl))
+      (meets-from file code routine r outermost alone rs.last from ended.outcome ended.state ((simulates file code stands h).done routine r outermost alone at rs fits routine.body 0 rs.last rs.body start (refl, λ i e. all-closed routine.cursors i, all-begin (routine_at code n) r routine.cursors at rs.cursors)))
 
   -- the arguments are stored first
   entered-runs : (h : ℕ) (r : RawRoutine) (rs : RoutineStands file code routine r) → routine_at code n ≡ Some r → (g : Given (List Datum)) (state : State) → state ≡ first tables turns → IsPlain g

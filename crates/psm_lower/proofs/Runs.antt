@@ -1,5 +1,5 @@
 -- Runs that come from one state to another, row by row.
-use Rattle.std.proofs.Common.{◌≡◌, ◌+◌, refl, ap, ◌∙◌, subst, Some}
+use Rattle.std.proofs.Common.{◌≡◌, ℕ, true, nat_eq, arith, ◌+◌, refl, ap, ◌∙◌, subst, Some}
 use Rattle.psm_code.specs.declared.code.RawCode.{RawCode}
 use Rattle.psm_code.specs.declared.code.RawRoutine.{RawRoutine}
 use Rattle.psm_code.specs.declared.lines.CodeLine.{CodeLine}
@@ -45,3 +45,8 @@ leads-way code m n r l way p q e = leads-row (row-at code m r l p q ∙ ap (λ x
 pub leads-raised : (code : RawCode) (m n : Machine) (r : RawRoutine) (l : CodeLine) (c : Entries) → routine_at code m.running.routine ≡ Some r → line_at r m.running.line ≡ Some l
     → done code r l.instruction m ≡ record { given = Raises c; machine = n } → Leads code (More m) (raised code c n)
 leads-raised code m n r l c p q e = leads-row (row-at code m r l p q ∙ ap (λ x. settled code x.given x.machine) e)
+
+-- ---- numbers
+
+pub nat_eq-same : (n : ℕ) → nat_eq n n ≡ true
+nat_eq-same n = grind (arith)

@@ -24,7 +24,7 @@ use Rattle.psm_code.specs.Rows.{Way, settled}
 use Rattle.psm_code.specs.State as code_state
 use Rattle.psm_code.specs.State.{Machine, Turned}
 use Rattle.psm_code.specs.Steps as steps
-use Rattle.psm_lower.specs.Agreement.{Comes, IsDeep, Spot, areas, machine}
+use Rattle.psm_lower.specs.Agreement.{Comes, IsReady, Spot, areas, machine}
 use Rattle.psm_lower.specs.Env.{Env, Plain, Raising, place_of}
 use Rattle.psm_lower.specs.Scheme.{Simple}
 use Rattle.psm_lower.specs.Simulation.{Evals}
@@ -76,12 +76,12 @@ returned_at spot pc d st = returning d (machine spot pc [] st)
 abbrev tried_in : Result Datum SqlState → steps.Act Way
 tried_in v = steps.◌>>=◌ (steps.tried v) (λ v. steps.got (returning v))
 
-tried-comes : (code : RawCode) (r : RawRoutine) (k behind : ℕ) (spot : Spot) (m : Meaning) (pc : ℕ) → Raising r k behind pc instruction.Return → (st : State) → IsDeep spot st → (v : Result Datum SqlState)
+tried-comes : (code : RawCode) (r : RawRoutine) (k behind : ℕ) (spot : Spot) (m : Meaning) (pc : ℕ) → Raising r k behind pc instruction.Return → (st : State) → IsReady code spot st → (v : Result Datum SqlState)
     → Comes code r k behind spot (settled code (tried_in v (machine spot pc [] st)).given (tried_in v (machine spot pc [] st)).machine) (returned_at spot pc) (acts.tried v m st).given (acts.tried v m st).state
 tried-comes code r k behind spot m pc l st d (Ok v) = (leads-here, d)
 tried-comes code r k behind spot m pc l st d (Err s) = (record { pc = pc; operands = []; pending = None; line = _; there = l.there; context = refl; resume = refl; leads = leads-here }, d)
 
-given-comes : (code : RawCode) (r : RawRoutine) (k behind : ℕ) (spot : Spot) (m : Meaning) (pc : ℕ) → Raising r k behind pc instruction.Return → (d : Datum) (st : State) → IsDeep spot st → (x : Option SqlType)
+given-comes : (code : RawCode) (r : RawRoutine) (k behind : ℕ) (spot : Spot) (m : Meaning) (pc : ℕ) → Raising r k behind pc instruction.Return → (d : Datum) (st : State) → IsReady code spot st → (x : Option SqlType)
     → Comes code r k behind spot (settled code (giving d x (machine spot pc [] st)).given (giving d x (machine spot pc [] st)).machine) (returned_at spot pc) (meant d x m st).given (meant d x m st).state
 given-comes code r k behind spot m pc l d st deep None = tt
 given-comes code r k behind spot m pc l d st deep (Some t) = tried-comes code r k behind spot m pc l st deep (stored t d)

@@ -16,6 +16,7 @@ use Rattle.psm_lower.specs.Scheme.{Simple}
 use Rattle.psm_lower.proofs.Doing.{Does, Site, at_line}
 use Rattle.psm_lower.proofs.Simples.{does-return, does-set}
 use Rattle.psm_lower.proofs.SimplesChanging.{does-delete, does-insert, does-update}
+use Rattle.psm_lower.proofs.SimplesCursors.{does-close, does-fetch, does-open}
 use Rattle.psm_lower.proofs.SimplesDiagnostics.{does-diagnostics}
 use Rattle.psm_lower.proofs.SimplesInto.{does-select_into}
 use Rattle.psm_lower.proofs.SimplesLeaving.{does-iterate, does-leave}
@@ -40,6 +41,6 @@ does-simple site tables (simples.SelectInto query slots) call x = does-select_in
 does-simple site tables (simples.Insert table columns rows) call x = does-insert site tables table columns rows x
 does-simple site tables (simples.Update table sets which) call x = does-update site tables table sets which x
 does-simple site tables (simples.Delete table which) call x = does-delete site tables table which x
-does-simple site tables (simples.Open cursor) call x = absurd x
-does-simple site tables (simples.Fetch cursor slots) call x = absurd x
-does-simple site tables (simples.Close cursor) call x = absurd x
+does-simple site tables (simples.Open cursor) call x = does-open site cursor x
+does-simple site tables (simples.Fetch cursor slots) call x = does-fetch site cursor slots x
+does-simple site tables (simples.Close cursor) call x = does-close site cursor x

@@ -1,4 +1,4 @@
--- INSERT, UPDATE and DELETE without a cursor.
+-- INSERT, UPDATE and DELETE.
 use Rattle.std.proofs.Common.{◌≡◌, arith, ℕ, suc, ◌*◌, List, [], ◌∷◌, ◌++◌, length, slice_get, refl, ap, sym, ◌∙◌, subst, Option, Some, None}
 use Rattle.std.specs.Prelude.{drop, take}
 use Rattle.std.proofs.Math.Nat.{suc-mul, zero-mul}
@@ -25,7 +25,6 @@ use Rattle.psm_meaning.specs.Data as meaning
 use Rattle.psm_meaning.specs.Rows as trees
 use Rattle.psm_meaning.specs.State.{State}
 use Rattle.psm_meaning.specs.Statements.{simple}
-use Rattle.psm_code.specs.declared.code.Plan.{Plan}
 use Rattle.psm_code.specs.declared.code.Plan.TheVariants as plan_of
 use Rattle.psm_code.specs.declared.code.RawCode.{RawCode}
 use Rattle.psm_code.specs.declared.code.RawRoutine.{RawRoutine}
@@ -35,29 +34,22 @@ use Rattle.psm_code.specs.Plans as plans
 use Rattle.psm_code.specs.Rows as code_rows
 use Rattle.psm_code.specs.State.{Turned}
 use Rattle.psm_code.specs.Steps as steps
-use Rattle.psm_lower.specs.Agreement.{Comes, IsDeep, Leads, Spot, areas, machine}
+use Rattle.psm_lower.specs.Agreement.{Comes, IsReady, Leads, Spot, areas, machine, owns}
 use Rattle.psm_lower.specs.Changes.{IsDelete, IsUpdate, PutsRows, SameTable, TablesStand}
 use Rattle.psm_lower.specs.Env.{Env, Raising, place_of}
 use Rattle.psm_lower.specs.Expressions.{IsQuery, stacked}
 use Rattle.psm_lower.specs.Scheme.{Simple}
 use Rattle.psm_lower.specs.Simulation.{Evals, Simulates}
 use Rattle.psm_lower.proofs.Answering.{Means, Takes, comes-asked}
+use Rattle.psm_lower.proofs.Closing.{found-owned}
 use Rattle.psm_lower.proofs.Doing.{Does, Site, at_line}
 use Rattle.psm_lower.proofs.Entering.{pops-stacked}
 use Rattle.psm_lower.proofs.Evaluating.{comes-from, evals-bind}
 use Rattle.psm_lower.proofs.Operands.{evals-regrouped, gives-values-with}
-use Rattle.psm_lower.proofs.Runs.{behind_line, leads-here, leads-line, leads-same, leads-to}
+use Rattle.psm_lower.proofs.Runs.{behind_line, leads-here, leads-same, leads-to}
 use Rattle.psm_lower.proofs.Simples.{does-stated, evals-cleared, evals-end}
-use Rattle.psm_lower.proofs.SimplesTables.{delete-comes, put-comes, update-comes}
-
--- ---- the plan of a line
-
-abbrev planned : RawCode → RawRoutine → Option Plan → steps.Act (Unit {0})
-planned code r x = steps.◌>>=◌ (steps.present x) (plans.done code r)
-
-leads-plan : {code : RawCode} {r : RawRoutine} (spot : Spot) {k behind pc n : ℕ} → routine_at code spot.number ≡ Some r → Raising r k behind pc (instruction.Change n) → (p : Plan) → slice_get r.plans n ≡ Some p → (os : List Operand) (st : State)
-    → Leads code (at_line spot pc os st) (behind_line code (plans.done code r p) (machine spot pc os st))
-leads-plan {code = code} {r = r} spot {pc = pc} at l p there os st = leads-same (leads-line at l.there) (ap (λ x. behind_line code (planned code r x) (machine spot pc os st)) there)
+use Rattle.psm_lower.proofs.SimplesPositioned.{evals-delete_at, evals-update_at}
+use Rattle.psm_lower.proofs.SimplesTables.{delete-comes, leads-plan, put-comes, update-comes}
 
 -- ---- rows of values on the operands
 
@@ -139,7 +131,7 @@ evals-put file {code = code} {r = r} {k = k} {behind = behind} {spot = spot} {m 
 }
 
 some-comes : (file : ResolvedFile) (code : RawCode) (r : RawRoutine) (k behind : ℕ) (spot : Spot) (m : Meaning) (pc n : ℕ) → Raising r k behind pc (instruction.Change n) → (table : ℕ) (columns : List ℕ) → SameTable (slice_get file.tables table) (slice_get code.tables table)
-    → (st : State) → IsDeep spot st → (rows : List (List Datum))
+    → (st : State) → IsReady code spot st → (rows : List (List Datum))
     → Comes code r k behind spot (behind_line code (steps.◌>>=◌ (plans.some_rows rows) (plans.put_in code table columns)) (machine spot pc [] st)) (λ u. at_line spot (suc pc) [])
     (acts.◌>>=◌ (meaning.some_rows rows) (meaning.put_in file table columns) m st).given (acts.◌>>=◌ (meaning.some_rows rows) (meaning.put_in file table columns) m st).state
 some-comes file code r k behind spot m pc n l table columns same st d [] = (record { pc = pc; operands = []; pending = None; line = _; there = l.there; context = refl; resume = refl; leads = leads-here }, d)
@@ -183,7 +175,10 @@ does-update {file = file} site same table sets which.All (n, coded, test, clear,
     does-stated site (evals-bind (evals-cleared site.there clear []) (λ u. evals-end last (evals-update file site.there table sets None coded test (same table) is l there)))
 does-update {file = file} site same table sets (which.Test e) (n, coded, test, clear, is, there, l, last) =
     does-stated site (evals-bind (evals-cleared site.there clear []) (λ u. evals-end last (evals-update file site.there table sets (Some e) coded test (same table) is l there)))
-does-update site same table sets (which.Current cursor) x = absurd x
+does-update {file = file} {routine = routine} {env = env} {spot = spot} site same table sets (which.Current cursor) (n, coded, x, clear, sees, over, is, there, l, last) =
+    let own = found-owned cursor x env.cursors (owns spot.standing) site.fits.cursors.sees sees.first in
+    does-stated site (evals-bind (evals-cleared site.there clear []) (λ u. evals-end last
+    (evals-update_at file (place_of routine env (areas spot.standing)) site.there table sets coded cursor x sees.cursor own.0 own.1 sees.first over (same table) is l there)))
 
 -- ---- DELETE
 
@@ -202,4 +197,7 @@ does-delete {file = file} site same table which.All (n, test, clear, is, there, 
     does-stated site (evals-bind (evals-cleared site.there clear []) (λ u. evals-end last (evals-delete file site.there table None test (same table) is l there)))
 does-delete {file = file} site same table (which.Test e) (n, test, clear, is, there, l, last) =
     does-stated site (evals-bind (evals-cleared site.there clear []) (λ u. evals-end last (evals-delete file site.there table (Some e) test (same table) is l there)))
-does-delete site same table (which.Current cursor) x = absurd x
+does-delete {file = file} {routine = routine} {env = env} {spot = spot} site same table (which.Current cursor) (n, x, clear, sees, over, there, l, last) =
+    let own = found-owned cursor x env.cursors (owns spot.standing) site.fits.cursors.sees sees.first in
+    does-stated site (evals-bind (evals-cleared site.there clear []) (λ u. evals-end last
+    (evals-delete_at file (place_of routine env (areas spot.standing)) site.there table cursor x sees.cursor own.0 own.1 sees.first over l there)))

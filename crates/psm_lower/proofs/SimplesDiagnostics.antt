@@ -38,7 +38,7 @@ use Rattle.psm_code.specs.Rows.{applied_as, settled}
 use Rattle.psm_code.specs.Signalling as signals
 use Rattle.psm_code.specs.State.{Turned}
 use Rattle.psm_code.specs.Steps as steps
-use Rattle.psm_lower.specs.Agreement.{Comes, IsDeep, Leads, Spot, areas, machine}
+use Rattle.psm_lower.specs.Agreement.{Comes, IsReady, Leads, Spot, areas, machine}
 use Rattle.psm_lower.specs.Env.{Env, Raising, place_of}
 use Rattle.psm_lower.specs.Scheme.{ConditionItems, Simple, StatementItems, number_instruction}
 use Rattle.psm_lower.specs.Simulation.{Evals}
@@ -51,7 +51,7 @@ use Rattle.psm_lower.proofs.Storing.{evals-store}
 -- ---- evaluations where the area is known
 
 record Keeping (code : RawCode) (r : RawRoutine) (k behind : ℕ) (spot : Spot) (m : Meaning) (a : Diagnostics) (act : Act (Unit {0})) (from to : State → Turned) : Type 0 where
-  pub by : (st : State) → IsDeep spot st → st.area ≡ a → Comes code r k behind spot (from st) (λ u. to) (act m st).given (act m st).state
+  pub by : (st : State) → IsReady code spot st → st.area ≡ a → Comes code r k behind spot (from st) (λ u. to) (act m st).given (act m st).state
 
 keeps-from : {code : RawCode} {r : RawRoutine} {k behind : ℕ} {spot : Spot} {m : Meaning} {a : Diagnostics} {act : Act (Unit {0})} {from mid to : State → Turned} → ((st : State) → st.area ≡ a → Leads code (from st) (mid st))
     → Keeping code r k behind spot m a act mid to → Keeping code r k behind spot m a act from to
@@ -171,7 +171,7 @@ keeps-numbered place p same a d (Some e) known i items x = record { by = λ st d
 -- ---- the number
 
 named-comes : (code : RawCode) (r : RawRoutine) (k behind : ℕ) (spot : Spot) (m : Meaning) (a : Diagnostics) (pc end : ℕ) (go : Datum → Act (Unit {0})) → ((d : Datum) → Keeping code r k behind spot m a (go d) (at_line spot (suc pc) (Value d ∷ [])) (at_line spot end []))
-    → (st : State) → IsDeep spot st → st.area ≡ a → (x : Option Datum)
+    → (st : State) → IsReady code spot st → st.area ≡ a → (x : Option Datum)
     → Comes code r k behind spot (settled code (applied_as (with_named [] x) (machine spot pc [] st)).given (applied_as (with_named [] x) (machine spot pc [] st)).machine) (λ u. at_line spot end []) (acts.◌>>=◌ (acts.present x) go m st).given (acts.◌>>=◌ (acts.present x) go m st).state
 named-comes code r k behind spot m a pc end go h st d e None = tt
 named-comes code r k behind spot m a pc end go h st d e (Some v) = (h v).by st d e

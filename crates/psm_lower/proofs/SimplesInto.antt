@@ -30,7 +30,7 @@ use Rattle.psm_code.specs.Rows as code_rows
 use Rattle.psm_code.specs.State as code_state
 use Rattle.psm_code.specs.State.{Machine, Turned, More, first_warning}
 use Rattle.psm_code.specs.Steps as steps
-use Rattle.psm_lower.specs.Agreement.{Comes, IsDeep, Spot, areas, machine}
+use Rattle.psm_lower.specs.Agreement.{Comes, IsReady, Spot, areas, machine}
 use Rattle.psm_lower.specs.Env.{Env, Raising, place_of}
 use Rattle.psm_lower.specs.Expressions.{IsQuery}
 use Rattle.psm_lower.specs.Scheme.{Simple, Stores}
@@ -78,13 +78,13 @@ kept slot v = acts.◌>>=◌ (acts.tried v) (λ w. acts.◌>>◌ (acts.change (w
 abbrev waiting : Spot → ℕ → List Operand → Option SqlState → State → Machine
 waiting spot pc os w st = record (machine spot pc os st) { pending = w }
 
-kept-comes : (code : RawCode) (r : RawRoutine) (k behind : ℕ) (spot : Spot) (m : Meaning) (pc slot : ℕ) → Raising r k behind pc (instruction.Retrieve slot) → (below : List Operand) (w : Option SqlState) (st : State) → IsDeep spot st → (v : Result (Datum × Bool) SqlState)
+kept-comes : (code : RawCode) (r : RawRoutine) (k behind : ℕ) (spot : Spot) (m : Meaning) (pc slot : ℕ) → Raising r k behind pc (instruction.Retrieve slot) → (below : List Operand) (w : Option SqlState) (st : State) → IsReady code spot st → (v : Result (Datum × Bool) SqlState)
     → Comes code r k behind spot (behind_line code (keeping slot v) (waiting spot pc below w st)) (λ lost. pending_at spot (suc pc) below (losing_too lost w)) (kept slot v m st).given (kept slot v m st).state
 kept-comes code r k behind spot m pc slot l below w st d (Ok (v, false)) = (leads-here, d)
 kept-comes code r k behind spot m pc slot l below w st d (Ok (v, true)) = (leads-here, d)
 kept-comes code r k behind spot m pc slot l below w st d (Err s) = (record { pc = pc; operands = below; pending = w; line = _; there = l.there; context = refl; resume = refl; leads = leads-here }, d)
 
-typed-comes : (code : RawCode) (r : RawRoutine) (k behind : ℕ) (spot : Spot) (m : Meaning) (pc slot : ℕ) → Raising r k behind pc (instruction.Retrieve slot) → (d : Datum) (below : List Operand) (w : Option SqlState) (st : State) → IsDeep spot st → (x : Option SqlType)
+typed-comes : (code : RawCode) (r : RawRoutine) (k behind : ℕ) (spot : Spot) (m : Meaning) (pc slot : ℕ) → Raising r k behind pc (instruction.Retrieve slot) → (d : Datum) (below : List Operand) (w : Option SqlState) (st : State) → IsReady code spot st → (x : Option SqlType)
     → Comes code r k behind spot (behind_line code (retrieving slot x) (waiting spot pc (Value d ∷ below) w st)) (λ lost. pending_at spot (suc pc) below (losing_too lost w)) (meant slot d x m st).given (meant slot d x m st).state
 typed-comes code r k behind spot m pc slot l d below w st deep None = tt
 typed-comes code r k behind spot m pc slot l d below w st deep (Some t) = kept-comes code r k behind spot m pc slot l below w st deep (fetched t d)
@@ -127,7 +127,7 @@ evals-warned p l false false = record { by = λ st d. (leads-line p l.there, d) 
 
 -- ---- SELECT INTO
 
-put-values : (ds : List Datum) (n : Machine) → steps.put_values ds n ≡ record { given = steps.Got tt; machine = code_state.with_running (λ a. record a { operands = on_top ds a.operands }) n }
+pub put-values : (ds : List Datum) (n : Machine) → steps.put_values ds n ≡ record { given = steps.Got tt; machine = code_state.with_running (λ a. record a { operands = on_top ds a.operands }) n }
 put-values [] n = refl
 put-values (d ∷ ds) n = ap (λ came. steps.go_on came.given (λ u. steps.put_value d) came.machine) (put-values ds n)
 
@@ -144,7 +144,7 @@ row-put code spot pc st row true =
 row-put code spot pc st row false = ap (λ came. let c = steps.go_on came.given (λ u. steps.got code_rows.ahead) came.machine in settled code c.given c.machine) (put-values row (machine spot pc [] st))
 
 select-comes : (code : RawCode) (r : RawRoutine) (k behind : ℕ) (spot : Spot) (m : Meaning) (place : Place) → routine_at code spot.number ≡ Some r → slots_of r ≡ place.routine.slots → (slots : List ℕ) (pc mid : ℕ) (i : Instruction) → Raising r k behind pc i
-    → Stores r k behind (λ slot. instruction.Retrieve slot) slots (suc pc) mid → Raising r k behind mid instruction.Warn → (st : State) → IsDeep spot st → (skipped : Bool) (rows : List (List Datum))
+    → Stores r k behind (λ slot. instruction.Retrieve slot) slots (suc pc) mid → Raising r k behind mid instruction.Warn → (st : State) → IsReady code spot st → (skipped : Bool) (rows : List (List Datum))
     → Comes code r k behind spot (behind_line code (selecting rows skipped) (machine spot pc [] st)) (λ u. at_line spot (suc mid) []) (selected place slots rows skipped m st).given (selected place slots rows skipped m st).state
 select-comes code r k behind spot m place p same slots pc mid i l s w st d skipped [] = (record { pc = pc; operands = []; pending = None; line = _; there = l.there; context = refl; resume = refl; leads = leads-here }, d)
 select-comes code r k behind spot m place p same slots pc mid i l s w st d skipped (row ∷ []) =

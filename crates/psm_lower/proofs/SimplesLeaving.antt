@@ -11,43 +11,56 @@ use Rattle.psm_code.specs.declared.code.RawCode.{RawCode}
 use Rattle.psm_code.specs.declared.code.RawRoutine.{RawRoutine}
 use Rattle.psm_code.specs.declared.instruction.Instruction.TheVariants as instruction
 use Rattle.psm_code.specs.Parts.{routine_at}
+use Rattle.psm_code.specs.State.{closed_cursors}
 use Rattle.psm_lower.specs.Agreement.{Acting, AreEntered, AreStanding, ComesTo, Entered, Spot, Spotted, Standing, areas, iterating, leaving, with_standing}
-use Rattle.psm_lower.specs.Env.{Around, Env, IfElse, InBlock, InLoop, Iterates, Leaves, Plain, place_of}
+use Rattle.psm_lower.specs.Env.{Around, Env, IfElse, InBlock, InLoop, Iterates, Leaves, OverRows, Plain, place_of}
 use Rattle.psm_lower.specs.Scheme.{Simple}
 use Rattle.psm_lower.proofs.Doing.{Does, Site, at_line, leads-plain-jump}
 use Rattle.psm_lower.proofs.Exiting.{leads-exit}
-use Rattle.psm_lower.proofs.Raising.{comes-to-from}
+use Rattle.psm_lower.proofs.Raising.{comes-closed, comes-to-from}
 
 -- ---- the loop or the block that is named, or one outside
 
 leave-loop : (code : RawCode) (r : RawRoutine) (spot : Spot) (standing : List Standing) (pc out : ℕ) → routine_at code spot.number ≡ Some r → (others : Type 0) (other : Option Spotted) (st : State)
     → (others → ComesTo code spot (at_line (with_standing standing spot) pc [] st) other st) → (b : Bool) → IfElse b (Plain r pc (instruction.Operation (op.Jump out))) others
-    → ComesTo code spot (at_line (with_standing standing spot) pc [] st) (if b then Some (record { line = out; standing = standing }) else other) st
+    → ComesTo code spot (at_line (with_standing standing spot) pc [] st) (if b then Some (record { line = out; standing = standing; cursors = st.cursors }) else other) st
 leave-loop code r spot standing pc out p others other st h true l = leads-plain-jump (with_standing standing spot) p l [] st
 leave-loop code r spot standing pc out p others other st h false x = h x
 
 leaves-comes : (file : ResolvedFile) (code : RawCode) (routine : ResolvedRoutine) (r : RawRoutine) (spot : Spot) → routine_at code spot.number ≡ Some r → (level : ℕ) (st : State) (around : List Around) (standing : List Standing) (pc : ℕ)
-    → AreEntered around standing → AreStanding file code routine r standing → Leaves r around level pc → ComesTo code spot (at_line (with_standing standing spot) pc [] st) (leaving around level standing) st
+    → AreEntered around standing → AreStanding file code routine r standing → Leaves r around level pc → ComesTo code spot (at_line (with_standing standing spot) pc [] st) (leaving around level standing st.cursors) st
 leaves-comes file code routine r spot p level st [] standing pc e s x = absurd x
 leaves-comes file code routine r spot p level st (InLoop l out again ∷ around) standing pc e s x =
-    leave-loop code r spot standing pc out p (Leaves r around level pc) (leaving around level standing) st (λ y. leaves-comes file code routine r spot p level st around standing pc e s y) (nat_eq level l) x
+    leave-loop code r spot standing pc out p (Leaves r around level pc) (leaving around level standing st.cursors) st (λ y. leaves-comes file code routine r spot p level st around standing pc e s y) (nat_eq level l) x
 leaves-comes file code routine r spot p level st (InBlock l context exit ∷ around) [] pc e s x = absurd e
 leaves-comes file code routine r spot p level st (InBlock l context exit ∷ around) (Entered v outer found ∷ standing) pc e s x =
-    leave-loop code r spot (Entered v outer found ∷ standing) pc exit p (Plain r pc (instruction.Exit context) × Leaves r around level (suc pc)) (leaving around level standing) st
-    (λ y. comes-to-from code spot st (leads-exit spot v outer found standing p s.0.block (subst (λ k. Plain r pc (instruction.Exit k)) e.1 y.0) st) (leaving around level standing)
-    (leaves-comes file code routine r spot p level st around standing (suc pc) e.2 s.1 y.1)) (nat_eq level l) x
+    leave-loop code r spot (Entered v outer found ∷ standing) pc exit p (Plain r pc (instruction.Exit context) × Leaves r around level (suc pc)) (leaving around level standing (closed_cursors v.own st.cursors)) st
+    (λ y. comes-to-from code spot st (leads-exit spot v outer found standing p s.0.block (subst (λ k. Plain r pc (instruction.Exit k)) e.1 y.0) st) (leaving around level standing (closed_cursors v.own st.cursors))
+    (comes-closed code spot (at_line (with_standing standing spot) (suc pc) [] (record st { cursors = closed_cursors v.own st.cursors })) st (closed_cursors v.own st.cursors) (leaving around level standing (closed_cursors v.own st.cursors)) (leaves-comes file code routine r spot p level (record st { cursors = closed_cursors v.own st.cursors }) around standing (suc pc) e.2 s.1 y.1))) (nat_eq level l) x
 leaves-comes file code routine r spot p level st (InBlock l context exit ∷ around) (Acting n resume area ∷ standing) pc e s x = absurd e
+leaves-comes file code routine r spot p level st (OverRows context ∷ around) [] pc e s x = absurd e
+leaves-comes file code routine r spot p level st (OverRows context ∷ around) (Entered v outer found ∷ standing) pc e s x =
+    let cs = closed_cursors v.own st.cursors in
+    comes-to-from code spot st (leads-exit spot v outer found standing p s.0.block (subst (λ k. Plain r pc (instruction.Exit k)) e.0 x.0) st) (leaving around level standing cs)
+    (comes-closed code spot (at_line (with_standing standing spot) (suc pc) [] (record st { cursors = cs })) st cs (leaving around level standing cs) (leaves-comes file code routine r spot p level (record st { cursors = cs }) around standing (suc pc) e.1 s.1 x.1))
+leaves-comes file code routine r spot p level st (OverRows context ∷ around) (Acting n resume area ∷ standing) pc e s x = absurd e
 
 iterates-comes : (file : ResolvedFile) (code : RawCode) (routine : ResolvedRoutine) (r : RawRoutine) (spot : Spot) → routine_at code spot.number ≡ Some r → (level : ℕ) (st : State) (around : List Around) (standing : List Standing) (pc : ℕ)
-    → AreEntered around standing → AreStanding file code routine r standing → Iterates r around level pc → ComesTo code spot (at_line (with_standing standing spot) pc [] st) (iterating around level standing) st
+    → AreEntered around standing → AreStanding file code routine r standing → Iterates r around level pc → ComesTo code spot (at_line (with_standing standing spot) pc [] st) (iterating around level standing st.cursors) st
 iterates-comes file code routine r spot p level st [] standing pc e s x = absurd x
 iterates-comes file code routine r spot p level st (InLoop l out again ∷ around) standing pc e s x =
-    leave-loop code r spot standing pc again p (Iterates r around level pc) (iterating around level standing) st (λ y. iterates-comes file code routine r spot p level st around standing pc e s y) (nat_eq level l) x
+    leave-loop code r spot standing pc again p (Iterates r around level pc) (iterating around level standing st.cursors) st (λ y. iterates-comes file code routine r spot p level st around standing pc e s y) (nat_eq level l) x
 iterates-comes file code routine r spot p level st (InBlock l context exit ∷ around) [] pc e s x = absurd e
 iterates-comes file code routine r spot p level st (InBlock l context exit ∷ around) (Entered v outer found ∷ standing) pc e s x =
-    comes-to-from code spot st (leads-exit spot v outer found standing p s.0.block (subst (λ k. Plain r pc (instruction.Exit k)) e.1 x.0) st) (iterating around level standing)
-    (iterates-comes file code routine r spot p level st around standing (suc pc) e.2 s.1 x.1)
+    comes-to-from code spot st (leads-exit spot v outer found standing p s.0.block (subst (λ k. Plain r pc (instruction.Exit k)) e.1 x.0) st) (iterating around level standing (closed_cursors v.own st.cursors))
+    (comes-closed code spot (at_line (with_standing standing spot) (suc pc) [] (record st { cursors = closed_cursors v.own st.cursors })) st (closed_cursors v.own st.cursors) (iterating around level standing (closed_cursors v.own st.cursors)) (iterates-comes file code routine r spot p level (record st { cursors = closed_cursors v.own st.cursors }) around standing (suc pc) e.2 s.1 x.1))
 iterates-comes file code routine r spot p level st (InBlock l context exit ∷ around) (Acting n resume area ∷ standing) pc e s x = absurd e
+iterates-comes file code routine r spot p level st (OverRows context ∷ around) [] pc e s x = absurd e
+iterates-comes file code routine r spot p level st (OverRows context ∷ around) (Entered v outer found ∷ standing) pc e s x =
+    let cs = closed_cursors v.own st.cursors in
+    comes-to-from code spot st (leads-exit spot v outer found standing p s.0.block (subst (λ k. Plain r pc (instruction.Exit k)) e.0 x.0) st) (iterating around level standing cs)
+    (comes-closed code spot (at_line (with_standing standing spot) (suc pc) [] (record st { cursors = cs })) st cs (iterating around level standing cs) (iterates-comes file code routine r spot p level (record st { cursors = cs }) around standing (suc pc) e.1 s.1 x.1))
+iterates-comes file code routine r spot p level st (OverRows context ∷ around) (Acting n resume area ∷ standing) pc e s x = absurd e
 
 -- ---- the statements
 

@@ -30,7 +30,7 @@ use Rattle.psm_code.specs.Rows.{done, settled, then_ahead}
 use Rattle.psm_code.specs.Signalling as signals
 use Rattle.psm_code.specs.State.{Machine, Turned}
 use Rattle.psm_code.specs.Steps as steps
-use Rattle.psm_lower.specs.Agreement.{Acting, Comes, Entered, IsDeep, Spot, Standing, areas, frame_of, machine}
+use Rattle.psm_lower.specs.Agreement.{Acting, Comes, Entered, IsReady, Spot, Standing, areas, frame_of, machine}
 use Rattle.psm_lower.specs.Env.{Env, Raising, place_of}
 use Rattle.psm_lower.specs.Scheme.{IsDeclared, Signals, Simple}
 use Rattle.psm_lower.specs.Simulation.{Evals, Simulates}
@@ -49,7 +49,7 @@ Finish = Entry → Act (Unit {0})
 
 -- what an instruction does with the condition and without a message agrees with what is meant
 abbrev FinishesAs : RawCode → RawRoutine → ℕ → ℕ → Spot → Meaning → ℕ → Finishing → Finish → Type 0
-FinishesAs code r k behind spot m end finishing finish = (pc : ℕ) (i : Instruction) → Raising r k behind pc i → (e : Entry) (st : State) → IsDeep spot st
+FinishesAs code r k behind spot m end finishing finish = (pc : ℕ) (i : Instruction) → Raising r k behind pc i → (e : Entry) (st : State) → IsReady code spot st
     → Comes code r k behind spot (behind_line code (finishing e) (machine spot pc [] st)) (λ u. at_line spot end []) (finish e m st).given (finish e m st).state
 
 -- ---- the entry of a condition
@@ -84,7 +84,7 @@ abbrev with_both : Finishing → ℕ → Option Declared → steps.Act (Unit {0}
 with_both finishing n x = steps.◌>>=◌ (steps.◌>>=◌ (steps.present x) (λ d. steps.got (signals.entry_for n d))) (λ e. steps.◌>>=◌ (signals.with_message e) finishing)
 
 module _ (code : RawCode) (r : RawRoutine) (k behind : ℕ) (spot : Spot) (m : Meaning) (end : ℕ) (finishing : Finishing) (finish : Finish) (h : FinishesAs code r k behind spot m end finishing finish) where
-  message-comes : (pc : ℕ) (i : Instruction) → Raising r k behind pc i → (e : Entry) (st : State) → IsDeep spot st → (d : Datum)
+  message-comes : (pc : ℕ) (i : Instruction) → Raising r k behind pc i → (e : Entry) (st : State) → IsReady code spot st → (d : Datum)
       → Comes code r k behind spot (behind_line code (messaging d e finishing) (machine spot pc [] st)) (λ u. at_line spot end []) (meant_message d e finish m st).given (meant_message d e finish m st).state
   message-comes pc i l e st deep data_of.Null = h pc i l (record e { message = [] }) st deep
   message-comes pc i l e st deep (data_of.Num n) = tt
@@ -140,7 +140,7 @@ does-signal {file = file} {code = code} {routine = routine} {r = r} {m = m} {env
 -- ---- RESIGNAL
 
 -- the condition of the innermost action is the one of the innermost frame of an action
-activating-comes : (code : RawCode) (r : RawRoutine) (k behind : ℕ) (spot : Spot) (m : Meaning) (end pc : ℕ) (i : Instruction) → Raising r k behind pc i → (st : State) → IsDeep spot st → (c : Entries → Entries) → (standing : List Standing)
+activating-comes : (code : RawCode) (r : RawRoutine) (k behind : ℕ) (spot : Spot) (m : Meaning) (end pc : ℕ) (i : Instruction) → Raising r k behind pc i → (st : State) → IsReady code spot st → (c : Entries → Entries) → (standing : List Standing)
     → Comes code r k behind spot (behind_line code (steps.◌>>=◌ (signals.activating (map frame_of standing)) (λ x. steps.raises (c x))) (machine spot pc [] st)) (λ u. at_line spot end [])
     (acts.◌>>=◌ {B = Unit {0}} (signalling.activating (areas standing)) (λ x. acts.raises (c x)) m st).given (acts.◌>>=◌ {B = Unit {0}} (signalling.activating (areas standing)) (λ x. acts.raises (c x)) m st).state
 activating-comes code r k behind spot m end pc i l st d c [] = (record { pc = pc; operands = []; pending = None; line = _; there = l.there; context = refl; resume = refl; leads = leads-here }, d)

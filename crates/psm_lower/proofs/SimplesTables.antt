@@ -1,8 +1,9 @@
 -- INSERT, UPDATE and DELETE over their tables: the plan of a line changes a table as the statement does.
-use Rattle.std.proofs.Common.{◌≡◌, ℕ, zero, suc, List, [], map, slice_get, refl, sym, subst, Option, Some, None, option_map, Result, Ok, Err}
+use Rattle.std.proofs.Common.{◌≡◌, ℕ, zero, suc, List, [], map, slice_get, refl, ap, sym, subst, Option, Some, None, option_map, Result, Ok, Err}
 use Rattle.std.proofs.lemmas.Option.{slice_get-map}
 use Rattle.psm_value.specs.declared.datum.Datum.{Datum}
 use Rattle.psm_exprcode.specs.declared.op.Line.{Line}
+use Rattle.psm_exprcode.specs.declared.operand.Operand.{Operand}
 use Rattle.psm_exprcode.specs.declared.set_item.SetItem.{SetItem}
 use Rattle.psm_table.specs.Changing.{Changed, Failure, Raised, OfTable, Schema, deleted, inserted, updated}
 use Rattle.psm_table.specs.Table.{Contents}
@@ -19,16 +20,28 @@ use Rattle.psm_meaning.specs.Data as meaning
 use Rattle.psm_meaning.specs.Rows as trees
 use Rattle.psm_meaning.specs.State.{State}
 use Rattle.psm_code.specs.declared.code.CodeTable.{CodeTable}
+use Rattle.psm_code.specs.declared.code.Plan.{Plan}
 use Rattle.psm_code.specs.declared.code.RawCode.{RawCode}
 use Rattle.psm_code.specs.declared.code.RawRoutine.{RawRoutine}
 use Rattle.psm_code.specs.declared.instruction.Instruction.{Instruction}
+use Rattle.psm_code.specs.declared.instruction.Instruction.TheVariants as instruction
+use Rattle.psm_code.specs.Parts.{routine_at}
 use Rattle.psm_code.specs.Plans as plans
 use Rattle.psm_code.specs.Steps as steps
-use Rattle.psm_lower.specs.Agreement.{Comes, IsDeep, Spot, machine}
+use Rattle.psm_lower.specs.Agreement.{Comes, IsReady, Leads, Spot, machine}
 use Rattle.psm_lower.specs.Changes.{IsDelete, IsUpdate, SameTable, TableStands}
 use Rattle.psm_lower.specs.Env.{Raising}
 use Rattle.psm_lower.proofs.Doing.{at_line}
-use Rattle.psm_lower.proofs.Runs.{behind_line, leads-here}
+use Rattle.psm_lower.proofs.Runs.{behind_line, leads-here, leads-line, leads-same}
+
+-- ---- the plan of a line
+
+abbrev planned : RawCode → RawRoutine → Option Plan → steps.Act (Unit {0})
+planned code r x = steps.◌>>=◌ (steps.present x) (plans.done code r)
+
+pub leads-plan : {code : RawCode} {r : RawRoutine} (spot : Spot) {k behind pc n : ℕ} → routine_at code spot.number ≡ Some r → Raising r k behind pc (instruction.Change n) → (p : Plan) → slice_get r.plans n ≡ Some p → (os : List Operand) (st : State)
+    → Leads code (at_line spot pc os st) (behind_line code (plans.done code r p) (machine spot pc os st))
+leads-plan {code = code} {r = r} spot {pc = pc} at l p there os st = leads-same (leads-line at l.there) (ap (λ x. behind_line code (planned code r x) (machine spot pc os st)) there)
 
 -- ---- what the plan and the statement do with a table
 
@@ -56,25 +69,33 @@ module _ (code : RawCode) (r : RawRoutine) (k behind : ℕ) (spot : Spot) (m : M
 
   -- ---- the changed rows, or why nothing is changed
 
-  failed-comes : (thens : Changed → steps.Act (Unit {0})) (means : Changed → Act (Unit {0})) → ((st : State) → IsDeep spot st → (c : Changed) → Agrees (thens c) (means c) st)
-      → (st : State) → IsDeep spot st → (def : TableDef) (x : Result Changed Failure) → Agrees (steps.◌>>=◌ (plans.unless_failed def x) thens) (acts.◌>>=◌ (meaning.unless_failed def x) means) st
-  failed-comes thens means h st d def (Ok c) = h st d c
+  failed-comes : {A : Type 0} (thens : A → steps.Act (Unit {0})) (means : A → Act (Unit {0})) → ((st : State) → IsReady code spot st → (a : A) → Agrees (thens a) (means a) st)
+      → (st : State) → IsReady code spot st → (def : TableDef) (x : Result A Failure) → Agrees (steps.◌>>=◌ (plans.unless_failed def x) thens) (acts.◌>>=◌ (meaning.unless_failed def x) means) st
+  failed-comes thens means h st d def (Ok a) = h st d a
   failed-comes thens means h st d def (Err (Raised s)) = (record { pc = pc; operands = []; pending = None; line = _; there = l.there; context = refl; resume = refl; leads = leads-here }, d)
   failed-comes thens means h st d def (Err (OfTable s)) = (record { pc = pc; operands = []; pending = None; line = _; there = l.there; context = refl; resume = refl; leads = leads-here }, d)
 
-  counted-comes : (table : ℕ) (t : Contents) (rows : List (List Datum)) (st : State) → IsDeep spot st → (count : ℕ)
+  -- the same result, under a definition that is the same
+  pub same-comes : {A : Type 0} (thens : A → steps.Act (Unit {0})) (means : A → Act (Unit {0})) → ((st : State) → IsReady code spot st → (a : A) → Agrees (thens a) (means a) st)
+      → (st : State) → IsReady code spot st → (own def : TableDef) → own ≡ def → (coded meant : Result A Failure) → coded ≡ meant → Agrees (steps.◌>>=◌ (plans.unless_failed own coded) thens) (acts.◌>>=◌ (meaning.unless_failed def meant) means) st
+  same-comes thens means h st d own def e coded meant same =
+      subst (λ q. Agrees (steps.◌>>=◌ (plans.unless_failed q coded) thens) (acts.◌>>=◌ (meaning.unless_failed def meant) means) st) (sym e)
+      (subst (λ q. Agrees (steps.◌>>=◌ (plans.unless_failed def q) thens) (acts.◌>>=◌ (meaning.unless_failed def meant) means) st) (sym same)
+      (failed-comes thens means h st d def meant))
+
+  counted-comes : (table : ℕ) (t : Contents) (rows : List (List Datum)) (st : State) → IsReady code spot st → (count : ℕ)
       → Agrees (steps.◌>>◌ (plans.leaves table t rows count) (plans.some_row count)) (acts.◌>>◌ (meaning.leaves table t rows count) (meaning.some_row count)) st
   counted-comes table t rows st d zero = (record { pc = pc; operands = []; pending = None; line = _; there = l.there; context = refl; resume = refl; leads = leads-here }, d)
   counted-comes table t rows st d (suc count) = (leads-here, d)
 
   -- ---- the table
 
-  found-comes : (coded : Contents → steps.Act (Unit {0})) (meant : Contents → Act (Unit {0})) → (st : State) → IsDeep spot st → ((c : Contents) → Agrees (coded c) (meant c) st) → (x : Option Contents)
+  pub found-comes : (coded : Contents → steps.Act (Unit {0})) (meant : Contents → Act (Unit {0})) → (st : State) → IsReady code spot st → ((c : Contents) → Agrees (coded c) (meant c) st) → (x : Option Contents)
       → Agrees (steps.◌>>=◌ (steps.present x) coded) (acts.◌>>=◌ (acts.present x) meant) st
   found-comes coded meant st d h None = tt
   found-comes coded meant st d h (Some c) = h c
 
-  schema-comes : (table : ℕ) (coded : Coded) (meant : Meant) (st : State) → IsDeep spot st → (t : Option ResolvedTable) (u : Option CodeTable) → SameTable t u
+  schema-comes : (table : ℕ) (coded : Coded) (meant : Meant) (st : State) → IsReady code spot st → (t : Option ResolvedTable) (u : Option CodeTable) → SameTable t u
       → ((x : ResolvedTable) (y : CodeTable) → t ≡ Some x → u ≡ Some y → TableStands x y → (c : Contents) → Agrees (coded (plans.schema_of y) c) (meant (meaning.schema_of x) c) st)
       → Agrees (coded_over table coded (option_map plans.schema_of u)) (meant_over table meant (option_map meaning.schema_of t)) st
   schema-comes table coded meant st d None None s h = tt
@@ -82,7 +103,7 @@ module _ (code : RawCode) (r : RawRoutine) (k behind : ℕ) (spot : Spot) (m : M
   schema-comes table coded meant st d (Some x) None s h = absurd s
   schema-comes table coded meant st d (Some x) (Some y) s h = found-comes (coded (plans.schema_of y)) (meant (meaning.schema_of x)) st d (h x y refl refl s) (slice_get st.tables table)
 
-  table-comes : (file : ResolvedFile) (table : ℕ) (coded : Coded) (meant : Meant) (st : State) → IsDeep spot st → SameTable (slice_get file.tables table) (slice_get code.tables table)
+  pub table-comes : (file : ResolvedFile) (table : ℕ) (coded : Coded) (meant : Meant) (st : State) → IsReady code spot st → SameTable (slice_get file.tables table) (slice_get code.tables table)
       → ((x : ResolvedTable) (y : CodeTable) → slice_get file.tables table ≡ Some x → slice_get code.tables table ≡ Some y → TableStands x y → (c : Contents) → Agrees (coded (plans.schema_of y) c) (meant (meaning.schema_of x) c) st)
       → Agrees (coded_over table coded (slice_get (map plans.schema_of code.tables) table)) (meant_over table meant (slice_get (map meaning.schema_of file.tables) table)) st
   table-comes file table coded meant st d s h =
@@ -92,7 +113,7 @@ module _ (code : RawCode) (r : RawRoutine) (k behind : ℕ) (spot : Spot) (m : M
 
   -- ---- INSERT
 
-  insert-comes : (table : ℕ) (columns : List ℕ) (rows : List (List Datum)) (st : State) → IsDeep spot st → (x : ResolvedTable) (y : CodeTable) → TableStands x y → (c : Contents)
+  insert-comes : (table : ℕ) (columns : List ℕ) (rows : List (List Datum)) (st : State) → IsReady code spot st → (x : ResolvedTable) (y : CodeTable) → TableStands x y → (c : Contents)
       → Agrees (insert_coded table columns rows (plans.schema_of y) c) (insert_meant table columns rows (meaning.schema_of x) c) st
   insert-comes table columns rows st d x y s c =
       let act = insert_meant table columns rows (meaning.schema_of x) c in
@@ -103,7 +124,7 @@ module _ (code : RawCode) (r : RawRoutine) (k behind : ℕ) (spot : Spot) (m : M
       (subst (λ q. Agrees (steps.◌>>=◌ (plans.unless_failed x.definition q) thens) act st) (sym (s.inserts (new x.definition) c.rows))
       (failed-comes thens means (λ st d q. (leads-here, d)) st d x.definition (inserted meaning.plain (meaning.schema_of x) (new x.definition) c.rows)))
 
-  pub put-comes : (file : ResolvedFile) (table : ℕ) → SameTable (slice_get file.tables table) (slice_get code.tables table) → (columns : List ℕ) (rows : List (List Datum)) (st : State) → IsDeep spot st
+  pub put-comes : (file : ResolvedFile) (table : ℕ) → SameTable (slice_get file.tables table) (slice_get code.tables table) → (columns : List ℕ) (rows : List (List Datum)) (st : State) → IsReady code spot st
       → Agrees (plans.put_in code table columns rows) (meaning.put_in file table columns rows) st
   put-comes file table s columns rows st d =
       table-comes file table (insert_coded table columns rows) (insert_meant table columns rows) st d s (λ x y p q s c. insert-comes table columns rows st d x y s c)
@@ -127,25 +148,23 @@ module _ (code : RawCode) (r : RawRoutine) (k behind : ℕ) (spot : Spot) (m : M
       acts.◌>>=◌ (meaning.unless_failed s.def (deleted (trees.over vars) test t.rows)) (λ c. acts.◌>>◌ (meaning.leaves table t c.rows c.count) (meaning.some_row c.count)))
 
   -- rows that are changed as the statement changes them, under a definition that is the same
-  changed-comes : (table : ℕ) (t : Contents) (st : State) → IsDeep spot st → (own def : TableDef) → own ≡ def → (coded meant : Result Changed Failure) → coded ≡ meant
+  changed-comes : (table : ℕ) (t : Contents) (st : State) → IsReady code spot st → (own def : TableDef) → own ≡ def → (coded meant : Result Changed Failure) → coded ≡ meant
       → Agrees (steps.◌>>=◌ (plans.unless_failed own coded) (λ c. steps.◌>>◌ (plans.leaves table t c.rows c.count) (plans.some_row c.count)))
       (acts.◌>>=◌ (meaning.unless_failed def meant) (λ c. acts.◌>>◌ (meaning.leaves table t c.rows c.count) (meaning.some_row c.count))) st
   changed-comes table t st d own def e coded meant same =
       let thens : Changed → steps.Act (Unit {0}) = λ c. steps.◌>>◌ (plans.leaves table t c.rows c.count) (plans.some_row c.count) in
       let means : Changed → Act (Unit {0}) = λ c. acts.◌>>◌ (meaning.leaves table t c.rows c.count) (meaning.some_row c.count) in
-      subst (λ q. Agrees (steps.◌>>=◌ (plans.unless_failed q coded) thens) (acts.◌>>=◌ (meaning.unless_failed def meant) means) st) (sym e)
-      (subst (λ q. Agrees (steps.◌>>=◌ (plans.unless_failed def q) thens) (acts.◌>>=◌ (meaning.unless_failed def meant) means) st) (sym same)
-      (failed-comes thens means (λ st d c. counted-comes table t c.rows st d c.count) st d def meant))
+      same-comes thens means (λ st d c. counted-comes table t c.rows st d c.count) st d own def e coded meant same
 
   pub update-comes : (file : ResolvedFile) (table : ℕ) → SameTable (slice_get file.tables table) (slice_get code.tables table) → (sets : List ResolvedSet) (test : Option ResolvedExpr) (coded : List SetItem) (coded_test : Option (List Line))
-      → IsUpdate file code table sets test coded coded_test → (st : State) → IsDeep spot st → Agrees (plans.update_rows code table coded coded_test) (meaning.update_rows file table sets test) st
+      → IsUpdate file code table sets test coded coded_test → (st : State) → IsReady code spot st → Agrees (plans.update_rows code table coded coded_test) (meaning.update_rows file table sets test) st
   update-comes file table s sets test coded coded_test u st d =
       table-comes file table (update_coded table coded coded_test) (update_meant table sets test) st d s (λ x y p q e c.
       changed-comes table c st d y.definition x.definition e.definition (updated (codes.over st.variables) plans.plain (plans.schema_of y) (map plans.set_item coded) coded_test c.rows)
       (updated (trees.over st.variables) meaning.plain (meaning.schema_of x) (map meaning.set_item sets) test c.rows) (u.same x y p q st.variables c.rows))
 
   pub delete-comes : (file : ResolvedFile) (table : ℕ) → SameTable (slice_get file.tables table) (slice_get code.tables table) → (test : Option ResolvedExpr) (coded_test : Option (List Line))
-      → IsDelete test coded_test → (st : State) → IsDeep spot st → Agrees (plans.delete_rows code table coded_test) (meaning.delete_rows file table test) st
+      → IsDelete test coded_test → (st : State) → IsReady code spot st → Agrees (plans.delete_rows code table coded_test) (meaning.delete_rows file table test) st
   delete-comes file table s test coded_test u st d =
       table-comes file table (delete_coded table coded_test) (delete_meant table test) st d s (λ x y p q e c.
       changed-comes table c st d y.definition x.definition e.definition (deleted (codes.over st.variables) coded_test c.rows) (deleted (trees.over st.variables) test c.rows) (u.same st.variables c.rows))

@@ -16,7 +16,7 @@ use Rattle.psm_code.specs.declared.code.RawCode.{RawCode}
 use Rattle.psm_code.specs.declared.code.RawRoutine.{RawRoutine}
 use Rattle.psm_lower.specs.Agreement.{Spot, areas}
 use Rattle.psm_lower.specs.Env.{Env, place_of}
-use Rattle.psm_lower.specs.Scheme.{Simple, Stands, case, compared, compound, if_, loop, repeat, simple, while}
+use Rattle.psm_lower.specs.Scheme.{Simple, Stands, case, compared, compound, for_, if_, loop, repeat, simple, while}
 use Rattle.psm_lower.specs.Simulation.{FileStands, Simulates}
 use Rattle.psm_lower.proofs.Choices.{does-compares, does-drop, does-otherwise}
 use Rattle.psm_lower.proofs.Compounds.{does-compound}
@@ -25,6 +25,7 @@ use Rattle.psm_lower.proofs.Procedures.{evals-call}
 use Rattle.psm_lower.proofs.SimplesAll.{does-simple}
 use Rattle.psm_lower.proofs.Functions.{called-evals}
 use Rattle.psm_lower.proofs.Looping.{does-branches, does-loop, does-repeat, does-while}
+use Rattle.psm_lower.proofs.Rounds.{does-for, does-round, does-rounds}
 use Rattle.psm_lower.proofs.Parts.{evals-value_of}
 use Rattle.psm_lower.proofs.Valued.{value-stepped}
 
@@ -48,6 +49,7 @@ module _ (file : ResolvedFile) (code : RawCode) (stands : FileStands file code) 
   does-statement {routine = routine} {r = r} {m = m} {spot = spot} site (case {env = env} {s = s} {pc = pc} {end = end} branches otherwise e b x) = subst (DoesAs routine r m spot env s pc end) (sym e) (does-branches site b (does-otherwise site x))
   does-statement {routine = routine} {r = r} {m = m} {spot = spot} site (compared {env = env} {s = s} {pc = pc} {end = end} operand branches otherwise e p b drop x) =
       subst (DoesAs routine r m spot env s pc end) (sym e) (does-after site (evals-value_of site.simulates site.there p []) (λ d. does-compares site b d (does-drop site.there drop d (does-otherwise site x))))
+  does-statement {routine = routine} {r = r} {m = m} {spot = spot} site (for_ {env = env} {s = s} {pc = pc} {last = last} level context head statements inside e b o n t x k ss j q) = subst (DoesAs routine r m spot env s pc (suc (suc last))) (sym e) (does-for site level context head statements inside b o n t x k ss j q)
   does-statement {routine = routine} {r = r} {m = m} {spot = spot} site (simple {env = env} {s = s} {pc = pc} {end = end} simply e x) = subst (DoesAs routine r m spot env s pc end) (sym e) (does-simple site stands.tables simply (calls-do site) x)
 
   -- one step
@@ -55,9 +57,10 @@ module _ (file : ResolvedFile) (code : RawCode) (stands : FileStands file code) 
   stepped m sim = record {
     value = value-stepped file code m stands sim (λ r spot there context resume. called-evals file code m stands sim r spot there context resume);
     done = λ routine r env spot there rs fits s pc end x st d. (does-statement (record { simulates = sim; stands = rs; there = there; fits = fits }) x).by st d;
+    rounds = λ routine r env spot there rs fits level exit start head statements x owned st d. (does-round (record { simulates = sim; stands = rs; there = there; fits = fits }) level head statements x owned (does-rounds (record { simulates = sim; stands = rs; there = there; fits = fits }) level head statements x owned)).by st d;
   }
 
   -- the meaning to each height
   pub simulates : (h : ℕ) → Simulates file code (meaning file h)
-  simulates zero = record { value = λ r spot there context resume e pc end p below. record { by = λ st d. tt }; done = λ routine r env spot there rs fits s pc end x st d. tt }
+  simulates zero = record { value = λ r spot there context resume e pc end p below. record { by = λ st d. tt }; done = λ routine r env spot there rs fits s pc end x st d. tt; rounds = λ routine r env spot there rs fits level exit start head statements x owned st d. tt }
   simulates (suc h) = stepped (meaning file h) (simulates h)

@@ -24,7 +24,7 @@ use Rattle.psm_code.specs.Rows.{settled, then_ahead}
 use Rattle.psm_code.specs.State as code_state
 use Rattle.psm_code.specs.State.{Machine, Turned, More}
 use Rattle.psm_code.specs.Steps as steps
-use Rattle.psm_lower.specs.Agreement.{Comes, IsDeep, Spot, machine}
+use Rattle.psm_lower.specs.Agreement.{Comes, IsReady, Spot, machine}
 use Rattle.psm_lower.specs.Env.{Raising}
 use Rattle.psm_lower.specs.Scheme.{Copies, Declares, Default}
 use Rattle.psm_lower.specs.Simulation.{Evals, Simulates}
@@ -48,12 +48,12 @@ keeping slot v = steps.◌>>=◌ (steps.tried v) (λ w. steps.change (code_state
 abbrev holding : ℕ → Result Datum SqlState → meaning.Act (Unit {0})
 holding slot v = meaning.◌>>=◌ (meaning.tried v) (λ w. meaning.change (with_variable slot w))
 
-stored-comes : (code : RawCode) (r : RawRoutine) (k behind : ℕ) (spot : Spot) (m : Meaning) (pc slot : ℕ) → Raising r k behind pc (instruction.Store slot) → (d : Datum) (below : List Operand) (st : State) → IsDeep spot st → (v : Result Datum SqlState)
+stored-comes : (code : RawCode) (r : RawRoutine) (k behind : ℕ) (spot : Spot) (m : Meaning) (pc slot : ℕ) → Raising r k behind pc (instruction.Store slot) → (d : Datum) (below : List Operand) (st : State) → IsReady code spot st → (v : Result Datum SqlState)
     → Comes code r k behind spot (settled code (then_ahead (keeping slot v) (machine spot pc below st)).given (then_ahead (keeping slot v) (machine spot pc below st)).machine) (λ u. at_line spot (suc pc) below) (holding slot v m st).given (holding slot v m st).state
 stored-comes code r k behind spot m pc slot l d below st deep (Ok v) = (leads-here, deep)
 stored-comes code r k behind spot m pc slot l d below st deep (Err s) = (record { pc = pc; operands = below; pending = None; line = _; there = l.there; context = refl; resume = refl; leads = leads-here }, deep)
 
-typed-comes : (code : RawCode) (r : RawRoutine) (k behind : ℕ) (spot : Spot) (m : Meaning) (pc slot : ℕ) → Raising r k behind pc (instruction.Store slot) → (d : Datum) (below : List Operand) (st : State) → IsDeep spot st → (x : Option SqlType)
+typed-comes : (code : RawCode) (r : RawRoutine) (k behind : ℕ) (spot : Spot) (m : Meaning) (pc slot : ℕ) → Raising r k behind pc (instruction.Store slot) → (d : Datum) (below : List Operand) (st : State) → IsReady code spot st → (x : Option SqlType)
     → Comes code r k behind spot (settled code (then_ahead (storing slot x) (machine spot pc (Value d ∷ below) st)).given (then_ahead (storing slot x) (machine spot pc (Value d ∷ below) st)).machine) (λ u. at_line spot (suc pc) below)
     (assigning slot d x m st).given (assigning slot d x m st).state
 typed-comes code r k behind spot m pc slot l d below st deep None = tt

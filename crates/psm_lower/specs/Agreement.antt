@@ -1,5 +1,5 @@
 -- What a run of the code comes to, where the meaning of a part is known.
-use Rattle.std.specs.Prelude.{◌≡◌, ◌⊎◌, ℕ, suc, Bool, true, false, List, [], ◌∷◌, length, map, nat_eq, Option, Some, None, if◌then◌else◌}
+use Rattle.std.specs.Prelude.{◌≡◌, ◌⊎◌, ℕ, suc, Bool, true, false, ◌||◌, List, [], ◌∷◌, length, map, nat_eq, slice_get, Option, Some, None, if◌then◌else◌}
 use Rattle.psm_sqlstate.specs.declared.state.SqlState.{SqlState}
 use Rattle.psm_sqlstate.specs.Kind.{kind_of}
 use Rattle.psm_value.specs.declared.datum.Datum.{Datum}
@@ -10,9 +10,12 @@ use Rattle.psm_cond.specs.declared.handlers.Handler.{Handler}
 use Rattle.psm_cond.specs.declared.handlers.HandlerKind.{HandlerKind}
 use Rattle.psm_cond.specs.declared.handlers.HandlerKind.TheVariants as kinds
 use Rattle.psm_exprcode.specs.declared.operand.Operand.{Operand}
+use Rattle.psm_table.specs.Cursors.{Cursor, Closed}
+use Rattle.psm_table.specs.Cursors as cursors
 use Rattle.psm_table.specs.Table.{Contents}
 use Rattle.psm_resolved.specs.declared.file.ResolvedFile.{ResolvedFile}
 use Rattle.psm_resolved.specs.declared.file.ResolvedRoutine.{ResolvedRoutine}
+use Rattle.psm_resolved.specs.declared.statement.ResolvedCursor.{ResolvedCursor}
 use Rattle.psm_resolved.specs.declared.statement.ResolvedHandler.{ResolvedHandler, out-ResolvedHandler}
 use Rattle.psm_meaning.specs.Acts as meaning
 use Rattle.psm_meaning.specs.Acts.{Outcome, Normal, Leave, Iterate, Return, Raised, Away, Stopped, NoTurns, NoHeight, Lacking}
@@ -21,15 +24,15 @@ use Rattle.psm_code.specs.declared.code.RawCode.{RawCode}
 use Rattle.psm_code.specs.declared.code.RawRoutine.{RawRoutine}
 use Rattle.psm_code.specs.declared.lines.CodeLine.{CodeLine}
 use Rattle.psm_code.specs.Calling.{left_values}
-use Rattle.psm_code.specs.Parts.{block_at, line_at}
+use Rattle.psm_code.specs.Parts.{block_at, line_at, routine_at}
 use Rattle.psm_code.specs.Raising.{put_back, raised, raised_in}
 use Rattle.psm_code.specs.Rows.{rows}
 use Rattle.psm_code.specs.State as ends
-use Rattle.psm_code.specs.State.{Activation, Frame, Machine, Turned, More, Over}
+use Rattle.psm_code.specs.State.{Activation, Frame, Machine, Turned, More, Over, closed_cursors}
 use Rattle.psm_code.specs.declared.instruction.Instruction.TheVariants as instruction
-use Rattle.psm_lower.specs.Env.{Around, Env, InBlock, InLoop, Plain, Visible, in_action}
+use Rattle.psm_lower.specs.Env.{Apart, Around, Env, InBlock, InLoop, Numbers, OverRows, Plain, Visible, are, in_action}
 use Rattle.psm_cond.specs.Handlers.{scopes}
-use Rattle.psm_lower.specs.Scheme.{Handles, IsHandler, Stands}
+use Rattle.psm_lower.specs.Scheme.{Asks, Handles, IsHandler, Stands}
 
 -- ---- runs
 
@@ -76,9 +79,30 @@ machine spot line operands st = record {
   tables = st.tables;
 }
 
--- as many routines run as the meaning counts
-abbrev pub IsDeep : Spot → State → Type 0
-IsDeep spot st = st.depth ≡ suc (length spot.callers)
+-- the cursors of the blocks that are entered which may be open
+abbrev pub owns : List Standing → Numbers
+owns [] = λ n. false
+owns (Entered v outer found ∷ standing) = λ n. are v.moved n || owns standing n
+owns (Acting k resume area ∷ standing) = owns standing
+
+abbrev pub IsClosed : Option Cursor → Type 0
+IsClosed None = Unit {0}
+IsClosed (Some Closed) = Unit {0}
+IsClosed (Some (cursors.Plain p vars)) = ⊥
+IsClosed (Some (cursors.Insensitive rows)) = ⊥
+
+-- all but these are closed
+abbrev pub OthersClosed : Numbers → List Cursor → Type 0
+OthersClosed f cs = (n : ℕ) → f n ≡ false → IsClosed (slice_get cs n)
+
+-- the activation has all the cursors of its routine
+abbrev pub HasAll : Option RawRoutine → List Cursor → Type 0
+HasAll None cs = Unit {0}
+HasAll (Some r) cs = length cs ≡ length r.cursors
+
+-- as many routines run as the meaning counts, and the cursors of blocks that aren't entered are closed
+abbrev pub IsReady : RawCode → Spot → State → Type 0
+IsReady code spot st = (st.depth ≡ suc (length spot.callers)) × OthersClosed (owns spot.standing) st.cursors × HasAll (routine_at code spot.number) st.cursors
 
 -- ---- blocks whose handlers are in scope are entered
 
@@ -99,6 +123,9 @@ AreEntered (InLoop l out again ∷ around) standing = AreEntered around standing
 AreEntered (InBlock l context exit ∷ around) [] = ⊥
 AreEntered (InBlock l context exit ∷ around) (Entered v outer found ∷ standing) = (l ≡ v.level) × (context ≡ v.context) × AreEntered around standing
 AreEntered (InBlock l context exit ∷ around) (Acting n resume area ∷ standing) = ⊥
+AreEntered (OverRows context ∷ around) [] = ⊥
+AreEntered (OverRows context ∷ around) (Entered v outer found ∷ standing) = (context ≡ v.context) × AreEntered around standing
+AreEntered (OverRows context ∷ around) (Acting n resume area ∷ standing) = ⊥
 
 -- ---- how an evaluation comes out: its value on the operands, at a line; a condition, raised at some line of the statement
 
@@ -124,8 +151,8 @@ StopsAs code from NoHeight = Unit {0}
 StopsAs code from Lacking = Unit {0}
 
 abbrev pub Comes : RawCode → RawRoutine → ℕ → ℕ → Spot → Turned → {A : Type 0} → (A → State → Turned) → meaning.Given A → State → Type 0
-Comes code r context resume spot from to (meaning.Got a) st = Leads code from (to a st) × IsDeep spot st
-Comes code r context resume spot from to (meaning.Raises c) st = RaisedAt code r context resume spot from c st × IsDeep spot st
+Comes code r context resume spot from to (meaning.Got a) st = Leads code from (to a st) × IsReady code spot st
+Comes code r context resume spot from to (meaning.Raises c) st = RaisedAt code r context resume spot from c st × IsReady code spot st
 Comes code r context resume spot from to (meaning.Ends stop) st = StopsAs code from stop
 
 -- ---- how a statement comes out
@@ -136,28 +163,36 @@ tables_left undo [] tables = tables
 tables_left undo (Entered v outer found ∷ standing) tables = tables_left undo standing (put_back undo found tables)
 tables_left undo (Acting n resume area ∷ standing) tables = tables_left undo standing tables
 
--- LEAVE: the line where the run goes on, and what is entered there
+-- LEAVE: the line where the run goes on, what is entered there, and the cursors, of which those of the blocks that are left are closed
 pub record Spotted : Type 0 where
   pub line : ℕ
   pub standing : List Standing
+  pub cursors : List Cursor
 
 abbrev pub outside : List Standing → List Standing
 outside [] = []
 outside (s ∷ standing) = standing
 
-abbrev pub leaving : List Around → ℕ → List Standing → Option Spotted
-leaving [] level standing = None
-leaving (InLoop l out again ∷ around) level standing = if nat_eq level l then Some (record { line = out; standing = standing }) else leaving around level standing
-leaving (InBlock l context exit ∷ around) level standing = if nat_eq level l then Some (record { line = exit; standing = standing }) else leaving around level (outside standing)
+abbrev pub closing : List Standing → List Cursor → List Cursor
+closing [] cs = cs
+closing (Entered v outer found ∷ standing) cs = closed_cursors v.own cs
+closing (Acting n resume area ∷ standing) cs = cs
 
-abbrev pub iterating : List Around → ℕ → List Standing → Option Spotted
-iterating [] level standing = None
-iterating (InLoop l out again ∷ around) level standing = if nat_eq level l then Some (record { line = again; standing = standing }) else iterating around level standing
-iterating (InBlock l context exit ∷ around) level standing = iterating around level (outside standing)
+abbrev pub leaving : List Around → ℕ → List Standing → List Cursor → Option Spotted
+leaving [] level standing cs = None
+leaving (InLoop l out again ∷ around) level standing cs = if nat_eq level l then Some (record { line = out; standing = standing; cursors = cs }) else leaving around level standing cs
+leaving (InBlock l context exit ∷ around) level standing cs = if nat_eq level l then Some (record { line = exit; standing = standing; cursors = cs }) else leaving around level (outside standing) (closing standing cs)
+leaving (OverRows context ∷ around) level standing cs = leaving around level (outside standing) (closing standing cs)
+
+abbrev pub iterating : List Around → ℕ → List Standing → List Cursor → Option Spotted
+iterating [] level standing cs = None
+iterating (InLoop l out again ∷ around) level standing cs = if nat_eq level l then Some (record { line = again; standing = standing; cursors = cs }) else iterating around level standing cs
+iterating (InBlock l context exit ∷ around) level standing cs = iterating around level (outside standing) (closing standing cs)
+iterating (OverRows context ∷ around) level standing cs = iterating around level (outside standing) (closing standing cs)
 
 abbrev pub ComesTo : RawCode → Spot → Turned → Option Spotted → State → Type 0
 ComesTo code spot from None st = ⊥
-ComesTo code spot from (Some s) st = Leads code from (More (machine (with_standing s.standing spot) s.line [] st))
+ComesTo code spot from (Some s) st = Leads code from (More (machine (with_standing s.standing spot) s.line [] (record st { cursors = s.cursors })))
 
 -- the routine returns the value; the machine has these tables and turns, and success in its area
 pub record Returns (code : RawCode) (spot : Spot) (from : Turned) (d : Datum) (st : State) : Type 0 where
@@ -196,12 +231,13 @@ pub record Arrived : Type 0 where
   pub found : Option (List Contents)
   pub standing : List Standing
   pub tables : List Contents
+  pub cursors : List Cursor
 
-abbrev pub arriving : Bool → ℕ → List Standing → List Contents → Option Arrived
-arriving undo level [] tables = None
-arriving undo level (Entered v outer found ∷ standing) tables =
-    if nat_eq level v.level then Some (record { block = v; outer = outer; found = found; standing = standing; tables = tables }) else arriving undo level standing (put_back undo found tables)
-arriving undo level (Acting n resume area ∷ standing) tables = arriving undo level standing tables
+abbrev pub arriving : Bool → ℕ → List Standing → List Contents → List Cursor → Option Arrived
+arriving undo level [] tables cs = None
+arriving undo level (Entered v outer found ∷ standing) tables cs =
+    if nat_eq level v.level then Some (record { block = v; outer = outer; found = found; standing = standing; tables = tables; cursors = cs }) else arriving undo level standing (put_back undo found tables) (closed_cursors v.own cs)
+arriving undo level (Acting n resume area ∷ standing) tables cs = arriving undo level standing tables cs
 
 abbrev pub undone : HandlerKind → Option (List Contents) → List Contents → List Contents
 undone kinds.Continue found tables = tables
@@ -219,7 +255,7 @@ pub record Begins (file : ResolvedFile) (code : RawCode) (routine : ResolvedRout
   pub coded : Handler
   pub acts : Acts file code routine r a.outer a.block h number coded
   pub exits : goes_on_behind (out-ResolvedHandler h).kind ≡ false
-  pub leads : Leads code from (More (machine (with_standing (Acting number None st.area ∷ Entered a.block a.outer a.found ∷ a.standing) spot) coded.pc [] (record st { tables = undone (out-ResolvedHandler h).kind a.found a.tables })))
+  pub leads : Leads code from (More (machine (with_standing (Acting number None st.area ∷ Entered a.block a.outer a.found ∷ a.standing) spot) coded.pc [] (record st { tables = undone (out-ResolvedHandler h).kind a.found a.tables; cursors = a.cursors })))
 
 abbrev pub BeginsAt : ResolvedFile → RawCode → ResolvedRoutine → RawRoutine → Spot → Turned → ResolvedHandler → Option Arrived → State → Type 0
 BeginsAt file code routine r spot from h None st = ⊥
@@ -234,12 +270,12 @@ abbrev pub is_raised : Entries → Bool
 is_raised c = is_exception (kind_of c.first.state)
 
 abbrev pub Meets : ResolvedFile → RawCode → ResolvedRoutine → RawRoutine → Env → Spot → Turned → ℕ → Outcome → State → Type 0
-Meets file code routine r env spot from end Normal st = Leads code from (More (machine spot end [] st)) × IsDeep spot st
-Meets file code routine r env spot from end (Leave level) st = ComesTo code spot from (leaving env.around level spot.standing) st × IsDeep spot st
-Meets file code routine r env spot from end (Iterate level) st = ComesTo code spot from (iterating env.around level spot.standing) st × IsDeep spot st
+Meets file code routine r env spot from end Normal st = Leads code from (More (machine spot end [] st)) × IsReady code spot st
+Meets file code routine r env spot from end (Leave level) st = ComesTo code spot from (leaving env.around level spot.standing st.cursors) st × IsReady code spot st
+Meets file code routine r env spot from end (Iterate level) st = ComesTo code spot from (iterating env.around level spot.standing st.cursors) st × IsReady code spot st
 Meets file code routine r env spot from end (Return d) st = Returns code spot from d st
 Meets file code routine r env spot from end (Raised c) st = LeavesBy code spot from c st
-Meets file code routine r env spot from end (Away level h c) st = BeginsAt file code routine r spot from h (arriving (is_raised c) level spot.standing st.tables) st × IsVisible level env.visible × IsDeep spot st
+Meets file code routine r env spot from end (Away level h c) st = BeginsAt file code routine r spot from h (arriving (is_raised c) level spot.standing st.tables st.cursors) st × IsVisible level env.visible × IsReady code spot st
 Meets file code routine r env spot from end (Stopped stop) st = StopsAs code from stop
 
 -- ---- what is known of the place of a statement
@@ -248,7 +284,7 @@ Meets file code routine r env spot from end (Stopped stop) st = StopsAs code fro
 pub record Entry (file : ResolvedFile) (code : RawCode) (routine : ResolvedRoutine) (r : RawRoutine) (v : Visible) (outer : List Visible) (found : Option (List Contents)) (standing : List Standing) : Type 0 where
   pub exit : ℕ
   pub atomic : Bool
-  pub block : block_at r v.context ≡ Some (record { atomic = atomic; exit = exit; cursors = [] })
+  pub block : block_at r v.context ≡ Some (record { atomic = atomic; exit = exit; cursors = v.own })
   pub reached : ReachAll outer (Entered v outer found ∷ standing)
   pub handles : Handles file code routine r outer v v.handlers v.coded
 
@@ -262,9 +298,31 @@ abbrev pub AllHandle : ResolvedFile → RawCode → ResolvedRoutine → RawRouti
 AllHandle file code routine r [] = Unit {0}
 AllHandle file code routine r (v ∷ outer) = Handles file code routine r outer v v.handlers v.coded × AllHandle file code routine r outer
 
+-- what the cursors that a statement sees, and those that blocks in it may declare, have to do with those of the blocks that are
+-- entered, and with those that blocks in the actions of handlers in scope may declare
+abbrev pub Split : Numbers → List Visible → Type 0
+Split free [] = Unit {0}
+Split free (v ∷ visible) = Apart free v.acting × Split free visible
+
+abbrev pub AreOwned : List ResolvedCursor → Numbers → Type 0
+AreOwned [] owned = Unit {0}
+AreOwned (x ∷ xs) owned = (owned x.number ≡ true) × AreOwned xs owned
+
+pub record Kept (inner : Numbers) (cursors : List ResolvedCursor) (visible : List Visible) (owned : Numbers) : Type 0 where
+  pub free : Apart inner owned
+  pub split : Split inner visible
+  pub sees : AreOwned cursors owned
+
+-- the same of each of those actions
+abbrev pub AllKept : List Visible → Numbers → Type 0
+AllKept [] owned = Unit {0}
+AllKept (v ∷ outer) owned = Kept v.acting v.cursors outer owned × AllKept outer owned
+
 pub record Fits (file : ResolvedFile) (code : RawCode) (routine : ResolvedRoutine) (r : RawRoutine) (env : Env) (spot : Spot) : Type 0 where
-  pub search : scopes r.handlers env.context ≡ map (λ v. v.coded) env.visible
+  pub search : Asks (scopes r.handlers env.context) env.visible
   pub handle : AllHandle file code routine r env.visible
   pub reached : ReachAll env.visible spot.standing
   pub entered : AreEntered env.around spot.standing
   pub entries : AreStanding file code routine r spot.standing
+  pub cursors : Kept env.free env.cursors env.visible (owns spot.standing)
+  pub kept : AllKept env.visible (owns spot.standing)

@@ -1,5 +1,5 @@
 -- Where code of a statement stands in its routine.
-use Rattle.std.specs.Prelude.{◌≡◌, ℕ, suc, Bool, true, false, List, [], ◌∷◌, map, nat_eq, Option, Some}
+use Rattle.std.specs.Prelude.{◌≡◌, ℕ, suc, Bool, true, false, ◌||◌, List, [], ◌∷◌, map, nat_eq, Option, Some}
 use Rattle.psm_cond.specs.declared.handlers.Handler.{Handler}
 use Rattle.psm_exprcode.specs.declared.op.Letter.{Letter}
 use Rattle.psm_exprcode.specs.declared.op.Op.TheVariants as op
@@ -29,27 +29,49 @@ pub record Plain (r : RawRoutine) (pc : ℕ) (i : Instruction) : Type 0 where
 
 -- ---- what is around a statement
 
--- A block whose handlers are in scope: its level, the context of its list, its handlers, their numbers in the code, and the
--- cursors that their actions see
+-- some numbers of cursors
+abbrev pub Numbers : Type 0
+Numbers = ℕ → Bool
+
+-- these
+abbrev pub are : List ℕ → Numbers
+are [] n = false
+are (x ∷ xs) n = nat_eq x n || are xs n
+
+abbrev pub Within : Numbers → Numbers → Type 0
+Within f g = (n : ℕ) → f n ≡ true → g n ≡ true
+
+abbrev pub Apart : Numbers → Numbers → Type 0
+Apart f g = (n : ℕ) → f n ≡ true → g n ≡ false
+
+-- A block whose handlers are in scope: its level, the context of its list, its handlers, their numbers in the code, the cursors that
+-- their actions see, its own cursors, those of them that may be open, and those that blocks in its list and in the actions of its handlers may declare
 pub record Visible : Type 0 where
   pub level : ℕ
   pub context : ℕ
   pub handlers : List ResolvedHandler
   pub coded : List (ℕ × Handler)
   pub cursors : List ResolvedCursor
+  pub own : List ℕ
+  pub moved : List ℕ
+  pub inside : Numbers
+  pub acting : Numbers
 
--- what LEAVE and ITERATE can name, by its level: a loop, with the lines that they go to, or a block, with its context and exit line
+-- what LEAVE and ITERATE can name, by its level: a loop, with the lines that they go to, or a block, with its context and exit line;
+-- and the block of a FOR statement, by its context, which they leave on their way
 pub data Around : Type 0 where
   InLoop : ℕ → ℕ → ℕ → Around
   InBlock : ℕ → ℕ → ℕ → Around
+  OverRows : ℕ → Around
 
 -- the context of the statement's lines, what is around it, innermost first, the blocks whose handlers are in scope, innermost
--- first, and the cursors that it sees
+-- first, the cursors that it sees, and those that blocks in it may declare
 pub record Env : Type 0 where
   pub context : ℕ
   pub around : List Around
   pub visible : List Visible
   pub cursors : List ResolvedCursor
+  pub free : Numbers
 
 abbrev pub scope_of : Visible → Scope
 scope_of v = record { level = v.level; handlers = v.handlers; cursors = v.cursors }
@@ -60,7 +82,7 @@ place_of routine env acting = record { routine = routine; cursors = env.cursors;
 
 -- the body of a routine
 abbrev pub outermost : Env
-outermost = record { context = 0; around = []; visible = []; cursors = [] }
+outermost = record { context = 0; around = []; visible = []; cursors = []; free = λ n. true }
 
 abbrev pub inside_loop : ℕ → ℕ → ℕ → Env → Env
 inside_loop level out again env = record env { around = InLoop level out again ∷ env.around }
@@ -71,11 +93,23 @@ inside_block v exit env = record {
   around = InBlock v.level v.context exit ∷ env.around;
   visible = v ∷ env.visible;
   cursors = v.cursors;
+  free = v.inside;
 }
+
+-- the block of a FOR statement has one cursor and no handlers
+abbrev pub for_block : ℕ → ℕ → ℕ → List ℕ → Numbers → List ResolvedCursor → Visible
+for_block level context number moved inside cursors = record { level = level; context = context; handlers = []; coded = []; cursors = cursors; own = number ∷ []; moved = moved; inside = inside; acting = λ n. false }
+
+abbrev pub over_rows : ℕ → Numbers → Env → Env
+over_rows context inside env = record env { context = context; around = OverRows context ∷ env.around; free = inside }
+
+-- its list sees the cursor
+abbrev pub with_cursor : ResolvedCursor → Env → Env
+with_cursor x env = record env { cursors = x ∷ env.cursors }
 
 -- the action of a handler of a block stands outside its scope, where those blocks are visible; it can name no label
 abbrev pub in_action : Visible → ℕ → List Visible → Env
-in_action v context outer = record { context = context; around = []; visible = outer; cursors = v.cursors }
+in_action v context outer = record { context = context; around = []; visible = outer; cursors = v.cursors; free = v.acting }
 
 -- ---- LEAVE and ITERATE: the blocks in between are left, and then the run goes on where the loop or the block says
 
@@ -87,8 +121,10 @@ abbrev pub Leaves : RawRoutine → List Around → ℕ → ℕ → Type 0
 Leaves r [] level pc = ⊥
 Leaves r (InLoop l out again ∷ around) level pc = IfElse (nat_eq level l) (Plain r pc (instruction.Operation (op.Jump out))) (Leaves r around level pc)
 Leaves r (InBlock l context exit ∷ around) level pc = IfElse (nat_eq level l) (Plain r pc (instruction.Operation (op.Jump exit))) (Plain r pc (instruction.Exit context) × Leaves r around level (suc pc))
+Leaves r (OverRows context ∷ around) level pc = Plain r pc (instruction.Exit context) × Leaves r around level (suc pc)
 
 abbrev pub Iterates : RawRoutine → List Around → ℕ → ℕ → Type 0
 Iterates r [] level pc = ⊥
 Iterates r (InLoop l out again ∷ around) level pc = IfElse (nat_eq level l) (Plain r pc (instruction.Operation (op.Jump again))) (Iterates r around level pc)
 Iterates r (InBlock l context exit ∷ around) level pc = Plain r pc (instruction.Exit context) × Iterates r around level (suc pc)
+Iterates r (OverRows context ∷ around) level pc = Plain r pc (instruction.Exit context) × Iterates r around level (suc pc)

@@ -23,8 +23,10 @@ use Rattle.psm_resolved.specs.declared.statement.ResolvedBlock.{ResolvedBlock, o
 use Rattle.psm_resolved.specs.declared.statement.ResolvedBranch.{ResolvedBranch, out-ResolvedBranch}
 use Rattle.psm_resolved.specs.declared.statement.ResolvedCondition.{ResolvedCondition}
 use Rattle.psm_resolved.specs.declared.statement.ResolvedCondition.TheVariants as conditions
+use Rattle.psm_resolved.specs.declared.statement.ResolvedCursor.{ResolvedCursor}
 use Rattle.psm_resolved.specs.declared.statement.ResolvedDeclaration.{ResolvedDeclaration}
 use Rattle.psm_resolved.specs.declared.statement.ResolvedDiagnostics.TheVariants as diagnostics
+use Rattle.psm_resolved.specs.declared.statement.ResolvedFor.{ResolvedFor}
 use Rattle.psm_resolved.specs.declared.statement.ResolvedHandler.{ResolvedHandler, out-ResolvedHandler}
 use Rattle.psm_resolved.specs.declared.statement.ResolvedNumber.{ResolvedNumber}
 use Rattle.psm_resolved.specs.declared.statement.ResolvedNumber.TheVariants as numbers
@@ -43,9 +45,10 @@ use Rattle.psm_code.specs.declared.instruction.Instruction.{Instruction}
 use Rattle.psm_code.specs.declared.instruction.Instruction.TheVariants as instruction
 use Rattle.psm_code.specs.Parts.{block_at, handler_at}
 use Rattle.psm_code.specs.RoutineRules.{may_undo}
-use Rattle.psm_lower.specs.Env.{Env, Iterates, Leaves, Plain, Raising, Visible, in_action, inside_block, inside_loop}
+use Rattle.psm_lower.specs.Env.{Apart, Env, Iterates, Leaves, Numbers, Plain, Raising, Visible, Within, are, for_block, in_action, inside_block, inside_loop, over_rows, with_cursor}
 use Rattle.psm_lower.specs.Expressions.{IsQuery, Puts}
-use Rattle.psm_lower.specs.Changes.{IsDelete, IsUpdate, PutsRows}
+use Rattle.psm_lower.specs.Cursors.{IsCursor, Sees}
+use Rattle.psm_lower.specs.Changes.{IsDelete, IsOver, IsUpdate, IsUpdateAt, PutsRows}
 
 -- ---- operands that go into variables
 
@@ -158,15 +161,18 @@ Simple file code routine r env end (simples.Update table sets which.All) pc = (n
     × (slice_get r.plans n ≡ Some (plans.Update table coded test)) × Raising r env.context end (suc pc) (instruction.Change n) × (suc (suc pc) ≡ end)
 Simple file code routine r env end (simples.Update table sets (which.Test e)) pc = (n : ℕ) × (coded : List SetItem) × (test : Option (List Line)) × Plain r pc instruction.Clear × IsUpdate file code table sets (Some e) coded test
     × (slice_get r.plans n ≡ Some (plans.Update table coded test)) × Raising r env.context end (suc pc) (instruction.Change n) × (suc (suc pc) ≡ end)
-Simple file code routine r env end (simples.Update table sets (which.Current cursor)) pc = ⊥
+Simple file code routine r env end (simples.Update table sets (which.Current cursor)) pc = (n : ℕ) × (coded : List SetItem) × (x : ResolvedCursor) × Plain r pc instruction.Clear × Sees r env cursor x × IsOver x table × IsUpdateAt file code table sets coded
+    × (slice_get r.plans n ≡ Some (plans.UpdateAt cursor coded)) × Raising r env.context end (suc pc) (instruction.Change n) × (suc (suc pc) ≡ end)
 Simple file code routine r env end (simples.Delete table which.All) pc = (n : ℕ) × (test : Option (List Line)) × Plain r pc instruction.Clear × IsDelete None test
     × (slice_get r.plans n ≡ Some (plans.Delete table test)) × Raising r env.context end (suc pc) (instruction.Change n) × (suc (suc pc) ≡ end)
 Simple file code routine r env end (simples.Delete table (which.Test e)) pc = (n : ℕ) × (test : Option (List Line)) × Plain r pc instruction.Clear × IsDelete (Some e) test
     × (slice_get r.plans n ≡ Some (plans.Delete table test)) × Raising r env.context end (suc pc) (instruction.Change n) × (suc (suc pc) ≡ end)
-Simple file code routine r env end (simples.Delete table (which.Current cursor)) pc = ⊥
-Simple file code routine r env end (simples.Open cursor) pc = ⊥
-Simple file code routine r env end (simples.Fetch cursor slots) pc = ⊥
-Simple file code routine r env end (simples.Close cursor) pc = ⊥
+Simple file code routine r env end (simples.Delete table (which.Current cursor)) pc = (n : ℕ) × (x : ResolvedCursor) × Plain r pc instruction.Clear × Sees r env cursor x × IsOver x table
+    × (slice_get r.plans n ≡ Some (plans.DeleteAt cursor)) × Raising r env.context end (suc pc) (instruction.Change n) × (suc (suc pc) ≡ end)
+Simple file code routine r env end (simples.Open cursor) pc = (x : ResolvedCursor) × Plain r pc instruction.Clear × Sees r env cursor x × Raising r env.context end (suc pc) (instruction.Open cursor) × (suc (suc pc) ≡ end)
+Simple file code routine r env end (simples.Fetch cursor slots) pc = (x : ResolvedCursor) × (mid : ℕ) × Plain r pc instruction.Clear × Sees r env cursor x × Raising r env.context end (suc pc) (instruction.Fetch cursor)
+    × Stores r env.context end (λ slot. instruction.Retrieve slot) slots (suc (suc pc)) mid × Raising r env.context end mid instruction.Warn × (suc mid ≡ end)
+Simple file code routine r env end (simples.Close cursor) pc = (x : ResolvedCursor) × Plain r pc instruction.Clear × Sees r env cursor x × Raising r env.context end (suc pc) (instruction.Close cursor) × (suc (suc pc) ≡ end)
 
 -- ---- blocks
 
@@ -179,15 +185,45 @@ IsNew level context (v ∷ vs) = (nat_eq v.level level ≡ false) × (nat_eq v.c
 abbrev pub GoesTo : RawRoutine → ℕ → ℕ → Type 0
 GoesTo r start pc = (pc ≡ start) ⊎ Plain r pc (instruction.Operation (op.Jump start))
 
+-- the search for handlers asks these blocks, and no other that has any
+abbrev pub with_handlers : List (List (ℕ × Handler)) → List (List (ℕ × Handler))
+with_handlers [] = []
+with_handlers ([] ∷ blocks) = with_handlers blocks
+with_handlers ((h ∷ hs) ∷ blocks) = (h ∷ hs) ∷ with_handlers blocks
+
+abbrev pub Asks : List (List (ℕ × Handler)) → List Visible → Type 0
+Asks blocks visible = with_handlers blocks ≡ with_handlers (map (λ v. v.coded) visible)
+
+-- The cursors of a block, those that blocks in its list may declare, and those that blocks in the actions of its handlers may
+-- declare: they are among those that blocks in the statement may declare, and none is among two of them. So a block's cursors
+-- aren't those of a block that is entered around it, also where its statement is in an action that runs from inside the list.
+pub record Shares (env : Env) (v : Visible) : Type 0 where
+  pub own : Within (are v.moved) env.free
+  pub inside : Within v.inside env.free
+  pub acting : Within v.acting env.free
+  pub inside_own : Apart v.inside (are v.moved)
+  pub acting_own : Apart v.acting (are v.moved)
+  pub apart : Apart v.inside v.acting
+
 -- the block of a compound statement in the code; the search for handlers asks it first, and then the blocks around it
 pub record IsBlockOf (r : RawRoutine) (env : Env) (l : ℕ) (block : ResolvedBlock) (v : Visible) (exit : ℕ) : Type 0 where
   pub level : v.level ≡ l
   pub handlers : v.handlers ≡ (out-ResolvedBlock block).handlers
   pub cursors : v.cursors ≡ (out-ResolvedBlock block).cursors ++ env.cursors
-  pub no_cursors : (out-ResolvedBlock block).cursors ≡ []
-  pub coded : block_at r v.context ≡ Some (record { atomic = (out-ResolvedBlock block).atomic; exit = exit; cursors = [] })
-  pub search : scopes r.handlers v.context ≡ map (λ w. w.coded) (v ∷ env.visible)
+  pub own : v.own ≡ map (λ x. x.number) (out-ResolvedBlock block).cursors
+  pub moved : v.moved ≡ v.own
+  pub shares : Shares env v
+  pub coded : block_at r v.context ≡ Some (record { atomic = (out-ResolvedBlock block).atomic; exit = exit; cursors = v.own })
+  pub search : Asks (scopes r.handlers v.context) (v ∷ env.visible)
   pub new : IsNew l v.context env.visible
+
+-- the block of a FOR statement in the code, which isn't ATOMIC; the search for handlers asks the blocks around it
+pub record IsForOf (r : RawRoutine) (env : Env) (level context exit : ℕ) (x : ResolvedCursor) (inside : Numbers) : Type 0 where
+  pub cursor : IsCursor r x
+  pub shares : Shares env (for_block level context x.number (x.number ∷ []) inside env.cursors)
+  pub coded : block_at r context ≡ Some (record { atomic = false; exit = exit; cursors = x.number ∷ [] })
+  pub search : Asks (scopes r.handlers context) env.visible
+  pub new : IsNew level context env.visible
 
 -- a handler of the block in the code; the search for handlers from its action begins outside the block
 pub record IsHandler (r : RawRoutine) (outer : List Visible) (v : Visible) (h : ResolvedHandler) (n : ℕ) (coded : Handler) (k : ℕ) : Type 0 where
@@ -195,7 +231,7 @@ pub record IsHandler (r : RawRoutine) (outer : List Visible) (v : Visible) (h : 
   pub block : coded.context ≡ v.context
   pub kind : coded.kind ≡ (out-ResolvedHandler h).kind
   pub values : listed coded.values ≡ (out-ResolvedHandler h).values
-  pub search : scopes r.handlers k ≡ map (λ w. w.coded) outer
+  pub search : Asks (scopes r.handlers k) outer
   pub undo : may_undo r coded ≡ true
 
 mutual
@@ -221,6 +257,12 @@ mutual
     compared : {env : Env} {s : ResolvedStatement} {pc first other end : ℕ} (operand : ResolvedExpr) (branches : List ResolvedBranch) (otherwise : List ResolvedStatement) → out-ResolvedStatement s ≡ layers.Case (Some operand) branches otherwise
         → Puts file code r env.context end operand pc first → Compares file code routine r env end branches first other → Raising r env.context end other (instruction.Operation op.Drop)
         → Otherwise file code routine r env otherwise (suc other) end → Stands file code routine r env s pc end
+    for_ : {env : Env} {s : ResolvedStatement} {pc mid last : ℕ} (level context : ℕ) (head : ResolvedFor) (statements : List ResolvedStatement) (inside : Numbers) → out-ResolvedStatement s ≡ layers.For level head statements
+        → IsForOf r env level context (suc last) head.cursor inside → Plain r pc (instruction.Enter context) → Raising r context (suc last) (suc pc) (instruction.Open head.cursor.number)
+        → Plain r (suc (suc pc)) instruction.Turn → Raising r context (suc last) (suc (suc (suc pc))) (instruction.Next head.cursor.number (suc last))
+        → Stores r context (suc last) (λ slot. instruction.Store slot) head.slots (suc (suc (suc (suc pc)))) mid
+        → StandAll file code routine r (inside_loop level (suc last) (suc (suc pc)) (with_cursor head.cursor (over_rows context inside env))) statements mid last
+        → Plain r last (instruction.Operation (op.Jump (suc (suc pc)))) → Plain r (suc last) (instruction.Exit context) → Stands file code routine r env s pc (suc (suc last))
     simple : {env : Env} {s : ResolvedStatement} {pc end : ℕ} (statement : ResolvedSimple) → out-ResolvedStatement s ≡ layers.Simple statement → Simple file code routine r env end statement pc → Stands file code routine r env s pc end
 
   -- statements one after another
@@ -255,3 +297,14 @@ mutual
     handler : {outer : List Visible} {v : Visible} {h : ResolvedHandler} {hs : List ResolvedHandler} {n : ℕ} {coded : Handler} {others : List (ℕ × Handler)} {last : ℕ} (context : ℕ)
         → IsHandler r outer v h n coded context → Stands file code routine r (in_action v context outer) (out-ResolvedHandler h).action coded.pc last → Plain r last (instruction.EndAction n)
         → Handles file code routine r outer v hs others → Handles file code routine r outer v (h ∷ hs) ((n, coded) ∷ others)
+
+-- the rounds of a FOR statement, from the line start to its exit line
+pub record Rounds (file : ResolvedFile) (code : RawCode) (routine : ResolvedRoutine) (r : RawRoutine) (env : Env) (level exit start : ℕ) (head : ResolvedFor) (statements : List ResolvedStatement) : Type 0 where
+  pub mid : ℕ
+  pub last : ℕ
+  pub cursor : IsCursor r head.cursor
+  pub turn : Plain r start instruction.Turn
+  pub next : Raising r env.context exit (suc start) (instruction.Next head.cursor.number exit)
+  pub stores : Stores r env.context exit (λ slot. instruction.Store slot) head.slots (suc (suc start)) mid
+  pub list : StandAll file code routine r (inside_loop level exit start (with_cursor head.cursor env)) statements mid last
+  pub jump : Plain r last (instruction.Operation (op.Jump start))

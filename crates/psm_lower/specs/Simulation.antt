@@ -1,5 +1,5 @@
 -- What it is that code does what a module means, for parts whose meaning is known.
-use Rattle.std.specs.Prelude.{◌≡◌, ℕ, List, [], ◌∷◌, map, length, slice_get, Option, Some, None}
+use Rattle.std.specs.Prelude.{◌≡◌, ℕ, true, List, [], ◌∷◌, map, length, slice_get, Option, Some, None}
 use Rattle.psm_exprcode.specs.declared.op.Letter.{Letter}
 use Rattle.psm_exprcode.specs.declared.operand.Operand.{Operand}
 use Rattle.psm_resolved.specs.declared.expr.ResolvedExpr.{ResolvedExpr}
@@ -8,9 +8,10 @@ use Rattle.psm_resolved.specs.declared.file.ParameterMode.TheVariants as modes
 use Rattle.psm_resolved.specs.declared.file.ResolvedFile.{ResolvedFile}
 use Rattle.psm_resolved.specs.declared.file.ResolvedParameter.{ResolvedParameter}
 use Rattle.psm_resolved.specs.declared.file.ResolvedRoutine.{ResolvedRoutine}
+use Rattle.psm_resolved.specs.declared.statement.ResolvedFor.{ResolvedFor}
 use Rattle.psm_resolved.specs.declared.statement.ResolvedStatement.{ResolvedStatement}
 use Rattle.psm_value.specs.declared.sqltype.SqlType.{SqlType}
-use Rattle.psm_meaning.specs.Acts.{Act, Do, Meaning, operand}
+use Rattle.psm_meaning.specs.Acts.{Act, Do, Meaning, Round, operand}
 use Rattle.psm_meaning.specs.State.{State}
 use Rattle.psm_code.specs.declared.code.Parameter.{Parameter}
 use Rattle.psm_code.specs.declared.code.ParameterMode.{ParameterMode as CodeMode}
@@ -21,11 +22,11 @@ use Rattle.psm_code.specs.declared.instruction.Instruction.{Instruction}
 use Rattle.psm_code.specs.declared.instruction.Instruction.TheVariants as instruction
 use Rattle.psm_code.specs.Parts.{line_at, routine_at, slots_of}
 use Rattle.psm_code.specs.State.{Turned, More}
-use Rattle.psm_lower.specs.Agreement.{Comes, Fits, IsDeep, Meets, Spot, areas, machine}
+use Rattle.psm_lower.specs.Agreement.{Comes, Fits, IsReady, Meets, Spot, areas, machine, owns}
 use Rattle.psm_lower.specs.Changes.{TablesStand}
 use Rattle.psm_lower.specs.Env.{Env, outermost, place_of}
 use Rattle.psm_lower.specs.Expressions.{Puts}
-use Rattle.psm_lower.specs.Scheme.{Stands}
+use Rattle.psm_lower.specs.Scheme.{Rounds, Stands}
 
 -- ---- routines and files
 
@@ -61,12 +62,15 @@ pub record FileStands (file : ResolvedFile) (code : RawCode) : Type 0 where
 
 -- from each state that the meaning may be in, a run comes to what the evaluation comes to
 pub record Evals (code : RawCode) (r : RawRoutine) (context resume : ℕ) (spot : Spot) (m : Meaning) {A : Type 0} (act : Act A) (from : State → Turned) (to : A → State → Turned) : Type 0 where
-  pub by : (st : State) → IsDeep spot st → Comes code r context resume spot (from st) to (act m st).given (act m st).state
+  pub by : (st : State) → IsReady code spot st → Comes code r context resume spot (from st) to (act m st).given (act m st).state
 
 -- code that is known to do what the meaning says, of every expression and every statement that it stands for
 pub record Simulates (file : ResolvedFile) (code : RawCode) (m : Meaning) : Type 0 where
   pub value : (r : RawRoutine) (spot : Spot) → routine_at code spot.number ≡ Some r → (context resume : ℕ) (e : ResolvedExpr) (pc end : ℕ) → Puts file code r context resume e pc end → (below : List Operand)
       → Evals code r context resume spot m (operand e) (λ st. More (machine spot pc below st)) (λ x st. More (machine spot end (x ∷ below) st))
   pub done : (routine : ResolvedRoutine) (r : RawRoutine) (env : Env) (spot : Spot) → routine_at code spot.number ≡ Some r → RoutineStands file code routine r → Fits file code routine r env spot
-      → (s : ResolvedStatement) (pc end : ℕ) → Stands file code routine r env s pc end → (st : State) → IsDeep spot st
+      → (s : ResolvedStatement) (pc end : ℕ) → Stands file code routine r env s pc end → (st : State) → IsReady code spot st
       → Meets file code routine r env spot (More (machine spot pc [] st)) end (m.done (Do s) (place_of routine env (areas spot.standing)) st).outcome (m.done (Do s) (place_of routine env (areas spot.standing)) st).state
+  pub rounds : (routine : ResolvedRoutine) (r : RawRoutine) (env : Env) (spot : Spot) → routine_at code spot.number ≡ Some r → RoutineStands file code routine r → Fits file code routine r env spot
+      → (level exit start : ℕ) (head : ResolvedFor) (statements : List ResolvedStatement) → Rounds file code routine r env level exit start head statements → owns spot.standing head.cursor.number ≡ true → (st : State) → IsReady code spot st
+      → Meets file code routine r env spot (More (machine spot start [] st)) exit (m.done (Round level head statements) (place_of routine env (areas spot.standing)) st).outcome (m.done (Round level head statements) (place_of routine env (areas spot.standing)) st).state

@@ -5,3 +5,6 @@ pub mod Layers
 pub mod Once
 pub mod Pairs
 pub mod Places
+pub mod Counted
+pub mod NumbersOfForms
+pub mod EachOwn

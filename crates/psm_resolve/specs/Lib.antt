@@ -4,3 +4,4 @@ pub mod Statements
 pub mod Blocks
 pub mod Worlds
 pub mod Files
+pub mod OwnNumbers

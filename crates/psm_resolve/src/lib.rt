@@ -13,6 +13,7 @@ mod fors;
 mod handlers;
 mod keys;
 mod known;
+mod laws;
 mod numbering;
 mod routines;
 mod rows;
@@ -22,3 +23,4 @@ mod tables;
 mod worlds;
 
 pub use files::resolve_file;
+pub use laws::each_declaration_has_a_number_of_its_own;

@@ -4,3 +4,4 @@ pub mod Scales
 pub mod Wholes
 pub mod ScaledForms
 pub mod Scaled
+pub mod Joining

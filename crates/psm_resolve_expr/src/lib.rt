@@ -13,6 +13,6 @@ mod shapes;
 mod sight;
 
 pub use exprs::{made_of, query_made};
-pub use laws::numbers_have_the_scale_of_their_shape;
+pub use laws::{numbers_have_the_scale_of_their_shape, spelled_junctions_join_two};
 pub use made::{Made, MadeQuery};
 pub use sight::{Frames, Sight, name_in, on_row, table_columns, table_number};

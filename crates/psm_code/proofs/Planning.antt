@@ -1,0 +1,136 @@
+-- Plans: the parts of INSERT, UPDATE and DELETE among the instructions.
+use Rattle.std.proofs.Common.{◌≡◌, ℕ, zero, suc, Bool, true, false, List, [], ◌∷◌, map, refl, ap, sym, subst, ◌∙◌, Option, Some, None, Result, Ok, Err}
+use Rattle.std.specs.Prelude.{All, slice_get, slice_set}
+use Rattle.psm_value.specs.declared.datum.Datum.{Datum}
+use Rattle.psm_exprcode.specs.declared.op.Letter.{Letter}
+use Rattle.psm_exprcode.specs.declared.op.Line.{Line}
+use Rattle.psm_exprcode.specs.declared.set_item.SetItem as set_code
+use Rattle.psm_table.specs.declared.definition.TableDef.{TableDef}
+use Rattle.psm_table.specs.Changing.{deleted, inserted, updated, Changed, Failure, IsLegal, OfTable, Raised, Schema}
+use Rattle.psm_table.specs.Cursors.{current, Closed, Cursor, Insensitive, Plain}
+use Rattle.psm_table.specs.Definition.{IsRow}
+use Rattle.psm_table.specs.Table.{Contents}
+use Rattle.psm_table.proofs.Legal.{legal_deleted, legal_inserted, legal_updated}
+use Rattle.psm_tablecode.specs.Codes.{over}
+use Rattle.psm_tablecode.specs.NewRows.{new_row}
+use Rattle.psm_code.specs.declared.code.CodeCursor.{CodeCursor}
+use Rattle.psm_code.specs.declared.code.CodeTable.{CodeTable}
+use Rattle.psm_code.specs.declared.code.RawCode.{RawCode}
+use Rattle.psm_code.specs.declared.code.RawRoutine.{RawRoutine}
+use Rattle.psm_code.specs.declared.lines.CodeLine.{CodeLine}
+use Rattle.psm_code.specs.Instructions.{may_raise}
+use Rattle.psm_code.specs.Plans.{delete_rows, leave_row, leaves, left_by, plain, put_in, row_of_cursor, schema_at, schema_of, set_item, some_row, some_rows, standing_on, unless_failed, update_rows}
+use Rattle.psm_code.specs.Sits.{AreKept, IsKept, Keeps}
+use Rattle.psm_code.specs.State.{Machine}
+use Rattle.psm_code.proofs.Acts.{Does, Has, and_then, present_does}
+use Rattle.psm_code.proofs.Fetching.{with_cursor_has, RightCursor}
+use Rattle.psm_code.proofs.Legally.{stands_on}
+use Rattle.psm_code.proofs.Queried.{table_does, variables_do}
+use Rattle.psm_code.proofs.Rowing.{deleted_rows, inserted_rows, updated_rows}
+
+-- ---- tables
+
+pub kept_set : (ts : List CodeTable) (cs : List Contents) (i : ℕ) (t : CodeTable) (c : Contents) → AreKept ts cs → slice_get ts i ≡ Some t → IsKept t c → AreKept ts (slice_set cs i c)
+kept_set [] cs i t c h e k = absurd (cc)
+kept_set (u ∷ ts) [] i t c h e k = absurd h
+kept_set (u ∷ ts) (d ∷ cs) zero t c h e k = let same : u ≡ t = cc in (subst (λ (x : CodeTable). IsKept x c) (sym same) k, h.1)
+kept_set (u ∷ ts) (d ∷ cs) (suc i) t c h e k = (h.0, kept_set ts cs i t c h.1 e k)
+
+schema_there : (ts : List CodeTable) (i : ℕ) (t : CodeTable) → slice_get ts i ≡ Some t → slice_get (map schema_of ts) i ≡ Some (schema_of t)
+schema_there [] i t e = absurd (cc)
+schema_there (u ∷ ts) zero t e = let same : u ≡ t = cc in ap (λ (x : CodeTable). Some (schema_of x)) same
+schema_there (u ∷ ts) (suc i) t e = schema_there ts i t e
+
+module _ (code : RawCode) (r : RawRoutine) (l : CodeLine) (may : may_raise l.instruction ≡ true) where
+  pub schema_does : (i : ℕ) (t : CodeTable) (s : List Letter) (m : Machine) → slice_get code.tables i ≡ Some t → Has code r l s m → Does code r l (λ x n. (x ≡ schema_of t) × Has code r l s n) (schema_at code i) m
+  schema_does i t s m e h = present_does code r l (λ x n. (x ≡ schema_of t) × Has code r l s n) (slice_get (map schema_of code.tables) i) (schema_of t) m (schema_there code.tables i t e) (refl, h)
+
+  pub failed_does : {A : Type 0} (Q : A → Type 0) (def : TableDef) (x : Result A Failure) (s : List Letter) (m : Machine) → Has code r l s m → ((a : A) → x ≡ Ok a → Q a) → Does code r l (λ a n. Q a × Has code r l s n) (unless_failed def x) m
+  failed_does Q def (Ok a) s m h k = record { comes = (k a refl, h) }
+  failed_does Q def (Err (Raised x)) s m h k = record { comes = (may, h.body) }
+  failed_does Q def (Err (OfTable x)) s m h k = record { comes = (may, h.body) }
+
+  some_row_does : (n : ℕ) (s : List Letter) (m : Machine) → Has code r l s m → Does code r l (λ u k. Has code r l s k) (some_row n) m
+  some_row_does zero s m h = record { comes = (may, h.body) }
+  some_row_does (suc n) s m h = record { comes = h }
+
+  pub some_rows_do : (rows : List (List Datum)) (s : List Letter) (m : Machine) → Has code r l s m → Does code r l (λ a k. Has code r l s k) (some_rows rows) m
+  some_rows_do [] s m h = record { comes = (may, h.body) }
+  some_rows_do (row ∷ rows) s m h = record { comes = h }
+
+  -- rows that fit the table and keep its rules
+  pub record Fine (t : CodeTable) (rows : List (List Datum)) : Type 0 where
+    pub fit : All (IsRow t.definition) rows
+    pub legal : IsLegal plain (schema_of t) rows
+
+  pub leaves_does : (i : ℕ) (t : CodeTable) (c : Contents) (rows : List (List Datum)) (count : ℕ) (s : List Letter) (m : Machine) → slice_get code.tables i ≡ Some t → c.def ≡ t.definition → Fine t rows → Has code r l s m
+      → Does code r l (λ u n. Has code r l s n) (leaves i c rows count) m
+  leaves_does i t c rows count s m e q f h = record {
+    comes = record {
+      body = record {
+        routine = h.body.routine;
+        line = h.body.line;
+        variables = h.body.variables;
+        cursors = h.body.cursors;
+        frames = h.body.frames;
+        callers = h.body.callers;
+        depth = h.body.depth;
+        tables = kept_set code.tables m.tables i t (record c { rows = rows }) h.body.tables e (record { same = q; rows = f.fit; legal = f.legal });
+      };
+      operands = h.operands;
+    };
+  }
+
+  pub put_in_does : (i : ℕ) (t : CodeTable) (columns : List ℕ) (new : List (List Datum)) (s : List Letter) (m : Machine) → slice_get code.tables i ≡ Some t → Has code r l s m → Does code r l (λ u n. Has code r l s n) (put_in code i columns new) m
+  put_in_does i t columns new s m e h =
+      and_then code r l _ _ _ _ m (schema_does i t s m e h) (λ x n f.
+      and_then code r l _ _ _ _ n (table_does code r l i t s n e f.1) (λ c k y.
+      and_then code r l (λ (a : Changed) n. Fine t a.rows × Has code r l s n) _ _ _ k
+      (failed_does (λ (a : Changed). Fine t a.rows) x.def (inserted plain x (map (new_row x.def columns) new) c.rows) s k y.1 (λ a q.
+      let q2 : inserted plain (schema_of t) (map (new_row t.definition columns) new) c.rows ≡ Ok a = ap (λ (x : Schema (List Line)). inserted plain x (map (new_row x.def columns) new) c.rows) (sym f.0) ∙ q in
+      record { fit = inserted_rows plain (schema_of t) columns new c.rows a y.0.rows q2; legal = legal_inserted plain (schema_of t) (map (new_row t.definition columns) new) c.rows a q2 })) (λ a j z.
+      leaves_does i t c a.rows a.count s j e y.0.same z.0 z.1)))
+
+  pub update_rows_does : (i : ℕ) (t : CodeTable) (sets : List set_code.SetItem) (test : Option (List Line)) (s : List Letter) (m : Machine) → slice_get code.tables i ≡ Some t → Has code r l s m
+      → Does code r l (λ u n. Has code r l s n) (update_rows code i sets test) m
+  update_rows_does i t sets test s m e h =
+      and_then code r l _ _ _ _ m (schema_does i t s m e h) (λ x n f.
+      and_then code r l _ _ _ _ n (table_does code r l i t s n e f.1) (λ c k y.
+      and_then code r l _ _ _ _ k (variables_do code r l s k y.1) (λ vs k v.
+      and_then code r l (λ (a : Changed) n. Fine t a.rows × Has code r l s n) _ _ _ k
+      (failed_does (λ (a : Changed). Fine t a.rows) x.def (updated (over vs) plain x (map set_item sets) test c.rows) s k v.1 (λ a q.
+      let q2 : updated (over vs) plain (schema_of t) (map set_item sets) test c.rows ≡ Ok a = ap (λ (x : Schema (List Line)). updated (over vs) plain x (map set_item sets) test c.rows) (sym f.0) ∙ q in
+      record { fit = updated_rows (over vs) plain (schema_of t) (map set_item sets) test c.rows a y.0.rows q2; legal = legal_updated (over vs) plain (schema_of t) (map set_item sets) test c.rows a q2 })) (λ a j z.
+      and_then code r l _ _ _ _ j (leaves_does i t c a.rows a.count s j e y.0.same z.0 z.1) (λ u j w. some_row_does a.count s j w)))))
+
+  pub delete_rows_does : (i : ℕ) (t : CodeTable) (test : Option (List Line)) (s : List Letter) (m : Machine) → slice_get code.tables i ≡ Some t → Has code r l s m → Does code r l (λ u n. Has code r l s n) (delete_rows code i test) m
+  delete_rows_does i t test s m e h =
+      and_then code r l _ _ _ _ m (schema_does i t s m e h) (λ x n f.
+      and_then code r l _ _ _ _ n (table_does code r l i t s n e f.1) (λ c k y.
+      and_then code r l _ _ _ _ k (variables_do code r l s k y.1) (λ vs k v.
+      and_then code r l (λ (a : Changed) n. Fine t a.rows × Has code r l s n) _ _ _ k
+      (failed_does (λ (a : Changed). Fine t a.rows) x.def (deleted (over vs) test c.rows) s k v.1 (λ a q.
+      record { fit = deleted_rows (over vs) (IsRow t.definition) test c.rows a y.0.rows q; legal = legal_deleted (over vs) plain (schema_of t) test c.rows a y.0.legal q })) (λ a j z.
+      and_then code r l _ _ _ _ j (leaves_does i t c a.rows a.count s j e y.0.same z.0 z.1) (λ u j w. some_row_does a.count s j w)))))
+
+  -- ---- positioned statements
+
+  module _ (number : ℕ) (x : CodeCursor) (declared : slice_get r.cursors number ≡ Some x) (g : RightCursor code r x) where
+    standing_does : (P : List Datum → Type 0) (o : Option (List Datum)) (s : List Letter) (m : Machine) → ((row : List Datum) → o ≡ Some row → P row) → Has code r l s m → Does code r l (λ row n. P row × Has code r l s n) (standing_on x o) m
+    standing_does P None s m k h = record { comes = (may, h.body) }
+    standing_does P (Some row) s m k h = record { comes = (k row refl, h) }
+
+    pub row_does : (c : Contents) (cursor : Cursor) (s : List Letter) (m : Machine) → IsKept g.right.table c → Has code r l s m → Does code r l (λ row n. IsRow g.right.table.definition row × Has code r l s n) (row_of_cursor x c cursor) m
+    row_does c Closed s m k h = record { comes = (may, h.body) }
+    row_does c (Insensitive rows) s m k h = record { comes = (may, h.body) }
+    row_does c (Plain p vs) s m k h =
+        standing_does (IsRow g.right.table.definition) (current c.def.key c.rows p) s m (λ row e. stands_on (IsRow g.right.table.definition) c.def.key p c.rows row k.rows e) h
+
+    left_kept : (c : Cursor) → Keeps code r g.query c → Keeps code r g.query (left_by c)
+    left_kept Closed h = h
+    left_kept (Plain p vs) h = h
+    left_kept (Insensitive rows) h = h
+
+    pub leave_does : (b : Bool) (c : Cursor) (s : List Letter) (m : Machine) → Keeps code r g.query c → Has code r l s m → Does code r l (λ u n. Has code r l s n) (leave_row b number c) m
+    leave_does true c s m k h = record { comes = with_cursor_has code r l number x declared g (left_by c) s m (left_kept c k) h }
+    leave_does false c s m k h = record { comes = h }

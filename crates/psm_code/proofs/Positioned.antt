@@ -1,0 +1,102 @@
+-- Positioned statements among the instructions.
+use Rattle.std.proofs.Common.{◌≡◌, ℕ, true, List, map, ap, sym, subst, ◌∙◌, Some, Ok}
+use Rattle.std.specs.Prelude.{slice_get}
+use Rattle.psm_exprcode.specs.declared.op.Letter.{Letter}
+use Rattle.psm_exprcode.specs.declared.op.Line.{Line}
+use Rattle.psm_exprcode.specs.declared.query.Query.{Query}
+use Rattle.psm_exprcode.specs.declared.set_item.SetItem as set_code
+use Rattle.psm_table.specs.declared.definition.TableDef.{TableDef}
+use Rattle.psm_table.specs.Changing.{rows_but, updated_at, Moved, Schema}
+use Rattle.psm_table.specs.Definition.{IsRow}
+use Rattle.psm_table.proofs.Legal.{legal_updated_at}
+use Rattle.psm_tablecode.specs.Codes.{over}
+use Rattle.psm_code.specs.declared.code.CodeCursor.{CodeCursor}
+use Rattle.psm_code.specs.declared.code.RawCode.{RawCode}
+use Rattle.psm_code.specs.declared.code.RawRoutine.{RawRoutine}
+use Rattle.psm_code.specs.declared.lines.CodeLine.{CodeLine}
+use Rattle.psm_code.specs.Instructions.{may_raise}
+use Rattle.psm_code.specs.Plans.{delete_at, leave_row, leaves, plain, row_of_cursor, schema_at, schema_of, set_item, unless_failed, update_at}
+use Rattle.psm_code.specs.State.{Machine}
+use Rattle.psm_code.specs.Steps.{Act, read, table_now, ◌>>=◌, ◌>>◌}
+use Rattle.psm_code.proofs.Acts.{Does, Has, and_then}
+use Rattle.psm_code.proofs.Fetching.{cursor_does, declared_does, RightCursor}
+use Rattle.psm_code.proofs.Legally.{legal_but}
+use Rattle.psm_code.proofs.Queried.{query_does, table_does, variables_do}
+use Rattle.psm_code.proofs.Rowing.{but_all, updated_at_rows}
+use Rattle.psm_code.specs.Querying.{cursor_now, query_at}
+use Rattle.psm_code.proofs.Planning.{failed_does, leave_does, leaves_does, row_does, schema_does, Fine}
+
+module _ (code : RawCode) (r : RawRoutine) (l : CodeLine) (may : may_raise l.instruction ≡ true) (number : ℕ) (x : CodeCursor) (declared : slice_get r.cursors number ≡ Some x) (g : RightCursor code r x) where
+  abbrev Same : List Letter → Unit {0} → Machine → Type 0
+  Same s u n = Has code r l s n
+
+  -- ---- UPDATE
+
+  abbrev update_query : List set_code.SetItem → CodeCursor → Query → Act (Unit {0})
+  update_query sets x query = do
+    s ← schema_at code query.table
+    t ← table_now query.table
+    c ← cursor_now number
+    row ← row_of_cursor x t c
+    vars ← read (λ m. m.running.variables)
+    moved ← unless_failed s.def (updated_at (over vars) plain s (map set_item sets) row t.rows)
+    leaves query.table t moved.rows 1
+    leave_row moved.moved number c
+
+  abbrev update_cursor : List set_code.SetItem → CodeCursor → Act (Unit {0})
+  update_cursor sets x = do
+    query ← query_at r x.query
+    update_query sets x query
+
+  update_query_does : (sets : List set_code.SetItem) (s : List Letter) (m : Machine) → Has code r l s m → Does code r l (Same s) (update_query sets x g.query) m
+  update_query_does sets s m h =
+      let t = g.right.table in
+      and_then code r l _ _ _ _ m (schema_does code r l may g.query.table t s m g.right.there h) (λ y n f.
+      and_then code r l _ _ _ _ n (table_does code r l g.query.table t s n g.right.there f.1) (λ c k z.
+      and_then code r l _ _ _ _ k (cursor_does code r l number x declared g s k z.1) (λ cursor k w.
+      and_then code r l _ _ _ _ k (row_does code r l may number x declared g c cursor s k z.0 w.1) (λ row k v.
+      and_then code r l _ _ _ _ k (variables_do code r l s k v.1) (λ vs k u.
+      and_then code r l (λ (a : Moved) n. Fine code r l may t a.rows × Has code r l s n) _ _ _ k
+      (failed_does code r l may (λ (a : Moved). Fine code r l may t a.rows) y.def (updated_at (over vs) plain y (map set_item sets) row c.rows) s k u.1 (λ a q.
+      let q2 : updated_at (over vs) plain (schema_of t) (map set_item sets) row c.rows ≡ Ok a = ap (λ (y : Schema (List Line)). updated_at (over vs) plain y (map set_item sets) row c.rows) (sym f.0) ∙ q in
+      record { fit = updated_at_rows (over vs) plain (schema_of t) (map set_item sets) row c.rows a v.0 z.0.rows q2; legal = legal_updated_at (over vs) plain (schema_of t) (map set_item sets) row c.rows a q2 })) (λ a j e.
+      and_then code r l _ _ _ _ j (leaves_does code r l may g.query.table t c a.rows 1 s j g.right.there z.0.same e.0 e.1) (λ u j b. leave_does code r l may number x declared g a.moved cursor s j w.0 b)))))))
+
+  pub update_at_does : (sets : List set_code.SetItem) (s : List Letter) (m : Machine) → Has code r l s m → Does code r l (Same s) (update_at code r number sets) m
+  update_at_does sets s m h =
+      and_then code r l _ _ _ _ m (declared_does code r l number x declared g s m h) (λ y n f.
+      subst (λ (y : CodeCursor). Does code r l (Same s) (update_cursor sets y) n) (sym f.0)
+      (and_then code r l _ _ _ _ n (query_does code r l may x.query g.query s n g.there f.1) (λ q k z.
+      subst (λ (q : Query). Does code r l (Same s) (update_query sets x q) k) (sym z.0) (update_query_does sets s k z.1))))
+
+  -- ---- DELETE
+
+  abbrev delete_query : CodeCursor → Query → Act (Unit {0})
+  delete_query x query = do
+    t ← table_now query.table
+    c ← cursor_now number
+    row ← row_of_cursor x t c
+    leaves query.table t (rows_but t.def row t.rows) 1
+    leave_row true number c
+
+  abbrev delete_cursor : CodeCursor → Act (Unit {0})
+  delete_cursor x = do
+    query ← query_at r x.query
+    delete_query x query
+
+  delete_query_does : (s : List Letter) (m : Machine) → Has code r l s m → Does code r l (Same s) (delete_query x g.query) m
+  delete_query_does s m h =
+      let t = g.right.table in
+      and_then code r l _ _ _ _ m (table_does code r l g.query.table t s m g.right.there h) (λ c k z.
+      and_then code r l _ _ _ _ k (cursor_does code r l number x declared g s k z.1) (λ cursor k w.
+      and_then code r l _ _ _ _ k (row_does code r l may number x declared g c cursor s k z.0 w.1) (λ row k v.
+      let fine : Fine code r l may t (rows_but c.def row c.rows) = subst (λ (d : TableDef). Fine code r l may t (rows_but d row c.rows)) (sym z.0.same)
+      (record { fit = but_all (IsRow t.definition) t.definition row c.rows z.0.rows; legal = legal_but plain (schema_of t) row c.rows z.0.legal }) in
+      and_then code r l _ _ _ _ k (leaves_does code r l may g.query.table t c (rows_but c.def row c.rows) 1 s k g.right.there z.0.same fine v.1) (λ u j b. leave_does code r l may number x declared g true cursor s j w.0 b))))
+
+  pub delete_at_does : (s : List Letter) (m : Machine) → Has code r l s m → Does code r l (Same s) (delete_at r number) m
+  delete_at_does s m h =
+      and_then code r l _ _ _ _ m (declared_does code r l number x declared g s m h) (λ y n f.
+      subst (λ (y : CodeCursor). Does code r l (Same s) (delete_cursor y) n) (sym f.0)
+      (and_then code r l _ _ _ _ n (query_does code r l may x.query g.query s n g.there f.1) (λ q k z.
+      subst (λ (q : Query). Does code r l (Same s) (delete_query x q) k) (sym z.0) (delete_query_does s k z.1))))

@@ -1,0 +1,6 @@
+pub mod Fetched
+pub mod KeyMet
+pub mod Meeting
+pub mod Opens
+pub mod Standing
+pub mod Walks

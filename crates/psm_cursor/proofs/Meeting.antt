@@ -1,0 +1,41 @@
+-- The first row that meets a test, of those behind a key.
+use Rattle.std.proofs.Common.{◌≡◌, Bool, true, false, List, ◌∷◌, ap, Option, Some, Result, Ok, Err}
+use Rattle.std.specs.Prelude.{IfSome, if◌then◌else◌}
+use Rattle.psm_sqlstate.specs.declared.state.SqlState.{SqlState}
+use Rattle.psm_value.specs.Answer.{Gives}
+use Rattle.psm_value.specs.declared.datum.Datum.{Datum}
+use Rattle.psm_value.specs.declared.fault.ValueFault.{ValueFault}
+use Rattle.psm_value.specs.declared.fault.ValueFault.TheVariants.{Condition, Memory}
+use Rattle.psm_value.specs.declared.truth.Truth.{Truth}
+use Rattle.psm_table.specs.Cursors.{first_met, rows_past}
+use Rattle.psm_table.specs.Definition.{IsRow}
+use Rattle.psm_table.specs.Evaluator.{and_then, mapped}
+use Rattle.psm_table.specs.Queries.{is_met}
+use Rattle.psm_table.specs.Table.{Contents}
+use Rattle.psm_cursor.specs.Fetching.{Finds}
+use Rattle.psm_cursor.specs.Walking.{rows_onward}
+
+-- no row before the next one meets the test
+pub record Meeting (t : Contents) (test : List Datum → Result Truth SqlState) (downward : Bool) (bound next : Option (List Datum)) : Type 0 where
+  pub same : first_met test (rows_onward t.def.key downward t.rows next) ≡ first_met test (rows_past t.def.key downward bound t.rows)
+  pub fits : IfSome next (IsRow t.def)
+
+module _ (test : List Datum → Result Truth SqlState) (row : List Datum) (rows : List (List Datum)) where
+  found_of : (r : Result Truth SqlState) (b : Bool) → mapped is_met r ≡ Ok b → and_then r (λ met. if is_met met then Ok (Some row) else first_met test rows) ≡ (if b then Ok (Some row) else first_met test rows)
+  found_of (Ok t) b e = let same : is_met t ≡ b = cc in ap (λ (m : Bool). if m then Ok (Some row) else first_met test rows) same
+  found_of (Err s) b e = absurd cc
+
+  -- the row that meets the test is the first; one that doesn't is passed over
+  pub found : mapped is_met (test row) ≡ Ok true → first_met test (row ∷ rows) ≡ Ok (Some row)
+  found e = found_of (test row) true e
+
+  pub passed : mapped is_met (test row) ≡ Ok false → first_met test (row ∷ rows) ≡ first_met test rows
+  passed e = found_of (test row) false e
+
+  raised : (r : Result Truth SqlState) (s : SqlState) → mapped is_met r ≡ Err s → and_then r (λ met. if is_met met then Ok (Some row) else first_met test rows) ≡ Err s
+  raised (Ok t) s e = absurd cc
+  raised (Err q) s e = let same : q ≡ s = cc in ap Err same
+
+  pub found_fault : (fault : ValueFault) → Gives (mapped is_met (test row)) (Err fault) → Finds (first_met test (row ∷ rows)) (Err fault)
+  found_fault (Condition s) e = raised (test row) s e
+  found_fault Memory e = tt

@@ -1,0 +1,7 @@
+pub mod Current
+pub mod Fetching
+pub mod Opened
+pub mod Places
+pub mod States
+pub mod Suits
+pub mod Walking

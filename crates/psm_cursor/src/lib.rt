@@ -1,0 +1,9 @@
+//! Cursors over one table (ISO/IEC 9075:1992, 13.1 to 13.5).
+#![tactic(auto)]
+
+mod cursor;
+mod fetching;
+mod place;
+mod walking;
+
+pub use cursor::Cursor;

@@ -1,0 +1,36 @@
+-- The condition that activated the innermost running action, as the definition finds it.
+use Rattle.std.proofs.Common.{◌≡◌, ℕ, List, [], ◌∷◌, Option, Some, None, Err, codes, refl, ap, sym, subst, ◌∙◌}
+use Rattle.psm_cond.specs.Condition.{Entries}
+use Rattle.psm_table.specs.Table.{Contents}
+use Rattle.psm_store.specs.declared.store.Mark.{Mark}
+use Rattle.psm_code.specs.Signalling.{activating}
+use Rattle.psm_code.specs.State.{Machine}
+use Rattle.psm_code.specs.Steps.{Came, Got, got, of_state, raises}
+use Rattle.psm_unwind.specs.declared.run.Frame.{Frame}
+use Rattle.psm_unwind.specs.declared.run.Frame.TheVariants.{Block, Action}
+use Rattle.psm_unwind.specs.View.{frames_of}
+use Rattle.psm_machine.specs.declared.stop.Stop.{Stop}
+use Rattle.psm_machine.specs.declared.stop.Stop.TheVariants as stop
+use Rattle.psm_machine.specs.Coming.{Comes, StopsAt, activating_of}
+
+abbrev given_of : Option Entries → Machine → Came Entries
+given_of None m = raises (of_state (codes "0K000")) m
+given_of (Some c) m = got c m
+
+activating_is : (at : Mark → List Contents) (frames : List Frame) (m : Machine) → activating (frames_of at frames) m ≡ given_of (activating_of frames) m
+activating_is at [] m = refl
+activating_is at (Block k found ∷ frames) m = activating_is at frames m
+activating_is at (Action h resume c rows ∷ frames) m = refl
+
+pub activating_found : (at : Mark → List Contents) (frames : List Frame) (m : Machine) (c : Entries) → activating_of frames ≡ Some c → activating (frames_of at frames) m ≡ record { given = Got c; machine = m }
+activating_found at frames m c e = activating_is at frames m ∙ ap (λ o. given_of o m) e
+
+-- a condition of an SQLSTATE stops the instruction
+pub raises_comes : (A : Type 0) (state : List ℕ) (m : Machine) (s : Stop) → StopsAt state s → Comes {A = A} (raises (of_state state) m) (Err s) m
+raises_comes A state m (stop.Raises c) h = ap (λ x. raises {A = A} x m) (sym h)
+raises_comes A state m stop.NoTurns h = absurd h
+raises_comes A state m stop.Lacking h = absurd h
+raises_comes A state m stop.Memory h = tt
+
+pub activating_none : (at : Mark → List Contents) (frames : List Frame) (m : Machine) → activating_of frames ≡ None → (s : Stop) → StopsAt (codes "0K000") s → Comes (activating (frames_of at frames) m) (Err s) m
+activating_none at frames m e s h = subst (λ (x : Came Entries). Comes x (Err s) m) (sym (activating_is at frames m ∙ ap (λ o. given_of o m) e)) (raises_comes Entries (codes "0K000") m s h)

@@ -1,0 +1,5 @@
+pub mod Acting
+pub mod Comings
+pub mod Exiting
+pub mod Marking
+pub mod Spending

@@ -1,0 +1,35 @@
+use Rattle.std.proofs.Common.{◌+◌, Some, ◌∷◌, ◌++◌, map, reverse, refl, ap, arith}
+use Rattle.psm_code.specs.State.{InBlock}
+use Rattle.psm_unwind.specs.Marks.{Stays, marks_in, marks_of, open_marks}
+use Rattle.psm_unwind.specs.View.{activation_of, frames_of, machine_of}
+use Rattle.psm_unwind.proofs.Nestings.{each_left, each_right}
+use Rattle.psm_unwind.proofs.Views.{callers_stay}
+use Rattle.psm_machine.proofs.Marking.{all_stay, entered, frames_pushed, marks_pushed, stand_more, stand_new}
+use Rattle.psm_machine.proofs.blocks.enter_atomic.Goals as goal
+
+pub returns-in_err-mark-clause-stand : goal.returns-in_err-mark-clause-stand
+returns-in_err-mark-clause-stand g c =
+    stand_more (g.S.Store.holds c.args.store.now) (g.S.Store.at c.args.store.now) (g.S.Store.holds c.mark.new.self) (g.S.Store.at c.mark.new.self) (g.S.Store.marks c.args.store.now) (g.S.Store.marks c.mark.new.self) c.args.run.now (record c.args.run.now { marks = c.args.run.now.marks + 1 }) c.requires c.mark.ensures.keeps (omega (arith, c.in_err-mark.ensures.marks)) refl c.if-run-ge-MOST_OPEN.false refl
+
+pub returns-in_err-push-clause-stand : goal.returns-in_err-push-clause-stand
+returns-in_err-push-clause-stand g c =
+    stand_more (g.S.Store.holds c.args.store.now) (g.S.Store.at c.args.store.now) (g.S.Store.holds c.mark.new.self) (g.S.Store.at c.mark.new.self) (g.S.Store.marks c.args.store.now) (g.S.Store.marks c.mark.new.self) c.args.run.now (record c.args.run.now { running = record c.args.run.now.running { frames = c.push.new.self }; marks = c.args.run.now.marks + 1 }) c.requires c.mark.ensures.keeps (omega (arith, c.in_ok-mark.ensures.marks)) refl c.if-run-ge-MOST_OPEN.false
+    (ap (λ fs. marks_in (reverse fs) ++ marks_of (reverse c.args.run.now.callers.items)) c.in_err-push.ensures.items)
+
+pub returns-clause-stand : goal.returns-clause-stand
+returns-clause-stand g c =
+    stand_new (g.S.Store.holds c.args.store.now) (g.S.Store.at c.args.store.now) (g.S.Store.holds c.mark.new.self) (g.S.Store.at c.mark.new.self) (g.S.Store.marks c.args.store.now) (g.S.Store.marks c.mark.new.self) (g.S.Store.tables c.args.store.now) c.args.run.now (record c.args.run.now { running = record c.args.run.now.running { frames = c.push.new.self }; marks = c.args.run.now.marks + 1 }) c.in_ok-mark.mark c.requires c.mark.ensures.keeps (g.met.S.Store.below c.args.store.now) c.in_ok-mark.ensures.mark
+    (omega (arith, c.in_ok-mark.ensures.marks)) refl c.if-run-ge-MOST_OPEN.false
+    (marks_pushed c.args.context c.in_ok-mark.mark c.args.run.now.running.frames.items c.push.new.self.items (marks_of (reverse c.args.run.now.callers.items)) c.in_ok-push.ensures.items)
+
+pub returns-clause-due : goal.returns-clause-due
+returns-clause-due g c =
+    let stay = all_stay (g.S.Store.holds c.args.store.now) (g.S.Store.at c.args.store.now) (g.S.Store.holds c.mark.new.self) (g.S.Store.at c.mark.new.self) (open_marks c.args.run.now) c.requires.nested c.mark.ensures.keeps in
+    let inner = marks_in (reverse c.args.run.now.running.frames.items) in
+    let outer = marks_of (reverse c.args.run.now.callers.items) in
+    entered (machine_of (g.S.Store.tables c.args.store.now) (g.S.Store.at c.args.store.now) c.args.run.now) (InBlock c.args.context (Some (g.S.Store.tables c.args.store.now)) ∷ frames_of (g.S.Store.at c.args.store.now) (reverse c.args.run.now.running.frames.items))
+    (frames_of (g.S.Store.at c.mark.new.self) (reverse c.push.new.self.items)) (map (activation_of (g.S.Store.at c.mark.new.self)) (reverse c.args.run.now.callers.items)) (g.S.Store.tables c.mark.new.self)
+    (frames_pushed c.args.context (g.S.Store.tables c.args.store.now) (g.S.Store.at c.args.store.now) (g.S.Store.holds c.mark.new.self) (g.S.Store.at c.mark.new.self) c.args.run.now.running.frames.items c.push.new.self.items c.in_ok-mark.mark c.in_ok-push.ensures.items
+    c.in_ok-mark.ensures.mark.stands (each_left (Stays (g.S.Store.at c.args.store.now) (g.S.Store.holds c.mark.new.self) (g.S.Store.at c.mark.new.self)) inner outer stay))
+    (callers_stay (g.S.Store.at c.args.store.now) (g.S.Store.holds c.mark.new.self) (g.S.Store.at c.mark.new.self) (reverse c.args.run.now.callers.items) (each_right (Stays (g.S.Store.at c.args.store.now) (g.S.Store.holds c.mark.new.self) (g.S.Store.at c.mark.new.self)) inner outer stay))
+    c.mark.ensures.tables

@@ -1,0 +1,15 @@
+use Rattle.std.proofs.Common.{refl}
+use Rattle.psm_unwind.specs.View.{machine_of}
+use Rattle.psm_machine.proofs.Comings.{stopped}
+use Rattle.psm_machine.proofs.signalling.with_message.Goals as goal
+
+pub returns-in_err-value-clause-due : goal.returns-in_err-value-clause-due
+returns-in_err-value-clause-due c = λ tables at. stopped _ _ _ c.in_err-value.field-0.0 c.from_residual.result c.from_residual.ensures.1 (c.in_err-value.ensures.due tables at)
+
+pub returns-in_err-message-clause-due : goal.returns-in_err-message-clause-due
+returns-in_err-message-clause-due c = λ tables at.
+    rw (c.in_ok-value.ensures.due tables at)
+    (stopped _ _ _ c.in_err-message.field-0.0 c.from_residual-in_err-message.result c.from_residual-in_err-message.ensures.1 (c.in_err-message.ensures (machine_of tables at c.pop.new.run)))
+
+pub returns-clause-due : goal.returns-clause-due
+returns-clause-due c = λ tables at. rw (c.in_ok-value.ensures.due tables at, c.in_ok-message.ensures (machine_of tables at c.pop.new.run)) refl

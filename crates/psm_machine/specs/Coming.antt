@@ -1,0 +1,62 @@
+-- What the parts of an instruction come to.
+use Rattle.std.specs.Prelude.{◌≡◌, List, [], ◌∷◌, Option, Some, None, Result, Ok, Err}
+use Rattle.psm_sqlstate.specs.declared.state.SqlState.{SqlState}
+use Rattle.psm_value.specs.declared.fault.ValueFault.{ValueFault}
+use Rattle.psm_value.specs.declared.fault.ValueFault.TheVariants as value
+use Rattle.psm_table.specs.Table.{Contents}
+use Rattle.psm_store.specs.declared.store.Mark.{Mark}
+use Rattle.psm_code.specs.State as code
+use Rattle.psm_code.specs.Steps.{Act, Came, Got, Raises, Ends, of_state, tried}
+use Rattle.psm_cond.specs.Condition.{Entries}
+use Rattle.psm_unwind.specs.declared.run.Frame.{Frame}
+use Rattle.psm_unwind.specs.declared.run.Frame.TheVariants.{Block, Action}
+use Rattle.psm_unwind.specs.declared.run.Run.{Run}
+use Rattle.psm_unwind.specs.View.{machine_of}
+use Rattle.psm_machine.specs.declared.stop.Stop.{Stop}
+use Rattle.psm_machine.specs.declared.stop.Stop.TheVariants as stop
+
+-- the run is over, with these tables
+abbrev pub EndsWith : {A : Type 0} → code.End → Came A → code.Machine → Type 0
+EndsWith e came now = (came.given ≡ Ends e) × (came.machine.tables ≡ now.tables)
+
+-- what is due comes, with the machine as it is now; want of memory may always come
+abbrev pub Comes : {A : Type 0} → Came A → Result A Stop → code.Machine → Type 0
+Comes came (Ok a) now = came ≡ record { given = Got a; machine = now }
+Comes came (Err (stop.Raises c)) now = came ≡ record { given = Raises c; machine = now }
+Comes came (Err stop.NoTurns) now = EndsWith code.NoTurns came now
+Comes came (Err stop.Lacking) now = EndsWith code.Lacking came now
+Comes came (Err stop.Memory) now = Unit {0}
+
+-- the same of a run, whatever its tables are
+abbrev pub Does : {A : Type 0} → Act A → Run → Result A Stop → Run → Type 0
+Does act r result new = (tables : List Contents) (at : Mark → List Contents) → Comes (act (machine_of tables at r)) result (machine_of tables at new)
+
+-- the condition of an SQLSTATE alone
+abbrev pub StopsAt : SqlState → Stop → Type 0
+StopsAt s (stop.Raises c) = c ≡ of_state s
+StopsAt s stop.NoTurns = ⊥
+StopsAt s stop.Lacking = ⊥
+StopsAt s stop.Memory = Unit {0}
+
+-- the condition of the SQLSTATE that an operation on values raises
+abbrev pub Fails : ValueFault → Stop → Type 0
+Fails (value.Condition state) s = StopsAt state s
+Fails value.Memory s = s ≡ stop.Memory
+
+-- an operation on values comes to what is due
+abbrev pub Tries : {A : Type 0} → Result A SqlState → Result A Stop → Type 0
+Tries due result = (m : code.Machine) → Comes (tried due m) result m
+
+-- an act that changes nothing comes to what is due
+abbrev pub Finds : {A : Type 0} → Act A → Result A Stop → Type 0
+Finds act result = (m : code.Machine) → Comes (act m) result m
+
+-- ---- the condition that activated the innermost running action
+
+abbrev pub activating_by : Frame → Option Entries → Option Entries
+activating_by (Block k found) other = other
+activating_by (Action h resume c rows) other = Some c
+
+abbrev pub activating_of : List Frame → Option Entries
+activating_of [] = None
+activating_of (f ∷ frames) = activating_by f (activating_of frames)

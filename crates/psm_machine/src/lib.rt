@@ -1,0 +1,20 @@
+//! The instructions of code (ISO/IEC 9075-4:1996), each of which does to a run what the table of instructions says.
+#![tactic(auto)]
+
+mod blocks;
+mod diagnostics;
+mod operands;
+mod returning;
+mod signalling;
+mod stop;
+mod turns;
+mod variables;
+
+pub use blocks::{enter, exit};
+pub use diagnostics::item_of_statement;
+pub use operands::{pop, put};
+pub use returning::{no_case, no_return, returned};
+pub use signalling::{resignal, resignal_condition, resignal_message, signal, signal_message};
+pub use stop::Stop;
+pub use turns::{clear, turn};
+pub use variables::{retrieve, store, warn};

@@ -1,0 +1,29 @@
+//! The operands of the activation that runs.
+ghost use Rattle.psm_code.specs.Steps.{pop, put, put_value};
+ghost use Rattle.psm_unwind.specs.Marks.{SameFrames};
+ghost use Rattle.psm_machine.specs.Coming.{Does};
+
+use crate::stop::Stop;
+use psm_exprcode::Operand;
+use psm_unwind::Run;
+use psm_value::Datum;
+
+/// Takes the last operand, which is a value.
+pub fn pop(run: &mut Run) -> Result<Datum, Stop>
+    ensures due { Does pop run.old result run.new }
+    ensures same { SameFrames run.old run.new }
+{
+    match run.running.operands.pop() {
+        Some(Operand::Value(value)) => Ok(value),
+        Some(Operand::Truth(_)) | None => Err(Stop::Lacking),
+    }
+}
+
+/// Puts an operand on the others.
+pub fn put(run: &mut Run, operand: Operand) -> Result<(), Stop>
+    ensures due { Does (put operand) run.old result run.new }
+    ensures same { SameFrames run.old run.new }
+{
+    run.running.operands.push(operand)?;
+    Ok(())
+}

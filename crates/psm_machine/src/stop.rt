@@ -1,0 +1,62 @@
+//! Why a part of an instruction gives nothing.
+ghost use Rattle.psm_machine.specs.Coming.{Fails, StopsAt};
+
+use psm_cond::Condition;
+use psm_sqlstate::SqlState;
+use psm_value::ValueFault;
+use std::alloc::{AllocError, AllocFailed, Global};
+
+/// Why a part of an instruction gives nothing.
+#[derive(Debug, Drop)]
+pub enum Stop {
+    /// A condition is to be raised at the line.
+    Raises(Condition),
+    /// A turn is due and none is left.
+    NoTurns,
+    /// Something isn't there that the instruction names.
+    Lacking,
+    /// Memory ran out.
+    Memory,
+}
+
+impl From<AllocError> for Stop {
+    ghost use Rattle.std.specs.Prelude.{◌≡◌};
+    ghost use Rattle.psm_machine.specs.declared.stop.Stop.TheVariants.{Memory};
+
+    ghost from_gives = { λ _ e. e ≡ Memory };
+
+    fn from(_e: AllocError) -> Stop {
+        Stop::Memory
+    }
+}
+
+impl<T: Drop> From<AllocFailed<T>> for Stop {
+    ghost use Rattle.std.specs.Prelude.{◌≡◌};
+    ghost use Rattle.psm_machine.specs.declared.stop.Stop.TheVariants.{Memory};
+
+    ghost from_gives = { λ _ e. e ≡ Memory };
+
+    fn from(_e: AllocFailed<T>) -> Stop {
+        Stop::Memory
+    }
+}
+
+/// The condition of an SQLSTATE alone, or want of memory.
+pub(crate) fn stop_at(alloc: Global, state: SqlState) -> Stop
+    ensures { StopsAt state result }
+{
+    match Condition::raised(alloc, state) {
+        Ok(condition) => Stop::Raises(condition),
+        Err(_) => Stop::Memory,
+    }
+}
+
+/// What a fault of an operation on values comes to.
+pub(crate) fn failed(alloc: Global, fault: ValueFault) -> Stop
+    ensures { Fails fault result }
+{
+    match fault {
+        ValueFault::Condition(state) => stop_at(alloc, state),
+        ValueFault::Memory => Stop::Memory,
+    }
+}

@@ -1,0 +1,31 @@
+//! Turns, and the diagnostics area of a statement that begins.
+ghost use Rattle.std.specs.Prelude.{Ok};
+ghost use Rattle.psm_code.specs.State.{cleared};
+ghost use Rattle.psm_code.specs.Steps.{change, turn};
+ghost use Rattle.psm_unwind.specs.Marks.{SameFrames};
+ghost use Rattle.psm_machine.specs.Coming.{Does};
+
+use crate::stop::Stop;
+use psm_unwind::Run;
+
+/// Uses a turn.
+#[tactic(auto, using(crate::proofs::Spending::turn_used))]
+pub fn turn(run: &mut Run) -> Result<(), Stop>
+    ensures due { Does turn run.old result run.new }
+    ensures same { SameFrames run.old run.new }
+{
+    if run.turns == 0 {
+        return Err(Stop::NoTurns);
+    }
+    run.turns -= 1;
+    Ok(())
+}
+
+/// The diagnostics area becomes success without rows, and no warning is pending.
+pub fn clear(run: &mut Run)
+    ensures due { Does (change cleared) run.old (Ok tt) run.new }
+    ensures same { SameFrames run.old run.new }
+{
+    run.area.clear();
+    run.pending = None;
+}

@@ -1,0 +1,7 @@
+pub mod Places
+pub mod Lasts
+pub mod Nestings
+pub mod Views
+pub mod Leavings
+pub mod Unwinding
+pub mod Arriving

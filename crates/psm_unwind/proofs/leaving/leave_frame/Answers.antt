@@ -1,0 +1,21 @@
+use Rattle.std.proofs.Common.{[], ◌∷◌, ap, sym, subst, ◌∙◌}
+use Rattle.psm_unwind.specs.Marks.{Leaves, marks_in, mark_in}
+use Rattle.psm_unwind.proofs.Nestings.{leaves_mark, leaves_no_mark}
+use Rattle.psm_unwind.proofs.leaving.leave_frame.Goals.{in-Block+in-Some, in-Block+in_default-found, in_default}
+use Rattle.psm_unwind.proofs.leaving.leave_frame.Goals as goal
+
+pub returns-clause-leaves : goal.returns-clause-leaves
+returns-clause-leaves g c =
+    let before = g.S.Store.holds c.args.store.now in
+    let at = g.S.Store.at c.args.store.now in
+    elim c.match-frame.branch [
+      | in-Block+in-Some w ↦
+          subst (λ st. Leaves before at (marks_in (c.args.frame ∷ [])) (g.S.Store.holds st) (g.S.Store.at st) []) (sym w.store-is)
+          (leaves_mark before at (g.S.Store.holds w.let_go.new.store) (g.S.Store.at w.let_go.new.store) (mark_in c.args.frame) w.in-Some.mark (ap mark_in w.in-Block.is ∙ w.in-Some.is) w.let_go.ensures.keeps)
+      | in-Block+in_default-found w ↦
+          subst (λ st. Leaves before at (marks_in (c.args.frame ∷ [])) (g.S.Store.holds st) (g.S.Store.at st) []) (sym w.store-is)
+          (leaves_no_mark before at (mark_in c.args.frame) (ap mark_in w.in-Block.is ∙ w.in_default-found.is))
+      | in_default w ↦
+          subst (λ st. Leaves before at (marks_in (c.args.frame ∷ [])) (g.S.Store.holds st) (g.S.Store.at st) []) (sym w.store-is)
+          (leaves_no_mark before at (mark_in c.args.frame) (ap mark_in w.in_default.is))
+    ]

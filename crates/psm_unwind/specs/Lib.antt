@@ -1,0 +1,4 @@
+pub mod View
+pub mod Marks
+pub mod Leaving
+pub mod Raising

@@ -1,0 +1,25 @@
+//! How an instruction leaves a run, and how a run ends.
+
+use psm_cond::Condition;
+use psm_list::List;
+use psm_value::Datum;
+
+/// How a run ends.
+#[derive(Debug, Drop)]
+pub enum Ending {
+    /// With the values of the OUT and INOUT parameters, or with the value of a function.
+    Ended(List<Datum>),
+    /// With an exception that no handler takes.
+    Raised(Condition),
+    /// Where a turn is due and none is left.
+    NoTurns,
+    /// Where something isn't there that an instruction names. Code that keeps its rules never comes to it.
+    Lacking,
+}
+
+/// Whether a run goes on.
+#[derive(Debug, Drop)]
+pub enum Outcome {
+    More,
+    Over(Ending),
+}

@@ -1,0 +1,14 @@
+pub mod Callings
+pub mod Contexts
+pub mod Each
+pub mod Ending
+pub mod Going
+pub mod Lining
+pub mod NewValues
+pub mod Placing
+pub mod Rows
+pub mod Scenes
+pub mod Slots
+pub mod Splits
+pub mod Stable
+pub mod Texts

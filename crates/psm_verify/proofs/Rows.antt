@@ -1,0 +1,63 @@
+-- Rows of operands, and the letters of columns.
+use Rattle.std.proofs.Common.{◌≡◌, ℕ, zero, suc, ◌-◌, ◌<◌, ◌&&◌, List, [], ◌∷◌, ◌++◌, append_assoc, refl, ap, sym, ◌∙◌, arith, Option, Some, None}
+use Rattle.std.specs.Prelude.{replicate, reverse, slice_get}
+use Rattle.std.specs.List.{flat_map}
+use Rattle.std.proofs.lemmas.List.{append-nil, reverse-append}
+use Rattle.psm_exprcode.specs.declared.op.Letter.{Letter}
+use Rattle.psm_exprcode.specs.WellFormed.{left_of}
+use Rattle.psm_exprcode.proofs.Stripping.{left_below_none, left_below_some}
+use Rattle.psm_code.specs.Instructions.{letters_at, values_letters, with_letter}
+use Rattle.psm_code.specs.Rules.{there}
+use Rattle.psm_code.specs.TableRules.{are_there}
+use Rattle.psm_verify.specs.Moves.{given_rows, prepend}
+
+pub values_there : (rows : ℕ) (o : Option (List Letter)) → there (values_letters rows o) ≡ there o
+values_there rows None = refl
+values_there rows (Some ls) = refl
+
+pub row_there : (letters : List Letter) (columns : List ℕ) → there (letters_at letters columns) ≡ are_there letters columns
+row_there letters [] = refl
+row_there letters (c ∷ cs) = by (slice_get letters c) (letters_at letters cs) (row_there letters cs) where
+  by : (m : Option Letter) (o : Option (List Letter)) → there o ≡ are_there letters cs → there (with_letter m o) ≡ (there m && are_there letters cs)
+  by None o h = refl
+  by (Some l) None h = h
+  by (Some l) (Some ls) h = h
+
+-- ---- letters of columns one after another
+
+pub prepend_next : (xs : List Letter) (l : Letter) (o : Option (List Letter)) → prepend xs (with_letter (Some l) o) ≡ prepend (xs ++ l ∷ []) o
+prepend_next xs l None = refl
+prepend_next xs l (Some ys) = ap Some (sym (append_assoc xs (l ∷ []) ys))
+
+pub column_next : (letters : List Letter) (c : ℕ) (cs rest : List ℕ) (l : Letter) (row more : List Letter) (due : Option (List Letter))
+    → rest ≡ c ∷ cs → slice_get letters c ≡ Some l → more ≡ row ++ l ∷ [] → prepend row (letters_at letters rest) ≡ due → prepend more (letters_at letters cs) ≡ due
+column_next letters c cs rest l row more due r e m h =
+    ap (λ xs. prepend xs (letters_at letters cs)) m ∙ sym (prepend_next row l (letters_at letters cs)) ∙ sym (ap (λ o. prepend row (with_letter o (letters_at letters cs))) e)
+    ∙ sym (ap (λ xs. prepend row (letters_at letters xs)) r) ∙ h
+
+pub prepend_nil : (o : Option (List Letter)) → prepend [] o ≡ o
+prepend_nil None = refl
+prepend_nil (Some ys) = refl
+
+-- ---- rows that are taken
+
+over : (n : ℕ) (row : List Letter) → given_rows n row ++ row ≡ row ++ given_rows n row
+over zero row = sym (append-nil row)
+over (suc n) row = append_assoc row (given_rows n row) row ∙ ap (λ r. row ++ r) (over n row)
+
+reversed : (n : ℕ) (ls : List Letter) → reverse (given_rows n ls) ≡ given_rows n (reverse ls)
+reversed zero ls = refl
+reversed (suc n) ls = reverse-append ls (given_rows n ls) ∙ ap (λ r. r ++ reverse ls) (reversed n ls) ∙ over n (reverse ls)
+
+pub rows_reversed : (n : ℕ) (ls row : List Letter) → row ≡ reverse ls → reverse (flat_map (λ xs. xs) (replicate n ls)) ≡ given_rows n row
+rows_reversed n ls row h = reversed n ls ∙ sym (ap (given_rows n) h)
+
+pub rows_some : (n : ℕ) (row s t : List Letter) → 0 < n → left_of row s ≡ Some t → left_of (given_rows n row) s ≡ left_of (given_rows (n - 1) row) t
+rows_some zero row s t l h = absurd (omega (arith, l))
+rows_some (suc n) row s t l h =
+    let e : n ≡ suc n - 1 = omega arith in
+    left_below_some row (given_rows n row) s t h ∙ ap (λ k. left_of (given_rows k row) t) e
+
+pub rows_none : (n : ℕ) (row s : List Letter) → 0 < n → left_of row s ≡ None → left_of (given_rows n row) s ≡ None
+rows_none zero row s l h = absurd (omega (arith, l))
+rows_none (suc n) row s l h = left_below_none row (given_rows n row) s h

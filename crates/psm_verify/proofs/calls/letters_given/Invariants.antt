@@ -1,0 +1,7 @@
+use Rattle.std.proofs.Common.{◌≡◌, take}
+use Rattle.psm_code.specs.Instructions.{parameter_letters}
+use Rattle.psm_code.specs.Parts.{giving}
+use Rattle.psm_verify.proofs.calls.letters_given.Given as goal
+
+abbrev pub invariant-loop-parameter : goal.invariant-loop-parameter
+invariant-loop-parameter l = l.letters.items ≡ parameter_letters (giving (take l.parameter-index l.parameters))

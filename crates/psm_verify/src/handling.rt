@@ -1,0 +1,326 @@
+//! The handlers of a routine (ISO/IEC 9075-4:1996, handler declaration).
+ghost use Rattle.psm_code.specs.declared.rule.CodeRule.TheVariants.{Definition};
+ghost use Rattle.std.specs.Prelude.{◌≡◌, ◌&&◌, ◌||◌, [], ◌∷◌, not, length, slice_get, IfOk};
+ghost use Rattle.std.specs.List.{list_all};
+ghost use Rattle.psm_cond.specs.Handlers.{context_at};
+ghost use Rattle.psm_code.specs.Parts as parts;
+ghost use Rattle.psm_code.specs.Rules as rules;
+ghost use Rattle.psm_code.specs.RoutineRules as routines;
+ghost use Rattle.psm_verify.specs.Checked.{Finds, checked, item_at};
+ghost use Rattle.psm_verify.specs.NewAt.{new_at};
+
+use crate::fault::Stop;
+use crate::handlers::{is_condition, line_there};
+use crate::listing::passed;
+use crate::numbers::is_there;
+use crate::same::are_same_states;
+use psm_code::{CodeRule, Lines, RawRoutine};
+use psm_cond::{ConditionValue, ContextKind, Declared, Handler, HandlerKind};
+use psm_list::OneOrMore;
+use std::alloc::{AllocError, Global};
+
+/// The handlers of a routine. Their values are compared with those of all handlers before them in the same block.
+pub(crate) fn handlers(alloc: Global, line: u64, routine: &RawRoutine) -> Result<u64, Stop>
+    ensures { Finds (checked line (rules.each_after (routines.handler_fault routine.now) [] routine.now.handlers.handlers)) result }
+{
+    let mut line = line;
+    for at in 0..routine.handlers.handlers.items().len() {
+        line = handler_at(alloc, line, routine, at)?;
+    }
+    Ok(line)
+}
+
+fn handler_at(alloc: Global, line: u64, routine: &RawRoutine, at: usize) -> Result<u64, Stop>
+    ensures { Finds (checked line (item_at (routines.handler_fault routine.now) routine.now.handlers.handlers at)) result }
+{
+    let handlers = routine.handlers.handlers.items();
+    match handlers.get(at) {
+        Some(handler) => handler_line(alloc, line, routine, &handlers[..at], handler),
+        None => Ok(line),
+    }
+}
+
+fn handler_line(
+    alloc: Global,
+    line: u64,
+    routine: &RawRoutine,
+    before: &[Handler],
+    handler: &Handler,
+) -> Result<u64, Stop>
+    ensures { Finds (checked line (routines.handler_fault routine.now before.now handler.now)) result }
+{
+    passed(line, handler_fault(alloc, routine, before, handler)?)
+}
+
+fn handler_fault(
+    alloc: Global,
+    routine: &RawRoutine,
+    before: &[Handler],
+    handler: &Handler,
+) -> Result<Option<CodeRule>, AllocError>
+    ensures { IfOk result (λ fault. routines.handler_fault routine.now before.now handler.now ≡ fault ∷ []) }
+{
+    if !context_there(routine, handler.context) || !values_there(routine, &handler.values) {
+        return Ok(Some(CodeRule::Range));
+    }
+    if !line_there(routine, handler.pc) {
+        return Ok(Some(CodeRule::Target));
+    }
+    if !begins_action(alloc, routine, before.len(), handler.pc)? {
+        return Ok(Some(CodeRule::Context));
+    }
+    Ok(definition_fault(routine, before, handler))
+}
+
+fn definition_fault(routine: &RawRoutine, before: &[Handler], handler: &Handler) -> Option<CodeRule>
+    ensures { result ≡ rules.unless (routines.may_undo routine.now handler.now && (list_all (routines.is_value_right routine.now) (routines.values_of handler.now) && routines.are_new (routines.values_in handler.now.context before.now) (routines.values_of handler.now))) Definition }
+{
+    if may_undo(routine, handler)
+        && are_values_right(routine, &handler.values)
+        && are_new(before, handler.context, &handler.values)
+    {
+        None
+    } else {
+        Some(CodeRule::Definition)
+    }
+}
+
+/// Whether a context of that number is there, or it is that of the routine itself.
+pub(crate) fn context_there(routine: &RawRoutine, context: u32) -> bool
+    ensures { result ≡ routines.context_there routine.now context }
+{
+    (context as usize) <= routine.handlers.contexts.items().len()
+}
+
+// ---- the line at which an action begins
+
+fn begins_action(
+    alloc: Global,
+    routine: &RawRoutine,
+    handler: usize,
+    line: u32,
+) -> Result<bool, AllocError>
+    ensures { IfOk result (λ b. b ≡ rules.where_there (parts.line_at routine.now line) (routines.is_action_line routine.now handler)) }
+{
+    match routine.lines.context(line as usize) {
+        Some(context) if is_action_of(routine, handler, context) => {
+            is_bare(alloc, &routine.lines, line as usize)
+        }
+        Some(_) => Ok(false),
+        None => Ok(true),
+    }
+}
+
+/// Whether the context of that number is an action of the handler.
+pub(crate) fn is_action_of(routine: &RawRoutine, handler: usize, context: u32) -> bool
+    ensures { result ≡ routines.is_action_context handler (context_at routine.now.handlers context) }
+{
+    match routine.handlers.context(context) {
+        Some(context) => is_action_kind(handler, &context.kind),
+        None => false,
+    }
+}
+
+fn is_action_kind(handler: usize, kind: &ContextKind) -> bool
+    ensures { result ≡ routines.is_action_kind handler kind.now }
+{
+    match kind {
+        ContextKind::Block(_) => false,
+        ContextKind::Action(number) => handler == *number as usize,
+    }
+}
+
+/// Whether a line, if it is there, states no operand.
+pub(crate) fn is_bare(alloc: Global, lines: &Lines, at: usize) -> Result<bool, AllocError>
+    ensures { IfOk result (λ b. b ≡ rules.where_there (slice_get lines.now at) (λ l. not (rules.is_some l.stack))) }
+{
+    if at < lines.len() {
+        let mut letters = Vec::new(alloc);
+        lines.stack(at, &mut letters)?;
+        Ok(letters.is_empty())
+    } else {
+        Ok(true)
+    }
+}
+
+// UNDO stands in an ATOMIC block.
+fn may_undo(routine: &RawRoutine, handler: &Handler) -> bool
+    ensures { result ≡ routines.may_undo routine.now handler.now }
+{
+    match handler.kind {
+        HandlerKind::Undo => is_atomic(routine, handler.context),
+        HandlerKind::Continue | HandlerKind::Exit => true,
+    }
+}
+
+fn is_atomic(routine: &RawRoutine, context: u32) -> bool
+    ensures { result ≡ rules.where_there (parts.block_at routine.now context) (λ b. b.atomic) }
+{
+    match routine.handlers.context(context) {
+        Some(context) => is_atomic_kind(&context.kind),
+        None => true,
+    }
+}
+
+fn is_atomic_kind(kind: &ContextKind) -> bool
+    ensures { result ≡ rules.where_there (parts.block_of_kind kind.now) (λ b. b.atomic) }
+{
+    match kind {
+        ContextKind::Block(block) => block.atomic,
+        ContextKind::Action(_) => true,
+    }
+}
+
+// ---- values
+
+fn values_there(routine: &RawRoutine, values: &OneOrMore<ConditionValue>) -> bool
+    ensures { result ≡ list_all (routines.value_there routine.now) (values.now.first ∷ values.now.rest) }
+{
+    value_there(routine, &values.first) && are_there(routine, values.rest.items())
+}
+
+fn are_there(routine: &RawRoutine, values: &[ConditionValue]) -> bool
+    ensures { result ≡ list_all (routines.value_there routine.now) values.now }
+{
+    values.iter().all(|value| value_there(routine, value))
+}
+
+fn value_there(routine: &RawRoutine, value: &ConditionValue) -> bool
+    ensures { result ≡ routines.value_there routine.now value.now }
+{
+    match value {
+        ConditionValue::Named(number) => is_there(routine.handlers.declared.items(), *number),
+        _ => true,
+    }
+}
+
+fn are_values_right(routine: &RawRoutine, values: &OneOrMore<ConditionValue>) -> bool
+    ensures { result ≡ list_all (routines.is_value_right routine.now) (values.now.first ∷ values.now.rest) }
+{
+    is_value_right(routine, &values.first) && are_right(routine, values.rest.items())
+}
+
+fn are_right(routine: &RawRoutine, values: &[ConditionValue]) -> bool
+    ensures { result ≡ list_all (routines.is_value_right routine.now) values.now }
+{
+    values.iter().all(|value| is_value_right(routine, value))
+}
+
+fn is_value_right(routine: &RawRoutine, value: &ConditionValue) -> bool
+    ensures { result ≡ routines.is_value_right routine.now value.now }
+{
+    match value {
+        ConditionValue::Named(number) => is_named(routine, *number),
+        ConditionValue::State(state) => is_condition(*state),
+        _ => true,
+    }
+}
+
+fn is_named(routine: &RawRoutine, number: u32) -> bool
+    ensures { result ≡ rules.where_there (slice_get routine.now.handlers.declared number) routines.is_named }
+{
+    match routine.handlers.declared.items().get(number as usize) {
+        Some(Declared::OfState(_)) => false,
+        _ => true,
+    }
+}
+
+// Whether no value stands among those of the handlers before it in the block, or before it in its own handler.
+fn are_new(before: &[Handler], block: u32, values: &OneOrMore<ConditionValue>) -> bool
+    ensures { result ≡ routines.are_new (routines.values_in block before.now) (values.now.first ∷ values.now.rest) }
+{
+    !is_handled(before, block, &values.first)
+        && are_others_new(before, block, &values.first, values.rest.items())
+}
+
+fn are_others_new(
+    before: &[Handler],
+    block: u32,
+    first: &ConditionValue,
+    others: &[ConditionValue],
+) -> bool
+    ensures { result ≡ routines.are_new (first.now ∷ routines.values_in block before.now) others.now }
+{
+    for at in 0..others.len() {
+        if !is_new_at(before, block, first, others, at) {
+            return false;
+        }
+    }
+    true
+}
+
+fn is_new_at(
+    before: &[Handler],
+    block: u32,
+    first: &ConditionValue,
+    others: &[ConditionValue],
+    at: usize,
+) -> bool
+    ensures { result ≡ new_at others.now (first.now ∷ routines.values_in block before.now) at }
+{
+    match others.get(at) {
+        Some(value) => is_new(before, block, first, &others[..at], value),
+        None => true,
+    }
+}
+
+fn is_new(
+    before: &[Handler],
+    block: u32,
+    first: &ConditionValue,
+    own: &[ConditionValue],
+    value: &ConditionValue,
+) -> bool
+    ensures { result ≡ not (routines.is_value_among value.now own.now || (routines.is_same_value value.now first.now || routines.is_value_among value.now (routines.values_in block before.now))) }
+{
+    !(is_among(value, own) || is_same_value(value, first) || is_handled(before, block, value))
+}
+
+// Whether a handler of the block has the value.
+#[tactic(auto, using(crate::proofs::NewValues::handled_next))]
+fn is_handled(handlers: &[Handler], block: u32, value: &ConditionValue) -> bool
+    ensures { result ≡ routines.is_value_among value.now (routines.values_in block handlers.now) }
+{
+    let mut rest = handlers;
+    while let Some((handler, others)) = rest.split_first() {
+        if handler.context == block && has_value(handler, value) {
+            return true;
+        }
+        rest = others;
+    }
+    false
+}
+
+fn has_value(handler: &Handler, value: &ConditionValue) -> bool
+    ensures { result ≡ routines.is_value_among value.now (routines.values_of handler.now) }
+{
+    is_same_value(value, &handler.values.first) || is_among(value, handler.values.rest.items())
+}
+
+fn is_among(value: &ConditionValue, values: &[ConditionValue]) -> bool
+    ensures { result ≡ routines.is_value_among value.now values.now }
+{
+    let mut rest = values;
+    while let Some((first, others)) = rest.split_first() {
+        if is_same_value(value, first) {
+            return true;
+        }
+        rest = others;
+    }
+    false
+}
+
+fn is_same_value(value: &ConditionValue, other: &ConditionValue) -> bool
+    ensures { result ≡ routines.is_same_value value.now other.now }
+{
+    match (value, other) {
+        (ConditionValue::Named(number), ConditionValue::Named(place)) => number == place,
+        (ConditionValue::State(state), ConditionValue::State(same)) => {
+            are_same_states(*state, *same)
+        }
+        (ConditionValue::SqlException, ConditionValue::SqlException) => true,
+        (ConditionValue::SqlWarning, ConditionValue::SqlWarning) => true,
+        (ConditionValue::NotFound, ConditionValue::NotFound) => true,
+        _ => false,
+    }
+}

@@ -1,0 +1,30 @@
+//! The verifier of code: it finds the first line of the listing that breaks a rule of code.
+#![tactic(auto)]
+
+mod calls;
+mod changes;
+mod changing;
+mod code;
+mod effects;
+mod expressions;
+mod fault;
+mod handlers;
+mod handling;
+mod instructions;
+mod lines;
+mod listing;
+mod numbers;
+mod operands;
+mod parts;
+mod placed;
+mod plans;
+mod routines;
+mod same;
+mod scene;
+mod stating;
+mod tables;
+mod verify;
+
+pub use code::Code;
+pub use fault::CodeFault;
+pub use verify::verified;

@@ -1,0 +1,213 @@
+//! Tables (ISO/IEC 9075:1992, 11.3, 11.4, 11.7 and 11.9).
+ghost use Rattle.std.specs.Prelude.{◌≡◌, [], ◌∷◌, map, not};
+ghost use Rattle.std.specs.List.{flat_map, list_all};
+ghost use Rattle.psm_exprcode.specs.Kinds.{is_letter};
+ghost use Rattle.psm_exprcode.specs.declared.op.Letter.TheVariants.{B};
+ghost use Rattle.psm_value.specs.SqlType.{IsType};
+ghost use Rattle.psm_value.specs.Stored.{stored};
+ghost use Rattle.psm_code.specs.Instructions.{column_letters};
+ghost use Rattle.psm_code.specs.Rules.{each_after, is_same};
+ghost use Rattle.psm_code.specs.TableRules as rules;
+ghost use Rattle.psm_verify.specs.Checked.{Finds, checked, item_at};
+
+use crate::expressions::{Due, expression};
+use crate::fault::Stop;
+use crate::listing::passed;
+use crate::numbers::{are_distinct, are_there};
+use crate::same::{are_same_names, is_type};
+use psm_code::{CodeRule, CodeTable};
+use psm_exprcode::{ExprCode, Letter};
+use psm_list::List;
+use psm_table::{Column, TableDef};
+use psm_value::{Datum, SqlType, is_stored, storing_is_stable};
+use std::alloc::Global;
+
+/// The tables, the letters of whose columns are known. Names are compared with all before them.
+pub(crate) fn tables(
+    alloc: Global,
+    line: u64,
+    tables: &[CodeTable],
+    letters: &[List<Letter>],
+) -> Result<u64, Stop>
+    requires { letters.now ≡ map column_letters tables.now }
+    ensures { Finds (checked line (each_after rules.table_faults [] tables.now)) result }
+{
+    let mut line = line;
+    for at in 0..tables.len() {
+        line = table_at(alloc, line, tables, letters, at)?;
+    }
+    Ok(line)
+}
+
+#[tactic(auto, using(crate::proofs::Each::known_at))]
+fn table_at(
+    alloc: Global,
+    line: u64,
+    tables: &[CodeTable],
+    letters: &[List<Letter>],
+    at: usize,
+) -> Result<u64, Stop>
+    requires { letters.now ≡ map column_letters tables.now }
+    ensures { Finds (checked line (item_at rules.table_faults tables.now at)) result }
+{
+    match (tables.get(at), letters.get(at)) {
+        (Some(table), Some(letters)) => {
+            table_lines(alloc, line, &tables[..at], table, letters.items())
+        }
+        _ => Ok(line),
+    }
+}
+
+// The line of a table, those of its columns, of its key, of its UNIQUE lists and of its CHECKs.
+fn table_lines(
+    alloc: Global,
+    line: u64,
+    before: &[CodeTable],
+    table: &CodeTable,
+    letters: &[Letter],
+) -> Result<u64, Stop>
+    requires { letters.now ≡ column_letters table.now }
+    ensures { Finds (checked line (rules.table_faults before.now table.now)) result }
+{
+    let line = passed(line, name_fault(before, table))?;
+    let line = columns(line, &table.definition)?;
+    let line = keys(line, &table.definition)?;
+    checks(alloc, line, letters, table)
+}
+
+fn name_fault(before: &[CodeTable], table: &CodeTable) -> Option<CodeRule>
+    ensures { result ≡ rules.name_fault before.now table.now }
+{
+    if is_new_table(before, table) {
+        None
+    } else {
+        Some(CodeRule::Definition)
+    }
+}
+
+fn is_new_table(before: &[CodeTable], table: &CodeTable) -> bool
+    ensures { result ≡ list_all (λ u. not (is_same u.definition.name table.now.definition.name)) before.now }
+{
+    before.iter().all(|other| !are_same_names(&other.definition.name, &table.definition.name))
+}
+
+#[tactic(auto, using(crate::proofs::Each::after_next, crate::proofs::Going::going_on, crate::proofs::Going::stopped))]
+fn columns(line: u64, def: &TableDef) -> Result<u64, Stop>
+    ensures { Finds (checked line (each_after rules.column_fault [] def.now.columns)) result }
+{
+    let columns = def.columns.items();
+    let mut line = line;
+    for (at, column) in columns.iter().enumerate() {
+        line = passed(line, column_fault(&columns[..at], column))?;
+    }
+    Ok(line)
+}
+
+#[tactic(auto, using(psm_exprcode::proofs::Types::type_within))]
+fn column_fault(before: &[Column], column: &Column) -> Option<CodeRule>
+    ensures { rules.column_fault before.now column.now ≡ result ∷ [] }
+{
+    if !is_type(column.kind) {
+        Some(CodeRule::Range)
+    } else if is_new_column(before, column) && is_as_stored(column.kind, &column.default) {
+        None
+    } else {
+        Some(CodeRule::Definition)
+    }
+}
+
+fn is_new_column(before: &[Column], column: &Column) -> bool
+    ensures { result ≡ list_all (λ d. not (is_same d.name column.now.name)) before.now }
+{
+    before
+        .iter()
+        .all(|other| !are_same_names(&other.name, &column.name))
+}
+
+#[tactic(auto, using(crate::proofs::Stable::stored_is))]
+// Whether the type takes the value as it is.
+fn is_as_stored(kind: SqlType, value: &Datum) -> bool
+    requires { IsType kind }
+    ensures { result ≡ rules.is_as_stored (stored kind value.now) value.now }
+{
+    storing_is_stable();
+    is_stored(kind, value)
+}
+
+// The line of the key, and those of the UNIQUE lists.
+#[tactic(auto, using(crate::proofs::Going::going_on, crate::proofs::Going::stopped))]
+fn keys(line: u64, def: &TableDef) -> Result<u64, Stop>
+    ensures { Finds (checked line (rules.key_fault def.now ∷ map (rules.unique_fault def.now) def.now.unique)) result }
+{
+    let line = passed(line, key_fault(def))?;
+    uniques(line, def)
+}
+
+fn key_fault(def: &TableDef) -> Option<CodeRule>
+    ensures { result ≡ rules.key_fault def.now }
+{
+    let columns = def.columns.items();
+    let key = def.key.items();
+    if !are_there(columns, key) {
+        Some(CodeRule::Range)
+    } else if is_column_list(key) && refuse_null(columns, key) {
+        None
+    } else {
+        Some(CodeRule::Definition)
+    }
+}
+
+/// Whether they are some columns, and none of them twice.
+pub(crate) fn is_column_list(places: &[u32]) -> bool
+    ensures { result ≡ rules.is_column_list places.now }
+{
+    !places.is_empty() && are_distinct(places)
+}
+
+fn refuse_null(columns: &[Column], places: &[u32]) -> bool
+    ensures { result ≡ list_all (rules.refuses_null columns.now) places.now }
+{
+    places.iter().all(|place| refuses_null(columns, *place))
+}
+
+fn refuses_null(columns: &[Column], place: u32) -> bool
+    ensures { result ≡ rules.refuses_null columns.now place }
+{
+    match columns.get(place as usize) {
+        Some(column) => column.not_null,
+        None => true,
+    }
+}
+
+#[tactic(auto, using(crate::proofs::Each::map_next, crate::proofs::Going::going_on, crate::proofs::Going::stopped))]
+fn uniques(line: u64, def: &TableDef) -> Result<u64, Stop>
+    ensures { Finds (checked line (map (rules.unique_fault def.now) def.now.unique)) result }
+{
+    let mut line = line;
+    for places in def.unique.items() {
+        line = passed(line, unique_fault(def, places.items()))?;
+    }
+    Ok(line)
+}
+
+fn unique_fault(def: &TableDef, places: &[u32]) -> Option<CodeRule>
+    ensures { result ≡ rules.unique_fault def.now places.now }
+{
+    if !are_there(def.columns.items(), places) {
+        Some(CodeRule::Range)
+    } else if is_column_list(places) {
+        None
+    } else {
+        Some(CodeRule::Definition)
+    }
+}
+
+fn checks(alloc: Global, line: u64, letters: &[Letter], table: &CodeTable) -> Result<u64, Stop>
+    ensures { Finds (checked line (flat_map (rules.expr_faults letters.now [] (is_letter B)) table.now.checks)) result }
+{
+    let mut line = line;
+    for check in table.checks.items() {
+        line = expression(alloc, line, letters, &[], Due::Only(Letter::B), check)?;
+    }
+    Ok(line)
+}

@@ -1,0 +1,165 @@
+//! The verifier of code.
+ghost use Rattle.std.specs.Prelude.{◌≡◌, [], ◌∷◌, map, None, IfOk};
+ghost use Rattle.psm_code.specs.Instructions.{column_letters};
+ghost use Rattle.psm_code.specs.Rules.{each_after};
+ghost use Rattle.psm_code.specs.RoutineRules.{code_faults, routine_faults};
+ghost use Rattle.psm_verify.specs.Called.{call_of};
+ghost use Rattle.psm_verify.specs.Checked.{Finds, checked, item_at};
+ghost use Rattle.psm_verify.specs.Scene.{letters_with};
+ghost use Rattle.psm_verify.specs.Verified.{Verifies};
+ghost use Rattle.psm_code.specs.TableRules.{table_faults};
+
+use crate::calls::{Call, calls_of};
+use crate::code::Code;
+use crate::fault::{CodeFault, Stop};
+use crate::listing::next;
+use crate::scene::{Scene, item_letters, letters_of_tables, letters_of_variables};
+use crate::tables::tables;
+use psm_code::{RawCode, RawRoutine};
+use psm_exprcode::{Letter, Query};
+use psm_list::List;
+use std::alloc::{AllocError, Global};
+
+/// The code as code that keeps its rules, or the first line of its listing that breaks one, and which: a line that breaks several is
+/// told by the rule that comes first in [`psm_code::CodeRule`]. Want of memory is the one other answer.
+///
+/// It reads the listing a few times at most, but for these. What may not stand twice is compared with all that stands before it: names
+/// of tables, of columns and of parameters, routines, columns in lists and in SETs, and the values of handlers in their routine. And an
+/// instruction that changes rows looks at the columns of its plan.
+pub fn verified(alloc: Global, code: RawCode) -> Result<Result<Code, CodeFault>, AllocError>
+    ensures { IfOk result (λ answer. Verifies code answer) }
+{
+    match code_lines(alloc, &code) {
+        Ok(_) => Ok(Ok(Code::right(code))),
+        Err(Stop::Fault(fault)) => Ok(Err(fault)),
+        Err(Stop::Memory) => Err(AllocError),
+    }
+}
+
+fn code_lines(alloc: Global, code: &RawCode) -> Result<u64, Stop>
+    ensures { Finds (checked 1 (code_faults code.now)) result }
+{
+    let letters = letters_of_tables(alloc, code.tables.items())?;
+    let calls = calls_of(alloc, code.routines.items())?;
+    let line = tables_lines(alloc, code, letters.as_slice())?;
+    routines(alloc, line, code, letters.as_slice(), calls.as_slice())
+}
+
+// The first line of the listing, which counts tables and routines, and those of the tables.
+fn tables_lines(alloc: Global, code: &RawCode, letters: &[List<Letter>]) -> Result<u64, Stop>
+    requires { letters.now ≡ map column_letters code.now.tables }
+    ensures { Finds (checked 1 (None ∷ each_after table_faults [] code.now.tables)) result }
+{
+    let line = next(1)?;
+    tables(alloc, line, code.tables.items(), letters)
+}
+
+fn routines(
+    alloc: Global,
+    line: u64,
+    code: &RawCode,
+    letters: &[List<Letter>],
+    calls: &[Call],
+) -> Result<u64, Stop>
+    requires letters { letters.now ≡ map column_letters code.now.tables }
+    requires calls { calls.now ≡ map call_of code.now.routines }
+    ensures { Finds (checked line (each_after (routine_faults code.now) [] code.now.routines)) result }
+{
+    let mut line = line;
+    for at in 0..code.routines.items().len() {
+        line = routine_at(alloc, line, code, letters, calls, at)?;
+    }
+    Ok(line)
+}
+
+fn routine_at(
+    alloc: Global,
+    line: u64,
+    code: &RawCode,
+    letters: &[List<Letter>],
+    calls: &[Call],
+    at: usize,
+) -> Result<u64, Stop>
+    requires letters { letters.now ≡ map column_letters code.now.tables }
+    requires calls { calls.now ≡ map call_of code.now.routines }
+    ensures { Finds (checked line (item_at (routine_faults code.now) code.now.routines at)) result }
+{
+    let routines = code.routines.items();
+    match routines.get(at) {
+        Some(routine) => {
+            routine_lines(alloc, line, code, letters, calls, &routines[..at], routine)
+        }
+        None => Ok(line),
+    }
+}
+
+fn routine_lines(
+    alloc: Global,
+    line: u64,
+    code: &RawCode,
+    letters: &[List<Letter>],
+    calls: &[Call],
+    before: &[RawRoutine],
+    routine: &RawRoutine,
+) -> Result<u64, Stop>
+    requires letters { letters.now ≡ map column_letters code.now.tables }
+    requires calls { calls.now ≡ map call_of code.now.routines }
+    ensures { Finds (checked line (routine_faults code.now before.now routine.now)) result }
+{
+    let variables = letters_of_variables(alloc, routine)?;
+    let items = letters_of_queries(
+        alloc,
+        letters,
+        variables.as_slice(),
+        routine.queries.items(),
+    )?;
+    let scene = Scene {
+        code,
+        routine,
+        columns: letters,
+        variables: variables.as_slice(),
+        items: items.as_slice(),
+        calls,
+    };
+    scene.routine(alloc, line, before)
+}
+
+impl<'a> Scene<'a> {
+    // The parts of the routine, and its lines.
+    fn routine(&self, alloc: Global, line: u64, before: &[RawRoutine]) -> Result<u64, Stop>
+        ensures { Finds (checked line (routine_faults self.now.code.now before.now self.now.routine.now)) result }
+    {
+        let line = self.parts(alloc, line, before)?;
+        self.lines(alloc, line)
+    }
+}
+
+// The letters of the items of each query.
+fn letters_of_queries(
+    alloc: Global,
+    columns: &[List<Letter>],
+    variables: &[Letter],
+    queries: &[Query],
+) -> Result<Vec<List<Letter>>, AllocError>
+    ensures { IfOk result (λ letters. letters.items ≡ map (letters_with columns.now variables.now) queries.now) }
+{
+    let mut letters = Vec::new(alloc);
+    for query in queries {
+        letters.push(List::of(letters_of_one(alloc, columns, variables, query)?))?;
+    }
+    Ok(letters)
+}
+
+fn letters_of_one(
+    alloc: Global,
+    columns: &[List<Letter>],
+    variables: &[Letter],
+    query: &Query,
+) -> Result<Vec<Letter>, AllocError>
+    ensures { IfOk result (λ letters. letters.items ≡ letters_with columns.now variables.now query.now) }
+{
+    match columns.get(query.table as usize) {
+        Some(letters) => item_letters(alloc, letters.items(), variables, &query.items),
+        None => item_letters(alloc, &[], variables, &query.items),
+    }
+}

@@ -1,0 +1,34 @@
+//! Reads rows with module files from standard input, and prints for each what the file is without names.
+//!
+//! A row is a kind, a blank, and what it asks for; ` | ` stands between its parts. `file FILE` prints of each routine
+//! how many slots and cursors it has, the names of its conditions without an SQLSTATE, and its body without expressions.
+//! `check COLUMNS | FILE` prints what each CHECK of the first table comes to on a row, and `query COLUMNS | VARIABLES |
+//! FILE` what the items and the test of the SELECT that is the first routine come to. A value is a number, a text behind a
+//! single quote, in which a tilde stands for a blank, or NULL. An empty line, and one that begins with `#`, is printed as it is.
+#![tactic(auto)]
+
+mod answer;
+mod fault;
+mod letters;
+mod outline;
+mod read;
+mod sort;
+mod value;
+
+use answer::answer;
+use anyhow::Result;
+use std::io::{BufRead, BufReader};
+
+fn main(rt: HostRuntime) -> Result<()> {
+    let alloc = rt.alloc();
+    for line in BufReader::new(alloc, rt.reader())?.lines(alloc) {
+        let line = line?;
+        if line.is_empty() || line.starts_with('#') {
+            println!(rt; "{line}")?;
+        } else {
+            let answer = answer(alloc, line.as_str())?;
+            println!(rt; "{line} | {answer}")?;
+        }
+    }
+    Ok(())
+}
