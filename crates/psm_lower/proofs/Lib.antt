@@ -40,8 +40,3 @@ pub mod Procedures
 pub mod Rounds
 pub mod Stepping
 pub mod Running
-pub mod Counting
-pub mod Adding
-pub mod Standing
-pub mod Putting
-pub mod Choosers

@@ -6,6 +6,3 @@ pub mod Scheme
 pub mod Agreement
 pub mod Simulation
 pub mod Running
-pub mod Sizes
-pub mod Outside
-pub mod Writing
