@@ -1,0 +1,7 @@
+pub mod Written
+pub mod Queries
+pub mod Exprs
+pub mod Parts
+pub mod Simples
+pub mod Statements
+pub mod Files

@@ -1,0 +1,8 @@
+//! Writes the code of module files without names (ISO/IEC 9075-4:1996), one line behind another.
+#![tactic(auto)]
+
+mod around;
+mod known;
+
+pub use around::Around;
+pub use known::Known;
