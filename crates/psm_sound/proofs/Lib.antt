@@ -1,0 +1,4 @@
+pub mod Comes
+pub mod Layers
+pub mod Suiting
+pub mod RowValues
