@@ -1,3 +1,4 @@
 pub mod Scene
 pub mod Queries
 pub mod Expressions
+pub mod States
