@@ -156,6 +156,13 @@ set-right q.Max k (d ∷ ds) v h = first-letter k _ d ds h.0 h.1
 set-right q.Avg k [] v h = refl
 set-right q.Avg k (d ∷ ds) v h = averaged-right (q.sum_of (Some (q.number_of d)) ds) (length (d ∷ ds))
 
+pub set-value : (f : q.SetFunction) (k : Letter) → is_value k ≡ true → is_value (letter_of_set f k) ≡ true
+set-value q.Count k v = refl
+set-value q.Sum k v = refl
+set-value q.Min k v = v
+set-value q.Max k v = v
+set-value q.Avg k v = refl
+
 -- the columns of rows, from one on
 abbrev Columns : List (List Datum) → ℕ → List Letter → Type 0
 Columns rows i [] = Unit {0}
@@ -185,7 +192,7 @@ letters_under columns variables [] (k ∷ ks) h = []
 letters_under columns variables (a ∷ others) [] h = []
 letters_under columns variables (a ∷ others) (k ∷ ks) h = h.0.0 ∷ letters_under columns variables others ks h.1
 
-operand-value : (columns variables : List Letter) (x : Option ResolvedExpr) (j : Letter) → IsOperand columns variables x j → is_value j ≡ true
+pub operand-value : (columns variables : List Letter) (x : Option ResolvedExpr) (j : Letter) → IsOperand columns variables x j → is_value j ≡ true
 operand-value columns variables None j h = ap is_value h
 operand-value columns variables (Some x) j h = h.value
 

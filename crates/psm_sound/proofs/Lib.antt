@@ -4,3 +4,4 @@ pub mod Suiting
 pub mod RowValues
 pub mod Holding
 pub mod Answers
+pub mod Evaluating
