@@ -1,4 +1,6 @@
 pub mod Scene
 pub mod Queries
 pub mod Expressions
+pub mod Statements
+pub mod Files
 pub mod States

@@ -1,5 +1,5 @@
 -- What a tree may name: the tables and routines of a file, and the slots, cursors and conditions of a routine.
-use Rattle.std.specs.Prelude.{◌≡◌, ◌⊎◌, ℕ, List, [], ◌∷◌, map, Option, Some, None}
+use Rattle.std.specs.Prelude.{◌≡◌, ◌⊎◌, ℕ, Bool, List, [], ◌∷◌, map, Option, Some, None}
 use Rattle.psm_value.specs.declared.sqltype.SqlType.{SqlType}
 use Rattle.psm_exprcode.specs.declared.op.Letter.{Letter}
 use Rattle.psm_exprcode.specs.Kinds.{letter_of}
@@ -11,11 +11,16 @@ use Rattle.psm_resolved.specs.declared.file.ResolvedParameter.{ResolvedParameter
 use Rattle.psm_resolved.specs.declared.file.ResolvedRoutine.{ResolvedRoutine}
 use Rattle.psm_resolved.specs.declared.file.ResolvedTable.{ResolvedTable}
 
--- a file, one of its routines, and how many items a row of each cursor of the routine has
+-- how many items a row of a cursor has, and whether the cursor is insensitive
+pub record Shape : Type 0 where
+  pub width : ℕ
+  pub insensitive : Bool
+
+-- a file, one of its routines, and the shapes of the routine's cursors by their numbers
 pub record Scene : Type 0 where
   pub file : ResolvedFile
   pub routine : ResolvedRoutine
-  pub widths : List ℕ
+  pub shapes : List Shape
 
 -- ---- what is there
 

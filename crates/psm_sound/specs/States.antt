@@ -1,11 +1,11 @@
--- States that fit a scene: values have the letters of their slots and columns, and cursors have rows of their widths.
-use Rattle.std.specs.Prelude.{◌≡◌, ℕ, List, [], ◌∷◌, length, IsTrue}
+-- States that fit a scene: values have the letters of their slots and columns, and cursors their shapes.
+use Rattle.std.specs.Prelude.{◌≡◌, false, List, [], ◌∷◌, length, IsTrue}
 use Rattle.psm_exprcode.specs.Kinds.{are_of}
 use Rattle.psm_table.specs.Cursors.{Cursor, Closed, Plain, Insensitive}
 use Rattle.psm_table.specs.Table.{Contents}
 use Rattle.psm_resolved.specs.declared.file.ResolvedTable.{ResolvedTable}
 use Rattle.psm_meaning.specs.State.{State}
-use Rattle.psm_sound.specs.Scene.{Scene, Each, columns_of, variables_of}
+use Rattle.psm_sound.specs.Scene.{Scene, Shape, Each, columns_of, variables_of}
 
 -- ---- tables
 
@@ -22,22 +22,22 @@ AreFilled (t ∷ ts) (c ∷ cs) = IsFilled t c × AreFilled ts cs
 
 -- ---- cursors
 
--- the rows that are left of an insensitive cursor have so many items
-abbrev pub IsWide : ℕ → Cursor → Type 0
-IsWide width Closed = Unit {0}
-IsWide width (Plain p vars) = Unit {0}
-IsWide width (Insensitive rows) = Each (λ row. length row ≡ width) rows
+-- the rows that are left of an insensitive cursor are of its width, and another one is no insensitive cursor's
+abbrev pub IsShaped : Shape → Cursor → Type 0
+IsShaped shape Closed = Unit {0}
+IsShaped shape (Plain p vars) = shape.insensitive ≡ false
+IsShaped shape (Insensitive rows) = Each (λ row. length row ≡ shape.width) rows
 
 -- one for one
-abbrev pub AreWide : List ℕ → List Cursor → Type 0
-AreWide [] [] = Unit {0}
-AreWide [] (c ∷ cs) = ⊥
-AreWide (w ∷ ws) [] = ⊥
-AreWide (w ∷ ws) (c ∷ cs) = IsWide w c × AreWide ws cs
+abbrev pub AreShaped : List Shape → List Cursor → Type 0
+AreShaped [] [] = Unit {0}
+AreShaped [] (c ∷ cs) = ⊥
+AreShaped (w ∷ ws) [] = ⊥
+AreShaped (w ∷ ws) (c ∷ cs) = IsShaped w c × AreShaped ws cs
 
 -- ---- states
 
 pub record IsState (e : Scene) (st : State) : Type 0 where
   pub tables : AreFilled e.file.tables st.tables
   pub variables : IsTrue (are_of (variables_of e) st.variables)
-  pub cursors : AreWide e.widths st.cursors
+  pub cursors : AreShaped e.shapes st.cursors
