@@ -173,7 +173,7 @@ holds-first_set v k x (y ∷ ys) p h hs = holds-bind (holds-value_of v x k p h) 
 
 -- ---- calls
 
-some_same : {A : Type 0} {a b : A} → Some a ≡ Some b → a ≡ b
+pub some_same : {A : Type 0} {a b : A} → Some a ≡ Some b → a ≡ b
 some_same {a = a} h = ap (λ o. unwrap_or o a) h
 
 among-front : {A : Type 0} (f : A → Bool) (y : A) (ys : List A) (x : A) (b : Bool) (n : ℕ) → f y ≡ b → ((i : ℕ) → slice_get (filter f ys) i ≡ Some x → Among x ys × (f x ≡ true)) → slice_get (cond b (y ∷ filter f ys) (filter f ys)) n ≡ Some x → Among x (y ∷ ys) × (f x ≡ true)

@@ -5,3 +5,5 @@ pub mod RowValues
 pub mod Holding
 pub mod Answers
 pub mod Evaluating
+pub mod Fitting
+pub mod Assigning
