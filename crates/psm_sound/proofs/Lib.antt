@@ -7,3 +7,5 @@ pub mod Answers
 pub mod Evaluating
 pub mod Fitting
 pub mod Assigning
+pub mod Fetching
+pub mod Changing
