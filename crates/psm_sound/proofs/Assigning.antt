@@ -38,8 +38,9 @@ use Rattle.psm_sound.specs.Scene.{Scene, Among, Begin, Each, IsThere, letters_of
 use Rattle.psm_sound.specs.Expressions.{IsExpr}
 use Rattle.psm_sound.specs.Statements.{AreArguments, AreDiagnostics, IsArgument, IsCondition, IsFor, IsMessage, IsNumber, IsSignal, IsSlot}
 use Rattle.psm_sound.specs.States.{IsState}
+use Rattle.psm_sound.specs.Ends.{IsReturned}
 use Rattle.psm_sound.proofs.Answers.{Right, Row, right-ok}
-use Rattle.psm_sound.proofs.Evaluating.{Calls, IsReturned, Values, among-filter, holds-value_of}
+use Rattle.psm_sound.proofs.Evaluating.{Calls, Values, among-filter, holds-value_of}
 use Rattle.psm_sound.proofs.Fitting.{fetched-right, letter-at, letter-there, row-set, row-there, stored-right}
 use Rattle.psm_sound.proofs.Holding.{Anything, HasLetter, Holds, Well, holds-bind, holds-change, holds-cleared, holds-got, holds-present, holds-raises, holds-read, holds-there, holds-tried}
 

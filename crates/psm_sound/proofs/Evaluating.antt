@@ -42,6 +42,7 @@ use Rattle.psm_sound.specs.Queries.{AreItems, IsQuery}
 use Rattle.psm_sound.specs.Expressions as typed
 use Rattle.psm_sound.specs.Expressions.{AreAll, AreExprs, AreLinks, AreWhens, IsElse, IsExpr, letter_of_operator}
 use Rattle.psm_sound.specs.States.{AreFilled, IsFilled, IsState}
+use Rattle.psm_sound.specs.Ends.{IsReturned}
 use Rattle.psm_sound.proofs.Comes.{Comes, Valued, AllValued, comes-valued}
 use Rattle.psm_sound.proofs.Layers
 use Rattle.psm_sound.proofs.Answers.{Right, Row, answer-right, operand-value, right-ok, set-value}
@@ -53,12 +54,7 @@ use Rattle.psm_sound.proofs.Holding.{Anything, HasLetter, Holds, IsOf, Well, hol
 abbrev pub Values : Scene → Meaning → Type 0
 Values e m = (x : ResolvedExpr) (k : Letter) → IsExpr e x k → Holds e m (IsOf k) (operand x)
 
--- a routine without a type returns nothing, and another one a value of its letter
-abbrev pub IsReturned : Option SqlType → Option Datum → Type 0
-IsReturned t None = Unit {0}
-IsReturned None (Some d) = ⊥
-IsReturned (Some t) (Some d) = HasLetter (letter_of t) d
-
+-- how a routine ended, and the variables that it had then
 pub record IsEnded (r : ResolvedRoutine) (d : Ended) : Type 0 where
   pub returned : IsReturned r.returns d.returned
   pub variables : are_of (letters_of r.slots) d.variables ≡ true

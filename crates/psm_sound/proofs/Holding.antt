@@ -13,13 +13,8 @@ use Rattle.psm_meaning.specs.State.{State, cleared}
 use Rattle.psm_meaning.specs.Acts.{Stop, NoTurns, NoHeight, Lacking, Given, Got, Raises, Ends, Evaluated, Meaning, Act, as_truth, as_value, change, go_on, got, present, raises, read, spent, tried, turn, ◌>>=◌}
 use Rattle.psm_sound.specs.Scene.{Scene, IsThere}
 use Rattle.psm_sound.specs.States.{IsState}
+use Rattle.psm_sound.specs.Ends.{IsDue}
 use Rattle.psm_sound.proofs.Comes.{no_truth, no_value}
-
--- every end but that for want of something
-abbrev pub IsDue : Stop → Type 0
-IsDue NoTurns = Unit {0}
-IsDue NoHeight = Unit {0}
-IsDue Lacking = ⊥
 
 abbrev pub Sat : {A : Type 0} → (A → Type 0) → Given A → Type 0
 Sat P (Got a) = P a

@@ -9,3 +9,4 @@ pub mod Fitting
 pub mod Assigning
 pub mod Fetching
 pub mod Changing
+pub mod Doing

@@ -5,3 +5,4 @@ pub mod Statements
 pub mod Files
 pub mod States
 pub mod Places
+pub mod Ends
