@@ -10,3 +10,5 @@ pub mod Assigning
 pub mod Fetching
 pub mod Changing
 pub mod Doing
+pub mod Entering
+pub mod Looping
