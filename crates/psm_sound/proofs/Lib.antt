@@ -12,3 +12,6 @@ pub mod Changing
 pub mod Doing
 pub mod Entering
 pub mod Looping
+pub mod Stepping
+pub mod Activating
+pub mod Sound
