@@ -22,10 +22,10 @@ use Rattle.psm_sound.specs.Statements.{Sight}
 use Rattle.psm_sound.specs.Files.{IsRoutine, IsSound}
 use Rattle.psm_sound.specs.States.{AreFilled, AreShaped, IsState}
 use Rattle.psm_sound.specs.Places.{IsPlace}
-use Rattle.psm_sound.specs.Ends.{IsAway, IsDue, IsEnd, IsReturned}
+use Rattle.psm_sound.specs.Ends.{IsEnd, IsEnded}
 use Rattle.psm_sound.proofs.Answers.{Right, Row, right-ok}
 use Rattle.psm_sound.proofs.Doing.{Finished, Goes, Parts}
-use Rattle.psm_sound.proofs.Evaluating.{Calls, IsEnded}
+use Rattle.psm_sound.proofs.Evaluating.{Calls}
 use Rattle.psm_sound.proofs.Fitting.{shaped-new, stored-right}
 use Rattle.psm_sound.proofs.Holding.{Anything, HasLetter, Holds, Sat, Well, holds-bind, holds-got, holds-if, holds-raises, holds-read, holds-tried, holds-turn}
 

@@ -123,7 +123,7 @@ holds-given_back place r (arguments.In x ∷ others) (p ∷ ps) (t ∷ ts) (d �
 holds-given_back place r (arguments.Out slot ∷ others) (p ∷ ps) (t ∷ ts) (d ∷ ds) h b f = holds-bind (holds-assign place r slot d h.0.1) (λ u w. holds-given_back place r others ps ts ds h.1 b.1 (and_second (has_letter (letter_of t) d) (are_of (letters_of ts) ds) f))
 holds-given_back place r (arguments.InOut slot ∷ others) (p ∷ ps) (t ∷ ts) (d ∷ ds) h b f = holds-bind (holds-assign place r slot d h.0.1) (λ u w. holds-given_back place r others ps ts ds h.1 b.1 (and_second (has_letter (letter_of t) d) (are_of (letters_of ts) ds) f))
 
-no_type : (t : Option SqlType) → not (returns t) ≡ true → t ≡ None
+pub no_type : (t : Option SqlType) → not (returns t) ≡ true → t ≡ None
 no_type None h = refl
 no_type (Some t) h = absurd (true≢false (sym h))
 

@@ -42,7 +42,7 @@ use Rattle.psm_sound.specs.Queries.{AreItems, IsQuery}
 use Rattle.psm_sound.specs.Expressions as typed
 use Rattle.psm_sound.specs.Expressions.{AreAll, AreExprs, AreLinks, AreWhens, IsElse, IsExpr, letter_of_operator}
 use Rattle.psm_sound.specs.States.{AreFilled, IsFilled, IsState}
-use Rattle.psm_sound.specs.Ends.{IsReturned}
+use Rattle.psm_sound.specs.Ends.{IsEnded, IsReturned}
 use Rattle.psm_sound.proofs.Comes.{Comes, Valued, AllValued, comes-valued}
 use Rattle.psm_sound.proofs.Layers
 use Rattle.psm_sound.proofs.Answers.{Right, Row, answer-right, operand-value, right-ok, set-value}
@@ -53,11 +53,6 @@ use Rattle.psm_sound.proofs.Holding.{Anything, HasLetter, Holds, IsOf, Well, hol
 -- sound expressions
 abbrev pub Values : Scene → Meaning → Type 0
 Values e m = (x : ResolvedExpr) (k : Letter) → IsExpr e x k → Holds e m (IsOf k) (operand x)
-
--- how a routine ended, and the variables that it had then
-pub record IsEnded (r : ResolvedRoutine) (d : Ended) : Type 0 where
-  pub returned : IsReturned r.returns d.returned
-  pub variables : are_of (letters_of r.slots) d.variables ≡ true
 
 -- the routines of the file, with arguments for all parameters that take one
 abbrev pub Calls : Scene → Meaning → Type 0

@@ -15,3 +15,4 @@ pub mod Looping
 pub mod Stepping
 pub mod Activating
 pub mod Sound
+pub mod Scripting

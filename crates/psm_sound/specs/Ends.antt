@@ -1,13 +1,19 @@
--- How a sound statement ends: not for want of something, and in no way that its place doesn't allow.
+-- How sound statements, expressions and routines end: not for want of something, and in no way that their places don't allow.
 use Rattle.std.specs.Prelude.{◌≡◌, ◌⊎◌, ℕ, List, [], ◌∷◌, IsTrue, Option, Some, None}
 use Rattle.psm_value.specs.declared.datum.Datum.{Datum}
 use Rattle.psm_value.specs.declared.sqltype.SqlType.{SqlType}
-use Rattle.psm_exprcode.specs.Kinds.{has_letter, letter_of}
+use Rattle.psm_exprcode.specs.declared.op.Letter.{Letter}
+use Rattle.psm_exprcode.specs.declared.operand.Operand.{Operand}
+use Rattle.psm_exprcode.specs.Kinds.{are_of, has_letter, is_of, letter_of}
+use Rattle.psm_resolved.specs.declared.file.ResolvedRoutine.{ResolvedRoutine}
 use Rattle.psm_resolved.specs.declared.statement.ResolvedHandler.{ResolvedHandler, out-ResolvedHandler}
 use Rattle.psm_meaning.specs.State.{Scope}
-use Rattle.psm_meaning.specs.Acts.{Stop, NoTurns, NoHeight, Lacking, Outcome, Normal, Leave, Iterate, Return, Raised, Away, Stopped}
-use Rattle.psm_sound.specs.Scene.{Among, Scene}
+use Rattle.psm_meaning.specs.Acts.{Stop, NoTurns, NoHeight, Lacking, Given, Got, Raises, Ends, Outcome, Normal, Leave, Iterate, Return, Raised, Away, Stopped}
+use Rattle.psm_meaning.specs.Calls.{Ended}
+use Rattle.psm_sound.specs.Scene.{Among, Scene, letters_of}
 use Rattle.psm_sound.specs.Statements.{IsStatement, Sight, in_action}
+
+-- ---- statements
 
 -- any end but that for want of something
 abbrev pub IsDue : Stop → Type 0
@@ -35,3 +41,21 @@ IsEnd e s scopes (Return d) = IsReturned e.routine.returns (Some d)
 IsEnd e s scopes (Raised c) = Unit {0}
 IsEnd e s scopes (Away level h c) = IsAway e level h scopes
 IsEnd e s scopes (Stopped stop) = IsDue stop
+
+-- ---- evaluations
+
+-- an operand of the letter, or a condition
+abbrev pub IsGiven : Letter → Given Operand → Type 0
+IsGiven k (Got x) = IsTrue (is_of k x)
+IsGiven k (Raises c) = Unit {0}
+IsGiven k (Ends stop) = IsDue stop
+
+-- a routine ended with a value of its letter or with none, and its variables are of the letters of its slots
+pub record IsEnded (r : ResolvedRoutine) (d : Ended) : Type 0 where
+  pub returned : IsReturned r.returns d.returned
+  pub variables : IsTrue (are_of (letters_of r.slots) d.variables)
+
+abbrev pub IsOver : ResolvedRoutine → Given Ended → Type 0
+IsOver r (Got d) = IsEnded r d
+IsOver r (Raises c) = Unit {0}
+IsOver r (Ends stop) = IsDue stop

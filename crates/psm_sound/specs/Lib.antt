@@ -6,3 +6,4 @@ pub mod Files
 pub mod States
 pub mod Places
 pub mod Ends
+pub mod Scripts
