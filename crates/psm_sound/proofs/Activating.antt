@@ -1,5 +1,5 @@
 -- Activations of sound routines lack nothing.
-use Rattle.std.proofs.Common.{codes, ◌≡◌, ℕ, zero, suc, ◌&&◌, Bool, true, false, List, [], ◌∷◌, length, map, replicate, nat_lt, Option, Some, None, inl, inr, refl, ap, sym, subst, ◌∙◌, arith, true≢false, if◌then◌else◌}
+use Rattle.std.proofs.Common.{codes, ◌≡◌, true, List, [], ◌∷◌, length, map, replicate, nat_lt, inl, inr, refl, sym, subst, arith, true≢false}
 use Rattle.psm_value.specs.declared.datum.Datum.{Datum}
 use Rattle.psm_value.specs.declared.datum.Datum.TheVariants.{Null}
 use Rattle.psm_value.specs.declared.sqltype.SqlType.{SqlType}
@@ -14,20 +14,19 @@ use Rattle.psm_resolved.specs.declared.file.ParameterMode.TheVariants as modes
 use Rattle.psm_resolved.specs.declared.file.ResolvedFile.{ResolvedFile}
 use Rattle.psm_resolved.specs.declared.file.ResolvedParameter.{ResolvedParameter}
 use Rattle.psm_resolved.specs.declared.file.ResolvedRoutine.{ResolvedRoutine}
-use Rattle.psm_meaning.specs.State.{State, Place, returned_to}
-use Rattle.psm_meaning.specs.Acts.{Given, Outcome, Normal, Leave, Iterate, Return, Raised, Away, Stopped, Do, Evaluated, Meaning, Act, of_state}
-use Rattle.psm_meaning.specs.Calls.{Ended, activated, apart, begun, body_place, bounded, ending, entered, filled, most_depth, passed, run_body}
-use Rattle.psm_sound.specs.Scene.{Scene, Shape, Among, Begin, Each, letters_of, taken_by, variables_of, with_taken}
+use Rattle.psm_meaning.specs.State.{State, returned_to}
+use Rattle.psm_meaning.specs.Acts.{Outcome, Normal, Leave, Iterate, Return, Raised, Away, Stopped, Do, Meaning, of_state}
+use Rattle.psm_meaning.specs.Calls.{activated, apart, begun, body_place, bounded, ending, entered, filled, most_depth, passed, run_body}
+use Rattle.psm_sound.specs.Scene.{Scene, Among, Begin, Each, letters_of, taken_by, with_taken}
 use Rattle.psm_sound.specs.Statements.{Sight}
-use Rattle.psm_sound.specs.Files.{IsRoutine, IsSound}
-use Rattle.psm_sound.specs.States.{AreFilled, AreShaped, IsState}
+use Rattle.psm_sound.specs.Files.{IsRoutine}
+use Rattle.psm_sound.specs.States.{AreShaped, IsState}
 use Rattle.psm_sound.specs.Places.{IsPlace}
 use Rattle.psm_sound.specs.Ends.{IsEnd, IsEnded}
-use Rattle.psm_sound.proofs.Answers.{Right, Row, right-ok}
-use Rattle.psm_sound.proofs.Doing.{Finished, Goes, Parts}
-use Rattle.psm_sound.proofs.Evaluating.{Calls}
+use Rattle.psm_sound.proofs.Answers.{Row, right-ok}
+use Rattle.psm_sound.proofs.Doing.{Parts}
 use Rattle.psm_sound.proofs.Fitting.{shaped-new, stored-right}
-use Rattle.psm_sound.proofs.Holding.{Anything, HasLetter, Holds, Sat, Well, holds-bind, holds-got, holds-if, holds-raises, holds-read, holds-tried, holds-turn}
+use Rattle.psm_sound.proofs.Holding.{Anything, HasLetter, Holds, Well, holds-bind, holds-got, holds-if, holds-raises, holds-read, holds-tried, holds-turn}
 
 -- ---- parameters
 

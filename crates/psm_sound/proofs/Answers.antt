@@ -1,5 +1,5 @@
 -- The rows of a sound query's answer have the letters of its items.
-use Rattle.std.proofs.Common.{◌≡◌, ℕ, zero, suc, ◌+◌, ◌&&◌, Bool, true, false, not, cond, List, [], ◌∷◌, ◌++◌, length, map, filter, reverse, Option, Some, None, Result, Ok, Err, refl, ap, sym, subst, ◌∙◌, arith, append_assoc, append-nil, length-append, slice_get, slice_index_or, if◌then◌else◌}
+use Rattle.std.proofs.Common.{◌≡◌, ℕ, ◌+◌, Bool, true, false, not, cond, List, [], ◌∷◌, ◌++◌, length, filter, Option, Some, None, Result, Ok, Err, refl, ap, sym, subst, ◌∙◌, append_assoc, length-append, slice_index_or, if◌then◌else◌}
 use Rattle.std.specs.List.{cons_option}
 use mathlib.Core.List.{reverse_aux}
 use Rattle.psm_num.specs.Num.{Num}
@@ -10,21 +10,20 @@ use Rattle.psm_value.specs.declared.datum.Datum.TheVariants as data_of
 use Rattle.psm_value.specs.declared.truth.Truth as truth
 use Rattle.psm_value.specs.declared.truth.Truth.TheVariants as truths
 use Rattle.psm_exprcode.specs.declared.op.Letter.{Letter}
-use Rattle.psm_exprcode.specs.declared.op.Letter.TheVariants.{N, T, B}
+use Rattle.psm_exprcode.specs.declared.op.Letter.TheVariants.{N}
 use Rattle.psm_exprcode.specs.declared.operand.Operand.TheVariants.{Value, Truth}
 use Rattle.psm_exprcode.specs.Evaluated.{Outcome}
 use Rattle.psm_exprcode.specs.Kinds.{are_of, has_letter, is_value}
 use Rattle.psm_exprcode.proofs.Results.{null-letter}
 use Rattle.psm_exprcode.proofs.Standing.{both_true}
-use Rattle.psm_table.specs.Evaluator.{and_then, collected, mapped, test_of, values_of}
+use Rattle.psm_table.specs.Evaluator.{and_then, mapped, test_of, values_of}
 use Rattle.psm_table.specs.Queries as q
 use Rattle.psm_table.specs.Queries.{Aggregate, Answer, answer, answered, column, finished, first_by, function_of, in_range, in_walk, is_met, known, operand_of, operands_of, ranged, summed, averaged, taken, walked}
 use Rattle.psm_table.specs.Unique.{is_null}
 use Rattle.psm_tablecode.specs.Codes.{value_in}
 use Rattle.psm_resolved.specs.declared.expr.ResolvedExpr.{ResolvedExpr}
-use Rattle.psm_resolved.specs.declared.expr.ResolvedQuery.{ResolvedQuery}
 use Rattle.psm_resolved.specs.RowValue.{row_value}
-use Rattle.psm_meaning.specs.Rows.{over, query_of}
+use Rattle.psm_meaning.specs.Rows.{over}
 use Rattle.psm_sound.specs.Scene.{Each}
 use Rattle.psm_sound.specs.Queries.{AreItems, AreRowValues, AreSets, IsOperand, IsRowValue, letter_of_set}
 use Rattle.psm_sound.proofs.Comes.{Comes, no_truth}

@@ -1,5 +1,5 @@
 -- Assignments, SET, CALL, SIGNAL, RESIGNAL and GET DIAGNOSTICS lack nothing.
-use Rattle.std.proofs.Common.{◌≡◌, ℕ, zero, suc, Bool, true, false, not, List, [], ◌∷◌, length, Option, Some, None, Result, Ok, Err, refl, ap, sym, subst, ◌∙◌, slice_get, slice_set, true≢false, arith, if◌then◌else◌}
+use Rattle.std.proofs.Common.{◌≡◌, ℕ, suc, true, false, not, List, [], ◌∷◌, length, Option, Some, None, refl, ap, sym, subst, ◌∙◌, slice_get, true≢false, arith}
 use Rattle.psm_num.proofs.Literals.{and_second}
 use Rattle.psm_value.specs.declared.datum.Datum.{Datum}
 use Rattle.psm_value.specs.declared.datum.Datum.TheVariants.{Null, Num, Text}
@@ -10,13 +10,10 @@ use Rattle.psm_cond.specs.Area.{Diagnostics}
 use Rattle.psm_cond.specs.Condition.{alone, «behind» as in_front}
 use Rattle.psm_cond.specs.Item.{entries_of, entry_item, statement_item}
 use Rattle.psm_cond.specs.declared.entry.Entry.{Entry}
-use Rattle.psm_exprcode.specs.declared.op.Letter.{Letter}
 use Rattle.psm_exprcode.specs.declared.op.Letter.TheVariants.{T}
 use Rattle.psm_exprcode.specs.Kinds.{are_of, has_letter, letter_of}
 use Rattle.psm_exprcode.proofs.Results.{letter_of-value}
 use Rattle.psm_resolved.specs.declared.expr.ResolvedExpr.{ResolvedExpr}
-use Rattle.psm_resolved.specs.declared.file.ParameterMode.{ParameterMode}
-use Rattle.psm_resolved.specs.declared.file.ParameterMode.TheVariants as modes
 use Rattle.psm_resolved.specs.declared.file.ResolvedParameter.{ResolvedParameter}
 use Rattle.psm_resolved.specs.declared.file.ResolvedRoutine.{ResolvedRoutine}
 use Rattle.psm_resolved.specs.declared.statement.ResolvedArgument.{ResolvedArgument}
@@ -29,20 +26,20 @@ use Rattle.psm_resolved.specs.declared.statement.ResolvedNumber.{ResolvedNumber}
 use Rattle.psm_resolved.specs.declared.statement.ResolvedNumber.TheVariants as numbers
 use Rattle.psm_resolved.specs.declared.statement.ResolvedSignal.{ResolvedSignal}
 use Rattle.psm_meaning.specs.State.{State, Place, with_variable}
-use Rattle.psm_meaning.specs.Acts.{Meaning, Act, variable}
+use Rattle.psm_meaning.specs.Acts.{Meaning, variable}
 use Rattle.psm_meaning.specs.Assigning.{arguments_given, assign, assign_all, assign_each, call, ended_well, given_back, retrieve, retrieve_all, set}
 use Rattle.psm_meaning.specs.Calls.{procedure_at, returns}
 use Rattle.psm_meaning.specs.Signalling.{activating, assign_items, entry_for, entry_numbered, get_diagnostics, message_text, number_given, numbered, resignal, signal, signalled, with_message}
 use Rattle.psm_meaning.specs.Statements.{returned}
 use Rattle.psm_sound.specs.Scene.{Scene, Among, Begin, Each, IsThere, letters_of, taken_by, variables_of, with_taken}
 use Rattle.psm_sound.specs.Expressions.{IsExpr}
-use Rattle.psm_sound.specs.Statements.{AreArguments, AreDiagnostics, IsArgument, IsCondition, IsFor, IsMessage, IsNumber, IsSignal, IsSlot}
+use Rattle.psm_sound.specs.Statements.{AreArguments, AreDiagnostics, IsCondition, IsFor, IsMessage, IsNumber, IsSignal, IsSlot}
 use Rattle.psm_sound.specs.States.{IsState}
 use Rattle.psm_sound.specs.Ends.{IsReturned}
-use Rattle.psm_sound.proofs.Answers.{Right, Row, right-ok}
+use Rattle.psm_sound.proofs.Answers.{Row, right-ok}
 use Rattle.psm_sound.proofs.Evaluating.{Calls, Values, among-filter, holds-value_of}
 use Rattle.psm_sound.proofs.Fitting.{fetched-right, letter-at, letter-there, row-set, row-there, stored-right}
-use Rattle.psm_sound.proofs.Holding.{Anything, HasLetter, Holds, Well, holds-bind, holds-change, holds-cleared, holds-got, holds-present, holds-raises, holds-read, holds-there, holds-tried}
+use Rattle.psm_sound.proofs.Holding.{Anything, HasLetter, Holds, holds-bind, holds-change, holds-cleared, holds-got, holds-present, holds-raises, holds-read, holds-there, holds-tried}
 
 -- ---- variables
 

@@ -1,5 +1,5 @@
 -- INSERT, UPDATE and DELETE lack nothing, and leave rows of the letters of their columns.
-use Rattle.std.proofs.Common.{codes, ◌≡◌, ◌+◌, ℕ, zero, suc, Bool, true, false, ◌&&◌, List, [], ◌∷◌, ◌++◌, length, map, find, nat_eq, nat_lt, Option, Some, None, Result, Ok, Err, refl, ap, sym, subst, ◌∙◌, arith, slice_get, slice_index_or, slice_set, if◌then◌else◌}
+use Rattle.std.proofs.Common.{codes, ◌≡◌, ℕ, zero, suc, Bool, true, false, List, [], ◌∷◌, ◌++◌, length, map, nat_lt, Option, Some, None, Result, Ok, Err, refl, ap, sym, subst, arith, slice_get, slice_index_or, slice_set, if◌then◌else◌}
 use Rattle.psm_num.proofs.Literals.{and_first, and_second}
 use Rattle.psm_sqlstate.specs.declared.state.SqlState.{SqlState}
 use Rattle.psm_value.specs.declared.datum.Datum.{Datum}
@@ -10,7 +10,6 @@ use Rattle.psm_value.specs.declared.truth.Truth.TheVariants as truths
 use Rattle.psm_value.specs.Stored.{stored}
 use Rattle.psm_cond.specs.Condition.{alone}
 use Rattle.psm_cond.specs.Entry.{entry_of, name_text}
-use Rattle.psm_exprcode.specs.declared.op.Letter.{Letter}
 use Rattle.psm_exprcode.specs.Kinds.{are_of, has_letter, letter_of}
 use Rattle.psm_exprcode.proofs.Standing.{both_true}
 use Rattle.psm_table.specs.Changing.{Changed, Division, Failure, OfTable, Raised, Schema, SetItem, counting, deleted, divided, ended, ended_with, in_order, inserted, is_before, kind_of, moving, new_values, placed_in, rows_but, rows_pass, set_row, stored_row, stored_rows, then_of, updated, updated_at, with_values}
@@ -26,7 +25,6 @@ use Rattle.psm_table.specs.declared.definition.Column.{Column}
 use Rattle.psm_table.specs.declared.definition.TableDef.{TableDef}
 use Rattle.psm_tablecode.specs.NewRows.{new_row, row_from}
 use Rattle.psm_resolved.specs.declared.expr.ResolvedExpr.{ResolvedExpr}
-use Rattle.psm_resolved.specs.declared.file.ResolvedFile.{ResolvedFile}
 use Rattle.psm_resolved.specs.declared.file.ResolvedTable.{ResolvedTable}
 use Rattle.psm_resolved.specs.declared.statement.ResolvedCursor.{ResolvedCursor}
 use Rattle.psm_resolved.specs.declared.statement.ResolvedRows.{ResolvedRows}
@@ -34,19 +32,17 @@ use Rattle.psm_resolved.specs.declared.statement.ResolvedRows.TheVariants as giv
 use Rattle.psm_resolved.specs.declared.statement.ResolvedSet.{ResolvedSet}
 use Rattle.psm_resolved.specs.declared.statement.ResolvedWhere.{ResolvedWhere}
 use Rattle.psm_resolved.specs.declared.statement.ResolvedWhere.TheVariants as which
-use Rattle.psm_meaning.specs.State.{State, Place, with_rows}
-use Rattle.psm_meaning.specs.Acts.{Meaning, Act, change}
-use Rattle.psm_meaning.specs.Cursors.{cursor_now}
+use Rattle.psm_meaning.specs.State.{Place, with_rows}
+use Rattle.psm_meaning.specs.Acts.{Meaning}
 use Rattle.psm_meaning.specs.Data.{all_values, delete, delete_at, delete_rows, insert, leave_row, leaves, left_by, plain, put_in, row_of_cursor, rows_given, schema_at, schema_of, set_item, some_row, some_rows, standing_on, unless_failed, update, update_at, update_rows}
-use Rattle.psm_meaning.specs.Rows.{over, table_now}
-use Rattle.psm_sound.specs.Scene.{Scene, Shape, Each, columns_of, letters_of, variables_of}
-use Rattle.psm_sound.specs.Queries.{IsQuery}
+use Rattle.psm_meaning.specs.Rows.{over}
+use Rattle.psm_sound.specs.Scene.{Scene, Shape, Each, columns_of, letters_of}
 use Rattle.psm_sound.specs.Statements.{AreRowsFor, IsCursor, IsRowFor, IsSeen, IsWhere, Sight}
-use Rattle.psm_sound.specs.States.{IsFilled, IsShaped, IsState}
+use Rattle.psm_sound.specs.States.{IsShaped}
 use Rattle.psm_sound.specs.Places.{IsPlace}
 use Rattle.psm_sound.proofs.Answers.{Perhaps, Right, Row, each-append, each-filter, right-any, right-mapped, right-then}
 use Rattle.psm_sound.proofs.Evaluating.{Values, holds-answer_of, holds-table_now, holds-values, some_same}
-use Rattle.psm_sound.proofs.Fetching.{IsNumbered, holds-change_to, holds-declared_at, holds-wrong_state, now-at, shape_of}
+use Rattle.psm_sound.proofs.Fetching.{holds-change_to, holds-declared_at, holds-wrong_state, now-at, shape_of}
 use Rattle.psm_sound.proofs.Fitting.{filled-set, stored-right}
 use Rattle.psm_sound.proofs.Holding.{Anything, HasLetter, Holds, holds-bind, holds-change, holds-cleared, holds-got, holds-present, holds-raises, holds-read}
 

@@ -1,5 +1,5 @@
 -- What operations on operands of letters come to: an operand of a letter, or a condition.
-use Rattle.std.proofs.Common.{◌≡◌, ℕ, Bool, true, false, List, [], ◌∷◌, Option, Some, None, Result, Ok, Err, refl, ap, sym, subst, ◌∙◌, if◌then◌else◌}
+use Rattle.std.proofs.Common.{◌≡◌, ℕ, Bool, true, false, List, [], ◌∷◌, Some, None, Result, Ok, Err, refl}
 use Rattle.psm_value.specs.declared.datum.Datum.{Datum}
 use Rattle.psm_value.specs.declared.truth.Truth.{Truth as Answer}
 use Rattle.psm_value.specs.Truth.{opposite}
@@ -10,7 +10,7 @@ use Rattle.psm_exprcode.specs.declared.operand.Operand.TheVariants.{Value, Truth
 use Rattle.psm_exprcode.specs.Evaluated.{Outcome}
 use Rattle.psm_exprcode.specs.Kinds.{has_letter, is_of, is_truths, is_value}
 use Rattle.psm_exprcode.proofs.Standing.{gives}
-use Rattle.psm_resolved.specs.Outcomes.{decided, of_one, of_others, of_three, of_truth, of_truths, of_two, on_value, on_values, perhaps_not, valued, with_operand, with_operands}
+use Rattle.psm_resolved.specs.Outcomes.{decided, of_one, of_others, of_three, of_truth, of_truths, of_two, on_values, perhaps_not, valued, with_operands}
 
 -- an operand of the letter or a condition
 abbrev pub Comes : Letter → Outcome → Type 0

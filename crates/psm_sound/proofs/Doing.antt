@@ -1,5 +1,5 @@
 -- Statements that are put together, and what is done where a condition is raised.
-use Rattle.std.proofs.Common.{◌≡◌, ◌≤◌, ◌<◌, ◌&&◌, ℕ, zero, suc, Bool, true, false, List, [], ◌∷◌, map, nat_lt, nat_le, Option, Some, None, inl, inr, refl, ap, sym, subst, ◌∙◌, arith, le_trans, if◌then◌else◌}
+use Rattle.std.proofs.Common.{◌≤◌, ◌<◌, ◌&&◌, ℕ, zero, suc, Bool, true, false, List, [], ◌∷◌, map, nat_lt, nat_le, Option, Some, None, inl, inr, refl, arith, if◌then◌else◌}
 use Rattle.psm_sqlstate.specs.Kind.{kind_of}
 use Rattle.psm_cond.specs.Choice.{chosen, chosen_in, highest, is_exception, or_else}
 use Rattle.psm_cond.specs.Condition.{Entries}
@@ -14,12 +14,12 @@ use Rattle.psm_meaning.specs.State.{State, Scope, Place, holding}
 use Rattle.psm_meaning.specs.Acts.{Given, Got, Raises, Ends, Outcome, Normal, Leave, Iterate, Return, Raised, Away, Stopped, Done, Meaning, Act, Deed, all, at_turn, behind, changing, ends_as, if_normal, part, spending}
 use Rattle.psm_meaning.specs.Flow.{rounds}
 use Rattle.psm_meaning.specs.Raising.{Candidate, action, after, after_action, answered, candidate_rank, candidates, choice, handled, raised, settled, stated}
-use Rattle.psm_sound.specs.Scene.{Scene, Among, Each}
+use Rattle.psm_sound.specs.Scene.{Scene, Each}
 use Rattle.psm_sound.specs.Statements.{AreForItems, AreHandlers, AreStatements, IsCursor, IsStatement, Sight, in_action, over_rows}
 use Rattle.psm_sound.specs.Statements as typed
 use Rattle.psm_sound.specs.States.{IsState}
 use Rattle.psm_sound.specs.Places.{AreScopes, IsPlace}
-use Rattle.psm_sound.specs.Ends.{IsAway, IsDue, IsEnd}
+use Rattle.psm_sound.specs.Ends.{IsAway, IsEnd}
 use Rattle.psm_sound.proofs.Answers.{Perhaps}
 use Rattle.psm_sound.proofs.Holding.{Anything, Holds, Sat, state-cleared}
 

@@ -1,8 +1,6 @@
 -- Compound statements end as sound statements do.
-use Rattle.std.proofs.Common.{◌≡◌, ◌≤◌, ◌<◌, ◌&&◌, ℕ, zero, suc, Bool, true, false, List, [], ◌∷◌, ◌++◌, nat_eq, Option, Some, None, inl, inr, refl, ap, sym, subst, ◌∙◌, arith, eq-eqb, eqb-true, true≢false, if◌then◌else◌}
-use Rattle.psm_value.specs.declared.datum.Datum.{Datum}
+use Rattle.std.proofs.Common.{◌≡◌, ◌≤◌, ◌&&◌, ℕ, Bool, true, false, List, [], ◌∷◌, ◌++◌, nat_eq, Option, Some, None, inl, inr, refl, ap, sym, subst, ◌∙◌, arith, eq-eqb, eqb-true, true≢false, if◌then◌else◌}
 use Rattle.psm_value.specs.declared.datum.Datum.TheVariants.{Null}
-use Rattle.psm_value.specs.declared.sqltype.SqlType.{SqlType}
 use Rattle.psm_cond.specs.declared.handlers.HandlerKind.{HandlerKind}
 use Rattle.psm_cond.specs.declared.handlers.HandlerKind.TheVariants.{Continue, Exit, Undo}
 use Rattle.psm_exprcode.specs.declared.op.Letter.{Letter}
@@ -10,19 +8,17 @@ use Rattle.psm_exprcode.specs.Kinds.{is_value, letter_of}
 use Rattle.psm_exprcode.proofs.Results.{letter_of-value}
 use Rattle.psm_table.specs.Table.{Contents}
 use Rattle.psm_resolved.specs.declared.expr.ResolvedExpr.{ResolvedExpr}
-use Rattle.psm_resolved.specs.declared.statement.ResolvedBlock.{ResolvedBlock, out-ResolvedBlock}
 use Rattle.psm_resolved.specs.declared.statement.ResolvedCursor.{ResolvedCursor}
 use Rattle.psm_resolved.specs.declared.statement.ResolvedDeclaration.{ResolvedDeclaration}
 use Rattle.psm_resolved.specs.declared.statement.ResolvedHandler.{ResolvedHandler, out-ResolvedHandler}
-use Rattle.psm_meaning.specs.State.{State, Scope, Place, in_scope, seeing, with_tables}
-use Rattle.psm_meaning.specs.Acts.{Outcome, Normal, Leave, Iterate, Return, Raised, Away, Stopped, Meaning, Deed, changing, ends_as}
-use Rattle.psm_meaning.specs.Blocks.{Block, all_declared, arrived, compound, declared, default_of, ended, entered, finding, is_left_by_exception, left, listed, put_back, taken_over, undone}
+use Rattle.psm_meaning.specs.State.{Scope, Place, in_scope, seeing, with_tables}
+use Rattle.psm_meaning.specs.Acts.{Outcome, Normal, Leave, Iterate, Return, Raised, Away, Stopped, Meaning, Deed, ends_as}
+use Rattle.psm_meaning.specs.Blocks.{Block, all_declared, arrived, compound, declared, default_of, ended, entered, finding, is_left_by_exception, left, put_back, taken_over, undone}
 use Rattle.psm_meaning.specs.Cursors.{closed}
 use Rattle.psm_sound.specs.Scene.{Scene, Among, Each}
-use Rattle.psm_sound.specs.Expressions.{IsExpr}
 use Rattle.psm_sound.specs.Statements.{AreHandlers, AreStatements, IsCursor, IsDeclaration, IsDefault, IsSlot, IsStatement, Sight, in_action, inside}
-use Rattle.psm_sound.specs.States.{AreFilled, IsState}
-use Rattle.psm_sound.specs.Places.{AreScopes, IsPlace}
+use Rattle.psm_sound.specs.States.{AreFilled}
+use Rattle.psm_sound.specs.Places.{IsPlace}
 use Rattle.psm_sound.specs.Ends.{IsAway, IsEnd}
 use Rattle.psm_sound.proofs.Answers.{each-append, each-more}
 use Rattle.psm_sound.proofs.Assigning.{holds-assign_each, slot-of}

@@ -1,5 +1,5 @@
 -- Sound expressions lack nothing: each form, where its parts do so.
-use Rattle.std.proofs.Common.{◌≡◌, ℕ, Bool, true, false, not, cond, List, [], ◌∷◌, length, map, filter, Option, Some, None, Result, Ok, Err, inl, inr, refl, ap, sym, subst, ◌∙◌, zero, suc, slice_get, true≢false, unwrap_or, if◌then◌else◌}
+use Rattle.std.proofs.Common.{◌≡◌, ℕ, Bool, true, false, cond, List, [], ◌∷◌, length, map, filter, Option, Some, None, Ok, Err, inl, inr, refl, ap, sym, subst, ◌∙◌, zero, suc, slice_get, true≢false, unwrap_or}
 use Rattle.psm_list.specs.Several.{Several}
 use Rattle.psm_num.proofs.Literals.{and_first, and_second}
 use Rattle.psm_value.specs.declared.datum.Datum.{Datum}
@@ -10,7 +10,7 @@ use Rattle.psm_value.specs.Truth.{is_certain}
 use Rattle.psm_exprcode.specs.declared.op.Letter.{Letter}
 use Rattle.psm_exprcode.specs.declared.op.Letter.TheVariants.{N, T, B}
 use Rattle.psm_exprcode.specs.declared.operand.Operand.{Operand}
-use Rattle.psm_exprcode.specs.declared.operand.Operand.TheVariants.{Value, Truth}
+use Rattle.psm_exprcode.specs.declared.operand.Operand.TheVariants.{Value}
 use Rattle.psm_exprcode.specs.Comparison.{is_null}
 use Rattle.psm_exprcode.specs.Evaluated as rows
 use Rattle.psm_exprcode.specs.Kinds.{are_of, has_letter, is_value, letter_of}
@@ -26,27 +26,25 @@ use Rattle.psm_resolved.specs.declared.expr.ResolvedItems.{ResolvedItems}
 use Rattle.psm_resolved.specs.declared.expr.ResolvedLink.{ResolvedLink, out-ResolvedLink}
 use Rattle.psm_resolved.specs.declared.expr.ResolvedQuery.{ResolvedQuery}
 use Rattle.psm_resolved.specs.declared.expr.ResolvedWhen.{ResolvedWhen, out-ResolvedWhen}
-use Rattle.psm_resolved.specs.declared.file.ResolvedFile.{ResolvedFile}
 use Rattle.psm_resolved.specs.declared.file.ResolvedRoutine.{ResolvedRoutine}
 use Rattle.psm_resolved.specs.declared.file.ResolvedTable.{ResolvedTable}
 use Rattle.psm_resolved.specs.Outcomes as outcomes
-use Rattle.psm_resolved.specs.RowValue.{connective, listed, operated, value_layer}
+use Rattle.psm_resolved.specs.RowValue.{listed, operated, value_layer}
 use Rattle.psm_resolved.specs.Sort.{letter_at}
-use Rattle.psm_meaning.specs.State.{State}
 use Rattle.psm_meaning.specs.Acts.{Meaning, Act, got, operand, truth_of, value_of, values}
-use Rattle.psm_meaning.specs.Calls.{Ended, activated, called, function_at, result_of, returns}
-use Rattle.psm_meaning.specs.Rows.{answer_of, over, query_of, table_now}
-use Rattle.psm_meaning.specs.Values.{Layer, among, came, cased, chosen, else_of, evaluated, first_set, is_equal, joined, linked, of_one, of_three, of_two, operands, scalar, scaled, there, worked}
-use Rattle.psm_sound.specs.Scene.{Scene, Among, Each, IsThere, columns_of, letters_of, taken_by, variables_of}
+use Rattle.psm_meaning.specs.Calls.{activated, called, function_at, result_of, returns}
+use Rattle.psm_meaning.specs.Rows.{answer_of, query_of, table_now}
+use Rattle.psm_meaning.specs.Values.{Layer, among, came, chosen, else_of, evaluated, first_set, is_equal, joined, linked, of_one, of_three, of_two, operands, scalar, scaled, there, worked}
+use Rattle.psm_sound.specs.Scene.{Scene, Among, Each, columns_of, letters_of, taken_by, variables_of}
 use Rattle.psm_sound.specs.Queries.{AreItems, IsQuery}
 use Rattle.psm_sound.specs.Expressions as typed
 use Rattle.psm_sound.specs.Expressions.{AreAll, AreExprs, AreLinks, AreWhens, IsElse, IsExpr, letter_of_operator}
-use Rattle.psm_sound.specs.States.{AreFilled, IsFilled, IsState}
+use Rattle.psm_sound.specs.States.{AreFilled, IsFilled}
 use Rattle.psm_sound.specs.Ends.{IsEnded, IsReturned}
 use Rattle.psm_sound.proofs.Comes.{Comes, Valued, AllValued, comes-valued}
 use Rattle.psm_sound.proofs.Layers
-use Rattle.psm_sound.proofs.Answers.{Right, Row, answer-right, operand-value, right-ok, set-value}
-use Rattle.psm_sound.proofs.Holding.{Anything, HasLetter, Holds, IsOf, Well, holds-as_truth, holds-as_value, holds-bind, holds-cleared, holds-got, holds-if, holds-more, holds-present, holds-raises, holds-read, holds-tried}
+use Rattle.psm_sound.proofs.Answers.{Row, answer-right, operand-value, right-ok, set-value}
+use Rattle.psm_sound.proofs.Holding.{Anything, HasLetter, Holds, IsOf, holds-as_truth, holds-as_value, holds-bind, holds-cleared, holds-got, holds-if, holds-present, holds-raises, holds-read, holds-tried}
 
 -- ---- what is known of parts
 

@@ -1,12 +1,12 @@
 -- Cursors, FETCH, SELECT INTO and the rows of FOR lack nothing.
-use Rattle.std.proofs.Common.{codes, ◌≡◌, ℕ, zero, suc, Bool, true, false, cond, List, [], ◌∷◌, length, find, nat_eq, Option, Some, None, Result, Ok, Err, refl, ap, sym, subst, ◌∙◌, arith, slice_get, slice_set, eqb-true}
+use Rattle.std.proofs.Common.{codes, ◌≡◌, ℕ, suc, Bool, true, false, cond, List, [], ◌∷◌, length, find, nat_eq, Option, Some, None, Result, refl, ap, sym, subst, ◌∙◌, slice_get, eqb-true}
 use Rattle.psm_sqlstate.specs.declared.state.SqlState.{SqlState}
 use Rattle.psm_value.specs.declared.datum.Datum.{Datum}
 use Rattle.psm_cond.specs.Condition.{alone}
 use Rattle.psm_cond.specs.Entry.{entry_of, name_text}
 use Rattle.psm_exprcode.specs.declared.op.Letter.{Letter}
 use Rattle.psm_table.specs.Cursors.{Cursor, Closed, Plain, Insensitive, advanced, before_first}
-use Rattle.psm_table.specs.Evaluator.{collected, mapped, values_of}
+use Rattle.psm_table.specs.Evaluator.{collected, values_of}
 use Rattle.psm_table.specs.Queries as q
 use Rattle.psm_resolved.specs.declared.expr.ResolvedExpr.{ResolvedExpr}
 use Rattle.psm_resolved.specs.declared.expr.ResolvedQuery.{ResolvedQuery}

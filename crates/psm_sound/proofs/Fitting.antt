@@ -1,5 +1,5 @@
 -- What keeps a state fitting: values that are stored, cursors that move, and rows of tables.
-use Rattle.std.proofs.Common.{◌≡◌, ℕ, zero, suc, Bool, true, false, ◌&&◌, not, List, [], ◌∷◌, length, map, replicate, Option, Some, None, Result, Ok, Err, refl, ap, sym, subst, ◌∙◌, slice_get, slice_set, true≢false, if◌then◌else◌}
+use Rattle.std.proofs.Common.{◌≡◌, ℕ, zero, suc, Bool, true, false, List, [], ◌∷◌, length, replicate, Some, Result, Ok, Err, refl, ap, sym, subst, slice_get, slice_set, true≢false, if◌then◌else◌}
 use Rattle.std.specs.Prelude.{codes}
 use Rattle.psm_num.specs.Num as num
 use Rattle.psm_num.specs.Arithmetic.{at_scale}
@@ -12,17 +12,17 @@ use Rattle.psm_value.specs.declared.datum.Datum.TheVariants.{Null, Num, Text}
 use Rattle.psm_value.specs.declared.sqltype.SqlType.{SqlType}
 use Rattle.psm_value.specs.declared.sqltype.SqlType.TheVariants.{SmallInt, Integer, Numeric, Char, VarChar}
 use Rattle.psm_value.specs.Fetched.{fetched, unlost}
-use Rattle.psm_value.specs.Stored.{is_in_range, stored, stored_number, stored_text}
+use Rattle.psm_value.specs.Stored.{is_in_range, stored, stored_number}
 use Rattle.psm_value.specs.TextFaults.{as_text}
 use Rattle.psm_exprcode.specs.declared.op.Letter.{Letter}
-use Rattle.psm_exprcode.specs.declared.op.Letter.TheVariants.{N, T, B}
+use Rattle.psm_exprcode.specs.declared.op.Letter.TheVariants.{N, T}
 use Rattle.psm_exprcode.specs.Kinds.{are_of, has_letter, letter_of}
 use Rattle.psm_exprcode.proofs.Results.{letter_of-value, null-letter}
 use Rattle.psm_exprcode.proofs.Standing.{both_true}
-use Rattle.psm_table.specs.Cursors.{Cursor, Closed, Plain, Insensitive}
+use Rattle.psm_table.specs.Cursors.{Cursor, Closed}
 use Rattle.psm_table.specs.Table.{Contents}
 use Rattle.psm_resolved.specs.declared.file.ResolvedTable.{ResolvedTable}
-use Rattle.psm_sound.specs.Scene.{Shape, Each, IsThere, letters_of}
+use Rattle.psm_sound.specs.Scene.{Shape, IsThere, letters_of}
 use Rattle.psm_sound.specs.States.{AreFilled, AreShaped, IsFilled, IsShaped}
 use Rattle.psm_sound.proofs.Answers.{Right, Row}
 use Rattle.psm_sound.proofs.Evaluating.{some_same}
@@ -33,9 +33,6 @@ use Rattle.psm_sound.proofs.Holding.{HasLetter}
 number-stored : (n : num.Num) (b : Bool) → Right (HasLetter N) (if b then Ok (Num n) else Err (codes "22003"))
 number-stored n true = refl
 number-stored n false = tt
-
-no-number : (n : num.Num) → Right (HasLetter T) (if false then Ok (Num n) else Err (codes "22003"))
-no-number n = tt
 
 text-stored : (r : Result (List ℕ) TextFault) → Right (HasLetter T) (as_text r)
 text-stored (Ok t) = refl

@@ -1,8 +1,7 @@
 -- Evaluations that lack nothing in states that fit a scene, and leave such a state.
-use Rattle.std.proofs.Common.{◌≡◌, ℕ, zero, suc, Bool, true, false, List, Option, Some, None, Result, Ok, Err, refl, sym, subst, if◌then◌else◌}
+use Rattle.std.proofs.Common.{◌≡◌, ℕ, zero, suc, Bool, true, false, Option, Some, None, Result, Ok, Err, refl, sym, subst, if◌then◌else◌}
 use Rattle.psm_sqlstate.specs.declared.state.SqlState.{SqlState}
 use Rattle.psm_value.specs.declared.datum.Datum.{Datum}
-use Rattle.psm_value.specs.declared.truth.Truth as truth
 use Rattle.psm_cond.specs.Condition.{Entries}
 use Rattle.psm_exprcode.specs.declared.op.Letter.{Letter}
 use Rattle.psm_exprcode.specs.declared.op.Letter.TheVariants.{B}
@@ -10,7 +9,7 @@ use Rattle.psm_exprcode.specs.declared.operand.Operand.{Operand}
 use Rattle.psm_exprcode.specs.declared.operand.Operand.TheVariants.{Value, Truth}
 use Rattle.psm_exprcode.specs.Kinds.{has_letter, is_of, is_value}
 use Rattle.psm_meaning.specs.State.{State, cleared}
-use Rattle.psm_meaning.specs.Acts.{Stop, NoTurns, NoHeight, Lacking, Given, Got, Raises, Ends, Evaluated, Meaning, Act, as_truth, as_value, change, go_on, got, present, raises, read, spent, tried, turn, ◌>>=◌}
+use Rattle.psm_meaning.specs.Acts.{Given, Got, Raises, Ends, Evaluated, Meaning, Act, as_truth, as_value, change, go_on, got, present, raises, read, spent, tried, turn, ◌>>=◌}
 use Rattle.psm_sound.specs.Scene.{Scene, IsThere}
 use Rattle.psm_sound.specs.States.{IsState}
 use Rattle.psm_sound.specs.Ends.{IsDue}

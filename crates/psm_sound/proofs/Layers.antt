@@ -1,7 +1,6 @@
 -- What each operation comes to, the operands of which are of the letters that it asks for.
-use Rattle.std.proofs.Common.{◌≡◌, ℕ, Bool, true, false, List, [], ◌∷◌, Option, Some, None, Result, Ok, Err, refl, ap, sym, subst, ◌∙◌, slice_get, if◌then◌else◌}
+use Rattle.std.proofs.Common.{◌≡◌, ℕ, Bool, true, List, [], ◌∷◌, Option, Some, None, Ok, refl}
 use Rattle.psm_list.specs.Several.{Several}
-use Rattle.psm_num.specs.Num.{Num}
 use Rattle.psm_text.specs.declared.parts.Side.{Side}
 use Rattle.psm_text.specs.Parts.{upper_of, lower_of}
 use Rattle.psm_value.specs.declared.datum.Datum.{Datum}
@@ -10,7 +9,7 @@ use Rattle.psm_exprcode.specs.declared.op.Letter.{Letter}
 use Rattle.psm_exprcode.specs.declared.op.Letter.TheVariants.{N, T, B}
 use Rattle.psm_exprcode.specs.Comparison.{among}
 use Rattle.psm_exprcode.specs.Evaluated.{Outcome}
-use Rattle.psm_exprcode.specs.Kinds.{has_letter, is_of, is_value, letter_of}
+use Rattle.psm_exprcode.specs.Kinds.{has_letter, is_value, letter_of}
 use Rattle.psm_exprcode.specs.Texts.{trim_of}
 use Rattle.psm_exprcode.proofs.Standing.{gives}
 use Rattle.psm_exprcode.proofs.Results.{sum-gives, difference-gives, product-gives, quotient-gives, negated-gives, rescaled-gives, concatenated-gives, length-gives, position-gives, part_from-gives, part_of-gives, on_text-gives, unless_equal-gives, cast-gives}

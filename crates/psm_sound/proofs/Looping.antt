@@ -1,5 +1,5 @@
 -- IF, CASE, LOOP, WHILE, REPEAT and FOR end as sound statements do.
-use Rattle.std.proofs.Common.{codes, ◌≡◌, ℕ, Bool, true, false, List, [], ◌∷◌, nat_eq, Option, Some, None, inl, inr, refl, ap, sym, subst, ◌∙◌, eq-eqb, true≢false, if◌then◌else◌}
+use Rattle.std.proofs.Common.{codes, ◌≡◌, ℕ, Bool, true, false, List, [], ◌∷◌, nat_eq, Option, Some, None, inl, inr, refl, ap, sym, ◌∙◌, eq-eqb, true≢false, if◌then◌else◌}
 use Rattle.psm_value.specs.declared.datum.Datum.{Datum}
 use Rattle.psm_value.specs.declared.truth.Truth as truth
 use Rattle.psm_value.specs.Truth.{is_certain}
@@ -11,15 +11,14 @@ use Rattle.psm_resolved.specs.declared.expr.ResolvedExpr.{ResolvedExpr}
 use Rattle.psm_resolved.specs.declared.statement.ResolvedBranch.{ResolvedBranch, out-ResolvedBranch}
 use Rattle.psm_resolved.specs.declared.statement.ResolvedFor.{ResolvedFor}
 use Rattle.psm_resolved.specs.declared.statement.ResolvedStatement.{ResolvedStatement}
-use Rattle.psm_meaning.specs.State.{State, Scope, Place, seeing, with_cursor}
-use Rattle.psm_meaning.specs.Acts.{Outcome, Normal, Leave, Iterate, Return, Raised, Away, Stopped, Meaning, Act, Deed, all, behind, ends_as, of_state, truth_of}
+use Rattle.psm_meaning.specs.State.{Scope, Place, seeing, with_cursor}
+use Rattle.psm_meaning.specs.Acts.{Outcome, Normal, Leave, Iterate, Return, Raised, Away, Stopped, Meaning, Act, Deed, all, behind, ends_as, of_state}
 use Rattle.psm_meaning.specs.Flow.{branched, cased, else_of, for_each, looped, over_row, repeated, round, rounds, until_true, while_true}
 use Rattle.psm_meaning.specs.Values.{is_equal}
 use Rattle.psm_sound.specs.Scene.{Scene, Among}
 use Rattle.psm_sound.specs.Expressions.{IsExpr}
 use Rattle.psm_sound.specs.Statements as typed
 use Rattle.psm_sound.specs.Statements.{AreBranches, AreForItems, AreStatements, IsCursor, Sight, looping, over_rows}
-use Rattle.psm_sound.specs.States.{IsState}
 use Rattle.psm_sound.specs.Places.{IsPlace}
 use Rattle.psm_sound.specs.Ends.{IsEnd}
 use Rattle.psm_sound.proofs.Doing.{Goes, Parts, goes-after, goes-all, goes-at_turn, goes-behind, goes-changing, goes-ends_as, goes-if, goes-raised}

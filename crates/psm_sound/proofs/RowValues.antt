@@ -1,7 +1,6 @@
 -- The same of all row expressions, by their sizes.
-use Rattle.std.proofs.Common.{◌≡◌, ◌≤◌, ◌+◌, ◌&&◌, ℕ, zero, suc, Bool, true, false, List, [], ◌∷◌, map, option_map, Option, Some, None, refl, ap, sym, subst, ◌∙◌, arith, slice_get, le_trans, not-suc-le-zero, if◌then◌else◌}
+use Rattle.std.proofs.Common.{◌≡◌, ◌≤◌, ◌&&◌, ℕ, zero, suc, Bool, true, false, List, [], ◌∷◌, map, Option, Some, None, refl, sym, subst, arith, slice_get, le_trans, not-suc-le-zero, if◌then◌else◌}
 use Rattle.std.specs.List.{list_all}
-use Rattle.psm_list.specs.Several.{Several, several_map}
 use Rattle.psm_num.proofs.Literals.{and_first, and_second}
 use Rattle.psm_value.specs.declared.datum.Datum.{Datum}
 use Rattle.psm_exprcode.specs.declared.op.Letter.{Letter}
@@ -29,7 +28,7 @@ use Rattle.psm_resolved.proofs.Equations.{sort_of_link, sort_of_when, value_of_l
 use Rattle.psm_resolved.proofs.Forms.{value_found}
 use Rattle.psm_meaning.specs.Heights.{expr_size, total}
 use Rattle.psm_meaning.proofs.Sizes.{expr_size-out, expr_size-pos, link_size, link_size-out, size_of, when_size, when_size-out}
-use Rattle.psm_sound.proofs.Comes.{Comes, Valued, AllValued, comes-valued, comes-one}
+use Rattle.psm_sound.proofs.Comes.{Comes, Valued, comes-one}
 use Rattle.psm_sound.proofs.Layers
 use Rattle.psm_sound.proofs.Suiting.{Suits, AllSuit, LinksSuit, WhensSuit, all_valued, chosen-comes, compared-comes, first_set-comes, joined-comes, linked-suits, suits-as, suits-of, suits-valued, suits-where, typed-suits}
 

@@ -1,23 +1,21 @@
 -- Scripts of sound commands lack nothing, and what the law says of each part.
-use Rattle.std.proofs.Common.{codes, ◌≡◌, ◌≢◌, ◌++◌, ℕ, zero, suc, Bool, true, false, not, List, [], ◌∷◌, length, map, Option, Some, None, inl, inr, refl, ap, sym, subst, ◌∙◌, slice_get}
+use Rattle.std.proofs.Common.{◌≡◌, ◌≢◌, ◌++◌, ℕ, zero, suc, Bool, true, not, List, [], ◌∷◌, length, map, Option, Some, None, inl, inr, refl, sym, subst, slice_get}
 use Rattle.psm_value.specs.declared.datum.Datum.{Datum}
 use Rattle.psm_exprcode.specs.declared.op.Letter.{Letter}
 use Rattle.psm_exprcode.specs.declared.operand.Operand.{Operand}
 use Rattle.psm_table.specs.Table.{empty_table}
 use Rattle.psm_resolved.specs.declared.expr.ResolvedExpr.{ResolvedExpr}
-use Rattle.psm_resolved.specs.declared.expr.ResolvedQuery.{ResolvedQuery}
 use Rattle.psm_resolved.specs.declared.file.ResolvedFile.{ResolvedFile}
 use Rattle.psm_resolved.specs.declared.file.ResolvedRoutine.{ResolvedRoutine}
 use Rattle.psm_resolved.specs.declared.file.ResolvedTable.{ResolvedTable}
 use Rattle.psm_resolved.specs.declared.statement.ResolvedStatement.{ResolvedStatement}
 use Rattle.psm_meaning.specs.State.{State, Place}
-use Rattle.psm_meaning.specs.Acts.{Stop, NoTurns, NoHeight, Lacking, Given, Got, Raises, Ends, Do, Meaning, Act, got}
+use Rattle.psm_meaning.specs.Acts.{NoTurns, NoHeight, Lacking, Given, Got, Raises, Ends, Do, Meaning, Act}
 use Rattle.psm_meaning.specs.Calls.{Ended, activated, procedure_at, returns}
 use Rattle.psm_meaning.specs.Lines.{first_line, ok_line, value_lines}
 use Rattle.psm_meaning.specs.Meaning.{meaning}
-use Rattle.psm_meaning.specs.Session.{Command, Call, Insert, Select, Commit, Rollback, Cut, Done, End, Played, Session, Standing, Stopped, Went, answer_lines, at_command, at_start, call_lines, called, command_name, commands_from, empty_tables, ended, going_on, inserted, played, run, selected, session_to, stopped_at}
+use Rattle.psm_meaning.specs.Session.{Command, Call, Insert, Select, Commit, Rollback, Cut, Done, End, Played, Session, Standing, Stopped, Went, answer_lines, at_command, at_start, call_lines, called, command_name, commands_from, ended, going_on, inserted, played, run, selected, session_to}
 use Rattle.psm_sound.specs.Scene.{Scene, Among, Each, IsThere, taken_by}
-use Rattle.psm_sound.specs.Queries.{IsQuery}
 use Rattle.psm_sound.specs.Expressions.{IsExpr}
 use Rattle.psm_sound.specs.Statements.{IsStatement, Sight}
 use Rattle.psm_sound.specs.Files.{IsSound}
@@ -27,10 +25,9 @@ use Rattle.psm_sound.specs.Ends.{IsDue, IsEnd, IsEnded, IsGiven, IsOver, IsRetur
 use Rattle.psm_sound.specs.Scripts.{IsCommand, no_routine, outside}
 use Rattle.psm_sound.proofs.Assigning.{no_type}
 use Rattle.psm_sound.proofs.Changing.{holds-put_in}
-use Rattle.psm_sound.proofs.Doing.{Finished}
 use Rattle.psm_sound.proofs.Evaluating.{Calls, among-filter, holds-answer_of, some_same}
-use Rattle.psm_sound.proofs.Holding.{Anything, Holds, IsOf, Sat, Well, holds-bind, holds-got, holds-present, holds-raises}
-use Rattle.psm_sound.proofs.Sound.{Everywhere, calls, everywhere}
+use Rattle.psm_sound.proofs.Holding.{Anything, Holds, IsOf, Sat, holds-bind, holds-got, holds-present, holds-raises}
+use Rattle.psm_sound.proofs.Sound.{calls, everywhere}
 
 -- ---- the law of each part
 

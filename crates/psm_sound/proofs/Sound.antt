@@ -1,19 +1,15 @@
 -- The law: at every height expressions, statements and activations of a sound file lack nothing.
-use Rattle.std.proofs.Common.{◌≡◌, ℕ, zero, suc, List, [], ◌∷◌, length, refl, ap, sym, subst, ◌∙◌}
-use Rattle.psm_value.specs.declared.datum.Datum.{Datum}
-use Rattle.psm_resolved.specs.declared.expr.ResolvedExpr.{ResolvedExpr}
+use Rattle.std.proofs.Common.{ℕ, zero, suc, List}
 use Rattle.psm_resolved.specs.declared.file.ResolvedFile.{ResolvedFile}
 use Rattle.psm_resolved.specs.declared.file.ResolvedRoutine.{ResolvedRoutine}
-use Rattle.psm_meaning.specs.State.{State}
 use Rattle.psm_meaning.specs.Acts.{Meaning, part}
 use Rattle.psm_meaning.specs.Meaning.{meaning, nothing, step}
-use Rattle.psm_sound.specs.Scene.{Scene, Shape, Among, Begin, Each, taken_by}
-use Rattle.psm_sound.specs.Files.{IsRoutine, IsSound}
-use Rattle.psm_sound.proofs.Activating.{holds-activated, routine-of, scene_of}
+use Rattle.psm_sound.specs.Scene.{Shape}
+use Rattle.psm_sound.specs.Files.{IsSound}
+use Rattle.psm_sound.proofs.Activating.{holds-activated, routine-of}
 use Rattle.psm_sound.proofs.Assigning.{Opens}
-use Rattle.psm_sound.proofs.Doing.{Goes, Parts}
+use Rattle.psm_sound.proofs.Doing.{Parts}
 use Rattle.psm_sound.proofs.Evaluating.{Calls, Values, holds-evaluated}
-use Rattle.psm_sound.proofs.Holding.{Holds}
 use Rattle.psm_sound.proofs.Looping.{goes-round}
 use Rattle.psm_sound.proofs.Stepping.{Known, goes-statement}
 

@@ -1,10 +1,9 @@
 -- Each form of statement ends as sound statements do, where its parts do so.
-use Rattle.std.proofs.Common.{◌≡◌, ℕ, List, [], ◌∷◌, ◌++◌, Option, Some, None, refl, ap, sym, subst, ◌∙◌}
+use Rattle.std.proofs.Common.{◌≡◌, Option, Some, None, sym, subst}
 use Rattle.psm_value.specs.declared.datum.Datum.{Datum}
 use Rattle.psm_exprcode.specs.declared.op.Letter.TheVariants.{B}
 use Rattle.psm_exprcode.specs.Kinds.{letter_of}
 use Rattle.psm_value.specs.declared.sqltype.SqlType.{SqlType}
-use Rattle.psm_resolved.specs.declared.file.ResolvedFile.{ResolvedFile}
 use Rattle.psm_resolved.specs.declared.statement.ResolvedBlock.{ResolvedBlock, out-ResolvedBlock}
 use Rattle.psm_resolved.specs.declared.statement.ResolvedBranch.{ResolvedBranch}
 use Rattle.psm_resolved.specs.declared.statement.ResolvedHandler.{ResolvedHandler}
@@ -13,8 +12,8 @@ use Rattle.psm_resolved.specs.declared.statement.ResolvedSimple.TheVariants as s
 use Rattle.psm_resolved.specs.declared.statement.ResolvedStatement.{ResolvedStatement, out-ResolvedStatement}
 use Rattle.psm_resolved.specs.declared.statement.ResolvedStatement.TheOpen.{ResolvedStatement-F}
 use Rattle.psm_resolved.specs.declared.statement.ResolvedStatement.TheOpen as layers
-use Rattle.psm_meaning.specs.State.{State, Scope, Place}
-use Rattle.psm_meaning.specs.Acts.{Outcome, Leave, Iterate, Return, Meaning, Deed, all, ends_as, part, truth_of}
+use Rattle.psm_meaning.specs.State.{Place}
+use Rattle.psm_meaning.specs.Acts.{Leave, Iterate, Return, Meaning, Deed, all, truth_of}
 use Rattle.psm_meaning.specs.Flow.{else_of}
 use Rattle.psm_meaning.specs.Meaning.{statement}
 use Rattle.psm_meaning.specs.Statements.{simple}

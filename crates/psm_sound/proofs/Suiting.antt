@@ -1,8 +1,7 @@
 -- A row expression of a letter comes to an operand of the letter, or to a condition, over a row and variables of the letters of its
 -- columns and variables: by layers.
-use Rattle.std.proofs.Common.{◌≡◌, ◌≤◌, ℕ, zero, suc, Bool, true, false, ◌&&◌, ◌||◌, List, [], ◌∷◌, map, option_map, Option, Some, None, Result, Ok, Err, refl, ap, sym, subst, ◌∙◌, arith, slice_get, if◌then◌else◌}
+use Rattle.std.proofs.Common.{◌≡◌, Bool, true, false, ◌&&◌, List, [], ◌∷◌, map, Some, None, Ok, Err, refl, sym, subst, if◌then◌else◌}
 use Rattle.std.specs.List.{list_all}
-use Rattle.psm_list.specs.Several.{Several, several_map}
 use Rattle.psm_num.proofs.Literals.{and_first, and_second}
 use Rattle.psm_value.specs.declared.datum.Datum.{Datum}
 use Rattle.psm_value.specs.declared.datum.Datum.TheVariants.{Null}
@@ -12,9 +11,7 @@ use Rattle.psm_exprcode.specs.declared.op.Letter.TheVariants.{N, T, B}
 use Rattle.psm_exprcode.specs.declared.operand.Operand.TheVariants.{Value, Truth}
 use Rattle.psm_exprcode.specs.Comparison.{is_null}
 use Rattle.psm_exprcode.specs.Evaluated.{Outcome}
-use Rattle.psm_exprcode.specs.Kinds.{are_of, has_letter, is_letter, is_value, letter_of, some_value}
-use Rattle.psm_exprcode.specs.WellFormed.{is_type}
-use Rattle.psm_exprcode.proofs.Results.{null-letter}
+use Rattle.psm_exprcode.specs.Kinds.{has_letter, is_value}
 use Rattle.psm_exprcode.proofs.Stripping.{is_letter-same}
 use Rattle.psm_resolved.specs.declared.expr.Junction.{Junction}
 use Rattle.psm_resolved.specs.declared.expr.Operator.{Operator}
@@ -24,10 +21,9 @@ use Rattle.psm_resolved.specs.RowValue as values
 use Rattle.psm_resolved.specs.RowValue.{connective, listed, operated}
 use Rattle.psm_resolved.specs.Sort as sorts
 use Rattle.psm_resolved.specs.Sort.{Sort, Wrong, Untyped, Of, are_results, are_tests, goes_as, is_of, letter_at, may_be, where_true}
-use Rattle.psm_resolved.proofs.Forms.{value_found}
 use Rattle.psm_sound.specs.Expressions.{letter_of_operator}
 use Rattle.psm_sound.proofs.Comes.{Comes, Valued, AllValued, comes-valued, comes-one, comes-truths, no_truth, no_value}
-use Rattle.psm_sound.proofs.Layers.{letter_at-value, link-comes, operator-value, scale-comes}
+use Rattle.psm_sound.proofs.Layers.{link-comes}
 
 -- ---- an expression's sort, and what it comes to
 

@@ -2,7 +2,7 @@
 use Rattle.std.specs.Prelude.{◌≡◌, List, [], length}
 use Rattle.psm_resolved.specs.declared.file.ResolvedFile.{ResolvedFile}
 use Rattle.psm_resolved.specs.declared.file.ResolvedRoutine.{ResolvedRoutine}
-use Rattle.psm_sound.specs.Scene.{Begin, Each, Scene, Shape}
+use Rattle.psm_sound.specs.Scene.{Begin, Each, Shape}
 use Rattle.psm_sound.specs.Statements.{IsStatement}
 
 -- the cursors of a routine have shapes, with which its body is sound where it sees no cursor and nothing can be left

@@ -1,5 +1,5 @@
 -- Sound commands of a script: procedures and tables that are there, with as many arguments as a procedure takes, and sound queries.
-use Rattle.std.specs.Prelude.{◌≡◌, List, [], length, slice_get, Option, Some, None}
+use Rattle.std.specs.Prelude.{◌≡◌, List, [], length, slice_get, Some, None}
 use Rattle.psm_exprcode.specs.declared.op.Letter.{Letter}
 use Rattle.psm_resolved.specs.declared.file.ResolvedFile.{ResolvedFile}
 use Rattle.psm_resolved.specs.declared.file.ResolvedRoutine.{ResolvedRoutine}
