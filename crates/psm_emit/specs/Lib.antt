@@ -2,6 +2,8 @@ pub mod Written
 pub mod Queries
 pub mod Exprs
 pub mod Writing
+pub mod Outside
+pub mod Sizes
 pub mod Parts
 pub mod Simples
 pub mod Statements

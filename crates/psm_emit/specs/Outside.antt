@@ -1,0 +1,56 @@
+-- Which expressions stand outside of rows: they name no column, their queries are of letters, and each function that they call is there
+-- and takes as many arguments.
+use Rattle.std.specs.Prelude.{◌≡◌, ℕ, true, List, [], ◌∷◌, filter, length, Option, Some, None}
+use Rattle.psm_list.specs.Several.{Several}
+use Rattle.psm_resolved.specs.declared.expr.Junction.{Junction}
+use Rattle.psm_resolved.specs.declared.expr.ResolvedExpr.{ResolvedExpr, out-ResolvedExpr}
+use Rattle.psm_resolved.specs.declared.expr.ResolvedExpr.TheOpen as layers
+use Rattle.psm_resolved.specs.declared.expr.ResolvedLink.{ResolvedLink, out-ResolvedLink}
+use Rattle.psm_resolved.specs.declared.expr.ResolvedQuery.{ResolvedQuery}
+use Rattle.psm_resolved.specs.declared.expr.ResolvedWhen.{ResolvedWhen, out-ResolvedWhen}
+use Rattle.psm_resolved.specs.declared.file.ResolvedFile.{ResolvedFile}
+use Rattle.psm_resolved.specs.declared.file.ResolvedRoutine.{ResolvedRoutine}
+use Rattle.psm_resolved.specs.RowValue.{listed}
+use Rattle.psm_meaning.specs.Calls.{function_at}
+use Rattle.psm_lower.specs.Expressions.{Layer, is_straight, operands_of, wants}
+use Rattle.psm_emit.specs.declared.known.Known.{Known}
+use Rattle.psm_emit.specs.Queries.{is_query}
+
+-- a function of the file, which takes so many arguments
+pub record IsThere (file : ResolvedFile) (function count : ℕ) : Type 0 where
+  pub routine : ResolvedRoutine
+  pub there : function_at file function ≡ Some routine
+  pub takes : count ≡ length (filter (λ p. wants p.mode) routine.parameters)
+
+mutual
+  pub data Outside (file : ResolvedFile) (known : Known) : ResolvedExpr → Type 0 where
+    outside : {e : ResolvedExpr} → LayerOutside file known (out-ResolvedExpr e) → Outside file known e
+
+  -- of each form its parts
+  pub data LayerOutside (file : ResolvedFile) (known : Known) : Layer → Type 0 where
+    null : LayerOutside file known layers.Null
+    straight : {layer : Layer} → is_straight layer ≡ true → AllOutside file known (operands_of layer) → LayerOutside file known layer
+    junction : {j : Junction} {operands : Several ResolvedExpr} → AllOutside file known (listed operands) → LayerOutside file known (layers.Junction j operands)
+    chain : {first : ResolvedExpr} {links : List ResolvedLink} → Outside file known first → LinksOutside file known links → LayerOutside file known (layers.Chain first links)
+    call : {function : ℕ} {arguments : List ResolvedExpr} → IsThere file function (length arguments) → AllOutside file known arguments → LayerOutside file known (layers.Call function arguments)
+    scalar : {query : ResolvedQuery} → is_query known query ≡ true → LayerOutside file known (layers.Scalar query)
+    exists : {query : ResolvedQuery} → is_query known query ≡ true → LayerOutside file known (layers.Exists query)
+    case : {operand otherwise : Option ResolvedExpr} {whens : Several ResolvedWhen} {scale : Option ℕ} → PerhapsOutside file known operand → WhensOutside file known (listed whens) → PerhapsOutside file known otherwise
+        → LayerOutside file known (layers.Case operand whens otherwise scale)
+    coalesce : {values : Several ResolvedExpr} {scale : Option ℕ} → AllOutside file known (listed values) → LayerOutside file known (layers.Coalesce values scale)
+
+  pub data AllOutside (file : ResolvedFile) (known : Known) : List ResolvedExpr → Type 0 where
+    no_expr : AllOutside file known []
+    expr : {e : ResolvedExpr} {es : List ResolvedExpr} → Outside file known e → AllOutside file known es → AllOutside file known (e ∷ es)
+
+  pub data PerhapsOutside (file : ResolvedFile) (known : Known) : Option ResolvedExpr → Type 0 where
+    nothing : PerhapsOutside file known None
+    just : {e : ResolvedExpr} → Outside file known e → PerhapsOutside file known (Some e)
+
+  pub data LinksOutside (file : ResolvedFile) (known : Known) : List ResolvedLink → Type 0 where
+    no_link : LinksOutside file known []
+    link : {l : ResolvedLink} {ls : List ResolvedLink} → Outside file known (out-ResolvedLink l).operand → LinksOutside file known ls → LinksOutside file known (l ∷ ls)
+
+  pub data WhensOutside (file : ResolvedFile) (known : Known) : List ResolvedWhen → Type 0 where
+    no_when : WhensOutside file known []
+    when : {x : ResolvedWhen} {xs : List ResolvedWhen} → Outside file known (out-ResolvedWhen x).test → Outside file known (out-ResolvedWhen x).result → WhensOutside file known xs → WhensOutside file known (x ∷ xs)
