@@ -1,1 +1,3 @@
 pub mod Growth
+pub mod Counting
+pub mod Counts
