@@ -1,3 +1,4 @@
 pub mod Growth
 pub mod Counting
 pub mod Counts
+pub mod Evaluators
