@@ -1,6 +1,7 @@
 -- Which expressions stand outside of rows: they name no column, their queries are of letters, and each function that they call is there
 -- and takes as many arguments.
-use Rattle.std.specs.Prelude.{◌≡◌, ℕ, true, List, [], ◌∷◌, filter, length, Option, Some, None}
+use Rattle.std.specs.Prelude.{◌≡◌, ℕ, true, List, [], ◌∷◌, filter, length, slice_get, Option, Some, None}
+use Rattle.std.specs.List.{list_all}
 use Rattle.psm_list.specs.Several.{Several}
 use Rattle.psm_resolved.specs.declared.expr.Junction.{Junction}
 use Rattle.psm_resolved.specs.declared.expr.ResolvedExpr.{ResolvedExpr, out-ResolvedExpr}
@@ -10,11 +11,12 @@ use Rattle.psm_resolved.specs.declared.expr.ResolvedQuery.{ResolvedQuery}
 use Rattle.psm_resolved.specs.declared.expr.ResolvedWhen.{ResolvedWhen, out-ResolvedWhen}
 use Rattle.psm_resolved.specs.declared.file.ResolvedFile.{ResolvedFile}
 use Rattle.psm_resolved.specs.declared.file.ResolvedRoutine.{ResolvedRoutine}
+use Rattle.psm_resolved.specs.declared.file.ResolvedTable.{ResolvedTable}
 use Rattle.psm_resolved.specs.RowValue.{listed}
 use Rattle.psm_meaning.specs.Calls.{function_at}
 use Rattle.psm_lower.specs.Expressions.{Layer, is_straight, operands_of, wants}
 use Rattle.psm_emit.specs.declared.known.Known.{Known}
-use Rattle.psm_emit.specs.Queries.{is_query}
+use Rattle.psm_emit.specs.Queries.{column_letters, is_query, is_test}
 
 -- a function of the file, which takes so many arguments
 pub record IsThere (file : ResolvedFile) (function count : ℕ) : Type 0 where
@@ -54,3 +56,7 @@ mutual
   pub data WhensOutside (file : ResolvedFile) (known : Known) : List ResolvedWhen → Type 0 where
     no_when : WhensOutside file known []
     when : {x : ResolvedWhen} {xs : List ResolvedWhen} → Outside file known (out-ResolvedWhen x).test → Outside file known (out-ResolvedWhen x).result → WhensOutside file known xs → WhensOutside file known (x ∷ xs)
+
+-- the CHECKs of each table are conditions over its columns
+abbrev pub ChecksAreTests : ResolvedFile → Type 0
+ChecksAreTests file = (n : ℕ) (t : ResolvedTable) → slice_get file.tables n ≡ Some t → list_all (is_test (column_letters t) []) t.checks ≡ true
