@@ -3,3 +3,7 @@ pub mod Counting
 pub mod Counts
 pub mod Evaluators
 pub mod Querying
+pub mod Numbers
+pub mod There
+pub mod Outsides
+pub mod Standing
