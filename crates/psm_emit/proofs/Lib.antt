@@ -7,3 +7,4 @@ pub mod Numbers
 pub mod There
 pub mod Outsides
 pub mod Standing
+pub mod SortForms

@@ -1,5 +1,6 @@
 pub mod Written
 pub mod Queries
+pub mod Seen
 pub mod Exprs
 pub mod Writing
 pub mod Outside

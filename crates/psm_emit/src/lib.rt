@@ -3,6 +3,7 @@
 
 mod around;
 mod known;
+mod sorts;
 
 pub use around::Around;
 pub use known::Known;
