@@ -8,3 +8,6 @@ pub mod There
 pub mod Outsides
 pub mod Standing
 pub mod SortForms
+pub mod Goes
+pub mod Lists
+pub mod Codes

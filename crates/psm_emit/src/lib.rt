@@ -3,6 +3,7 @@
 
 mod around;
 mod known;
+mod rows;
 mod sorts;
 
 pub use around::Around;

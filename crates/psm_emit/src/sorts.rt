@@ -7,6 +7,7 @@ ghost use Rattle.psm_exprcode.specs.WellFormed.{is_type};
 ghost use Rattle.psm_exprcode.specs.declared.op.Letter.TheVariants.{N};
 ghost use Rattle.psm_resolved.specs.RowValue.{listed};
 ghost use Rattle.psm_resolved.specs.Sort.{are_results, are_tests, function_of, given, goes_as, is_of, is_scale, letter_at, link_sort, linked, may_be, named, null_if, operated, sort_of, typed, when_sort, where_true};
+ghost use Rattle.psm_emit.specs.Queries.{letter_of_sort};
 ghost use Rattle.psm_emit.specs.Seen.{seen};
 
 use psm_exprcode::Letter;
@@ -48,6 +49,16 @@ impl Sort {
         ensures { result ≡ goes_as letter (seen self) }
     {
         self.given(letter).is(letter)
+    }
+
+    /// Its letter, or that of a number where it has none.
+    pub(crate) fn letter(self) -> Letter
+        ensures { result ≡ letter_of_sort (seen self) }
+    {
+        match self {
+            Sort::Wrong | Sort::Untyped => Letter::N,
+            Sort::Of(letter) => letter,
+        }
     }
 
     /// An operand that isn't NULL.

@@ -1,0 +1,6 @@
+use Rattle.psm_emit.specs.Queries.{ExprsAre, is_test}
+use Rattle.psm_emit.proofs.Lists.{Makes, Where}
+use Rattle.psm_emit.proofs.rows.tests.Given as goal
+
+abbrev pub invariant-loop-e : goal.invariant-loop-e
+invariant-loop-e l = Makes (Where (is_test l.columns l.variables) ExprsAre) l.e-items l.e-index l.codes.items
