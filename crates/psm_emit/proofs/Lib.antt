@@ -11,3 +11,4 @@ pub mod SortForms
 pub mod Goes
 pub mod Lists
 pub mod Codes
+pub mod ItemLetters

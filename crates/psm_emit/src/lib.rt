@@ -2,7 +2,10 @@
 #![tactic(auto)]
 
 mod around;
+mod knowing;
 mod known;
+mod letters;
+mod queries;
 mod rows;
 mod sorts;
 
