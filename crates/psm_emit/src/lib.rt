@@ -2,12 +2,14 @@
 #![tactic(auto)]
 
 mod around;
+mod changes;
 mod knowing;
 mod known;
 mod letters;
 mod queries;
 mod rows;
 mod sorts;
+mod tables;
 
 pub use around::Around;
 pub use known::Known;
