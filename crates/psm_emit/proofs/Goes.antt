@@ -1,5 +1,5 @@
 -- Which letters expressions are of, and the code of NULL, which is of any.
-use Rattle.std.proofs.Common.{◌≡◌, Bool, true, List, refl, sym, ◌∙◌}
+use Rattle.std.proofs.Common.{◌≡◌, true, List, refl}
 use Rattle.std.specs.Prelude.{IsTrue}
 use Rattle.psm_exprcode.specs.declared.op.Letter.{Letter}
 use Rattle.psm_exprcode.specs.declared.op.Letter.TheVariants.{N, T, B}

@@ -1,6 +1,6 @@
 -- The letters of the items of a query that takes the values of expressions.
-use Rattle.std.proofs.Common.{◌≡◌, List, [], ◌∷◌, Option, Some, None, refl, ap, sym, subst, ◌∙◌}
-use Rattle.std.specs.Prelude.{map, slice_get}
+use Rattle.std.proofs.Common.{◌≡◌, List, ap, sym, ◌∙◌}
+use Rattle.std.specs.Prelude.{map}
 use Rattle.psm_exprcode.specs.declared.op.Letter.{Letter}
 use Rattle.psm_resolved.specs.declared.expr.ResolvedExpr.{ResolvedExpr}
 use Rattle.psm_resolved.specs.declared.expr.ResolvedExpr.TheOpen as layers

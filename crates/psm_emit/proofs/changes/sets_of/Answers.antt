@@ -1,4 +1,4 @@
-use Rattle.std.proofs.Common.{◌≡◌, true, arith, sym}
+use Rattle.std.proofs.Common.{arith, sym}
 use Rattle.psm_emit.specs.Queries.{is_set}
 use Rattle.psm_emit.proofs.Codes.{sets_all, sets_next}
 use Rattle.psm_emit.proofs.changes.sets_of.Goals as goal

@@ -1,4 +1,4 @@
-use Rattle.std.proofs.Common.{◌≡◌, true, arith, sym}
+use Rattle.std.proofs.Common.{arith, sym}
 use Rattle.psm_emit.specs.Queries.{is_value_perhaps}
 use Rattle.psm_emit.proofs.Codes.{aggregates_all, aggregates_next}
 use Rattle.psm_emit.proofs.queries.aggregates.Goals as goal

@@ -1,4 +1,4 @@
-use Rattle.std.proofs.Common.{◌≡◌, arith, sym}
+use Rattle.std.proofs.Common.{arith, sym}
 use Rattle.psm_emit.proofs.Codes.{tables_all, tables_next}
 use Rattle.psm_emit.proofs.tables.tables_code.Goals as goal
 
