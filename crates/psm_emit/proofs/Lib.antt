@@ -12,3 +12,4 @@ pub mod Goes
 pub mod Lists
 pub mod Codes
 pub mod ItemLetters
+pub mod Stacks

@@ -10,6 +10,8 @@ mod queries;
 mod rows;
 mod sorts;
 mod tables;
+mod setting;
+mod writer;
 
 pub use around::Around;
 pub use known::Known;
