@@ -10,7 +10,9 @@ mod queries;
 mod rows;
 mod sorts;
 mod tables;
+mod operators;
 mod setting;
+mod sizes;
 mod writer;
 
 pub use around::Around;
