@@ -13,3 +13,5 @@ pub mod Lists
 pub mod Codes
 pub mod ItemLetters
 pub mod Stacks
+pub mod Ends
+pub mod Forms

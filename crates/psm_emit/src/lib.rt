@@ -3,6 +3,7 @@
 
 mod around;
 mod changes;
+mod exprs;
 mod knowing;
 mod known;
 mod letters;
