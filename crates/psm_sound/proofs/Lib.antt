@@ -16,3 +16,5 @@ pub mod Stepping
 pub mod Activating
 pub mod Sound
 pub mod Scripting
+pub mod Making
+pub mod Examples
