@@ -58,6 +58,16 @@ activation-sound e sound h n r there args l st s =
     let w = (calls sound (everywhere e.file sound h) e.routine e.shapes r (among-at e.file.routines n r there) args l).well st s in
     (over-is r (activated r args (meaning e.file h) st).given w.given, w.state)
 
+over-lacking : (r : ResolvedRoutine) (g : Given Ended) → IsOver r g → g ≢ Ends Lacking
+over-lacking r g h q = subst (IsOver r) q h
+
+-- from a script
+pub procedure-sound : (file : ResolvedFile) → IsSound file → (h n : ℕ) (r : ResolvedRoutine) → slice_get file.routines n ≡ Some r → (args : List Datum) → length args ≡ length (taken_by r.parameters) → (s : Standing) → AreFilled file.tables s.tables
+    → (activated r args (meaning file h) (at_command s)).given ≢ Ends Lacking
+procedure-sound file sound h n r there args l s f =
+    let w = activation-sound (outside file) sound h n r there args l (at_command s) (record { tables = f; variables = refl; cursors = tt }) in
+    over-lacking r (activated r args (meaning file h) (at_command s)).given w.0
+
 -- ---- commands
 
 -- what is kept from command to command fits the tables
