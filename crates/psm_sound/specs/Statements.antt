@@ -44,8 +44,8 @@ use Rattle.psm_sound.specs.Expressions.{AreExprs, IsExpr}
 
 -- ---- where a statement stands
 
--- the cursors that it sees; a number up to which no block around it that has handlers in scope counts; and the levels that LEAVE and
--- ITERATE may name
+-- the cursors that it sees; a number that is greater than the levels of all blocks whose handlers are in scope; and the levels that
+-- LEAVE and ITERATE may name
 pub record Sight : Type 0 where
   pub cursors : List ResolvedCursor
   pub bound : ℕ
