@@ -71,13 +71,20 @@ module _ {known : Known} {context resume : ℕ} where
       ∙ ap (λ i. puts context resume (instruction.CallFunction number) (length arguments) (i ∷ []) v) (l ∙ ap (letter_at known.results) r) in
       subst (λ x. Writes known context resume k e w x) (sym ends) (call function arguments q full)
 
-  pub scalar_written : {k : Letter} {w new : Written} (e : ResolvedExpr) (query query_seen : ResolvedQuery) → out-ResolvedExpr e ≡ layers.Scalar query → query_seen ≡ query
-      → (c : Query) × QueryMade known query_seen c × (new ≡ puts context resume (instruction.Scalar (length w.queries)) 0 (letter_at (item_letters known query_seen) 0 ∷ []) (with_query c w)) → Writes known context resume k e w new
-  scalar_written {k = k} {w = w} e query query_seen q s a = subst (λ x. Writes known context resume k e w x) (sym a.2) (scalar query_seen a.0 (q ∙ ap layers.Scalar (sym s)) a.1)
+  pub scalar_written : {k : Letter} {w asks new : Written} (e : ResolvedExpr) (query seen : ResolvedQuery) (number : ℕ) (letter : Letter) → out-ResolvedExpr e ≡ layers.Scalar query → seen ≡ query → number ≡ length w.queries
+      → (c : Query) × QueryMade known seen c × (asks ≡ with_query c w) → letter ≡ letter_at (item_letters known seen) 0 → new ≡ puts context resume (instruction.Scalar number) 0 (letter ∷ []) asks → Writes known context resume k e w new
+  scalar_written {k = k} {w = w} {asks = asks} {new = new} e query seen number letter q s m a l n =
+      let ends : new ≡ puts context resume (instruction.Scalar (length w.queries)) 0 (letter_at (item_letters known seen) 0 ∷ []) (with_query a.0 w) =
+      n ∙ ap (λ i. puts context resume (instruction.Scalar i) 0 (letter ∷ []) asks) m ∙ ap (λ i. puts context resume (instruction.Scalar (length w.queries)) 0 (i ∷ []) asks) l
+      ∙ ap (puts context resume (instruction.Scalar (length w.queries)) 0 (letter_at (item_letters known seen) 0 ∷ [])) a.2 in
+      subst (λ x. Writes known context resume k e w x) (sym ends) (scalar seen a.0 (q ∙ ap layers.Scalar (sym s)) a.1)
 
-  pub exists_written : {k : Letter} {w new : Written} (e : ResolvedExpr) (query query_seen : ResolvedQuery) → out-ResolvedExpr e ≡ layers.Exists query → query_seen ≡ query
-      → (c : Query) × QueryMade known query_seen c × (new ≡ puts context resume (instruction.Exists (length w.queries)) 0 (B ∷ []) (with_query c w)) → Writes known context resume k e w new
-  exists_written {k = k} {w = w} e query query_seen q s a = subst (λ x. Writes known context resume k e w x) (sym a.2) (exists query_seen a.0 (q ∙ ap layers.Exists (sym s)) a.1)
+  pub exists_written : {k : Letter} {w asks new : Written} (e : ResolvedExpr) (query seen : ResolvedQuery) (number : ℕ) → out-ResolvedExpr e ≡ layers.Exists query → seen ≡ query → number ≡ length w.queries
+      → (c : Query) × QueryMade known seen c × (asks ≡ with_query c w) → new ≡ puts context resume (instruction.Exists number) 0 (B ∷ []) asks → Writes known context resume k e w new
+  exists_written {k = k} {w = w} {asks = asks} {new = new} e query seen number q s m a n =
+      let ends : new ≡ puts context resume (instruction.Exists (length w.queries)) 0 (B ∷ []) (with_query a.0 w) =
+      n ∙ ap (λ i. puts context resume (instruction.Exists i) 0 (B ∷ []) asks) m ∙ ap (puts context resume (instruction.Exists (length w.queries)) 0 (B ∷ [])) a.2 in
+      subst (λ x. Writes known context resume k e w x) (sym ends) (exists seen a.0 (q ∙ ap layers.Exists (sym s)) a.1)
 
   -- ---- ELSE
 

@@ -1,11 +1,9 @@
 //! The lines of an expression outside of rows.
 ghost use Rattle.std.specs.Prelude.{◌≡◌, [], ◌∷◌, length, suc, IfOk};
-ghost use Rattle.psm_exprcode.specs.declared.op.Letter.TheVariants.{B};
 ghost use Rattle.psm_exprcode.specs.declared.query.Query.{Query};
-ghost use Rattle.psm_code.specs.declared.instruction.Instruction.TheVariants as instruction;
 ghost use Rattle.psm_resolved.specs.RowValue.{listed};
-ghost use Rattle.psm_emit.specs.Queries.{QueryMade, item_letters as letters_of};
-ghost use Rattle.psm_emit.specs.Written.{letter_at as letter_there, puts, with_query};
+ghost use Rattle.psm_emit.specs.Queries.{QueryMade};
+ghost use Rattle.psm_emit.specs.Written.{with_query};
 ghost use Rattle.psm_emit.specs.Exprs.{Arguments, Compares, Firsts, Joins, Links, Otherwise, Whens, Writes, WritesAll};
 
 use crate::letters::first_letter;
@@ -52,8 +50,29 @@ pub(crate) fn expr(
                 letter,
             )
         }
-        ResolvedExpr::Scalar(query) => scalar(out, setting, query.get()),
-        ResolvedExpr::Exists(query) => exists(out, setting, query.get()),
+        ResolvedExpr::Scalar(query) => {
+            let query = query.get();
+            let number = asked(out, setting, query)?;
+            let letter = first_letter(setting.known, query);
+            out.put(
+                setting.context,
+                setting.resume,
+                Instruction::Scalar(number),
+                0,
+                letter,
+            )
+        }
+        ResolvedExpr::Exists(query) => {
+            let query = query.get();
+            let number = asked(out, setting, query)?;
+            out.put(
+                setting.context,
+                setting.resume,
+                Instruction::Exists(number),
+                0,
+                Letter::B,
+            )
+        }
         ResolvedExpr::Number(value) => {
             let value = Datum::Num(*value);
             out.applied(
@@ -295,37 +314,15 @@ pub(crate) fn expr(
     }
 }
 
-/// Writes the value of a query.
-fn scalar(out: &mut Writer, setting: Setting<'_>, query: &ResolvedQuery) -> Result<(), AllocError>
-    ensures { IfOk result (λ _. (code : Query) × QueryMade setting.entry.known.now query.now code × (out.new ≡ puts setting.entry.context setting.entry.resume (instruction.Scalar (length out.old.queries)) 0 (letter_there (letters_of setting.entry.known.now query.now) 0 ∷ []) (with_query code out.old))) }
+/// Puts a query behind those that there are, and gives its number back.
+fn asked(out: &mut Writer, setting: Setting<'_>, query: &ResolvedQuery) -> Result<u32, AllocError>
+    ensures number { IfOk result (λ number. number ≡ length out.old.queries) }
+    ensures made { IfOk result (λ _. (code : Query) × QueryMade setting.entry.known.now query.now code × (out.new ≡ with_query code out.old)) }
 {
     let number = out.query_count()?;
     let code = query_code(setting.alloc, setting.known, query)?;
     out.with_query(code)?;
-    let letter = first_letter(setting.known, query);
-    out.put(
-        setting.context,
-        setting.resume,
-        Instruction::Scalar(number),
-        0,
-        letter,
-    )
-}
-
-/// Writes whether a query has a row.
-fn exists(out: &mut Writer, setting: Setting<'_>, query: &ResolvedQuery) -> Result<(), AllocError>
-    ensures { IfOk result (λ _. (code : Query) × QueryMade setting.entry.known.now query.now code × (out.new ≡ puts setting.entry.context setting.entry.resume (instruction.Exists (length out.old.queries)) 0 (B ∷ []) (with_query code out.old))) }
-{
-    let number = out.query_count()?;
-    let code = query_code(setting.alloc, setting.known, query)?;
-    out.with_query(code)?;
-    out.put(
-        setting.context,
-        setting.resume,
-        Instruction::Exists(number),
-        0,
-        Letter::B,
-    )
+    Ok(number)
 }
 
 /// Writes an operand.

@@ -7,13 +7,13 @@ mod exprs;
 mod knowing;
 mod known;
 mod letters;
+mod operators;
 mod queries;
 mod rows;
-mod sorts;
-mod tables;
-mod operators;
 mod setting;
 mod sizes;
+mod sorts;
+mod tables;
 mod writer;
 
 pub use around::Around;

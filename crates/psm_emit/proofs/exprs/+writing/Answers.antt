@@ -22,11 +22,11 @@ expr-returns-in-Null t c = ok_as c.applied.result (λ a. null_written c.args.e.n
 pub expr-returns-in-Column : goal.expr-returns-in-Column
 expr-returns-in-Column t c = ok_as c.applied-in-Column.result (λ a. column_written c.args.e.now c.in-Column.field-0 (ap out-ResolvedExpr c.in-Column.is ∙ exprs.outs-Column c.in-Column.field-0) a) c.applied-in-Column.ensures
 
-pub expr-returns-in-Scalar : goal.expr-returns-in-Scalar
-expr-returns-in-Scalar t c = ok_as c.scalar.result (λ a. scalar_written c.args.e.now c.in-Scalar.query c.get.result.now (ap out-ResolvedExpr c.in-Scalar.is ∙ exprs.outs-Scalar c.in-Scalar.query) c.get.ensures a) c.scalar.ensures
+pub expr-returns-in_ok-number-in-Scalar : goal.expr-returns-in_ok-number-in-Scalar
+expr-returns-in_ok-number-in-Scalar t c = ok_as c.put.result (λ a. scalar_written c.args.e.now c.in-Scalar.query c.get-query.result.now c.in_ok-number-in-Scalar.number c.first_letter-letter.result (ap out-ResolvedExpr c.in-Scalar.is ∙ exprs.outs-Scalar c.in-Scalar.query) c.get-query.ensures c.in_ok-number-in-Scalar.ensures.number c.in_ok-number-in-Scalar.ensures.made c.first_letter-letter.ensures a) c.put.ensures
 
-pub expr-returns-in-Exists : goal.expr-returns-in-Exists
-expr-returns-in-Exists t c = ok_as c.exists.result (λ a. exists_written c.args.e.now c.in-Exists.query c.get-in-Exists.result.now (ap out-ResolvedExpr c.in-Exists.is ∙ exprs.outs-Exists c.in-Exists.query) c.get-in-Exists.ensures a) c.exists.ensures
+pub expr-returns-in_ok-number-in-Exists : goal.expr-returns-in_ok-number-in-Exists
+expr-returns-in_ok-number-in-Exists t c = ok_as c.put-in-Exists.result (λ a. exists_written c.args.e.now c.in-Exists.query c.get-query-in-Exists.result.now c.in_ok-number-in-Exists.number (ap out-ResolvedExpr c.in-Exists.is ∙ exprs.outs-Exists c.in-Exists.query) c.get-query-in-Exists.ensures c.in_ok-number-in-Exists.ensures.number c.in_ok-number-in-Exists.ensures.made a) c.put-in-Exists.ensures
 
 pub expr-returns-in-Number : goal.expr-returns-in-Number
 expr-returns-in-Number t c = straight_written c.args.letter c.args.e.now (layers.Number c.in-Number.value) c.applied-in-Number.new.self c.applied-in-Number.result (ap out-ResolvedExpr c.in-Number.is ∙ exprs.outs-Number c.in-Number.value) refl none c.applied-in-Number.ensures
@@ -93,7 +93,7 @@ pub expr-returns-in_ok-part-in-Chain : goal.expr-returns-in_ok-part-in-Chain
 expr-returns-in_ok-part-in-Chain t c = ok_as c.linked.result (λ a. chain c.in-Chain.first c.in-Chain.links (ap out-ResolvedExpr c.in-Chain.is ∙ exprs.outs-Chain c.in-Chain.first c.in-Chain.links) c.in_ok-part-in-Chain.ensures a) c.linked.ensures
 
 pub expr-returns-in_ok-arguments-in-Call : goal.expr-returns-in_ok-arguments-in-Call
-expr-returns-in_ok-arguments-in-Call t c = ok_as c.put.result (λ a. call_written c.args.e.now c.in-Call.function c.number_at-routine.result c.in-Call.list c.letters_at-letters.result.now _ c.letter_at-letter-in-Call.result (ap out-ResolvedExpr c.in-Call.is ∙ exprs.outs-Call c.in-Call.function c.in-Call.list) (c.number_at-routine.ensures ∙ ap (λ ns. number_at (slice_get ns c.in-Call.function)) c.items-in-Call.ensures) (c.letters_at-letters.ensures ∙ ap (λ ls. letters_at ls c.number_at-routine.result) c.items-in-Call-2.ensures) (c.letter_at-letter-in-Call.ensures ∙ ap (λ ks. letter_at ks c.number_at-routine.result) c.items-in-Call-3.ensures) (ap length c.items-takes.ensures) c.in_ok-arguments-in-Call.ensures a) c.put.ensures
+expr-returns-in_ok-arguments-in-Call t c = ok_as c.put-in-Call.result (λ a. call_written c.args.e.now c.in-Call.function c.number_at-routine.result c.in-Call.list c.letters_at-letters.result.now _ c.letter_at-letter-in-Call.result (ap out-ResolvedExpr c.in-Call.is ∙ exprs.outs-Call c.in-Call.function c.in-Call.list) (c.number_at-routine.ensures ∙ ap (λ ns. number_at (slice_get ns c.in-Call.function)) c.items-in-Call.ensures) (c.letters_at-letters.ensures ∙ ap (λ ls. letters_at ls c.number_at-routine.result) c.items-in-Call-2.ensures) (c.letter_at-letter-in-Call.ensures ∙ ap (λ ks. letter_at ks c.number_at-routine.result) c.items-in-Call-3.ensures) (ap length c.items-takes.ensures) c.in_ok-arguments-in-Call.ensures a) c.put-in-Call.ensures
 
 pub expr-returns-in_ok-alternative-in-None-operand : goal.expr-returns-in_ok-alternative-in-None-operand
 expr-returns-in_ok-alternative-in-None-operand t c = ok_as c.rescale.result (λ a. searched_written {w = c.args.out.now} c.args.e.now c.in-Case.whens c.in-Case.otherwise c.in-Case.scale c.in_ok-end-in-None-operand.end c.letter_of_results-letter.result (ap out-ResolvedExpr (c.in-Case.is ∙ ap (λ o. exprs.Case o c.in-Case.whens c.in-Case.otherwise c.in-Case.scale) c.in-None-operand.is) ∙ exprs.outs-Case None c.in-Case.whens c.in-Case.otherwise c.in-Case.scale) c.letter_of_results-letter.ensures (omega (arith, c.in_ok-end-in-None-operand.ensures, c.in_ok-tested-in-None-operand.ensures, c.in_ok-start-in-None-operand.ensures)) c.in_ok-searched-in-None-operand.ensures c.in_ok-alternative-in-None-operand.ensures a) c.rescale.ensures
