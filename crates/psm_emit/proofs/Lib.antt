@@ -15,3 +15,4 @@ pub mod ItemLetters
 pub mod Stacks
 pub mod Ends
 pub mod Forms
+pub mod GrowthSimples

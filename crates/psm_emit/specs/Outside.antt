@@ -12,6 +12,9 @@ use Rattle.psm_resolved.specs.declared.expr.ResolvedWhen.{ResolvedWhen, out-Reso
 use Rattle.psm_resolved.specs.declared.file.ResolvedFile.{ResolvedFile}
 use Rattle.psm_resolved.specs.declared.file.ResolvedRoutine.{ResolvedRoutine}
 use Rattle.psm_resolved.specs.declared.file.ResolvedTable.{ResolvedTable}
+use Rattle.psm_resolved.specs.declared.statement.ResolvedArgument.{ResolvedArgument}
+use Rattle.psm_resolved.specs.declared.statement.ResolvedArgument.TheVariants as arguments
+use Rattle.psm_resolved.specs.declared.statement.ResolvedDeclaration.{ResolvedDeclaration}
 use Rattle.psm_resolved.specs.RowValue.{listed}
 use Rattle.psm_meaning.specs.Calls.{function_at}
 use Rattle.psm_lower.specs.Expressions.{Layer, is_straight, operands_of, wants}
@@ -56,6 +59,25 @@ mutual
   pub data WhensOutside (file : ResolvedFile) (known : Known) : List ResolvedWhen → Type 0 where
     no_when : WhensOutside file known []
     when : {x : ResolvedWhen} {xs : List ResolvedWhen} → Outside file known (out-ResolvedWhen x).test → Outside file known (out-ResolvedWhen x).result → WhensOutside file known xs → WhensOutside file known (x ∷ xs)
+
+-- ---- parts of statements
+
+abbrev pub DefaultsOutside : ResolvedFile → Known → List ResolvedDeclaration → Type 0
+DefaultsOutside file known [] = Unit {0}
+DefaultsOutside file known (x ∷ xs) = PerhapsOutside file known x.default × DefaultsOutside file known xs
+
+abbrev pub ArgumentsOutside : ResolvedFile → Known → List ResolvedArgument → Type 0
+ArgumentsOutside file known [] = Unit {0}
+ArgumentsOutside file known (arguments.In e ∷ others) = Outside file known e × ArgumentsOutside file known others
+ArgumentsOutside file known (arguments.Out slot ∷ others) = ArgumentsOutside file known others
+ArgumentsOutside file known (arguments.InOut slot ∷ others) = ArgumentsOutside file known others
+
+-- rows of so many values
+abbrev pub RowsOutside : ResolvedFile → Known → ℕ → List (List ResolvedExpr) → Type 0
+RowsOutside file known width [] = Unit {0}
+RowsOutside file known width (es ∷ rows) = (length es ≡ width) × AllOutside file known es × RowsOutside file known width rows
+
+-- ---- tables
 
 -- the CHECKs of each table are conditions over its columns
 abbrev pub ChecksAreTests : ResolvedFile → Type 0
