@@ -16,3 +16,4 @@ pub mod Stacks
 pub mod Ends
 pub mod Forms
 pub mod GrowthSimples
+pub mod StandingSimples
