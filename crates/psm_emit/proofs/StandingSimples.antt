@@ -1,5 +1,5 @@
 -- The lines that are written for parts of simple statements stand for them.
-use Rattle.std.proofs.Common.{◌≡◌, ℕ, suc, List, [], ◌∷◌, Option, ap, sym, refl, ◌∙◌, subst}
+use Rattle.std.proofs.Common.{◌≡◌, ℕ, suc, List, [], ◌∷◌, Option, Some, ap, sym, refl, ◌∙◌, subst}
 use Rattle.psm_cond.specs.declared.item.ConditionItem.{ConditionItem}
 use Rattle.psm_cond.specs.declared.item.StatementItem.{StatementItem}
 use Rattle.psm_value.specs.declared.datum.Datum.TheVariants as data_of
@@ -13,21 +13,23 @@ use Rattle.psm_code.specs.declared.instruction.Instruction.TheVariants as instru
 use Rattle.psm_code.specs.Instructions.{condition_letter, statement_letter}
 use Rattle.psm_resolved.specs.declared.expr.ResolvedExpr.{ResolvedExpr}
 use Rattle.psm_resolved.specs.declared.file.ResolvedFile.{ResolvedFile}
+use Rattle.psm_resolved.specs.declared.file.ResolvedRoutine.{ResolvedRoutine}
 use Rattle.psm_resolved.specs.declared.statement.ResolvedArgument.{ResolvedArgument}
 use Rattle.psm_resolved.specs.declared.statement.ResolvedDeclaration.{ResolvedDeclaration}
+use Rattle.psm_meaning.specs.Calls.{procedure_at}
 use Rattle.psm_lower.specs.Changes.{PutsRows}
 use Rattle.psm_lower.specs.Env.{Raising}
 use Rattle.psm_lower.specs.Scheme as stands
 use Rattle.psm_emit.specs.declared.known.Known.{Known}
 use Rattle.psm_emit.specs.Outside.{ArgumentsOutside, DefaultsOutside, PerhapsOutside, RowsOutside}
-use Rattle.psm_emit.specs.Simples.{CallArguments, Declares, Default, Signals, WritesRows, condition_items, copied, item_stored, statement_items, stored}
+use Rattle.psm_emit.specs.Simples.{CallArguments, Declares, Default, Signals, WritesRows, condition_items, copied, item_stored, procedure_number, statement_items, stored}
 use Rattle.psm_emit.specs.Simples as written
 use Rattle.psm_emit.specs.Written.{Written, applied, here, last_letter, letter_at, puts, takes}
 use Rattle.psm_emit.specs.Writing.{Begins}
 use Rattle.psm_emit.proofs.Counts.{here-applied, here-puts, here-takes}
 use Rattle.psm_emit.proofs.Growth.{begins-earlier, grows-takes}
 use Rattle.psm_emit.proofs.GrowthSimples.{grows-call, grows-condition_items, grows-copied, grows-declares, grows-item_stored, grows-rows, grows-statement_items, grows-stored}
-use Rattle.psm_emit.proofs.Numbers.{AreFunctions}
+use Rattle.psm_emit.proofs.Numbers.{AreFunctions, AreProcedures}
 use Rattle.psm_emit.proofs.Outsides.{of_just}
 use Rattle.psm_emit.proofs.Standing.{arguments_written, puts_written}
 use Rattle.psm_emit.proofs.There.{raising_there}
@@ -95,6 +97,14 @@ condition_items_stand context resume i (j ∷ items) w {r} b =
     subst (λ n. Raising r context resume n (instruction.ConditionItem i.1)) one item.0,
     subst (λ n. Raising r context resume (suc n) (instruction.Store i.0)) one item.1,
     subst (λ n. stands.ConditionItems r context resume j items n (here end)) (sym item.2 ∙ ap (λ n. suc (suc n)) one) (condition_items_stand context resume j items next b))
+
+-- ---- CALL
+
+pub procedure_stands : (file : ResolvedFile) (known : Known) → AreProcedures file known → (procedure : ℕ) (args : List ResolvedArgument) (routine : ResolvedRoutine) → procedure_at file procedure ≡ Some routine
+    → stands.AreFor args routine.parameters → stands.IsProcedure file procedure (procedure_number known procedure) args
+procedure_stands file known procedures procedure args routine q are =
+    let at = procedures procedure routine q in
+    (q ∙ sym at, subst (stands.AreForRoutine args) (sym at) are)
 
 -- ---- parts with expressions
 
