@@ -17,3 +17,5 @@ pub mod Ends
 pub mod Forms
 pub mod GrowthSimples
 pub mod StandingSimples
+pub mod FileKnowns
+pub mod Gathers

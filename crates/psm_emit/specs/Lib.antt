@@ -10,3 +10,4 @@ pub mod Parts
 pub mod Simples
 pub mod Statements
 pub mod Files
+pub mod FileKnown

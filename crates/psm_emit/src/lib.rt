@@ -9,6 +9,7 @@ mod known;
 mod letters;
 mod operators;
 mod queries;
+mod routines;
 mod rows;
 mod setting;
 mod sizes;
