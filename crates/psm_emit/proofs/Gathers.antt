@@ -1,34 +1,16 @@
 -- Numbers of routines and letters of parameters, one after another.
-use Rattle.std.proofs.Common.{◌≡◌, ℕ, suc, ◌+◌, ◌<◌, Bool, true, false, List, [], ◌∷◌, ◌++◌, length, get_or, drop, append_assoc, refl, ap, sym, arith, ◌∙◌}
+use Rattle.std.proofs.Common.{◌≡◌, ℕ, ◌+◌, ◌<◌, Bool, List, [], ◌∷◌, ◌++◌, length, get_or, drop, append_assoc, ap, sym, ◌∙◌}
 use Rattle.std.specs.Prelude.{filter, map}
 use Rattle.std.proofs.Math.Seq.{drop-length}
 use Rattle.std.proofs.lemmas.List.{append-nil, map-append}
 use Rattle.std.proofs.lemmas.List.Elements.{filter-append}
 use Rattle.psm_resolved.specs.declared.file.ResolvedRoutine.{ResolvedRoutine}
 use Rattle.psm_tablecode.proofs.Collecting.{first_of}
-use Rattle.psm_emit.specs.Files.{numbers_of, with_number}
-
-number_split : (b : Bool) (n : ℕ) (ns : List ℕ) → with_number b n ns ≡ with_number b n [] ++ ns
-number_split true n ns = refl
-number_split false n ns = refl
+use Rattle.psm_emit.specs.Files.{numbers_of}
 
 -- with those that are there, the numbers from a place on are all
 abbrev pub Numbers : (ResolvedRoutine → Bool) → List ResolvedRoutine → ℕ → List ℕ → Type 0
 Numbers test rs at done = done ++ numbers_of test at (drop at rs) ≡ numbers_of test 0 rs
-
-pub numbers_next : (test : ResolvedRoutine → Bool) (rs : List ResolvedRoutine) (at : ℕ) (r : ResolvedRoutine) (done next : List ℕ)
-    → at < length rs → r ≡ get_or rs at r → next ≡ done ++ with_number (test r) at [] → Numbers test rs at done → Numbers test rs (at + 1) next
-numbers_next test rs at r done next l e n h =
-    let s : at + 1 ≡ suc at = omega arith in
-    ap (λ ns. ns ++ numbers_of test (at + 1) (drop (at + 1) rs)) n ∙ append_assoc done (with_number (test r) at []) (numbers_of test (at + 1) (drop (at + 1) rs))
-    ∙ ap (λ ns. done ++ ns) (sym (number_split (test r) at (numbers_of test (at + 1) (drop (at + 1) rs))))
-    ∙ ap (λ k. done ++ with_number (test r) at (numbers_of test k (drop (at + 1) rs))) s
-    ∙ sym (ap (λ qs. done ++ numbers_of test at qs) (first_of rs at r l e)) ∙ h
-
-pub numbers_all : (test : ResolvedRoutine → Bool) (rs all : List ResolvedRoutine) (at : ℕ) (done result : List ℕ)
-    → all ≡ rs → at ≡ length rs → result ≡ done → Numbers test rs at done → result ≡ numbers_of test 0 all
-numbers_all test rs all at done result e n r h =
-    r ∙ sym (append-nil done) ∙ ap (λ qs. done ++ numbers_of test at qs) (sym (ap (λ k. drop k rs) n ∙ drop-length rs)) ∙ h ∙ ap (numbers_of test 0) (sym e)
 
 -- the same of what is made of those that pass a test
 abbrev pub Picks : {A B : Type 0} → (A → Bool) → (A → B) → List A → ℕ → List B → Type 0

@@ -1,6 +1,5 @@
 -- What is known of a file alone, and how what is known of one of its routines comes of it.
-use Rattle.std.specs.Prelude.{Bool, true, false, List, [], map, not}
-use Rattle.psm_exprcode.specs.declared.op.Letter.{Letter}
+use Rattle.std.specs.Prelude.{Bool, true, false, [], map, not}
 use Rattle.psm_exprcode.specs.declared.op.Letter.TheVariants.{N}
 use Rattle.psm_exprcode.specs.Kinds.{letter_of}
 use Rattle.psm_resolved.specs.declared.file.ParameterMode.{ParameterMode}
