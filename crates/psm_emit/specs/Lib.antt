@@ -11,3 +11,4 @@ pub mod Simples
 pub mod Statements
 pub mod Files
 pub mod FileKnown
+pub mod Standing
