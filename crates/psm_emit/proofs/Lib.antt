@@ -19,3 +19,5 @@ pub mod GrowthSimples
 pub mod StandingSimples
 pub mod FileKnowns
 pub mod Gathers
+pub mod Growing
+pub mod GrowingAll
