@@ -21,3 +21,4 @@ pub mod FileKnowns
 pub mod Gathers
 pub mod Growing
 pub mod GrowingAll
+pub mod Numbering
