@@ -22,3 +22,5 @@ pub mod Gathers
 pub mod Growing
 pub mod GrowingAll
 pub mod Numbering
+pub mod Placing
+pub mod Scoping
