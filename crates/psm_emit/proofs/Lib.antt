@@ -24,3 +24,5 @@ pub mod GrowingAll
 pub mod Numbering
 pub mod Placing
 pub mod Scoping
+pub mod Fitting
+pub mod BlocksStand
