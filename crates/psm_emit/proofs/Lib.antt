@@ -26,3 +26,4 @@ pub mod Placing
 pub mod Scoping
 pub mod Fitting
 pub mod BlocksStand
+pub mod SimplesStand
