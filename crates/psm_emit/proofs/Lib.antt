@@ -27,3 +27,4 @@ pub mod Scoping
 pub mod Fitting
 pub mod BlocksStand
 pub mod SimplesStand
+pub mod StatementsStand
