@@ -28,3 +28,4 @@ pub mod Fitting
 pub mod BlocksStand
 pub mod SimplesStand
 pub mod StatementsStand
+pub mod FilesStand
