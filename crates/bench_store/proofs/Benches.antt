@@ -15,6 +15,7 @@ use Rattle.psm_value.specs.declared.datum.Datum.{Datum}
 use Rattle.psm_value.specs.declared.datum.Datum.TheVariants as data_of
 use Rattle.psm_table.specs.declared.definition.TableDef.{TableDef}
 use Rattle.psm_table.specs.Changing.{inserted, updated, Changed, Failure, IsLegal}
+use Rattle.psm_table.specs.Definition.{HasColumns}
 use Rattle.psm_table.specs.Table.{Contents}
 use Rattle.psm_table.proofs.Legal.{legal_inserted, legal_updated}
 use Rattle.psm_store.specs.Marks.{defs_of, most_marks}
@@ -103,8 +104,8 @@ module _ (w : Work) where
   whole_pair : (def : TableDef) → Fits w def → (row : List Datum) → IsPair row → IsWhole def row
   whole_pair def f row pair = let r = row_fits def row f.pairs pair in record { long = r.long; families = r.families }
 
-  pub pair_there : (row : List Datum) → IsPair row → (tables : List Contents) → IsBench w tables → IfSome (slice_get tables 0) (λ c. All (IsWhole c.def) (row ∷ []))
-  pair_there row pair = said (λ c. All (IsWhole c.def) (row ∷ [])) (λ c f l. All-cons (IsWhole c.def) row [] (whole_pair c.def f row pair) (All-nil (IsWhole c.def)))
+  pub pair_there : (row : List Datum) → IsPair row → (tables : List Contents) → IsBench w tables → IfSome (slice_get tables 0) (λ c. All (HasColumns c.def) (row ∷ []))
+  pair_there row pair = said (λ c. All (HasColumns c.def) (row ∷ [])) (λ c f l. All-cons (HasColumns c.def) row [] (whole_pair c.def f row pair).long (All-nil (HasColumns c.def)))
 
   -- ---- what is left
 

@@ -18,7 +18,7 @@ use Rattle.psm_value.specs.declared.sqltype.SqlType.{SqlType}
 use Rattle.psm_value.specs.SqlType.{is_number_type, IsOfFamily}
 use Rattle.psm_table.specs.declared.definition.Column.{Column}
 use Rattle.psm_table.specs.declared.definition.TableDef.{TableDef}
-use Rattle.psm_table.specs.Definition.{kinds_of, AreOfFamilies}
+use Rattle.psm_table.specs.Definition.{kinds_of, AreOfFamilies, HasColumns}
 use Rattle.psm_table.proofs.Rules.{first_true, second_true}
 use Rattle.psm_tablecode.specs.Suits.{fits_query, gives_truth, letters_of, SuitsTable}
 use Rattle.psm_dml.specs.Rows.{IsWhole}
@@ -44,8 +44,8 @@ whole_from def row e = record {
   families = families_from def.columns row (second_true (nat_eq (length row) (length def.columns)) (list_all (λ p. is_of p.0.kind p.1) (zip def.columns row)) e);
 }
 
-pub wholes_from : (def : TableDef) (rows : List (List Datum)) → list_all (is_whole_row def) rows ≡ true → All (IsWhole def) rows
-wholes_from def rows e = λ k d l. whole_from def (get_or rows k d) (AllPass-from_list_all (is_whole_row def) rows e k d l)
+pub wholes_from : (def : TableDef) (rows : List (List Datum)) → list_all (is_whole_row def) rows ≡ true → All (HasColumns def) rows
+wholes_from def rows e = λ k d l. (whole_from def (get_or rows k d) (AllPass-from_list_all (is_whole_row def) rows e k d l)).long
 
 -- ---- code that fits the letters of the columns
 

@@ -1,10 +1,9 @@
 //! Tests of what a statement asks for before it is carried out.
 ghost use Rattle.std.specs.Prelude.{◌≡◌, true, All, OnOk};
 ghost use Rattle.std.specs.Option.{option_copied, option_map_or};
-ghost use Rattle.psm_table.specs.Definition.{IsKey};
+ghost use Rattle.psm_table.specs.Definition.{HasColumns, IsKey};
 ghost use Rattle.psm_table.specs.Table.{IsTable};
 ghost use Rattle.psm_tablecode.specs.Suits.{gives_truth as gives_truth_code, SuitsTable};
-ghost use Rattle.psm_dml.specs.Rows.{IsWhole};
 ghost use Rattle.psm_dml.specs.Suits.{SuitChecks, SuitSets, SuitsTest};
 
 use crate::fault::Fault;
@@ -94,7 +93,7 @@ pub fn demand_query(
 
 /// Demands that each row has a value for each column, of its family.
 pub fn demand_rows(table: &Table, rows: &[Row]) -> Result<(), Fault>
-    ensures { OnOk result (All (IsWhole table.now.contents.def) rows.now) }
+    ensures { OnOk result (All (HasColumns table.now.contents.def) rows.now) }
 {
     if are_whole(table.def(), rows) {
         Ok(())

@@ -13,7 +13,7 @@ use Rattle.psm_value.proofs.Stable.{stored-of_family}
 use Rattle.psm_table.specs.declared.definition.Column.{Column}
 use Rattle.psm_table.specs.declared.definition.TableDef.{TableDef}
 use Rattle.psm_table.specs.Changing.{stored_row, stored_rows}
-use Rattle.psm_table.specs.Definition.{kinds_of, AreOfFamilies}
+use Rattle.psm_table.specs.Definition.{kinds_of, AreOfFamilies, HasColumns}
 use Rattle.psm_table.specs.Evaluator.{and_then, collected, mapped}
 use Rattle.psm_dml.specs.Rows.{IsWhole}
 
@@ -63,12 +63,12 @@ all_step def row rows rs (Ok r) (Err u) l s h f = cc
 all_step def row rows rs (Err u) rest l s h f = cc
 
 -- the rows that are stored are whole, and as many
-pub are_stored : (def : TableDef) (rows rs : List Row) → All (IsWhole def) rows → stored_rows (kinds_of def.columns) rows ≡ Ok rs → AreStored def rows rs
+pub are_stored : (def : TableDef) (rows rs : List Row) → All (HasColumns def) rows → stored_rows (kinds_of def.columns) rows ≡ Ok rs → AreStored def rows rs
 are_stored def [] rs h e = let same : [] ≡ rs = cc in subst (AreStored def []) same (record { long = refl; whole = All-nil (IsWhole def) })
 are_stored def (row ∷ rows) rs h e =
-    let first : IsWhole def row = All-head (IsWhole def) row rows h in
-    all_step def row rows rs (stored_row (kinds_of def.columns) row) (stored_rows (kinds_of def.columns) rows) first.long refl
-    (λ more f. are_stored def rows more (All-tail (IsWhole def) row rows h) f) e
+    let first : HasColumns def row = All-head (HasColumns def) row rows h in
+    all_step def row rows rs (stored_row (kinds_of def.columns) row) (stored_rows (kinds_of def.columns) rows) first refl
+    (λ more f. are_stored def rows more (All-tail (HasColumns def) row rows h) f) e
 
 -- the type of a column
 pub type_at : (columns : List Column) (i : ℕ) (c : Column) → All IsType (kinds_of columns) → i < length columns → c ≡ get_or columns i c → IsType c.kind

@@ -1,10 +1,10 @@
 //! INSERT (ISO/IEC 9075:1992, 13.8).
 ghost use Rattle.std.specs.Prelude.{◌≡◌, ◌<◌, [], All, IfSome, length, slice_get};
 ghost use Rattle.psm_table.specs.Changing.{inserted, IsLegal};
+ghost use Rattle.psm_table.specs.Definition.{HasColumns};
 ghost use Rattle.psm_store.specs.Marks.{AnyMark, Keeps, most_marks};
 ghost use Rattle.psm_tablecode.specs.Codes.{over};
 ghost use Rattle.psm_dml.specs.Ends.{schema_of, Ends};
-ghost use Rattle.psm_dml.specs.Rows.{IsWhole};
 ghost use Rattle.psm_dml.specs.Suits.{SuitChecks};
 
 use crate::ending::{at_table, finish};
@@ -26,7 +26,7 @@ const MOST_ROWS: u32 = 200_000;
 /// and where memory runs out, the tables are as before.
 ///
 /// The table has to be there and to be legal for the CHECKs, and these have to fit its columns. A row has a value for each
-/// column, of its family, which isn't stored yet. Marks stay as they are; fewer than 2^100 have to be open.
+/// column, which isn't stored yet. Marks stay as they are; fewer than 2^100 have to be open.
 pub fn insert<S: Store>(
     alloc: Global,
     store: &mut S,
@@ -37,7 +37,7 @@ pub fn insert<S: Store>(
     requires exists { t < length (S.tables store.old) }
     requires suits { IfSome (slice_get (S.tables store.old) t) (λ c. SuitChecks checks.now c.def) }
     requires legal { IfSome (slice_get (S.tables store.old) t) (λ c. IsLegal (over []) (schema_of c.def checks.now) c.rows) }
-    requires rows { IfSome (slice_get (S.tables store.old) t) (λ c. All (IsWhole c.def) rows.items) }
+    requires rows { IfSome (slice_get (S.tables store.old) t) (λ c. All (HasColumns c.def) rows.items) }
     requires room { S.marks store.old < most_marks }
     ensures answer { IfSome (slice_get (S.tables store.old) t) (λ c. Ends c (inserted (over []) (schema_of c.def checks.now) rows.items c.rows) (S.tables store.old) t (S.tables store.new) result) }
     ensures marks { S.marks store.new ≡ S.marks store.old }

@@ -4,7 +4,7 @@ use Rattle.psm_value.specs.declared.datum.Datum.{Datum}
 use Rattle.psm_table.specs.declared.definition.Column.{Column}
 use Rattle.psm_table.specs.declared.definition.TableDef.{TableDef}
 use Rattle.psm_table.specs.Changing as changing_of
-use Rattle.psm_table.specs.Definition.{kinds_of}
+use Rattle.psm_table.specs.Definition.{kinds_of, HasColumns}
 use Rattle.psm_table.specs.Table.{Contents}
 use Rattle.psm_dml.specs.Rows.{IsWhole}
 use Rattle.psm_dml.proofs.Finished.{said, there}
@@ -15,7 +15,7 @@ pub finish-requires-clause-rows : goal.finish-requires-clause-rows
 finish-requires-clause-rows g c =
     let t : Contents = c.table-table.result.now.contents in
     let old : List Contents = g.S.Store.tables c.args.store.now in
-    let rows = there (λ x. All (IsWhole x.def) c.args.rows.items) (slice_get old c.args.t) t c.table-table.ensures c.requires.rows in
+    let rows = there (λ x. All (HasColumns x.def) c.args.rows.items) (slice_get old c.args.t) t c.table-table.ensures c.requires.rows in
     let columns : c.items.result.now ≡ t.def.columns = c.items.ensures ∙ ap (λ (d : TableDef). d.columns) c.def.ensures.value in
     let stored : changing_of.stored_rows (kinds_of t.def.columns) c.args.rows.items ≡ Ok c.in-Ok.rows =
     ap (λ (l : List (List Datum)). changing_of.stored_rows (kinds_of t.def.columns) l) (sym c.as_slice.ensures.value)
