@@ -1,4 +1,5 @@
 pub mod Acting
+pub mod Asking
 pub mod Comings
 pub mod Exiting
 pub mod Marking

@@ -1,2 +1,4 @@
+pub mod Allowed
 pub mod Coming
 pub mod Innermost
+pub mod Over

@@ -4,6 +4,8 @@
 mod blocks;
 mod diagnostics;
 mod operands;
+mod parting;
+mod queries;
 mod returning;
 mod signalling;
 mod stop;
@@ -13,6 +15,7 @@ mod variables;
 pub use blocks::{enter, exit};
 pub use diagnostics::item_of_statement;
 pub use operands::{pop, put};
+pub use queries::{exists, scalar, select_row};
 pub use returning::{no_case, no_return, returned};
 pub use signalling::{resignal, resignal_condition, resignal_message, signal, signal_message};
 pub use stop::Stop;

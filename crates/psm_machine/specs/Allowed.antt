@@ -1,0 +1,106 @@
+-- What queries, cursors and plans may ask of their code, and of the tables, the variables and the cursors over which they run.
+use Rattle.std.specs.Prelude.{◌≡◌, ℕ, List, slice_get, Option, Some, None, IfSome, IsTrue}
+use Rattle.psm_exprcode.specs.declared.op.Line.{Line}
+use Rattle.psm_exprcode.specs.declared.query.Query.{Query}
+use Rattle.psm_exprcode.specs.declared.set_item.SetItem.{SetItem}
+use Rattle.psm_value.specs.declared.datum.Datum.{Datum}
+use Rattle.psm_table.specs.Cursors.{Cursor}
+use Rattle.psm_table.specs.Table.{Contents}
+use Rattle.psm_tablecode.specs.Suits.{SuitsTable}
+use Rattle.psm_cursor.specs.Suits.{StandsIn, SuitsCursor}
+use Rattle.psm_dml.specs.Suits.{SuitChecks, SuitSets, SuitsTest}
+use Rattle.psm_code.specs.declared.code.CodeCursor.{CodeCursor}
+use Rattle.psm_code.specs.declared.code.CodeTable.{CodeTable}
+use Rattle.psm_code.specs.declared.code.Plan.{Plan}
+use Rattle.psm_code.specs.declared.code.Plan.TheVariants.{Insert, InsertQuery, Update, Delete, UpdateAt, DeleteAt}
+use Rattle.psm_code.specs.declared.code.RawCode.{RawCode}
+use Rattle.psm_code.specs.declared.code.RawRoutine.{RawRoutine}
+use Rattle.psm_code.specs.Parts.{routine_at, slots_of}
+use Rattle.psm_code.specs.RoutineRules.{first_fault}
+use Rattle.psm_code.specs.Sits.{are_stored, AreCursors, AreKept, IsKept}
+
+-- ---- queries
+
+-- a query may be asked: its table is there, and its expressions fit that and the variables
+pub record MayAsk (tables : List Contents) (vars : List Datum) (q : Query) : Type 0 where
+  pub table : Contents
+  pub there : slice_get tables q.table ≡ Some table
+  pub fits : SuitsTable q vars table.def
+
+-- ---- cursors
+
+-- a declared cursor may be opened: its query may be asked
+abbrev pub MayOpen : RawRoutine → List Contents → List Datum → CodeCursor → Type 0
+MayOpen r tables vars x = IfSome (slice_get r.queries x.query) (MayAsk tables vars)
+
+-- a cursor may be moved: its query and the table of that are there, and they fit the cursor
+pub record MayMove (r : RawRoutine) (tables : List Contents) (x : CodeCursor) (c : Cursor) : Type 0 where
+  pub query : Query
+  pub asked : slice_get r.queries x.query ≡ Some query
+  pub table : Contents
+  pub there : slice_get tables query.table ≡ Some table
+  pub suits : SuitsCursor query table.def c
+
+-- the same of the cursor of a number, if it is declared and there
+abbrev pub OfCursor : RawRoutine → List Cursor → ℕ → (CodeCursor → Cursor → Type 0) → Type 0
+OfCursor r cursors n P = IfSome (slice_get r.cursors n) (λ x. IfSome (slice_get cursors n) (P x))
+
+-- ---- plans
+
+-- a table of the code is there, with its definition and its rules, which its CHECKs fit
+pub record HasTable (t : CodeTable) (tables : List Contents) (n : ℕ) : Type 0 where
+  pub contents : Contents
+  pub there : slice_get tables n ≡ Some contents
+  pub kept : IsKept t contents
+  pub checks : SuitChecks t.checks contents.def
+
+-- rows may be put in
+abbrev pub MayPut : RawCode → List Contents → ℕ → Type 0
+MayPut code tables n = IfSome (slice_get code.tables n) (λ t. HasTable t tables n)
+
+-- rows that meet a test may be changed: the assignments and the test fit the table and the variables
+pub record MayChange (tables : List Contents) (n : ℕ) (vars : List Datum) (sets : List SetItem) (test : Option (List Line)) (t : CodeTable) : Type 0 where
+  pub table : HasTable t tables n
+  pub setting : SuitSets sets vars table.contents.def
+  pub testing : SuitsTest test vars table.contents.def
+
+-- rows that meet a test may be taken out
+pub record MayErase (tables : List Contents) (n : ℕ) (vars : List Datum) (test : Option (List Line)) (t : CodeTable) : Type 0 where
+  pub table : HasTable t tables n
+  pub testing : SuitsTest test vars table.contents.def
+
+-- the row on which a cursor over the table stands may be changed
+pub record MayChangeAt (tables : List Contents) (n : ℕ) (vars : List Datum) (sets : List SetItem) (c : Cursor) (t : CodeTable) : Type 0 where
+  pub table : HasTable t tables n
+  pub setting : SuitSets sets vars table.contents.def
+  pub stands : StandsIn table.contents.def c
+
+-- the same row may be taken out
+pub record MayEraseAt (tables : List Contents) (n : ℕ) (c : Cursor) : Type 0 where
+  pub table : Contents
+  pub there : slice_get tables n ≡ Some table
+  pub stands : StandsIn table.def c
+
+-- the table of a cursor's query
+abbrev pub OverQuery : RawRoutine → CodeCursor → (ℕ → Type 0) → Type 0
+OverQuery r x P = IfSome (slice_get r.queries x.query) (λ q. P q.table)
+
+-- a plan may be done
+abbrev pub MayDo : RawCode → RawRoutine → List Contents → List Datum → List Cursor → Plan → Type 0
+MayDo code r tables vars cursors (Insert table columns rows) = MayPut code tables table
+MayDo code r tables vars cursors (InsertQuery table columns query) = IfSome (slice_get r.queries query) (MayAsk tables vars) × MayPut code tables table
+MayDo code r tables vars cursors (Update table sets test) = IfSome (slice_get code.tables table) (MayChange tables table vars sets test)
+MayDo code r tables vars cursors (Delete table test) = IfSome (slice_get code.tables table) (MayErase tables table vars test)
+MayDo code r tables vars cursors (UpdateAt cursor sets) = OfCursor r cursors cursor (λ x c. OverQuery r x (λ n. IfSome (slice_get code.tables n) (MayChangeAt tables n vars sets c)))
+MayDo code r tables vars cursors (DeleteAt cursor) = OfCursor r cursors cursor (λ x c. OverQuery r x (λ n. MayEraseAt tables n c))
+
+-- ---- right code
+
+-- a routine of code that breaks no rule, over tables, variables and cursors that are as the code declares them
+pub record RunsRight (code : RawCode) (r : RawRoutine) (tables : List Contents) (vars : List Datum) (cursors : List Cursor) : Type 0 where
+  pub right : first_fault code ≡ None
+  pub routine : ℕ
+  pub there : routine_at code routine ≡ Some r
+  pub kept : AreKept code.tables tables
+  pub stored : IsTrue (are_stored (slots_of r) vars)
+  pub opened : AreCursors code r r.cursors cursors
