@@ -2,6 +2,7 @@
 #![tactic(auto)]
 
 mod blocks;
+mod cursors;
 mod diagnostics;
 mod operands;
 mod parting;
@@ -13,6 +14,7 @@ mod turns;
 mod variables;
 
 pub use blocks::{enter, exit};
+pub use cursors::{close, fetch, next, open};
 pub use diagnostics::item_of_statement;
 pub use operands::{pop, put};
 pub use queries::{exists, scalar, select_row};
