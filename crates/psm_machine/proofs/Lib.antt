@@ -1,7 +1,11 @@
 pub mod Acting
 pub mod Asking
 pub mod Comings
+pub mod Counting
 pub mod Exiting
 pub mod Fetching
+pub mod Filled
 pub mod Marking
+pub mod Positions
 pub mod Spending
+pub mod Staying

@@ -1,4 +1,5 @@
 pub mod Allowed
 pub mod Coming
 pub mod Innermost
+pub mod Inserting
 pub mod Over

@@ -1,0 +1,142 @@
+-- Statements that leave a table with other rows, as parts of an instruction.
+use Rattle.std.proofs.Common.{◌≡◌, ℕ, zero, suc, List, [], ◌∷◌, map, slice_get, Option, Some, IfSome, IsErrAnd, Result, Ok, Err, refl, ap, sym, subst, ◌∙◌}
+use Rattle.psm_cond.specs.Condition.{Entries}
+use Rattle.psm_cond.specs.declared.fault.DataFault.{DataFault}
+use Rattle.psm_cond.specs.declared.fault.DataFault.TheVariants as fault
+use Rattle.psm_value.specs.declared.datum.Datum.{Datum}
+use Rattle.psm_exprcode.specs.declared.op.Line.{Line}
+use Rattle.psm_exprcode.specs.declared.set_item.SetItem.{SetItem}
+use Rattle.psm_table.specs.declared.definition.TableDef.{TableDef}
+use Rattle.psm_table.specs.Changing.{deleted, inserted, updated, Changed, Failure, OfTable, Raised, Schema}
+use Rattle.psm_table.specs.Table.{Contents}
+use Rattle.psm_tablecode.specs.Codes.{over}
+use Rattle.psm_tablecode.specs.NewRows.{new_row}
+use Rattle.psm_store.specs.declared.store.Mark.{Mark}
+use Rattle.psm_dml.specs.Ends as ends
+use Rattle.psm_dml.specs.Ends.{Ends, IsDue, IsOf}
+use Rattle.psm_code.specs.declared.code.CodeTable.{CodeTable}
+use Rattle.psm_code.specs.declared.code.RawCode.{RawCode}
+use Rattle.psm_code.specs.Plans.{delete_rows, leaves, plain, put_in, schema_of, set_item, some_row, unless_failed, update_rows}
+use Rattle.psm_code.specs.State.{Machine}
+use Rattle.psm_code.specs.Steps.{Act, Came, Raises, go_on, got, raises, ◌>>=◌, ◌>>◌}
+use Rattle.psm_unwind.specs.declared.run.Run.{Run}
+use Rattle.psm_unwind.specs.View.{machine_of}
+use Rattle.psm_machine.specs.declared.stop.Stop.{Stop}
+use Rattle.psm_machine.specs.Allowed.{HasTable}
+use Rattle.psm_machine.specs.Coming.{Comes}
+use Rattle.psm_machine.specs.Over.{part_of}
+use Rattle.psm_machine.proofs.Asking.{of_some}
+
+-- the run of a statement about so many rows
+abbrev pub counting : ℕ → Run → Run
+counting n r = record r { area = record r.area { rows = n } }
+
+-- an act on a run over tables has counted rows and goes on so, or it stops as is due
+abbrev pub Counted : Act (Unit {0}) → (ℕ → Act (Unit {0})) → List Contents → (Mark → List Contents) → Run → List Contents → Result ℕ Stop → Type 0
+Counted act rest old at r new (Ok n) = act (machine_of old at r) ≡ rest n (machine_of new at (counting n r))
+Counted act rest old at r new (Err s) = Comes {A = Unit {0}} (act (machine_of old at r)) (Err s) (machine_of new at r)
+
+pub as_err : {A E : Type 0} (r : Result A E) (s : E) → IsErrAnd r (λ e. e ≡ s) → Err s ≡ r
+as_err (Ok a) s h = absurd h
+as_err (Err e) s h = ap Err (sym h)
+
+-- another act that comes to the same
+counted_like : (act other : Act (Unit {0})) (rest : ℕ → Act (Unit {0})) (old : List Contents) (at : Mark → List Contents) (r : Run) (new : List Contents) (p : Result ℕ Stop) → act (machine_of old at r) ≡ other (machine_of old at r)
+    → Counted other rest old at r new p → Counted act rest old at r new p
+counted_like act other rest old at r new (Ok n) e h = e ∙ h
+counted_like act other rest old at r new (Err s) e h = subst (λ (came : Came (Unit {0})). Comes came (Err s) (machine_of new at r)) (sym e) h
+
+-- ---- a fault of the statement
+
+failed_with : {A : Type 0} (def : TableDef) (due : Result A Failure) (c : Entries) (m : Machine) → IsDue def due c → unless_failed def due m ≡ record { given = Raises c; machine = m }
+failed_with def (Ok a) c m h = absurd h
+failed_with {A} def (Err (Raised s)) c m h = ap (λ x. raises {A = A} x m) (sym h)
+failed_with {A} def (Err (OfTable s)) c m h = ap (λ x. raises {A = A} x m) (sym h)
+
+-- what follows is not done
+pub stopped_by : {A : Type 0} (def : TableDef) (due : Result A Failure) (go : A → Act (Unit {0})) (c : Entries) (m now : Machine) → IsDue def due c → m ≡ now
+    → ◌>>=◌ (unless_failed def due) go m ≡ record { given = Raises c; machine = now }
+stopped_by {A} def due go c m now h e = ap (λ (x : Came A). go_on x.given go x.machine) (failed_with def due c m h) ∙ ap (λ (k : Machine). raises {A = Unit {0}} c k) e
+
+-- ---- the statement
+
+abbrev left_with : ℕ → Contents → (ℕ → Act (Unit {0})) → Changed → Act (Unit {0})
+left_with t c rest changed = do
+  leaves t c changed.rows changed.count
+  rest changed.count
+
+counted_by : (c : Contents) (due : Result Changed Failure) (rest : ℕ → Act (Unit {0})) (t : ℕ) (old : List Contents) (at : Mark → List Contents) (r : Run) (new : List Contents) (res : Result ℕ DataFault)
+    → Ends c due old t new res → Counted (◌>>=◌ (unless_failed c.def due) (left_with t c rest)) rest old at r new (part_of res)
+counted_by c due rest t old at r new (Ok n) h =
+    ap (λ d. ◌>>=◌ (unless_failed c.def d) (left_with t c rest) (machine_of old at r)) h.1 ∙ ap (λ tables. rest n (machine_of tables at (counting n r))) (sym h.2)
+counted_by c due rest t old at r new (Err (fault.Raised e)) h =
+    stopped_by c.def due (left_with t c rest) e (machine_of old at r) (machine_of new at r) h.0 (ap (λ tables. machine_of tables at r) (sym h.1))
+counted_by c due rest t old at r new (Err fault.Memory) h = tt
+
+-- behind INSERT nothing comes
+abbrev pub nothing_more : ℕ → Act (Unit {0})
+nothing_more n = got tt
+
+put_by : (c : Contents) (due : Result Changed Failure) (t : ℕ) (old : List Contents) (at : Mark → List Contents) (r : Run) (new : List Contents) (res : Result ℕ DataFault)
+    → Ends c due old t new res → Counted (◌>>=◌ (unless_failed c.def due) (λ changed. leaves t c changed.rows changed.count)) nothing_more old at r new (part_of res)
+put_by c due t old at r new (Ok n) h =
+    ap (λ d. ◌>>=◌ (unless_failed c.def d) (λ changed. leaves t c changed.rows changed.count) (machine_of old at r)) h.1 ∙ ap (λ tables. nothing_more n (machine_of tables at (counting n r))) (sym h.2)
+put_by c due t old at r new (Err (fault.Raised e)) h =
+    stopped_by c.def due (λ changed. leaves t c changed.rows changed.count) e (machine_of old at r) (machine_of new at r) h.0 (ap (λ tables. machine_of tables at r) (sym h.1))
+put_by c due t old at r new (Err fault.Memory) h = tt
+
+-- ---- what is there
+
+pub schema_there : (ts : List CodeTable) (i : ℕ) (t : CodeTable) → slice_get ts i ≡ Some t → slice_get (map schema_of ts) i ≡ Some (schema_of t)
+schema_there [] i t e = absurd (cc)
+schema_there (u ∷ ts) zero t e = let same : u ≡ t = cc in ap (λ (x : CodeTable). Some (schema_of x)) same
+schema_there (u ∷ ts) (suc i) t e = schema_there ts i t e
+
+pub schema_same : (t : CodeTable) (def : TableDef) → def ≡ t.definition → ends.schema_of def t.checks ≡ schema_of t
+schema_same t def e = ap (λ d. ends.schema_of d t.checks) e
+
+-- ---- UPDATE and DELETE
+
+module _ (code : RawCode) (table : ℕ) (t : CodeTable) (declared : slice_get code.tables table ≡ Some t) (old : List Contents) (at : Mark → List Contents) (r : Run) (new : List Contents) where
+  abbrev Vars : List Datum
+  Vars = r.running.variables.items
+
+  pub update_counted : (sets : List SetItem) (test : Option (List Line)) (res : Result ℕ DataFault) → (h : HasTable t old table)
+      → IfSome (slice_get old table) (λ c. Ends c (updated (over Vars) plain (ends.schema_of c.def t.checks) (map set_item sets) test c.rows) old table new res)
+      → Counted (update_rows code table sets test) some_row old at r new (part_of res)
+  update_counted sets test res h f =
+      let c = h.contents in
+      let e = of_some (λ (c : Contents). Ends c (updated (over Vars) plain (ends.schema_of c.def t.checks) (map set_item sets) test c.rows) old table new res) (slice_get old table) c h.there f in
+      let due : Schema (List Line) → Result Changed Failure = λ s. updated (over Vars) plain s (map set_item sets) test c.rows in
+      let act : TableDef → Schema (List Line) → Act (Unit {0}) = λ d s. ◌>>=◌ (unless_failed d (due s)) (left_with table c some_row) in
+      let done = counted_by c (due (ends.schema_of c.def t.checks)) some_row table old at r new res e in
+      let named = subst (λ d. Counted (act d (ends.schema_of c.def t.checks)) some_row old at r new (part_of res)) h.kept.same done in
+      let ruled = subst (λ s. Counted (act t.definition s) some_row old at r new (part_of res)) (schema_same t c.def h.kept.same) named in
+      counted_like (update_rows code table sets test) (act t.definition (schema_of t)) some_row old at r new (part_of res) (rw (schema_there code.tables table t declared, h.there) refl) ruled
+
+  pub delete_counted : (test : Option (List Line)) (res : Result ℕ DataFault) → (h : HasTable t old table)
+      → IfSome (slice_get old table) (λ c. Ends c (deleted (over Vars) test c.rows) old table new res)
+      → Counted (delete_rows code table test) some_row old at r new (part_of res)
+  delete_counted test res h f =
+      let c = h.contents in
+      let e = of_some (λ (c : Contents). Ends c (deleted (over Vars) test c.rows) old table new res) (slice_get old table) c h.there f in
+      let due : Result Changed Failure = deleted (over Vars) test c.rows in
+      let done = counted_by c due some_row table old at r new res e in
+      let named = subst (λ d. Counted (◌>>=◌ (unless_failed d due) (left_with table c some_row)) some_row old at r new (part_of res)) h.kept.same done in
+      counted_like (delete_rows code table test) (◌>>=◌ (unless_failed t.definition due) (left_with table c some_row)) some_row old at r new (part_of res) (rw (schema_there code.tables table t declared, h.there) refl) named
+
+  -- ---- INSERT
+
+  pub put_counted : (columns : List ℕ) (rows : List (List Datum)) (res : Result ℕ DataFault) → (h : HasTable t old table)
+      → IfSome (slice_get old table) (λ c. Ends c (inserted plain (ends.schema_of c.def t.checks) (map (new_row t.definition columns) rows) c.rows) old table new res)
+      → Counted (put_in code table columns rows) nothing_more old at r new (part_of res)
+  put_counted columns rows res h f =
+      let c = h.contents in
+      let made = map (new_row t.definition columns) rows in
+      let e = of_some (λ (c : Contents). Ends c (inserted plain (ends.schema_of c.def t.checks) made c.rows) old table new res) (slice_get old table) c h.there f in
+      let due : Schema (List Line) → Result Changed Failure = λ s. inserted plain s made c.rows in
+      let act : TableDef → Schema (List Line) → Act (Unit {0}) = λ d s. ◌>>=◌ (unless_failed d (due s)) (λ changed. leaves table c changed.rows changed.count) in
+      let done = put_by c (due (ends.schema_of c.def t.checks)) table old at r new res e in
+      let named = subst (λ d. Counted (act d (ends.schema_of c.def t.checks)) nothing_more old at r new (part_of res)) h.kept.same done in
+      let ruled = subst (λ s. Counted (act t.definition s) nothing_more old at r new (part_of res)) (schema_same t c.def h.kept.same) named in
+      counted_like (put_in code table columns rows) (act t.definition (schema_of t)) nothing_more old at r new (part_of res) (rw (schema_there code.tables table t declared, h.there) refl) ruled

@@ -1,0 +1,130 @@
+-- Positioned statements as parts of an instruction.
+use Rattle.std.proofs.Common.{◌≡◌, ℕ, Bool, List, map, slice_get, slice_set, Option, Some, None, IfSome, IsSome, Result, Ok, Err, refl, ap, sym, subst, ◌∙◌}
+use Rattle.std.specs.Prelude.{option_map}
+use Rattle.psm_cond.specs.declared.fault.DataFault.{DataFault}
+use Rattle.psm_cond.specs.declared.fault.DataFault.TheVariants as fault
+use Rattle.psm_value.specs.declared.datum.Datum.{Datum}
+use Rattle.psm_exprcode.specs.declared.op.Line.{Line}
+use Rattle.psm_exprcode.specs.declared.query.Query.{Query}
+use Rattle.psm_exprcode.specs.declared.set_item.SetItem.{SetItem}
+use Rattle.psm_table.specs.declared.definition.TableDef.{TableDef}
+use Rattle.psm_table.specs.Changing.{rows_but, updated_at as updated_row, Failure, Moved, Schema}
+use Rattle.psm_table.specs.Cursors.{Closed, Cursor, Insensitive, Plain}
+use Rattle.psm_table.specs.Key.{values_at}
+use Rattle.psm_table.specs.Table.{keyed, without_row, Contents}
+use Rattle.psm_tablecode.specs.Codes.{over}
+use Rattle.psm_store.specs.declared.store.Mark.{Mark}
+use Rattle.psm_store.specs.RowCalls.{changed_at, put_table}
+use Rattle.psm_dml.specs.Ends as ends
+use Rattle.psm_dml.specs.Ends.{EndsAt, EndsAtRow}
+use Rattle.psm_cursor.specs.Current.{current_key, current_row, off_row}
+use Rattle.psm_cursor.proofs.Standing.{current_found}
+use Rattle.psm_code.specs.declared.code.CodeCursor.{CodeCursor}
+use Rattle.psm_code.specs.declared.code.CodeTable.{CodeTable}
+use Rattle.psm_code.specs.declared.code.RawCode.{RawCode}
+use Rattle.psm_code.specs.declared.code.RawRoutine.{RawRoutine}
+use Rattle.psm_code.specs.Plans.{delete_at, leave_row, leaves, left_by, plain, row_of_cursor, schema_of, set_item, standing_on, unless_failed, update_at}
+use Rattle.psm_code.specs.State.{Machine, with_cursor}
+use Rattle.psm_code.specs.Steps.{Act, Came, change, got, ◌>>=◌, ◌>>◌}
+use Rattle.psm_unwind.specs.declared.run.Run.{Run}
+use Rattle.psm_unwind.specs.View.{machine_of}
+use Rattle.psm_machine.specs.declared.stop.Stop.{Stop}
+use Rattle.psm_machine.specs.Allowed.{HasTable, MayChangeAt, OfCursor, OverQuery}
+use Rattle.psm_machine.specs.Coming.{Comes}
+use Rattle.psm_machine.specs.Over.{part_of}
+use Rattle.psm_machine.proofs.Asking.{of_some}
+use Rattle.psm_machine.proofs.Counting.{counting, schema_same, schema_there, stopped_by}
+
+-- ---- cursors
+
+pub left_is_off : (c : Cursor) → off_row c ≡ left_by c
+left_is_off Closed = refl
+left_is_off (Plain p vars) = refl
+left_is_off (Insensitive rows) = refl
+
+pub some_there : {A : Type 0} (o : Option A) → IsSome o → (a : A) × (o ≡ Some a)
+some_there None h = absurd (cc)
+some_there (Some a) h = (a, refl)
+
+same_some : {A : Type 0} (o : Option A) (a b : A) → o ≡ Some a → o ≡ Some b → a ≡ b
+same_some None a b e f = absurd (cc)
+same_some (Some c) a b e f = cc
+
+row_found : (x : CodeCursor) (t : Contents) (c : Cursor) (row : List Datum) (m : Machine) → current_row t c ≡ Some row → row_of_cursor x t c m ≡ got row m
+row_found x t Closed row m e = absurd (cc)
+row_found x t (Plain p vars) row m e = ap (λ o. standing_on x o m) e
+row_found x t (Insensitive rows) row m e = absurd (cc)
+
+-- ---- DELETE
+
+taken_out : (key row : List Datum) (t : Contents) (old new : List Contents) (n : ℕ) → slice_get old n ≡ Some t → key ≡ values_at t.def.key row → new ≡ changed_at (without_row key) old n
+    → new ≡ slice_set old n (record t { rows = rows_but t.def row t.rows })
+taken_out key row t old new n e k h = h ∙ ap (λ o. put_table old n (option_map (without_row key) o)) e ∙ ap (λ k. slice_set old n (without_row k t)) k
+
+pub erases : (r : RawRoutine) (number : ℕ) (x : CodeCursor) (q : Query) (c : Cursor) (t : Contents) (key row : List Datum) (old new : List Contents) (at : Mark → List Contents) (run : Run)
+    → slice_get r.cursors number ≡ Some x → slice_get r.queries x.query ≡ Some q → slice_get old q.table ≡ Some t → slice_get run.running.cursors.items number ≡ Some c
+    → current_row t c ≡ Some row → key ≡ values_at t.def.key row → new ≡ changed_at (without_row key) old q.table
+    → delete_at r number (machine_of old at run) ≡ change (with_cursor number (left_by c)) (machine_of new at (counting 1 run))
+erases r number x q c t key row old new at run d a e s f k h =
+    rw (d, a, e, s, row_found x t c row (machine_of old at run) f)
+    (ap (λ tables. change (with_cursor number (left_by c)) (machine_of tables at (counting 1 run))) (sym (taken_out key row t old new q.table e k h)))
+
+-- ---- UPDATE
+
+pub may_change_at : (code : RawCode) (r : RawRoutine) (tables : List Contents) (vars : List Datum) (cursors : List Cursor) (number : ℕ) (sets : List SetItem) (x : CodeCursor) (q : Query) (t : CodeTable) (c : Cursor)
+    → slice_get r.cursors number ≡ Some x → slice_get r.queries x.query ≡ Some q → slice_get code.tables q.table ≡ Some t → slice_get cursors number ≡ Some c
+    → OfCursor r cursors number (λ x c. OverQuery r x (λ n. IfSome (slice_get code.tables n) (MayChangeAt tables n vars sets c))) → MayChangeAt tables q.table vars sets c t
+may_change_at code r tables vars cursors number sets x q t c d a b s h =
+    let P : CodeCursor → Cursor → Type 0 = λ x c. OverQuery r x (λ n. IfSome (slice_get code.tables n) (MayChangeAt tables n vars sets c)) in
+    of_some (MayChangeAt tables q.table vars sets c) (slice_get code.tables q.table) t b
+    (of_some (λ (q : Query). IfSome (slice_get code.tables q.table) (MayChangeAt tables q.table vars sets c)) (slice_get r.queries x.query) q a
+    (of_some (P x) (slice_get cursors number) c s (of_some (λ (x : CodeCursor). IfSome (slice_get cursors number) (P x)) (slice_get r.cursors number) x d h)))
+
+-- a positioned UPDATE is done and leaves the row where the key has changed, or it stops as is due
+abbrev pub Moves : Act (Unit {0}) → ℕ → Cursor → List Contents → (Mark → List Contents) → Run → List Contents → Result Bool Stop → Type 0
+Moves act number c old at r new (Ok b) = act (machine_of old at r) ≡ leave_row b number c (machine_of new at (counting 1 r))
+Moves act number c old at r new (Err s) = Comes {A = Unit {0}} (act (machine_of old at r)) (Err s) (machine_of new at r)
+
+moves_like : (act other : Act (Unit {0})) (number : ℕ) (c : Cursor) (old : List Contents) (at : Mark → List Contents) (r : Run) (new : List Contents) (p : Result Bool Stop) → act (machine_of old at r) ≡ other (machine_of old at r)
+    → Moves other number c old at r new p → Moves act number c old at r new p
+moves_like act other number c old at r new (Ok b) e h = e ∙ h
+moves_like act other number c old at r new (Err s) e h = subst (λ (came : Came (Unit {0})). Comes came (Err s) (machine_of new at r)) (sym e) h
+
+abbrev then_leaves : ℕ → Contents → ℕ → Cursor → Moved → Act (Unit {0})
+then_leaves n t number c moved = do
+  leaves n t moved.rows 1
+  leave_row moved.moved number c
+
+moved_by : (t : Contents) (due : Result Moved Failure) (number : ℕ) (c : Cursor) (n : ℕ) (old : List Contents) (at : Mark → List Contents) (r : Run) (new : List Contents) (res : Result Bool DataFault)
+    → EndsAt t due old n new res → Moves (◌>>=◌ (unless_failed t.def due) (then_leaves n t number c)) number c old at r new (part_of res)
+moved_by t due number c n old at r new (Ok b) h =
+    ap (λ d. ◌>>=◌ (unless_failed t.def d) (then_leaves n t number c) (machine_of old at r)) h.1 ∙ ap (λ tables. leave_row b number c (machine_of tables at (counting 1 r))) (sym h.2)
+moved_by t due number c n old at r new (Err (fault.Raised e)) h =
+    stopped_by t.def due (then_leaves n t number c) e (machine_of old at r) (machine_of new at r) h.0 (ap (λ tables. machine_of tables at r) (sym h.1))
+moved_by t due number c n old at r new (Err fault.Memory) h = tt
+
+update_is : (code : RawCode) (r : RawRoutine) (number : ℕ) (sets : List SetItem) (x : CodeCursor) (q : Query) (t : CodeTable) (c : Cursor) (o : Contents) (row : List Datum) (old : List Contents) (at : Mark → List Contents) (run : Run)
+    → slice_get r.cursors number ≡ Some x → slice_get r.queries x.query ≡ Some q → slice_get code.tables q.table ≡ Some t → slice_get old q.table ≡ Some o → slice_get run.running.cursors.items number ≡ Some c → current_row o c ≡ Some row
+    → update_at code r number sets (machine_of old at run)
+    ≡ ◌>>=◌ (unless_failed t.definition (updated_row (over run.running.variables.items) plain (schema_of t) (map set_item sets) row o.rows)) (then_leaves q.table o number c) (machine_of old at run)
+update_is code r number sets x q t c o row old at run d a b e s f = rw (d, a, schema_there code.tables q.table t b, e, s, row_found x o c row (machine_of old at run) f) refl
+
+pub moves : (code : RawCode) (r : RawRoutine) (number : ℕ) (sets : List SetItem) (x : CodeCursor) (q : Query) (t : CodeTable) (c : Cursor) (key : List Datum) (o : Contents) (old new : List Contents) (at : Mark → List Contents) (run : Run) (res : Result Bool DataFault)
+    → slice_get r.cursors number ≡ Some x → slice_get r.queries x.query ≡ Some q → slice_get code.tables q.table ≡ Some t → (h : HasTable t old q.table) → slice_get run.running.cursors.items number ≡ Some c
+    → slice_get old q.table ≡ Some o → current_key c ≡ Some key → IsSome (keyed o key)
+    → IfSome (slice_get old q.table) (λ d. EndsAtRow d (λ row. updated_row (over run.running.variables.items) plain (ends.schema_of d.def t.checks) (map set_item sets) row d.rows) (keyed d key) old q.table new res)
+    → Moves (update_at code r number sets) number c old at run new (part_of res)
+moves code r number sets x q t c key other old new at run res d a b h s z k j f =
+    let vars = run.running.variables.items in
+    let o = h.contents in
+    let i = subst (λ (d : Contents). IsSome (keyed d key)) (same_some (slice_get old q.table) other o z h.there) j in
+    let row = some_there (keyed o key) i in
+    let current = sym (current_found o c key k) ∙ row.1 in
+    let due : Schema (List Line) → Result Moved Failure = λ s. updated_row (over vars) plain s (map set_item sets) row.0 o.rows in
+    let ended = of_some (λ d. EndsAtRow d (λ row. updated_row (over vars) plain (ends.schema_of d.def t.checks) (map set_item sets) row d.rows) (keyed d key) old q.table new res) (slice_get old q.table) o h.there f in
+    let here = subst (λ z. EndsAtRow o (λ row. updated_row (over vars) plain (ends.schema_of o.def t.checks) (map set_item sets) row o.rows) z old q.table new res) row.1 ended in
+    let act : TableDef → Schema (List Line) → Act (Unit {0}) = λ e s. ◌>>=◌ (unless_failed e (due s)) (then_leaves q.table o number c) in
+    let done = moved_by o (due (ends.schema_of o.def t.checks)) number c q.table old at run new res here in
+    let named = subst (λ e. Moves (act e (ends.schema_of o.def t.checks)) number c old at run new (part_of res)) h.kept.same done in
+    let ruled = subst (λ s. Moves (act t.definition s) number c old at run new (part_of res)) (schema_same t o.def h.kept.same) named in
+    moves_like (update_at code r number sets) (act t.definition (schema_of t)) number c old at run new (part_of res) (update_is code r number sets x q t c o row.0 old at run d a b h.there s current) ruled
