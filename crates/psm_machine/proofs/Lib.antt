@@ -7,5 +7,6 @@ pub mod Fetching
 pub mod Filled
 pub mod Marking
 pub mod Positions
+pub mod Rights
 pub mod Spending
 pub mod Staying

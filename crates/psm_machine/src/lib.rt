@@ -4,6 +4,7 @@
 mod blocks;
 mod cursors;
 mod diagnostics;
+mod laws;
 mod operands;
 mod parting;
 mod plans;
@@ -19,6 +20,7 @@ mod variables;
 pub use blocks::{enter, exit};
 pub use cursors::{close, fetch, next, open};
 pub use diagnostics::item_of_statement;
+pub use laws::right_code_may_run;
 pub use operands::{pop, put};
 pub use plans::change;
 pub use queries::{exists, scalar, select_row};

@@ -1,0 +1,164 @@
+-- Right code has what its queries, cursors and plans ask.
+use Rattle.std.proofs.Common.{◌≡◌, ℕ, zero, suc, true, List, [], ◌∷◌, ◌++◌, slice_get, Option, Some, None, IfSome, refl, ap, sym, subst, ◌∙◌}
+use Rattle.std.specs.Prelude.{option_map}
+use Rattle.std.specs.Option.{option_map_or}
+use Rattle.psm_value.specs.declared.datum.Datum.{Datum}
+use Rattle.psm_exprcode.specs.declared.items.Items.{Items}
+use Rattle.psm_exprcode.specs.declared.items.Items.TheVariants as items
+use Rattle.psm_exprcode.specs.declared.op.Line.{Line}
+use Rattle.psm_exprcode.specs.declared.query.Query.{Query}
+use Rattle.psm_exprcode.specs.declared.set_item.SetItem.{SetItem}
+use Rattle.psm_table.specs.Cursors.{Closed, Cursor, Insensitive, Plain}
+use Rattle.psm_table.specs.Definition.{IsKey}
+use Rattle.psm_table.specs.Table.{Contents}
+use Rattle.psm_tablecode.specs.Suits.{gives_truth, letters_of, SuitsTable}
+use Rattle.psm_cursor.specs.Suits.{HasRows, StandsIn, SuitsCursor}
+use Rattle.psm_dml.specs.Suits.{SuitChecks, SuitSets, SuitsTest}
+use Rattle.psm_code.specs.declared.code.CodeCursor.{CodeCursor}
+use Rattle.psm_code.specs.declared.code.CodeTable.{CodeTable}
+use Rattle.psm_code.specs.declared.code.Plan.{Plan}
+use Rattle.psm_code.specs.declared.code.Plan.TheVariants as plans
+use Rattle.psm_code.specs.declared.code.RawCode.{RawCode}
+use Rattle.psm_code.specs.declared.code.RawRoutine.{RawRoutine}
+use Rattle.psm_code.specs.Instructions.{columns_at, columns_of_table, variables_of}
+use Rattle.psm_code.specs.Parts.{slots_of}
+use Rattle.psm_code.specs.PlanRules.{cursor_table, has_rows, or_none, plan_fault, plan_faults, sets_in, table_of_query, test_in}
+use Rattle.psm_code.specs.Sits.{AreCursors, Keeps}
+use Rattle.psm_code.proofs.Faults.{clean_first, clean_flat, clean_second, clean_tail, routine_right, Clean, RightRoutine}
+use Rattle.psm_code.proofs.Fetching.{right_cursor, RightCursor}
+use Rattle.psm_code.proofs.Operating.{stored_letters}
+use Rattle.psm_code.proofs.Queried.{kept_at, right_query, RightQuery}
+use Rattle.psm_code.proofs.Suiting.{checks_suit, query_suits, sets_suit, test_given}
+use Rattle.psm_machine.specs.Allowed.{HasTable, MayAsk, MayChange, MayChangeAt, MayDo, MayErase, MayEraseAt, MayMove, MayOpen, MayPut, OfCursor, OverQuery, RunsRight}
+use Rattle.psm_machine.proofs.Asking.{of_some}
+
+-- of what may be there
+if_some : {A : Type 0} (P : A → Type 0) (o : Option A) → ((x : A) → o ≡ Some x → P x) → IfSome o P
+if_some P None f = tt
+if_some P (Some x) f = f x refl
+
+rows_there : (i : Items) → has_rows i ≡ true → HasRows i
+rows_there (items.Rows codes) h = tt
+rows_there (items.Sets sets) h = cc
+
+-- a cursor is kept as its declaration says
+abbrev IsCursor : RawCode → RawRoutine → CodeCursor → Cursor → Type 0
+IsCursor code r x c = IfSome (slice_get r.queries x.query) (λ q. Keeps code r q c)
+
+cursor_kept : (code : RawCode) (r : RawRoutine) (xs : List CodeCursor) (cs : List Cursor) (i : ℕ) (x : CodeCursor) (c : Cursor) → AreCursors code r xs cs → slice_get xs i ≡ Some x → slice_get cs i ≡ Some c → IsCursor code r x c
+cursor_kept code r [] cs i x c h e f = absurd (cc)
+cursor_kept code r (y ∷ xs) [] i x c h e f = absurd h
+cursor_kept code r (y ∷ xs) (d ∷ cs) zero x c h e f =
+    let same : y ≡ x = cc in
+    let here : d ≡ c = cc in
+    subst (λ c. IsCursor code r x c) here (subst (λ y. IsCursor code r y d) same h.0)
+cursor_kept code r (y ∷ xs) (d ∷ cs) (suc i) x c h e f = cursor_kept code r xs cs i x c h.1 e f
+
+module _ (code : RawCode) (r : RawRoutine) (tables : List Contents) (vars : List Datum) (cursors : List Cursor) (h : RunsRight code r tables vars cursors) where
+  right : RightRoutine code r
+  right = routine_right code h.routine r h.right h.there
+
+  -- ---- queries and cursors
+
+  ask : (q : Query) → RightQuery code r q → MayAsk tables vars q
+  ask q g =
+      let k = kept_at code.tables tables q.table g.table h.kept g.there in
+      record { table = k.0; there = k.1; fits = subst (λ d. SuitsTable q vars d) (sym k.2.same) (query_suits code r q g vars h.stored) }
+
+  pub may_ask : (n : ℕ) → IfSome (slice_get r.queries n) (MayAsk tables vars)
+  may_ask n = if_some (MayAsk tables vars) (slice_get r.queries n) (λ q e. ask q (right_query code r n q right e))
+
+  pub may_open : (n : ℕ) → IfSome (slice_get r.cursors n) (MayOpen r tables vars)
+  may_open n = if_some (MayOpen r tables vars) (slice_get r.cursors n) (λ x e. may_ask x.query)
+
+  kept_here : (n : ℕ) (x : CodeCursor) (c : Cursor) (q : Query) → slice_get r.cursors n ≡ Some x → slice_get cursors n ≡ Some c → slice_get r.queries x.query ≡ Some q → Keeps code r q c
+  kept_here n x c q e f a = of_some (λ q. Keeps code r q c) (slice_get r.queries x.query) q a (cursor_kept code r r.cursors cursors n x c h.opened e f)
+
+  stands : (q : Query) (t : CodeTable) (d : Contents) (c : Cursor) → slice_get code.tables q.table ≡ Some t → d.def ≡ t.definition → Keeps code r q c → StandsIn d.def c
+  stands q t d Closed e s k = tt
+  stands q t d (Insensitive rows) e s k = tt
+  stands q t d (Plain p vs) e s k =
+      subst (λ def. IfSome p.bound (IsKey def)) (sym s) (of_some (λ (t : CodeTable). IfSome p.bound (IsKey t.definition)) (slice_get code.tables q.table) t e k.1)
+
+  suits : (x : CodeCursor) (g : RightCursor code r x) (d : Contents) (c : Cursor) → d.def ≡ g.right.table.definition → Keeps code r g.query c → SuitsCursor g.query d.def c
+  suits x g d Closed s k = tt
+  suits x g d (Insensitive rows) s k = tt
+  suits x g d (Plain p vs) s k = (
+    record { fits = subst (λ def. SuitsTable g.query vs def) (sym s) (query_suits code r g.query g.right vs k.0); rows = rows_there g.query.items g.rows },
+    stands g.query g.right.table d (Plain p vs) g.right.there s k,
+  )
+
+  move : (n : ℕ) (x : CodeCursor) (c : Cursor) → slice_get r.cursors n ≡ Some x → slice_get cursors n ≡ Some c → MayMove r tables x c
+  move n x c e f =
+      let g = right_cursor code r n x right e in
+      let k = kept_at code.tables tables g.query.table g.right.table h.kept g.right.there in
+      record { query = g.query; asked = g.there; table = k.0; there = k.1; suits = suits x g k.0 c k.2.same (kept_here n x c g.query e f g.there) }
+
+  pub may_move : (n : ℕ) → OfCursor r cursors n (MayMove r tables)
+  may_move n =
+      if_some (λ x. IfSome (slice_get cursors n) (MayMove r tables x)) (slice_get r.cursors n) (λ x e.
+      if_some (MayMove r tables x) (slice_get cursors n) (λ c f. move n x c e f))
+
+  -- ---- plans
+
+  has_table : (n : ℕ) (t : CodeTable) → slice_get code.tables n ≡ Some t → HasTable t tables n
+  has_table n t e =
+      let k = kept_at code.tables tables n t h.kept e in
+      record { contents = k.0; there = k.1; kept = k.2; checks = subst (λ d. SuitChecks t.checks d) (sym k.2.same) (checks_suit code n t h.right e) }
+
+  may_put : (n : ℕ) → MayPut code tables n
+  may_put n = if_some (λ t. HasTable t tables n) (slice_get code.tables n) (λ t e. has_table n t e)
+
+  test_suits : (n : ℕ) (t : CodeTable) (test : Option (List Line)) → slice_get code.tables n ≡ Some t → Clean (test_in code r n test) → SuitsTest test vars t.definition
+  test_suits n t test e c =
+      let letters : columns_at code n ≡ letters_of t.definition = ap columns_of_table e in
+      record {
+        variables = variables_of r;
+        kinds = stored_letters (slots_of r) vars h.stored;
+        fits = subst (λ ks. option_map_or (gives_truth ks (variables_of r)) test true ≡ true) letters (test_given code r n test c);
+      }
+
+  sets_do : (n : ℕ) (t : CodeTable) (sets : List SetItem) → slice_get code.tables n ≡ Some t → Clean (sets_in code r n sets) → SuitSets sets vars t.definition
+  sets_do n t sets e c = record { variables = variables_of r; kinds = stored_letters (slots_of r) vars h.stored; fits = sets_suit code r n t [] sets e c }
+
+  may_do_by : (p : Plan) → Clean (plan_faults code r p) → MayDo code r tables vars cursors p
+  may_do_by (plans.Insert table columns rows) c = may_put table
+  may_do_by (plans.InsertQuery table columns query) c = (may_ask query, may_put table)
+  may_do_by (plans.Update table sets test) c =
+      let parts = clean_tail (plan_fault code r (plans.Update table sets test)) (sets_in code r table sets ++ test_in code r table test) c in
+      if_some (MayChange tables table vars sets test) (slice_get code.tables table) (λ t e.
+      let k = has_table table t e in
+      record {
+        table = k;
+        setting = subst (λ d. SuitSets sets vars d) (sym k.kept.same) (sets_do table t sets e (clean_first (sets_in code r table sets) (test_in code r table test) parts));
+        testing = subst (λ d. SuitsTest test vars d) (sym k.kept.same) (test_suits table t test e (clean_second (sets_in code r table sets) (test_in code r table test) parts));
+      })
+  may_do_by (plans.Delete table test) c =
+      if_some (MayErase tables table vars test) (slice_get code.tables table) (λ t e.
+      let k = has_table table t e in
+      record { table = k; testing = subst (λ d. SuitsTest test vars d) (sym k.kept.same) (test_suits table t test e (clean_tail (plan_fault code r (plans.Delete table test)) (test_in code r table test) c)) })
+  may_do_by (plans.UpdateAt cursor sets) c =
+      let P : CodeCursor → Cursor → Type 0 = λ x c. OverQuery r x (λ n. IfSome (slice_get code.tables n) (MayChangeAt tables n vars sets c)) in
+      if_some (λ x. IfSome (slice_get cursors cursor) (P x)) (slice_get r.cursors cursor) (λ x e.
+      if_some (P x) (slice_get cursors cursor) (λ d f.
+      if_some (λ q. IfSome (slice_get code.tables q.table) (MayChangeAt tables q.table vars sets d)) (slice_get r.queries x.query) (λ q a.
+      if_some (MayChangeAt tables q.table vars sets d) (slice_get code.tables q.table) (λ t b.
+      let k = has_table q.table t b in
+      let table : cursor_table r cursor ≡ Some q.table = ap (λ o. table_of_query r (option_map (λ (c : CodeCursor). c.query) o)) e ∙ ap (λ o. option_map (λ (q : Query). q.table) o) a in
+      let parts = clean_tail (plan_fault code r (plans.UpdateAt cursor sets)) (sets_in code r (or_none code (cursor_table r cursor)) sets) c in
+      record {
+        table = k;
+        setting = subst (λ d. SuitSets sets vars d) (sym k.kept.same) (sets_do q.table t sets b (subst (λ o. Clean (sets_in code r (or_none code o) sets)) table parts));
+        stands = stands q t k.contents d b k.kept.same (kept_here cursor x d q e f a);
+      }))))
+  may_do_by (plans.DeleteAt cursor) c =
+      let P : CodeCursor → Cursor → Type 0 = λ x c. OverQuery r x (λ n. MayEraseAt tables n c) in
+      if_some (λ x. IfSome (slice_get cursors cursor) (P x)) (slice_get r.cursors cursor) (λ x e.
+      if_some (P x) (slice_get cursors cursor) (λ d f.
+      if_some (λ q. MayEraseAt tables q.table d) (slice_get r.queries x.query) (λ q a.
+      let g = right_query code r x.query q right a in
+      let k = kept_at code.tables tables q.table g.table h.kept g.there in
+      record { table = k.0; there = k.1; stands = stands q g.table k.0 d g.there k.2.same (kept_here cursor x d q e f a) })))
+
+  pub may_do : (n : ℕ) → IfSome (slice_get r.plans n) (MayDo code r tables vars cursors)
+  may_do n = if_some (MayDo code r tables vars cursors) (slice_get r.plans n) (λ p e. may_do_by p (clean_flat (plan_faults code r) r.plans n p right.plans e))
