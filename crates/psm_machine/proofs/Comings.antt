@@ -8,7 +8,7 @@ use Rattle.psm_machine.specs.declared.stop.Stop.{Stop}
 use Rattle.psm_machine.specs.declared.stop.Stop.TheVariants as stop
 use Rattle.psm_machine.specs.Coming.{Comes}
 
-err_is : {A E : Type 0} (r : Result A E) (s : E) → IsErrAnd r (λ e. e ≡ s) → r ≡ Err s
+pub err_is : {A E : Type 0} (r : Result A E) (s : E) → IsErrAnd r (λ e. e ≡ s) → r ≡ Err s
 err_is (Ok a) s h = absurd h
 err_is (Err e) s h = ap Err h
 

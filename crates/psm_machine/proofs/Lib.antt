@@ -1,7 +1,11 @@
+pub mod ActionEnds
 pub mod Acting
 pub mod Asking
 pub mod Comings
 pub mod Counting
+pub mod Arguments
+pub mod Comings
+pub mod Callings
 pub mod Exiting
 pub mod Fetching
 pub mod Filled
@@ -10,3 +14,7 @@ pub mod Positions
 pub mod Rights
 pub mod Spending
 pub mod Staying
+pub mod Numbering
+pub mod Spending
+pub mod Leavings
+pub mod Standing

@@ -1,5 +1,6 @@
 pub mod Allowed
 pub mod Coming
+pub mod Going
 pub mod Innermost
 pub mod Inserting
 pub mod Over

@@ -1,10 +1,12 @@
-use Rattle.std.proofs.Common.{◌+◌, Some, ◌∷◌, ◌++◌, map, reverse, refl, ap, arith}
+use Rattle.std.proofs.Common.{◌+◌, Some, ◌∷◌, ◌++◌, List, map, reverse, refl, ap, sym, subst, arith}
 use Rattle.psm_code.specs.State.{InBlock}
-use Rattle.psm_unwind.specs.Marks.{Stays, marks_in, marks_of, open_marks}
+use Rattle.psm_store.specs.declared.store.Mark.{Mark}
+use Rattle.psm_unwind.specs.Marks.{Around, Stays, marks_in, marks_of, open_marks}
 use Rattle.psm_unwind.specs.View.{activation_of, frames_of, machine_of}
 use Rattle.psm_unwind.proofs.Nestings.{each_left, each_right}
 use Rattle.psm_unwind.proofs.Views.{callers_stay}
 use Rattle.psm_machine.proofs.Marking.{all_stay, entered, frames_pushed, marks_pushed, stand_more, stand_new}
+use Rattle.psm_machine.proofs.Standing.{outer_new}
 use Rattle.psm_machine.proofs.blocks.enter_atomic.Goals as goal
 
 pub returns-in_err-mark-clause-stand : goal.returns-in_err-mark-clause-stand
@@ -33,3 +35,12 @@ returns-clause-due g c =
     c.in_ok-mark.ensures.mark.stands (each_left (Stays (g.S.Store.at c.args.store.now) (g.S.Store.holds c.mark.new.self) (g.S.Store.at c.mark.new.self)) inner outer stay))
     (callers_stay (g.S.Store.at c.args.store.now) (g.S.Store.holds c.mark.new.self) (g.S.Store.at c.mark.new.self) (reverse c.args.run.now.callers.items) (each_right (Stays (g.S.Store.at c.args.store.now) (g.S.Store.holds c.mark.new.self) (g.S.Store.at c.mark.new.self)) inner outer stay))
     c.mark.ensures.tables
+
+pub returns-clause-outer : goal.returns-clause-outer
+returns-clause-outer g c = λ m h a.
+    let o = outer_new (g.S.Store.holds c.args.store.now) (g.S.Store.at c.args.store.now) (g.S.Store.holds c.mark.new.self) (g.S.Store.at c.mark.new.self) (g.S.Store.marks c.args.store.now) (g.S.Store.tables c.args.store.now) (open_marks c.args.run.now) c.in_ok-mark.mark
+    c.mark.ensures.keeps (g.met.S.Store.below c.args.store.now) c.in_ok-mark.ensures.mark m h a in (
+      o.0,
+      subst (λ (x : List Mark). Around x m)
+          (sym (marks_pushed c.args.context c.in_ok-mark.mark c.args.run.now.running.frames.items c.push.new.self.items (marks_of (reverse c.args.run.now.callers.items)) c.in_ok-push.ensures.items)) o.1,
+    )

@@ -6,6 +6,7 @@ use Rattle.psm_unwind.proofs.Nestings.{leaves_none}
 use Rattle.psm_unwind.proofs.Unwinding.{outer_stay, running_nested, unwinds_frames, unwinds_none}
 use Rattle.psm_unwind.proofs.Views.{callers_stay, frames_stay}
 use Rattle.psm_machine.proofs.Exiting.{exit_came, exit_lacks}
+use Rattle.psm_machine.proofs.Standing.{still_unwound}
 use Rattle.psm_machine.proofs.blocks.exit.Goals as goal
 
 pub leave_frame-requires : goal.leave_frame-requires
@@ -38,3 +39,14 @@ pub returns-in-Some-clause-unwinds : goal.returns-in-Some-clause-unwinds
 returns-in-Some-clause-unwinds g c =
     unwinds_frames (g.S.Store.holds c.args.store.now) (g.S.Store.at c.args.store.now) (g.S.Store.marks c.args.store.now) (g.S.Store.tables c.args.store.now) c.args.run.now (g.S.Store.holds c.leave_frame.new.store) (g.S.Store.at c.leave_frame.new.store) (g.S.Store.marks c.leave_frame.new.store) (g.S.Store.tables c.leave_frame.new.store) (record c.args.run.now { running = record c.args.run.now.running { frames = c.pop_block.new.frames; cursors = c.leave_frame.new.cursors } })
     c.requires (leaves_next (g.S.Store.holds c.args.store.now) (g.S.Store.at c.args.store.now) (marks_in (reverse c.args.run.now.running.frames.items)) (g.S.Store.holds c.args.store.now) (g.S.Store.at c.args.store.now) c.args.run.now.running.frames.items c.pop_block.new.frames.items c.in-Some.frame (running_nested (g.S.Store.holds c.args.store.now) c.args.run.now c.requires) c.in-Some.ensures.some (leaves_none (g.S.Store.holds c.args.store.now) (g.S.Store.at c.args.store.now) (marks_in (reverse c.args.run.now.running.frames.items)) (running_nested (g.S.Store.holds c.args.store.now) c.args.run.now c.requires)) (g.S.Store.holds c.leave_frame.new.store) (g.S.Store.at c.leave_frame.new.store) c.leave_frame.ensures.leaves) c.leave_frame.ensures.marks c.leave_frame.ensures.defs refl refl
+
+pub returns-in-None-clause-still : goal.returns-in-None-clause-still
+returns-in-None-clause-still g c =
+    still_unwound (g.S.Store.holds c.args.store.now) (g.S.Store.at c.args.store.now) (g.S.Store.marks c.args.store.now) (g.S.Store.tables c.args.store.now) c.args.run.now
+    (g.S.Store.holds c.args.store.now) (g.S.Store.at c.args.store.now) (g.S.Store.marks c.args.store.now) (g.S.Store.tables c.args.store.now) (record c.args.run.now { running = record c.args.run.now.running { frames = c.pop_block.new.frames } }) (returns-in-None-clause-unwinds g c)
+
+pub returns-in-Some-clause-still : goal.returns-in-Some-clause-still
+returns-in-Some-clause-still g c =
+    still_unwound (g.S.Store.holds c.args.store.now) (g.S.Store.at c.args.store.now) (g.S.Store.marks c.args.store.now) (g.S.Store.tables c.args.store.now) c.args.run.now
+    (g.S.Store.holds c.leave_frame.new.store) (g.S.Store.at c.leave_frame.new.store) (g.S.Store.marks c.leave_frame.new.store) (g.S.Store.tables c.leave_frame.new.store)
+    (record c.args.run.now { running = record c.args.run.now.running { frames = c.pop_block.new.frames; cursors = c.leave_frame.new.cursors } }) (returns-in-Some-clause-unwinds g c)

@@ -1,0 +1,103 @@
+-- Where the run goes on behind an instruction, and what stays of its marks.
+use Rattle.std.specs.Prelude.{◌≡◌, ℕ, suc, nat_eq, List, [], ◌∷◌, Option, Some, None, Result, Ok, Err, if◌then◌else◌}
+use Rattle.std.specs.Result.{result_map_both}
+use Rattle.psm_value.specs.declared.datum.Datum.{Datum}
+use Rattle.psm_cond.specs.declared.handlers.Handler.{Handler}
+use Rattle.psm_cond.specs.declared.item.ConditionItem.{ConditionItem}
+use Rattle.psm_cond.specs.Condition.{Entries}
+use Rattle.psm_cond.specs.Item.{entries_of, entry_item}
+use Rattle.psm_exprcode.specs.declared.operand.Next.{Next}
+use Rattle.psm_table.specs.Table.{Contents}
+use Rattle.psm_store.specs.declared.store.Mark.{Mark}
+use Rattle.psm_code.specs.Rows.{Way, way_of}
+use Rattle.psm_code.specs.Signalling.{entry_numbered, numbered}
+use Rattle.psm_code.specs.State as code
+use Rattle.psm_code.specs.State.{cleared, with_running}
+use Rattle.psm_code.specs.declared.code.RawRoutine.{RawRoutine}
+use Rattle.psm_code.specs.Calling.{with_values}
+use Rattle.psm_code.specs.Parts.{block_at}
+use Rattle.psm_code.specs.Steps.{Act, Came, Got, Raises, got, present, ◌>>=◌}
+use Rattle.psm_unwind.specs.declared.ending.Outcome.{Outcome}
+use Rattle.psm_unwind.specs.declared.run.Run.{Run}
+use Rattle.psm_unwind.specs.Marks.{Around, MarksStand, Stays, open_marks}
+use Rattle.psm_unwind.specs.View.{LeadsTo, machine_of}
+use Rattle.psm_machine.specs.declared.stop.Stop.{Stop}
+use Rattle.psm_machine.specs.declared.stop.Stop.TheVariants as stop
+use Rattle.psm_machine.specs.Coming.{Comes, EndsWith}
+
+-- ---- where the run goes on
+
+-- a condition drops the operands
+abbrev pub bare : code.Machine → code.Machine
+bare m = with_running (λ a. record a { operands = [] }) m
+
+-- what is due comes, and the run goes on at the line that is due; what a condition drops may be gone
+abbrev pub Goes : Came Way → Result Next Stop → code.Machine → Type 0
+Goes came (Ok next) now = came ≡ record { given = Got (way_of next); machine = now }
+Goes came (Err (stop.Raises c)) now = (came.given ≡ Raises c) × (bare came.machine ≡ bare now)
+Goes came (Err stop.NoTurns) now = EndsWith code.NoTurns came now
+Goes came (Err stop.Lacking) now = EndsWith code.Lacking came now
+Goes came (Err stop.Memory) now = Unit {0}
+
+-- the same of a run, whatever its tables are
+abbrev pub GoesOn : Act Way → Run → Result Next Stop → Run → Type 0
+GoesOn act r result new = (tables : List Contents) (at : Mark → List Contents) → Goes (act (machine_of tables at r)) result (machine_of tables at new)
+
+-- what is due comes, and leads to what is due
+abbrev pub Turns : Came Way → Result Outcome Stop → code.Machine → Type 0
+Turns came (Ok o) now = (way : Way) × (came.given ≡ Got way) × LeadsTo (way came.machine) o now
+Turns came (Err (stop.Raises c)) now = (came.given ≡ Raises c) × (bare came.machine ≡ bare now)
+Turns came (Err stop.NoTurns) now = EndsWith code.NoTurns came now
+Turns came (Err stop.Lacking) now = EndsWith code.Lacking came now
+Turns came (Err stop.Memory) now = Unit {0}
+
+-- ---- what is seen as something else
+
+-- an act comes to what is due, as it is seen
+abbrev pub Gives : {A B : Type 0} → (B → A) → Act A → Run → Result B Stop → Run → Type 0
+Gives view act r result new = (tables : List Contents) (at : Mark → List Contents) → Comes (act (machine_of tables at r)) (result_map_both view (λ s. s) result) (machine_of tables at new)
+
+-- an act that changes nothing
+abbrev pub Shows : {A B : Type 0} → (B → A) → Act A → Result B Stop → Type 0
+Shows view act result = (m : code.Machine) → Comes (act m) (result_map_both view (λ s. s) result) m
+
+-- ---- the action of a handler
+
+-- where the innermost frame is that of the action of a handler, the line at which CONTINUE goes on
+abbrev pub resume_of : ℕ → List code.Frame → Option (Option ℕ)
+resume_of n [] = None
+resume_of n (code.InBlock k found ∷ frames) = None
+resume_of n (code.InAction l resume area ∷ frames) = if nat_eq n l then Some resume else None
+
+-- the end of a handler's block
+abbrev pub exit_of : RawRoutine → Handler → Act ℕ
+exit_of r h = do
+  b ← present (block_at r h.context)
+  got b.exit
+
+-- ---- GET DIAGNOSTICS
+
+-- an item of the entry whose number is the value
+abbrev pub item_at : Entries → Datum → ConditionItem → Act Datum
+item_at c d i = do
+  e ← numbered (entry_numbered 1 (entries_of c) d)
+  got (entry_item e.0 e.1 i)
+
+-- ---- the end of an activation
+
+-- an activation that called another one goes on behind the call with values, and the area is success
+abbrev pub resumed : List Datum → code.Machine → code.Machine
+resumed ds m = cleared (with_running (λ a. record (with_values ds a) { line = suc a.line }) m)
+
+-- ---- marks
+
+-- no mark of a run is opened or closed
+pub record SameMarks (r new : Run) : Type 0 where
+  pub marks : open_marks new ≡ open_marks r
+  pub bound : new.marks ≡ r.marks
+
+-- The marks of a run stand still, if they stood. A mark outside all of them stays: it is held, stands for the same tables, and is
+-- outside all of them still. So who holds such a mark can put the tables back, whatever an instruction comes to.
+pub record StandStill (holds : Mark → Type 0) (at : Mark → List Contents) (count : ℕ) (r : Run) (holds_new : Mark → Type 0) (at_new : Mark → List Contents) (count_new : ℕ) (new : Run) : Type 0 where
+  pub stand : MarksStand holds count r → MarksStand holds_new count_new new
+  pub outer : (m : Mark) → holds m → Around (open_marks r) m → Stays at holds_new at_new m × Around (open_marks new) m
