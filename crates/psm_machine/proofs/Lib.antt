@@ -18,3 +18,6 @@ pub mod Numbering
 pub mod Spending
 pub mod Leavings
 pub mod Standing
+pub mod Dropping
+pub mod RightCode
+pub mod Doing

@@ -1,5 +1,5 @@
 -- Where the run goes on behind an instruction, and what stays of its marks.
-use Rattle.std.specs.Prelude.{◌≡◌, ℕ, suc, nat_eq, List, [], ◌∷◌, Option, Some, None, Result, Ok, Err, if◌then◌else◌}
+use Rattle.std.specs.Prelude.{◌≡◌, ℕ, suc, nat_eq, Bool, true, false, codes, List, [], ◌∷◌, Option, Some, None, Result, Ok, Err, if◌then◌else◌}
 use Rattle.std.specs.Result.{result_map_both}
 use Rattle.psm_value.specs.declared.datum.Datum.{Datum}
 use Rattle.psm_cond.specs.declared.handlers.Handler.{Handler}
@@ -7,16 +7,20 @@ use Rattle.psm_cond.specs.declared.item.ConditionItem.{ConditionItem}
 use Rattle.psm_cond.specs.Condition.{Entries}
 use Rattle.psm_cond.specs.Item.{entries_of, entry_item}
 use Rattle.psm_exprcode.specs.declared.operand.Next.{Next}
+use Rattle.psm_exprcode.specs.declared.operand.Operand.{Operand}
+use Rattle.psm_exprcode.specs.Fits.{Fits}
 use Rattle.psm_table.specs.Table.{Contents}
 use Rattle.psm_store.specs.declared.store.Mark.{Mark}
-use Rattle.psm_code.specs.Rows.{Way, way_of}
-use Rattle.psm_code.specs.Signalling.{entry_numbered, numbered}
+use Rattle.psm_code.specs.Rows.{Way, enter, exit, retrieve, store, warn, way_of}
+use Rattle.psm_code.specs.Signalling.{entry_numbered, item_of_condition, item_of_statement, numbered, resignal, resignal_condition, resignal_message, signal, signal_message}
 use Rattle.psm_code.specs.State as code
 use Rattle.psm_code.specs.State.{cleared, with_running}
 use Rattle.psm_code.specs.declared.code.RawRoutine.{RawRoutine}
+use Rattle.psm_code.specs.declared.instruction.Instruction.{Instruction}
+use Rattle.psm_code.specs.declared.instruction.Instruction.TheVariants as instruction
 use Rattle.psm_code.specs.Calling.{with_values}
 use Rattle.psm_code.specs.Parts.{block_at}
-use Rattle.psm_code.specs.Steps.{Act, Came, Got, Raises, got, present, ◌>>=◌}
+use Rattle.psm_code.specs.Steps.{Act, Came, Got, Raises, change, ends, got, of_state, present, raises, turn, ◌>>=◌}
 use Rattle.psm_unwind.specs.declared.ending.Outcome.{Outcome}
 use Rattle.psm_unwind.specs.declared.run.Run.{Run}
 use Rattle.psm_unwind.specs.Marks.{Around, MarksStand, Stays, open_marks}
@@ -50,6 +54,65 @@ Turns came (Err (stop.Raises c)) now = (came.given ≡ Raises c) × (bare came.m
 Turns came (Err stop.NoTurns) now = EndsWith code.NoTurns came now
 Turns came (Err stop.Lacking) now = EndsWith code.Lacking came now
 Turns came (Err stop.Memory) now = Unit {0}
+
+-- the same of a run, whatever its tables are
+abbrev pub TurnsOn : Act Way → Run → Result Outcome Stop → Run → Type 0
+TurnsOn act r result new = (tables : List Contents) (at : Mark → List Contents) → Turns (act (machine_of tables at r)) result (machine_of tables at new)
+
+-- a way leads to what is due; want of memory may always come
+abbrev pub Leads : Way → code.Machine → Result Outcome Stop → code.Machine → Type 0
+Leads way m (Ok o) now = LeadsTo (way m) o now
+Leads way m (Err s) now = s ≡ stop.Memory
+
+abbrev pub LeadsOn : Way → Run → Result Outcome Stop → Run → Type 0
+LeadsOn way r result new = (tables : List Contents) (at : Mark → List Contents) → Leads way (machine_of tables at r) result (machine_of tables at new)
+
+-- ---- instructions by what they do
+
+-- those about queries, plans and cursors
+abbrev pub is_of_data : Instruction → Bool
+is_of_data (instruction.Exists n) = true
+is_of_data (instruction.Scalar n) = true
+is_of_data (instruction.SelectRow n) = true
+is_of_data (instruction.Change n) = true
+is_of_data (instruction.Open cursor) = true
+is_of_data (instruction.Close cursor) = true
+is_of_data (instruction.Fetch cursor) = true
+is_of_data (instruction.Next cursor end) = true
+is_of_data i = false
+
+-- SIGNAL and RESIGNAL
+abbrev pub signal_act : RawRoutine → Instruction → Act (Unit {0})
+signal_act r (instruction.Signal n) = signal r n
+signal_act r (instruction.SignalMessage n) = signal_message r n
+signal_act r instruction.Resignal = resignal
+signal_act r (instruction.ResignalCondition n) = resignal_condition r n
+signal_act r (instruction.ResignalMessage n) = resignal_message r n
+signal_act r i = ends code.Lacking
+
+-- those that go on at the line that follows, or raise a condition, and touch neither a table nor a block
+abbrev pub within_act : RawRoutine → Instruction → Act (Unit {0})
+within_act r instruction.Clear = change cleared
+within_act r (instruction.Store slot) = store r slot
+within_act r (instruction.Retrieve slot) = retrieve r slot
+within_act r instruction.Warn = warn
+within_act r instruction.Turn = turn
+within_act r instruction.NoReturn = raises (of_state (codes "2F005"))
+within_act r instruction.NoCase = raises (of_state (codes "20000"))
+within_act r (instruction.StatementItem i) = item_of_statement i
+within_act r (instruction.ConditionItem i) = item_of_condition i
+within_act r i = signal_act r i
+
+-- the same, and the blocks
+abbrev pub plain_act : RawRoutine → Instruction → Act (Unit {0})
+plain_act r (instruction.Enter k) = enter r k
+plain_act r (instruction.Exit k) = exit r k
+plain_act r i = within_act r i
+
+-- an operation finds what it needs
+abbrev pub FindsNeeds : Instruction → List Operand → List Datum → Type 0
+FindsNeeds (instruction.Operation o) os vars = Fits o os [] vars
+FindsNeeds i os vars = Unit {0}
 
 -- ---- what is seen as something else
 

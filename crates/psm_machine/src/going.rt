@@ -1,0 +1,51 @@
+//! Where a run goes on behind an instruction.
+ghost use Rattle.std.specs.Prelude.{List};
+ghost use Rattle.psm_table.specs.Table.{Contents};
+ghost use Rattle.psm_store.specs.declared.store.Mark.{Mark as MarkValue};
+ghost use Rattle.psm_code.specs.Rows.{ahead as is_ahead, way_of};
+ghost use Rattle.psm_code.specs.Steps.{Came, go_on, got};
+ghost use Rattle.psm_unwind.specs.Marks.{SameFrames};
+ghost use Rattle.psm_unwind.specs.View.{machine_of};
+ghost use Rattle.psm_machine.specs.Coming.{Comes};
+ghost use Rattle.psm_machine.specs.Going.{LeadsOn, Turns};
+
+use crate::stop::Stop;
+use psm_exprcode::Next;
+use psm_unwind::{Outcome, Run};
+
+/// Goes on at the line that follows, or at another one.
+pub fn go(run: &mut Run, next: Next) -> Result<Outcome, Stop>
+    ensures due { LeadsOn (way_of next) run.old result run.new }
+    ensures same { SameFrames run.old run.new }
+{
+    match next {
+        Next::Ahead => ahead(run),
+        Next::Jump(line) => {
+            run.running.line = line as usize;
+            Ok(Outcome::More)
+        }
+    }
+}
+
+/// Goes on at the line that follows.
+pub fn ahead(run: &mut Run) -> Result<Outcome, Stop>
+    ensures due { LeadsOn is_ahead run.old result run.new }
+    ensures same { SameFrames run.old run.new }
+{
+    let Some(line) = run.running.line.checked_add(1) else {
+        return Err(Stop::Memory);
+    };
+    run.running.line = line;
+    Ok(Outcome::More)
+}
+
+/// Goes on behind a part of an instruction, if that wasn't stopped.
+pub fn behind(run: &mut Run, done: Result<(), Stop>) -> Result<Outcome, Stop>
+    ensures due { (tables : List Contents) (at : MarkValue → List Contents) (came : Came (Unit {0})) → Comes came done (machine_of tables at run.old) → Turns (go_on came.given (λ _. got is_ahead) came.machine) result (machine_of tables at run.new) }
+    ensures same { SameFrames run.old run.new }
+{
+    match done {
+        Ok(()) => ahead(run),
+        Err(stop) => Err(stop),
+    }
+}

@@ -1,0 +1,155 @@
+//! Instructions but for those about queries, plans and cursors.
+ghost use Rattle.std.specs.Prelude.{◌≡◌, [], false, reverse, All, IfSome};
+ghost use Rattle.psm_value.specs.SqlType.{IsType};
+ghost use Rattle.psm_exprcode.specs.Fits.{Fits};
+ghost use Rattle.psm_code.specs.Parts.{slots_of};
+ghost use Rattle.psm_code.specs.Rows.{call_from, done, end_action as action_end, operation as operated};
+ghost use Rattle.psm_unwind.specs.Marks.{MarksStand, SameFrames};
+ghost use Rattle.psm_unwind.specs.View.{machine_of};
+ghost use Rattle.psm_machine.specs.Coming.{Comes, Does};
+ghost use Rattle.psm_machine.specs.Going.{FindsNeeds, SameMarks, StandStill, Turns, TurnsOn, is_of_data, plain_act, signal_act, within_act};
+
+use crate::actions::end_action;
+use crate::blocks::{enter, exit};
+use crate::calls::call;
+use crate::diagnostics::item_of_statement;
+use crate::ends::{end_procedure, return_value};
+use crate::entries::item_of_condition;
+use crate::going::{behind, go};
+use crate::operations::operation;
+use crate::returning::{no_case, no_return};
+use crate::signalling::{resignal, resignal_condition, resignal_message, signal, signal_message};
+use crate::stop::Stop;
+use crate::turns::{clear, turn};
+use crate::variables::{retrieve, store as store_in, warn};
+use psm_code::{Instruction, RawCode, RawRoutine};
+use psm_exprcode::Op;
+use psm_store::Store;
+use psm_unwind::{Outcome, Run};
+use std::alloc::Global;
+
+/// Does an instruction that is about no query, plan or cursor, and goes on where the table of instructions says.
+///
+/// The types of slots and results have to be types, an operation has to find what it needs, and the marks of the run have to stand.
+/// They stand afterwards too, also where memory runs out.
+pub fn perform<S: Store>(
+    alloc: Global,
+    code: &RawCode,
+    routine: &RawRoutine,
+    instruction: &Instruction,
+    run: &mut Run,
+    store: &mut S,
+) -> Result<Outcome, Stop>
+    requires kind { is_of_data instruction.now ≡ false }
+    requires own { All IsType (slots_of routine.now) }
+    requires slots { All (λ r. All IsType (slots_of r)) code.now.routines }
+    requires results { All (λ r. IfSome r.returns IsType) code.now.routines }
+    requires needs { FindsNeeds instruction.now (reverse run.old.running.operands.items) run.old.running.variables.items }
+    requires stand { MarksStand (S.holds store.old) (S.marks store.old) run.old }
+    ensures due { Turns (done code.now routine.now instruction.now (machine_of (S.tables store.old) (S.at store.old) run.old)) result (machine_of (S.tables store.new) (S.at store.new) run.new) }
+    ensures still { StandStill (S.holds store.old) (S.at store.old) (S.marks store.old) run.old (S.holds store.new) (S.at store.new) (S.marks store.new) run.new }
+{
+    match instruction {
+        Instruction::Operation(op) => operate(alloc, run, op),
+        Instruction::EndAction(number) => finish_action(routine, run, *number),
+        Instruction::Call(number) => call_on(alloc, code, run, *number),
+        Instruction::CallFunction(number) => call_on(alloc, code, run, *number),
+        Instruction::Return => return_value(alloc, code, run, store),
+        Instruction::End => Ok(end_procedure(alloc, code, run, store)?),
+        _ => {
+            let done = plain(alloc, routine, instruction, run, store);
+            behind(run, done)
+        }
+    }
+}
+
+fn operate(alloc: Global, run: &mut Run, op: &Op) -> Result<Outcome, Stop>
+    requires { Fits op.now (reverse run.old.running.operands.items) [] run.old.running.variables.items }
+    ensures due { TurnsOn (operated op.now) run.old result run.new }
+    ensures same { SameFrames run.old run.new }
+{
+    let next = operation(alloc, run, op)?;
+    go(run, next)
+}
+
+fn finish_action(routine: &RawRoutine, run: &mut Run, number: u32) -> Result<Outcome, Stop>
+    ensures due { TurnsOn (action_end routine.now number) run.old result run.new }
+    ensures marks { SameMarks run.old run.new }
+{
+    let next = end_action(routine, run, number)?;
+    go(run, next)
+}
+
+fn call_on(alloc: Global, code: &RawCode, run: &mut Run, number: u32) -> Result<Outcome, Stop>
+    requires { All (λ r. All IsType (slots_of r)) code.now.routines }
+    ensures due { TurnsOn (call_from code.now number) run.old result run.new }
+    ensures marks { SameMarks run.old run.new }
+{
+    call(alloc, code, run, number)?;
+    Ok(Outcome::More)
+}
+
+// An instruction that always goes on at the line that follows, or raises a condition.
+fn plain<S: Store>(
+    alloc: Global,
+    routine: &RawRoutine,
+    instruction: &Instruction,
+    run: &mut Run,
+    store: &mut S,
+) -> Result<(), Stop>
+    requires own { All IsType (slots_of routine.now) }
+    requires stand { MarksStand (S.holds store.old) (S.marks store.old) run.old }
+    ensures due { Comes (plain_act routine.now instruction.now (machine_of (S.tables store.old) (S.at store.old) run.old)) result (machine_of (S.tables store.new) (S.at store.new) run.new) }
+    ensures still { StandStill (S.holds store.old) (S.at store.old) (S.marks store.old) run.old (S.holds store.new) (S.at store.new) (S.marks store.new) run.new }
+{
+    match instruction {
+        Instruction::Enter(context) => enter(alloc, routine, run, store, *context),
+        Instruction::Exit(context) => exit(routine, run, store, *context),
+        _ => within(alloc, routine, instruction, run),
+    }
+}
+
+// The same of one that touches no block.
+fn within(
+    alloc: Global,
+    routine: &RawRoutine,
+    instruction: &Instruction,
+    run: &mut Run,
+) -> Result<(), Stop>
+    requires { All IsType (slots_of routine.now) }
+    ensures due { Does (within_act routine.now instruction.now) run.old result run.new }
+    ensures same { SameFrames run.old run.new }
+{
+    match instruction {
+        Instruction::Clear => Ok(clear(run)),
+        Instruction::Store(slot) => store_in(alloc, routine, run, *slot),
+        Instruction::Retrieve(slot) => retrieve(alloc, routine, run, *slot),
+        Instruction::Warn => warn(alloc, run),
+        Instruction::Turn => turn(run),
+        Instruction::NoReturn => no_return(alloc),
+        Instruction::NoCase => no_case(alloc),
+        Instruction::StatementItem(item) => item_of_statement(alloc, run, *item),
+        Instruction::ConditionItem(item) => item_of_condition(alloc, run, *item),
+        _ => raise_anew(alloc, routine, instruction, run),
+    }
+}
+
+// SIGNAL and RESIGNAL.
+fn raise_anew(
+    alloc: Global,
+    routine: &RawRoutine,
+    instruction: &Instruction,
+    run: &mut Run,
+) -> Result<(), Stop>
+    ensures due { Does (signal_act routine.now instruction.now) run.old result run.new }
+    ensures same { SameFrames run.old run.new }
+{
+    match instruction {
+        Instruction::Signal(number) => signal(alloc, routine, run, *number),
+        Instruction::SignalMessage(number) => signal_message(alloc, routine, run, *number),
+        Instruction::Resignal => resignal(alloc, run),
+        Instruction::ResignalCondition(number) => resignal_condition(alloc, routine, run, *number),
+        Instruction::ResignalMessage(number) => resignal_message(alloc, routine, run, *number),
+        _ => Err(Stop::Lacking),
+    }
+}
