@@ -103,7 +103,7 @@ unwinds_back h0 at0 count0 tables0 r h1 at1 count1 tables1 left caller rest new 
 
 -- ---- RETURN
 
-turns_of : (came : Came Way) (s : Stop) (now : Machine) → Comes came (Err s) now → Turns came (Err s) now
+pub turns_of : (came : Came Way) (s : Stop) (now : Machine) → Comes came (Err s) now → Turns came (Err s) now
 turns_of came (stop.Raises c) now h = (ap (λ (x : Came Way). x.given) h, ap (λ (x : Came Way). bare x.machine) h)
 turns_of came stop.NoTurns now h = h
 turns_of came stop.Lacking now h = h

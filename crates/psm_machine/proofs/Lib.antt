@@ -1,4 +1,3 @@
-pub mod ActionEnds
 pub mod Acting
 pub mod Asking
 pub mod Comings
@@ -6,9 +5,18 @@ pub mod Counting
 pub mod Arguments
 pub mod Comings
 pub mod Callings
+pub mod ActionEnds
+pub mod Arguments
+pub mod Asking
+pub mod Callings
+pub mod Comings
+pub mod Counting
+pub mod Doing
+pub mod Dropping
 pub mod Exiting
 pub mod Fetching
 pub mod Filled
+pub mod Leavings
 pub mod Marking
 pub mod Positions
 pub mod Rights
@@ -21,3 +29,10 @@ pub mod Standing
 pub mod Dropping
 pub mod RightCode
 pub mod Doing
+pub mod OneRow
+pub mod Positions
+pub mod RightCode
+pub mod Rights
+pub mod Spending
+pub mod Standing
+pub mod Staying

@@ -4,3 +4,4 @@ pub mod Going
 pub mod Innermost
 pub mod Inserting
 pub mod Over
+pub mod Stepping

@@ -1,0 +1,22 @@
+use Rattle.std.proofs.Common.{sym, ap, ◌∙◌}
+use Rattle.psm_code.specs.Rows.{Way, next_or_end}
+use Rattle.psm_code.specs.State.{Machine}
+use Rattle.psm_code.specs.Steps.{Came, Got}
+use Rattle.psm_unwind.specs.View.{machine_of}
+use Rattle.psm_machine.proofs.Doing.{goes_to}
+use Rattle.psm_machine.proofs.OneRow.{stopped_act}
+use Rattle.psm_machine.proofs.stepping.take_next.Goals as goal
+
+pub returns-in_err-there-clause-due : goal.returns-in_err-there-clause-due
+returns-in_err-there-clause-due g c =
+    let tables = g.S.Store.tables c.args.store.now in
+    let at = g.S.Store.at c.args.store.now in
+    stopped_act (next_or_end c.args.routine.now c.args.cursor c.args.end (machine_of tables at c.args.run.now)) c.in_err-there.field-0.0 (machine_of tables at c.next.new.run) c.from_residual.result c.from_residual.ensures.1 (c.in_err-there.ensures.due c.args.end at)
+
+pub returns-clause-due : goal.returns-clause-due
+returns-clause-due g c =
+    let tables = g.S.Store.tables c.args.store.now in
+    let at = g.S.Store.at c.args.store.now in
+    let m : Machine = machine_of tables at c.next.new.run in
+    goes_to (next_or_end c.args.routine.now c.args.cursor c.args.end (machine_of tables at c.args.run.now)) c.next_of.result m (machine_of tables at c.go.new.run) c.go.result
+    (c.in_ok-there.ensures.due c.args.end at ∙ ap (λ (w : Way). record { given = Got w; machine = m }) (sym c.next_of.ensures)) (c.go.ensures.due tables at)

@@ -1,0 +1,149 @@
+//! One instruction of a run after another.
+ghost use Rattle.std.specs.Prelude.{◌≡◌, None, reverse, All, IfOk, IsTrue};
+ghost use Rattle.psm_cond.specs.Sound.{is_numbered};
+ghost use Rattle.psm_code.specs.RoutineRules.{first_fault};
+ghost use Rattle.psm_code.specs.Rows.{done, next_or_end, row, way_of};
+ghost use Rattle.psm_code.specs.Sits.{Sits};
+ghost use Rattle.psm_unwind.specs.Marks.{MarksStand, SameFrames};
+ghost use Rattle.psm_unwind.specs.View.{LeadsTo, machine_of};
+ghost use Rattle.psm_machine.specs.Allowed.{MayMove, OfCursor, RunsRight};
+ghost use Rattle.psm_machine.specs.Coming.{Comes};
+ghost use Rattle.psm_machine.specs.Going.{FindsNeeds, StandStill, Turns, is_of_data};
+ghost use Rattle.psm_machine.specs.Over.{way_for};
+ghost use Rattle.psm_machine.specs.Stepping.{data_act};
+
+use crate::cursors::{close, fetch, next, open};
+use crate::going::{behind, go};
+use crate::performing::perform;
+use crate::plans::change;
+use crate::queries::{exists, scalar, select_row};
+use crate::settling::settle;
+use crate::stop::Stop;
+use psm_code::{Instruction, RawCode, RawRoutine};
+use psm_exprcode::Next;
+use psm_store::Store;
+use psm_unwind::{Ending, Outcome, Run, routine_at};
+use std::alloc::{AllocError, Global};
+
+/// One instruction of a run: the line that comes next is done, and the condition that it may come to is raised at it.
+///
+/// The code has to break no rule, with handlers that 32 bits are enough to number; the machine has to be as it always is, and the marks
+/// of the run to stand. They stand afterwards too, also where memory runs out, so that who began the run can put the tables back.
+pub fn step<S: Store>(
+    alloc: Global,
+    code: &RawCode,
+    run: &mut Run,
+    store: &mut S,
+) -> Result<Outcome, AllocError>
+    requires right { first_fault code.now ≡ None }
+    requires numbered { All (λ r. IsTrue (is_numbered r.handlers)) code.now.routines }
+    requires sits { Sits code.now (machine_of (S.tables store.old) (S.at store.old) run.old) }
+    requires stand { MarksStand (S.holds store.old) (S.marks store.old) run.old }
+    ensures due { IfOk result (λ o. LeadsTo (row code.now (machine_of (S.tables store.old) (S.at store.old) run.old)) o (machine_of (S.tables store.new) (S.at store.new) run.new)) }
+    ensures still { StandStill (S.holds store.old) (S.at store.old) (S.marks store.old) run.old (S.holds store.new) (S.at store.new) (S.marks store.new) run.new }
+{
+    let Some(routine) = routine_at(code, run.running.routine) else {
+        return Ok(Outcome::Over(Ending::Lacking));
+    };
+    let Some(instruction) = routine.lines.instruction(run.running.line) else {
+        return Ok(Outcome::Over(Ending::Lacking));
+    };
+    let done = obey(alloc, code, routine, instruction, run, store);
+    settle(alloc, code, run, store, done)
+}
+
+/// Does an instruction, and goes on where the table of instructions says.
+///
+/// The tables, the variables and the cursors have to be as right code declares them, an operation has to find what it needs, and the
+/// marks of the run have to stand. They stand afterwards too, also where memory runs out.
+pub fn obey<S: Store>(
+    alloc: Global,
+    code: &RawCode,
+    routine: &RawRoutine,
+    instruction: &Instruction,
+    run: &mut Run,
+    store: &mut S,
+) -> Result<Outcome, Stop>
+    requires runs { RunsRight code.now routine.now (S.tables store.old) run.old.running.variables.items run.old.running.cursors.items }
+    requires needs { FindsNeeds instruction.now (reverse run.old.running.operands.items) run.old.running.variables.items }
+    requires stand { MarksStand (S.holds store.old) (S.marks store.old) run.old }
+    ensures due { Turns (done code.now routine.now instruction.now (machine_of (S.tables store.old) (S.at store.old) run.old)) result (machine_of (S.tables store.new) (S.at store.new) run.new) }
+    ensures still { StandStill (S.holds store.old) (S.at store.old) (S.marks store.old) run.old (S.holds store.new) (S.at store.new) (S.marks store.new) run.new }
+{
+    match instruction {
+        Instruction::Next { cursor, end } => take_next(alloc, routine, run, store, *cursor, *end),
+        _ => {
+            if is_of_data(instruction) {
+                let done = on_tables(alloc, code, routine, instruction, run, store);
+                behind(run, done)
+            } else {
+                perform(alloc, code, routine, instruction, run, store)
+            }
+        }
+    }
+}
+
+// The next row of FOR.
+fn take_next<S: Store>(
+    alloc: Global,
+    routine: &RawRoutine,
+    run: &mut Run,
+    store: &S,
+    cursor: u32,
+    end: u32,
+) -> Result<Outcome, Stop>
+    requires { OfCursor routine.now run.old.running.cursors.items cursor (MayMove routine.now (S.tables store.now)) }
+    ensures due { Turns (next_or_end routine.now cursor end (machine_of (S.tables store.now) (S.at store.now) run.old)) result (machine_of (S.tables store.now) (S.at store.now) run.new) }
+    ensures same { SameFrames run.old run.new }
+{
+    let there = next(alloc, routine, run, store, cursor)?;
+    go(run, next_of(there, end))
+}
+
+fn next_of(there: bool, end: u32) -> Next
+    ensures { way_of result ≡ way_for end there }
+{
+    if there { Next::Ahead } else { Next::Jump(end) }
+}
+
+fn is_of_data(instruction: &Instruction) -> bool
+    ensures { result ≡ is_of_data instruction.now }
+{
+    match instruction {
+        Instruction::Exists(_)
+        | Instruction::Scalar(_)
+        | Instruction::SelectRow(_)
+        | Instruction::Change(_)
+        | Instruction::Open(_)
+        | Instruction::Close(_)
+        | Instruction::Fetch(_)
+        | Instruction::Next { .. } => true,
+        _ => false,
+    }
+}
+
+// An instruction about queries, plans or cursors that goes on at the line that follows, or raises a condition.
+fn on_tables<S: Store>(
+    alloc: Global,
+    code: &RawCode,
+    routine: &RawRoutine,
+    instruction: &Instruction,
+    run: &mut Run,
+    store: &mut S,
+) -> Result<(), Stop>
+    requires runs { RunsRight code.now routine.now (S.tables store.old) run.old.running.variables.items run.old.running.cursors.items }
+    requires stand { MarksStand (S.holds store.old) (S.marks store.old) run.old }
+    ensures due { Comes (data_act code.now routine.now instruction.now (machine_of (S.tables store.old) (S.at store.old) run.old)) result (machine_of (S.tables store.new) (S.at store.new) run.new) }
+    ensures still { StandStill (S.holds store.old) (S.at store.old) (S.marks store.old) run.old (S.holds store.new) (S.at store.new) (S.marks store.new) run.new }
+{
+    match instruction {
+        Instruction::Exists(number) => exists(alloc, routine, run, store, *number),
+        Instruction::Scalar(number) => scalar(alloc, routine, run, store, *number),
+        Instruction::SelectRow(number) => select_row(alloc, routine, run, store, *number),
+        Instruction::Change(number) => change(alloc, code, routine, run, store, *number),
+        Instruction::Open(number) => open(alloc, routine, run, store, *number),
+        Instruction::Close(number) => close(alloc, routine, run, *number),
+        Instruction::Fetch(number) => fetch(alloc, routine, run, store, *number),
+        _ => Err(Stop::Lacking),
+    }
+}
