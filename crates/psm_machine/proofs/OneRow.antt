@@ -1,7 +1,5 @@
 -- One row of the table of instructions.
-use Rattle.std.proofs.Common.{◌≡◌, ℕ, true, false, List, [], reverse, Option, Some, None, option_map, Result, Ok, Err, IsErrAnd, refl, ap, sym, subst, ◌∙◌}
-use Rattle.psm_value.specs.declared.datum.Datum.{Datum}
-use Rattle.psm_exprcode.specs.declared.operand.Operand.{Operand}
+use Rattle.std.proofs.Common.{◌≡◌, ℕ, true, Option, Some, None, option_map, Result, Err, IsErrAnd, refl, ap, sym, subst, ◌∙◌}
 use Rattle.psm_code.specs.declared.code.RawCode.{RawCode}
 use Rattle.psm_code.specs.declared.code.RawRoutine.{RawRoutine}
 use Rattle.psm_code.specs.declared.instruction.Instruction.{Instruction}

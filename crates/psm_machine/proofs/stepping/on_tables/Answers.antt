@@ -1,9 +1,6 @@
-use Rattle.std.proofs.Common.{List, reverse, sym, subst, ap}
+use Rattle.std.proofs.Common.{List, sym, subst}
 use Rattle.psm_store.specs.declared.store.Mark.{Mark}
-use Rattle.psm_code.specs.Steps.{Came}
 use Rattle.psm_unwind.specs.Marks.{Around}
-use Rattle.psm_unwind.specs.View.{machine_of}
-use Rattle.psm_machine.proofs.OneRow.{other_data}
 use Rattle.psm_machine.proofs.Rights.{may_ask, may_do, may_move, may_open}
 use Rattle.psm_machine.proofs.Standing.{marks_same, still_same}
 use Rattle.psm_machine.proofs.stepping.on_tables.Goals as goal

@@ -1,7 +1,7 @@
 use Rattle.std.proofs.Common.{sym, ap, ◌∙◌}
 use Rattle.psm_code.specs.Rows.{Way, next_or_end}
 use Rattle.psm_code.specs.State.{Machine}
-use Rattle.psm_code.specs.Steps.{Came, Got}
+use Rattle.psm_code.specs.Steps.{Got}
 use Rattle.psm_unwind.specs.View.{machine_of}
 use Rattle.psm_machine.proofs.Doing.{goes_to}
 use Rattle.psm_machine.proofs.OneRow.{stopped_act}
