@@ -201,3 +201,7 @@ pub data WritesSimple (known : Known) (context resume : ℕ) (around : List Arou
   fetch_ : {cursor : ℕ} {slots : List ℕ} {p : Parts}
       → WritesSimple known context resume around (simples.Fetch cursor slots) p (with_code (retrieved context resume slots (puts context resume (instruction.Fetch cursor) 0 (letters_at p.letters cursor) (cleared context p))) p)
   close_ : {cursor : ℕ} {p : Parts} → WritesSimple known context resume around (simples.Close cursor) p (with_code (takes context resume (instruction.Close cursor) 0 (cleared context p)) p)
+
+-- the same whatever stands around
+abbrev pub WritesAnywhere : Known → ℕ → ℕ → ResolvedSimple → Parts → Parts → Type 0
+WritesAnywhere known context resume s p q = (around : List Around) → WritesSimple known context resume around s p q

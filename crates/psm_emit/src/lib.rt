@@ -2,18 +2,24 @@
 #![tactic(auto)]
 
 mod around;
+mod calling;
 mod changes;
+mod diagnostics;
 mod exprs;
 mod knowing;
 mod known;
+mod leaving;
 mod letters;
 mod operators;
+mod parts;
 mod queries;
 mod routines;
 mod rows;
 mod setting;
+mod simples;
 mod sizes;
 mod sorts;
+mod storing;
 mod tables;
 mod writer;
 
