@@ -1,15 +1,19 @@
 //! What is written of a routine.
-ghost use Rattle.std.specs.Prelude.{◌≡◌, [], ◌∷◌, ◌++◌, suc, IfOk};
-ghost use Rattle.psm_cond.specs.declared.handlers.ContextKind.TheVariants as kinds;
-ghost use Rattle.psm_emit.specs.Parts.{at, block_entered, iterates, leaves, next_context, several_values, with_code, with_handler, with_plain};
-ghost use Rattle.psm_emit.specs.Simples.{changed};
+ghost use Rattle.std.specs.Prelude.{◌≡◌, [], ◌∷◌, ◌++◌, length, suc, IfOk};
+ghost use Rattle.psm_emit.specs.declared.known.Known.{Known};
+ghost use Rattle.psm_emit.specs.Parts.{at, block_entered, next_context, several_values, with_code, with_handler, with_plain};
+ghost use Rattle.psm_emit.specs.Queries.{item_letters};
+ghost use Rattle.psm_emit.specs.Simples.{changed, condition_number, declared_with};
+ghost use Rattle.psm_emit.specs.Statements.{with_cursor};
+ghost use Rattle.psm_emit.specs.Written.{letters_at, puts};
 
-use crate::around::Around;
+use crate::operators::letters_at;
 use crate::writer::Writer;
 use psm_code::{CodeCursor, Instruction, Plan};
 use psm_cond::{Block, ConditionValue, Context, ContextKind, Declared, Handler, HandlerKind};
-use psm_exprcode::{Letter, Op};
+use psm_exprcode::{Letter, Query};
 use psm_list::{List, OneOrMore};
+use psm_resolved::{ResolvedCondition, ResolvedCursor};
 use std::alloc::{AllocError, Global};
 use std::marker::Model;
 
@@ -93,17 +97,26 @@ impl Parts {
         self.plain(outer, Instruction::Enter(number))
     }
 
+    /// How many handlers there are. More than fit in 32 bits are want of memory.
+    pub fn handler_count(&self) -> Result<u32, AllocError>
+        ensures { IfOk result (λ count. count ≡ length self.now.handlers) }
+    {
+        numbered(self.handlers.len())
+    }
+
     /// Declares a handler in the block of a context. Its action begins at the line that follows, in a context of its own.
     pub fn with_handler(
         &mut self,
+        alloc: Global,
         context: u32,
         kind: HandlerKind,
-        values: OneOrMore<ConditionValue>,
+        values: &List<ConditionValue>,
     ) -> Result<(), AllocError>
-        ensures { IfOk result (λ _. (vs : _) → several_values vs ≡ values → self.new ≡ with_handler context kind vs self.old) }
+        ensures { IfOk result (λ _. self.new ≡ with_handler context kind values.now self.old) }
     {
-        let number = numbered(self.handlers.len())?;
+        let number = self.handler_count()?;
         let pc = self.at()?;
+        let values = several_values(alloc, values)?;
         self.contexts.push(Context {
             parent: context,
             kind: ContextKind::Action(number),
@@ -114,6 +127,57 @@ impl Parts {
             pc,
             values,
         })?;
+        Ok(())
+    }
+
+    /// The number of a condition. An SQLSTATE is declared anew.
+    pub fn condition(&mut self, condition: &ResolvedCondition) -> Result<u32, AllocError>
+        ensures number { IfOk result (λ number. number ≡ condition_number condition.now self.old.declared) }
+        ensures declared { IfOk result (λ _. self.new ≡ record self.old { declared = declared_with condition.now self.old.declared }) }
+    {
+        match condition {
+            ResolvedCondition::Own(number) => Ok(*number),
+            ResolvedCondition::State(state) => {
+                let number = numbered(self.declared.len())?;
+                self.declared.push(Declared::OfState(*state))?;
+                Ok(number)
+            }
+        }
+    }
+
+    /// Writes an instruction that puts the items of a cursor's row.
+    pub fn puts_row(
+        &mut self,
+        context: u32,
+        resume: u32,
+        instruction: Instruction,
+        cursor: u32,
+    ) -> Result<(), AllocError>
+        ensures { IfOk result (λ _. self.new ≡ with_code (puts context resume instruction 0 (letters_at self.old.letters cursor) self.old.code) self.old) }
+    {
+        let letters = letters_at(self.letters.as_slice(), cursor);
+        self.code.puts(context, resume, instruction, 0, letters)
+    }
+
+    /// A cursor more, over a query of its own, whose items have these letters.
+    pub fn with_cursor(
+        &mut self,
+        alloc: Global,
+        cursor: &ResolvedCursor,
+        code: Query,
+        letters: Vec<Letter>,
+    ) -> Result<(), AllocError>
+        ensures { IfOk result (λ _. (known : Known) → letters.items ≡ item_letters known cursor.now.query → self.new ≡ with_cursor known cursor.now code self.old) }
+    {
+        let query = self.code.query_count()?;
+        self.code.with_query(code)?;
+        self.cursors.push(CodeCursor {
+            name: cursor.name.copy(alloc)?,
+            query,
+            insensitive: cursor.insensitive,
+            updatable: cursor.updatable,
+        })?;
+        self.letters.push(List::of(letters))?;
         Ok(())
     }
 
@@ -151,5 +215,43 @@ pub(crate) fn following(place: usize) -> Result<u32, AllocError>
     match u32::try_from(place) {
         Ok(number) if number < u32::MAX => Ok(number + 1),
         _ => Err(AllocError),
+    }
+}
+
+/// Values of a handler; NOT FOUND where there are none.
+fn several_values(
+    alloc: Global,
+    values: &List<ConditionValue>,
+) -> Result<OneOrMore<ConditionValue>, AllocError>
+    ensures { IfOk result (λ several. several ≡ several_values values.now) }
+{
+    match values.items().split_first() {
+        None => Ok(OneOrMore::of(ConditionValue::NotFound, List::of(Vec::new(alloc)))),
+        Some((first, others)) => {
+            let rest = copies(alloc, others)?;
+            Ok(OneOrMore::of(copy(first), rest))
+        }
+    }
+}
+
+fn copies(alloc: Global, values: &[ConditionValue]) -> Result<List<ConditionValue>, AllocError>
+    ensures { IfOk result (λ list. list ≡ values.now) }
+{
+    let mut list = Vec::new(alloc);
+    for value in values {
+        list.push(copy(value))?;
+    }
+    Ok(List::of(list))
+}
+
+fn copy(value: &ConditionValue) -> ConditionValue
+    ensures { result ≡ value.now }
+{
+    match value {
+        ConditionValue::Named(number) => ConditionValue::Named(*number),
+        ConditionValue::State(state) => ConditionValue::State(*state),
+        ConditionValue::SqlException => ConditionValue::SqlException,
+        ConditionValue::SqlWarning => ConditionValue::SqlWarning,
+        ConditionValue::NotFound => ConditionValue::NotFound,
     }
 }

@@ -1,9 +1,8 @@
-use Rattle.std.proofs.Common.{rules, ◌≡◌, IfOk, ℕ, ap, ◌∙◌}
-use Rattle.psm_emit.specs.Parts.{with_code}
-use Rattle.psm_emit.specs.Written.{plain}
-use Rattle.psm_code.specs.declared.instruction.Instruction.TheVariants as instruction
-use Rattle.psm_emit.proofs.SimpleForms.{ok_as, set_written}
+use Rattle.std.proofs.Common.{ap, ◌∙◌}
+use Rattle.psm_emit.specs.Written.{letter_at}
+use Rattle.psm_emit.proofs.CallForms.{ok_as}
+use Rattle.psm_emit.proofs.SimpleForms.{set_written}
 use Rattle.psm_emit.proofs.simples.set.Goals as goal
 
 pub returns : goal.returns
-returns c = ok_as c.takes.result (λ a. set_written c.args.slot c.args.source.now c.args.letter c.requires (c.in_ok-plain.ensures ∙ ap (λ p. plain c.args.setting.context instruction.Clear p.code) c.parts.view_is) c.in_ok-expr.ensures a (ap (with_code c.takes.new.self) c.parts.view_is)) c.takes.ensures
+returns c = ok_as c.takes.result (λ a. set_written c.args.slot c.args.source.now c.letter_at-letter.result c.parts.view_is (c.letter_at-letter.ensures ∙ ap (λ ls. letter_at ls c.args.slot) c.items.ensures) c.in_ok-plain.ensures c.in_ok-expr.ensures a) c.takes.ensures
