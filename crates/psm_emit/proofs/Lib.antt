@@ -33,3 +33,7 @@ pub mod Letters
 pub mod SimpleForms
 pub mod Dropping
 pub mod CallForms
+pub mod StatementCounting
+pub mod StatementCounts
+pub mod LastItems
+pub mod StatementForms

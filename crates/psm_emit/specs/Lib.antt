@@ -9,6 +9,8 @@ pub mod Sizes
 pub mod Parts
 pub mod Simples
 pub mod Statements
+pub mod StatementSizes
+pub mod StatementForms
 pub mod Files
 pub mod FileKnown
 pub mod Standing

@@ -5,7 +5,7 @@ ghost use Rattle.psm_emit.specs.Parts.{at, block_entered, next_context, several_
 ghost use Rattle.psm_emit.specs.Queries.{item_letters};
 ghost use Rattle.psm_emit.specs.Simples.{changed, condition_number, declared_with};
 ghost use Rattle.psm_emit.specs.Statements.{with_cursor};
-ghost use Rattle.psm_emit.specs.Written.{letters_at, puts};
+ghost use Rattle.psm_emit.specs.Written.{last_letter, letters_at, puts};
 
 use crate::operators::letters_at;
 use crate::writer::Writer;
@@ -58,6 +58,13 @@ impl Parts {
         ensures { IfOk result (λ place. place ≡ at self.now) }
     {
         self.code.here()
+    }
+
+    /// The letter of the last operand; that of a number where there is none.
+    pub fn last_letter(&self) -> Letter
+        ensures { result ≡ last_letter self.now.code }
+    {
+        self.code.last_letter()
     }
 
     /// Writes an instruction that raises no condition and leaves the operands as they are.

@@ -134,7 +134,7 @@ fn behind_one(e: &Boxed<ResolvedExpr>, at: u32) -> Result<u32, AllocError>
 
 /// The line behind an operand that may be left out.
 #[cycle(counting)]
-fn behind_some(e: &Option<Boxed<ResolvedExpr>>, at: u32) -> Result<u32, AllocError>
+pub(crate) fn behind_some(e: &Option<Boxed<ResolvedExpr>>, at: u32) -> Result<u32, AllocError>
     ensures { IfOk result (λ end. end ≡ at + some_lines (option_map expr_lines e.now)) }
 {
     match e {
