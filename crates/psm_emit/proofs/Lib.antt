@@ -37,3 +37,4 @@ pub mod StatementCounting
 pub mod StatementCounts
 pub mod LastItems
 pub mod StatementForms
+pub mod RoutineForms

@@ -10,6 +10,7 @@ mod knowing;
 mod known;
 mod leaving;
 mod letters;
+mod lowering;
 mod operators;
 mod parts;
 mod queries;
@@ -28,3 +29,4 @@ mod writer;
 
 pub use around::Around;
 pub use known::Known;
+pub use lowering::lower;

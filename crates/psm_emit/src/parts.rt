@@ -9,8 +9,8 @@ ghost use Rattle.psm_emit.specs.Written.{last_letter, letters_at, puts};
 
 use crate::operators::letters_at;
 use crate::writer::Writer;
-use psm_code::{CodeCursor, Instruction, Plan};
-use psm_cond::{Block, ConditionValue, Context, ContextKind, Declared, Handler, HandlerKind};
+use psm_code::{CodeCursor, Instruction, Lines, Plan};
+use psm_cond::{Block, ConditionValue, Context, ContextKind, Declared, Handler, HandlerKind, HandlerTable};
 use psm_exprcode::{Letter, Query};
 use psm_list::{List, OneOrMore};
 use psm_resolved::{ResolvedCondition, ResolvedCursor};
@@ -186,6 +186,34 @@ impl Parts {
         })?;
         self.letters.push(List::of(letters))?;
         Ok(())
+    }
+
+    /// Gives all that is written back: the lines, the queries, the cursors, the plans, and the conditions, contexts and handlers.
+    pub fn into_code(self) -> (Lines, List<Query>, List<CodeCursor>, List<Plan>, HandlerTable)
+        ensures lines { result.0 ≡ self.code.lines }
+        ensures queries { result.1 ≡ self.code.queries }
+        ensures cursors { result.2 ≡ self.cursors }
+        ensures plans { result.3 ≡ self.plans }
+        ensures declared { result.4.declared ≡ self.declared }
+        ensures contexts { result.4.contexts ≡ self.contexts }
+        ensures handlers { result.4.handlers ≡ self.handlers }
+    {
+        let Parts {
+            code,
+            contexts,
+            handlers,
+            declared,
+            plans,
+            cursors,
+            ..
+        } = self;
+        let (lines, queries) = code.into_parts();
+        let table = HandlerTable {
+            declared: List::of(declared),
+            contexts: List::of(contexts),
+            handlers: List::of(handlers),
+        };
+        (lines, queries, List::of(cursors), List::of(plans), table)
     }
 
     /// A plan more, which is carried out with so many operands.
