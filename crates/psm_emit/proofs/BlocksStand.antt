@@ -66,13 +66,13 @@ shares-block : {r : RawRoutine} (env : Env) {p q : Parts} (level : ℕ) (block :
     → length p.cursors ≤ mid → mid ≤ next → next ≤ end → end ≤ length q.cursors → Shares env (the_block env level block context coded mid next end)
 shares-block env {p} level block context coded mid next end space counts first second third fourth =
     let ns = numbers_of (out-ResolvedBlock block).cursors in record {
-  own = λ n e. let k = are-between (length p.cursors) ns mid n counts e in space.free n k.0 (omega (arith, k.1, second, third, fourth));
-  inside = λ n e. let k = between-is next end n e in space.free n (omega (arith, k.0, first, second)) (omega (arith, k.1, fourth));
-  acting = λ n e. let k = between-is mid next n e in space.free n (omega (arith, k.0, first)) (omega (arith, k.1, third, fourth));
-  inside_own = apart-when (between next end) (are ns) (λ n e f. let k = between-is next end n e in let l = are-between (length p.cursors) ns mid n counts f in omega (arith, k.0, l.1, second));
-  acting_own = apart-when (between mid next) (are ns) (λ n e f. let k = between-is mid next n e in let l = are-between (length p.cursors) ns mid n counts f in omega (arith, k.0, l.1));
-  apart = apart-when (between next end) (between mid next) (λ n e f. let k = between-is next end n e in let l = between-is mid next n f in omega (arith, k.0, l.1));
-}
+      own = λ n e. let k = are-between (length p.cursors) ns mid n counts e in space.free n k.0 (omega (arith, k.1, second, third, fourth));
+      inside = λ n e. let k = between-is next end n e in space.free n (omega (arith, k.0, first, second)) (omega (arith, k.1, fourth));
+      acting = λ n e. let k = between-is mid next n e in space.free n (omega (arith, k.0, first)) (omega (arith, k.1, third, fourth));
+      inside_own = apart-when (between next end) (are ns) (λ n e f. let k = between-is next end n e in let l = are-between (length p.cursors) ns mid n counts f in omega (arith, k.0, l.1, second));
+      acting_own = apart-when (between mid next) (are ns) (λ n e f. let k = between-is mid next n e in let l = are-between (length p.cursors) ns mid n counts f in omega (arith, k.0, l.1));
+      apart = apart-when (between next end) (between mid next) (λ n e f. let k = between-is next end n e in let l = between-is mid next n f in omega (arith, k.0, l.1));
+    }
 
 -- ---- contexts
 
@@ -103,9 +103,10 @@ pub cursors-stand : (file : ResolvedFile) (routine : ResolvedRoutine) {r : RawRo
 cursors-stand file routine written.no_cursor kept f to n = tt
 cursors-stand file routine {r = r} (written.cursor {x = x} {xs = xs} {p = p} code made others) kept f to n =
     let here = kept-earlier {but = no_context} (grown-cursors others) kept in
-    let e : length (with_cursor (known_of file routine) x code p).cursors ≡ suc (length p.cursors) = length-snoc p.cursors (cursor_of x (length p.code.queries)) in
-    (cursor_stands made f.0 (there_at p.code.queries here.code.queries) (ap (slice_get r.cursors) n.0 ∙ there_at p.cursors here.cursors),
-     cursors-stand file routine others kept f.1 to (subst (λ i. CountsUp i (numbers_of xs) to) (sym e) n.1))
+    let e : length (with_cursor (known_of file routine) x code p).cursors ≡ suc (length p.cursors) = length-snoc p.cursors (cursor_of x (length p.code.queries)) in (
+      cursor_stands made f.0 (there_at p.code.queries here.code.queries) (ap (slice_get r.cursors) n.0 ∙ there_at p.cursors here.cursors),
+      cursors-stand file routine others kept f.1 to (subst (λ i. CountsUp i (numbers_of xs) to) (sym e) n.1),
+    )
 
 -- ---- the block of a compound statement
 
@@ -262,13 +263,13 @@ shares-for : {r : RawRoutine} (env : Env) {p q : Parts} (level context number : 
     → Shares env (for_block level context number (number ∷ []) (between mid end) env.cursors)
 shares-for env {p} level context number mid end space first second third fourth =
     let counts : CountsUp (length p.cursors) (number ∷ []) mid = (first, sym second) in record {
-  own = λ n e. let k = are-between (length p.cursors) (number ∷ []) mid n counts e in space.free n k.0 (omega (arith, k.1, third, fourth));
-  inside = λ n e. let k = between-is mid end n e in space.free n (omega (arith, k.0, second)) (omega (arith, k.1, third));
-  acting = λ n e. absurd (cc);
-  inside_own = apart-when (between mid end) (are (number ∷ [])) (λ n e f. let k = between-is mid end n e in let l = are-between (length p.cursors) (number ∷ []) mid n counts f in omega (arith, k.0, l.1));
-  acting_own = λ n e. absurd (cc);
-  apart = λ n e. refl;
-}
+      own = λ n e. let k = are-between (length p.cursors) (number ∷ []) mid n counts e in space.free n k.0 (omega (arith, k.1, third, fourth));
+      inside = λ n e. let k = between-is mid end n e in space.free n (omega (arith, k.0, second)) (omega (arith, k.1, third));
+      acting = λ n e. absurd (cc);
+      inside_own = apart-when (between mid end) (are (number ∷ [])) (λ n e f. let k = between-is mid end n e in let l = are-between (length p.cursors) (number ∷ []) mid n counts f in omega (arith, k.0, l.1));
+      acting_own = λ n e. absurd (cc);
+      apart = λ n e. refl;
+    }
 
 pub for-is : {r : RawRoutine} (env : Env) {around : List Around} {sight : Sight} (level exit : ℕ) (x : ResolvedCursor) {p a q : Parts} (end : ℕ) → Seen r env around sight → Space r env.context env.visible env.free p q → IsNewLevel level sight
     → Grown no_context p a → Grown no_context (block_entered env.context false exit (x.number ∷ []) a) q → IsCursor r x → x.number ≡ length p.cursors → length a.cursors ≡ suc (length p.cursors) → length a.cursors ≤ end → end ≤ length q.cursors

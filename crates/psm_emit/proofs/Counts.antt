@@ -101,8 +101,16 @@ mutual
   counts-writes {context = context} {resume = resume} {e = e} (written.searched {v = v} whens otherwise scale q a b) =
       omega (arith, counts-whens a, counts-otherwise b, here-all_applied context resume 1 N (scaling scale) v, scale_length scale, lines_at e (layers.Case None whens otherwise scale) q)
   counts-writes {context = context} {resume = resume} {e = e} (written.compared {u = u} {v = v} operand whens otherwise scale q o a b) =
-      omega (arith, counts-writes o, counts-compares a, here-taken context resume op.Drop u, counts-otherwise b, here-all_applied context resume 1 N (scaling scale) v, scale_length scale,
-        lines_at e (layers.Case (Some operand) whens otherwise scale) q)
+      omega (
+        arith,
+        counts-writes o,
+        counts-compares a,
+        here-taken context resume op.Drop u,
+        counts-otherwise b,
+        here-all_applied context resume 1 N (scaling scale) v,
+        scale_length scale,
+        lines_at e (layers.Case (Some operand) whens otherwise scale) q,
+      )
   counts-writes {context = context} {resume = resume} {e = e} (written.coalesce {v = v} values scale q a) =
       omega (arith, counts-firsts a, here-all_applied context resume 1 N (scaling scale) v, scale_length scale, lines_at e (layers.Coalesce values scale) q)
 
@@ -133,8 +141,17 @@ mutual
   counts-compares {context = context} {resume = resume} (written.compare {out = out} {w = w} {u = u} {t = t} a b c) =
       let equal = applied context resume op.Equal 2 B u in
       let jump = taken context resume (op.JumpUnlessTrue (suc (here t))) equal in
-      omega (arith, here-applied context resume op.Duplicate 0 (last_letter w) w, counts-writes a, here-applied context resume op.Equal 2 B u, here-taken context resume (op.JumpUnlessTrue (suc (here t))) equal,
-        here-taken context resume op.Drop jump, counts-writes b, here-applied context resume (op.Jump out) 1 (last_letter w) t, counts-compares c)
+      omega (
+        arith,
+        here-applied context resume op.Duplicate 0 (last_letter w) w,
+        counts-writes a,
+        here-applied context resume op.Equal 2 B u,
+        here-taken context resume (op.JumpUnlessTrue (suc (here t))) equal,
+        here-taken context resume op.Drop jump,
+        counts-writes b,
+        here-applied context resume (op.Jump out) 1 (last_letter w) t,
+        counts-compares c,
+      )
 
   pub counts-otherwise : {known : Known} {context resume : ℕ} {k : Letter} {e : Option ResolvedExpr} {w v : Written} → Otherwise known context resume k e w v → here v ≡ here w + else_lines (option_map expr_lines e)
   counts-otherwise {context = context} {resume = resume} {k = k} {w = w} written.no_else = omega (arith, here-applied context resume (op.Constant k data_of.Null) 0 k w)

@@ -1,6 +1,6 @@
 -- What is left of a list behind some of its items, and what is said of a list as far as a loop over it has come: what is known of the
 -- items that are left, is known of all.
-use Rattle.std.proofs.Common.{◌≡◌, ℕ, suc, ◌+◌, ◌<◌, ◌≤◌, List, [], ◌∷◌, ◌++◌, length, drop, get_or, ap, sym, subst, ◌∙◌, arith, drop-cons}
+use Rattle.std.proofs.Common.{◌≡◌, ℕ, suc, ◌+◌, ◌<◌, ◌≤◌, List, [], ◌∷◌, length, drop, get_or, ap, sym, subst, ◌∙◌, arith, drop-cons}
 use Rattle.std.proofs.lemmas.List.{drop_all}
 
 pub left_next : {A : Type 0} (xs : List A) (i : ℕ) (b c : A) → i < length xs → b ≡ get_or xs i b → c ≡ b → drop i xs ≡ c ∷ drop (i + 1) xs

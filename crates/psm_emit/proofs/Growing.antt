@@ -109,7 +109,13 @@ grown-plain context i {p} = grown-code (grows-plain context i {w = p.code})
 
 pub grown-with_cursor : {but : ℕ → Bool} (known : Known) (x : ResolvedCursor) (q : Query) (p : Parts) → Grown but p (with_cursor known x q p)
 grown-with_cursor known x q p = record {
-  code = grows-query q {w = p.code}; contexts = begins-here p.contexts; handlers = begins-here p.handlers; declared = begins-here p.declared; plans = begins-here p.plans; cursors = begins-more _ _; own = λ k e i. refl
+  code = grows-query q {w = p.code};
+  contexts = begins-here p.contexts;
+  handlers = begins-here p.handlers;
+  declared = begins-here p.declared;
+  plans = begins-here p.plans;
+  cursors = begins-more _ _;
+  own = λ k e i. refl;
 }
 
 pub grown-cursors : {but : ℕ → Bool} {known : Known} {xs : List ResolvedCursor} {p q : Parts} → WritesCursors known xs p q → Grown but p q
@@ -118,7 +124,13 @@ grown-cursors {known = known} (written.cursor {x = x} {p = p} code m others) = g
 
 pub grown-entered : {but : ℕ → Bool} (outer : ℕ) (atomic : Bool) (exit : ℕ) (cursors : List ℕ) (p : Parts) → Grown but p (block_entered outer atomic exit cursors p)
 grown-entered outer atomic exit cursors p = record {
-  code = grows-plain outer (instruction.Enter (next_context p)) {w = p.code}; contexts = begins-more _ _; handlers = begins-here p.handlers; declared = begins-here p.declared; plans = begins-here p.plans; cursors = begins-here p.cursors; own = λ k e i. refl
+  code = grows-plain outer (instruction.Enter (next_context p)) {w = p.code};
+  contexts = begins-more _ _;
+  handlers = begins-here p.handlers;
+  declared = begins-here p.declared;
+  plans = begins-here p.plans;
+  cursors = begins-here p.cursors;
+  own = λ k e i. refl;
 }
 
 pub grown-passed : {but : ℕ → Bool} (context start : ℕ) (hs : List ResolvedHandler) (p : Parts) → Grown but p (passed context start hs p)
@@ -127,7 +139,13 @@ grown-passed context start (h ∷ hs) p = grown-plain context _ {p = p}
 
 pub grown-handler : (context : ℕ) (kind : HandlerKind) (values : List ConditionValue) (p : Parts) → Grown (nat_eq context) p (with_handler context kind values p)
 grown-handler context kind values p = record {
-  code = grows-here; contexts = begins-more _ _; handlers = begins-more _ _; declared = begins-here p.declared; plans = begins-here p.plans; cursors = begins-here p.cursors; own = λ k e i. own-other k p.handlers _ e
+  code = grows-here;
+  contexts = begins-more _ _;
+  handlers = begins-more _ _;
+  declared = begins-here p.declared;
+  plans = begins-here p.plans;
+  cursors = begins-here p.cursors;
+  own = λ k e i. own-other k p.handlers _ e;
 }
 
 -- ---- simple statements

@@ -29,7 +29,6 @@ pub mod BlocksStand
 pub mod SimplesStand
 pub mod StatementsStand
 pub mod FilesStand
-pub mod Letters
 pub mod SimpleForms
 pub mod Dropping
 pub mod CallForms

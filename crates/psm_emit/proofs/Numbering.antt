@@ -101,8 +101,16 @@ mutual
   counted {context = context} {s = s} (written.compound {p = p} {w = w} {a = a} {b = b} {c = c} level block e declarations cursors handlers statements) =
       let all : cursors_of s ≡ numbers_of (out-ResolvedBlock block).cursors ++ (cursors_in_handlers (out-ResolvedBlock block).handlers ++ cursors_in (out-ResolvedBlock block).statements) = cursors-out s e ∙ block_cursors-out block in
       let entered = ap length (passed-cursors (next_context a) (at b) (out-ResolvedBlock block).handlers (block_entered context (out-ResolvedBlock block).atomic (at c) (numbers_of (out-ResolvedBlock block).cursors) a)) in
-      omega (arith, ap length all, length-append (numbers_of (out-ResolvedBlock block).cursors) (cursors_in_handlers (out-ResolvedBlock block).handlers ++ cursors_in (out-ResolvedBlock block).statements),
-          length-append (cursors_in_handlers (out-ResolvedBlock block).handlers) (cursors_in (out-ResolvedBlock block).statements), counted-cursors cursors, entered, counted-handlers handlers, counted-all statements)
+      omega (
+        arith,
+        ap length all,
+        length-append (numbers_of (out-ResolvedBlock block).cursors) (cursors_in_handlers (out-ResolvedBlock block).handlers ++ cursors_in (out-ResolvedBlock block).statements),
+        length-append (cursors_in_handlers (out-ResolvedBlock block).handlers) (cursors_in (out-ResolvedBlock block).statements),
+        counted-cursors cursors,
+        entered,
+        counted-handlers handlers,
+        counted-all statements,
+      )
   counted {s = s} (written.loop level ss e all) = omega (arith, ap length (cursors-out s e), counted-all all)
   counted {s = s} (written.while level test ss e t all) = omega (arith, ap length (cursors-out s e), counted-all all)
   counted {s = s} (written.repeat level ss until e all t) = omega (arith, ap length (cursors-out s e), counted-all all)

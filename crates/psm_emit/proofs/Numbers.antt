@@ -39,7 +39,7 @@ numbered test (r ∷ routines) n place routine q =
 
 numbered_at : (test : ResolvedRoutine → Bool) (routines : List ResolvedRoutine) (place : ℕ) (routine : ResolvedRoutine) → slice_get (filter test routines) place ≡ Some routine
     → slice_get routines (number_at (slice_get (numbers_of test 0 routines) place)) ≡ Some routine
-numbered_at test routines place routine q = 
+numbered_at test routines place routine q =
     let k = numbered test routines 0 place routine q in
     let number : slice_get (numbers_of test 0 routines) place ≡ Some k.0 = k.1 ∙ ap Some (omega arith) in
     ap (λ o. slice_get routines (number_at o)) number ∙ k.2

@@ -1,5 +1,5 @@
 -- The code of a routine, from what was written of it.
-use Rattle.std.proofs.Common.{◌≡◌, ℕ, List, [], ◌∷◌, drop, length, map, ap, sym, subst, ◌∙◌}
+use Rattle.std.proofs.Common.{◌≡◌, List, [], drop, length, map, ap, subst, ◌∙◌}
 use Rattle.std.specs.Prelude.{Result, Ok, Err, IfOk}
 use Rattle.std.specs.declared.alloc.AllocError.{AllocError}
 use Rattle.psm_cond.specs.declared.handlers.Declared.{Declared}
@@ -10,7 +10,7 @@ use Rattle.psm_resolved.specs.declared.file.ResolvedRoutine.{ResolvedRoutine}
 use Rattle.psm_resolved.specs.declared.statement.ResolvedStatement.{ResolvedStatement}
 use Rattle.psm_lower.specs.Simulation.{last_instruction, parameter_of}
 use Rattle.psm_emit.specs.declared.known.Known.{Known}
-use Rattle.psm_emit.specs.Files.{RoutineWritten, is_function, no_parts}
+use Rattle.psm_emit.specs.Files.{RoutineWritten, is_function}
 use Rattle.psm_emit.specs.Parts.{Parts, with_plain}
 use Rattle.psm_emit.specs.Statements.{WritesStatement}
 

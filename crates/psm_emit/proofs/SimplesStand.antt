@@ -62,6 +62,7 @@ leaves_stand {r} (Loop l out again ∷ around) level context w e b = by (nat_eq 
 leaves_stand {r} (AroundBlock l inner outer exit ∷ around) level context w e b = by (nat_eq level l) e b (λ e b. leaves_stand around level outer (plain context (instruction.Exit inner) w) e b) where
   left : Written
   left = plain context (instruction.Exit inner) w
+
   by : (t : Bool) → t || is_among level (labels_of around) ≡ true → Begins (if t then plain context (instruction.Operation (op.Jump exit)) w else leaves around level outer left) r
       → (is_among level (labels_of around) ≡ true → Begins (leaves around level outer left) r → Leaves r (map around_of around) level (here left))
       → IfElse t (Plain r (here w) (instruction.Operation (op.Jump exit))) (Plain r (here w) (instruction.Exit inner) × Leaves r (map around_of around) level (suc (here w)))
@@ -105,6 +106,7 @@ found-cursor {r} number (y ∷ ys) x e a = by (nat_eq y.number number) e (λ f. 
   the : Option ResolvedCursor → ResolvedCursor
   the None = x
   the (Some z) = z
+
   by : (b : Bool) → cond b (Some y) (find (λ y. nat_eq y.number number) ys) ≡ Some x → (find (λ y. nat_eq y.number number) ys ≡ Some x → IsCursor r x) → IsCursor r x
   by true e rec = subst (IsCursor r) (ap the e) a.0
   by false e rec = rec e
@@ -156,9 +158,11 @@ module _ (file : ResolvedFile) (code : RawCode) (routine : ResolvedRoutine) (r :
   -- an operation on a cursor
   one-behind : (i : Instruction) (p : Parts) → Begins (takes context resume i 0 (cleared context p)) r → resume ≡ here (takes context resume i 0 (cleared context p))
       → Plain r (at p) instruction.Clear × Raising r context resume (suc (at p)) i × (suc (suc (at p)) ≡ resume)
-  one-behind i p b e =
-      (clear-there p (begins-earlier (grows-takes context resume i 0 {w = cleared context p}) b), after i (clear-line p) (raising_there (cleared context p) b.lines),
-      ap suc (sym (clear-line p)) ∙ sym (here-takes context resume i 0 (cleared context p)) ∙ sym e)
+  one-behind i p b e = (
+    clear-there p (begins-earlier (grows-takes context resume i 0 {w = cleared context p}) b),
+    after i (clear-line p) (raising_there (cleared context p) b.lines),
+    ap suc (sym (clear-line p)) ∙ sym (here-takes context resume i 0 (cleared context p)) ∙ sym e,
+  )
 
   -- a plan that is carried out behind CLEAR
   plan-behind : (plan : Plan) (p : Parts) → Kept (changed context resume plan 0 (with_code (cleared context p) p)) r → resume ≡ at (changed context resume plan 0 (with_code (cleared context p) p))
@@ -197,9 +201,12 @@ module _ (file : ResolvedFile) (code : RawCode) (routine : ResolvedRoutine) (r :
       → (n : ℕ) × Plain r (at p) instruction.Clear × IsDeclared routine r s.condition n × stands.Signals file code r context resume plain with_message n s.message (suc (at p)) resume
   signalled_stand plain with_message s p {w} m kept f e =
       let n = condition_number s.condition p.declared in
-      let there = signals_stand file code r known context resume (known_functions file routine) plain with_message n m f.1 kept.code in
-      (n, clear-there p (begins-earlier (grows-signals m) kept.code), is-declared given s.condition p kept.declared f.0,
-      subst (λ i. stands.Signals file code r context resume plain with_message n s.message i resume) (clear-line p) (subst (λ i. stands.Signals file code r context resume plain with_message n s.message (here (cleared context p)) i) (sym e) there))
+      let there = signals_stand file code r known context resume (known_functions file routine) plain with_message n m f.1 kept.code in (
+        n,
+        clear-there p (begins-earlier (grows-signals m) kept.code),
+        is-declared given s.condition p kept.declared f.0,
+        subst (λ i. stands.Signals file code r context resume plain with_message n s.message i resume) (clear-line p) (subst (λ i. stands.Signals file code r context resume plain with_message n s.message (here (cleared context p)) i) (sym e) there),
+      )
 
   call_written : (procedure : ℕ) (args : List ResolvedArgument) (p : Parts) {w : Written} → CallArguments known context resume (letters_at known.takes (procedure_number known procedure)) 0 args (cleared context p) w
       → Begins (stored context resume (λ slot. instruction.Store slot) (slots_given args) (puts context resume (instruction.Call (procedure_number known procedure)) (more_operands p w) (letters_at known.gives (procedure_number known procedure)) w)) r
@@ -211,19 +218,27 @@ module _ (file : ResolvedFile) (code : RawCode) (routine : ResolvedRoutine) (r :
       let letters = letters_at known.gives n in
       let called = puts context resume (instruction.Call n) (more_operands p w) letters w in
       let behind = begins-earlier (grows-stored context resume store (slots_given args) called) b in
-      let read = begins-earlier (grows-puts context resume (instruction.Call n) (more_operands p w) letters {w = w}) behind in
-      (here w, n, clear-there p (begins-earlier (grows-call a) read),
-      subst (λ i. stands.Arguments file code r context resume args i (here w)) (clear-line p) (call_stands file code r known context resume (known_functions file routine) a f.3 read),
-      procedure_stands file known (known_procedures file routine) procedure args f.0 f.1 f.2, raising_there w behind.lines,
-      subst (λ i. stands.Stores r context resume store (slots_given args) i resume) (here-puts context resume (instruction.Call n) (more_operands p w) letters w)
-        (subst (stands.Stores r context resume store (slots_given args) (here called)) (sym e) (stored_stands context resume store (slots_given args) called b)))
+      let read = begins-earlier (grows-puts context resume (instruction.Call n) (more_operands p w) letters {w = w}) behind in (
+        here w,
+        n,
+        clear-there p (begins-earlier (grows-call a) read),
+        subst (λ i. stands.Arguments file code r context resume args i (here w)) (clear-line p) (call_stands file code r known context resume (known_functions file routine) a f.3 read),
+        procedure_stands file known (known_procedures file routine) procedure args f.0 f.1 f.2,
+        raising_there w behind.lines,
+        subst (λ i. stands.Stores r context resume store (slots_given args) i resume) (here-puts context resume (instruction.Call n) (more_operands p w) letters w)
+            (subst (stands.Stores r context resume store (slots_given args) (here called)) (sym e) (stored_stands context resume store (slots_given args) called b)),
+      )
 
   pub simple_stands : {around : List Around} {sight : Sight} {s : ResolvedSimple} {p q : Parts} → WritesSimple known context resume around s p q → resume ≡ at q → Seen r env around sight → Kept q r → SimpleFits file routine sight s
       → Simple file code routine r env resume s (at p)
   simple_stands (written.set {slot = slot} {e = t} {p = p} {w = w} x) e seen kept f =
-      let read = begins-earlier (grows-takes context resume (instruction.Store slot) 1 {w = w}) kept.code in
-      (here w, clear-there p (begins-earlier (grows-writes x) read), subst (λ n. Puts file code r context resume t n (here w)) (clear-line p) (puts_written file code r known context resume (known_functions file routine) x f read),
-      raising_there w kept.code.lines, sym (here-takes context resume (instruction.Store slot) 1 w) ∙ sym e)
+      let read = begins-earlier (grows-takes context resume (instruction.Store slot) 1 {w = w}) kept.code in (
+        here w,
+        clear-there p (begins-earlier (grows-writes x) read),
+        subst (λ n. Puts file code r context resume t n (here w)) (clear-line p) (puts_written file code r known context resume (known_functions file routine) x f read),
+        raising_there w kept.code.lines,
+        sym (here-takes context resume (instruction.Store slot) 1 w) ∙ sym e,
+      )
   simple_stands (written.call {procedure = procedure} {args = args} {p = p} a) e seen kept f = call_written procedure args p a kept.code e f
   simple_stands (written.return {w = w} x) e seen kept f =
       (here w, puts_written file code r known context resume (known_functions file routine) x f (begins-earlier (grows-takes context resume instruction.Return 1 {w = w}) kept.code), raising_there w kept.code.lines, sym (here-takes context resume instruction.Return 1 w) ∙ sym e)
@@ -235,30 +250,50 @@ module _ (file : ResolvedFile) (code : RawCode) (routine : ResolvedRoutine) (r :
   simple_stands (written.diagnostics_of_statement {is = is} {p = p}) e seen kept f = subst (stands.StatementItems r context resume is (at p)) (sym e) (statement_items_stand context resume is p.code kept.code)
   simple_stands (written.diagnostics_of_condition {number = number} {is = []} {p = p}) e seen kept f = absurd f
   simple_stands (written.diagnostics_of_condition {number = number} {is = i ∷ is} {p = p}) e seen kept f =
-      let first = applied context resume (number_op number) 0 N p.code in
-      (subst (Raising r context resume (at p)) (number-is number) (raising_there p.code (begins-earlier (grows-condition_items context resume (i ∷ is) first) kept.code).lines),
-      subst (λ n. stands.ConditionItems r context resume i is n resume) (here-applied context resume (number_op number) 0 N p.code)
-        (subst (stands.ConditionItems r context resume i is (here first)) (sym e) (condition_items_stand context resume i is first kept.code)))
+      let first = applied context resume (number_op number) 0 N p.code in (
+        subst (Raising r context resume (at p)) (number-is number) (raising_there p.code (begins-earlier (grows-condition_items context resume (i ∷ is) first) kept.code).lines),
+        subst (λ n. stands.ConditionItems r context resume i is n resume) (here-applied context resume (number_op number) 0 N p.code)
+            (subst (stands.ConditionItems r context resume i is (here first)) (sym e) (condition_items_stand context resume i is first kept.code)),
+      )
   simple_stands (written.select_into {query = query} {slots = slots} {p = p} {code = asked} m) e seen kept f =
       let n = length p.code.queries in
       let ready = with_query asked (cleared context p) in
       let got = puts context resume (instruction.SelectRow n) 0 (item_letters known query) ready in
       let behind = begins-earlier (grows-retrieved context resume slots got) kept.code in
       let before = begins-earlier (grows-puts context resume (instruction.SelectRow n) 0 (item_letters known query) {w = ready}) behind in
-      let there = retrieved_stands slots got kept.code resume e in
-      (n, there.0, clear-there p (begins-earlier (grows-query asked {w = cleared context p}) before), query_stands m f (there_at p.code.queries before.queries), after (instruction.SelectRow n) (clear-line p) (raising_there ready behind.lines),
-      subst (λ i. stands.Stores r context resume (λ slot. instruction.Retrieve slot) slots i there.0) (here-puts context resume (instruction.SelectRow n) 0 (item_letters known query) ready ∙ ap suc (clear-line p)) there.1, there.2, there.3)
+      let there = retrieved_stands slots got kept.code resume e in (
+        n,
+        there.0,
+        clear-there p (begins-earlier (grows-query asked {w = cleared context p}) before),
+        query_stands m f (there_at p.code.queries before.queries),
+        after (instruction.SelectRow n) (clear-line p) (raising_there ready behind.lines),
+        subst (λ i. stands.Stores r context resume (λ slot. instruction.Retrieve slot) slots i there.0) (here-puts context resume (instruction.SelectRow n) 0 (item_letters known query) ready ∙ ap suc (clear-line p)) there.1,
+        there.2,
+        there.3,
+      )
   simple_stands (written.insert {table = table} {columns = columns} {rows = rows} {p = p} {w = w} all) e seen kept f =
       let there = change-there context resume (plans.Insert table columns (length rows)) (more_operands p w) (with_code w p) kept e in
-      let read = begins-earlier (grows-takes context resume (instruction.Change (length p.plans)) (more_operands p w) {w = w}) kept.code in
-      (here w, length p.plans, clear-there p (begins-earlier (grows-rows all) read),
-      subst (λ n. PutsRows file code r context resume (length columns) rows n (here w)) (clear-line p) (rows_stand file code r known context resume (known_functions file routine) (length columns) all f read), there.0, there.1, there.2)
+      let read = begins-earlier (grows-takes context resume (instruction.Change (length p.plans)) (more_operands p w) {w = w}) kept.code in (
+        here w,
+        length p.plans,
+        clear-there p (begins-earlier (grows-rows all) read),
+        subst (λ n. PutsRows file code r context resume (length columns) rows n (here w)) (clear-line p) (rows_stand file code r known context resume (known_functions file routine) (length columns) all f read),
+        there.0,
+        there.1,
+        there.2,
+      )
   simple_stands (written.insert_query {table = table} {columns = columns} {query = query} {p = p} {code = asked} m) e seen kept f =
       let ready = with_query asked (cleared context p) in
       let there = change-there context resume (plans.InsertQuery table columns (length p.code.queries)) 0 (with_code ready p) kept e in
-      let before = begins-earlier (grows-takes context resume (instruction.Change (length p.plans)) 0 {w = ready}) kept.code in
-      (length p.plans, length p.code.queries, clear-there p (begins-earlier (grows-query asked {w = cleared context p}) before), query_stands m f (there_at p.code.queries before.queries), there.0,
-      after (instruction.Change (length p.plans)) (clear-line p) there.1, ap suc (sym (clear-line p)) ∙ there.2)
+      let before = begins-earlier (grows-takes context resume (instruction.Change (length p.plans)) 0 {w = ready}) kept.code in (
+        length p.plans,
+        length p.code.queries,
+        clear-there p (begins-earlier (grows-query asked {w = cleared context p}) before),
+        query_stands m f (there_at p.code.queries before.queries),
+        there.0,
+        after (instruction.Change (length p.plans)) (clear-line p) there.1,
+        ap suc (sym (clear-line p)) ∙ there.2,
+      )
   simple_stands (written.update {p = p} u) e seen kept f = updates_stand p u seen f.0 f.1 kept e
   simple_stands (written.delete {p = p} d) e seen kept f = deletes_stand p d seen f kept e
   simple_stands (written.open_ {cursor = cursor} {p = p}) e seen kept f = let x = one-behind (instruction.Open cursor) p kept.code e in (f.0, x.0, sees seen f.1, x.1, x.2)
@@ -266,7 +301,14 @@ module _ (file : ResolvedFile) (code : RawCode) (routine : ResolvedRoutine) (r :
       let letters = letters_at p.letters cursor in
       let got = puts context resume (instruction.Fetch cursor) 0 letters (cleared context p) in
       let behind = begins-earlier (grows-retrieved context resume slots got) kept.code in
-      let there = retrieved_stands slots got kept.code resume e in
-      (f.0, there.0, clear-there p (begins-earlier (grows-puts context resume (instruction.Fetch cursor) 0 letters {w = cleared context p}) behind), sees seen f.1, after (instruction.Fetch cursor) (clear-line p) (raising_there (cleared context p) behind.lines),
-      subst (λ i. stands.Stores r context resume (λ slot. instruction.Retrieve slot) slots i there.0) (here-puts context resume (instruction.Fetch cursor) 0 letters (cleared context p) ∙ ap suc (clear-line p)) there.1, there.2, there.3)
+      let there = retrieved_stands slots got kept.code resume e in (
+        f.0,
+        there.0,
+        clear-there p (begins-earlier (grows-puts context resume (instruction.Fetch cursor) 0 letters {w = cleared context p}) behind),
+        sees seen f.1,
+        after (instruction.Fetch cursor) (clear-line p) (raising_there (cleared context p) behind.lines),
+        subst (λ i. stands.Stores r context resume (λ slot. instruction.Retrieve slot) slots i there.0) (here-puts context resume (instruction.Fetch cursor) 0 letters (cleared context p) ∙ ap suc (clear-line p)) there.1,
+        there.2,
+        there.3,
+      )
   simple_stands (written.close_ {cursor = cursor} {p = p}) e seen kept f = let x = one-behind (instruction.Close cursor) p kept.code e in (f.0, x.0, sees seen f.1, x.1, x.2)

@@ -41,9 +41,10 @@ pub stored_stands : (context resume : ℕ) (store : ℕ → Instruction) (slots 
 stored_stands context resume store [] w b = refl
 stored_stands context resume store (slot ∷ slots) w {r} b =
     let next = takes context resume (store slot) 1 w in
-    let end = stored context resume store slots next in
-    (raising_there w (begins-earlier (grows-stored context resume store slots next) b).lines,
-    subst (λ n. stands.Stores r context resume store slots n (here end)) (here-takes context resume (store slot) 1 w) (stored_stands context resume store slots next b))
+    let end = stored context resume store slots next in (
+      raising_there w (begins-earlier (grows-stored context resume store slots next) b).lines,
+      subst (λ n. stands.Stores r context resume store slots n (here end)) (here-takes context resume (store slot) 1 w) (stored_stands context resume store slots next b),
+    )
 
 pub copied_stands : (context resume : ℕ) (slots : List ℕ) (w : Written) {r : RawRoutine} → Begins (copied context resume slots w) r → stands.Copies r context resume slots (here w) (here (copied context resume slots w))
 copied_stands context resume [] w b = (raising_there w b.lines, sym (here-takes context resume (instruction.Operation op.Drop) 1 w))
@@ -53,10 +54,11 @@ copied_stands context resume (slot ∷ t ∷ slots) w {r} b =
     let next = takes context resume (instruction.Store slot) 1 two in
     let end = copied context resume (t ∷ slots) next in
     let behind = begins-earlier (grows-copied context resume (t ∷ slots) next) b in
-    let one : here two ≡ suc (here w) = here-applied context resume op.Duplicate 0 (last_letter w) w in
-    (raising_there w (begins-earlier (grows-takes context resume (instruction.Store slot) 1 {w = two}) behind).lines,
-    subst (λ n. Raising r context resume n (instruction.Store slot)) one (raising_there two behind.lines),
-    subst (λ n. stands.Copies r context resume (t ∷ slots) n (here end)) (here-takes context resume (instruction.Store slot) 1 two ∙ ap suc one) (copied_stands context resume (t ∷ slots) next b))
+    let one : here two ≡ suc (here w) = here-applied context resume op.Duplicate 0 (last_letter w) w in (
+      raising_there w (begins-earlier (grows-takes context resume (instruction.Store slot) 1 {w = two}) behind).lines,
+      subst (λ n. Raising r context resume n (instruction.Store slot)) one (raising_there two behind.lines),
+      subst (λ n. stands.Copies r context resume (t ∷ slots) n (here end)) (here-takes context resume (instruction.Store slot) 1 two ∙ ap suc one) (copied_stands context resume (t ∷ slots) next b),
+    )
 
 -- ---- GET DIAGNOSTICS
 
@@ -68,20 +70,22 @@ statement_items_stand context resume (i ∷ items) w {r} b =
     let next = takes context resume (instruction.Store i.0) 1 asked in
     let end = statement_items context resume items next in
     let behind = begins-earlier (grows-statement_items context resume items next) b in
-    let one : here asked ≡ suc (here w) = here-puts context resume (instruction.StatementItem i.1) 0 (statement_letter i.1 ∷ []) w in
-    (raising_there w (begins-earlier (grows-takes context resume (instruction.Store i.0) 1 {w = asked}) behind).lines,
-    subst (λ n. Raising r context resume n (instruction.Store i.0)) one (raising_there asked behind.lines),
-    subst (λ n. stands.StatementItems r context resume items n (here end)) (here-takes context resume (instruction.Store i.0) 1 asked ∙ ap suc one) (statement_items_stand context resume items next b))
+    let one : here asked ≡ suc (here w) = here-puts context resume (instruction.StatementItem i.1) 0 (statement_letter i.1 ∷ []) w in (
+      raising_there w (begins-earlier (grows-takes context resume (instruction.Store i.0) 1 {w = asked}) behind).lines,
+      subst (λ n. Raising r context resume n (instruction.Store i.0)) one (raising_there asked behind.lines),
+      subst (λ n. stands.StatementItems r context resume items n (here end)) (here-takes context resume (instruction.Store i.0) 1 asked ∙ ap suc one) (statement_items_stand context resume items next b),
+    )
 
 -- the two lines of an item, and that behind them
 item_there : (context resume : ℕ) (i : ℕ × ConditionItem) (w : Written) {r : RawRoutine} → Begins (item_stored context resume i w) r
     → Raising r context resume (here w) (instruction.ConditionItem i.1) × Raising r context resume (suc (here w)) (instruction.Store i.0) × (suc (suc (here w)) ≡ here (item_stored context resume i w))
 item_there context resume i w {r} b =
     let asked = puts context resume (instruction.ConditionItem i.1) 1 (condition_letter i.1 ∷ []) w in
-    let one : here asked ≡ suc (here w) = here-puts context resume (instruction.ConditionItem i.1) 1 (condition_letter i.1 ∷ []) w in
-    (raising_there w (begins-earlier (grows-takes context resume (instruction.Store i.0) 1 {w = asked}) b).lines,
-    subst (λ n. Raising r context resume n (instruction.Store i.0)) one (raising_there asked b.lines),
-    sym (here-takes context resume (instruction.Store i.0) 1 asked ∙ ap suc one))
+    let one : here asked ≡ suc (here w) = here-puts context resume (instruction.ConditionItem i.1) 1 (condition_letter i.1 ∷ []) w in (
+      raising_there w (begins-earlier (grows-takes context resume (instruction.Store i.0) 1 {w = asked}) b).lines,
+      subst (λ n. Raising r context resume n (instruction.Store i.0)) one (raising_there asked b.lines),
+      sym (here-takes context resume (instruction.Store i.0) 1 asked ∙ ap suc one),
+    )
 
 pub condition_items_stand : (context resume : ℕ) (i : ℕ × ConditionItem) (items : List (ℕ × ConditionItem)) (w : Written) {r : RawRoutine} → Begins (condition_items context resume (i ∷ items) w) r
     → stands.ConditionItems r context resume i items (here w) (here (condition_items context resume (i ∷ items) w))
@@ -92,11 +96,12 @@ condition_items_stand context resume i (j ∷ items) w {r} b =
     let end = condition_items context resume (j ∷ items) next in
     let behind = begins-earlier (grows-condition_items context resume (j ∷ items) next) b in
     let one : here two ≡ suc (here w) = here-applied context resume op.Duplicate 0 N w in
-    let item = item_there context resume i two behind in
-    (raising_there w (begins-earlier (grows-item_stored context resume i two) behind).lines,
-    subst (λ n. Raising r context resume n (instruction.ConditionItem i.1)) one item.0,
-    subst (λ n. Raising r context resume (suc n) (instruction.Store i.0)) one item.1,
-    subst (λ n. stands.ConditionItems r context resume j items n (here end)) (sym item.2 ∙ ap (λ n. suc (suc n)) one) (condition_items_stand context resume j items next b))
+    let item = item_there context resume i two behind in (
+      raising_there w (begins-earlier (grows-item_stored context resume i two) behind).lines,
+      subst (λ n. Raising r context resume n (instruction.ConditionItem i.1)) one item.0,
+      subst (λ n. Raising r context resume (suc n) (instruction.Store i.0)) one item.1,
+      subst (λ n. stands.ConditionItems r context resume j items n (here end)) (sym item.2 ∙ ap (λ n. suc (suc n)) one) (condition_items_stand context resume j items next b),
+    )
 
 -- ---- CALL
 
@@ -125,9 +130,10 @@ module _ (file : ResolvedFile) (code : RawCode) (r : RawRoutine) (known : Known)
   call_stands (written.in_argument {u = u} a rest) o b = (here u, puts_written file code r known context resume functions a o.0 (begins-earlier (grows-call rest) b), call_stands rest o.1 b)
   call_stands (written.out_argument rest) o b = call_stands rest o b
   call_stands {v = v} (written.inout_argument {slot = slot} {others = others} {w = w} rest) o b =
-      let k = letter_at known.variables slot in
-      (raising_there w (begins-earlier (grows-call rest) b).lines,
-      subst (λ n. stands.Arguments file code r context resume others n (here v)) (here-applied context resume (op.Variable slot) 0 k w) (call_stands rest o b))
+      let k = letter_at known.variables slot in (
+        raising_there w (begins-earlier (grows-call rest) b).lines,
+        subst (λ n. stands.Arguments file code r context resume others n (here v)) (here-applied context resume (op.Variable slot) 0 k w) (call_stands rest o b),
+      )
 
   pub signals_stand : (plain with_message : ℕ → Instruction) (n : ℕ) {message : Option ResolvedExpr} {w v : Written} → Signals known context resume (plain n) (with_message n) message w v → PerhapsOutside file known message → Begins v r
       → stands.Signals file code r context resume plain with_message n message (here w) (here v)

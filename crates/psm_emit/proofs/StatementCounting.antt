@@ -11,8 +11,8 @@ use Rattle.psm_resolved.specs.declared.statement.ResolvedStatement.TheOpen.{Reso
 use Rattle.psm_resolved.specs.declared.statement.ResolvedStatement.TheOpen as layers
 use Rattle.psm_resolved.specs.declared.statement.ResolvedStatement.TheVariants as statements
 use Rattle.psm_resolved.specs.declared.statement.ResolvedStatement.TheFolds.{map-ResolvedStatement, fold-ResolvedBlock, fold-ResolvedBranch, fold-ResolvedHandler, fold_out-ResolvedStatement, fold_out-ResolvedBlock, fold_out-ResolvedBranch, fold_out-ResolvedHandler}
-use Rattle.psm_emit.specs.Sizes.{each_with, expr_lines}
-use Rattle.psm_emit.specs.StatementSizes.{BlockFrame, Frame, Size, block_layer, block_lines, branch_layer, branch_lines, case_lines, each_of, handler_layer, handler_lines, otherwise_lines, passing_lines, statement_layer, statement_lines, statements_lines}
+use Rattle.psm_emit.specs.Sizes.{each_with}
+use Rattle.psm_emit.specs.StatementSizes.{Frame, Size, block_layer, block_lines, branch_layer, branch_lines, case_lines, each_of, handler_layer, handler_lines, otherwise_lines, passing_lines, statement_layer, statement_lines, statements_lines}
 
 abbrev pub Layer : Type 0
 Layer = ResolvedStatement-F ResolvedStatement ResolvedBlock ResolvedBranch ResolvedHandler

@@ -16,7 +16,7 @@ use Rattle.psm_resolved.specs.declared.statement.ResolvedBranch.{ResolvedBranch}
 use Rattle.psm_resolved.specs.declared.statement.ResolvedCursor.{ResolvedCursor}
 use Rattle.psm_resolved.specs.declared.statement.ResolvedDeclaration.{ResolvedDeclaration}
 use Rattle.psm_resolved.specs.declared.statement.ResolvedFor.{ResolvedFor}
-use Rattle.psm_resolved.specs.declared.statement.ResolvedHandler.{ResolvedHandler, out-ResolvedHandler}
+use Rattle.psm_resolved.specs.declared.statement.ResolvedHandler.{ResolvedHandler}
 use Rattle.psm_resolved.specs.declared.statement.ResolvedSimple.{ResolvedSimple}
 use Rattle.psm_resolved.specs.declared.statement.ResolvedStatement.{ResolvedStatement}
 use Rattle.psm_resolved.specs.declared.statement.ResolvedStatement.TheOpen as layers
@@ -24,7 +24,7 @@ use Rattle.psm_lower.specs.Scheme.{slots_given}
 use Rattle.psm_emit.specs.declared.around.Around.{Around}
 use Rattle.psm_emit.specs.declared.around.Around.TheVariants.{Loop, Block, Rows}
 use Rattle.psm_emit.specs.declared.known.Known.{Known}
-use Rattle.psm_emit.specs.Parts.{Parts, at, block_entered, iterates, leaves, next_context, with_code, with_handler, with_plain}
+use Rattle.psm_emit.specs.Parts.{Parts, at, block_entered, iterates, leaves, next_context, with_code, with_plain}
 use Rattle.psm_emit.specs.Queries.{item_letters}
 use Rattle.psm_emit.specs.Simples.{CallArguments, Declares, Default, Signals, WritesRows, WritesSimple, cleared, condition_items, condition_number, copied, item_stored, more_operands, number_op, procedure_number, retrieved, statement_items, stored}
 use Rattle.psm_emit.specs.Simples as simple
@@ -32,7 +32,7 @@ use Rattle.psm_emit.specs.Sizes.{each_with, else_lines, expr_lines, exprs_lines,
 use Rattle.psm_emit.specs.Statements.{WritesBranches, WritesComparisons, WritesCursors, WritesElse, WritesHandlers, WritesStatement, WritesStatements, fetched, jumped, opened, passed, unless_true}
 use Rattle.psm_emit.specs.Statements as written
 use Rattle.psm_emit.specs.StatementSizes.{argument_lines, branch_lines, condition_lines, copied_lines, declaration_lines, each_of, frame_of, handler_lines, iterate_lines, leave_lines, otherwise_lines, passing_lines, simple_lines, statement_lines, statements_lines}
-use Rattle.psm_emit.specs.Written.{Written, applied, here, last_letter, letter_at, letters_at, number_at, plain, puts, takes, taken, with_query}
+use Rattle.psm_emit.specs.Written.{Written, applied, here, last_letter, letter_at, letters_at, plain, puts, takes, with_query}
 use Rattle.psm_emit.proofs.Counts.{counts-arguments, counts-writes, here-applied, here-plain, here-puts, here-taken, here-takes}
 use Rattle.psm_emit.proofs.StatementCounting.{statement_at}
 
@@ -58,8 +58,12 @@ here-statement_items : (context resume : ℕ) (items : List (ℕ × StatementIte
 here-statement_items context resume [] w = omega arith
 here-statement_items context resume (i ∷ items) w =
     let got = puts context resume (instruction.StatementItem i.1) 0 (statement_letter i.1 ∷ []) w in
-    omega (arith, here-statement_items context resume items (takes context resume (instruction.Store i.0) 1 got), here-takes context resume (instruction.Store i.0) 1 got,
-      here-puts context resume (instruction.StatementItem i.1) 0 (statement_letter i.1 ∷ []) w)
+    omega (
+      arith,
+      here-statement_items context resume items (takes context resume (instruction.Store i.0) 1 got),
+      here-takes context resume (instruction.Store i.0) 1 got,
+      here-puts context resume (instruction.StatementItem i.1) 0 (statement_letter i.1 ∷ []) w,
+    )
 
 here-item_stored : (context resume : ℕ) (i : ℕ × ConditionItem) (w : Written) → here (item_stored context resume i w) ≡ here w + 2
 here-item_stored context resume i w =
@@ -135,8 +139,13 @@ counts-simple {context = context} {resume = resume} (simple.set {slot = slot} {p
 counts-simple {known} {context} {resume} (simple.call {procedure = procedure} {args = args} {p = p} {w = w} a) =
     let n = procedure_number known procedure in
     let called = puts context resume (instruction.Call n) (more_operands p w) (letters_at known.gives n) w in
-    omega (arith, counts-call a, here-cleared context p, here-puts context resume (instruction.Call n) (more_operands p w) (letters_at known.gives n) w,
-      here-stored context resume (λ slot. instruction.Store slot) (slots_given args) called)
+    omega (
+      arith,
+      counts-call a,
+      here-cleared context p,
+      here-puts context resume (instruction.Call n) (more_operands p w) (letters_at known.gives n) w,
+      here-stored context resume (λ slot. instruction.Store slot) (slots_given args) called,
+    )
 counts-simple {context = context} {resume = resume} (simple.return {w = w} a) = omega (arith, counts-writes a, here-takes context resume instruction.Return 1 w)
 counts-simple {context = context} {around = around} (simple.leave {level = level} {p = p}) = here-leaves around level context p.code
 counts-simple {context = context} {around = around} (simple.iterate {level = level} {p = p}) = here-iterates around level context p.code
@@ -188,13 +197,29 @@ mutual
       let n = next_context a in
       let x = out-ResolvedBlock block in
       let numbers = map (λ y. y.number) x.cursors in
-      omega (arith, counts-declares d, counts-cursors cs, at-entered context x.atomic (at c) numbers a, at-passed n (at b) x.handlers (block_entered context x.atomic (at c) numbers a), counts-handlers hs, counts-statements ss,
-        at-plain n (instruction.Exit n) c, statement_at s (layers.Compound level block) q (map frame_of around))
+      omega (
+        arith,
+        counts-declares d,
+        counts-cursors cs,
+        at-entered context x.atomic (at c) numbers a,
+        at-passed n (at b) x.handlers (block_entered context x.atomic (at c) numbers a),
+        counts-handlers hs,
+        counts-statements ss,
+        at-plain n (instruction.Exit n) c,
+        statement_at s (layers.Compound level block) q (map frame_of around),
+      )
   counts-statement {context = context} {around = around} {s = s} {p = p} (written.loop {c = c} level ls q ss) =
       omega (arith, at-plain context instruction.Turn p, counts-statements ss, at-plain context (instruction.Operation (op.Jump (at p))) c, statement_at s (layers.Loop level ls) q (map frame_of around))
   counts-statement {context = context} {around = around} {s = s} {p = p} (written.while {c = c} {w = w} level test ls q t ss) =
-      omega (arith, at-plain context instruction.Turn p, counts-writes t, here-taken context (suc (at c)) (op.JumpUnlessTrue (suc (at c))) w, counts-statements ss, at-plain context (instruction.Operation (op.Jump (at p))) c,
-        statement_at s (layers.While level test ls) q (map frame_of around))
+      omega (
+        arith,
+        at-plain context instruction.Turn p,
+        counts-writes t,
+        here-taken context (suc (at c)) (op.JumpUnlessTrue (suc (at c))) w,
+        counts-statements ss,
+        at-plain context (instruction.Operation (op.Jump (at p))) c,
+        statement_at s (layers.While level test ls) q (map frame_of around),
+      )
   counts-statement {context = context} {around = around} {s = s} {p = p} (written.repeat {w = w} level ls until q ss t) =
       omega (arith, at-plain context instruction.Turn p, counts-statements ss, counts-writes t, here-taken context (suc (length w.lines)) (op.JumpUnlessTrue (at p)) w, statement_at s (layers.Repeat level ls until) q (map frame_of around))
   counts-statement {around = around} {s = s} (written.if_ branches otherwise q bs ss) = omega (arith, counts-branches bs, counts-statements ss, statement_at s (layers.If branches otherwise) q (map frame_of around))
@@ -207,8 +232,17 @@ mutual
       let e = block_entered context false out (head.cursor.number ∷ []) a in
       let o = opened n out head.cursor e in
       let j = jumped n (suc (suc (at p))) c in
-      omega (arith, counts-cursors cs, at-entered context false out (head.cursor.number ∷ []) a, at-opened n out head.cursor e, at-fetched n out head o, counts-statements ss,
-        at-plain n (instruction.Operation (op.Jump (suc (suc (at p))))) c, at-plain n (instruction.Exit n) j, statement_at s (layers.For level head ls) q (map frame_of around))
+      omega (
+        arith,
+        counts-cursors cs,
+        at-entered context false out (head.cursor.number ∷ []) a,
+        at-opened n out head.cursor e,
+        at-fetched n out head o,
+        counts-statements ss,
+        at-plain n (instruction.Operation (op.Jump (suc (suc (at p))))) c,
+        at-plain n (instruction.Exit n) j,
+        statement_at s (layers.For level head ls) q (map frame_of around),
+      )
   counts-statement {around = around} {s = s} (written.simple statement q x) = omega (arith, counts-simple x, statement_at s (layers.Simple statement) q (map frame_of around))
 
   pub counts-statements : {known : Known} {context : ℕ} {around : List Around} {ss : List ResolvedStatement} {p q : Parts} → WritesStatements known context around ss p q → at q ≡ at p + statements_lines (map frame_of around) ss
@@ -225,8 +259,17 @@ mutual
   counts-comparisons {context = context} (written.comparison {out = out} {p = p} {b = b} {w = w} t ss bs) =
       let equal = applied context out op.Equal 2 B w in
       let jump = unless_true context out (suc (at b)) equal in
-      omega (arith, here-applied context out op.Duplicate 0 (last_letter p.code) p.code, counts-writes t, here-applied context out op.Equal 2 B w, here-taken context out (op.JumpUnlessTrue (suc (at b))) equal,
-        here-taken context out op.Drop jump, counts-statements ss, here-applied context out (op.Jump out) 0 (last_letter p.code) b.code, counts-comparisons bs)
+      omega (
+        arith,
+        here-applied context out op.Duplicate 0 (last_letter p.code) p.code,
+        counts-writes t,
+        here-applied context out op.Equal 2 B w,
+        here-taken context out (op.JumpUnlessTrue (suc (at b))) equal,
+        here-taken context out op.Drop jump,
+        counts-statements ss,
+        here-applied context out (op.Jump out) 0 (last_letter p.code) b.code,
+        counts-comparisons bs,
+      )
 
   pub counts-else : {known : Known} {context : ℕ} {around : List Around} {ss : List ResolvedStatement} {p q : Parts} → WritesElse known context around ss p q → at q ≡ at p + otherwise_lines (map frame_of around) (map statement_lines ss)
   counts-else {context = context} (written.no_else {p = p}) = omega (arith, here-takes context (suc (at p)) instruction.NoCase 0 p.code)

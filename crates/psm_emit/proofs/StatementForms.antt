@@ -1,5 +1,5 @@
 -- The lines of a statement that has statements, from what was written one behind another. The line behind it was found before.
-use Rattle.std.proofs.Common.{arith, ◌≡◌, ◌+◌, ◌-◌, ℕ, suc, Bool, true, false, nat_eq, List, [], ◌∷◌, map, length, Option, Some, None, ap, sym, refl, subst, ◌∙◌}
+use Rattle.std.proofs.Common.{arith, ◌≡◌, ◌+◌, ◌-◌, ℕ, suc, Bool, true, false, nat_eq, List, [], ◌∷◌, map, length, Some, None, ap, sym, refl, subst, ◌∙◌}
 use Rattle.std.proofs.lemmas.Bool.{false≢true}
 use Rattle.psm_exprcode.specs.declared.op.Letter.{Letter}
 use Rattle.psm_exprcode.specs.declared.op.Letter.TheVariants.{B, N}
@@ -21,7 +21,7 @@ use Rattle.psm_emit.specs.declared.known.Known.{Known}
 use Rattle.psm_emit.specs.Exprs.{Writes}
 use Rattle.psm_emit.specs.Parts.{Parts, at, block_entered, next_context, with_code, with_handler, with_plain}
 use Rattle.psm_emit.specs.Simples.{Declares, WritesSimple}
-use Rattle.psm_emit.specs.Sizes.{each_with, expr_lines}
+use Rattle.psm_emit.specs.Sizes.{each_with}
 use Rattle.psm_emit.specs.Statements as written
 use Rattle.psm_emit.specs.Statements.{WritesBranches, WritesComparisons, WritesCursors, WritesElse, WritesHandlers, WritesStatement, WritesStatements, fetched, jumped, opened, passed, unless_true, with_cursor}
 use Rattle.psm_emit.specs.Queries.{QueryMade}
@@ -29,8 +29,8 @@ use Rattle.psm_exprcode.specs.declared.query.Query.{Query}
 use Rattle.psm_resolved.specs.declared.expr.ResolvedQuery.{ResolvedQuery}
 use Rattle.psm_emit.specs.StatementForms.{WritesForm}
 use Rattle.psm_emit.specs.StatementSizes.{frame_of, handler_lines, passing_lines, statement_lines, statements_lines}
-use Rattle.psm_emit.specs.Written.{Written, applied, here, last_letter, takes, taken}
-use Rattle.psm_emit.proofs.Counts.{counts-writes, here-applied, here-taken}
+use Rattle.psm_emit.specs.Written.{applied, last_letter, takes, taken}
+use Rattle.psm_emit.proofs.Counts.{counts-writes, here-taken}
 use Rattle.psm_emit.proofs.StatementCounting.{statement_at}
 use Rattle.psm_emit.proofs.StatementCounts.{at-entered, at-fetched, at-opened, at-passed, at-plain, counts-branches, counts-comparisons, counts-cursors, counts-declares, counts-else, counts-handlers, counts-simple, counts-statements}
 
@@ -55,8 +55,17 @@ pub while_written : {known : Known} {context end m : ℕ} {around : List Around}
     → Writes known context end B test a.code t.code → t ≡ with_code t.code a → u ≡ with_code (taken context end (op.JumpUnlessTrue end) t.code) t
     → WritesStatements known context (Loop level end m ∷ around) list u b → q ≡ jumped context m b → WritesForm known context end around (layers.While level test list) p q
 while_written {known} {context} {end} {m} {around} {p} {a} {t} {u} {b} {q} level test list h1 h2 x h3 h4 ss h5 s o e =
-    let out : end ≡ suc (at b) = omega (arith, e, ap at h2, at-plain context instruction.Turn p, counts-writes x, ap at h4, here-taken context end (op.JumpUnlessTrue end) t.code, counts-statements ss,
-      statement_at s (layers.While level test list) o (map frame_of around)) in
+    let out : end ≡ suc (at b) = omega (
+      arith,
+      e,
+      ap at h2,
+      at-plain context instruction.Turn p,
+      counts-writes x,
+      ap at h4,
+      here-taken context end (op.JumpUnlessTrue end) t.code,
+      counts-statements ss,
+      statement_at s (layers.While level test list) o (map frame_of around),
+    ) in
     let same : u ≡ with_code (unless_true context end end t.code) p = h4 ∙ ap (with_code (taken context end (op.JumpUnlessTrue end) t.code)) (h3 ∙ ap (with_code t.code) h2) in
     subst (λ z. WritesStatement known context around s p z) (sym (h5 ∙ ap (λ z. jumped context z b) h1))
     (written.while level test list o
@@ -187,8 +196,19 @@ pub for_written : {known : Known} {context end out again inner : ℕ} {around : 
 for_written {known} {context} {end} {out} {again} {inner} {around} {p} {a} {e} {o2} {f} {c} {j} {q} {ns} {rs} level head list h0 h1 cs h2 h3 h4 h5 h6 hr sr h7 h8 s o en =
     let ss : WritesStatements known inner (Loop level out again ∷ Rows inner context ∷ around) list f c = subst (λ z. WritesStatements known inner (Loop level out again ∷ z) list f c) hr sr in
     let one : WritesCursors known (head.cursor ∷ []) p a = cs [] a written.no_cursor in
-    let behind : end ≡ suc (suc (at c)) = omega (arith, en, counts-cursors one, ap at h4, at-entered context false out ns a, ap at h5, at-opened inner out head.cursor e, ap at h6, at-fetched inner out head o2, counts-statements ss,
-      statement_at s (layers.For level head list) o (map frame_of around)) in
+    let behind : end ≡ suc (suc (at c)) = omega (
+      arith,
+      en,
+      counts-cursors one,
+      ap at h4,
+      at-entered context false out ns a,
+      ap at h5,
+      at-opened inner out head.cursor e,
+      ap at h6,
+      at-fetched inner out head o2,
+      counts-statements ss,
+      statement_at s (layers.For level head list) o (map frame_of around),
+    ) in
     let left : out ≡ suc (at c) = omega (arith, h1, behind) in
     let back : again ≡ suc (suc (at p)) = omega (arith, h0) in
     let n = next_context a in

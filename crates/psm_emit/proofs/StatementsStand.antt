@@ -94,7 +94,7 @@ module _ (file : ResolvedFile) (code : RawCode) (routine : ResolvedRoutine) (r :
       → Kept (fetched (next_context a) (suc (at c)) head (opened (next_context a) (suc (at c)) head.cursor (block_entered env.context false (suc (at c)) (head.cursor.number ∷ []) a))) r
       → Kept (jumped (next_context a) (suc (suc (at p))) c) r → Kept (with_plain (next_context a) (instruction.Exit (next_context a)) (jumped (next_context a) (suc (suc (at p))) c)) r
       → StandAll file code routine r (inside_loop level (suc (at c)) (suc (suc (at p))) (env_of.with_cursor head.cursor (over_rows (next_context a) inside env))) ss
-          (at (fetched (next_context a) (suc (at c)) head (opened (next_context a) (suc (at c)) head.cursor (block_entered env.context false (suc (at c)) (head.cursor.number ∷ []) a)))) (at c)
+      (at (fetched (next_context a) (suc (at c)) head (opened (next_context a) (suc (at c)) head.cursor (block_entered env.context false (suc (at c)) (head.cursor.number ∷ []) a)))) (at c)
       → Stands file code routine r env s (at p) (at (with_plain (next_context a) (instruction.Exit (next_context a)) (jumped (next_context a) (suc (suc (at p))) c)))
   for-lines env {s} p a c level head ss {inside} e cursors is kept-entered kept-got kept-back kept-end body =
       let k = next_context a in
@@ -118,8 +118,8 @@ module _ (file : ResolvedFile) (code : RawCode) (routine : ResolvedRoutine) (r :
       let e5 = here-plain k (instruction.Operation (op.Jump turn)) c.code in
       to-end (sym (here-plain k (instruction.Exit k) (jumped k turn c).code ∙ ap suc e5))
       (stands.for_ level k head ss inside e is (at-plain e0 (plain_there env.context a.code kept-entered.code.lines)) (at-line e1 (raising_there entered.code first-begins.lines)) (at-plain e2 (plain_there k first asked-begins.lines))
-        (at-line e3 (raising_there asked.code stored-begins.lines)) (subst (λ i. stands.Stores r k exit store head.slots i (at (fetched k exit head asked))) e4 (stored_stands k exit store head.slots next kept-got.code)) body
-        (plain_there k c.code kept-back.code.lines) (at-plain e5 (plain_there k (jumped k turn c).code kept-end.code.lines)))
+      (at-line e3 (raising_there asked.code stored-begins.lines)) (subst (λ i. stands.Stores r k exit store head.slots i (at (fetched k exit head asked))) e4 (stored_stands k exit store head.slots next kept-got.code)) body
+      (plain_there k c.code kept-back.code.lines) (at-plain e5 (plain_there k (jumped k turn c).code kept-end.code.lines)))
 
   mutual
     pub statement-stands : (env : Env) {around : List Around} {sight : Sight} {s : ResolvedStatement} {p q : Parts} → WritesStatement (known_of file routine) env.context around s p q → Seen r env around sight → Space r env.context env.visible env.free p q
@@ -138,7 +138,7 @@ module _ (file : ResolvedFile) (code : RawCode) (routine : ResolvedRoutine) (r :
         let behind = grown-on (grown-all statements) leave in
         let there = block-entered env (at c) (at b) block space start handlers behind in
         let mine = counts-split (length p.cursors) (numbers_of o.cursors) (cursors_in_handlers o.handlers ++ cursors_in o.statements) (length c.cursors)
-            (counts-as (length p.cursors) (length c.cursors) (cursors-out s e ∙ block_cursors-out block) n) (length opened_parts.cursors) (omega (arith, ap length (passed-cursors k (at b) o.handlers entered), counted-cursors cursors)) in
+        (counts-as (length p.cursors) (length c.cursors) (cursors-out s e ∙ block_cursors-out block) n) (length opened_parts.cursors) (omega (arith, ap length (passed-cursors k (at b) o.handlers entered), counted-cursors cursors)) in
         let others = counts-split (length opened_parts.cursors) (cursors_in_handlers o.handlers) (cursors_in o.statements) (length c.cursors) mine.1 (length b.cursors) (counted-handlers handlers) in
         let kept-open = kept-earlier inside (kept-earlier behind space.kept) in
         let kept-entered = kept-earlier pass kept-open in
@@ -151,14 +151,14 @@ module _ (file : ResolvedFile) (code : RawCode) (routine : ResolvedRoutine) (r :
         let list = space-first leave (λ j l. refl) (space-last (grown-on (grown-any before) inside) (λ j l. eq-below k (length b.contexts) j (le_trans high higher) l) space) in
         to-end (sym (here-plain k (instruction.Exit k) c.code))
         (stands.compound level block v e
-          (subst (λ i. stands.Declares file code r env.context (suc (at c)) o.declarations (at p) i) (sym (cursors-at cursors)) (declares_stand file code r (known_of file routine) env.context (suc (at c)) (known_functions file routine) declarations fit.defaults (kept-earlier {but = no_context} (grown-cursors cursors) kept).code))
-          (plain_there env.context a.code kept-entered.code.lines)
-          (block-is env level block k (at c) (coded_of handlers) (length opened_parts.cursors) (length b.cursors) (length c.cursors) seen space fit.new low there mine.0 (begins-length before.cursors) (begins-length inside.cursors) (begins-length (grown-all statements).cursors) (le_refl (length c.cursors)))
-          (handlers-stand env block v (at c) handlers seen there (ap (λ l. o.cursors ++ l) seen.cursors) (all-cursors r o.cursors env.cursors own seen.stand) (space-in k high (space-part before behind space)) fit.handlers others.0)
-          (subst (λ i. GoesTo r (at b) i) (here-plain env.context (instruction.Enter k) a.code) (goes-to k (at b) o.handlers entered handlers refl kept-open))
-          (all-stand (inside_block v (at c) env) statements (seen-block env level block k (at c) (coded_of handlers) (length opened_parts.cursors) (length b.cursors) (length c.cursors) seen there own)
-            (space-with v (le_trans high higher) (space-in k (le_trans high higher) list)) fit.statements others.1)
-          (plain_there k c.code space.kept.code.lines))
+        (subst (λ i. stands.Declares file code r env.context (suc (at c)) o.declarations (at p) i) (sym (cursors-at cursors)) (declares_stand file code r (known_of file routine) env.context (suc (at c)) (known_functions file routine) declarations fit.defaults (kept-earlier {but = no_context} (grown-cursors cursors) kept).code))
+        (plain_there env.context a.code kept-entered.code.lines)
+        (block-is env level block k (at c) (coded_of handlers) (length opened_parts.cursors) (length b.cursors) (length c.cursors) seen space fit.new low there mine.0 (begins-length before.cursors) (begins-length inside.cursors) (begins-length (grown-all statements).cursors) (le_refl (length c.cursors)))
+        (handlers-stand env block v (at c) handlers seen there (ap (λ l. o.cursors ++ l) seen.cursors) (all-cursors r o.cursors env.cursors own seen.stand) (space-in k high (space-part before behind space)) fit.handlers others.0)
+        (subst (λ i. GoesTo r (at b) i) (here-plain env.context (instruction.Enter k) a.code) (goes-to k (at b) o.handlers entered handlers refl kept-open))
+        (all-stand (inside_block v (at c) env) statements (seen-block env level block k (at c) (coded_of handlers) (length opened_parts.cursors) (length b.cursors) (length c.cursors) seen there own)
+        (space-with v (le_trans high higher) (space-in k (le_trans high higher) list)) fit.statements others.1)
+        (plain_there k c.code space.kept.code.lines))
     statement-stands env {s = s} (written.loop {p = p} {c = c} level ss e all) seen space f n =
         let turn : Grown no_context p (with_plain env.context instruction.Turn p) = grown-plain env.context instruction.Turn {p = p} in
         let back : Grown no_context c (jumped env.context (at p) c) = grown-plain env.context (instruction.Operation (op.Jump (at p))) {p = c} in
@@ -237,7 +237,7 @@ module _ (file : ResolvedFile) (code : RawCode) (routine : ResolvedRoutine) (r :
         let inside = between (length a.cursors) (length c.cursors) in
         let seen-list = seen-for env level x k exit turn inside seen (for-searches env exit x.number seen space start inner) is in
         let body = all-stand (inside_loop level exit turn (env_of.with_cursor x (over_rows k inside env))) all seen-list (space-in k high (space-part (grown-on start (grown-on enter before)) behind space)) fit.2
-            (subst (λ i. CountsUp i (cursors_in ss) (length c.cursors)) (sym one) numbers.1) in
+        (subst (λ i. CountsUp i (cursors_in ss) (length c.cursors)) (sym one) numbers.1) in
         for-lines env p a c level head ss e cursors (for-is env level exit x (length c.cursors) seen space fit.0 start inner is numbers.0 one long (le_refl (length c.cursors))) kept-entered kept-got kept-back space.kept body
     statement-stands env {q = q} (written.simple s e x) seen space f n = stands.simple s e (simple_stands file code routine r given env (at q) x refl seen space.kept (of_simple (fits-as f e)))
 
@@ -322,7 +322,7 @@ module _ (file : ResolvedFile) (code : RawCode) (routine : ResolvedRoutine) (r :
         let kept = kept-earlier (grown-statement action) here.kept in
         let parts = counts-split (length p.cursors) (cursors_of_handler h) (cursors_in_handlers hs) (length c.cursors) n (length b.cursors) (omega (arith, ap length (handler_cursors-out h), counted action)) in
         let body = statement-stands (env_of.in_action v k env.visible) action (seen-action env v (code_of_block block exit) (out-ResolvedBlock block).cursors h p seen there same cursors low kept)
-            (space-at k (omega (arith, next)) inside) fit.2 (counts-as (length p.cursors) (length b.cursors) (handler_cursors-out h) parts.0) in
+        (space-at k (omega (arith, next)) inside) fit.2 (counts-as (length p.cursors) (length b.cursors) (handler_cursors-out h) parts.0) in
         let behind = space-last (grown-on more (grown-on (grown-any (grown-statement action)) ends)) (λ j l. eq-below v.context (length b.contexts) j (le_trans low (begins-length (grown-on more (grown-any (grown-statement action))).contexts)) l) space in
         stands.handler k (handler-is env v (code_of_block block exit) h p seen there low kept fit.0 fit.1) body (plain_there k b.code (kept-earlier (grown-handlers others) space.kept).code.lines)
         (handlers-stand env block v exit others seen there same cursors behind fit.3 parts.1)

@@ -36,6 +36,7 @@ pub operations_there : {r : RawRoutine} (context resume count : ℕ) (k : Letter
 operations_there context resume count k [] w b = refl
 operations_there {r} context resume count k (o ∷ os) w b =
     let next = applied context resume o count k w in
-    let end = all_applied context resume 1 k os next in
-    (raising_there w (begins-earlier (grows-all_applied context resume 1 k os next) b).lines,
-    subst (λ n. Operations r context resume os n (here end)) (here-applied context resume o count k w) (operations_there context resume 1 k os next b))
+    let end = all_applied context resume 1 k os next in (
+      raising_there w (begins-earlier (grows-all_applied context resume 1 k os next) b).lines,
+      subst (λ n. Operations r context resume os n (here end)) (here-applied context resume o count k w) (operations_there context resume 1 k os next b),
+    )

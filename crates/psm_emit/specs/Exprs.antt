@@ -17,12 +17,12 @@ use Rattle.psm_resolved.specs.declared.expr.ResolvedWhen.{ResolvedWhen, out-Reso
 use Rattle.psm_resolved.specs.RowValue.{listed}
 use Rattle.psm_resolved.specs.Sort.{function_of}
 use Rattle.psm_resolved.specs.Sort as sorts
-use Rattle.psm_resolved.specs.Written.{letter_of_operator, letter_or, op_of_junction, op_of_operator}
+use Rattle.psm_resolved.specs.Written.{letter_of_operator, op_of_junction, op_of_operator}
 use Rattle.psm_code.specs.declared.instruction.Instruction.TheVariants as instruction
 use Rattle.psm_lower.specs.Expressions.{Layer, is_straight, operands_of, operations_of, scaling}
 use Rattle.psm_emit.specs.declared.known.Known.{Known}
 use Rattle.psm_emit.specs.Queries.{QueryMade, item_letters}
-use Rattle.psm_emit.specs.Written.{Written, all_applied, applied, here, last_letter, letter_at, letters_at, number_at, puts, second_letter, taken, with_line, with_query}
+use Rattle.psm_emit.specs.Written.{Written, all_applied, applied, here, last_letter, letter_at, letters_at, number_at, puts, second_letter, taken, with_query}
 
 -- the letter that is put where the operands are evaluated one after another
 abbrev pub straight_letter : Known → Layer → Written → Letter

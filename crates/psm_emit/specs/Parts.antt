@@ -1,6 +1,5 @@
 -- What is written of a routine, and what stands around a statement whose lines are written.
-use Rattle.std.specs.Prelude.{ℕ, suc, Bool, List, [], ◌∷◌, ◌++◌, length, map, nat_eq, Option, Some, None, if◌then◌else◌}
-use Rattle.psm_cond.specs.declared.handlers.Block.{Block}
+use Rattle.std.specs.Prelude.{ℕ, suc, Bool, List, [], ◌∷◌, ◌++◌, length, nat_eq, if◌then◌else◌}
 use Rattle.psm_cond.specs.declared.handlers.ConditionValue.{ConditionValue}
 use Rattle.psm_cond.specs.declared.handlers.ConditionValue.TheVariants.{NotFound}
 use Rattle.psm_cond.specs.declared.handlers.Context.{Context}

@@ -1,6 +1,6 @@
 -- The lines that are written for a statement that has no statements, one rule a form. The run goes on at the line behind them where a
 -- condition is handled.
-use Rattle.std.specs.Prelude.{◌≡◌, ◌-◌, ℕ, suc, List, [], ◌∷◌, ◌++◌, length, slice_get, Option, Some, None}
+use Rattle.std.specs.Prelude.{◌-◌, ℕ, suc, List, [], ◌∷◌, ◌++◌, length, slice_get, Option, Some, None}
 use Rattle.psm_value.specs.declared.datum.Datum.TheVariants as data_of
 use Rattle.psm_cond.specs.declared.handlers.Declared.{Declared}
 use Rattle.psm_cond.specs.declared.handlers.Declared.TheVariants as declares
@@ -39,9 +39,9 @@ use Rattle.psm_resolved.specs.declared.expr.ResolvedQuery.{ResolvedQuery}
 use Rattle.psm_emit.specs.declared.around.Around.{Around}
 use Rattle.psm_emit.specs.declared.known.Known.{Known}
 use Rattle.psm_emit.specs.Exprs.{Arguments, Writes}
-use Rattle.psm_emit.specs.Parts.{Parts, at, iterates, leaves, with_code, with_plain}
+use Rattle.psm_emit.specs.Parts.{Parts, iterates, leaves, with_code}
 use Rattle.psm_emit.specs.Queries.{QueryMade, SetsMade, TestMade, item_letters}
-use Rattle.psm_emit.specs.Written.{Written, applied, here, last_letter, letter_at, letters_at, number_at, plain, puts, takes, with_query}
+use Rattle.psm_emit.specs.Written.{Written, applied, last_letter, letter_at, letters_at, number_at, plain, puts, takes, with_query}
 
 -- ---- operands that go into variables
 
@@ -171,8 +171,8 @@ pub data WritesSimple (known : Known) (context resume : ℕ) (around : List Arou
       → WritesSimple known context resume around (simples.Set slot e) p (with_code (takes context resume (instruction.Store slot) 1 w) p)
   call : {procedure : ℕ} {args : List ResolvedArgument} {p : Parts} {w : Written} → CallArguments known context resume (letters_at known.takes (procedure_number known procedure)) 0 args (cleared context p) w
       → WritesSimple known context resume around (simples.Call procedure args) p
-          (with_code (stored context resume (λ slot. instruction.Store slot) (slots_given args)
-            (puts context resume (instruction.Call (procedure_number known procedure)) (more_operands p w) (letters_at known.gives (procedure_number known procedure)) w)) p)
+      (with_code (stored context resume (λ slot. instruction.Store slot) (slots_given args)
+      (puts context resume (instruction.Call (procedure_number known procedure)) (more_operands p w) (letters_at known.gives (procedure_number known procedure)) w)) p)
   return : {e : ResolvedExpr} {p : Parts} {w : Written} → Writes known context resume known.result e p.code w → WritesSimple known context resume around (simples.Return e) p (with_code (takes context resume instruction.Return 1 w) p)
   leave : {level : ℕ} {p : Parts} → WritesSimple known context resume around (simples.Leave level) p (with_code (leaves around level context p.code) p)
   iterate : {level : ℕ} {p : Parts} → WritesSimple known context resume around (simples.Iterate level) p (with_code (iterates around level context p.code) p)
@@ -187,12 +187,12 @@ pub data WritesSimple (known : Known) (context resume : ℕ) (around : List Arou
       → WritesSimple known context resume around (simples.GetDiagnostics (diagnostics.Condition number is)) p (with_code (condition_items context resume is (applied context resume (number_op number) 0 N p.code)) p)
   select_into : {query : ResolvedQuery} {slots : List ℕ} {p : Parts} {code : Query} → QueryMade known query code
       → WritesSimple known context resume around (simples.SelectInto query slots) p
-          (with_code (retrieved context resume slots (puts context resume (instruction.SelectRow (length p.code.queries)) 0 (item_letters known query) (with_query code (cleared context p)))) p)
+      (with_code (retrieved context resume slots (puts context resume (instruction.SelectRow (length p.code.queries)) 0 (item_letters known query) (with_query code (cleared context p)))) p)
   insert : {table : ℕ} {columns : List ℕ} {rows : List (List ResolvedExpr)} {p : Parts} {w : Written} → WritesRows known context resume (letters_of_columns known table columns) rows (cleared context p) w
       → WritesSimple known context resume around (simples.Insert table columns (given.Values rows)) p (changed context resume (plans.Insert table columns (length rows)) (more_operands p w) (with_code w p))
   insert_query : {table : ℕ} {columns : List ℕ} {query : ResolvedQuery} {p : Parts} {code : Query} → QueryMade known query code
       → WritesSimple known context resume around (simples.Insert table columns (given.Query query)) p
-          (changed context resume (plans.InsertQuery table columns (length p.code.queries)) 0 (with_code (with_query code (cleared context p)) p))
+      (changed context resume (plans.InsertQuery table columns (length p.code.queries)) 0 (with_code (with_query code (cleared context p)) p))
   update : {table : ℕ} {sets : List ResolvedSet} {rows : ResolvedWhere} {p : Parts} {plan : Plan} → Updates known table sets rows plan
       → WritesSimple known context resume around (simples.Update table sets rows) p (changed context resume plan 0 (with_code (cleared context p) p))
   delete : {table : ℕ} {rows : ResolvedWhere} {p : Parts} {plan : Plan} → Deletes known table rows plan

@@ -1,6 +1,6 @@
 -- The lines that are written for a statement, one rule a form, with what stands around it: the context, and what LEAVE and ITERATE can
 -- name, innermost first.
-use Rattle.std.specs.Prelude.{◌≡◌, ℕ, suc, false, List, [], ◌∷◌, ◌++◌, length, map, Option, Some, None}
+use Rattle.std.specs.Prelude.{◌≡◌, ℕ, suc, false, List, [], ◌∷◌, ◌++◌, length, map, Some, None}
 use Rattle.psm_exprcode.specs.declared.op.Letter.TheVariants.{B, N}
 use Rattle.psm_exprcode.specs.declared.op.Op.TheVariants as op
 use Rattle.psm_exprcode.specs.declared.query.Query.{Query}
@@ -13,7 +13,6 @@ use Rattle.psm_resolved.specs.declared.statement.ResolvedHandler.{ResolvedHandle
 use Rattle.psm_resolved.specs.declared.statement.ResolvedSimple.{ResolvedSimple}
 use Rattle.psm_resolved.specs.declared.statement.ResolvedStatement.{ResolvedStatement, out-ResolvedStatement}
 use Rattle.psm_resolved.specs.declared.statement.ResolvedStatement.TheOpen as layers
-use Rattle.psm_code.specs.declared.instruction.Instruction.{Instruction}
 use Rattle.psm_code.specs.declared.instruction.Instruction.TheVariants as instruction
 use Rattle.psm_emit.specs.declared.around.Around.{Around}
 use Rattle.psm_emit.specs.declared.around.Around.TheVariants.{Loop, Block, Rows}
@@ -59,7 +58,7 @@ mutual
     compound : {context : ℕ} {around : List Around} {s : ResolvedStatement} {p : Parts} {w : Written} {a b c : Parts} (level : ℕ) (block : ResolvedBlock) → out-ResolvedStatement s ≡ layers.Compound level block
         → Declares known context (suc (at c)) (out-ResolvedBlock block).declarations p.code w → WritesCursors known (out-ResolvedBlock block).cursors (with_code w p) a
         → WritesHandlers known (next_context a) (out-ResolvedBlock block).handlers
-            (passed (next_context a) (at b) (out-ResolvedBlock block).handlers (block_entered context (out-ResolvedBlock block).atomic (at c) (map (λ x. x.number) (out-ResolvedBlock block).cursors) a)) b
+        (passed (next_context a) (at b) (out-ResolvedBlock block).handlers (block_entered context (out-ResolvedBlock block).atomic (at c) (map (λ x. x.number) (out-ResolvedBlock block).cursors) a)) b
         → WritesStatements known (next_context a) (Block level (next_context a) context (at c) ∷ around) (out-ResolvedBlock block).statements b c
         → WritesStatement known context around s p (with_plain (next_context a) (instruction.Exit (next_context a)) c)
     loop : {context : ℕ} {around : List Around} {s : ResolvedStatement} {p c : Parts} (level : ℕ) (statements : List ResolvedStatement) → out-ResolvedStatement s ≡ layers.Loop level statements
@@ -80,7 +79,7 @@ mutual
     for_ : {context : ℕ} {around : List Around} {s : ResolvedStatement} {p a c : Parts} (level : ℕ) (head : ResolvedFor) (statements : List ResolvedStatement) → out-ResolvedStatement s ≡ layers.For level head statements
         → WritesCursors known (head.cursor ∷ []) p a
         → WritesStatements known (next_context a) (Loop level (suc (at c)) (suc (suc (at p))) ∷ Rows (next_context a) context ∷ around) statements
-            (fetched (next_context a) (suc (at c)) head (opened (next_context a) (suc (at c)) head.cursor (block_entered context false (suc (at c)) (head.cursor.number ∷ []) a))) c
+        (fetched (next_context a) (suc (at c)) head (opened (next_context a) (suc (at c)) head.cursor (block_entered context false (suc (at c)) (head.cursor.number ∷ []) a))) c
         → WritesStatement known context around s p (with_plain (next_context a) (instruction.Exit (next_context a)) (jumped (next_context a) (suc (suc (at p))) c))
     simple : {context : ℕ} {around : List Around} {s : ResolvedStatement} {p c : Parts} (statement : ResolvedSimple) → out-ResolvedStatement s ≡ layers.Simple statement → WritesSimple known context (at c) around statement p c → WritesStatement known context around s p c
 
@@ -102,7 +101,7 @@ mutual
     comparison : {context : ℕ} {around : List Around} {out : ℕ} {x : ResolvedBranch} {xs : List ResolvedBranch} {p b c : Parts} {w : Written}
         → Writes known context out (last_letter p.code) (out-ResolvedBranch x).test (applied context out op.Duplicate 0 (last_letter p.code) p.code) w
         → WritesStatements known context around (out-ResolvedBranch x).statements
-            (with_code (taken context out op.Drop (unless_true context out (suc (at b)) (applied context out op.Equal 2 B w))) p) b
+        (with_code (taken context out op.Drop (unless_true context out (suc (at b)) (applied context out op.Equal 2 B w))) p) b
         → WritesComparisons known context around out xs (with_code (applied context out (op.Jump out) 0 (last_letter p.code) b.code) b) c
         → WritesComparisons known context around out (x ∷ xs) p c
 

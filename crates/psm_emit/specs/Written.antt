@@ -1,7 +1,6 @@
 -- Lines that are written, one behind another.
-use Rattle.std.specs.Prelude.{ℕ, suc, List, [], ◌∷◌, ◌++◌, drop, length, reverse, slice_get, Option, Some, None}
+use Rattle.std.specs.Prelude.{ℕ, List, [], ◌∷◌, ◌++◌, drop, length, reverse, slice_get, Option, Some, None}
 use Rattle.psm_exprcode.specs.declared.op.Letter.{Letter}
-use Rattle.psm_exprcode.specs.declared.op.Letter.TheVariants.{N}
 use Rattle.psm_exprcode.specs.declared.op.Op.{Op}
 use Rattle.psm_exprcode.specs.declared.query.Query.{Query}
 use Rattle.psm_code.specs.declared.instruction.Instruction.{Instruction}

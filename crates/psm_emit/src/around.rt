@@ -4,7 +4,19 @@
 /// it is left; or the block of a FOR statement, with its context and that of its statement.
 #[derive(Clone, Copy, Debug, PartialEq, Eq)]
 pub enum Around {
-    Loop { level: u32, out: u32, again: u32 },
-    Block { level: u32, context: u32, outer: u32, exit: u32 },
-    Rows { context: u32, outer: u32 },
+    Loop {
+        level: u32,
+        out: u32,
+        again: u32,
+    },
+    Block {
+        level: u32,
+        context: u32,
+        outer: u32,
+        exit: u32,
+    },
+    Rows {
+        context: u32,
+        outer: u32,
+    },
 }

@@ -49,13 +49,7 @@ pub(crate) fn condition_items(
         None => Ok(()),
         Some((last, others)) => {
             for (slot, item) in others {
-                out.applied(
-                    setting.context,
-                    setting.resume,
-                    Op::Duplicate,
-                    0,
-                    Letter::N,
-                )?;
+                out.applied(setting.context, setting.resume, Op::Duplicate, 0, Letter::N)?;
                 item_stored(out, setting, *slot, *item)?;
             }
             let (slot, item) = last;
@@ -80,12 +74,7 @@ fn item_stored(
         1,
         condition_letter(item),
     )?;
-    out.takes(
-        setting.context,
-        setting.resume,
-        Instruction::Store(slot),
-        1,
-    )
+    out.takes(setting.context, setting.resume, Instruction::Store(slot), 1)
 }
 
 /// The letter of an item of the diagnostics area about the statement.

@@ -20,7 +20,11 @@ pub(crate) fn leaves(
     let mut place = context;
     for other in around {
         match *other {
-            Around::Loop { level: own, out: to, .. } => {
+            Around::Loop {
+                level: own,
+                out: to,
+                ..
+            } => {
                 if level == own {
                     return out.plain(place, Instruction::Operation(Op::Jump(to)));
                 }
@@ -61,7 +65,11 @@ pub(crate) fn iterates(
     let mut place = context;
     for other in around {
         match *other {
-            Around::Loop { level: own, again, .. } => {
+            Around::Loop {
+                level: own,
+                again,
+                ..
+            } => {
                 if level == own {
                     return out.plain(place, Instruction::Operation(Op::Jump(again)));
                 }

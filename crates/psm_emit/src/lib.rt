@@ -30,3 +30,4 @@ mod writer;
 pub use around::Around;
 pub use known::Known;
 pub use lowering::lower;
+pub use sorts::{Sort, sort_of};

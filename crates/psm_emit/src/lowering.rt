@@ -1,8 +1,9 @@
 //! The code of a module file without names.
 ghost use Rattle.std.specs.Prelude.{◌≡◌, drop, length, map, IfOk};
 ghost use Rattle.psm_cond.specs.declared.handlers.Declared.TheVariants as declares;
-ghost use Rattle.psm_lower.specs.Simulation.{last_instruction, mode_of, parameter_of};
+ghost use Rattle.psm_lower.specs.Simulation.{FileStands, last_instruction, mode_of, parameter_of};
 ghost use Rattle.psm_emit.specs.Files.{FileWritten, RoutineWritten, RoutinesWritten, is_function};
+ghost use Rattle.psm_emit.specs.Standing.{CanStand};
 
 use crate::knowing::file_known;
 use crate::known::Known;
@@ -18,10 +19,12 @@ use psm_text::Name;
 use psm_value::SqlType;
 use std::alloc::{AllocError, Global};
 
-/// Writes the code of a module file. Want of memory is the one refusal; so are more lines of a routine, contexts or queries than fit in
+/// Writes the code of a module file (ISO/IEC 9075-4:1996). Where the file has what an accepted one always has, the code stands for it,
+/// and so does what the file means. Want of memory is the one refusal; so are more lines of a routine, contexts or queries than fit in
 /// 32 bits.
 pub fn lower(alloc: Global, file: &ResolvedFile) -> Result<RawCode, AllocError>
-    ensures { IfOk result (λ code. FileWritten file.now code) }
+    ensures written { IfOk result (λ code. FileWritten file.now code) }
+    ensures stands { IfOk result (λ code. CanStand file.now → FileStands file.now code) }
 {
     let tables = tables_code(alloc, &file.tables)?;
     let routines = routines_code(alloc, file)?;

@@ -10,7 +10,9 @@ ghost use Rattle.psm_emit.specs.Written.{last_letter, letters_at, puts};
 use crate::operators::letters_at;
 use crate::writer::Writer;
 use psm_code::{CodeCursor, Instruction, Lines, Plan};
-use psm_cond::{Block, ConditionValue, Context, ContextKind, Declared, Handler, HandlerKind, HandlerTable};
+use psm_cond::{
+    Block, ConditionValue, Context, ContextKind, Declared, Handler, HandlerKind, HandlerTable,
+};
 use psm_exprcode::{Letter, Query};
 use psm_list::{List, OneOrMore};
 use psm_resolved::{ResolvedCondition, ResolvedCursor};
@@ -189,7 +191,15 @@ impl Parts {
     }
 
     /// Gives all that is written back: the lines, the queries, the cursors, the plans, and the conditions, contexts and handlers.
-    pub fn into_code(self) -> (Lines, List<Query>, List<CodeCursor>, List<Plan>, HandlerTable)
+    pub fn into_code(
+        self,
+    ) -> (
+        Lines,
+        List<Query>,
+        List<CodeCursor>,
+        List<Plan>,
+        HandlerTable,
+    )
         ensures lines { result.0 ≡ self.code.lines }
         ensures queries { result.1 ≡ self.code.queries }
         ensures cursors { result.2 ≡ self.cursors }

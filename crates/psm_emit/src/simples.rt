@@ -82,9 +82,7 @@ fn set(
     let letter = letter_at(setting.known.variables.items(), slot as usize);
     parts.code.plain(setting.context, Instruction::Clear)?;
     expr(&mut parts.code, setting, source, letter)?;
-    parts
-        .code
-        .takes(setting.context, setting.resume, Instruction::Store(slot), 1)
+    parts.code.takes(setting.context, setting.resume, Instruction::Store(slot), 1)
 }
 
 /// Writes CALL.
@@ -114,11 +112,7 @@ fn call(
 }
 
 /// Writes RETURN.
-fn returned(
-    parts: &mut Parts,
-    setting: Setting<'_>,
-    e: &ResolvedExpr,
-) -> Result<(), AllocError>
+fn returned(parts: &mut Parts, setting: Setting<'_>, e: &ResolvedExpr) -> Result<(), AllocError>
     ensures { IfOk result (λ _. WritesAnywhere setting.entry.known.now setting.entry.context setting.entry.resume (simples.Return e.now) parts.old parts.new) }
 {
     expr(&mut parts.code, setting, e, setting.known.result)?;
@@ -128,11 +122,7 @@ fn returned(
 }
 
 /// Writes SIGNAL.
-fn signal(
-    parts: &mut Parts,
-    setting: Setting<'_>,
-    s: &ResolvedSignal,
-) -> Result<(), AllocError>
+fn signal(parts: &mut Parts, setting: Setting<'_>, s: &ResolvedSignal) -> Result<(), AllocError>
     ensures { IfOk result (λ _. WritesAnywhere setting.entry.known.now setting.entry.context setting.entry.resume (simples.Signal s.now) parts.old parts.new) }
 {
     let number = parts.condition(&s.condition)?;
@@ -364,9 +354,12 @@ fn opened(parts: &mut Parts, setting: Setting<'_>, cursor: u32) -> Result<(), Al
     ensures { IfOk result (λ _. WritesAnywhere setting.entry.known.now setting.entry.context setting.entry.resume (simples.Open cursor) parts.old parts.new) }
 {
     parts.code.plain(setting.context, Instruction::Clear)?;
-    parts
-        .code
-        .takes(setting.context, setting.resume, Instruction::Open(cursor), 0)
+    parts.code.takes(
+        setting.context,
+        setting.resume,
+        Instruction::Open(cursor),
+        0,
+    )
 }
 
 /// Writes FETCH.
@@ -393,7 +386,10 @@ fn closed(parts: &mut Parts, setting: Setting<'_>, cursor: u32) -> Result<(), Al
     ensures { IfOk result (λ _. WritesAnywhere setting.entry.known.now setting.entry.context setting.entry.resume (simples.Close cursor) parts.old parts.new) }
 {
     parts.code.plain(setting.context, Instruction::Clear)?;
-    parts
-        .code
-        .takes(setting.context, setting.resume, Instruction::Close(cursor), 0)
+    parts.code.takes(
+        setting.context,
+        setting.resume,
+        Instruction::Close(cursor),
+        0,
+    )
 }

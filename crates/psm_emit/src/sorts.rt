@@ -17,7 +17,7 @@ use psm_value::SqlType;
 
 /// No row expression, NULL, or one of a letter.
 #[derive(Clone, Copy)]
-pub(crate) enum Sort {
+pub enum Sort {
     Wrong,
     Untyped,
     Of(Letter),
@@ -45,14 +45,14 @@ impl Sort {
     }
 
     /// Whether it is of that letter, or NULL.
-    pub(crate) fn goes_as(self, letter: Letter) -> bool
+    pub fn goes_as(self, letter: Letter) -> bool
         ensures { result ≡ goes_as letter (seen self) }
     {
         self.given(letter).is(letter)
     }
 
     /// Its letter, or that of a number where it has none.
-    pub(crate) fn letter(self) -> Letter
+    pub fn letter(self) -> Letter
         ensures { result ≡ letter_of_sort (seen self) }
     {
         match self {
@@ -204,7 +204,7 @@ fn may_go_as(letter: Letter, part: Option<Sort>) -> bool
 /// Which row expression it is over columns and variables of these letters.
 #[cycle(sorting)]
 #[tactic(auto, using(crate::proofs::SortForms::sort_forms))]
-pub(crate) fn sort_of(columns: &[Letter], variables: &[Letter], e: &ResolvedExpr) -> Sort
+pub fn sort_of(columns: &[Letter], variables: &[Letter], e: &ResolvedExpr) -> Sort
     ensures { seen result ≡ sort_of columns.now variables.now e.now }
 {
     match e {

@@ -363,11 +363,7 @@ fn handlers(
 }
 
 #[cycle(stating)]
-fn handler(
-    h: &ResolvedHandler,
-    parts: &mut Parts,
-    setting: Setting<'_>,
-) -> Result<(), AllocError>
+fn handler(h: &ResolvedHandler, parts: &mut Parts, setting: Setting<'_>) -> Result<(), AllocError>
     ensures { IfOk result (λ _. (hs : _) (r : Whole) → WritesHandlers setting.entry.known.now setting.entry.context hs parts.new r → WritesHandlers setting.entry.known.now setting.entry.context (h.now ∷ hs) parts.old r) }
 {
     let number = parts.handler_count()?;

@@ -106,10 +106,5 @@ fn copy(out: &mut Writer, setting: Setting<'_>, slot: u32) -> Result<(), AllocEr
 {
     let letter = out.last_letter();
     out.applied(setting.context, setting.resume, Op::Duplicate, 0, letter)?;
-    out.takes(
-        setting.context,
-        setting.resume,
-        Instruction::Store(slot),
-        1,
-    )
+    out.takes(setting.context, setting.resume, Instruction::Store(slot), 1)
 }

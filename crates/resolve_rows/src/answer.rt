@@ -1,5 +1,6 @@
 //! What is printed behind a row.
 
+use crate::coded::coded;
 use crate::fault::Fault;
 use crate::letters::{column_letters, slot_letters};
 use crate::outline::outline;
@@ -23,6 +24,7 @@ fn answered(alloc: Global, line: &str) -> Result<String, Fault> {
     let (kind, asked) = line.split_once(' ').ok_or(Fault::Row)?;
     match kind {
         "file" => outlines(alloc, asked),
+        "code" => coded(alloc, asked),
         "check" => checks(alloc, asked),
         "query" => query(alloc, asked),
         _ => Err(Fault::Row),

@@ -5,7 +5,7 @@ ghost use Rattle.psm_exprcode.specs.WellFormed.{does_fit};
 ghost use Rattle.psm_resolved.specs.Sort.{IsOfLetter};
 
 use crate::fault::Fault;
-use crate::sort::{Sort, sort_of};
+use psm_emit::{Sort, sort_of};
 use psm_exprcode::{ExprCode, Letter, Operand, eval};
 use psm_resolved::{ResolvedExpr, row_code};
 use psm_value::{Datum, Truth};

@@ -6,5 +6,5 @@ use Rattle.psm_emit.proofs.calling.call_arguments.Given as goal
 abbrev pub invariant-loop-argument : goal.invariant-loop-argument
 invariant-loop-argument l = record {
   near : l.place ≤ l.argument-index;
-  written : (v : Written) → CallArguments l.setting.known.now l.setting.context l.setting.resume l.letters l.place (drop l.argument-index l.argument-items) l.out v → CallArguments l.setting.known.now l.setting.context l.setting.resume l.letters 0 l.list l.fn.out v
+  written : (v : Written) → CallArguments l.setting.known.now l.setting.context l.setting.resume l.letters l.place (drop l.argument-index l.argument-items) l.out v → CallArguments l.setting.known.now l.setting.context l.setting.resume l.letters 0 l.list l.fn.out v;
 }

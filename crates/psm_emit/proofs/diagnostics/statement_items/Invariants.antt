@@ -1,7 +1,5 @@
-use Rattle.std.proofs.Common.{◌≡◌, ◌++◌, ◌∷◌, [], drop}
-use Rattle.psm_code.specs.declared.instruction.Instruction.TheVariants as instruction
-use Rattle.psm_lower.specs.Scheme.{slots_given}
-use Rattle.psm_emit.specs.Simples.{condition_items, copied, statement_items, stored}
+use Rattle.std.proofs.Common.{◌≡◌, drop}
+use Rattle.psm_emit.specs.Simples.{statement_items}
 use Rattle.psm_emit.proofs.diagnostics.statement_items.Given as goal
 
 abbrev pub invariant-loop-slot : goal.invariant-loop-slot

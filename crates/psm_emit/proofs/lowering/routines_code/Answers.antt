@@ -12,8 +12,8 @@ pub loop-routine-preserved : goal.loop-routine-preserved
 loop-routine-preserved c = record {
   known = λ r. ap (with_routine r) c.in_ok-for_routine.ensures.ok ∙ c.loop-routine.invariant.known r;
   written = makes_next (RoutinesWritten c.args.file.now) c.items-routine-items.result.now c.loop-routine.routine-index c.routine-item.result c.loop-routine.codes.items c.in_ok-routine_code.field-0 c.push.new.self.items
-    (λ others rest m. (subst (λ k. RoutineWritten k c.routine-item.result c.in_ok-routine_code.field-0) (c.in_ok-for_routine.ensures.ok ∙ c.loop-routine.invariant.known c.routine-item.result) c.in_ok-routine_code.ensures, m))
-    (omega arith) c.routine-item.is c.in_ok-push.ensures.items c.loop-routine.invariant.written
+      (λ others rest m. (subst (λ k. RoutineWritten k c.routine-item.result c.in_ok-routine_code.field-0) (c.in_ok-for_routine.ensures.ok ∙ c.loop-routine.invariant.known c.routine-item.result) c.in_ok-routine_code.ensures, m))
+      (omega arith) c.routine-item.is c.in_ok-push.ensures.items c.loop-routine.invariant.written;
 }
 
 pub returns : goal.returns

@@ -8,5 +8,5 @@ use Rattle.psm_emit.proofs.lowering.routines_code.Given as goal
 abbrev pub invariant-loop-routine : goal.invariant-loop-routine
 invariant-loop-routine l = record {
   known : (r : ResolvedRoutine) → with_routine r l.known ≡ known_of l.file r;
-  written : Makes (RoutinesWritten l.file) l.routine-items l.routine-index l.codes.items
+  written : Makes (RoutinesWritten l.file) l.routine-items l.routine-index l.codes.items;
 }

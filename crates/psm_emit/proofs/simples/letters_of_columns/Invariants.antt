@@ -1,6 +1,5 @@
 use Rattle.std.proofs.Common.{◌≡◌, ◌++◌, drop}
 use Rattle.psm_emit.specs.Simples.{letters_of_columns}
-use Rattle.psm_emit.specs.Written.{letters_at}
 use Rattle.psm_emit.proofs.simples.letters_of_columns.Given as goal
 
 abbrev pub invariant-loop-column : goal.invariant-loop-column

@@ -1,4 +1,4 @@
-use Rattle.std.proofs.Common.{◌≡◌, ◌+◌, ◌++◌, ◌∷◌, [], drop, length, map, take}
+use Rattle.std.proofs.Common.{◌≡◌, ◌∷◌, take}
 use Rattle.psm_emit.proofs.statement_sizes.inside.Given as goal
 
 abbrev pub invariant-loop-more : goal.invariant-loop-more
