@@ -1,0 +1,4 @@
+pub mod Known
+pub mod ScriptFaults
+pub mod Commands
+pub mod Seen

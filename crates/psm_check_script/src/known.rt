@@ -1,0 +1,223 @@
+//! What a script may name: the tables and the procedures of code.
+ghost use Rattle.std.specs.Prelude.{◌≡◌, [], map, suc, IfOk};
+ghost use Rattle.std.specs.Option.{option_copied};
+ghost use Rattle.psm_scope.specs.Routines.{procedure};
+ghost use Rattle.psm_check_script.specs.Known.{known_of, mode_of, next_procedure, parameter_of, with_column, with_columns, with_key, with_keys, with_procedure, with_routine, with_routines, with_table, with_tables};
+
+use psm_check_expr::{Columns, World};
+use psm_code::{CodeTable, Parameter, ParameterMode as CodeMode, RawCode, RawRoutine};
+use psm_list::List;
+use psm_scope::{Functions, Names, ParameterMode, ParameterScope, ProcedureScope, Procedures};
+use psm_table::{Column, TableDef};
+use psm_text::Name;
+use std::alloc::{AllocError, Global};
+use std::marker::Model;
+
+/// The primary key of a table, seen as the names of its columns.
+#[derive(Drop)]
+pub(crate) struct TableKey<'a> {
+    pub(crate) table: &'a TableDef,
+}
+
+impl<'a> Model for TableKey<'a> {
+    ghost use Rattle.std.specs.Prelude.{ℕ, List as Seq};
+    ghost use Rattle.psm_check_script.specs.Known.{key_names};
+
+    ghost Value = { Seq (Seq ℕ) };
+
+    ghost view = { λ k. key_names k.table.now };
+}
+
+/// The tables and the procedures of code. Names are found by maps.
+#[derive(Drop)]
+pub(crate) struct Known<'a> {
+    // The tables and the procedures alone.
+    world: World<'a>,
+    keys: Names<'a, TableKey<'a>>,
+}
+
+impl<'a> Model for Known<'a> {
+    ghost use Rattle.std.specs.Prelude.{◌≡◌};
+    ghost use Rattle.psm_check_script.specs.Known.{Known as Named, world_of};
+
+    ghost Value = { Named };
+
+    ghost view = { λ k. record { tables = k.world.tables; keys = k.keys; procedures = k.world.procedures } };
+
+    ghost invariant = { λ k. k.world ≡ world_of k.world.tables k.world.procedures };
+}
+
+impl<'a> Known<'a> {
+    /// What is known of code. Fails only without memory.
+    pub(crate) fn of(alloc: Global, code: &'a RawCode) -> Result<Known<'a>, AllocError>
+        ensures { IfOk result (λ known. known ≡ known_of code.now) }
+    {
+        let tables = tables_of(alloc, code.tables.items())?;
+        let keys = keys_of(alloc, code.tables.items())?;
+        let procedures = procedures_of(alloc, code.routines.items())?;
+        Ok(Known {
+            world: World {
+                tables,
+                keys: Names::new(alloc),
+                functions: Functions::new(alloc),
+                procedures,
+            },
+            keys,
+        })
+    }
+
+    /// The procedure of that name with so many parameters.
+    pub(crate) fn procedure(&self, name: &Name, count: usize) -> Option<&ProcedureScope>
+        ensures { option_copied result ≡ procedure name.now count self.now.procedures }
+    {
+        self.world.procedures.procedure(name, count)
+    }
+}
+
+// ---- tables
+
+fn tables_of<'a>(
+    alloc: Global,
+    tables: &'a [CodeTable],
+) -> Result<Names<'a, Columns<'a>>, AllocError>
+    ensures { IfOk result (λ known. known ≡ with_tables [] tables.now) }
+{
+    let mut known = Names::new(alloc);
+    for table in tables {
+        add_table(alloc, table, &mut known)?;
+    }
+    Ok(known)
+}
+
+fn add_table<'a>(
+    alloc: Global,
+    table: &'a CodeTable,
+    known: &mut Names<'a, Columns<'a>>,
+) -> Result<(), AllocError>
+    ensures { IfOk result (λ _. known.new ≡ with_table known.old table.now) }
+{
+    let columns = columns_of(alloc, table.definition.columns.items())?;
+    known.add(&table.definition.name, columns)?;
+    Ok(())
+}
+
+fn columns_of<'a>(alloc: Global, columns: &'a [Column]) -> Result<Columns<'a>, AllocError>
+    ensures { IfOk result (λ known. known ≡ with_columns [] columns.now) }
+{
+    let mut known = Names::new(alloc);
+    for column in columns {
+        add_column(column, &mut known)?;
+    }
+    Ok(known)
+}
+
+fn add_column<'a>(column: &'a Column, known: &mut Columns<'a>) -> Result<(), AllocError>
+    ensures { IfOk result (λ _. known.new ≡ with_column known.old column.now) }
+{
+    known.add(&column.name, Some(column.kind))?;
+    Ok(())
+}
+
+// ---- keys
+
+fn keys_of<'a>(
+    alloc: Global,
+    tables: &'a [CodeTable],
+) -> Result<Names<'a, TableKey<'a>>, AllocError>
+    ensures { IfOk result (λ keys. keys ≡ with_keys [] tables.now) }
+{
+    let mut keys = Names::new(alloc);
+    for table in tables {
+        add_key(table, &mut keys)?;
+    }
+    Ok(keys)
+}
+
+fn add_key<'a>(table: &'a CodeTable, keys: &mut Names<'a, TableKey<'a>>) -> Result<(), AllocError>
+    ensures { IfOk result (λ _. keys.new ≡ with_key keys.old table.now) }
+{
+    let table = &table.definition;
+    keys.add(&table.name, TableKey { table })?;
+    Ok(())
+}
+
+// ---- procedures
+
+fn procedures_of<'a>(
+    alloc: Global,
+    routines: &'a [RawRoutine],
+) -> Result<Procedures<'a>, AllocError>
+    ensures { IfOk result (λ known. known ≡ with_routines [] 0 routines.now) }
+{
+    let mut known = Procedures::new(alloc);
+    let mut number = 0;
+    for routine in routines {
+        number = add_routine(alloc, routine, number, &mut known)?;
+    }
+    Ok(known)
+}
+
+// Adds a routine where so many procedures stand before it, if it is one, and gives how many there are with it.
+fn add_routine<'a>(
+    alloc: Global,
+    routine: &'a RawRoutine,
+    number: u32,
+    known: &mut Procedures<'a>,
+) -> Result<u32, AllocError>
+    ensures known { IfOk result (λ _. known.new ≡ with_routine known.old number routine.now) }
+    ensures number { IfOk result (λ n. n ≡ next_procedure number routine.now) }
+{
+    if routine.is_function {
+        return Ok(number);
+    }
+    add_procedure(alloc, routine, number, known)?;
+    next(number)
+}
+
+fn next(n: u32) -> Result<u32, AllocError>
+    ensures { IfOk result (λ m. m ≡ suc n) }
+{
+    match n.checked_add(1) {
+        None => Err(AllocError),
+        Some(m) => Ok(m),
+    }
+}
+
+fn add_procedure<'a>(
+    alloc: Global,
+    routine: &'a RawRoutine,
+    number: u32,
+    known: &mut Procedures<'a>,
+) -> Result<(), AllocError>
+    ensures { IfOk result (λ _. known.new ≡ with_procedure known.old number routine.now) }
+{
+    let parameters = parameters_of(alloc, routine.parameters.items())?;
+    known.add(&routine.name, ProcedureScope { number, parameters })?;
+    Ok(())
+}
+
+fn parameters_of(
+    alloc: Global,
+    parameters: &[Parameter],
+) -> Result<List<ParameterScope>, AllocError>
+    ensures { IfOk result (λ known. known ≡ map parameter_of parameters.now) }
+{
+    let mut known = Vec::new(alloc);
+    for parameter in parameters {
+        known.push(ParameterScope {
+            mode: mode_of(parameter.mode),
+            kind: Some(parameter.kind),
+        })?;
+    }
+    Ok(List::of(known))
+}
+
+fn mode_of(mode: CodeMode) -> ParameterMode
+    ensures { result ≡ mode_of mode }
+{
+    match mode {
+        CodeMode::In => ParameterMode::In,
+        CodeMode::Out => ParameterMode::Out,
+        CodeMode::InOut => ParameterMode::InOut,
+    }
+}

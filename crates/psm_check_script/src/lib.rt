@@ -1,0 +1,10 @@
+//! The checker of scripts: the first fault of a script over the tables and procedures of code, or the commands without names that stand
+//! for it.
+#![tactic(auto)]
+
+mod calls;
+mod command;
+mod constants;
+mod known;
+
+pub use command::{ResolvedCommand, ResolvedScript};
