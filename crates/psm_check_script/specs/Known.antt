@@ -12,7 +12,6 @@ use Rattle.psm_rules.specs.BlockFaults.{declared_once}
 use Rattle.psm_rules.specs.View.{Columns, View, World}
 use Rattle.psm_resolve_expr.specs.Sight.{Sight}
 use Rattle.psm_table.specs.declared.definition.Column.{Column}
-use Rattle.psm_table.specs.declared.definition.TableDef.{TableDef}
 use Rattle.psm_code.specs.declared.code.CodeTable.{CodeTable}
 use Rattle.psm_code.specs.declared.code.Parameter.{Parameter}
 use Rattle.psm_code.specs.declared.code.ParameterMode.{ParameterMode as CodeMode}
@@ -64,15 +63,17 @@ with_tables tables (t ∷ ts) = with_tables (with_table tables t) ts
 
 -- ---- their keys
 
-abbrev pub column_name : Option Column → Spelling
-column_name None = []
-column_name (Some c) = c.name
+abbrev pub named_column : Option Column → List Spelling
+named_column None = []
+named_column (Some c) = c.name ∷ []
 
-abbrev pub key_names : TableDef → List Spelling
-key_names t = map (λ i. column_name (slice_get t.columns i)) t.key
+-- the columns in some places
+abbrev pub key_names : List Column → List ℕ → List Spelling
+key_names columns [] = []
+key_names columns (i ∷ is) = named_column (slice_get columns i) ++ key_names columns is
 
 abbrev pub with_key : Keys → CodeTable → Keys
-with_key keys t = declared_once keys t.definition.name (key_names t.definition)
+with_key keys t = declared_once keys t.definition.name (key_names t.definition.columns t.definition.key)
 
 abbrev pub with_keys : Keys → List CodeTable → Keys
 with_keys keys [] = keys

@@ -9,7 +9,7 @@ ghost use Rattle.psm_check_script.specs.ScriptFaults.{argument_fault, arguments_
 ghost use Rattle.psm_check_script.specs.Seen.{command_seen};
 
 use crate::command::ResolvedCommand;
-use crate::constants::{constant_fault, value_of};
+use crate::constants::{constant_fault, push_value};
 use crate::known::Known;
 use psm_check_expr::breaks;
 use psm_list::List;
@@ -108,7 +108,7 @@ fn given_values(alloc: Global, arguments: &[Argument]) -> Result<List<Datum>, Al
     let mut values = Vec::new(alloc);
     for argument in arguments {
         match argument {
-            Argument::Constant(constant) => values.push(value_of(alloc, constant)?)?,
+            Argument::Constant(constant) => push_value(alloc, constant, &mut values)?,
             Argument::Placeholder { .. } => {}
         }
     }

@@ -1,5 +1,5 @@
 //! Constants.
-ghost use Rattle.std.specs.Prelude.{◌≡◌, IfOk};
+ghost use Rattle.std.specs.Prelude.{◌≡◌, ◌++◌, ◌∷◌, [], IfOk};
 ghost use Rattle.psm_rules.specs.FileFaults.{datum_of, fits_family, signed};
 ghost use Rattle.psm_rules.specs.Shapes.{is_family};
 ghost use Rattle.psm_rules.specs.StatementFaults.{family_due};
@@ -50,8 +50,8 @@ fn is_family(a: Family, b: Family) -> bool
     }
 }
 
-/// The value of a constant. A number takes no memory.
-pub(crate) fn value_of(alloc: Global, constant: &Constant) -> Result<Datum, AllocError>
+// The value of a constant. A number takes no memory.
+fn value_of(alloc: Global, constant: &Constant) -> Result<Datum, AllocError>
     ensures { IfOk result (λ d. d ≡ value_of constant.now) }
 {
     match &constant.form {
@@ -68,4 +68,17 @@ fn signed(sign: Option<Sign>, number: Dec) -> Dec
         None | Some(Sign::Plus) => number,
         Some(Sign::Minus) => number.neg(),
     }
+}
+
+/// Puts the value of a constant behind others.
+pub(crate) fn push_value(
+    alloc: Global,
+    constant: &Constant,
+    values: &mut Vec<Datum>,
+) -> Result<(), AllocError>
+    ensures { IfOk result (λ _. values.new.items ≡ values.old.items ++ value_of constant.now ∷ []) }
+{
+    let value = value_of(alloc, constant)?;
+    values.push(value)?;
+    Ok(())
 }

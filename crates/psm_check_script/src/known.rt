@@ -1,12 +1,16 @@
 //! What a script may name: the tables and the procedures of code.
-ghost use Rattle.std.specs.Prelude.{◌≡◌, [], map, suc, IfOk};
+ghost use Rattle.std.specs.Prelude.{◌≡◌, ◌++◌, [], map, slice_get, suc, IfOk};
 ghost use Rattle.std.specs.Option.{option_copied};
+ghost use Rattle.psm_check_expr.specs.Seen.{seen_in_view};
+ghost use Rattle.psm_resolve_expr.specs.Seen.{seen_at};
+ghost use Rattle.psm_scope.specs.Lookup.{named};
 ghost use Rattle.psm_scope.specs.Routines.{procedure};
-ghost use Rattle.psm_check_script.specs.Known.{known_of, mode_of, next_procedure, parameter_of, with_column, with_columns, with_key, with_keys, with_procedure, with_routine, with_routines, with_table, with_tables};
+ghost use Rattle.psm_check_script.specs.Known.{key_names, known_of, mode_of, named_column, next_procedure, parameter_of, sight_of, view_of, with_column, with_columns, with_key, with_keys, with_procedure, with_routine, with_routines, with_table, with_tables};
 
-use psm_check_expr::{Columns, World};
+use psm_check_expr::{Columns, Frames, View, World};
 use psm_code::{CodeTable, Parameter, ParameterMode as CodeMode, RawCode, RawRoutine};
 use psm_list::List;
+use psm_resolve_expr::{Frames as NumberedFrames, Sight};
 use psm_scope::{Functions, Names, ParameterMode, ParameterScope, ProcedureScope, Procedures};
 use psm_table::{Column, TableDef};
 use psm_text::Name;
@@ -16,16 +20,15 @@ use std::marker::Model;
 /// The primary key of a table, seen as the names of its columns.
 #[derive(Drop)]
 pub(crate) struct TableKey<'a> {
-    pub(crate) table: &'a TableDef,
+    pub(crate) names: Vec<&'a Name>,
 }
 
 impl<'a> Model for TableKey<'a> {
-    ghost use Rattle.std.specs.Prelude.{ℕ, List as Seq};
-    ghost use Rattle.psm_check_script.specs.Known.{key_names};
+    ghost use Rattle.std.specs.Prelude.{ℕ, map, List as Seq};
 
     ghost Value = { Seq (Seq ℕ) };
 
-    ghost view = { λ k. key_names k.table.now };
+    ghost view = { λ k. map (λ n. n.now) k.names.items };
 }
 
 /// The tables and the procedures of code. Names are found by maps.
@@ -64,6 +67,44 @@ impl<'a> Known<'a> {
             },
             keys,
         })
+    }
+
+    /// What a query of a script sees, where nothing is declared around it.
+    pub(crate) fn view<'v>(&'v self, frames: &'v Frames<'a>) -> View<'v, 'a>
+        requires { frames.now ≡ [] }
+        ensures { seen_in_view result ≡ view_of self.now }
+    {
+        View {
+            world: &self.world,
+            frames,
+            row: None,
+        }
+    }
+
+    /// The same, where names are put away.
+    pub(crate) fn sight<'v>(&'v self, frames: &'v NumberedFrames<'a>) -> Sight<'v, 'a>
+        requires { frames.now ≡ [] }
+        ensures { seen_at result ≡ sight_of self.now }
+    {
+        Sight {
+            world: &self.world,
+            frames,
+            row: None,
+        }
+    }
+
+    /// The columns of the table of that name.
+    pub(crate) fn columns(&self, table: &Name) -> Option<&Columns<'a>>
+        ensures { option_copied result ≡ named table.now self.now.tables }
+    {
+        self.world.columns(table)
+    }
+
+    /// The key of the table of that name.
+    pub(crate) fn key(&self, table: &Name) -> Option<&TableKey<'a>>
+        ensures { option_copied result ≡ named table.now self.now.keys }
+    {
+        self.keys.lent(table)
     }
 
     /// The procedure of that name with so many parameters.
@@ -128,17 +169,61 @@ fn keys_of<'a>(
 {
     let mut keys = Names::new(alloc);
     for table in tables {
-        add_key(table, &mut keys)?;
+        add_key(alloc, table, &mut keys)?;
     }
     Ok(keys)
 }
 
-fn add_key<'a>(table: &'a CodeTable, keys: &mut Names<'a, TableKey<'a>>) -> Result<(), AllocError>
+fn add_key<'a>(
+    alloc: Global,
+    table: &'a CodeTable,
+    keys: &mut Names<'a, TableKey<'a>>,
+) -> Result<(), AllocError>
     ensures { IfOk result (λ _. keys.new ≡ with_key keys.old table.now) }
 {
-    let table = &table.definition;
-    keys.add(&table.name, TableKey { table })?;
+    let key = key_of(alloc, &table.definition)?;
+    keys.add(&table.definition.name, key)?;
     Ok(())
+}
+
+fn key_of<'a>(alloc: Global, table: &'a TableDef) -> Result<TableKey<'a>, AllocError>
+    ensures { IfOk result (λ key. key ≡ key_names table.now.columns table.now.key) }
+{
+    let names = names_of(alloc, table.columns.items(), table.key.items())?;
+    Ok(TableKey { names })
+}
+
+// The names of the columns in some places.
+fn names_of<'a>(
+    alloc: Global,
+    columns: &'a [Column],
+    places: &[u32],
+) -> Result<Vec<&'a Name>, AllocError>
+    ensures { IfOk result (λ names. map (λ n. n.now) names.items ≡ key_names columns.now places.now) }
+{
+    let mut names = Vec::new(alloc);
+    for place in places {
+        push_name(column_at(columns, *place), &mut names)?;
+    }
+    Ok(names)
+}
+
+fn column_at(columns: &[Column], place: u32) -> Option<&Column>
+    ensures { option_copied result ≡ slice_get columns.now place }
+{
+    columns.get(place as usize)
+}
+
+fn push_name<'a>(column: Option<&'a Column>, names: &mut Vec<&'a Name>) -> Result<(), AllocError>
+    ensures { IfOk result (λ _. map (λ n. n.now) names.new.items ≡ map (λ n. n.now) names.old.items ++ named_column (option_copied column.entry)) }
+{
+    match column {
+        None => Ok(()),
+        Some(column) => {
+            names.push(&column.name)?;
+            Ok(())
+        }
+    }
 }
 
 // ---- procedures

@@ -5,6 +5,9 @@
 mod calls;
 mod command;
 mod constants;
+mod inserts;
 mod known;
+mod repeated;
+mod selects;
 
 pub use command::{ResolvedCommand, ResolvedScript};

@@ -1,0 +1,318 @@
+//! INSERT.
+ghost use Rattle.std.specs.Prelude.{◌≡◌, ◌++◌, ◌∷◌, [], map, Some, IfOk};
+ghost use Rattle.std.specs.Option.{option_copied};
+ghost use Rattle.psm_meaning.specs.Session.{Insert};
+ghost use Rattle.psm_resolve_expr.specs.Exprs.{number_of};
+ghost use Rattle.psm_resolve_expr.specs.Sight.{table_at};
+ghost use Rattle.psm_rules.specs.ExprFaults.{columns_known};
+ghost use Rattle.psm_rules.specs.Faults.{first_of};
+ghost use Rattle.psm_rules.specs.StatementFaults.{column_fault, columns_fault, inserted_types, listed_columns, several, type_of_column};
+ghost use Rattle.psm_scope.specs.Lookup.{named};
+ghost use Rattle.psm_check_script.specs.Commands.{all_places, column_of, inserted, row_of};
+ghost use Rattle.psm_check_script.specs.Known.{sight_of};
+ghost use Rattle.psm_check_script.specs.ScriptFaults.{constants_fault, insert_fault, rows_fault, values_fault};
+ghost use Rattle.psm_check_script.specs.Seen.{command_seen};
+
+use crate::command::ResolvedCommand;
+use crate::constants::{constant_fault, push_value};
+use crate::known::Known;
+use crate::repeated::repeated_fault;
+use psm_check_expr::{Columns, breaks, breaks_if, table_fault};
+use psm_list::{Boxed, List, OneOrMore};
+use psm_resolve_expr::{Frames, table_number};
+use psm_rules::{Fault, Rule, earlier};
+use psm_tree::{Constant, ConstantRow, Identifier, Names};
+use psm_value::{Datum, SqlType};
+use std::alloc::{AllocError, Global};
+
+// ---- the first fault
+
+/// The first fault of an INSERT.
+pub(crate) fn insert_fault(
+    alloc: Global,
+    known: &Known,
+    table: &Identifier,
+    names: &Option<Boxed<Names>>,
+    rows: &OneOrMore<ConstantRow>,
+) -> Result<Option<Fault>, AllocError>
+    ensures { IfOk result (λ f. f ≡ insert_fault table.now (named table.now.name known.now.tables) names.now rows.now) }
+{
+    let columns = known.columns(&table.name);
+    let listed = listed_fault(alloc, columns, names)?;
+    let types = inserted_types(alloc, columns, names)?;
+    let fault = earlier(table_fault(table, columns), listed);
+    Ok(earlier(fault, rows_fault(&types, rows)))
+}
+
+fn listed_fault(
+    alloc: Global,
+    columns: Option<&Columns>,
+    names: &Option<Boxed<Names>>,
+) -> Result<Option<Fault>, AllocError>
+    ensures { IfOk result (λ f. f ≡ columns_fault (option_copied columns.entry) (listed_columns names.now)) }
+{
+    match names {
+        None => Ok(None),
+        Some(names) => columns_fault(alloc, columns, names.get()),
+    }
+}
+
+// A list of columns: each is there, and none stands twice.
+fn columns_fault(
+    alloc: Global,
+    columns: Option<&Columns>,
+    names: &Names,
+) -> Result<Option<Fault>, AllocError>
+    ensures { IfOk result (λ f. f ≡ columns_fault (option_copied columns.entry) (several names.now)) }
+{
+    let repeated = repeated_fault(alloc, names)?;
+    Ok(earlier(unknown_column(columns, names), repeated))
+}
+
+fn unknown_column(columns: Option<&Columns>, names: &Names) -> Option<Fault>
+    ensures { result ≡ first_of (map (column_fault (option_copied columns.entry)) (several names.now)) }
+{
+    let mut fault = column_fault(columns, &names.first);
+    for name in names.rest.items() {
+        fault = earlier(fault, column_fault(columns, name));
+    }
+    fault
+}
+
+fn column_fault(columns: Option<&Columns>, name: &Identifier) -> Option<Fault>
+    ensures { result ≡ column_fault (option_copied columns.entry) name.now }
+{
+    match columns {
+        None => None,
+        Some(columns) => {
+            let is_there = columns.get(&name.name).is_some();
+            breaks_if(!is_there, Rule::UnknownColumn, name.place)
+        }
+    }
+}
+
+// The types of the columns; how many there are isn't known of all columns of an unknown table.
+fn inserted_types(
+    alloc: Global,
+    columns: Option<&Columns>,
+    names: &Option<Boxed<Names>>,
+) -> Result<Option<List<Option<SqlType>>>, AllocError>
+    ensures { IfOk result (λ types. types ≡ inserted_types (option_copied columns.entry) names.now) }
+{
+    match names {
+        Some(names) => Ok(Some(types_of_listed(alloc, columns, names.get())?)),
+        None => match columns {
+            None => Ok(None),
+            Some(columns) => Ok(Some(types_of_all(alloc, columns)?)),
+        },
+    }
+}
+
+fn types_of_listed(
+    alloc: Global,
+    columns: Option<&Columns>,
+    names: &Names,
+) -> Result<List<Option<SqlType>>, AllocError>
+    ensures { IfOk result (λ types. types ≡ map (type_of_column (columns_known (option_copied columns.entry))) (several names.now)) }
+{
+    let mut types = vec![in alloc; type_of_column(columns, &names.first)]?;
+    for name in names.rest.items() {
+        types.push(type_of_column(columns, name))?;
+    }
+    Ok(List::of(types))
+}
+
+fn type_of_column(columns: Option<&Columns>, name: &Identifier) -> Option<SqlType>
+    ensures { result ≡ type_of_column (columns_known (option_copied columns.entry)) name.now }
+{
+    match columns {
+        None => None,
+        Some(columns) => match columns.get(&name.name) {
+            None => None,
+            Some(kind) => kind,
+        },
+    }
+}
+
+fn types_of_all(alloc: Global, columns: &Columns) -> Result<List<Option<SqlType>>, AllocError>
+    ensures { IfOk result (λ types. types ≡ map (λ p. p.1) columns.now) }
+{
+    let mut types = Vec::new(alloc);
+    for number in 0..columns.len() {
+        types.push(*columns.at(number))?;
+    }
+    Ok(List::of(types))
+}
+
+fn rows_fault(
+    types: &Option<List<Option<SqlType>>>,
+    rows: &OneOrMore<ConstantRow>,
+) -> Option<Fault>
+    ensures { result ≡ rows_fault types.now rows.now }
+{
+    let mut fault = values_fault(types, &rows.first.values);
+    for row in rows.rest.items() {
+        fault = earlier(fault, values_fault(types, &row.values));
+    }
+    fault
+}
+
+// As many values as columns; else no pair is asked.
+fn values_fault(
+    types: &Option<List<Option<SqlType>>>,
+    values: &OneOrMore<Constant>,
+) -> Option<Fault>
+    ensures { result ≡ values_fault types.now values.now }
+{
+    match types {
+        None => None,
+        Some(types) => typed_values_fault(types.items(), values),
+    }
+}
+
+fn typed_values_fault(types: &[Option<SqlType>], values: &OneOrMore<Constant>) -> Option<Fault>
+    ensures { result ≡ values_fault (Some types.now) values.now }
+{
+    let others = values.rest.items();
+    match types.split_first() {
+        None => breaks(Rule::CountsDiffer, values.first.place),
+        Some((first, rest)) => {
+            if rest.len() == others.len() {
+                let fault = constant_fault(*first, &values.first);
+                earlier(fault, constants_fault(rest, others))
+            } else {
+                breaks(Rule::CountsDiffer, values.first.place)
+            }
+        }
+    }
+}
+
+#[tactic(auto, using(crate::proofs::Pairs::no_constants))]
+fn constants_fault(types: &[Option<SqlType>], values: &[Constant]) -> Option<Fault>
+    ensures { result ≡ first_of (constants_fault types.now values.now) }
+{
+    let mut fault = None;
+    for number in 0..types.len().min(values.len()) {
+        fault = earlier(fault, constant_fault(types[number], &values[number]));
+    }
+    fault
+}
+
+// ---- the command without names
+
+/// The INSERT without names.
+pub(crate) fn insert(
+    alloc: Global,
+    known: &Known,
+    table: &Identifier,
+    names: &Option<Boxed<Names>>,
+    rows: &OneOrMore<ConstantRow>,
+) -> Result<ResolvedCommand, AllocError>
+    ensures { IfOk result (λ c. command_seen c ≡ Insert (number_of (table_at (sight_of known.now) table.now.name)) (inserted (columns_known (named table.now.name known.now.tables)) names.now) (map row_of (several rows.now))) }
+{
+    let columns = inserted(alloc, known.columns(&table.name), names)?;
+    let rows = rows_of(alloc, rows)?;
+    let frames = Frames::new(alloc);
+    Ok(ResolvedCommand::Insert {
+        table: table_number(known.sight(&frames), &table.name),
+        columns,
+        rows,
+    })
+}
+
+// The columns for which there are values: all, where none is named.
+fn inserted(
+    alloc: Global,
+    columns: Option<&Columns>,
+    names: &Option<Boxed<Names>>,
+) -> Result<List<u32>, AllocError>
+    ensures { IfOk result (λ places. places ≡ inserted (columns_known (option_copied columns.entry)) names.now) }
+{
+    match names {
+        None => all_places(alloc, columns),
+        Some(names) => places_of(alloc, columns, names.get()),
+    }
+}
+
+fn places_of(
+    alloc: Global,
+    columns: Option<&Columns>,
+    names: &Names,
+) -> Result<List<u32>, AllocError>
+    ensures { IfOk result (λ places. places ≡ map (column_of (columns_known (option_copied columns.entry))) (several names.now)) }
+{
+    let mut places = Vec::new(alloc);
+    places.push(column_of(columns, &names.first))?;
+    for name in names.rest.items() {
+        places.push(column_of(columns, name))?;
+    }
+    Ok(List::of(places))
+}
+
+fn column_of(columns: Option<&Columns>, column: &Identifier) -> u32
+    ensures { result ≡ column_of (columns_known (option_copied columns.entry)) column.now }
+{
+    match columns {
+        None => 0,
+        Some(columns) => match columns.find(&column.name) {
+            None => 0,
+            Some((place, _)) => place,
+        },
+    }
+}
+
+fn all_places(alloc: Global, columns: Option<&Columns>) -> Result<List<u32>, AllocError>
+    ensures { IfOk result (λ places. places ≡ all_places 0 (columns_known (option_copied columns.entry))) }
+{
+    match columns {
+        None => Ok(List::of(Vec::new(alloc))),
+        Some(columns) => each_place(alloc, columns),
+    }
+}
+
+fn each_place(alloc: Global, columns: &Columns) -> Result<List<u32>, AllocError>
+    ensures { IfOk result (λ places. places ≡ all_places 0 columns.now) }
+{
+    let mut places = Vec::new(alloc);
+    for place in 0..columns.len() {
+        places.push(place)?;
+    }
+    Ok(List::of(places))
+}
+
+fn rows_of(
+    alloc: Global,
+    rows: &OneOrMore<ConstantRow>,
+) -> Result<List<List<Datum>>, AllocError>
+    ensures { IfOk result (λ made. made ≡ map row_of (several rows.now)) }
+{
+    let mut made = Vec::new(alloc);
+    push_row(alloc, &rows.first, &mut made)?;
+    for row in rows.rest.items() {
+        push_row(alloc, row, &mut made)?;
+    }
+    Ok(List::of(made))
+}
+
+fn push_row(
+    alloc: Global,
+    row: &ConstantRow,
+    made: &mut Vec<List<Datum>>,
+) -> Result<(), AllocError>
+    ensures { IfOk result (λ _. made.new.items ≡ made.old.items ++ row_of row.now ∷ []) }
+{
+    let one = row_of(alloc, row)?;
+    made.push(one)?;
+    Ok(())
+}
+
+fn row_of(alloc: Global, row: &ConstantRow) -> Result<List<Datum>, AllocError>
+    ensures { IfOk result (λ values. values ≡ row_of row.now) }
+{
+    let mut values = Vec::new(alloc);
+    push_value(alloc, &row.values.first, &mut values)?;
+    for constant in row.values.rest.items() {
+        push_value(alloc, constant, &mut values)?;
+    }
+    Ok(List::of(values))
+}
