@@ -2,3 +2,4 @@ pub mod Known
 pub mod ScriptFaults
 pub mod Commands
 pub mod Seen
+pub mod Checked

@@ -3,6 +3,7 @@
 #![tactic(auto)]
 
 mod calls;
+mod check;
 mod command;
 mod constants;
 mod inserts;
@@ -10,4 +11,5 @@ mod known;
 mod repeated;
 mod selects;
 
+pub use check::{CheckFault, check_script};
 pub use command::{ResolvedCommand, ResolvedScript};

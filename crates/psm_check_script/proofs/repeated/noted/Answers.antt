@@ -1,4 +1,4 @@
-use Rattle.std.proofs.Common.{◌∙◌, ap, not, sym, true}
+use Rattle.std.proofs.Common.{◌∙◌, ap, sym, true}
 use Rattle.psm_rules.specs.declared.rule.Rule.TheVariants.{ColumnRepeated}
 use Rattle.psm_rules.specs.Faults.{breaks_if, earlier}
 use Rattle.psm_check_script.proofs.NamesBefore.{sees_more}
