@@ -1,6 +1,5 @@
 -- The command without names that stands for a command of an accepted script. The number 0 stands for what nothing declares.
 use Rattle.std.specs.Prelude.{ℕ, suc, Bool, false, Option, Some, None, List, [], ◌∷◌, map, length}
-use Rattle.psm_list.specs.Several.{Several}
 use Rattle.psm_value.specs.declared.datum.Datum.{Datum}
 use Rattle.psm_value.specs.declared.sqltype.SqlType.{SqlType}
 use Rattle.psm_scope.specs.Lookup.{named, place_named}

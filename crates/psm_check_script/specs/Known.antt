@@ -1,7 +1,6 @@
 -- What a script may name: the tables of code with their columns and keys, and its procedures with their parameters. It names no
 -- function.
-use Rattle.std.specs.Prelude.{ℕ, suc, Bool, true, false, Option, Some, None, is_some, List, [], ◌∷◌, ◌++◌, map, length, slice_get, if◌then◌else◌}
-use Rattle.psm_value.specs.declared.sqltype.SqlType.{SqlType}
+use Rattle.std.specs.Prelude.{ℕ, suc, Option, Some, None, is_some, List, [], ◌∷◌, ◌++◌, map, length, slice_get, if◌then◌else◌}
 use Rattle.psm_scope.specs.Frames.{Spelling}
 use Rattle.psm_scope.specs.Routines.{Header, procedure}
 use Rattle.psm_scope.specs.declared.procedures.ProcedureScope.{ProcedureScope}

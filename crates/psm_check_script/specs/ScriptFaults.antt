@@ -1,6 +1,6 @@
 -- The first fault of a script: the rules of CALL (ISO/IEC 9075-4:1996, call statement), INSERT, SELECT and ORDER BY
 -- (ISO/IEC 9075:1992, 13.8, 7.9 and 13.1).
-use Rattle.std.specs.Prelude.{ℕ, nat_eq, Bool, true, not, Option, Some, None, List, [], ◌∷◌, map, length, if◌then◌else◌}
+use Rattle.std.specs.Prelude.{nat_eq, Bool, true, not, Option, Some, None, List, [], ◌∷◌, map, length, if◌then◌else◌}
 use Rattle.psm_list.specs.Several.{Several}
 use Rattle.psm_value.specs.declared.datum.Datum.{Datum}
 use Rattle.psm_value.specs.declared.sqltype.SqlType.{SqlType}
