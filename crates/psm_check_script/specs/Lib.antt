@@ -3,3 +3,4 @@ pub mod ScriptFaults
 pub mod Commands
 pub mod Seen
 pub mod Checked
+pub mod There

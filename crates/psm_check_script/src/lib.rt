@@ -8,8 +8,10 @@ mod command;
 mod constants;
 mod inserts;
 mod known;
+mod laws;
 mod repeated;
 mod selects;
 
 pub use check::{CheckFault, check_script};
 pub use command::{ResolvedCommand, ResolvedScript};
+pub use laws::accepted_commands_name_what_is_there;
