@@ -27,10 +27,13 @@ abbrev known : Known
 known = record {
   tables = (codes "T", (codes "K", Some types.Integer) ∷ (codes "V", Some (types.VarChar 5)) ∷ []) ∷ [];
   keys = (codes "T", codes "K" ∷ []) ∷ [];
-  procedures = ((codes "P", 2), record {
-    number = 3;
-    parameters = record { mode = In; kind = Some types.Integer } ∷ record { mode = Out; kind = Some types.Integer } ∷ [];
-  }) ∷ [];
+  procedures = (
+    (codes "P", 2),
+    record {
+      number = 3;
+      parameters = record { mode = In; kind = Some types.Integer } ∷ record { mode = Out; kind = Some types.Integer } ∷ [];
+    },
+  ) ∷ [];
 }
 
 abbrev spot : ℕ → Place

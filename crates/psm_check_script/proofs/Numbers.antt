@@ -87,11 +87,11 @@ numbered_add rs ps r h n count p e = by (is_some (procedure r.name (length r.par
     by false e = elim (found_last n count ps (r.name, length r.parameters) (known_behind rs r) p e) as (λ _. Numbers (rs ++ r ∷ []) count p) [
       | inl a ↦ numbers_more rs (r ∷ []) count p (h n count p a)
       | inr b ↦ record {
-          routine = r;
-          there = ap (λ q. slice_get (rs ++ r ∷ []) q.number) (sym b.1) ∙ last_there rs r;
-          parameters = ap (λ q. q.parameters) (sym b.1);
-          counted = sym b.0;
-        }
+        routine = r;
+        there = ap (λ q. slice_get (rs ++ r ∷ []) q.number) (sym b.1) ∙ last_there rs r;
+        parameters = ap (λ q. q.parameters) (sym b.1);
+        counted = sym b.0;
+      }
     ]
 
 numbered_from : (before : List RawRoutine) (ps : Procedures) (rs : List RawRoutine) → Numbered before ps → Numbered (before ++ procedures_in rs) (with_routines ps (length before) rs)

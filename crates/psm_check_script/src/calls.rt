@@ -23,11 +23,7 @@ use std::alloc::{AllocError, Global};
 // ---- the first fault
 
 /// The first fault of a CALL. The procedure is found by its name and the number of arguments.
-pub(crate) fn call_fault(
-    known: &Known,
-    name: &Identifier,
-    arguments: &[Argument],
-) -> Option<Fault>
+pub(crate) fn call_fault(known: &Known, name: &Identifier, arguments: &[Argument]) -> Option<Fault>
     ensures { result ≡ call_fault name.now arguments.now (procedure name.now.name (length arguments.now) known.now.procedures) }
 {
     match known.procedure(&name.name, arguments.len()) {
@@ -42,7 +38,10 @@ fn arguments_fault(parameters: &[ParameterScope], arguments: &[Argument]) -> Opt
 {
     let mut fault = None;
     for number in 0..parameters.len().min(arguments.len()) {
-        fault = earlier(fault, argument_fault(parameters[number], &arguments[number]));
+        fault = earlier(
+            fault,
+            argument_fault(parameters[number], &arguments[number]),
+        );
     }
     fault
 }

@@ -45,11 +45,7 @@ pub fn check_script(
     }
 }
 
-fn checked(
-    alloc: Global,
-    known: &Known,
-    script: &ScriptTree,
-) -> Result<ResolvedScript, CheckFault>
+fn checked(alloc: Global, known: &Known, script: &ScriptTree) -> Result<ResolvedScript, CheckFault>
     ensures { Checks known.now script.now result }
 {
     match script_fault(alloc, known, script) {
@@ -62,11 +58,7 @@ fn checked(
     }
 }
 
-fn resolved(
-    alloc: Global,
-    known: &Known,
-    script: &ScriptTree,
-) -> Result<ResolvedScript, CheckFault>
+fn resolved(alloc: Global, known: &Known, script: &ScriptTree) -> Result<ResolvedScript, CheckFault>
     requires { script_fault known.now script.now ≡ None }
     ensures { Checks known.now script.now result }
 {

@@ -7,7 +7,10 @@ use psm_value::Datum;
 #[derive(Drop)]
 pub enum ResolvedCommand {
     /// The procedure with that number among the procedures, with the values for its IN and INOUT parameters in order.
-    Call { procedure: u32, values: List<Datum> },
+    Call {
+        procedure: u32,
+        values: List<Datum>,
+    },
     /// The table in that place, the places of the columns for which there are values, and the rows of these.
     Insert {
         table: u32,

@@ -144,10 +144,7 @@ fn types_of_all(alloc: Global, columns: &Columns) -> Result<List<Option<SqlType>
     Ok(List::of(types))
 }
 
-fn rows_fault(
-    types: &Option<List<Option<SqlType>>>,
-    rows: &OneOrMore<ConstantRow>,
-) -> Option<Fault>
+fn rows_fault(types: &Option<List<Option<SqlType>>>, rows: &OneOrMore<ConstantRow>) -> Option<Fault>
     ensures { result ≡ rows_fault types.now rows.now }
 {
     let mut fault = values_fault(types, &rows.first.values);
@@ -280,10 +277,7 @@ fn each_place(alloc: Global, columns: &Columns) -> Result<List<u32>, AllocError>
     Ok(List::of(places))
 }
 
-fn rows_of(
-    alloc: Global,
-    rows: &OneOrMore<ConstantRow>,
-) -> Result<List<List<Datum>>, AllocError>
+fn rows_of(alloc: Global, rows: &OneOrMore<ConstantRow>) -> Result<List<List<Datum>>, AllocError>
     ensures { IfOk result (λ made. made ≡ map row_of (several rows.now)) }
 {
     let mut made = Vec::new(alloc);
@@ -294,11 +288,7 @@ fn rows_of(
     Ok(List::of(made))
 }
 
-fn push_row(
-    alloc: Global,
-    row: &ConstantRow,
-    made: &mut Vec<List<Datum>>,
-) -> Result<(), AllocError>
+fn push_row(alloc: Global, row: &ConstantRow, made: &mut Vec<List<Datum>>) -> Result<(), AllocError>
     ensures { IfOk result (λ _. made.new.items ≡ made.old.items ++ row_of row.now ∷ []) }
 {
     let one = row_of(alloc, row)?;

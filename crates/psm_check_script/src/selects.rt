@@ -91,8 +91,7 @@ fn has_columns(names: &[&Name], columns: &OneOrMore<OrderColumn>) -> bool
     match names.split_first() {
         None => false,
         Some((first, rest)) => {
-            same_name(first, &columns.first.column.name)
-                && same_names(rest, columns.rest.items())
+            same_name(first, &columns.first.column.name) && same_names(rest, columns.rest.items())
         }
     }
 }
