@@ -5,6 +5,7 @@ use crate::fault::Fault;
 use crate::letters::{column_letters, slot_letters};
 use crate::outline::outline;
 use crate::read::{file, values};
+use crate::scripted::scripted;
 use crate::value::{Place, print_value};
 use psm_list::Boxed;
 use psm_resolved::{
@@ -25,6 +26,7 @@ fn answered(alloc: Global, line: &str) -> Result<String, Fault> {
     match kind {
         "file" => outlines(alloc, asked),
         "code" => coded(alloc, asked),
+        "script" => scripted(alloc, asked),
         "check" => checks(alloc, asked),
         "query" => query(alloc, asked),
         _ => Err(Fault::Row),
