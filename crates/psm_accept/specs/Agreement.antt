@@ -1,0 +1,104 @@
+-- What is seen where a file is checked, what is seen where its names are put away, and the scene that then stands: they agree.
+use Rattle.std.specs.Prelude.{◌≡◌, IsTrue, List, [], ◌∷◌, filter, map, Option, Some, None}
+use Rattle.psm_value.specs.declared.sqltype.SqlType.{SqlType}
+use Rattle.psm_exprcode.specs.declared.op.Letter.{Letter}
+use Rattle.psm_exprcode.specs.declared.op.Letter.TheVariants.{N, T, B}
+use Rattle.psm_exprcode.specs.Kinds.{is_letter, is_value}
+use Rattle.psm_exprcode.specs.WellFormed.{is_type}
+use Rattle.psm_scope.specs.Choice.{Signature, kind_of}
+use Rattle.psm_scope.specs.Frames.{Spelling, Declared, Frame, Routine, Compound, Loop, For, Action, declared_in}
+use Rattle.psm_scope.specs.Lookup.{RowTable}
+use Rattle.psm_scope.specs.declared.known.Variable.{Variable}
+use Rattle.psm_rules.specs.View.{View, Columns}
+use Rattle.psm_rules.specs.declared.shape.Family.{Family}
+use Rattle.psm_rules.specs.declared.shape.Family.TheVariants.{Numbers, Texts}
+use Rattle.psm_rules.specs.declared.shape.Shape.{Shape}
+use Rattle.psm_rules.specs.declared.shape.Shape.TheVariants.{Value, Untyped, Condition}
+use Rattle.psm_rules.specs.Shapes.{family_of}
+use Rattle.psm_resolve_expr.specs.Sight.{Sight}
+use Rattle.psm_resolved.specs.declared.file.ResolvedRoutine.{ResolvedRoutine}
+use Rattle.psm_resolved.specs.declared.file.ResolvedTable.{ResolvedTable}
+use Rattle.psm_table.specs.Definition.{kinds_of}
+use Rattle.psm_meaning.specs.Calls.{returns}
+use Rattle.psm_sound.specs.Scene.{Each, Scene, taken_by}
+use Rattle.std.specs.Prelude.{slice_get}
+
+-- ---- letters
+
+abbrev pub letter_in : Family → Letter
+letter_in Numbers = N
+letter_in Texts = T
+
+-- the letters that a value of a shape may have: NULL has that of any value
+abbrev pub Suits : Shape → Letter → Type 0
+Suits (Value t) k = k ≡ letter_in (family_of t.kind)
+Suits Untyped k = IsTrue (is_value k)
+Suits Condition k = k ≡ B
+
+-- ---- frames
+
+-- the variables of frames by their names and types alone
+abbrev pub kinds_declared : {C K : Type 0} → Declared Variable C K → Declared (Option SqlType) (Unit {0}) (Unit {0})
+kinds_declared d = record { variables = map (λ p. (p.0, p.1.kind)) d.variables; conditions = []; cursors = [] }
+
+abbrev pub kinds_in : {C K : Type 0} → Frame Variable C K → Frame (Option SqlType) (Unit {0}) (Unit {0})
+kinds_in (Routine name d) = Routine name (kinds_declared d)
+kinds_in (Compound label d) = Compound label (kinds_declared d)
+kinds_in (Loop label) = Loop label
+kinds_in (For label name d) = For label name (kinds_declared d)
+kinds_in Action = Action
+
+-- a variable has a slot of its type
+pub record HasSlot (slots : List SqlType) (v : Variable) : Type 0 where
+  pub type : SqlType
+  pub declared : v.kind ≡ Some type
+  pub bounded : IsTrue (is_type type)
+  pub there : slice_get slots v.slot ≡ Some type
+
+abbrev pub HaveSlots : {C K : Type 0} → List SqlType → Frame Variable C K → Type 0
+HaveSlots slots f = Each (λ p. HasSlot slots p.1) (declared_in f).variables
+
+-- ---- tables and functions
+
+-- columns have types, one for one
+abbrev pub HaveTypes : Columns → List SqlType → Type 0
+HaveTypes [] [] = Unit {0}
+HaveTypes [] (t ∷ ts) = ⊥
+HaveTypes (c ∷ cs) [] = ⊥
+HaveTypes (c ∷ cs) (t ∷ ts) = (c.1 ≡ Some t) × IsTrue (is_type t) × HaveTypes cs ts
+
+abbrev pub AreTables : List (Spelling × Columns) → List ResolvedTable → Type 0
+AreTables [] [] = Unit {0}
+AreTables [] (t ∷ ts) = ⊥
+AreTables (p ∷ ps) [] = ⊥
+AreTables (p ∷ ps) (t ∷ ts) = HaveTypes p.1 (kinds_of t.definition.columns) × AreTables ps ts
+
+-- a function takes arguments of the kinds by which it is chosen, and returns a value of its type
+pub record IsFunction (s : Signature) (result : Option SqlType) (r : ResolvedRoutine) : Type 0 where
+  pub type : SqlType
+  pub declared : result ≡ Some type
+  pub bounded : IsTrue (is_type type)
+  pub returned : r.returns ≡ Some type
+  pub kinds : s.kinds ≡ map kind_of (taken_by r.parameters)
+
+abbrev pub AreFunctions : List Signature → List (Option SqlType) → List ResolvedRoutine → Type 0
+AreFunctions [] results rs = Unit {0}
+AreFunctions (s ∷ ss) [] rs = ⊥
+AreFunctions (s ∷ ss) (result ∷ results) [] = ⊥
+AreFunctions (s ∷ ss) (result ∷ results) (r ∷ rs) = IsFunction s result r × AreFunctions ss results rs
+
+-- ---- agreement
+
+pub record Agree (e : Scene) (view : View) (sight : Sight) : Type 0 where
+  pub tables : view.world.tables ≡ sight.world.tables
+  pub functions : view.world.functions ≡ sight.world.functions
+  pub frames : map kinds_in view.frames ≡ map kinds_in sight.frames
+  pub row : view.row ≡ sight.row
+  pub known_tables : AreTables sight.world.tables e.file.tables
+  pub known_functions : AreFunctions sight.world.functions.signatures sight.world.functions.results (filter (λ r. returns r.returns) e.file.routines)
+  pub slots : Each (HaveSlots e.routine.slots) sight.frames
+
+-- the columns of the row, where there is one, have these types
+abbrev pub OnRow : Option (RowTable (Option SqlType)) → List SqlType → Type 0
+OnRow None types = ⊥
+OnRow (Some row) types = HaveTypes row.columns types

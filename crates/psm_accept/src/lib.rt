@@ -1,0 +1,6 @@
+//! What stands for an accepted module file is sound (ISO/IEC 9075-4:1996). It has no code that runs.
+#![tactic(auto)]
+
+mod laws;
+
+pub use laws::accepted_expressions_are_sound;
