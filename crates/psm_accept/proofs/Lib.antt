@@ -1,3 +1,4 @@
 pub mod Names
 pub mod Choosing
 pub mod Judging
+pub mod Parts
