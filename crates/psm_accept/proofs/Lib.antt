@@ -2,3 +2,5 @@ pub mod Names
 pub mod Choosing
 pub mod Judging
 pub mod Parts
+pub mod Results
+pub mod Forms
