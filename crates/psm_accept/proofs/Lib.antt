@@ -4,3 +4,4 @@ pub mod Judging
 pub mod Parts
 pub mod Results
 pub mod Forms
+pub mod Choices
