@@ -221,12 +221,12 @@ argument_clean : (e : Scene) (w : Where) (family : Family) (a : Standing) (f : F
 argument_clean e w family a f m p well = of_family-clean family (as_value f) (as_value-clean f (p (operand_source a well)).clean)
 
 -- the value behind an argument of a family
-record IsArgument (e : Scene) (w : Where) (family : Family) (f : Found) (m : Made) : Type 0 where
-  operand : IsOperand e w f m
-  of : family_of operand.type.kind ≡ family
-  is : argument family f ≡ sound f.place (Value operand.type)
+pub record IsArgument (e : Scene) (w : Where) (family : Family) (f : Found) (m : Made) : Type 0 where
+  pub operand : IsOperand e w f m
+  pub of : family_of operand.type.kind ≡ family
+  pub is : argument family f ≡ sound f.place (Value operand.type)
 
-argued : (e : Scene) (w : Where) (family : Family) (a : Standing) (f : Found) (m : Made) → Part e w a f m → IsTrue (as_operand a) → is_shaped (argument family f) ≡ true → IsArgument e w family f m
+pub argued : (e : Scene) (w : Where) (family : Family) (a : Standing) (f : Found) (m : Made) → Part e w a f m → IsTrue (as_operand a) → is_shaped (argument family f) ≡ true → IsArgument e w family f m
 argued e w family a f m p well shaped =
     let given = familiar family (as_value f) shaped in
     let o : IsOperand e w f m = operand e w a f m p well (ap is_some given.1) in

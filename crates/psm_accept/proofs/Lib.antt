@@ -5,3 +5,5 @@ pub mod Parts
 pub mod Results
 pub mod Forms
 pub mod Choices
+pub mod Queries
+pub mod Accepted

@@ -1,0 +1,499 @@
+-- Queries without a fault are sound, where their items and their tests are.
+use Rattle.std.proofs.Common.{◌≡◌, inl, inr, ℕ, zero, suc, ◌+◌, ◌≤◌, Bool, true, false, ◌&&◌, List, [], ◌∷◌, ◌++◌, map, Option, Some, None, option_map, refl, ap, sym, ◌∙◌, subst, arith}
+use Rattle.std.specs.Prelude.{IfSome, IsTrue, if◌then◌else◌, is_none, is_some, not, nat_eq, slice_get, length}
+use Rattle.std.specs.List.{list_all}
+use Rattle.std.proofs.lemmas.Bool.Decides.{nat_tests}
+use Rattle.psm_token.specs.declared.place.Place.{Place}
+use Rattle.psm_value.specs.declared.sqltype.SqlType.{SqlType}
+use Rattle.psm_exprcode.specs.declared.op.Letter.{Letter}
+use Rattle.psm_exprcode.specs.declared.op.Letter.TheVariants.{N, T, B}
+use Rattle.psm_exprcode.specs.Kinds.{is_value, letter_of}
+use Rattle.psm_exprcode.specs.WellFormed.{is_type}
+use Rattle.psm_exprcode.specs.declared.aggregate.SetFunction.TheVariants as coded
+use Rattle.psm_scope.proofs.Calls.{both}
+use Rattle.psm_scope.specs.Frames.{Spelling, is_spelled}
+use Rattle.psm_scope.specs.Lookup.{named, place_named}
+use Rattle.psm_rules.specs.declared.fault.Fault.{Fault}
+use Rattle.psm_rules.specs.declared.found.Found.{Found}
+use Rattle.psm_rules.specs.declared.query.Item.{Item}
+use Rattle.psm_rules.specs.declared.query.Picked.{Picked}
+use Rattle.psm_rules.specs.declared.query.Picked.TheVariants.{All, Plain, Set}
+use Rattle.psm_rules.specs.declared.shape.Family.{Family}
+use Rattle.psm_rules.specs.declared.shape.Family.TheVariants.{Numbers, Texts}
+use Rattle.psm_rules.specs.declared.shape.Shape.{Shape}
+use Rattle.psm_rules.specs.declared.shape.Shape.TheVariants.{Value, Untyped, Condition}
+use Rattle.psm_rules.specs.declared.shape.Typed.{Typed}
+use Rattle.psm_rules.specs.declared.rule.Rule.TheVariants as rule
+use Rattle.psm_rules.specs.Faults.{breaks, breaks_if, earlier, first_of}
+use Rattle.psm_rules.specs.Found.{as_condition, as_value, is_shaped, made_of, of_family, shape_of, shown, sound, value_shape, with_shape}
+use Rattle.psm_rules.specs.Shapes.{family_of, integer, typed}
+use Rattle.psm_rules.specs.ExprFaults as faults
+use Rattle.psm_rules.specs.ExprFaults.{PickFound, QueryFound, argument, column_item, first_set, is_all, is_set, item_of, items_fault, items_in, items_of_pick, joined_items, misplaced_set, other_faults, query_fault, set_argument, set_found, set_result, set_shape, sets_fault, table_fault, test_fault}
+use Rattle.psm_rules.specs.View.{Columns}
+use Rattle.psm_rules.proofs.Earliest.{first_of_cons}
+use Rattle.psm_tree.specs.declared.expr.SetFunction.{SetFunction}
+use Rattle.psm_tree.specs.declared.expr.SetFunction.TheVariants as sets
+use Rattle.psm_table.specs.Queries as q
+use Rattle.psm_table.specs.Definition.{kinds_of}
+use Rattle.psm_tablecode.specs.Codes.{set_function}
+use Rattle.psm_resolved.specs.declared.expr.ResolvedExpr.{ResolvedExpr}
+use Rattle.psm_resolved.specs.declared.expr.ResolvedExpr.TheVariants as exprs
+use Rattle.psm_resolved.specs.declared.expr.ResolvedExpr.TheOpen as layers
+use Rattle.psm_resolved.specs.declared.expr.ResolvedItem.{ResolvedItem, out-ResolvedItem, out-roll-ResolvedItem}
+use Rattle.psm_resolved.specs.declared.expr.ResolvedItems.{ResolvedItems, out-ResolvedItems}
+use Rattle.psm_resolved.specs.declared.expr.ResolvedItems.TheVariants as items
+use Rattle.psm_resolved.specs.declared.expr.ResolvedQuery.{ResolvedQuery, out-ResolvedQuery, roll-ResolvedQuery, out-roll-ResolvedQuery}
+use Rattle.psm_resolved.specs.declared.file.ResolvedTable.{ResolvedTable}
+use Rattle.psm_resolved.specs.Sort.{IsOfLetter}
+use Rattle.psm_resolve_expr.specs.declared.made.Made.{Made}
+use Rattle.psm_resolve_expr.specs.declared.made.MadeQuery.{MadeQuery}
+use Rattle.psm_resolve_expr.specs.Made.{MadePick, Values, OfAll, values_in, sets_in, shape_of_type}
+use Rattle.psm_resolve_expr.specs.Exprs as making
+use Rattle.psm_resolve_expr.specs.Exprs.{columns_from, expr_in, optional_in, query_of, set_item, set_of, shape_of_set, shapes_of}
+use Rattle.psm_meaning.specs.Rows as rows
+use Rattle.psm_sound.specs.Expressions as typed_expr
+use Rattle.psm_sound.specs.Queries.{AreItems, AreRowValues, AreSets, IsOperand as IsSetOperand, IsQuery, IsRowTest, IsRowValue, IsSet, letter_of_set}
+use Rattle.psm_sound.specs.Scene.{Each, Scene, columns_of, letters_of, variables_of}
+use Rattle.psm_accept.specs.Agreement.{AreTables, HaveTypes, letter_in}
+use Rattle.psm_accept.specs.Stands.{Standing, as_operand, may_be}
+use Rattle.psm_accept.proofs.Judging.{Judged, Where, Control, OnRow, column-judged, goes_as_sort, sort_at}
+use Rattle.psm_accept.proofs.Parts.{Clean, Good, IsMade, IsNullAlone, IsOperand, IsSane, IsValue, Part, as_condition-clean, as_value-clean, made_of-clean, made_of-parts, neither, of_family-clean, operand, operand_source, tested, value_of_family, valued}
+use Rattle.psm_accept.proofs.Forms.{IsArgument, argued, made_condition, made_value, without_none, shape_some, typed_sane, typed_value}
+
+-- ---- tables by their places
+
+pub record IsTable (tables : List ResolvedTable) (i : ℕ) (p : ℕ × Columns) : Type 0 where
+  pub place : ℕ
+  pub table : ResolvedTable
+  pub from : p.0 ≡ i + place
+  pub there : slice_get tables place ≡ Some table
+  pub types : HaveTypes p.1 (kinds_of table.definition.columns)
+
+some_step : {A : Type 0} (P : A → Type 0) (b : Bool) (x : A) (o : Option A) → P x → IfSome o P → IfSome (if b then Some x else o) P
+some_step P true x o h k = h
+some_step P false x o h k = k
+
+next_table : (t : ResolvedTable) (tables : List ResolvedTable) (i : ℕ) (o : Option (ℕ × Columns)) → IfSome o (IsTable tables (suc i)) → IfSome o (IsTable (t ∷ tables) i)
+next_table t tables i None h = tt
+next_table t tables i (Some p) h = record { place = suc h.place; table = h.table; from = omega (arith, h.from); there = h.there; types = h.types }
+
+pub tables_placed : (n : Spelling) (i : ℕ) (ps : List (Spelling × Columns)) (tables : List ResolvedTable) → AreTables ps tables → IfSome (place_named i n ps) (IsTable tables i)
+tables_placed n i [] [] h = tt
+tables_placed n i [] (t ∷ tables) h = absurd h
+tables_placed n i (p ∷ ps) [] h = absurd h
+tables_placed n i (p ∷ ps) (t ∷ tables) h = some_step (IsTable (t ∷ tables) i) (is_spelled n p.0) (i, p.1) (place_named (suc i) n ps)
+    (record { place = 0; table = t; from = omega arith; there = refl; types = h.0 })
+    (next_table t tables i (place_named (suc i) n ps) (tables_placed n (suc i) ps tables h.1))
+
+named_step : {A : Type 0} (b : Bool) (i : ℕ) (x : A) (o : Option A) (p : Option (ℕ × A)) → o ≡ option_map (λ p. p.1) p → (if b then Some x else o) ≡ option_map (λ p. p.1) (if b then Some (i, x) else p)
+named_step true i x o p h = refl
+named_step false i x o p h = h
+
+pub named_placed : {A : Type 0} (n : Spelling) (i : ℕ) (xs : List (Spelling × A)) → named n xs ≡ option_map (λ p. p.1) (place_named i n xs)
+named_placed n i [] = refl
+named_placed n i (x ∷ xs) = named_step (is_spelled n x.0) i x.1 (named n xs) (place_named (suc i) n xs) (named_placed n (suc i) xs)
+
+-- ---- items
+
+-- the items of a pick
+abbrev pub pick_items : Columns → PickFound → List Item
+pick_items cs p = if is_all p.form then map (column_item p.found.place) cs else item_of p.found ∷ []
+
+abbrev pub all_items : Columns → List PickFound → List Item
+all_items cs [] = []
+all_items cs (p ∷ ps) = pick_items cs p ++ all_items cs ps
+
+pick_items_by : (cs : Columns) (p : PickFound) (b : Bool) → (if b then option_map (map (column_item p.found.place)) (Some cs) else Some (item_of p.found ∷ [])) ≡ Some (if b then map (column_item p.found.place) cs else item_of p.found ∷ [])
+pick_items_by cs p true = refl
+pick_items_by cs p false = refl
+
+pub all_items_in : (cs : Columns) (ps : List PickFound) → items_in (Some cs) ps ≡ Some (all_items cs ps)
+all_items_in cs [] = refl
+all_items_in cs (p ∷ ps) = ap (λ o. joined_items o (items_in (Some cs) ps)) (pick_items_by cs p (is_all p.form)) ∙ ap (joined_items (Some (pick_items cs p))) (all_items_in cs ps)
+
+-- items that are values on each row, one for one
+abbrev pub AreValues : Scene → List SqlType → List Item → List Made → Type 0
+AreValues e types [] [] = Unit {0}
+AreValues e types [] (m ∷ ms) = ⊥
+AreValues e types (i ∷ is) [] = ⊥
+AreValues e types (i ∷ is) (m ∷ ms) = (t : Typed) × (i.shape ≡ Some (Value t)) × IsValue e (OnRow types) m t × AreValues e types is ms
+
+-- an item that is a set function
+pub record IsSetItem (e : Scene) (types : List SqlType) (i : Item) (item : ResolvedItem) (shape : Shape) : Type 0 where
+  pub type : Typed
+  pub found : i.shape ≡ Some (Value type)
+  pub made : shape ≡ Value type
+  pub sane : IsSane type
+  pub set : IsSet (letters_of types) (variables_of e) (rows.set_of item) (letter_in (family_of type.kind))
+
+abbrev pub AreSetItems : Scene → List SqlType → List Item → List (ResolvedItem × Shape) → Type 0
+AreSetItems e types [] [] = Unit {0}
+AreSetItems e types [] (s ∷ ss) = ⊥
+AreSetItems e types (i ∷ is) [] = ⊥
+AreSetItems e types (i ∷ is) (s ∷ ss) = IsSetItem e types i s.0 s.1 × AreSetItems e types is ss
+
+abbrev pub IsPick : Scene → List SqlType → Columns → PickFound → MadePick → Type 0
+IsPick e types cs p (Values ms) = (is_set p.form ≡ false) × AreValues e types (pick_items cs p) ms
+IsPick e types cs p (OfAll item shape) = (is_set p.form ≡ true) × AreSetItems e types (pick_items cs p) ((item, shape) ∷ [])
+
+abbrev pub PickGood : Scene → List SqlType → Columns → PickFound → MadePick → Type 0
+PickGood e types cs p m = (as_value p.found).fault ≡ None → IsPick e types cs p m
+
+-- one for one
+abbrev pub Picks : Scene → List SqlType → Columns → List PickFound → List MadePick → Type 0
+Picks e types cs [] [] = Unit {0}
+Picks e types cs [] (m ∷ ms) = ⊥
+Picks e types cs (p ∷ ps) [] = ⊥
+Picks e types cs (p ∷ ps) (m ∷ ms) = PickGood e types cs p m × Picks e types cs ps ms
+
+abbrev pub PicksAre : Scene → List SqlType → Columns → List PickFound → List MadePick → Type 0
+PicksAre e types cs [] [] = Unit {0}
+PicksAre e types cs [] (m ∷ ms) = ⊥
+PicksAre e types cs (p ∷ ps) [] = ⊥
+PicksAre e types cs (p ∷ ps) (m ∷ ms) = IsPick e types cs p m × PicksAre e types cs ps ms
+
+picks_are : (e : Scene) (types : List SqlType) (cs : Columns) (ps : List PickFound) (ms : List MadePick) → Picks e types cs ps ms → items_fault ps ≡ None → PicksAre e types cs ps ms
+picks_are e types cs [] [] h none = tt
+picks_are e types cs [] (m ∷ ms) h none = absurd h
+picks_are e types cs (p ∷ ps) [] h none = absurd h
+picks_are e types cs (p ∷ ps) (m ∷ ms) h none =
+    let parts = neither (as_value p.found).fault (items_fault ps) (sym (first_of_cons (as_value p.found).fault (map (λ p. (as_value p.found).fault) ps)) ∙ none) in
+    (h.0 parts.0, picks_are e types cs ps ms h.1 parts.1)
+
+-- ---- each form of pick
+
+pub all_good : (e : Scene) (types : List SqlType) (place : Place) (i : ℕ) (rest : Columns) (ts : List SqlType)
+    → ((k : ℕ) (t : SqlType) → slice_get ts k ≡ Some t → slice_get types (i + k) ≡ Some t) → HaveTypes rest ts → AreValues e types (map (column_item place) rest) (columns_from i rest)
+all_good e types place i [] [] at h = tt
+all_good e types place i [] (t ∷ ts) at h = absurd h
+all_good e types place i (c ∷ rest) [] at h = absurd h
+all_good e types place i (c ∷ rest) (t ∷ ts) at h = (
+  typed t,
+  ap (option_map (λ t. Value (typed t))) h.0,
+  typed_value e (OnRow types) (record { expr = exprs.Column i; shape = shape_of_type c.1 }) t (ap shape_of_type h.0) h.1 (column-judged e types i t (subst (λ j. slice_get types j ≡ Some t) zero_more (at 0 t refl))),
+  all_good e types place (suc i) rest ts (λ k u there. subst (λ j. slice_get types j ≡ Some u) (one_more k) (at (suc k) u there)) h.2,
+)
+  where
+    zero_more : i + 0 ≡ i
+    zero_more = omega arith
+    one_more : (k : ℕ) → i + suc k ≡ suc i + k
+    one_more k = omega arith
+
+pub plain_good : (e : Scene) (types : List SqlType) (cs : Columns) (alias : Option Spelling) (a : Standing) (f : Found) (m : Made) → Part e (OnRow types) a f m → as_operand a ≡ true
+    → PickGood e types cs (record { form = Plain; found = f; alias = alias }) (Values (m ∷ []))
+plain_good e types cs alias a f m p well none =
+    let o : IsOperand e (OnRow types) f m = operand e (OnRow types) a f m p well (as_value-clean f (p (operand_source a well)).clean none) in
+    (refl, (o.type, ap (λ g. g.shape) o.found, o.value, tt))
+
+rows_counted : (types : List SqlType) (e : Scene) → IsSet (letters_of types) (variables_of e) (rows.set_of (set_item coded.Count None)) N
+rows_counted types e = let r = sym (out-roll-ResolvedItem (record { function = coded.Count; operand = None })) in (N, subst (λ i. IsSetOperand (letters_of types) (variables_of e) i.operand N) r refl, subst (λ i. letter_of_set (set_function i.function) N ≡ N) r refl)
+
+pub count_good : (e : Scene) (types : List SqlType) (cs : Columns) (place : Place) (alias : Option Spelling)
+    → PickGood e types cs (record { form = Set; found = sound place (Value integer); alias = alias }) (OfAll (set_item coded.Count None) (Value integer))
+count_good e types cs place alias none = (refl, (record { type = integer; found = refl; made = refl; sane = record { typed = refl; small = omega arith }; set = rows_counted types e }, tt))
+
+set_sane : (function : SetFunction) (t : Typed) → IsSane t → IsSane (set_result function t)
+set_sane sets.Count t h = record { typed = refl; small = omega arith }
+set_sane sets.Sum t h = record { typed = refl; small = h.small }
+set_sane sets.Avg t h = record { typed = refl; small = h.small }
+set_sane sets.Min t h = h
+set_sane sets.Max t h = h
+
+set_letter : (function : SetFunction) (t : Typed) → letter_of_set (set_function (set_of function)) (letter_in (family_of t.kind)) ≡ letter_in (family_of (set_result function t).kind)
+set_letter sets.Count t = refl
+set_letter sets.Sum t = refl
+set_letter sets.Avg t = refl
+set_letter sets.Min t = refl
+set_letter sets.Max t = refl
+
+value_letter : (family : Family) → is_value (letter_in family) ≡ true
+value_letter Numbers = refl
+value_letter Texts = refl
+
+row_value_of : (e : Scene) (types : List SqlType) (m : Made) (t : Typed) → IsValue e (OnRow types) m t → IsRowValue (letters_of types) (variables_of e) m.expr (letter_in (family_of t.kind))
+row_value_of e types m t v = record { value = value_letter (family_of t.kind); letter = goes_as_sort (letter_in (family_of t.kind)) (sort_at e types m.expr) v.judged }
+
+set_is : (e : Scene) (types : List SqlType) (function : SetFunction) (m : Made) (t : Typed) → IsValue e (OnRow types) m t
+    → IsSet (letters_of types) (variables_of e) (rows.set_of (set_item (set_of function) (Some m.expr))) (letter_in (family_of (set_result function t).kind))
+set_is e types function m t v = let r = sym (out-roll-ResolvedItem (record { function = set_of function; operand = Some m.expr })) in (
+  letter_in (family_of t.kind),
+  subst (λ i. IsSetOperand (letters_of types) (variables_of e) i.operand (letter_in (family_of t.kind))) r (row_value_of e types m t v),
+  subst (λ i. letter_of_set (set_function i.function) (letter_in (family_of t.kind)) ≡ letter_in (family_of (set_result function t).kind)) r (set_letter function t),
+)
+
+-- the argument of a set function as it is found
+record IsSetArgument (e : Scene) (types : List SqlType) (function : SetFunction) (f : Found) (m : Made) : Type 0 where
+  operand : IsOperand e (OnRow types) f m
+  is : shape_of (set_argument function f) ≡ Value operand.type
+
+any_argument : (e : Scene) (types : List SqlType) (a : Standing) (f : Found) (m : Made) → Part e (OnRow types) a f m → as_operand a ≡ true → is_shaped (as_value f) ≡ true → (o : IsOperand e (OnRow types) f m) × (shape_of (as_value f) ≡ Value o.type)
+any_argument e types a f m p well shaped = let o = operand e (OnRow types) a f m p well shaped in (o, ap shape_of o.found)
+
+number_argument : (e : Scene) (types : List SqlType) (a : Standing) (f : Found) (m : Made) → Part e (OnRow types) a f m → as_operand a ≡ true → is_shaped (argument Numbers f) ≡ true → (o : IsOperand e (OnRow types) f m) × (shape_of (argument Numbers f) ≡ Value o.type)
+number_argument e types a f m p well shaped = let g = argued e (OnRow types) Numbers a f m p well shaped in (g.operand, ap shape_of g.is)
+
+set_argued : (e : Scene) (types : List SqlType) (function : SetFunction) (a : Standing) (f : Found) (m : Made) → Part e (OnRow types) a f m → as_operand a ≡ true → is_shaped (set_argument function f) ≡ true → IsSetArgument e types function f m
+set_argued e types sets.Count a f m p well shaped = let o = any_argument e types a f m p well shaped in record { operand = o.0; is = o.1 }
+set_argued e types sets.Sum a f m p well shaped = let o = number_argument e types a f m p well shaped in record { operand = o.0; is = o.1 }
+set_argued e types sets.Avg a f m p well shaped = let o = number_argument e types a f m p well shaped in record { operand = o.0; is = o.1 }
+set_argued e types sets.Min a f m p well shaped = let o = any_argument e types a f m p well shaped in record { operand = o.0; is = o.1 }
+set_argued e types sets.Max a f m p well shaped = let o = any_argument e types a f m p well shaped in record { operand = o.0; is = o.1 }
+
+set_argument_clean : (e : Scene) (types : List SqlType) (function : SetFunction) (a : Standing) (f : Found) (m : Made) → Part e (OnRow types) a f m → as_operand a ≡ true → Clean (set_argument function f)
+set_argument_clean e types sets.Count a f m p well = as_value-clean f (p (operand_source a well)).clean
+set_argument_clean e types sets.Sum a f m p well = of_family-clean Numbers (as_value f) (as_value-clean f (p (operand_source a well)).clean)
+set_argument_clean e types sets.Avg a f m p well = of_family-clean Numbers (as_value f) (as_value-clean f (p (operand_source a well)).clean)
+set_argument_clean e types sets.Min a f m p well = as_value-clean f (p (operand_source a well)).clean
+set_argument_clean e types sets.Max a f m p well = as_value-clean f (p (operand_source a well)).clean
+
+set_shape_clean : (place : Place) (function : SetFunction) (s : Shape) → Clean (set_shape place function s)
+set_shape_clean place function (Value t) = λ none. refl
+set_shape_clean place function Untyped = λ none. refl
+set_shape_clean place function Condition = λ none. refl
+
+pub aggregate_good : (e : Scene) (types : List SqlType) (cs : Columns) (place : Place) (function : SetFunction) (alias : Option Spelling) (a : Standing) (f : Found) (m : Made) → Part e (OnRow types) a f m → as_operand a ≡ true
+    → PickGood e types cs (record { form = Set; found = set_found place function f; alias = alias }) (OfAll (set_item (set_of function) (Some m.expr)) (shape_of_set function m.shape))
+aggregate_good e types cs place function alias a f m p well none =
+    let value : Found = set_argument function f in
+    let whole : Found = set_shape place function (shape_of value) in
+    let found : Found = made_of place (value ∷ []) whole in
+    let clean : Clean found = made_of-clean place (value ∷ []) whole (set_argument_clean e types function a f m p well, tt) (set_shape_clean place function (shape_of value)) in
+    let shaped : is_shaped (as_value found) ≡ true = as_value-clean found clean none in
+    let inner : is_shaped found ≡ true = value_shaped found shaped in
+    let parts = made_of-parts place (value ∷ []) whole (shown found.shape) (shape_some found.shape inner) in
+    let g : IsSetArgument e types function f m = set_argued e types function a f m p well (both (is_shaped value) true parts.0).0 in
+    let t : Typed = g.operand.type in
+    let is : found.shape ≡ Some (Value (set_result function t)) = shape_some found.shape inner ∙ sym parts.1 ∙ ap (λ s. (set_shape place function s).shape) g.is in
+    (refl, (record {
+      type = set_result function t;
+      found = ap (λ o. (with_shape value_shape found o).shape) is;
+      made = ap (shape_of_set function) g.operand.value.shape;
+      sane = set_sane function t g.operand.value.sane;
+      set = set_is e types function m t g.operand.value;
+    }, tt))
+  where
+    value_shaped : (f : Found) → is_shaped (as_value f) ≡ true → is_shaped f ≡ true
+    value_shaped f h = elim (valued f h) as (λ _. is_shaped f ≡ true) [
+      | inl v ↦ ap is_some v.1
+      | inr v ↦ ap is_some v.0
+    ]
+
+-- ---- all items of a query
+
+abbrev pub letter_due : Shape → Letter
+letter_due (Value t) = letter_in (family_of t.kind)
+letter_due Untyped = N
+letter_due Condition = N
+
+-- an item, the shape that is made of it, and its letter
+pub record IsItem (i : Item) (s : Shape) (k : Letter) : Type 0 where
+  pub type : Typed
+  pub found : i.shape ≡ Some (Value type)
+  pub made : s ≡ Value type
+  pub sane : IsSane type
+  pub letter : k ≡ letter_in (family_of type.kind)
+
+-- one for one
+abbrev pub ItemsAre : List Item → List Shape → List Letter → Type 0
+ItemsAre [] [] [] = Unit {0}
+ItemsAre (i ∷ is) (s ∷ ss) (k ∷ ks) = IsItem i s k × ItemsAre is ss ks
+ItemsAre [] [] (k ∷ ks) = ⊥
+ItemsAre [] (s ∷ ss) ks = ⊥
+ItemsAre (i ∷ is) [] ks = ⊥
+ItemsAre (i ∷ is) (s ∷ ss) [] = ⊥
+
+abbrev shapes_in : List Made → List Shape
+shapes_in ms = map (λ m. m.shape) ms
+
+values_are : (e : Scene) (types : List SqlType) (is : List Item) (ms : List Made) → AreValues e types is ms → ItemsAre is (shapes_in ms) (map letter_due (shapes_in ms)) × AreRowValues (letters_of types) (variables_of e) (map expr_in ms) (map letter_due (shapes_in ms))
+values_are e types [] [] h = (tt, tt)
+values_are e types [] (m ∷ ms) h = absurd h
+values_are e types (i ∷ is) [] h = absurd h
+values_are e types (i ∷ is) (m ∷ ms) h =
+    let more = values_are e types is ms h.3 in
+    let due : letter_due m.shape ≡ letter_in (family_of h.0.kind) = ap letter_due h.2.shape in (
+      (record { type = h.0; found = h.1; made = h.2.shape; sane = h.2.sane; letter = due }, more.0),
+      (subst (IsRowValue (letters_of types) (variables_of e) m.expr) (sym due) (row_value_of e types m h.0 h.2), more.1),
+    )
+
+abbrev set_shapes : List (ResolvedItem × Shape) → List Shape
+set_shapes ss = map (λ p. p.1) ss
+
+sets_are : (e : Scene) (types : List SqlType) (is : List Item) (ss : List (ResolvedItem × Shape)) → AreSetItems e types is ss
+    → ItemsAre is (set_shapes ss) (map letter_due (set_shapes ss)) × AreSets (letters_of types) (variables_of e) (map rows.set_of (map (λ p. p.0) ss)) (map letter_due (set_shapes ss))
+sets_are e types [] [] h = (tt, tt)
+sets_are e types [] (s ∷ ss) h = absurd h
+sets_are e types (i ∷ is) [] h = absurd h
+sets_are e types (i ∷ is) (s ∷ ss) h =
+    let more = sets_are e types is ss h.1 in
+    let due : letter_due s.1 ≡ letter_in (family_of h.0.type.kind) = ap letter_due h.0.made in (
+      (record { type = h.0.type; found = h.0.found; made = h.0.made; sane = h.0.sane; letter = due }, more.0),
+      (subst (IsSet (letters_of types) (variables_of e) (rows.set_of s.0)) (sym due) h.0.set, more.1),
+    )
+
+values_append : (e : Scene) (types : List SqlType) (is js : List Item) (ms ns : List Made) → AreValues e types is ms → AreValues e types js ns → AreValues e types (is ++ js) (ms ++ ns)
+values_append e types [] js [] ns h k = k
+values_append e types [] js (m ∷ ms) ns h k = absurd h
+values_append e types (i ∷ is) js [] ns h k = absurd h
+values_append e types (i ∷ is) js (m ∷ ms) ns h k = (h.0, h.1, h.2, values_append e types is js ms ns h.3 k)
+
+sets_append : (e : Scene) (types : List SqlType) (is js : List Item) (ss us : List (ResolvedItem × Shape)) → AreSetItems e types is ss → AreSetItems e types js us → AreSetItems e types (is ++ js) (ss ++ us)
+sets_append e types [] js [] us h k = k
+sets_append e types [] js (s ∷ ss) us h k = absurd h
+sets_append e types (i ∷ is) js [] us h k = absurd h
+sets_append e types (i ∷ is) js (s ∷ ss) us h k = (h.0, sets_append e types is js ss us h.1 k)
+
+no_sets : (e : Scene) (types : List SqlType) (cs : Columns) (ps : List PickFound) (ms : List MadePick) → PicksAre e types cs ps ms → first_set ps ≡ None → AreValues e types (all_items cs ps) (values_in ms) × (sets_in ms ≡ [])
+no_sets e types cs [] [] h none = (tt, refl)
+no_sets e types cs [] (m ∷ ms) h none = absurd h
+no_sets e types cs (p ∷ ps) [] h none = absurd h
+no_sets e types cs (p ∷ ps) (Values made ∷ ms) h none =
+    let more = no_sets e types cs ps ms h.1 (ap (λ b. if b then Some p.found.place else first_set ps) (sym h.0.0) ∙ none) in
+    (values_append e types (pick_items cs p) (all_items cs ps) made (values_in ms) h.0.1 more.0, more.1)
+no_sets e types cs (p ∷ ps) (OfAll item shape ∷ ms) h none = absurd (some_none (ap (λ b. if b then Some p.found.place else first_set ps) (sym h.0.0) ∙ none))
+  where
+    some_none : Some p.found.place ≡ None → ⊥
+    some_none h = cc
+
+differ : true ≡ false → ⊥
+differ h = cc
+
+all_sets : (e : Scene) (types : List SqlType) (cs : Columns) (ps : List PickFound) (ms : List MadePick) → PicksAre e types cs ps ms → list_all (λ p. is_set p.form) ps ≡ true → AreSetItems e types (all_items cs ps) (sets_in ms)
+all_sets e types cs [] [] h all = tt
+all_sets e types cs [] (m ∷ ms) h all = absurd h
+all_sets e types cs (p ∷ ps) [] h all = absurd h
+all_sets e types cs (p ∷ ps) (Values made ∷ ms) h all = absurd (differ (sym (both (is_set p.form) (list_all (λ p. is_set p.form) ps) all).0 ∙ h.0.0))
+all_sets e types cs (p ∷ ps) (OfAll item shape ∷ ms) h all =
+    sets_append e types (pick_items cs p) (all_items cs ps) ((item, shape) ∷ []) (sets_in ms) h.0.1 (all_sets e types cs ps ms h.1 (both (is_set p.form) (list_all (λ p. is_set p.form) ps) all).1)
+
+-- what is made of all picks
+pub record ItemsMade (e : Scene) (types : List SqlType) (is : List Item) (ms : List MadePick) : Type 0 where
+  pub letters : List Letter
+  pub shapes : ItemsAre is (shapes_of (values_in ms) (sets_in ms)) letters
+  pub sound : AreItems (letters_of types) (variables_of e) (rows.items_of (out-ResolvedItems (making.items_of (values_in ms) (sets_in ms)))) letters
+
+made_rows : (e : Scene) (types : List SqlType) (is : List Item) (values : List Made) (ss : List (ResolvedItem × Shape)) → ss ≡ [] → AreValues e types is values
+    → ItemsAre is (shapes_of values ss) (map letter_due (shapes_in values)) × AreItems (letters_of types) (variables_of e) (rows.items_of (out-ResolvedItems (making.items_of values ss))) (map letter_due (shapes_in values))
+made_rows e types is values ss none h =
+    let v = values_are e types is values h in
+    subst (λ ss. ItemsAre is (shapes_of values ss) (map letter_due (shapes_in values)) × AreItems (letters_of types) (variables_of e) (rows.items_of (out-ResolvedItems (making.items_of values ss))) (map letter_due (shapes_in values))) (sym none)
+    (v.0, subst (λ o. AreItems (letters_of types) (variables_of e) (rows.items_of o) (map letter_due (shapes_in values))) (sym (items.outs-Rows (map expr_in values))) v.1)
+
+made_sets : (e : Scene) (types : List SqlType) (is : List Item) (values : List Made) (s : ResolvedItem × Shape) (ss : List (ResolvedItem × Shape)) → AreSetItems e types is (s ∷ ss)
+    → ItemsAre is (shapes_of values (s ∷ ss)) (map letter_due (set_shapes (s ∷ ss))) × AreItems (letters_of types) (variables_of e) (rows.items_of (out-ResolvedItems (making.items_of values (s ∷ ss)))) (map letter_due (set_shapes (s ∷ ss)))
+made_sets e types is values s ss h =
+    let v = sets_are e types is (s ∷ ss) h in
+    (v.0, subst (λ o. AreItems (letters_of types) (variables_of e) (rows.items_of o) (map letter_due (set_shapes (s ∷ ss)))) (sym (items.outs-Sets (map (λ p. p.0) (s ∷ ss)))) v.1)
+
+sets_first : (e : Scene) (types : List SqlType) (cs : Columns) (p : PickFound) (ps : List PickFound) (m : MadePick) (ms : List MadePick) → PicksAre e types cs (p ∷ ps) (m ∷ ms) → list_all (λ p. is_set p.form) (p ∷ ps) ≡ true
+    → ItemsMade e types (all_items cs (p ∷ ps)) (m ∷ ms)
+sets_first e types cs p ps (Values made) ms h all = absurd (differ (sym (both (is_set p.form) (list_all (λ p. is_set p.form) ps) all).0 ∙ h.0.0))
+sets_first e types cs p ps (OfAll item shape) ms h all =
+    let v = made_sets e types (all_items cs (p ∷ ps)) (values_in ms) (item, shape) (sets_in ms) (all_sets e types cs (p ∷ ps) (OfAll item shape ∷ ms) h all) in
+    record { letters = map letter_due (set_shapes ((item, shape) ∷ sets_in ms)); shapes = v.0; sound = v.1 }
+
+items_by : (e : Scene) (types : List SqlType) (cs : Columns) (p : PickFound) (ps : List PickFound) (m : MadePick) (ms : List MadePick) (d : Option Place) (b : Bool) → PicksAre e types cs (p ∷ ps) (m ∷ ms)
+    → first_set (p ∷ ps) ≡ d → list_all (λ p. is_set p.form) (p ∷ ps) ≡ b → misplaced_set (not b) d ≡ None → ItemsMade e types (all_items cs (p ∷ ps)) (m ∷ ms)
+items_by e types cs p ps m ms None b h is all none =
+    let v = no_sets e types cs (p ∷ ps) (m ∷ ms) h is in
+    let w = made_rows e types (all_items cs (p ∷ ps)) (values_in (m ∷ ms)) (sets_in (m ∷ ms)) v.1 v.0 in
+    record { letters = map letter_due (shapes_in (values_in (m ∷ ms))); shapes = w.0; sound = w.1 }
+items_by e types cs p ps m ms (Some place) true h is all none = sets_first e types cs p ps m ms h all
+items_by e types cs p ps m ms (Some place) false h is all none = absurd cc
+
+pub items_made : (e : Scene) (types : List SqlType) (cs : Columns) (p : PickFound) (ps : List PickFound) (m : MadePick) (ms : List MadePick) → Picks e types cs (p ∷ ps) (m ∷ ms) → items_fault (p ∷ ps) ≡ None → sets_fault (p ∷ ps) ≡ None
+    → ItemsMade e types (all_items cs (p ∷ ps)) (m ∷ ms)
+items_made e types cs p ps m ms h none sets = items_by e types cs p ps m ms (first_set (p ∷ ps)) (list_all (λ p. is_set p.form) (p ∷ ps)) (picks_are e types cs (p ∷ ps) (m ∷ ms) h none) refl refl sets
+
+-- ---- queries
+
+pub record IsQueryMade (e : Scene) (is : List Item) (m : MadeQuery) : Type 0 where
+  pub letters : List Letter
+  pub shapes : ItemsAre is m.shapes letters
+  pub sound : IsQuery e m.query letters
+
+pub query_made_of : (e : Scene) (is : List Item) (table : ℕ) (there : ResolvedTable) (ms : List MadePick) (test : Option Made) → slice_get e.file.tables table ≡ Some there → ItemsMade e (kinds_of there.definition.columns) is ms
+    → IsRowTest (columns_of there) (variables_of e) (optional_in test) → IsQueryMade e is (query_of table ms test)
+query_made_of e is table there ms test h i t =
+    let r = sym (out-roll-ResolvedQuery (record { table = table; downward = false; items = making.items_of (values_in ms) (sets_in ms); test = optional_in test })) in record {
+  letters = i.letters;
+  shapes = i.shapes;
+  sound = record {
+    table = there;
+    there = subst (λ o. slice_get e.file.tables o.table ≡ Some there) r h;
+    items = subst (λ o. AreItems (columns_of there) (variables_of e) (rows.items_of (out-ResolvedItems o.items)) i.letters) r i.sound;
+    test = subst (λ o. IsRowTest (columns_of there) (variables_of e) o.test) r t;
+  };
+}
+
+-- a query without a fault has items, and is sound
+abbrev pub QueryGood : Scene → QueryFound → MadeQuery → Type 0
+QueryGood e f m = query_fault f ≡ None → (is : List Item) × (faults.items_of f ≡ Some is) × IsQueryMade e is m
+
+without_clean : (place : Place) (x : Option Fault) (o : Option Shape) → (x ≡ None → is_some o ≡ true) → Clean (faults.without_fault place x o)
+without_clean place None o h = λ none. h refl
+without_clean place (Some f) o h = λ none. absurd cc
+
+pub exists_part : (e : Scene) (place : Place) (b : Bool) (f : QueryFound) (m : MadeQuery) → (b ≡ true → QueryGood e f m) → Part e Control (Some b) (faults.without_fault place (query_fault f) (Some Condition)) (making.condition (exprs.Exists m.query))
+exists_part e place b f m h well = record {
+  clean = without_clean place (query_fault f) (Some Condition) (λ none. refl);
+  made = λ s is.
+      let none = without_none place (query_fault f) (Some Condition) s is in
+      let good : IsQueryMade e (h well none.0).0 m = (h well none.0).2 in
+      made_condition e Control (Some b) (making.condition (exprs.Exists m.query)) s (some_inside Condition s none.1) refl (typed_expr.exists m.query good.letters (exprs.outs-Exists m.query) good.sound);
+}
+  where
+    some_inside : (a b : Shape) → Some a ≡ Some b → a ≡ b
+    some_inside a b h = cc
+
+-- the value of a query with one item
+record IsScalar (e : Scene) (is : List Item) (m : MadeQuery) : Type 0 where
+  type : Typed
+  found : faults.only_shape (Some is) ≡ Some (Value type)
+  value : IsValue e Control (record { expr = exprs.Scalar m.query; shape = making.only_shape m.shapes }) type
+
+scalar_by : (e : Scene) (is : List Item) (shapes : List Shape) (ks : List Letter) (query : ResolvedQuery) → nat_eq (length is) 1 ≡ true → ItemsAre is shapes ks → IsQuery e query ks → IsScalar e is (record { query = query; shapes = shapes })
+scalar_by e [] shapes ks query one h sound = absurd cc
+scalar_by e (i ∷ []) (s ∷ []) (k ∷ []) query one h sound = record {
+  type = h.0.type;
+  found = h.0.found;
+  value = record { shape = h.0.made; sane = h.0.sane; judged = typed_expr.scalar query (exprs.outs-Scalar query) (subst (λ k. IsQuery e query (k ∷ [])) h.0.letter sound) };
+}
+scalar_by e (i ∷ []) [] ks query one h sound = absurd h
+scalar_by e (i ∷ []) (s ∷ ss) [] query one h sound = absurd h
+scalar_by e (i ∷ []) (s ∷ []) (k ∷ l ∷ ks) query one h sound = absurd h.1
+scalar_by e (i ∷ []) (s ∷ t ∷ ss) (k ∷ ks) query one h sound = absurd h.1
+scalar_by e (i ∷ j ∷ is) shapes ks query one h sound = absurd (more_than_one (length is) one)
+  where
+    more_than_one : (n : ℕ) → nat_eq (suc (suc n)) 1 ≡ true → ⊥
+    more_than_one n h = grind (arith, nat_tests, h)
+
+counted_by : (f : QueryFound) (b : Bool) → faults.may_be 1 (faults.items_of f) ≡ b → (if b then query_fault f else faults.miscounted_fault f) ≡ None → (faults.may_be 1 (faults.items_of f) ≡ true) × (query_fault f ≡ None)
+counted_by f true h none = (h, none)
+counted_by f false h none = absurd (some_none (neither (breaks rule.CountsDiffer (faults.first_place f.table.place f.picks)) (first_of (faults.parts_fault f.picks ∷ other_faults f ∷ [])) (sym (first_of_cons (breaks rule.CountsDiffer (faults.first_place f.table.place f.picks)) (faults.parts_fault f.picks ∷ other_faults f ∷ [])) ∙ none)).0)
+  where
+    some_none : breaks rule.CountsDiffer (faults.first_place f.table.place f.picks) ≡ None → ⊥
+    some_none h = cc
+
+scalar_of : (e : Scene) (f : QueryFound) (m : MadeQuery) → QueryGood e f m → faults.counted_fault 1 f ≡ None → (is : List Item) × (faults.items_of f ≡ Some is) × IsScalar e is m
+scalar_of e f m h none =
+    let c = counted_by f (faults.may_be 1 (faults.items_of f)) refl none in
+    let good = h c.1 in
+    let one : nat_eq (length good.0) 1 ≡ true = ap (faults.may_be 1) (sym good.1) ∙ c.0 in
+    (good.0, good.1, scalar_by e good.0 m.shapes good.2.letters m.query one good.2.shapes good.2.sound)
+
+pub scalar_part : (e : Scene) (place : Place) (b : Bool) (f : QueryFound) (m : MadeQuery) → (b ≡ true → QueryGood e f m)
+    → Part e Control (Some b) (faults.without_fault place (faults.counted_fault 1 f) (faults.only_shape (faults.items_of f))) (record { expr = exprs.Scalar m.query; shape = making.only_shape m.shapes })
+scalar_part e place b f m h well = record {
+  clean = without_clean place (faults.counted_fault 1 f) (faults.only_shape (faults.items_of f)) (λ none.
+      let v = scalar_of e f m (h well) none in
+      ap (λ o. is_some (faults.only_shape o)) v.1 ∙ ap is_some v.2.found);
+  made = λ s is.
+      let none = without_none place (faults.counted_fault 1 f) (faults.only_shape (faults.items_of f)) s is in
+      let v = scalar_of e f m (h well) none.0 in
+      made_value e Control (Some b) (record { expr = exprs.Scalar m.query; shape = making.only_shape m.shapes }) v.2.type s
+      (some_inside (Value v.2.type) s (sym v.2.found ∙ ap faults.only_shape (sym v.1) ∙ none.1)) v.2.value;
+}
+  where
+    some_inside : (a b : Shape) → Some a ≡ Some b → a ≡ b
+    some_inside a b h = cc
