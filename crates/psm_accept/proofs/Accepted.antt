@@ -83,22 +83,22 @@ abbrev pub OfWhen : When → Type 0
 OfWhen x = (e : Scene) (view : View) (sight : Sight) (w : Where) → Agree e view sight → Fits w sight.row → IsWhen e w (when_stands x) (when_found x view) (when_made x sight)
 
 -- parts with what they prove
-abbrev E : Type 0
+abbrev pub E : Type 0
 E = (x : Expr) × OfExpr x
 
-abbrev P : Type 0
+abbrev pub P : Type 0
 P = (p : Pick) × OfPick p
 
-abbrev L : Type 0
+abbrev pub L : Type 0
 L = (l : Link) × OfLink l
 
-abbrev S : Type 0
+abbrev pub S : Type 0
 S = (q : Select) × OfSelect q
 
-abbrev W : Type 0
+abbrev pub W : Type 0
 W = (x : When) × OfWhen x
 
-abbrev bare : Expr-F E P L S W → Expr-F Expr Pick Link Select When
+abbrev pub bare : Expr-F E P L S W → Expr-F Expr Pick Link Select When
 bare y = map-Expr E P L S W Expr Pick Link Select When (λ e. e.0) (λ e. e.0) (λ e. e.0) (λ e. e.0) (λ e. e.0) y
 
 abbrev stands_at : Expr-F Expr Pick Link Select When → Standing
@@ -127,7 +127,7 @@ whens_parts : (e : Scene) (view : View) (sight : Sight) (w : Where) → Agree e 
 whens_parts e view sight w a f [] = tt
 whens_parts e view sight w a f (x ∷ ws) = (x.1 e view sight w a f, whens_parts e view sight w a f ws)
 
-picks_parts : (e : Scene) (view : View) (sight : Sight) (row : RowTable (Option SqlType)) (types : List SqlType) → Agree e view sight → sight.row ≡ Some row → HaveTypes row.columns types → (ps : List P)
+pub picks_parts : (e : Scene) (view : View) (sight : Sight) (row : RowTable (Option SqlType)) (types : List SqlType) → Agree e view sight → sight.row ≡ Some row → HaveTypes row.columns types → (ps : List P)
     → list_all (λ well. well) (map pick_stands (map (λ e. e.0) ps)) ≡ true → Picks e types row.columns (seen view (map pick_found (map (λ e. e.0) ps))) (all_at sight (map pick_made (map (λ e. e.0) ps)))
 picks_parts e view sight row types a r h [] well = tt
 picks_parts e view sight row types a r h (p ∷ ps) well =
@@ -252,5 +252,5 @@ rolled_part x c e view sight w a f =
     (subst (λ g. Part e w (stands_at x) (found_at x view) (g sight)) (sym (fold-roll-Expr (making.Of Made) (making.Of MadePick) (making.Of (WrittenOperator × Made)) (making.Of MadeQuery) (making.Of (Made × Made)) making.expr_layer making.pick_layer making.link_layer making.select_layer making.when_layer x))
     (c e view sight w a f)))
 
-expr_step : (x : Expr-F Expr Pick Link Select When) (y : Expr-F E P L S W) → bare y ≡ x → OfExpr (roll-Expr x)
+pub expr_step : (x : Expr-F Expr Pick Link Select When) (y : Expr-F E P L S W) → bare y ≡ x → OfExpr (roll-Expr x)
 expr_step x y is = subst (λ z. OfExpr (roll-Expr z)) is (rolled_part (bare y) (λ e view sight w a f. layer_part e view sight w a f y))

@@ -7,3 +7,4 @@ pub mod Forms
 pub mod Choices
 pub mod Queries
 pub mod Accepted
+pub mod Whole
