@@ -1,63 +1,54 @@
 -- Accepted expressions and queries are sound: an induction over expressions.
-use Rattle.std.proofs.Common.{◌≡◌, ℕ, ◌+◌, Bool, true, false, ◌&&◌, List, [], ◌∷◌, map, Option, Some, None, option_map, refl, ap, sym, ◌∙◌, subst, arith}
-use Rattle.std.specs.Prelude.{IfSome, IsTrue, if◌then◌else◌, is_none, slice_get}
+use Rattle.std.proofs.Common.{◌≡◌, ℕ, Bool, true, false, List, [], ◌∷◌, map, Option, Some, None, refl, sym, subst, arith}
+use Rattle.std.specs.Prelude.{IfSome, if◌then◌else◌, slice_get}
 use Rattle.std.specs.List.{list_all}
-use Rattle.psm_list.specs.Several.{Several, several_map}
+use Rattle.psm_list.specs.Several.{several_map}
 use Rattle.psm_token.specs.declared.place.Place.{Place}
 use Rattle.psm_value.specs.declared.sqltype.SqlType.{SqlType}
-use Rattle.psm_exprcode.specs.declared.op.Letter.TheVariants.{N, T, B}
 use Rattle.psm_scope.proofs.Calls.{both}
 use Rattle.psm_scope.specs.Frames.{Spelling}
 use Rattle.psm_scope.specs.Lookup as lookup
 use Rattle.psm_scope.specs.Lookup.{RowTable, as_column, as_variable, column_meant, is_table, meant, or_else, place_named}
 use Rattle.psm_scope.specs.declared.known.Variable.{Variable}
-use Rattle.psm_rules.specs.declared.fault.Fault.{Fault}
 use Rattle.psm_rules.specs.declared.found.Found.{Found}
 use Rattle.psm_rules.specs.declared.shape.Family.TheVariants.{Numbers, Texts}
 use Rattle.psm_rules.specs.declared.rule.Rule.{Rule}
 use Rattle.psm_rules.specs.declared.rule.Rule.TheVariants as rule
-use Rattle.psm_rules.specs.Faults.{breaks, breaks_if, earlier, first_of}
-use Rattle.psm_rules.specs.Found.{as_condition, as_value, broken}
+use Rattle.psm_rules.specs.Found.{as_value, broken}
 use Rattle.psm_rules.specs.Shapes.{integer, varying}
 use Rattle.psm_rules.specs.ExprFaults as faults
 use Rattle.psm_rules.specs.ExprFaults.{Of, PickFound, PickPart, LinkPart, QueryFound, WhenPart, columns_known, expr_found, items_fault, link_found, pick_found, query_fault, query_found, seen, seen_in, seen_option, sets_fault, spelling, table_fault, test_fault, when_found}
-use Rattle.psm_rules.specs.View as views
-use Rattle.psm_rules.specs.View.{View, Columns, table_named}
-use Rattle.psm_rules.proofs.Earliest.{first_of_cons}
+use Rattle.psm_rules.specs.View.{View}
 use Rattle.psm_tree.specs.declared.name.Identifier.{Identifier}
 use Rattle.psm_tree.specs.declared.name.Target.{Target}
 use Rattle.psm_tree.specs.declared.expr.Operator.{Operator as WrittenOperator}
 use Rattle.psm_tree.specs.declared.expr.Expr.{Expr, roll-Expr}
 use Rattle.psm_tree.specs.declared.expr.Expr.TheOpen.{Expr-F, Pick-F, Link-F, Select-F, When-F}
 use Rattle.psm_tree.specs.declared.expr.Expr.TheOpen as layers
-use Rattle.psm_tree.specs.declared.expr.Expr.TheFolds.{ind-Expr, ind-Select, map-Expr, map-Pick, map-Link, map-Select, map-When, fold-roll-Expr, fold-roll-Pick, fold-roll-Link, fold-roll-Select, fold-roll-When}
-use Rattle.psm_tree.specs.declared.expr.Link.{Link, roll-Link}
-use Rattle.psm_tree.specs.declared.expr.When.{When, roll-When}
-use Rattle.psm_tree.specs.declared.expr.Pick.{Pick, roll-Pick}
-use Rattle.psm_tree.specs.declared.expr.Select.{Select, roll-Select}
-use Rattle.psm_table.specs.Definition.{kinds_of}
-use Rattle.psm_resolved.specs.declared.file.ResolvedTable.{ResolvedTable}
+use Rattle.psm_tree.specs.declared.expr.Expr.TheFolds.{map-Expr, fold-roll-Expr}
+use Rattle.psm_tree.specs.declared.expr.Link.{Link}
+use Rattle.psm_tree.specs.declared.expr.When.{When}
+use Rattle.psm_tree.specs.declared.expr.Pick.{Pick}
+use Rattle.psm_tree.specs.declared.expr.Select.{Select}
 use Rattle.psm_resolve_expr.specs.declared.made.Made.{Made}
 use Rattle.psm_resolve_expr.specs.declared.made.MadeQuery.{MadeQuery}
-use Rattle.psm_resolve_expr.specs.Sight as sights
-use Rattle.psm_resolve_expr.specs.Sight.{Sight, meant_in, table_at}
+use Rattle.psm_resolve_expr.specs.Sight.{Sight, meant_in}
 use Rattle.psm_resolve_expr.specs.Made as made
 use Rattle.psm_resolve_expr.specs.Made.{MadePick, Values}
 use Rattle.psm_resolve_expr.specs.Exprs as making
 use Rattle.psm_resolve_expr.specs.Exprs.{all_at, any_at, at, columns_in, columns_on, comparison_of, function_of, junction_of, link_made, made_of, number_of, pick_made, query_made, query_of, side_of, when_made}
 use Rattle.psm_resolved.specs.declared.expr.ResolvedExpr.TheVariants as exprs
 use Rattle.psm_resolve_expr.specs.Exprs.{expr_in}
-use Rattle.psm_sound.specs.Queries.{IsRowTest}
-use Rattle.psm_sound.specs.Scene.{Each, Scene, columns_of, variables_of}
+use Rattle.psm_sound.specs.Scene.{Scene}
 use Rattle.psm_accept.specs.Agreement as agreement
 use Rattle.psm_accept.specs.Agreement.{Agree, HaveTypes, HasSlot}
-use Rattle.psm_accept.specs.Stands.{Standing, are_operands, as_operand, as_source, link_stands, link_stands_layer, may_be, pick_stands, pick_stands_layer, select_stands, select_stands_layer, stands, stands_layer, when_stands, when_stands_layer}
+use Rattle.psm_accept.specs.Stands.{Standing, as_source, link_stands, link_stands_layer, pick_stands, pick_stands_layer, select_stands, select_stands_layer, stands, stands_layer, when_stands, when_stands_layer}
 use Rattle.psm_accept.proofs.Names.{IsColumn, columns_placed, meant_alike, meant_each}
-use Rattle.psm_accept.proofs.Judging.{Judged, Where, Control, OnRow, column-judged, function-judged, goes_as_sort, like-judged, position-judged, sort_at, substring-judged, trim-judged}
-use Rattle.psm_accept.proofs.Parts.{Clean, Good, IsSane, Part, Parts, as_condition-clean, neither, operand_source, tested}
+use Rattle.psm_accept.proofs.Judging.{Where, Control, OnRow, column-judged, like-judged, position-judged, substring-judged, trim-judged}
+use Rattle.psm_accept.proofs.Parts.{Good, IsSane, Part, Parts}
 use Rattle.psm_accept.proofs.Forms.{IsLink, Links, between_part, chain_part, compare_part, function_part, in_part, is_null_part, junction_part, not_part, null_if_part, null_part, number_part, parenthesized_part, signed_part, text_function_judged, text_part, text_result_sane, texts_part, three_part, two_part, type_good, variable_good}
-use Rattle.psm_accept.proofs.Choices.{IsWhen, Optional, Whens, call_part, cast_part, coalesce_part, compared_part, searched_part}
-use Rattle.psm_accept.proofs.Queries.{IsQueryMade, IsTable, ItemsMade, PickGood, Picks, QueryGood, aggregate_good, all_good, all_items, all_items_in, count_good, exists_part, items_made, named_placed, plain_good, query_made_of, scalar_part, tables_placed}
+use Rattle.psm_accept.proofs.Choices.{IsWhen, Whens, call_part, cast_part, coalesce_part, compared_part, searched_part}
+use Rattle.psm_accept.proofs.Queries.{PickGood, Picks, QueryGood, exists_part, scalar_part}
 
 -- ---- what is claimed
 

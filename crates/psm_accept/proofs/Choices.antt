@@ -1,20 +1,19 @@
 -- CAST, COALESCE, CASE and calls: each has a fault or a shape, and where it has a shape it is sound.
-use Rattle.std.proofs.Common.{◌≡◌, ℕ, zero, suc, ◌+◌, ◌≤◌, Bool, true, false, ◌&&◌, List, [], ◌∷◌, ◌++◌, map, filter, Option, Some, None, option_map, refl, ap, sym, ◌∙◌, subst, arith}
-use Rattle.std.specs.Prelude.{IfSome, IsTrue, Result, Ok, Err, if◌then◌else◌, is_none, is_some, nat_le, slice_get, slice_index_or, unsigned_abs, nat_eq}
+use Rattle.std.proofs.Common.{◌≡◌, ℕ, zero, suc, Bool, true, false, ◌&&◌, List, [], ◌∷◌, ◌++◌, map, filter, Option, Some, None, option_map, refl, ap, sym, ◌∙◌, subst}
+use Rattle.std.specs.Prelude.{Result, Ok, Err, if◌then◌else◌, is_none, is_some, nat_le, slice_get, slice_index_or}
 use Rattle.std.specs.List.{list_all}
 use Rattle.psm_list.specs.Several.{Several, several_map}
 use Rattle.psm_token.specs.declared.place.Place.{Place}
 use Rattle.psm_value.specs.declared.sqltype.SqlType.{SqlType}
 use Rattle.psm_value.specs.declared.sqltype.SqlType.TheVariants as types
 use Rattle.psm_exprcode.specs.declared.op.Letter.{Letter}
-use Rattle.psm_exprcode.specs.declared.op.Letter.TheVariants.{N, T, B}
+use Rattle.psm_exprcode.specs.declared.op.Letter.TheVariants.{B}
 use Rattle.psm_exprcode.specs.Kinds.{is_value, letter_of}
 use Rattle.psm_exprcode.specs.WellFormed.{is_type}
 use Rattle.psm_scope.proofs.Calls.{both}
 use Rattle.psm_scope.specs.Choice as choice
 use Rattle.psm_scope.specs.Choice.{Signature, all_go, goes_to, kind_of}
 use Rattle.psm_scope.specs.Exact.{is_typed}
-use Rattle.psm_scope.specs.Lookup.{RowTable}
 use Rattle.psm_scope.specs.Routines.{Callable, function, with_result}
 use Rattle.psm_scope.specs.declared.fault.ChoiceFault.{ChoiceFault}
 use Rattle.psm_scope.specs.declared.fault.ChoiceFault.TheVariants.{NoRoutine, Ambiguous}
@@ -23,26 +22,22 @@ use Rattle.psm_scope.specs.declared.kinds.ArgKind.TheVariants as kind
 use Rattle.psm_rules.specs.declared.fault.Fault.{Fault}
 use Rattle.psm_rules.specs.declared.found.Found.{Found}
 use Rattle.psm_rules.specs.declared.shape.Family.{Family}
-use Rattle.psm_rules.specs.declared.shape.Family.TheVariants.{Numbers, Texts}
 use Rattle.psm_rules.specs.declared.shape.Shape.{Shape}
 use Rattle.psm_rules.specs.declared.shape.Shape.TheVariants.{Value, Untyped, Condition}
 use Rattle.psm_rules.specs.declared.shape.Typed.{Typed}
 use Rattle.psm_rules.specs.declared.rule.Rule.TheVariants as rule
 use Rattle.psm_rules.specs.Faults.{breaks_if, earlier}
-use Rattle.psm_rules.specs.Found.{all_of, as_condition, as_value, broken, faults_in, is_shaped, made_of, shape_of, shown, sound}
-use Rattle.psm_rules.specs.Shapes.{family_of, is_family, is_of, typed}
+use Rattle.psm_rules.specs.Found.{as_condition, as_value, faults_in, is_shaped, made_of, shape_of, shown, sound}
+use Rattle.psm_rules.specs.Shapes.{family_of, is_of, typed}
 use Rattle.psm_rules.specs.ExprFaults as faults
 use Rattle.psm_rules.specs.ExprFaults.{call_found, case_found, cast_found, cast_shape, coalesce_found, compares, else_of, of_type, results_found, simple_test, tests_of, type_fault}
 use Rattle.psm_rules.specs.Types.{decimals, digits_within, length_in, type_in, type_of, whole}
-use Rattle.psm_rules.specs.View.{View}
-use Rattle.psm_tree.specs.declared.name.Identifier.{Identifier}
 use Rattle.psm_tree.specs.declared.types.DataType.{DataType}
-use Rattle.psm_tree.specs.declared.types.Precision.{Precision}
 use Rattle.psm_tree.specs.declared.types.TypeForm.{TypeForm}
 use Rattle.psm_tree.specs.declared.types.TypeForm.TheVariants as forms
 use Rattle.psm_resolved.specs.declared.expr.ResolvedExpr.{ResolvedExpr}
 use Rattle.psm_resolved.specs.declared.expr.ResolvedExpr.TheVariants as exprs
-use Rattle.psm_resolved.specs.declared.expr.ResolvedWhen.{ResolvedWhen, out-ResolvedWhen, out-roll-ResolvedWhen}
+use Rattle.psm_resolved.specs.declared.expr.ResolvedWhen.{out-roll-ResolvedWhen}
 use Rattle.psm_resolved.specs.declared.file.ResolvedRoutine.{ResolvedRoutine}
 use Rattle.psm_resolved.specs.Sort.{is_scale, letter_at}
 use Rattle.psm_resolve_expr.specs.declared.made.Made.{Made}
@@ -54,9 +49,9 @@ use Rattle.psm_sound.specs.Expressions.{AreExprs, IsExpr}
 use Rattle.psm_sound.specs.Scene.{Each, Scene, letters_of, taken_by}
 use Rattle.psm_meaning.specs.Calls.{returns}
 use Rattle.psm_accept.specs.Agreement.{AreFunctions, letter_in}
-use Rattle.psm_accept.specs.Stands.{Standing, are_operands, as_operand, as_source, may_be}
+use Rattle.psm_accept.specs.Stands.{Standing, as_operand, as_source, may_be}
 use Rattle.psm_accept.proofs.Choosing.{IsCallee, chosen_called}
-use Rattle.psm_accept.proofs.Judging.{AllJudged, AllSources, ElseJudged, Judged, Source, WhensJudged, Where, Control, OnRow, cast-judged, cast_null-judged, coalesce-judged, compared-judged, judged-source, null-source, searched-judged}
+use Rattle.psm_accept.proofs.Judging.{AllSources, ElseJudged, Judged, Source, WhensJudged, Where, Control, cast-judged, cast_null-judged, coalesce-judged, compared-judged, judged-source, null-source, searched-judged}
 use Rattle.psm_accept.proofs.Parts.{AllResults, Clean, Good, IsMade, IsNullAlone, IsOperand, IsResult, IsSane, IsSourceOf, IsValue, Part, Parts, all_shaped, as_condition-clean, as_value-clean, compares_clean, compares_judged, made_of-clean, made_of-parts, neither, operand, operand_source, operands, result, results, same_family, sources_clean, tested, value_of_family, compared_shape}
 use Rattle.psm_accept.proofs.Results.{Agrees, IsResultOf, SaneShape, letter_of_result, results-clean, results_value, scale_of_sane}
 use Rattle.psm_accept.proofs.Forms.{made_value, shape_some, type_good, typed_value}
@@ -221,15 +216,15 @@ pub coalesce_part : (e : Scene) (w : Where) (place : Place) (ss : List Standing)
     → Part e w (Some (list_all as_source ss)) (coalesce_found place (map as_value fs)) (coalesce_of ms (joined_in None (map (λ m. m.shape) (ms.first ∷ ms.rest))))
 coalesce_part e w place ss fs ms p well =
     let given : List Made = ms.first ∷ ms.rest in record {
-  clean = made_of-clean place (map as_value fs) (results_found place (map as_value fs)) (sources_clean e w ss fs given p well) (results-clean place (map as_value fs));
-  made = λ s is.
-      let parts = made_of-parts place (map as_value fs) (results_found place (map as_value fs)) s is in
-      let rs = results e w ss fs given p well parts.0 in
-      let r : IsResultOf (map as_value fs) s = results_value place (map as_value fs) s (results_sane e w fs given rs) parts.1 in
-      let joined : joined_in None (map shape_in given) ≡ Some r.type = ap (joined_in None) (sym (results_shapes e w fs given rs)) ∙ r.joined in
-      made_value e w (Some (list_all as_source ss)) (coalesce_of ms (joined_in None (map shape_in given))) r.type s r.is
-      (subst (λ j. IsValue e w (coalesce_of ms j) r.type) (sym joined) (coalesce_value e w ms r.type r.agreeing.sane (results_sources e w fs given (family_of r.type.kind) rs r.agreeing.all)));
-}
+      clean = made_of-clean place (map as_value fs) (results_found place (map as_value fs)) (sources_clean e w ss fs given p well) (results-clean place (map as_value fs));
+      made = λ s is.
+          let parts = made_of-parts place (map as_value fs) (results_found place (map as_value fs)) s is in
+          let rs = results e w ss fs given p well parts.0 in
+          let r : IsResultOf (map as_value fs) s = results_value place (map as_value fs) s (results_sane e w fs given rs) parts.1 in
+          let joined : joined_in None (map shape_in given) ≡ Some r.type = ap (joined_in None) (sym (results_shapes e w fs given rs)) ∙ r.joined in
+          made_value e w (Some (list_all as_source ss)) (coalesce_of ms (joined_in None (map shape_in given))) r.type s r.is
+          (subst (λ j. IsValue e w (coalesce_of ms j) r.type) (sym joined) (coalesce_value e w ms r.type r.agreeing.sane (results_sources e w fs given (family_of r.type.kind) rs r.agreeing.all)));
+    }
 
 -- ---- CASE
 
@@ -273,10 +268,10 @@ chosen : (e : Scene) (w : Where) (bs : List Bool) (fs : List (Found × Found)) (
 chosen e w [] [] [] None None None ws o well last shaped = record { sane = tt; shapes = refl; sources = λ family h. (tt, tt) }
 chosen e w [] [] [] (Some a) (Some f) (Some m) ws o well last shaped =
     let r : IsResult e w f m = result e w a f m o last (both (is_shaped (as_value f)) true shaped).0 in record {
-  sane = (result_sane e w f m r, tt);
-  shapes = ap (λ s. s ∷ []) (result_shape e w f m r);
-  sources = λ family h. (tt, result_source e w f m family r h.0);
-}
+      sane = (result_sane e w f m r, tt);
+      shapes = ap (λ s. s ∷ []) (result_shape e w f m r);
+      sources = λ family h. (tt, result_source e w f m family r h.0);
+    }
 chosen e w [] [] [] None None (Some m) ws o well last shaped = absurd o
 chosen e w [] [] [] None (Some f) m ws o well last shaped = absurd o
 chosen e w [] [] [] (Some a) None m ws o well last shaped = absurd o
@@ -290,10 +285,10 @@ chosen e w (b ∷ bs) (g ∷ fs) (m ∷ ms) a f n ws o well last shaped =
     let shapes = both (is_shaped (as_value g.1)) (list_all is_shaped (found_results fs f)) shaped in
     let r : IsResult e w g.1 m.1 = result e w ws.0.result g.1 m.1 ws.0.given (when_well e w b g m ws.0 wells.0).1 shapes.0 in
     let c : Chosen e w fs f ms n = chosen e w bs fs ms a f n ws.1 o wells.1 last shapes.1 in record {
-  sane = (result_sane e w g.1 m.1 r, c.sane);
-  shapes = ap (λ s. s ∷ map shape_of (found_results fs f)) (result_shape e w g.1 m.1 r) ∙ ap (λ ss. m.1.shape ∷ ss) c.shapes;
-  sources = λ family h. let more = c.sources family h.1 in ((result_source e w g.1 m.1 family r h.0, more.0), more.1);
-}
+      sane = (result_sane e w g.1 m.1 r, c.sane);
+      shapes = ap (λ s. s ∷ map shape_of (found_results fs f)) (result_shape e w g.1 m.1 r) ∙ ap (λ ss. m.1.shape ∷ ss) c.shapes;
+      sources = λ family h. let more = c.sources family h.1 in ((result_source e w g.1 m.1 family r h.0, more.0), more.1);
+    }
 
 results_clean : (e : Scene) (w : Where) (bs : List Bool) (fs : List (Found × Found)) (ms : List (Made × Made)) (a : Option Standing) (f : Option Found) (m : Option Made) → Whens e w bs fs ms → Optional e w a f m → list_all (λ well. well) bs ≡ true
     → may_be as_source a ≡ true → Each Clean (found_results fs f)
@@ -395,7 +390,7 @@ case_value e w operand ms otherwise t sane j = record {
 case_made : (e : Scene) (w : Where) (place : Place) (standing : Standing) (operand : Option Made) (fs : List (Found × Found)) (f : Option Found) (ms : Several (Made × Made)) (m : Option Made) (s : Shape) → Chosen e w fs f (ms.first ∷ ms.rest) m
     → (results_found place (found_results fs f)).shape ≡ Some s
     → ((t : Typed) → is_scale (scale_of_result (Some t)) ≡ true → Each (λ m. Source e w m.1.expr (letter_at (scale_of_result (Some t)))) (ms.first ∷ ms.rest) → ElseJudged e w (optional_in m) (letter_at (scale_of_result (Some t)))
-        → Judged e w (case_of operand ms m (Some t)).expr (letter_at (scale_of_result (Some t))))
+    → Judged e w (case_of operand ms m (Some t)).expr (letter_at (scale_of_result (Some t))))
     → IsMade e w (case_of operand ms m (result_of_case ms m)) s × IsNullAlone standing s
 case_made e w place standing operand fs f ms m s c is j =
     let r : IsResultOf (found_results fs f) s = results_value place (found_results fs f) s c.sane is in
@@ -412,15 +407,15 @@ pub searched_part : (e : Scene) (w : Where) (place : Place) (bs : List Bool) (fs
 searched_part e w place bs fs ms a f m ws o well =
     let wells = both (list_all (λ well. well) bs) (may_be as_source a) well in
     let branches : List (Made × Made) = ms.first ∷ ms.rest in record {
-  clean = case_clean place (tests_of None fs) (found_results fs f) (tests_clean e w as_condition (λ a f m p h. as_condition-clean f (p (operand_source a h)).clean) bs fs branches ws wells.0) (results_clean e w bs fs branches a f m ws o wells.0 wells.1);
-  made = λ s is.
-      let parts = case_parts place (tests_of None fs) (found_results fs f) s is in
-      let tests = tests_judged e w B as_condition (tested e w) bs fs branches ws wells.0 parts.0 in
-      let c : Chosen e w fs f branches m = chosen e w bs fs branches a f m ws o wells.0 wells.1 parts.1 in
-      case_made e w place (Some (true && (list_all (λ well. well) bs && may_be as_source a))) None fs f ms m s c parts.2
-      (λ t small sources last. searched-judged e w (several_map when_of ms) (optional_in m) (scale_of_result (Some t)) small
-      (whens_judged e w branches B (letter_at (scale_of_result (Some t))) tests sources) last);
-}
+      clean = case_clean place (tests_of None fs) (found_results fs f) (tests_clean e w as_condition (λ a f m p h. as_condition-clean f (p (operand_source a h)).clean) bs fs branches ws wells.0) (results_clean e w bs fs branches a f m ws o wells.0 wells.1);
+      made = λ s is.
+          let parts = case_parts place (tests_of None fs) (found_results fs f) s is in
+          let tests = tests_judged e w B as_condition (tested e w) bs fs branches ws wells.0 parts.0 in
+          let c : Chosen e w fs f branches m = chosen e w bs fs branches a f m ws o wells.0 wells.1 parts.1 in
+          case_made e w place (Some (true && (list_all (λ well. well) bs && may_be as_source a))) None fs f ms m s c parts.2
+          (λ t small sources last. searched-judged e w (several_map when_of ms) (optional_in m) (scale_of_result (Some t)) small
+          (whens_judged e w branches B (letter_at (scale_of_result (Some t))) tests sources) last);
+    }
 
 pub compared_part : (e : Scene) (w : Where) (place : Place) (b : Standing) (g : Found) (n : Made) (bs : List Bool) (fs : List (Found × Found)) (ms : Several (Made × Made)) (a : Option Standing) (f : Option Found) (m : Option Made)
     → Part e w b g n → Whens e w bs fs (ms.first ∷ ms.rest) → Optional e w a f m
@@ -429,20 +424,20 @@ compared_part e w place b g n bs fs ms a f m p ws o well =
     let first = both (as_operand b) (list_all (λ well. well) bs && may_be as_source a) well in
     let wells = both (list_all (λ well. well) bs) (may_be as_source a) first.1 in
     let branches : List (Made × Made) = ms.first ∷ ms.rest in record {
-  clean = case_clean place (tests_of (Some g) fs) (found_results fs f)
-      (as_value-clean g (p (operand_source b first.0)).clean, tests_clean e w (simple_test (as_value g)) (λ c h k q well. test_clean e w b c g h n k p first.0 q well) bs fs branches ws wells.0)
-      (results_clean e w bs fs branches a f m ws o wells.0 wells.1);
-  made = λ s is.
-      let parts = case_parts place (tests_of (Some g) fs) (found_results fs f) s is in
-      let shapes = both (is_shaped (as_value g)) (list_all is_shaped (map (λ w. simple_test (as_value g) w.0) fs)) parts.0 in
-      let x : IsOperand e w g n = operand e w b g n p first.0 shapes.0 in
-      let j : Letter = letter_in (family_of x.type.kind) in
-      let tests = tests_judged e w j (simple_test (as_value g)) (λ c h k q well. test_judged e w b c g h n k x.type p first.0 x.found q well) bs fs branches ws wells.0 shapes.1 in
-      let c : Chosen e w fs f branches m = chosen e w bs fs branches a f m ws o wells.0 wells.1 parts.1 in
-      case_made e w place (Some (as_operand b && (list_all (λ well. well) bs && may_be as_source a))) (Some n) fs f ms m s c parts.2
-      (λ t small sources last. compared-judged e w n.expr (several_map when_of ms) (optional_in m) (scale_of_result (Some t)) j (value_of_family (family_of x.type.kind)) small x.value.judged
-      (whens_judged e w branches j (letter_at (scale_of_result (Some t))) tests sources) last);
-}
+      clean = case_clean place (tests_of (Some g) fs) (found_results fs f)
+          (as_value-clean g (p (operand_source b first.0)).clean, tests_clean e w (simple_test (as_value g)) (λ c h k q well. test_clean e w b c g h n k p first.0 q well) bs fs branches ws wells.0)
+          (results_clean e w bs fs branches a f m ws o wells.0 wells.1);
+      made = λ s is.
+          let parts = case_parts place (tests_of (Some g) fs) (found_results fs f) s is in
+          let shapes = both (is_shaped (as_value g)) (list_all is_shaped (map (λ w. simple_test (as_value g) w.0) fs)) parts.0 in
+          let x : IsOperand e w g n = operand e w b g n p first.0 shapes.0 in
+          let j : Letter = letter_in (family_of x.type.kind) in
+          let tests = tests_judged e w j (simple_test (as_value g)) (λ c h k q well. test_judged e w b c g h n k x.type p first.0 x.found q well) bs fs branches ws wells.0 shapes.1 in
+          let c : Chosen e w fs f branches m = chosen e w bs fs branches a f m ws o wells.0 wells.1 parts.1 in
+          case_made e w place (Some (as_operand b && (list_all (λ well. well) bs && may_be as_source a))) (Some n) fs f ms m s c parts.2
+          (λ t small sources last. compared-judged e w n.expr (several_map when_of ms) (optional_in m) (scale_of_result (Some t)) j (value_of_family (family_of x.type.kind)) small x.value.judged
+          (whens_judged e w branches j (letter_at (scale_of_result (Some t))) tests sources) last);
+    }
 
 -- ---- calls
 
@@ -553,10 +548,10 @@ call_part e place callable name ss fs ms known p well =
     let values : List Found = map as_value fs in
     let args : List ArgKind = map (λ f. faults.kind_of (shape_of f)) values in
     let whole : Found = faults.called place (function callable name args) in record {
-  clean = made_of-clean place values whole (sources_clean e Control ss fs ms p well) (called_clean e place callable name args (choice.chosen callable.signatures name args) known refl);
-  made = λ s is.
-      let parts = made_of-parts place values whole s is in
-      let rs = results e Control ss fs ms p well parts.0 in
-      let given : (faults.called place (function callable name (map (λ a. made.kind_of a.shape) ms))).shape ≡ Some s = ap (λ ks. (faults.called place (function callable name ks)).shape) (sym (results_kinds e Control fs ms rs)) ∙ parts.1 in
-      (called_good e place (Some (list_all as_source ss)) callable name fs ms (choice.chosen callable.signatures name (map (λ a. made.kind_of a.shape) ms)) known rs refl).made s given;
-}
+      clean = made_of-clean place values whole (sources_clean e Control ss fs ms p well) (called_clean e place callable name args (choice.chosen callable.signatures name args) known refl);
+      made = λ s is.
+          let parts = made_of-parts place values whole s is in
+          let rs = results e Control ss fs ms p well parts.0 in
+          let given : (faults.called place (function callable name (map (λ a. made.kind_of a.shape) ms))).shape ≡ Some s = ap (λ ks. (faults.called place (function callable name ks)).shape) (sym (results_kinds e Control fs ms rs)) ∙ parts.1 in
+          (called_good e place (Some (list_all as_source ss)) callable name fs ms (choice.chosen callable.signatures name (map (λ a. made.kind_of a.shape) ms)) known rs refl).made s given;
+    }

@@ -1,15 +1,13 @@
 -- The function that is chosen takes arguments of these kinds.
-use Rattle.std.proofs.Common.{◌≡◌, ℕ, suc, ◌+◌, Bool, true, false, ◌&&◌, List, [], ◌∷◌, map, filter, Option, Some, None, refl, ap, sym, ◌∙◌, subst, arith}
-use Rattle.std.specs.Prelude.{Result, Ok, Err, IsTrue, if◌then◌else◌, slice_get, slice_index_or}
+use Rattle.std.proofs.Common.{◌≡◌, ℕ, suc, ◌+◌, Bool, true, false, List, [], ◌∷◌, map, filter, Option, Some, refl, ap, sym, subst, arith}
+use Rattle.std.specs.Prelude.{Result, Ok, IsTrue, if◌then◌else◌, slice_get}
 use Rattle.std.specs.List.{list_all}
 use Rattle.psm_value.specs.declared.sqltype.SqlType.{SqlType}
 use Rattle.psm_exprcode.specs.WellFormed.{is_type}
 use Rattle.psm_scope.proofs.Calls.{both}
-use Rattle.psm_scope.specs.declared.fault.ChoiceFault.{ChoiceFault}
 use Rattle.psm_scope.specs.declared.kinds.ArgKind.{ArgKind}
 use Rattle.psm_scope.specs.declared.kinds.ArgKind.TheVariants.{SmallInt, Integer, Numeric, Char, VarChar, Null}
 use Rattle.psm_scope.specs.Choice.{Signature, Candidate, all_go, candidates, chosen, is_candidate, kind_of, lowest, narrowed, narrowed_by, only, rank_in}
-use Rattle.psm_scope.specs.Routines.{Callable, function, with_result}
 use Rattle.psm_resolved.specs.declared.file.ResolvedRoutine.{ResolvedRoutine}
 use Rattle.psm_sound.specs.Scene.{Each, taken_by}
 use Rattle.psm_accept.specs.Agreement.{AreFunctions, IsFunction}

@@ -1,22 +1,19 @@
 -- Each form of an expression but queries and CASE: it has a fault or a shape, and where it has a shape it is sound.
-use Rattle.std.proofs.Common.{◌≡◌, ℕ, ◌+◌, ◌≤◌, Bool, true, false, ◌&&◌, List, [], ◌∷◌, map, Option, Some, None, option_map, refl, ap, sym, ◌∙◌, subst, arith}
-use Rattle.std.specs.Prelude.{IfSome, IsTrue, if◌then◌else◌, is_some, nat_eq, nat_le, unsigned_abs, slice_get}
+use Rattle.std.proofs.Common.{◌≡◌, ℕ, ◌≤◌, Bool, true, false, ◌&&◌, List, [], ◌∷◌, map, Option, Some, None, option_map, refl, ap, sym, ◌∙◌, subst, arith}
+use Rattle.std.specs.Prelude.{IfSome, IsTrue, if◌then◌else◌, is_some, nat_eq, nat_le, unsigned_abs}
 use Rattle.std.specs.List.{list_all}
 use Rattle.std.proofs.lemmas.Bool.Decides.{nat_tests}
 use Rattle.psm_list.specs.Several.{Several, several_map}
 use Rattle.psm_num.specs.Num.{Num}
 use Rattle.psm_token.specs.declared.place.Place.{Place}
-use Rattle.psm_text.specs.declared.parts.Side.{Side}
 use Rattle.psm_value.specs.declared.sqltype.SqlType.{SqlType}
 use Rattle.psm_value.specs.declared.sqltype.SqlType.TheVariants as types
 use Rattle.psm_exprcode.specs.declared.op.Letter.{Letter}
-use Rattle.psm_exprcode.specs.declared.op.Letter.TheVariants.{N, T, B}
+use Rattle.psm_exprcode.specs.declared.op.Letter.TheVariants.{T, B}
 use Rattle.psm_exprcode.specs.Kinds.{is_value, letter_of}
 use Rattle.psm_exprcode.specs.WellFormed.{is_type}
 use Rattle.psm_scope.proofs.Calls.{both}
-use Rattle.psm_scope.specs.Exact.{is_typed}
-use Rattle.psm_scope.specs.Lookup as lookup
-use Rattle.psm_scope.specs.Lookup.{Meaning, as_variable}
+use Rattle.psm_scope.specs.Lookup.{as_variable}
 use Rattle.psm_scope.specs.declared.kinds.ArgKind.TheVariants as kind
 use Rattle.psm_scope.specs.declared.known.Variable.{Variable}
 use Rattle.psm_rules.specs.declared.fault.Fault.{Fault}
@@ -27,11 +24,9 @@ use Rattle.psm_rules.specs.declared.shape.Shape.{Shape}
 use Rattle.psm_rules.specs.declared.shape.Shape.TheVariants.{Value, Untyped, Condition}
 use Rattle.psm_rules.specs.declared.shape.Typed.{Typed}
 use Rattle.psm_rules.specs.declared.rule.Rule.TheVariants as rule
-use Rattle.psm_rules.specs.Found.{all_of, as_condition, as_value, broken, is_shaped, made_of, of_family, shape_of, shown, sound}
-use Rattle.psm_rules.specs.Shapes.{character, family_of, integer, is_family, is_of, of_literal, typed, varying}
-use Rattle.psm_rules.specs.ExprFaults.{all_texts, argument, cast_found, cast_shape, chained, coalesce_found, compared, compares, found_with, linked, null_if_found, null_test, of_meaning, of_type, operated, results_found, signed_found, text_result, type_fault, without_fault}
-use Rattle.psm_rules.specs.Types.{type_of}
-use Rattle.psm_tree.specs.declared.types.DataType.{DataType}
+use Rattle.psm_rules.specs.Found.{all_of, as_condition, as_value, broken, is_shaped, made_of, shape_of, shown, sound}
+use Rattle.psm_rules.specs.Shapes.{character, family_of, is_of, of_literal, typed}
+use Rattle.psm_rules.specs.ExprFaults.{all_texts, argument, chained, compared, compares, found_with, linked, null_if_found, null_test, of_meaning, of_type, operated, signed_found, text_result, without_fault}
 use Rattle.psm_tree.specs.declared.types.Sign.{Sign}
 use Rattle.psm_tree.specs.declared.types.Sign.TheVariants.{Plus, Minus}
 use Rattle.psm_tree.specs.declared.expr.Operator.{Operator as WrittenOperator}
@@ -41,19 +36,19 @@ use Rattle.psm_resolved.specs.declared.expr.Comparison.{Comparison}
 use Rattle.psm_resolved.specs.declared.expr.Junction.{Junction}
 use Rattle.psm_resolved.specs.declared.expr.ResolvedExpr.{ResolvedExpr}
 use Rattle.psm_resolved.specs.declared.expr.ResolvedExpr.TheVariants as exprs
-use Rattle.psm_resolved.specs.declared.expr.ResolvedLink.{ResolvedLink, out-ResolvedLink, out-roll-ResolvedLink}
+use Rattle.psm_resolved.specs.declared.expr.ResolvedLink.{out-roll-ResolvedLink}
 use Rattle.psm_resolve_expr.specs.declared.made.Made.{Made}
 use Rattle.psm_resolve_expr.specs.Made as made
 use Rattle.psm_resolve_expr.specs.Made.{joined_in, scale_of_result, shape_of_result, shape_of_type}
 use Rattle.psm_resolve_expr.specs.Exprs as making
 use Rattle.psm_resolve_expr.specs.Exprs.{chain_of, coalesce_of, condition, expr_in, function_of, link_of, operator_of, signed, type_known, value}
-use Rattle.psm_sound.specs.Scene.{Each, Scene}
+use Rattle.psm_sound.specs.Scene.{Scene}
 use Rattle.psm_sound.specs.Expressions.{letter_of_operator}
 use Rattle.psm_accept.specs.Agreement.{HasSlot, letter_in}
-use Rattle.psm_accept.specs.Stands.{Standing, are_operands, as_operand, as_source}
-use Rattle.psm_accept.proofs.Judging.{AllJudged, AllSources, Judged, LinksJudged, Source, Where, Control, OnRow, between-judged, cast-judged, cast_null-judged, chain-judged, coalesce-judged, compare-judged, function-judged, in-judged, is_null-judged, judged-source, junction-judged, like-judged, listed_option, negated-judged, not-judged, null-source, null_if-judged, number-judged, position-judged, substring-judged, text-judged, trim-judged, variable-judged}
-use Rattle.psm_accept.proofs.Parts.{AllResults, Clean, Good, IsMade, IsNullAlone, IsOperand, IsResult, IsSane, IsSourceOf, IsValue, Part, Parts, all_shaped, as_value-clean, compared-clean, compares_clean, compares_judged, conditions_clean, conditions_judged, familiar, made_of-clean, made_of-parts, neither, of_family-clean, operand, operand_judged, operand_source, operands, operands_clean, operands_judged, result, results, same_family, sources_clean, value_of_family, compared_shape}
-use Rattle.psm_accept.proofs.Results.{Agrees, IsOperated, SaneShape, letter_of_result, operated-clean, operated_value, results-clean, results_value, scale_of_sane}
+use Rattle.psm_accept.specs.Stands.{Standing, are_operands, as_operand}
+use Rattle.psm_accept.proofs.Judging.{AllJudged, Judged, LinksJudged, Where, between-judged, chain-judged, compare-judged, function-judged, in-judged, is_null-judged, junction-judged, negated-judged, not-judged, null_if-judged, number-judged, text-judged, variable-judged}
+use Rattle.psm_accept.proofs.Parts.{Clean, Good, IsMade, IsNullAlone, IsOperand, IsSane, IsValue, Part, Parts, as_value-clean, compared-clean, compares_clean, compares_judged, conditions_clean, conditions_judged, familiar, made_of-clean, made_of-parts, of_family-clean, operand, operand_source, operands, operands_clean, operands_judged, same_family, value_of_family, compared_shape}
+use Rattle.psm_accept.proofs.Results.{IsOperated, operated-clean, operated_value}
 
 -- ---- what is made, from the shape that is found
 
@@ -255,12 +250,12 @@ pub two_part : (e : Scene) (w : Where) (place : Place) (t : Typed) (k l : Family
     → Part e w (Some (are_operands (a ∷ b ∷ []))) (made_of place (argument k f ∷ argument l g ∷ []) (sound place (Value t))) (value t x)
 two_part e w place t k l a b f g m n x p q sane j well =
     let wells = three (as_operand a) (as_operand b) true well in record {
-  clean = made_of-clean place (argument k f ∷ argument l g ∷ []) (sound place (Value t)) (argument_clean e w k a f m p wells.0, (argument_clean e w l b g n q wells.1, tt)) (λ none. refl);
-  made = λ s is. let parts = made_of-parts place (argument k f ∷ argument l g ∷ []) (sound place (Value t)) s is in
-      let shaped = three (is_shaped (argument k f)) (is_shaped (argument l g)) true parts.0 in
-      made_value e w (Some (are_operands (a ∷ b ∷ []))) (value t x) t s (some_same (Value t) s parts.1)
-      (record { shape = refl; sane = sane; judged = j (argument_judged e w k a f m p wells.0 shaped.0) (argument_judged e w l b g n q wells.1 shaped.1) });
-}
+      clean = made_of-clean place (argument k f ∷ argument l g ∷ []) (sound place (Value t)) (argument_clean e w k a f m p wells.0, (argument_clean e w l b g n q wells.1, tt)) (λ none. refl);
+      made = λ s is. let parts = made_of-parts place (argument k f ∷ argument l g ∷ []) (sound place (Value t)) s is in
+          let shaped = three (is_shaped (argument k f)) (is_shaped (argument l g)) true parts.0 in
+          made_value e w (Some (are_operands (a ∷ b ∷ []))) (value t x) t s (some_same (Value t) s parts.1)
+          (record { shape = refl; sane = sane; judged = j (argument_judged e w k a f m p wells.0 shaped.0) (argument_judged e w l b g n q wells.1 shaped.1) });
+    }
 
 four : (a b c d : Bool) → (a && (b && (c && d))) ≡ true → (a ≡ true) × (b ≡ true) × (c ≡ true) × (d ≡ true)
 four a b c d h = let l = both a (b && (c && d)) h in let r = three b c d l.1 in (l.0, r.0, r.1, r.2)
@@ -270,12 +265,12 @@ pub three_part : (e : Scene) (w : Where) (place : Place) (t : Typed) (i k l : Fa
     → Part e w (Some (are_operands (a ∷ b ∷ c ∷ []))) (made_of place (argument i f ∷ argument k g ∷ argument l h ∷ []) (sound place (Value t))) (value t x)
 three_part e w place t i k l a b c f g h m n o x p q r sane j well =
     let wells = four (as_operand a) (as_operand b) (as_operand c) true well in record {
-  clean = made_of-clean place (argument i f ∷ argument k g ∷ argument l h ∷ []) (sound place (Value t)) (argument_clean e w i a f m p wells.0, (argument_clean e w k b g n q wells.1, (argument_clean e w l c h o r wells.2, tt))) (λ none. refl);
-  made = λ s is. let parts = made_of-parts place (argument i f ∷ argument k g ∷ argument l h ∷ []) (sound place (Value t)) s is in
-      let shaped = four (is_shaped (argument i f)) (is_shaped (argument k g)) (is_shaped (argument l h)) true parts.0 in
-      made_value e w (Some (are_operands (a ∷ b ∷ c ∷ []))) (value t x) t s (some_same (Value t) s parts.1)
-      (record { shape = refl; sane = sane; judged = j (argument_judged e w i a f m p wells.0 shaped.0) (argument_judged e w k b g n q wells.1 shaped.1) (argument_judged e w l c h o r wells.2 shaped.2) });
-}
+      clean = made_of-clean place (argument i f ∷ argument k g ∷ argument l h ∷ []) (sound place (Value t)) (argument_clean e w i a f m p wells.0, (argument_clean e w k b g n q wells.1, (argument_clean e w l c h o r wells.2, tt))) (λ none. refl);
+      made = λ s is. let parts = made_of-parts place (argument i f ∷ argument k g ∷ argument l h ∷ []) (sound place (Value t)) s is in
+          let shaped = four (is_shaped (argument i f)) (is_shaped (argument k g)) (is_shaped (argument l h)) true parts.0 in
+          made_value e w (Some (are_operands (a ∷ b ∷ c ∷ []))) (value t x) t s (some_same (Value t) s parts.1)
+          (record { shape = refl; sane = sane; judged = j (argument_judged e w i a f m p wells.0 shaped.0) (argument_judged e w k b g n q wells.1 shaped.1) (argument_judged e w l c h o r wells.2 shaped.2) });
+    }
 
 pub text_result_sane : (f : TextFunction) → IsSane (text_result f)
 text_result_sane functions.CharLength = record { typed = refl; small = omega arith }
@@ -373,14 +368,14 @@ chain_more : (e : Scene) (w : Where) (t u c : Typed) (o : WrittenOperator) (m : 
     → IsChain e w c ms s → IsChain e w t (m ∷ ms) s
 chain_more e w t u c o m ms s same v p is l =
     let last : family_of p.type.kind ≡ family_of l.type.kind = ap (λ t. family_of t.kind) is ∙ l.family in record {
-  type = l.type;
-  is = l.is;
-  made = ap (λ o. making.chained (made.operated o (Value t) m.1.shape) ms) (sym same) ∙ ap (λ z. making.chained (made.operated o (Value t) z) ms) v.shape ∙ ap (λ z. making.chained z ms) p.made ∙ ap (λ t. making.chained (Value t) ms) is ∙ l.made;
-  sane = l.sane;
-  family = p.left ∙ last;
-  links = link_judged e w m ms (letter_in (family_of l.type.kind)) (ap (λ o. letter_of_operator (operator_of o)) (sym same) ∙ p.letter ∙ ap letter_in last)
-      (subst (λ k. Judged e w m.1.expr (letter_in k)) (p.right ∙ last) v.judged) l.links;
-}
+      type = l.type;
+      is = l.is;
+      made = ap (λ o. making.chained (made.operated o (Value t) m.1.shape) ms) (sym same) ∙ ap (λ z. making.chained (made.operated o (Value t) z) ms) v.shape ∙ ap (λ z. making.chained z ms) p.made ∙ ap (λ t. making.chained (Value t) ms) is ∙ l.made;
+      sane = l.sane;
+      family = p.left ∙ last;
+      links = link_judged e w m ms (letter_in (family_of l.type.kind)) (ap (λ o. letter_of_operator (operator_of o)) (sym same) ∙ p.letter ∙ ap letter_in last)
+          (subst (λ k. Judged e w m.1.expr (letter_in k)) (p.right ∙ last) v.judged) l.links;
+    }
 
 value_inside : (a b : Typed) → Value a ≡ Value b → a ≡ b
 value_inside a b h = cc
@@ -401,7 +396,7 @@ chained_value e w (b ∷ bs) (f ∷ fs) (m ∷ ms) left t s ls well sane h is =
     let shapes = three (is_shaped left) (is_shaped next) true parts.0 in
     let o : IsOperand e w f.1 m.1 = operand e w ls.0.standing f.1 m.1 ls.0.part (link_well e w b f m ls.0 wells.0) shapes.1 in
     let given : (operated f.0 left.place (Value t) (Value o.type)).shape ≡ Some (shape_of more) =
-        ap (λ z. (operated f.0 left.place (Value t) z).shape) (sym (ap shape_of o.found)) ∙ ap (λ z. (operated f.0 left.place z (shape_of next)).shape) (sym (ap shown h)) ∙ parts.1 in
+    ap (λ z. (operated f.0 left.place (Value t) z).shape) (sym (ap shape_of o.found)) ∙ ap (λ z. (operated f.0 left.place z (shape_of next)).shape) (sym (ap shown h)) ∙ parts.1 in
     let p : IsOperated f.0 t o.type (shape_of more) = operated_value f.0 left.place t o.type (shape_of more) sane o.value.sane given in
     let q : IsOperated f.0 t o.type (Value p.type) = record { type = p.type; is = refl; made = p.made; sane = p.sane; left = p.left; right = p.right; letter = p.letter } in
     chain_more e w t o.type p.type f.0 m ms s ls.0.operator o.value q refl
@@ -436,21 +431,21 @@ pub null_if_part : (e : Scene) (w : Where) (place : Place) (a b : Standing) (f g
 null_if_part e w place a b f g m n p q well =
     let values : List Found = as_value f ∷ as_value g ∷ [] in
     let whole : Found = without_fault place (compared (as_value f).place values).fault (Some (shape_of (as_value f))) in record {
-  clean = made_of-clean place values whole (operands_clean e w (a ∷ b ∷ []) (f ∷ g ∷ []) (m ∷ n ∷ []) (p, (q, tt)) well) (without_clean place (compared (as_value f).place values).fault (shape_of (as_value f)));
-  made = λ s is.
-      let parts = made_of-parts place values whole s is in
-      let o = operands e w (a ∷ b ∷ []) (f ∷ g ∷ []) (m ∷ n ∷ []) (p, (q, tt)) well parts.0 in
-      let none = without_none place (compared (as_value f).place values).fault (Some (shape_of (as_value f))) s parts.1 in
-      let shaped = compared-clean (as_value f).place values none.0 in
-      let c = compared_shape (as_value f).place values (shape_of (compared (as_value f).place values)) (shape_some (compared (as_value f).place values).shape shaped) in
-      let family : Family = c.0.0 in
-      let all = operands_judged e w (f ∷ g ∷ []) (m ∷ n ∷ []) family o c.0.1 in
-      let first : IsOperand e w f m = o.0 in
-      let of : is_of family (shape_of (as_value f)) ≡ true = (both (is_of family (shape_of (as_value f))) (is_of family (shape_of (as_value g)) && true) c.0.1).0 in
-      let same : family_of first.type.kind ≡ family = same_family family (family_of first.type.kind) (sym (ap (λ g. is_of family (shape_of g)) first.found) ∙ of) in
-      made_value e w (Some (are_operands (a ∷ b ∷ []))) (record { expr = exprs.NullIf m.expr n.expr; shape = m.shape }) first.type s (sym (ap shape_of first.found) ∙ some_same (shape_of (as_value f)) s none.1) (record {
-        shape = first.value.shape;
-        sane = first.value.sane;
-        judged = subst (λ k. Judged e w (exprs.NullIf m.expr n.expr) (letter_in k)) (sym same) (null_if-judged e w m.expr n.expr (letter_in family) (value_of_family family) all);
-      });
-}
+      clean = made_of-clean place values whole (operands_clean e w (a ∷ b ∷ []) (f ∷ g ∷ []) (m ∷ n ∷ []) (p, (q, tt)) well) (without_clean place (compared (as_value f).place values).fault (shape_of (as_value f)));
+      made = λ s is.
+          let parts = made_of-parts place values whole s is in
+          let o = operands e w (a ∷ b ∷ []) (f ∷ g ∷ []) (m ∷ n ∷ []) (p, (q, tt)) well parts.0 in
+          let none = without_none place (compared (as_value f).place values).fault (Some (shape_of (as_value f))) s parts.1 in
+          let shaped = compared-clean (as_value f).place values none.0 in
+          let c = compared_shape (as_value f).place values (shape_of (compared (as_value f).place values)) (shape_some (compared (as_value f).place values).shape shaped) in
+          let family : Family = c.0.0 in
+          let all = operands_judged e w (f ∷ g ∷ []) (m ∷ n ∷ []) family o c.0.1 in
+          let first : IsOperand e w f m = o.0 in
+          let of : is_of family (shape_of (as_value f)) ≡ true = (both (is_of family (shape_of (as_value f))) (is_of family (shape_of (as_value g)) && true) c.0.1).0 in
+          let same : family_of first.type.kind ≡ family = same_family family (family_of first.type.kind) (sym (ap (λ g. is_of family (shape_of g)) first.found) ∙ of) in
+          made_value e w (Some (are_operands (a ∷ b ∷ []))) (record { expr = exprs.NullIf m.expr n.expr; shape = m.shape }) first.type s (sym (ap shape_of first.found) ∙ some_same (shape_of (as_value f)) s none.1) (record {
+            shape = first.value.shape;
+            sane = first.value.sane;
+            judged = subst (λ k. Judged e w (exprs.NullIf m.expr n.expr) (letter_in k)) (sym same) (null_if-judged e w m.expr n.expr (letter_in family) (value_of_family family) all);
+          });
+    }

@@ -1,8 +1,8 @@
 -- Each form of an expression is sound, outside of rows and on a row, where its parts are.
-use Rattle.std.proofs.Common.{◌≡◌, ℕ, zero, suc, Bool, true, false, ◌&&◌, ◌||◌, List, [], ◌∷◌, map, Option, Some, None, option_map, refl, ap, sym, ◌∙◌, subst}
-use Rattle.std.specs.Prelude.{IsTrue, nat_le, slice_get}
+use Rattle.std.proofs.Common.{◌≡◌, ℕ, zero, suc, Bool, true, false, ◌&&◌, ◌||◌, List, [], ◌∷◌, map, Option, Some, None, option_map, refl, ap, ◌∙◌, subst}
+use Rattle.std.specs.Prelude.{IsTrue, slice_get}
 use Rattle.std.specs.List.{list_all}
-use Rattle.psm_list.specs.Several.{Several, several_map}
+use Rattle.psm_list.specs.Several.{Several}
 use Rattle.psm_num.specs.Num.{Num}
 use Rattle.psm_text.specs.declared.parts.Side.{Side}
 use Rattle.psm_value.specs.declared.sqltype.SqlType.{SqlType}
@@ -18,10 +18,8 @@ use Rattle.psm_resolved.specs.declared.expr.Operator.TheVariants as operators
 use Rattle.psm_resolved.specs.declared.expr.TextFunction.{TextFunction}
 use Rattle.psm_resolved.specs.declared.expr.ResolvedExpr.{ResolvedExpr}
 use Rattle.psm_resolved.specs.declared.expr.ResolvedExpr.TheVariants as exprs
-use Rattle.psm_resolved.specs.declared.expr.ResolvedExpr.TheOpen as layers
 use Rattle.psm_resolved.specs.declared.expr.ResolvedLink.{ResolvedLink, out-ResolvedLink}
 use Rattle.psm_resolved.specs.declared.expr.ResolvedWhen.{ResolvedWhen, out-ResolvedWhen}
-use Rattle.psm_resolved.specs.RowValue.{listed}
 use Rattle.psm_resolved.specs.Sort as sort
 use Rattle.psm_resolved.specs.Sort.{Sort, Of, Untyped, Wrong, function_of, letter_at, link_sort, sort_layer, sort_of, when_sort}
 use Rattle.psm_resolved.proofs.Equations.{sort-Null, sort-Number, sort-Text, sort-Column, sort-Variable, sort-Junction, sort-Not, sort-Compare, sort-IsNull, sort-Between, sort-In, sort-Like, sort-Chain, sort-Negated, sort-Case, sort-Coalesce, sort-Cast, sort-NullIf, sort-Function, sort-Position, sort-Substring, sort-Trim, sort_of_link, sort_of_when}

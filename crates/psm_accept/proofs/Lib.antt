@@ -8,3 +8,4 @@ pub mod Choices
 pub mod Queries
 pub mod Accepted
 pub mod Whole
+pub mod Clauses

@@ -1,10 +1,10 @@
 -- What a name means where frames declare the same names with the same types.
-use Rattle.std.proofs.Common.{◌≡◌, ℕ, zero, suc, ◌+◌, Bool, true, false, List, [], ◌∷◌, map, Option, Some, None, option_map, refl, ap, sym, ◌∙◌, subst, arith}
+use Rattle.std.proofs.Common.{◌≡◌, ℕ, suc, ◌+◌, Bool, true, false, List, [], ◌∷◌, map, Option, Some, None, option_map, refl, ap, sym, ◌∙◌, arith}
 use Rattle.std.specs.Prelude.{IfSome, IsTrue, if◌then◌else◌, slice_get}
 use Rattle.psm_value.specs.declared.sqltype.SqlType.{SqlType}
 use Rattle.psm_exprcode.specs.WellFormed.{is_type}
 use Rattle.psm_scope.specs.Frames.{Spelling, is_spelled, Frame, Routine, Compound, Loop, For, Action, declared_in}
-use Rattle.psm_scope.specs.Lookup.{meant, named, named_among, or_else, place_named, qualified, variable, variables_called, is_called, sees_past}
+use Rattle.psm_scope.specs.Lookup.{meant, named, named_among, or_else, place_named, variable, variables_called, is_called, sees_past}
 use Rattle.psm_scope.specs.declared.known.Variable.{Variable}
 use Rattle.psm_rules.specs.View.{Columns}
 use Rattle.psm_sound.specs.Scene.{Each}

@@ -1,10 +1,9 @@
 -- What is found in the parts of an expression, and what they have to be where the whole has a shape.
-use Rattle.std.proofs.Common.{◌≡◌, ◌⊎◌, inl, inr, ℕ, ◌+◌, ◌≤◌, Bool, true, false, ◌&&◌, ◌||◌, List, [], ◌∷◌, map, Option, Some, None, refl, ap, sym, ◌∙◌, subst, arith}
+use Rattle.std.proofs.Common.{◌≡◌, ◌⊎◌, inl, inr, ◌≤◌, Bool, true, false, ◌&&◌, ◌||◌, List, [], ◌∷◌, map, Option, Some, None, refl, ap, sym, ◌∙◌, subst}
 use Rattle.std.specs.Prelude.{IsTrue, if◌then◌else◌, is_some}
 use Rattle.std.specs.List.{list_all}
 use Rattle.psm_token.specs.declared.place.Place.{Place}
-use Rattle.psm_exprcode.specs.declared.op.Letter.{Letter}
-use Rattle.psm_exprcode.specs.declared.op.Letter.TheVariants.{N, T, B}
+use Rattle.psm_exprcode.specs.declared.op.Letter.TheVariants.{B}
 use Rattle.psm_exprcode.specs.Kinds.{is_value}
 use Rattle.psm_scope.proofs.Calls.{both}
 use Rattle.psm_scope.specs.Exact.{is_typed}
@@ -17,8 +16,8 @@ use Rattle.psm_rules.specs.declared.shape.Family.TheVariants.{Numbers, Texts}
 use Rattle.psm_rules.specs.declared.shape.Shape.{Shape}
 use Rattle.psm_rules.specs.declared.shape.Shape.TheVariants.{Value, Untyped, Condition}
 use Rattle.psm_rules.specs.declared.shape.Typed.{Typed}
-use Rattle.psm_rules.specs.Faults.{breaks, earlier, first_of}
-use Rattle.psm_rules.specs.Found.{all_of, as_condition, as_value, broken, condition_shape, family_shape, faults_in, is_shaped, made_of, of_family, shape_of, shown, sound, value_shape, with_shape}
+use Rattle.psm_rules.specs.Faults.{earlier}
+use Rattle.psm_rules.specs.Found.{all_of, as_condition, as_value, broken, condition_shape, family_shape, faults_in, is_shaped, made_of, of_family, shape_of, sound, value_shape, with_shape}
 use Rattle.psm_rules.specs.Shapes.{family_of, is_family, is_of}
 use Rattle.psm_rules.specs.ExprFaults.{compared, compares}
 use Rattle.psm_rules.proofs.Earliest.{first_of_cons}
@@ -28,7 +27,7 @@ use Rattle.psm_resolve_expr.specs.Exprs.{expr_in}
 use Rattle.psm_sound.specs.Scene.{Each, Scene}
 use Rattle.psm_accept.specs.Agreement.{letter_in}
 use Rattle.psm_accept.specs.Stands.{Standing, are_operands, as_operand, as_source}
-use Rattle.psm_accept.proofs.Judging.{AllJudged, AllSources, Judged, Source, Where, judged-source, null-source}
+use Rattle.psm_accept.proofs.Judging.{AllJudged, Judged, Where}
 
 true_false : true ≡ false → ⊥
 true_false e = cc

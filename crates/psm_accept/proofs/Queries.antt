@@ -1,14 +1,13 @@
 -- Queries without a fault are sound, where their items and their tests are.
-use Rattle.std.proofs.Common.{◌≡◌, inl, inr, ℕ, zero, suc, ◌+◌, ◌≤◌, Bool, true, false, ◌&&◌, List, [], ◌∷◌, ◌++◌, map, Option, Some, None, option_map, refl, ap, sym, ◌∙◌, subst, arith}
-use Rattle.std.specs.Prelude.{IfSome, IsTrue, if◌then◌else◌, is_none, is_some, not, nat_eq, slice_get, length}
+use Rattle.std.proofs.Common.{◌≡◌, inl, inr, ℕ, suc, ◌+◌, Bool, true, false, List, [], ◌∷◌, ◌++◌, map, Option, Some, None, option_map, refl, ap, sym, ◌∙◌, subst, arith}
+use Rattle.std.specs.Prelude.{IfSome, if◌then◌else◌, is_some, not, nat_eq, slice_get, length}
 use Rattle.std.specs.List.{list_all}
 use Rattle.std.proofs.lemmas.Bool.Decides.{nat_tests}
 use Rattle.psm_token.specs.declared.place.Place.{Place}
 use Rattle.psm_value.specs.declared.sqltype.SqlType.{SqlType}
 use Rattle.psm_exprcode.specs.declared.op.Letter.{Letter}
-use Rattle.psm_exprcode.specs.declared.op.Letter.TheVariants.{N, T, B}
-use Rattle.psm_exprcode.specs.Kinds.{is_value, letter_of}
-use Rattle.psm_exprcode.specs.WellFormed.{is_type}
+use Rattle.psm_exprcode.specs.declared.op.Letter.TheVariants.{N}
+use Rattle.psm_exprcode.specs.Kinds.{is_value}
 use Rattle.psm_exprcode.specs.declared.aggregate.SetFunction.TheVariants as coded
 use Rattle.psm_scope.proofs.Calls.{both}
 use Rattle.psm_scope.specs.Frames.{Spelling, is_spelled}
@@ -16,16 +15,15 @@ use Rattle.psm_scope.specs.Lookup.{named, place_named}
 use Rattle.psm_rules.specs.declared.fault.Fault.{Fault}
 use Rattle.psm_rules.specs.declared.found.Found.{Found}
 use Rattle.psm_rules.specs.declared.query.Item.{Item}
-use Rattle.psm_rules.specs.declared.query.Picked.{Picked}
-use Rattle.psm_rules.specs.declared.query.Picked.TheVariants.{All, Plain, Set}
+use Rattle.psm_rules.specs.declared.query.Picked.TheVariants.{Plain, Set}
 use Rattle.psm_rules.specs.declared.shape.Family.{Family}
 use Rattle.psm_rules.specs.declared.shape.Family.TheVariants.{Numbers, Texts}
 use Rattle.psm_rules.specs.declared.shape.Shape.{Shape}
 use Rattle.psm_rules.specs.declared.shape.Shape.TheVariants.{Value, Untyped, Condition}
 use Rattle.psm_rules.specs.declared.shape.Typed.{Typed}
 use Rattle.psm_rules.specs.declared.rule.Rule.TheVariants as rule
-use Rattle.psm_rules.specs.Faults.{breaks, breaks_if, earlier, first_of}
-use Rattle.psm_rules.specs.Found.{as_condition, as_value, is_shaped, made_of, of_family, shape_of, shown, sound, value_shape, with_shape}
+use Rattle.psm_rules.specs.Faults.{breaks, first_of}
+use Rattle.psm_rules.specs.Found.{as_value, is_shaped, made_of, shape_of, shown, sound, value_shape, with_shape}
 use Rattle.psm_rules.specs.Shapes.{family_of, integer, typed}
 use Rattle.psm_rules.specs.ExprFaults as faults
 use Rattle.psm_rules.specs.ExprFaults.{PickFound, QueryFound, argument, column_item, first_set, is_all, is_set, item_of, items_fault, items_in, items_of_pick, joined_items, misplaced_set, other_faults, query_fault, set_argument, set_found, set_result, set_shape, sets_fault, table_fault, test_fault}
@@ -33,18 +31,14 @@ use Rattle.psm_rules.specs.View.{Columns}
 use Rattle.psm_rules.proofs.Earliest.{first_of_cons}
 use Rattle.psm_tree.specs.declared.expr.SetFunction.{SetFunction}
 use Rattle.psm_tree.specs.declared.expr.SetFunction.TheVariants as sets
-use Rattle.psm_table.specs.Queries as q
 use Rattle.psm_table.specs.Definition.{kinds_of}
 use Rattle.psm_tablecode.specs.Codes.{set_function}
-use Rattle.psm_resolved.specs.declared.expr.ResolvedExpr.{ResolvedExpr}
 use Rattle.psm_resolved.specs.declared.expr.ResolvedExpr.TheVariants as exprs
-use Rattle.psm_resolved.specs.declared.expr.ResolvedExpr.TheOpen as layers
-use Rattle.psm_resolved.specs.declared.expr.ResolvedItem.{ResolvedItem, out-ResolvedItem, out-roll-ResolvedItem}
-use Rattle.psm_resolved.specs.declared.expr.ResolvedItems.{ResolvedItems, out-ResolvedItems}
+use Rattle.psm_resolved.specs.declared.expr.ResolvedItem.{ResolvedItem, out-roll-ResolvedItem}
+use Rattle.psm_resolved.specs.declared.expr.ResolvedItems.{out-ResolvedItems}
 use Rattle.psm_resolved.specs.declared.expr.ResolvedItems.TheVariants as items
-use Rattle.psm_resolved.specs.declared.expr.ResolvedQuery.{ResolvedQuery, out-ResolvedQuery, roll-ResolvedQuery, out-roll-ResolvedQuery}
+use Rattle.psm_resolved.specs.declared.expr.ResolvedQuery.{ResolvedQuery, out-roll-ResolvedQuery}
 use Rattle.psm_resolved.specs.declared.file.ResolvedTable.{ResolvedTable}
-use Rattle.psm_resolved.specs.Sort.{IsOfLetter}
 use Rattle.psm_resolve_expr.specs.declared.made.Made.{Made}
 use Rattle.psm_resolve_expr.specs.declared.made.MadeQuery.{MadeQuery}
 use Rattle.psm_resolve_expr.specs.Made.{MadePick, Values, OfAll, values_in, sets_in, shape_of_type}
@@ -53,12 +47,12 @@ use Rattle.psm_resolve_expr.specs.Exprs.{columns_from, expr_in, optional_in, que
 use Rattle.psm_meaning.specs.Rows as rows
 use Rattle.psm_sound.specs.Expressions as typed_expr
 use Rattle.psm_sound.specs.Queries.{AreItems, AreRowValues, AreSets, IsOperand as IsSetOperand, IsQuery, IsRowTest, IsRowValue, IsSet, letter_of_set}
-use Rattle.psm_sound.specs.Scene.{Each, Scene, columns_of, letters_of, variables_of}
+use Rattle.psm_sound.specs.Scene.{Scene, columns_of, letters_of, variables_of}
 use Rattle.psm_accept.specs.Agreement.{AreTables, HaveTypes, letter_in}
-use Rattle.psm_accept.specs.Stands.{Standing, as_operand, may_be}
-use Rattle.psm_accept.proofs.Judging.{Judged, Where, Control, OnRow, column-judged, goes_as_sort, sort_at}
-use Rattle.psm_accept.proofs.Parts.{Clean, Good, IsMade, IsNullAlone, IsOperand, IsSane, IsValue, Part, as_condition-clean, as_value-clean, made_of-clean, made_of-parts, neither, of_family-clean, operand, operand_source, tested, value_of_family, valued}
-use Rattle.psm_accept.proofs.Forms.{IsArgument, argued, made_condition, made_value, without_none, shape_some, typed_sane, typed_value}
+use Rattle.psm_accept.specs.Stands.{Standing, as_operand}
+use Rattle.psm_accept.proofs.Judging.{Control, OnRow, column-judged, goes_as_sort, sort_at}
+use Rattle.psm_accept.proofs.Parts.{Clean, IsOperand, IsSane, IsValue, Part, as_value-clean, made_of-clean, made_of-parts, neither, of_family-clean, operand, operand_source, valued}
+use Rattle.psm_accept.proofs.Forms.{argued, made_condition, made_value, without_none, shape_some, typed_value}
 
 -- ---- tables by their places
 
@@ -176,6 +170,7 @@ all_good e types place i (c ∷ rest) (t ∷ ts) at h = (
   where
     zero_more : i + 0 ≡ i
     zero_more = omega arith
+
     one_more : (k : ℕ) → i + suc k ≡ suc i + k
     one_more k = omega arith
 
@@ -263,14 +258,19 @@ aggregate_good e types cs place function alias a f m p well none =
     let parts = made_of-parts place (value ∷ []) whole (shown found.shape) (shape_some found.shape inner) in
     let g : IsSetArgument e types function f m = set_argued e types function a f m p well (both (is_shaped value) true parts.0).0 in
     let t : Typed = g.operand.type in
-    let is : found.shape ≡ Some (Value (set_result function t)) = shape_some found.shape inner ∙ sym parts.1 ∙ ap (λ s. (set_shape place function s).shape) g.is in
-    (refl, (record {
-      type = set_result function t;
-      found = ap (λ o. (with_shape value_shape found o).shape) is;
-      made = ap (shape_of_set function) g.operand.value.shape;
-      sane = set_sane function t g.operand.value.sane;
-      set = set_is e types function m t g.operand.value;
-    }, tt))
+    let is : found.shape ≡ Some (Value (set_result function t)) = shape_some found.shape inner ∙ sym parts.1 ∙ ap (λ s. (set_shape place function s).shape) g.is in (
+      refl,
+      (
+        record {
+          type = set_result function t;
+          found = ap (λ o. (with_shape value_shape found o).shape) is;
+          made = ap (shape_of_set function) g.operand.value.shape;
+          sane = set_sane function t g.operand.value.sane;
+          set = set_is e types function m t g.operand.value;
+        },
+        tt,
+      ),
+    )
   where
     value_shaped : (f : Found) → is_shaped (as_value f) ≡ true → is_shaped f ≡ true
     value_shaped f h = elim (valued f h) as (λ _. is_shaped f ≡ true) [
@@ -416,15 +416,15 @@ pub query_made_of : (e : Scene) (is : List Item) (table : ℕ) (there : Resolved
     → IsRowTest (columns_of there) (variables_of e) (optional_in test) → IsQueryMade e is (query_of table ms test)
 query_made_of e is table there ms test h i t =
     let r = sym (out-roll-ResolvedQuery (record { table = table; downward = false; items = making.items_of (values_in ms) (sets_in ms); test = optional_in test })) in record {
-  letters = i.letters;
-  shapes = i.shapes;
-  sound = record {
-    table = there;
-    there = subst (λ o. slice_get e.file.tables o.table ≡ Some there) r h;
-    items = subst (λ o. AreItems (columns_of there) (variables_of e) (rows.items_of (out-ResolvedItems o.items)) i.letters) r i.sound;
-    test = subst (λ o. IsRowTest (columns_of there) (variables_of e) o.test) r t;
-  };
-}
+      letters = i.letters;
+      shapes = i.shapes;
+      sound = record {
+        table = there;
+        there = subst (λ o. slice_get e.file.tables o.table ≡ Some there) r h;
+        items = subst (λ o. AreItems (columns_of there) (variables_of e) (rows.items_of (out-ResolvedItems o.items)) i.letters) r i.sound;
+        test = subst (λ o. IsRowTest (columns_of there) (variables_of e) o.test) r t;
+      };
+    }
 
 -- a query without a fault has items, and is sound
 abbrev pub QueryGood : Scene → QueryFound → MadeQuery → Type 0

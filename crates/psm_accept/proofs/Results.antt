@@ -1,10 +1,8 @@
 -- The types of operators' values and of the results of CASE and COALESCE.
-use Rattle.std.proofs.Common.{◌≡◌, ℕ, ◌+◌, ◌≤◌, Bool, true, false, ◌&&◌, List, [], ◌∷◌, map, Option, Some, None, option_map, refl, ap, sym, ◌∙◌, subst, arith}
-use Rattle.std.specs.Prelude.{IfSome, IsTrue, if◌then◌else◌, max, nat_le, not}
-use Rattle.std.specs.List.{list_all}
+use Rattle.std.proofs.Common.{◌≡◌, ℕ, ◌+◌, ◌≤◌, Bool, true, false, ◌&&◌, List, [], ◌∷◌, map, Option, Some, None, refl, ap, sym, ◌∙◌, subst, arith}
+use Rattle.std.specs.Prelude.{IfSome, if◌then◌else◌, max, nat_le, not}
 use Rattle.std.proofs.lemmas.Bool.Decides.{nat_tests}
 use Rattle.psm_token.specs.declared.place.Place.{Place}
-use Rattle.psm_exprcode.specs.declared.op.Letter.{Letter}
 use Rattle.psm_scope.specs.Choice.{rank}
 use Rattle.psm_scope.specs.Exact.{is_typed}
 use Rattle.psm_scope.specs.Lookup.{or_else}
@@ -87,14 +85,14 @@ sum_operated : (operator : WrittenOperator) (place : Place) (a b : Typed) (s : S
     → letter_of_operator (operator_of operator) ≡ letter_in Numbers → OfNumbers (sum_of place) a b s → IsOperated operator a b s
 sum_operated operator place a b s x y m l n =
     let of : family_of (at_larger_scale a b).kind ≡ Numbers = higher_family a.kind b.kind Numbers n.left n.right in record {
-  type = at_larger_scale a b;
-  is = value_same (at_larger_scale a b) s n.is;
-  made = m;
-  sane = larger_sane a b x y;
-  left = n.left ∙ sym of;
-  right = n.right ∙ sym of;
-  letter = l ∙ ap letter_in (sym of);
-}
+      type = at_larger_scale a b;
+      is = value_same (at_larger_scale a b) s n.is;
+      made = m;
+      sane = larger_sane a b x y;
+      left = n.left ∙ sym of;
+      right = n.right ∙ sym of;
+      letter = l ∙ ap letter_in (sym of);
+    }
 
 small_of : (n : ℕ) → nat_le n 18 ≡ true → n ≤ 18
 small_of n h = grind (arith, nat_tests, h)
@@ -107,14 +105,14 @@ product_operated : (place : Place) (a b : Typed) (s : Shape) → IsSane a → Is
 product_operated place a b s x y n =
     let of : family_of (at_sum_of_scales a b).kind ≡ Numbers = higher_family a.kind b.kind Numbers n.left n.right in
     let p = product_at place (at_sum_of_scales a b) s (nat_le (a.scale + b.scale) 18) refl n.is in record {
-  type = at_sum_of_scales a b;
-  is = p.1;
-  made = refl;
-  sane = record { typed = higher_typed a.kind b.kind x.typed y.typed; small = small_of (a.scale + b.scale) p.0 };
-  left = n.left ∙ sym of;
-  right = n.right ∙ sym of;
-  letter = ap letter_in (sym of);
-}
+      type = at_sum_of_scales a b;
+      is = p.1;
+      made = refl;
+      sane = record { typed = higher_typed a.kind b.kind x.typed y.typed; small = small_of (a.scale + b.scale) p.0 };
+      left = n.left ∙ sym of;
+      right = n.right ∙ sym of;
+      letter = ap letter_in (sym of);
+    }
 
 texts_at : (place : Place) (a b : Typed) (s : Shape) (x y : Bool) → is_family Texts (family_of a.kind) ≡ x → is_family Texts (family_of b.kind) ≡ y
     → (let f : Found = if x && y then sound place (Value varying) else broken rule.FamiliesMixed place in f.shape ≡ Some s) → IsOperated written.Concatenate a b s

@@ -1,17 +1,15 @@
 -- The induction over expressions and queries: accepted ones are sound.
 use Rattle.std.proofs.Common.{◌≡◌, ℕ, ◌+◌, Bool, true, false, ◌&&◌, List, [], ◌∷◌, map, Option, Some, None, option_map, refl, ap, sym, ◌∙◌, subst, arith}
-use Rattle.std.specs.Prelude.{IfSome, IsTrue, is_none, slice_get}
+use Rattle.std.specs.Prelude.{IfSome, slice_get}
 use Rattle.std.specs.List.{list_all}
-use Rattle.psm_list.specs.Several.{Several, several_map}
+use Rattle.psm_list.specs.Several.{Several}
 use Rattle.psm_value.specs.declared.sqltype.SqlType.{SqlType}
-use Rattle.psm_exprcode.specs.declared.op.Letter.TheVariants.{N, T, B}
+use Rattle.psm_exprcode.specs.declared.op.Letter.TheVariants.{B}
 use Rattle.psm_scope.proofs.Calls.{both}
 use Rattle.psm_scope.specs.Lookup.{RowTable, named}
 use Rattle.psm_rules.specs.declared.fault.Fault.{Fault}
 use Rattle.psm_rules.specs.declared.found.Found.{Found}
-use Rattle.psm_rules.specs.declared.rule.Rule.TheVariants as rule
-use Rattle.psm_rules.specs.Faults.{breaks, breaks_if, earlier, first_of}
-use Rattle.psm_rules.specs.Found.{as_condition, as_value}
+use Rattle.psm_rules.specs.Faults.{first_of}
 use Rattle.psm_rules.specs.ExprFaults as faults
 use Rattle.psm_rules.specs.ExprFaults.{Of, PickFound, PickPart, LinkPart, QueryFound, WhenPart, column_item, columns_known, expr_found, items_fault, items_in, link_found, pick_found, query_fault, query_found, seen, seen_in, seen_option, sets_fault, spelling, table_fault, test_fault, when_found}
 use Rattle.psm_rules.specs.View as views
@@ -19,7 +17,7 @@ use Rattle.psm_rules.specs.View.{View, Columns, table_named}
 use Rattle.psm_rules.proofs.Earliest.{first_of_cons}
 use Rattle.psm_tree.specs.declared.name.Identifier.{Identifier}
 use Rattle.psm_tree.specs.declared.expr.Operator.{Operator as WrittenOperator}
-use Rattle.psm_tree.specs.declared.expr.Expr.{Expr, roll-Expr}
+use Rattle.psm_tree.specs.declared.expr.Expr.{Expr}
 use Rattle.psm_tree.specs.declared.expr.Expr.TheOpen.{Expr-F, Pick-F, Link-F, Select-F, When-F}
 use Rattle.psm_tree.specs.declared.expr.Expr.TheOpen as layers
 use Rattle.psm_tree.specs.declared.expr.Expr.TheFolds.{ind-Expr, ind-Select, map-Pick, map-Link, map-Select, map-When, fold-roll-Pick, fold-roll-Link, fold-roll-Select, fold-roll-When}
@@ -28,23 +26,22 @@ use Rattle.psm_tree.specs.declared.expr.When.{When, roll-When}
 use Rattle.psm_tree.specs.declared.expr.Pick.{Pick, roll-Pick}
 use Rattle.psm_tree.specs.declared.expr.Select.{Select, roll-Select}
 use Rattle.psm_table.specs.Definition.{kinds_of}
-use Rattle.psm_resolved.specs.declared.file.ResolvedTable.{ResolvedTable}
 use Rattle.psm_resolve_expr.specs.declared.made.Made.{Made}
 use Rattle.psm_resolve_expr.specs.declared.made.MadeQuery.{MadeQuery}
 use Rattle.psm_resolve_expr.specs.Sight as sights
 use Rattle.psm_resolve_expr.specs.Sight.{Sight, table_at}
-use Rattle.psm_resolve_expr.specs.Made.{MadePick, Values}
+use Rattle.psm_resolve_expr.specs.Made.{MadePick}
 use Rattle.psm_resolve_expr.specs.Exprs as making
 use Rattle.psm_resolve_expr.specs.Exprs.{all_at, any_at, columns_in, columns_on, link_made, made_of, number_of, optional_in, pick_made, query_made, query_of, when_made}
 use Rattle.psm_sound.specs.Queries.{IsRowTest}
-use Rattle.psm_sound.specs.Scene.{Scene, columns_of, letters_of, variables_of}
+use Rattle.psm_sound.specs.Scene.{Scene, letters_of, variables_of}
 use Rattle.psm_accept.specs.Agreement.{Agree, HaveTypes}
 use Rattle.psm_accept.specs.Stands.{Standing, as_operand, as_source, link_stands, link_stands_layer, may_be, pick_stands, pick_stands_layer, select_stands, select_stands_layer, stands, stands_layer, when_stands, when_stands_layer}
-use Rattle.psm_accept.proofs.Judging.{Judged, Where, Control, OnRow, goes_as_sort, sort_at}
-use Rattle.psm_accept.proofs.Parts.{Good, Part, as_condition-clean, neither, operand_source, tested}
+use Rattle.psm_accept.proofs.Judging.{OnRow, goes_as_sort, sort_at}
+use Rattle.psm_accept.proofs.Parts.{Part, as_condition-clean, neither, operand_source, tested}
 use Rattle.psm_accept.proofs.Forms.{IsLink}
 use Rattle.psm_accept.proofs.Choices.{IsWhen}
-use Rattle.psm_accept.proofs.Queries.{AreValues, IsQueryMade, IsTable, ItemsMade, PickGood, Picks, QueryGood, aggregate_good, all_good, all_items, all_items_in, count_good, items_made, named_placed, plain_good, query_made_of, tables_placed}
+use Rattle.psm_accept.proofs.Queries.{AreValues, IsTable, ItemsMade, PickGood, QueryGood, aggregate_good, all_good, all_items, all_items_in, count_good, items_made, named_placed, plain_good, query_made_of, tables_placed}
 use Rattle.psm_accept.proofs.Accepted.{E, Fits, L, OfExpr, OfLink, OfPick, OfSelect, OfWhen, P, S, W, expr_step, picks_parts}
 
 -- ---- picks
@@ -167,11 +164,13 @@ query_with e view sight a ps table alias test well true_test (Some p) h none =
     let types : List SqlType = kinds_of h.table.definition.columns in
     let picks = picks_parts e inner_view inner_sight row types inner refl h.types (ps.first ∷ ps.rest) well in
     let items : ItemsMade e types (all_items p.1 f.picks) (all_at inner_sight (map pick_made (map (λ e. e.0) (ps.first ∷ ps.rest)))) =
-        items_made e types p.1 (pick_found ps.first.0 inner_view) (seen inner_view (map pick_found (map (λ e. e.0) ps.rest))) (pick_made ps.first.0 inner_sight) (all_at inner_sight (map pick_made (map (λ e. e.0) ps.rest))) picks parts.0 others.0 in
-    let from : h.place ≡ p.0 = omega (arith, h.from) in
-    (all_items p.1 f.picks, all_items_in p.1 f.picks,
-    query_made_of e (all_items p.1 f.picks) p.0 h.table (all_at inner_sight (map pick_made (map (λ e. e.0) (ps.first ∷ ps.rest)))) (any_at inner_sight (option_map made_of (option_map (λ e. e.0) test)))
-    (subst (λ i. slice_get e.file.tables i ≡ Some h.table) from h.there) items (test_good e types inner_view inner_sight inner h.types test true_test others.2))
+    items_made e types p.1 (pick_found ps.first.0 inner_view) (seen inner_view (map pick_found (map (λ e. e.0) ps.rest))) (pick_made ps.first.0 inner_sight) (all_at inner_sight (map pick_made (map (λ e. e.0) ps.rest))) picks parts.0 others.0 in
+    let from : h.place ≡ p.0 = omega (arith, h.from) in (
+      all_items p.1 f.picks,
+      all_items_in p.1 f.picks,
+      query_made_of e (all_items p.1 f.picks) p.0 h.table (all_at inner_sight (map pick_made (map (λ e. e.0) (ps.first ∷ ps.rest)))) (any_at inner_sight (option_map made_of (option_map (λ e. e.0) test)))
+          (subst (λ i. slice_get e.file.tables i ≡ Some h.table) from h.there) items (test_good e types inner_view inner_sight inner h.types test true_test others.2),
+    )
 
 query_whole : (e : Scene) (view : View) (sight : Sight) → Agree e view sight → (ps : Several P) (table : Identifier) (alias : Option Identifier) (test : Option E)
     → list_all (λ well. well) (map pick_stands (map (λ e. e.0) (ps.first ∷ ps.rest))) ≡ true → may_be as_operand (option_map stands (option_map (λ e. e.0) test)) ≡ true

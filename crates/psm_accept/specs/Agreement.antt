@@ -3,7 +3,7 @@ use Rattle.std.specs.Prelude.{◌≡◌, IsTrue, List, [], ◌∷◌, filter, ma
 use Rattle.psm_value.specs.declared.sqltype.SqlType.{SqlType}
 use Rattle.psm_exprcode.specs.declared.op.Letter.{Letter}
 use Rattle.psm_exprcode.specs.declared.op.Letter.TheVariants.{N, T, B}
-use Rattle.psm_exprcode.specs.Kinds.{is_letter, is_value}
+use Rattle.psm_exprcode.specs.Kinds.{is_value}
 use Rattle.psm_exprcode.specs.WellFormed.{is_type}
 use Rattle.psm_scope.specs.Choice.{Signature, kind_of}
 use Rattle.psm_scope.specs.Frames.{Spelling, Declared, Frame, Routine, Compound, Loop, For, Action, declared_in}
@@ -34,6 +34,13 @@ abbrev pub Suits : Shape → Letter → Type 0
 Suits (Value t) k = k ≡ letter_in (family_of t.kind)
 Suits Untyped k = IsTrue (is_value k)
 Suits Condition k = k ≡ B
+
+-- one for one
+abbrev pub AllSuit : List Shape → List Letter → Type 0
+AllSuit [] [] = Unit {0}
+AllSuit [] (k ∷ ks) = ⊥
+AllSuit (s ∷ ss) [] = ⊥
+AllSuit (s ∷ ss) (k ∷ ks) = Suits s k × AllSuit ss ks
 
 -- ---- frames
 

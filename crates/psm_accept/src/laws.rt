@@ -1,5 +1,28 @@
-//! The laws of accepted files.
+//! The law of accepted expressions and queries.
+ghost use Rattle.std.specs.Prelude.{◌≡◌, IsTrue, List, None, Option, Some, map};
+ghost use Rattle.psm_value.specs.declared.sqltype.SqlType.{SqlType};
+ghost use Rattle.psm_exprcode.specs.declared.op.Letter.{Letter};
+ghost use Rattle.psm_scope.specs.Lookup.{RowTable};
+ghost use Rattle.psm_rules.specs.ExprFaults.{expr_found, items_of, query_fault, query_found};
+ghost use Rattle.psm_rules.specs.View.{View};
+ghost use Rattle.psm_rules.specs.declared.query.Item.{Item};
+ghost use Rattle.psm_rules.specs.declared.shape.Shape.{Shape};
+ghost use Rattle.psm_tree.specs.declared.expr.Expr.{Expr};
+ghost use Rattle.psm_tree.specs.declared.expr.Select.{Select};
+ghost use Rattle.psm_resolved.specs.Sort.{IsOfLetter};
+ghost use Rattle.psm_resolve_expr.specs.Exprs.{made_of, query_made};
+ghost use Rattle.psm_resolve_expr.specs.Sight.{Sight};
+ghost use Rattle.psm_sound.specs.Expressions.{IsExpr};
+ghost use Rattle.psm_sound.specs.Queries.{IsQuery};
+ghost use Rattle.psm_sound.specs.Scene.{Scene, letters_of, variables_of};
+ghost use Rattle.psm_accept.specs.Agreement.{Agree, AllSuit, HaveTypes, Suits};
+ghost use Rattle.psm_accept.specs.Stands.{as_source, select_stands, stands};
 
-/// To be stated.
+/// Where an expression or a query has no fault, what stands for it without names is sound: it has the shape that was found, and
+/// each letter that a value of this shape may have, outside of rows and on a row whose columns have known types. NULL has to stand
+/// in it where the grammar lets it stand, and its numbers have 18 decimals at most (ISO/IEC 9075:1992, clauses 6 to 8).
 pub fn accepted_expressions_are_sound()
+    ensures outside_of_rows { (e : Scene) (view : View) (sight : Sight) → Agree e view sight → sight.row ≡ None → (x : Expr) → IsTrue (as_source (stands x)) → (expr_found x view).fault ≡ None → ((expr_found x view).shape ≡ Some (made_of x sight).shape) × ((k : Letter) → Suits (made_of x sight).shape k → IsExpr e (made_of x sight).expr k) }
+    ensures on_rows { (e : Scene) (view : View) (sight : Sight) (row : RowTable (Option SqlType)) (types : List SqlType) → Agree e view sight → sight.row ≡ Some row → HaveTypes row.columns types → (x : Expr) → IsTrue (as_source (stands x)) → (expr_found x view).fault ≡ None → ((expr_found x view).shape ≡ Some (made_of x sight).shape) × ((k : Letter) → Suits (made_of x sight).shape k → IsOfLetter (letters_of types) (variables_of e) (made_of x sight).expr k) }
+    ensures queries { (e : Scene) (view : View) (sight : Sight) → Agree e view sight → (q : Select) → IsTrue (select_stands q) → query_fault (query_found q view) ≡ None → (items : List Item) × (items_of (query_found q view) ≡ Some items) × (map (λ i. i.shape) items ≡ map (λ s. Some s) (query_made q sight).shapes) × ((ks : List Letter) → AllSuit (query_made q sight).shapes ks → IsQuery e (query_made q sight).query ks) }
 {}
