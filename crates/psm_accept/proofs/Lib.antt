@@ -9,3 +9,4 @@ pub mod Queries
 pub mod Accepted
 pub mod Whole
 pub mod Clauses
+pub mod Spelled

@@ -1,6 +1,10 @@
 -- Where NULL stands in an expression, and the decimals of its numbers (ISO/IEC 9075:1992, 6.9 to 6.11).
 use Rattle.std.specs.Prelude.{Bool, true, false, ◌&&◌, List, [], ◌∷◌, nat_le, Option, Some, None}
 use Rattle.std.specs.List.{list_all}
+use Rattle.psm_token.specs.declared.token.Placed.{Placed}
+use Rattle.psm_token.specs.declared.token.Token.{Token}
+use Rattle.psm_token.specs.declared.token.Token.TheVariants as tokens
+use Rattle.psm_grammar.specs.Language.{Words}
 use Rattle.psm_tree.specs.declared.expr.Expr.{Expr}
 use Rattle.psm_tree.specs.declared.expr.Expr.TheOpen.{Expr-F, Pick-F, Link-F, Select-F, When-F}
 use Rattle.psm_tree.specs.declared.expr.Expr.TheOpen as layers
@@ -91,3 +95,13 @@ select_stands = fold-Select Standing Bool Bool Bool Bool stands_layer pick_stand
 
 abbrev pub when_stands : When → Bool
 when_stands = fold-When Standing Bool Bool Bool Bool stands_layer pick_stands_layer link_stands_layer select_stands_layer when_stands_layer
+
+-- ---- tokens
+
+-- each number has 18 decimals at most
+abbrev pub is_small : Token → Bool
+is_small (tokens.Number n) = nat_le n.scale 18
+is_small t = true
+
+abbrev pub are_small : Words Placed → Bool
+are_small w = list_all (λ t. is_small t.0.token) w

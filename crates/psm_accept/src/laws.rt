@@ -1,5 +1,10 @@
-//! The law of accepted expressions and queries.
-ghost use Rattle.std.specs.Prelude.{◌≡◌, IsTrue, List, None, Option, Some, map};
+//! The laws of accepted expressions and queries.
+ghost use Rattle.std.specs.Prelude.{◌≡◌, ℕ, IsTrue, List, None, Option, Some, map};
+ghost use Rattle.psm_token.specs.declared.token.Placed.{Placed};
+ghost use Rattle.psm_grammar.specs.Grammar.{Spells};
+ghost use Rattle.psm_grammar.specs.Language.{Words};
+ghost use Rattle.psm_tree.specs.ExprGrammar.{expr, select, source};
+ghost use Rattle.psm_tree.specs.Productions.{productions};
 ghost use Rattle.psm_value.specs.declared.sqltype.SqlType.{SqlType};
 ghost use Rattle.psm_exprcode.specs.declared.op.Letter.{Letter};
 ghost use Rattle.psm_scope.specs.Lookup.{RowTable};
@@ -16,7 +21,7 @@ ghost use Rattle.psm_sound.specs.Expressions.{IsExpr};
 ghost use Rattle.psm_sound.specs.Queries.{IsQuery};
 ghost use Rattle.psm_sound.specs.Scene.{Scene, letters_of, variables_of};
 ghost use Rattle.psm_accept.specs.Agreement.{Agree, AllSuit, HaveTypes, Suits};
-ghost use Rattle.psm_accept.specs.Stands.{as_source, select_stands, stands};
+ghost use Rattle.psm_accept.specs.Stands.{are_small, as_operand, as_source, select_stands, stands};
 
 /// Where an expression or a query has no fault, what stands for it without names is sound: it has the shape that was found, and
 /// each letter that a value of this shape may have, outside of rows and on a row whose columns have known types. NULL has to stand
@@ -25,4 +30,12 @@ pub fn accepted_expressions_are_sound()
     ensures outside_of_rows { (e : Scene) (view : View) (sight : Sight) → Agree e view sight → sight.row ≡ None → (x : Expr) → IsTrue (as_source (stands x)) → (expr_found x view).fault ≡ None → ((expr_found x view).shape ≡ Some (made_of x sight).shape) × ((k : Letter) → Suits (made_of x sight).shape k → IsExpr e (made_of x sight).expr k) }
     ensures on_rows { (e : Scene) (view : View) (sight : Sight) (row : RowTable (Option SqlType)) (types : List SqlType) → Agree e view sight → sight.row ≡ Some row → HaveTypes row.columns types → (x : Expr) → IsTrue (as_source (stands x)) → (expr_found x view).fault ≡ None → ((expr_found x view).shape ≡ Some (made_of x sight).shape) × ((k : Letter) → Suits (made_of x sight).shape k → IsOfLetter (letters_of types) (variables_of e) (made_of x sight).expr k) }
     ensures queries { (e : Scene) (view : View) (sight : Sight) → Agree e view sight → (q : Select) → IsTrue (select_stands q) → query_fault (query_found q view) ≡ None → (items : List Item) × (items_of (query_found q view) ≡ Some items) × (map (λ i. i.shape) items ≡ map (λ s. Some s) (query_made q sight).shapes) × ((ks : List Letter) → AllSuit (query_made q sight).shapes ks → IsQuery e (query_made q sight).query ks) }
+{}
+
+/// NULL stands in each expression and in each query that tokens spell only where it may stand, if each number among the tokens has
+/// 18 decimals at most (ISO/IEC 9075:1992, 6.11). It is itself no more than a source.
+pub fn null_stands_where_it_may()
+    ensures expressions { (depth : ℕ) (tokens : Words Placed) (x : Expr) → IsTrue (are_small tokens) → Spells productions depth expr tokens x → IsTrue (as_operand (stands x)) }
+    ensures sources { (depth : ℕ) (tokens : Words Placed) (x : Expr) → IsTrue (are_small tokens) → Spells productions depth source tokens x → IsTrue (as_source (stands x)) }
+    ensures queries { (depth : ℕ) (tokens : Words Placed) (q : Select) → IsTrue (are_small tokens) → Spells productions depth select tokens q → IsTrue (select_stands q) }
 {}
