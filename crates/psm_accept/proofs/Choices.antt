@@ -56,11 +56,11 @@ use Rattle.psm_accept.proofs.Parts.{AllResults, Clean, Good, IsMade, IsNullAlone
 use Rattle.psm_accept.proofs.Results.{Agrees, IsResultOf, SaneShape, letter_of_result, results-clean, results_value, scale_of_sane}
 use Rattle.psm_accept.proofs.Forms.{made_value, shape_some, type_good, typed_value}
 
-all_true : (a b : Bool) → a ≡ true → b ≡ true → (a && b) ≡ true
+pub all_true : (a b : Bool) → a ≡ true → b ≡ true → (a && b) ≡ true
 all_true true b h k = k
 all_true false b h k = absurd cc
 
-differ : true ≡ false → ⊥
+pub differ : true ≡ false → ⊥
 differ h = cc
 
 -- ---- types
@@ -173,7 +173,7 @@ result_shape e w f m r = ap shape_of r.found ∙ sym (source_shape e w m r.shape
 result_sane : (e : Scene) (w : Where) (f : Found) (m : Made) → IsResult e w f m → SaneShape (shape_of (as_value f))
 result_sane e w f m r = subst SaneShape (sym (ap shape_of r.found)) (source_sane e w m r.shape r.source)
 
-source_of : (e : Scene) (w : Where) (m : Made) (s : Shape) (family : Family) → IsSourceOf e w m s → Agrees family s → Source e w m.expr (letter_in family)
+pub source_of : (e : Scene) (w : Where) (m : Made) (s : Shape) (family : Family) → IsSourceOf e w m s → Agrees family s → Source e w m.expr (letter_in family)
 source_of e w m (Value t) family h g = subst (λ k. Source e w m.expr (letter_in k)) g (judged-source e w m.expr (letter_in (family_of t.kind)) h.judged)
 source_of e w m Untyped family h g = subst (λ x. Source e w x (letter_in family)) (sym h.1) (null-source e w (letter_in family) (value_of_family family))
 source_of e w m Condition family h g = absurd h

@@ -10,3 +10,4 @@ pub mod Accepted
 pub mod Whole
 pub mod Clauses
 pub mod Spelled
+pub mod Simples

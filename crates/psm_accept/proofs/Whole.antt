@@ -105,7 +105,7 @@ when_step x y is = subst (λ z. OfWhen (roll-When z)) is (λ e view sight w a f.
 
 -- ---- queries
 
-three_none : (a b c : Option Fault) → first_of (a ∷ b ∷ c ∷ []) ≡ None → (a ≡ None) × (b ≡ None) × (c ≡ None)
+pub three_none : (a b c : Option Fault) → first_of (a ∷ b ∷ c ∷ []) ≡ None → (a ≡ None) × (b ≡ None) × (c ≡ None)
 three_none a b c none =
     let first = neither a (first_of (b ∷ c ∷ [])) (sym (first_of_cons a (b ∷ c ∷ [])) ∙ none) in
     let second = neither b (first_of (c ∷ [])) (sym (first_of_cons b (c ∷ [])) ∙ first.1) in

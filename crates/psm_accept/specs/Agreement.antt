@@ -9,6 +9,7 @@ use Rattle.psm_scope.specs.Choice.{Signature, kind_of}
 use Rattle.psm_scope.specs.Frames.{Spelling, Declared, Frame, Routine, Compound, Loop, For, Action, declared_in}
 use Rattle.psm_scope.specs.Lookup.{RowTable}
 use Rattle.psm_scope.specs.declared.known.Variable.{Variable}
+use Rattle.psm_rules.specs.StatementFaults.{Within, InProcedure, InFunction}
 use Rattle.psm_rules.specs.View.{View, Columns}
 use Rattle.psm_rules.specs.declared.shape.Family.{Family}
 use Rattle.psm_rules.specs.declared.shape.Family.TheVariants.{Numbers, Texts}
@@ -109,3 +110,8 @@ pub record Agree (e : Scene) (view : View) (sight : Sight) : Type 0 where
 abbrev pub OnRow : Option (RowTable (Option SqlType)) → List SqlType → Type 0
 OnRow None types = ⊥
 OnRow (Some row) types = HaveTypes row.columns types
+
+-- RETURN stands in a function alone, which returns values of that type
+abbrev pub IsWithin : Within → Option SqlType → Type 0
+IsWithin InProcedure returned = Unit {0}
+IsWithin (InFunction result) returned = (t : SqlType) × (result ≡ Some t) × (returned ≡ Some t)

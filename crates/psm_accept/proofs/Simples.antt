@@ -1,0 +1,185 @@
+-- Simple statements without a fault are sound: sources, targets, and the statements that are made of them.
+use Rattle.std.proofs.Common.{◌≡◌, inl, inr, ℕ, zero, suc, ◌+◌, Bool, true, false, ◌&&◌, List, [], ◌∷◌, map, length, Option, Some, None, option_map, refl, ap, sym, ◌∙◌, subst, arith}
+use Rattle.std.specs.Prelude.{IfSome, IsTrue, if◌then◌else◌, is_none, is_some, nat_eq, not, slice_get}
+use Rattle.std.specs.List.{list_all}
+use Rattle.std.proofs.lemmas.Bool.Decides.{nat_tests}
+use Rattle.psm_list.specs.Several.{Several}
+use Rattle.psm_token.specs.declared.place.Place.{Place}
+use Rattle.psm_value.specs.declared.sqltype.SqlType.{SqlType}
+use Rattle.psm_value.specs.declared.sqltype.SqlType.TheVariants as types
+use Rattle.psm_exprcode.specs.declared.op.Letter.{Letter}
+use Rattle.psm_exprcode.specs.Kinds.{letter_of}
+use Rattle.psm_scope.specs.Lookup.{meant}
+use Rattle.psm_scope.specs.declared.known.Variable.{Variable}
+use Rattle.psm_rules.specs.declared.fault.Fault.{Fault}
+use Rattle.psm_rules.specs.declared.found.Found.{Found}
+use Rattle.psm_rules.specs.declared.query.Item.{Item}
+use Rattle.psm_rules.specs.declared.rule.Rule.TheVariants as rule
+use Rattle.psm_rules.specs.declared.shape.Family.{Family}
+use Rattle.psm_rules.specs.declared.shape.Shape.{Shape}
+use Rattle.psm_rules.specs.declared.shape.Shape.TheVariants.{Value, Untyped, Condition}
+use Rattle.psm_rules.specs.Faults.{breaks, breaks_if, earlier, first_of}
+use Rattle.psm_rules.specs.Found.{as_value, shape_of}
+use Rattle.psm_rules.specs.Shapes.{family_of, is_of, typed}
+use Rattle.psm_rules.specs.ExprFaults as faults
+use Rattle.psm_rules.specs.ExprFaults.{QueryFound, expr_found, items_of, query_fault, query_found, spelling}
+use Rattle.psm_rules.specs.StatementFaults.{Context, Within, InProcedure, InFunction, assigned_type, diagnostics_fault, family_due, into_fault, item_fault, items_into, mixed_at, number_fault, number_type_fault, return_fault, select_into_fault, set_fault, several, simple_fault, source_fault, target_fault, target_fault_of, target_type, targets_fault, variable_of}
+use Rattle.psm_rules.specs.View.{View}
+use Rattle.psm_rules.proofs.Earliest.{first_of_cons}
+use Rattle.psm_tree.specs.Names.{Targets}
+use Rattle.psm_tree.specs.declared.name.Target.{Target}
+use Rattle.psm_tree.specs.declared.expr.Expr.{Expr}
+use Rattle.psm_tree.specs.declared.expr.Select.{Select}
+use Rattle.psm_tree.specs.declared.statement.ConditionNumber.{ConditionNumber}
+use Rattle.psm_tree.specs.declared.statement.ConditionNumber.TheVariants as numbers
+use Rattle.psm_tree.specs.declared.statement.Diagnostics.{Diagnostics}
+use Rattle.psm_tree.specs.declared.statement.Diagnostics.TheVariants as diagnostics
+use Rattle.psm_resolved.specs.declared.expr.ResolvedExpr.{ResolvedExpr}
+use Rattle.psm_resolve_expr.specs.declared.made.Made.{Made}
+use Rattle.psm_resolve_expr.specs.declared.made.MadeQuery.{MadeQuery}
+use Rattle.psm_resolve_expr.specs.Exprs.{made_of, query_made}
+use Rattle.psm_resolve_expr.specs.Sight.{Sight}
+use Rattle.psm_resolve.specs.Statements as making
+use Rattle.psm_resolve.specs.Statements.{expr_at, slot_of, slots_of}
+use Rattle.psm_sound.specs.Expressions.{IsExpr}
+use Rattle.psm_sound.specs.Queries.{IsQuery}
+use Rattle.psm_sound.specs.Scene.{Each, IsThere, Scene}
+use Rattle.psm_sound.specs.Statements.{AreDiagnostics, IsFor, IsNumber, IsSlot}
+use Rattle.psm_accept.specs.Agreement.{Agree, HasSlot, IsWithin, letter_in}
+use Rattle.psm_accept.specs.Stands.{Standing, as_source, select_stands, stands}
+use Rattle.psm_accept.proofs.Names.{meant_alike, meant_each}
+use Rattle.psm_accept.proofs.Judging.{Source, Where, Control}
+use Rattle.psm_accept.proofs.Parts.{IsResult, IsSourceOf, IsValue, Part, as_value-clean, neither, result, same_family}
+use Rattle.psm_accept.proofs.Results.{Agrees}
+use Rattle.psm_accept.proofs.Choices.{source_of}
+use Rattle.psm_accept.proofs.Queries.{IsQueryMade, ItemsAre}
+use Rattle.psm_accept.proofs.Accepted.{Fits}
+use Rattle.psm_accept.proofs.Whole.{expr_accepted, query_accepted, three_none}
+
+-- ---- sources
+
+typed_letter : (t : SqlType) → letter_in (family_of (typed t).kind) ≡ letter_of t
+typed_letter types.SmallInt = refl
+typed_letter types.Integer = refl
+typed_letter (types.Numeric p s) = refl
+typed_letter (types.Char n) = refl
+typed_letter (types.VarChar n) = refl
+
+mixed_by : (place : Place) (family : Family) (s : Shape) (b : Bool) → is_of family s ≡ b → breaks_if (not b) rule.FamiliesMixed place ≡ None → is_of family s ≡ true
+mixed_by place family s true is none = is
+mixed_by place family s false is none = absurd cc
+
+agrees_by : (e : Scene) (w : Where) (m : Made) (family : Family) (s : Shape) → IsSourceOf e w m s → is_of family s ≡ true → Agrees family s
+agrees_by e w m family (Value t) h of = same_family family (family_of t.kind) of
+agrees_by e w m family Untyped h of = tt
+agrees_by e w m family Condition h of = absurd h
+
+-- a source for what has a type comes to a value of its letter
+pub source_by : (e : Scene) (w : Where) (standing : Standing) (f : Found) (m : Made) (to : SqlType) → Part e w standing f m → IsTrue (as_source standing) → source_fault (Some to) f ≡ None → Source e w m.expr (letter_of to)
+source_by e w standing f m to part well none =
+    let family : Family = family_of (typed to).kind in
+    let parts = neither (as_value f).fault (mixed_at (as_value f).place (Some family) (as_value f).shape) none in
+    let r : IsResult e w f m = result e w standing f m part well (as_value-clean f (part well).clean parts.0) in
+    let mixed : mixed_at (as_value f).place (Some family) (Some r.shape) ≡ None = ap (λ o. mixed_at (as_value f).place (Some family) o) (sym (ap (λ g. g.shape) r.found)) ∙ parts.1 in
+    let of : is_of family r.shape ≡ true = mixed_by (as_value f).place family r.shape (is_of family r.shape) refl mixed in
+    subst (Source e w m.expr) (typed_letter to) (source_of e w m r.shape family r.source (agrees_by e w m family r.shape r.source of))
+
+-- the same outside of rows, where the type is that of a declaration
+pub source_for : (e : Scene) (view : View) (sight : Sight) → Agree e view sight → sight.row ≡ None → (x : Expr) → IsTrue (as_source (stands x)) → (o : Option SqlType) (to : SqlType) → o ≡ Some to → source_fault o (expr_found x view) ≡ None
+    → IsExpr e (expr_at sight x) (letter_of to)
+source_for e view sight a r x well o to is none =
+    source_by e Control (stands x) (expr_found x view) (made_of x sight) to (expr_accepted x e view sight Control a (subst (Fits Control) (sym r) tt)) well (ap (λ o. source_fault o (expr_found x view)) (sym is) ∙ none)
+
+-- ---- targets
+
+-- the slot of a target has the type that is due
+pub record IsTarget (e : Scene) (view : View) (sight : Sight) (t : Target) : Type 0 where
+  pub type : SqlType
+  pub there : slice_get e.routine.slots (slot_of sight.frames t) ≡ Some type
+  pub due : target_type view.frames t ≡ Some type
+
+abbrev kind_in : Variable → Option SqlType
+kind_in v = v.kind
+
+record IsAssigned (slots : List SqlType) (x y : Option Variable) : Type 0 where
+  type : SqlType
+  there : slice_get slots (making.slot_in y) ≡ Some type
+  due : assigned_type x ≡ Some type
+
+kind_same : (u v : Variable) → ◌≡◌ {A = Option (Option SqlType)} (Some u.kind) (Some v.kind) → u.kind ≡ v.kind
+kind_same u v h = cc
+
+assigned_by : (b : Bool) (place : Place) (k : Option SqlType) → breaks_if (not b) rule.NotAssignable place ≡ None → (if b then k else None) ≡ k
+assigned_by true place k none = refl
+assigned_by false place k none = absurd cc
+
+assigned : (slots : List SqlType) (place : Place) (x y : Option Variable) → option_map kind_in x ≡ option_map kind_in y → IfSome y (HasSlot slots) → target_fault_of place x ≡ None → IsAssigned slots x y
+assigned slots place None y same h none = absurd cc
+assigned slots place (Some u) None same h none = absurd cc
+assigned slots place (Some u) (Some v) same h none = record { type = h.type; there = h.there; due = assigned_by u.assignable place u.kind none ∙ kind_same u v same ∙ h.declared }
+
+pub target_is : (e : Scene) (view : View) (sight : Sight) → Agree e view sight → (t : Target) → target_fault view.frames t ≡ None → IsTarget e view sight t
+target_is e view sight a t none =
+    let n = assigned e.routine.slots t.first.place (meant t.first.name (spelling t.second) view.frames) (meant t.first.name (spelling t.second) sight.frames)
+        (meant_alike t.first.name (spelling t.second) view.frames sight.frames a.frames) (meant_each e.routine.slots t.first.name (spelling t.second) sight.frames a.slots) none in
+    record { type = n.type; there = n.there; due = n.due }
+
+there_is : {A : Type 0} (o : Option A) (a : A) → o ≡ Some a → IsThere o
+there_is None a h = absurd cc
+there_is (Some b) a h = tt
+
+pub target_slot : (e : Scene) (view : View) (sight : Sight) → Agree e view sight → (t : Target) → target_fault view.frames t ≡ None → IsSlot e (slot_of sight.frames t)
+target_slot e view sight a t none = let i = target_is e view sight a t none in there_is (slice_get e.routine.slots (slot_of sight.frames t)) i.type i.there
+
+pub targets_slots : (e : Scene) (view : View) (sight : Sight) → Agree e view sight → (ts : List Target) → targets_fault view.frames ts ≡ None → Each (IsSlot e) (slots_of sight.frames ts)
+targets_slots e view sight a [] none = tt
+targets_slots e view sight a (t ∷ ts) none =
+    let parts = neither (target_fault view.frames t) (targets_fault view.frames ts) (sym (first_of_cons (target_fault view.frames t) (map (target_fault view.frames) ts)) ∙ none) in
+    (target_slot e view sight a t parts.0, targets_slots e view sight a ts parts.1)
+
+-- ---- SET and RETURN
+
+pub set_sound : (e : Scene) (view : View) (sight : Sight) → Agree e view sight → sight.row ≡ None → (t : Target) (x : Expr) → IsTrue (as_source (stands x)) → set_fault view t x ≡ None → IsFor e (slot_of sight.frames t) (expr_at sight x)
+set_sound e view sight a r t x well none =
+    let parts = neither (target_fault view.frames t) (source_fault (target_type view.frames t) (expr_found x view)) none in
+    let i : IsTarget e view sight t = target_is e view sight a t parts.0 in
+    record { type = i.type; there = i.there; source = source_for e view sight a r x well (target_type view.frames t) i.type i.due parts.1 }
+
+pub return_sound : (e : Scene) (c : Context) (sight : Sight) → Agree e c.view sight → sight.row ≡ None → (within : Within) → IsWithin within e.routine.returns → (place : Place) (x : Expr) → IsTrue (as_source (stands x)) → return_fault c within place x ≡ None
+    → (t : SqlType) × (e.routine.returns ≡ Some t) × IsExpr e (expr_at sight x) (letter_of t)
+return_sound e c sight a r InProcedure i place x well none = absurd cc
+return_sound e c sight a r (InFunction result) i place x well none = (i.0, i.2, source_for e c.view sight a r x well result i.0 i.1 none)
+
+-- ---- SELECT INTO
+
+items_many : (is : List Item) (ss : List Shape) (ks : List Letter) → ItemsAre is ss ks → length is ≡ length ks
+items_many [] [] [] h = refl
+items_many [] [] (k ∷ ks) h = absurd h
+items_many [] (s ∷ ss) ks h = absurd h
+items_many (i ∷ is) [] ks h = absurd h
+items_many (i ∷ is) (s ∷ ss) [] h = absurd h
+items_many (i ∷ is) (s ∷ ss) (k ∷ ks) h = ap suc (items_many is ss ks h.1)
+
+mapped_many : {A B : Type 0} (f : A → B) (xs : List A) → length (map f xs) ≡ length xs
+mapped_many f [] = refl
+mapped_many f (x ∷ xs) = ap suc (mapped_many f xs)
+
+same_count : (n m : ℕ) → nat_eq n m ≡ true → n ≡ m
+same_count n m h = grind (arith, nat_tests, h)
+
+counted_into : (n : ℕ) (items : Option (List Item)) (kinds : List (Option SqlType)) (place : Place) (b : Bool) → faults.may_be n items ≡ b → (if b then items_into items kinds else breaks rule.CountsDiffer place) ≡ None → faults.may_be n items ≡ true
+counted_into n items kinds place true is none = is
+counted_into n items kinds place false is none = absurd cc
+
+pub select_into_sound : (e : Scene) (view : View) (sight : Sight) → Agree e view sight → (q : Select) (ts : Targets) → IsTrue (select_stands q) → select_into_fault view (query_found q view) ts ≡ None
+    → (ks : List Letter) × IsQuery e (query_made q sight).query ks × (length (slots_of sight.frames (several ts)) ≡ length ks) × Each (IsSlot e) (slots_of sight.frames (several ts))
+select_into_sound e view sight a q ts well none =
+    let f : QueryFound = query_found q view in
+    let kinds : List (Option SqlType) = map (target_type view.frames) (several ts) in
+    let parts = three_none (query_fault f) (targets_fault view.frames (several ts)) (into_fault f ts.first.first.place kinds) none in
+    let g = query_accepted q e view sight a well parts.0 in
+    let may : faults.may_be (length kinds) (items_of f) ≡ true = counted_into (length kinds) (items_of f) kinds ts.first.first.place (faults.may_be (length kinds) (items_of f)) refl parts.2 in
+    let many : length g.0 ≡ length kinds = same_count (length g.0) (length kinds) (ap (faults.may_be (length kinds)) (sym g.1) ∙ may) in
+    let all : length (slots_of sight.frames (several ts)) ≡ length g.2.letters =
+        mapped_many (slot_of sight.frames) (several ts) ∙ sym (mapped_many (target_type view.frames) (several ts)) ∙ sym many ∙ items_many g.0 (query_made q sight).shapes g.2.letters g.2.shapes in
+    (g.2.letters, g.2.sound, all, targets_slots e view sight a (several ts) parts.1)
