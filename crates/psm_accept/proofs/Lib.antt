@@ -11,3 +11,5 @@ pub mod Whole
 pub mod Clauses
 pub mod Spelled
 pub mod Simples
+pub mod Naming
+pub mod Changing

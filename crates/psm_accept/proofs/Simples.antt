@@ -124,7 +124,7 @@ target_is e view sight a t none =
         (meant_alike t.first.name (spelling t.second) view.frames sight.frames a.frames) (meant_each e.routine.slots t.first.name (spelling t.second) sight.frames a.slots) none in
     record { type = n.type; there = n.there; due = n.due }
 
-there_is : {A : Type 0} (o : Option A) (a : A) → o ≡ Some a → IsThere o
+pub there_is : {A : Type 0} (o : Option A) (a : A) → o ≡ Some a → IsThere o
 there_is None a h = absurd cc
 there_is (Some b) a h = tt
 
@@ -152,7 +152,7 @@ return_sound e c sight a r (InFunction result) i place x well none = (i.0, i.2, 
 
 -- ---- SELECT INTO
 
-items_many : (is : List Item) (ss : List Shape) (ks : List Letter) → ItemsAre is ss ks → length is ≡ length ks
+pub items_many : (is : List Item) (ss : List Shape) (ks : List Letter) → ItemsAre is ss ks → length is ≡ length ks
 items_many [] [] [] h = refl
 items_many [] [] (k ∷ ks) h = absurd h
 items_many [] (s ∷ ss) ks h = absurd h
@@ -160,14 +160,14 @@ items_many (i ∷ is) [] ks h = absurd h
 items_many (i ∷ is) (s ∷ ss) [] h = absurd h
 items_many (i ∷ is) (s ∷ ss) (k ∷ ks) h = ap suc (items_many is ss ks h.1)
 
-mapped_many : {A B : Type 0} (f : A → B) (xs : List A) → length (map f xs) ≡ length xs
+pub mapped_many : {A B : Type 0} (f : A → B) (xs : List A) → length (map f xs) ≡ length xs
 mapped_many f [] = refl
 mapped_many f (x ∷ xs) = ap suc (mapped_many f xs)
 
-same_count : (n m : ℕ) → nat_eq n m ≡ true → n ≡ m
+pub same_count : (n m : ℕ) → nat_eq n m ≡ true → n ≡ m
 same_count n m h = grind (arith, nat_tests, h)
 
-counted_into : (n : ℕ) (items : Option (List Item)) (kinds : List (Option SqlType)) (place : Place) (b : Bool) → faults.may_be n items ≡ b → (if b then items_into items kinds else breaks rule.CountsDiffer place) ≡ None → faults.may_be n items ≡ true
+pub counted_into : (n : ℕ) (items : Option (List Item)) (kinds : List (Option SqlType)) (place : Place) (b : Bool) → faults.may_be n items ≡ b → (if b then items_into items kinds else breaks rule.CountsDiffer place) ≡ None → faults.may_be n items ≡ true
 counted_into n items kinds place true is none = is
 counted_into n items kinds place false is none = absurd cc
 
