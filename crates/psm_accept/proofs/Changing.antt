@@ -89,7 +89,7 @@ known_table e view sight a table none =
 -- ---- the rows that are changed
 
 -- what a statement sees on a row of its table
-agree_on : (e : Scene) (view : View) (sight : Sight) → Agree e view sight → (table : Identifier) → (k : IsKnownTable e view sight table) → Agree e (on_table view table (table_named view table.name)) (making.on_table sight table)
+pub agree_on : (e : Scene) (view : View) (sight : Sight) → Agree e view sight → (table : Identifier) → (k : IsKnownTable e view sight table) → Agree e (on_table view table (table_named view table.name)) (making.on_table sight table)
 agree_on e view sight a table k = record {
   tables = a.tables;
   functions = a.functions;
@@ -100,7 +100,7 @@ agree_on e view sight a table k = record {
   slots = a.slots;
 }
 
-fits_on : (e : Scene) (view : View) (sight : Sight) (table : Identifier) → (k : IsKnownTable e view sight table) → Fits (OnRow (kinds_of k.there.definition.columns)) (making.on_table sight table).row
+pub fits_on : (e : Scene) (view : View) (sight : Sight) (table : Identifier) → (k : IsKnownTable e view sight table) → Fits (OnRow (kinds_of k.there.definition.columns)) (making.on_table sight table).row
 fits_on e view sight table k = subst (λ cs. HaveTypes cs (kinds_of k.there.definition.columns)) (sym k.seen) k.types
 
 -- the condition of WHERE stands where a condition may

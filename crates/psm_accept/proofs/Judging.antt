@@ -123,12 +123,12 @@ pub text-judged : (e : Scene) (w : Where) (t : List ℕ) → Judged e w (exprs.T
 text-judged e Control t = typed.text t (exprs.outs-Text t)
 text-judged e (OnRow types) t = sort-Text (letters_of types) (variables_of e) t
 
-letter_there : (ts : List SqlType) (i : ℕ) (t : SqlType) → slice_get ts i ≡ Some t → slice_get (letters_of ts) i ≡ Some (letter_of t)
+pub letter_there : (ts : List SqlType) (i : ℕ) (t : SqlType) → slice_get ts i ≡ Some t → slice_get (letters_of ts) i ≡ Some (letter_of t)
 letter_there [] i t h = absurd cc
 letter_there (u ∷ ts) zero t h = ap (option_map letter_of) h
 letter_there (u ∷ ts) (suc i) t h = letter_there ts i t h
 
-value_letter : (t : SqlType) → is_value (letter_of t) ≡ true
+pub value_letter : (t : SqlType) → is_value (letter_of t) ≡ true
 value_letter types.SmallInt = refl
 value_letter types.Integer = refl
 value_letter (types.Numeric p s) = refl

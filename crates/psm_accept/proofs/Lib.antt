@@ -13,3 +13,4 @@ pub mod Spelled
 pub mod Simples
 pub mod Naming
 pub mod Changing
+pub mod Updating
