@@ -50,6 +50,7 @@ use Rattle.psm_sound.specs.Statements as places
 use Rattle.psm_sound.specs.Statements.{AreRowsFor, IsRowFor, IsSeen, IsWhere}
 use Rattle.psm_accept.specs.Agreement.{Agree, HaveTypes, letter_in}
 use Rattle.psm_accept.specs.Meant.{IsCursorMeant, Meant}
+use Rattle.psm_accept.specs.Simples.{InsertStands, WhichStands}
 use Rattle.psm_accept.specs.Stands.{Standing, as_operand, as_source, select_stands, stands}
 use Rattle.psm_accept.proofs.Judging.{Control, OnRow, Source, Where, goes_as_sort, judged-source, null-source, sort_at}
 use Rattle.psm_accept.proofs.Parts.{IsResult, IsSourceOf, Part, as_condition-clean, as_value-clean, neither, operand_source, result, tested, value_of_family}
@@ -102,12 +103,6 @@ agree_on e view sight a table k = record {
 
 pub fits_on : (e : Scene) (view : View) (sight : Sight) (table : Identifier) → (k : IsKnownTable e view sight table) → Fits (OnRow (kinds_of k.there.definition.columns)) (making.on_table sight table).row
 fits_on e view sight table k = subst (λ cs. HaveTypes cs (kinds_of k.there.definition.columns)) (sym k.seen) k.types
-
--- the condition of WHERE stands where a condition may
-abbrev pub WhichStands : Option Which → Type 0
-WhichStands None = Unit {0}
-WhichStands (Some (wheres.Condition x)) = IsTrue (as_operand (stands x))
-WhichStands (Some (wheres.Current n)) = Unit {0}
 
 positioned_by : (e : Scene) (s : places.Sight) (table n : Identifier) (known : Option Cursor) (number : ℕ) → IsCursorMeant e s known number → positioned_fault table n known ≡ None → IsSeen s number
 positioned_by e s table n None number m none = absurd cc
@@ -203,10 +198,6 @@ rows_sound e view sight a r columns kinds many (row ∷ rows) well none =
     (row_sound e view sight a r columns kinds many row well.0 parts.0, rows_sound e view sight a r columns kinds many rows well.1 parts.1)
 
 -- ---- INSERT
-
-abbrev pub InsertStands : InsertSource → Type 0
-InsertStands (sources.Values rows) = Each (λ row. AllSource (several row.values)) (several rows)
-InsertStands (sources.Query q) = IsTrue (select_stands q)
 
 query_counted : (f : QueryFound) (kinds : List (Option SqlType)) (b : Bool) → faults.may_be (length kinds) (items_of f) ≡ b → (if b then earlier (query_fault f) (items_into (items_of f) kinds) else faults.miscounted_fault f) ≡ None
     → (faults.may_be (length kinds) (items_of f) ≡ true) × (query_fault f ≡ None)

@@ -14,3 +14,4 @@ pub mod Simples
 pub mod Naming
 pub mod Changing
 pub mod Updating
+pub mod Statements

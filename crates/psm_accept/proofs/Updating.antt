@@ -31,13 +31,14 @@ use Rattle.psm_sound.specs.Statements as places
 use Rattle.psm_sound.specs.Statements.{IsChange, IsWhere}
 use Rattle.psm_accept.specs.Agreement.{Agree, HaveTypes}
 use Rattle.psm_accept.specs.Meant.{Meant}
+use Rattle.psm_accept.specs.Simples.{AssignmentsStand, WhichStands}
 use Rattle.psm_accept.specs.Stands.{as_source, stands}
 use Rattle.psm_accept.proofs.Names.{IsColumn, columns_placed}
 use Rattle.psm_accept.proofs.Judging.{OnRow, letter_there, value_letter}
 use Rattle.psm_accept.proofs.Parts.{neither}
 use Rattle.psm_accept.proofs.Queries.{named_placed}
 use Rattle.psm_accept.proofs.Simples.{source_by}
-use Rattle.psm_accept.proofs.Changing.{IsKnownTable, WhichStands, agree_on, fits_on, known_table, where_sound}
+use Rattle.psm_accept.proofs.Changing.{IsKnownTable, agree_on, fits_on, known_table, where_sound}
 use Rattle.psm_accept.proofs.Whole.{expr_accepted, three_none}
 
 -- a column that is there, with its type
@@ -61,9 +62,6 @@ column_by cs kinds n (Some p) is h none =
 
 column_there : (cs : Columns) (kinds : List SqlType) (n : Identifier) → HaveTypes cs kinds → column_fault (Some cs) n ≡ None → IsThereAs cs kinds n
 column_there cs kinds n h none = column_by cs kinds n (place_named 0 n.name cs) refl (columns_placed n.name 0 cs kinds h) (ap (λ o. breaks_if (not (is_some o)) rule.UnknownColumn n.place) (sym (named_placed n.name 0 cs)) ∙ none)
-
-abbrev pub AssignmentsStand : List Assignment → Type 0
-AssignmentsStand xs = Each (λ a. IsTrue (as_source (stands a.source))) xs
 
 change_sound : (e : Scene) (view : View) (sight : Sight) → Agree e view sight → (table : Identifier) (k : IsKnownTable e view sight table) (x : Assignment) → IsTrue (as_source (stands x.source))
     → column_fault (Some k.columns) x.column ≡ None → assignment_fault (on_table view table (table_named view table.name)) (columns_known (table_named view table.name)) x ≡ None

@@ -1,3 +1,4 @@
 pub mod Stands
 pub mod Agreement
 pub mod Meant
+pub mod Simples

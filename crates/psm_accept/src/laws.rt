@@ -1,4 +1,4 @@
-//! The laws of accepted expressions and queries.
+//! The laws of accepted expressions, queries and simple statements.
 ghost use Rattle.std.specs.Prelude.{◌≡◌, ℕ, IsTrue, List, None, Option, Some, map};
 ghost use Rattle.psm_token.specs.declared.token.Placed.{Placed};
 ghost use Rattle.psm_grammar.specs.Grammar.{Spells};
@@ -9,18 +9,24 @@ ghost use Rattle.psm_value.specs.declared.sqltype.SqlType.{SqlType};
 ghost use Rattle.psm_exprcode.specs.declared.op.Letter.{Letter};
 ghost use Rattle.psm_scope.specs.Lookup.{RowTable};
 ghost use Rattle.psm_rules.specs.ExprFaults.{expr_found, items_of, query_fault, query_found};
+ghost use Rattle.psm_rules.specs.StatementFaults.{Context, simple_fault};
 ghost use Rattle.psm_rules.specs.View.{View};
 ghost use Rattle.psm_rules.specs.declared.query.Item.{Item};
 ghost use Rattle.psm_rules.specs.declared.shape.Shape.{Shape};
 ghost use Rattle.psm_tree.specs.declared.expr.Expr.{Expr};
 ghost use Rattle.psm_tree.specs.declared.expr.Select.{Select};
+ghost use Rattle.psm_tree.specs.declared.statement.Simple.{Simple};
 ghost use Rattle.psm_resolved.specs.Sort.{IsOfLetter};
 ghost use Rattle.psm_resolve_expr.specs.Exprs.{made_of, query_made};
 ghost use Rattle.psm_resolve_expr.specs.Sight.{Sight};
+ghost use Rattle.psm_resolve.specs.Statements.{simple_of};
 ghost use Rattle.psm_sound.specs.Expressions.{IsExpr};
 ghost use Rattle.psm_sound.specs.Queries.{IsQuery};
 ghost use Rattle.psm_sound.specs.Scene.{Scene, letters_of, variables_of};
-ghost use Rattle.psm_accept.specs.Agreement.{Agree, AllSuit, HaveTypes, Suits};
+ghost use Rattle.psm_sound.specs.Statements.{IsSimple, Sight as Place};
+ghost use Rattle.psm_accept.specs.Agreement.{Agree, AllSuit, HaveTypes, IsWithin, Suits};
+ghost use Rattle.psm_accept.specs.Meant.{Meant};
+ghost use Rattle.psm_accept.specs.Simples.{IsNoCall, SimpleStands};
 ghost use Rattle.psm_accept.specs.Stands.{are_small, as_operand, as_source, select_stands, stands};
 
 /// Where an expression or a query has no fault, what stands for it without names is sound: it has the shape that was found, and
@@ -38,4 +44,10 @@ pub fn null_stands_where_it_may()
     ensures expressions { (depth : ℕ) (tokens : Words Placed) (x : Expr) → IsTrue (are_small tokens) → Spells productions depth expr tokens x → IsTrue (as_operand (stands x)) }
     ensures sources { (depth : ℕ) (tokens : Words Placed) (x : Expr) → IsTrue (are_small tokens) → Spells productions depth source tokens x → IsTrue (as_source (stands x)) }
     ensures queries { (depth : ℕ) (tokens : Words Placed) (q : Select) → IsTrue (are_small tokens) → Spells productions depth select tokens q → IsTrue (select_stands q) }
+{}
+
+/// Where a simple statement other than CALL has no fault, what stands for it without names is sound (ISO/IEC 9075-4:1996), at a place
+/// where the checker and the scene mean the same by names.
+pub fn accepted_simple_statements_are_sound()
+    ensures { (e : Scene) (s : Place) (c : Context) (sight : Sight) → Agree e c.view sight → Meant e s c.view sight → sight.row ≡ None → IsWithin c.within e.routine.returns → (x : Simple) → IsNoCall x → SimpleStands x → simple_fault c x ≡ None → IsSimple e s (simple_of sight x) }
 {}
