@@ -1,34 +1,28 @@
 -- INSERT and DELETE without a fault are sound, and so are the searched and the positioned rows of a table.
-use Rattle.std.proofs.Common.{◌≡◌, ℕ, zero, suc, ◌+◌, Bool, true, false, ◌&&◌, List, [], ◌∷◌, map, length, Option, Some, None, option_map, refl, ap, sym, ◌∙◌, subst, arith}
-use Rattle.std.specs.Prelude.{IfSome, IsTrue, if◌then◌else◌, is_none, is_some, nat_eq, not, slice_get}
-use Rattle.std.specs.List.{list_all}
-use Rattle.psm_list.specs.Several.{Several}
+use Rattle.std.proofs.Common.{◌≡◌, ℕ, suc, Bool, true, false, List, [], ◌∷◌, map, length, Option, Some, None, option_map, refl, ap, sym, ◌∙◌, subst, arith}
+use Rattle.std.specs.Prelude.{IfSome, IsTrue, if◌then◌else◌, nat_eq, slice_get}
 use Rattle.psm_token.specs.declared.place.Place.{Place}
 use Rattle.psm_value.specs.declared.sqltype.SqlType.{SqlType}
 use Rattle.psm_exprcode.specs.declared.op.Letter.{Letter}
 use Rattle.psm_exprcode.specs.declared.op.Letter.TheVariants.{N, B}
 use Rattle.psm_exprcode.specs.Kinds.{is_value}
-use Rattle.psm_scope.proofs.Calls.{both}
-use Rattle.psm_scope.specs.Frames.{Spelling, is_spelled}
 use Rattle.psm_scope.specs.Lookup.{named}
 use Rattle.psm_rules.specs.declared.fault.Fault.{Fault}
 use Rattle.psm_rules.specs.declared.found.Found.{Found}
-use Rattle.psm_rules.specs.declared.query.Item.{Item}
 use Rattle.psm_rules.specs.declared.rule.Rule.TheVariants as rule
 use Rattle.psm_rules.specs.declared.shape.Shape.{Shape}
 use Rattle.psm_rules.specs.declared.shape.Shape.TheVariants.{Value, Untyped, Condition}
-use Rattle.psm_rules.specs.Faults.{breaks, breaks_if, earlier, first_of}
-use Rattle.psm_rules.specs.Found.{as_condition, as_value}
+use Rattle.psm_rules.specs.Faults.{breaks, earlier, first_of}
+use Rattle.psm_rules.specs.Found.{as_value}
 use Rattle.psm_rules.specs.Shapes.{family_of}
 use Rattle.psm_rules.specs.ExprFaults as faults
 use Rattle.psm_rules.specs.ExprFaults.{QueryFound, columns_known, expr_found, items_of, query_fault, query_found, table_fault}
-use Rattle.psm_rules.specs.StatementFaults.{columns_fault, cursor_of, delete_fault, family_due, found, insert_fault, insert_source_fault, inserted_types, items_into, listed_columns, mixed_at, on_table, positioned_fault, query_for, row_fault, several, source_fault, sources_fault, type_of_column, values_for, where_fault}
+use Rattle.psm_rules.specs.StatementFaults.{columns_fault, cursor_of, delete_fault, family_due, found, insert_fault, insert_source_fault, inserted_types, items_into, listed_columns, mixed_at, on_table, positioned_fault, row_fault, several, source_fault, sources_fault, type_of_column, where_fault}
 use Rattle.psm_rules.specs.View.{Columns, Cursor, View, table_named}
 use Rattle.psm_rules.proofs.Earliest.{first_of_cons}
 use Rattle.psm_tree.specs.Names.{Names}
 use Rattle.psm_tree.specs.declared.name.Identifier.{Identifier}
 use Rattle.psm_tree.specs.declared.expr.Expr.{Expr}
-use Rattle.psm_tree.specs.declared.expr.Select.{Select}
 use Rattle.psm_tree.specs.declared.statement.InsertSource.{InsertSource}
 use Rattle.psm_tree.specs.declared.statement.InsertSource.TheVariants as sources
 use Rattle.psm_tree.specs.declared.statement.Values.{Values}
@@ -44,19 +38,18 @@ use Rattle.psm_resolve.specs.Statements as making
 use Rattle.psm_resolve.specs.Statements.{all_places, column_of, expr_at, inserted, row_of, rows_of, which_in}
 use Rattle.psm_sound.specs.Expressions.{AreExprs, IsExpr}
 use Rattle.psm_sound.specs.Expressions as typed_expr
-use Rattle.psm_sound.specs.Queries.{IsQuery}
-use Rattle.psm_sound.specs.Scene.{Each, Scene, columns_of, letters_of, variables_of}
+use Rattle.psm_sound.specs.Scene.{Each, Scene}
 use Rattle.psm_sound.specs.Statements as places
 use Rattle.psm_sound.specs.Statements.{AreRowsFor, IsRowFor, IsSeen, IsWhere}
 use Rattle.psm_accept.specs.Agreement.{Agree, HaveTypes, letter_in}
 use Rattle.psm_accept.specs.Meant.{IsCursorMeant, Meant}
 use Rattle.psm_accept.specs.Simples.{InsertStands, WhichStands}
-use Rattle.psm_accept.specs.Stands.{Standing, as_operand, as_source, select_stands, stands}
-use Rattle.psm_accept.proofs.Judging.{Control, OnRow, Source, Where, goes_as_sort, judged-source, null-source, sort_at}
+use Rattle.psm_accept.specs.Stands.{as_source, stands}
+use Rattle.psm_accept.proofs.Judging.{Control, OnRow, goes_as_sort, null-source, sort_at}
 use Rattle.psm_accept.proofs.Parts.{IsResult, IsSourceOf, Part, as_condition-clean, as_value-clean, neither, operand_source, result, tested, value_of_family}
 use Rattle.psm_accept.proofs.Queries.{IsTable, named_placed, tables_placed}
 use Rattle.psm_accept.proofs.Accepted.{Fits}
-use Rattle.psm_accept.proofs.Simples.{counted_into, items_many, mapped_many, same_count}
+use Rattle.psm_accept.proofs.Simples.{items_many, mapped_many, same_count}
 use Rattle.psm_accept.proofs.Whole.{expr_accepted, query_accepted, three_none}
 
 -- ---- the table of a statement
@@ -74,13 +67,13 @@ known_by : (e : Scene) (view : View) (sight : Sight) (table : Identifier) (here 
 known_by e view sight table None is known h none = absurd cc
 known_by e view sight table (Some p) is known h none =
     let from : h.place ≡ p.0 = omega (arith, h.from) in record {
-  columns = p.1;
-  known = known;
-  seen = ap columns_in is;
-  there = h.table;
-  at = ap (λ here. slice_get e.file.tables (number_of here)) is ∙ subst (λ i. slice_get e.file.tables i ≡ Some h.table) from h.there;
-  types = h.types;
-}
+      columns = p.1;
+      known = known;
+      seen = ap columns_in is;
+      there = h.table;
+      at = ap (λ here. slice_get e.file.tables (number_of here)) is ∙ subst (λ i. slice_get e.file.tables i ≡ Some h.table) from h.there;
+      types = h.types;
+    }
 
 pub known_table : (e : Scene) (view : View) (sight : Sight) → Agree e view sight → (table : Identifier) → table_fault table (table_named view table.name) ≡ None → IsKnownTable e view sight table
 known_table e view sight a table none =

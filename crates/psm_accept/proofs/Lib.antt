@@ -15,3 +15,4 @@ pub mod Naming
 pub mod Changing
 pub mod Updating
 pub mod Statements
+pub mod Calling

@@ -1,9 +1,8 @@
 -- Simple statements that name cursors, conditions and labels, and GET DIAGNOSTICS: those without a fault are sound.
-use Rattle.std.proofs.Common.{◌≡◌, ℕ, suc, Bool, true, false, List, [], ◌∷◌, map, length, Option, Some, None, option_map, refl, ap, sym, ◌∙◌, subst}
+use Rattle.std.proofs.Common.{◌≡◌, ℕ, Bool, true, false, List, [], ◌∷◌, map, length, Option, Some, None, option_map, refl, ap, sym, ◌∙◌, subst}
 use Rattle.std.specs.Prelude.{IfSome, IsTrue, if◌then◌else◌, is_some, nat_eq, not, slice_get}
 use Rattle.psm_token.specs.declared.place.Place.{Place}
 use Rattle.psm_value.specs.declared.sqltype.SqlType.{SqlType}
-use Rattle.psm_exprcode.specs.declared.op.Letter.TheVariants.{T}
 use Rattle.psm_scope.specs.Lookup as lookup
 use Rattle.psm_scope.specs.Lookup.{labels, meant, named}
 use Rattle.psm_scope.specs.Scopes.{level}
@@ -12,12 +11,12 @@ use Rattle.psm_scope.specs.declared.known.Variable.{Variable}
 use Rattle.psm_rules.specs.declared.fault.Fault.{Fault}
 use Rattle.psm_rules.specs.declared.rule.Rule.TheVariants as rule
 use Rattle.psm_rules.specs.declared.shape.Family.{Family}
-use Rattle.psm_rules.specs.declared.shape.Family.TheVariants.{Numbers, Texts}
+use Rattle.psm_rules.specs.declared.shape.Family.TheVariants.{Texts}
 use Rattle.psm_rules.specs.declared.shape.Shape.{Shape}
-use Rattle.psm_rules.specs.Faults.{breaks, breaks_if, earlier, first_of}
-use Rattle.psm_rules.specs.Found.{as_value, of_family}
-use Rattle.psm_rules.specs.ExprFaults.{argument, expr_found, spelling}
-use Rattle.psm_rules.specs.StatementFaults.{condition_fault, condition_item_family, cursor_of, diagnostics_fault, family_due, is_same_family, target_type, fetch_fault, fetch_items, fetched_into, is_loop_label, item_fault, label_fault, loop_label_fault, message_fault, name_of_condition_fault, number_fault, number_type_fault, opened_fault, resignal_fault, several, signalled_fault, statement_item_family, target_fault, targets_fault}
+use Rattle.psm_rules.specs.Faults.{breaks, breaks_if, first_of}
+use Rattle.psm_rules.specs.Found.{as_value}
+use Rattle.psm_rules.specs.ExprFaults.{expr_found, spelling}
+use Rattle.psm_rules.specs.StatementFaults.{condition_fault, condition_item_family, cursor_of, diagnostics_fault, family_due, is_same_family, target_type, fetch_fault, fetch_items, fetched_into, is_loop_label, item_fault, label_fault, loop_label_fault, message_fault, number_fault, number_type_fault, opened_fault, several, signalled_fault, statement_item_family, target_fault, targets_fault}
 use Rattle.psm_rules.specs.View.{Cursor, View}
 use Rattle.psm_rules.proofs.Earliest.{first_of_cons}
 use Rattle.psm_tree.specs.Names.{Targets}
@@ -35,7 +34,7 @@ use Rattle.psm_resolve_expr.specs.Exprs.{made_of}
 use Rattle.psm_resolve_expr.specs.Sight.{Sight}
 use Rattle.psm_resolve.specs.Statements as making
 use Rattle.psm_resolve.specs.Statements.{condition_of, declared_as, diagnostics_of, expr_at, level_of, or_zero, signal_of, slot_in, slot_of, slots_of, state_or_number}
-use Rattle.psm_sound.specs.Scene.{Among, Each, IsThere, Scene}
+use Rattle.psm_sound.specs.Scene.{Among, Each, Scene}
 use Rattle.psm_sound.specs.Statements as places
 use Rattle.psm_sound.specs.Statements.{AreDiagnostics, AreForItems, IsCondition, IsMessage, IsNumber, IsSeen, IsSignal, IsSlot}
 use Rattle.psm_accept.specs.Agreement.{Agree, HasSlot}

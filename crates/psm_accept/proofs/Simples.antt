@@ -1,9 +1,7 @@
 -- Simple statements without a fault are sound: sources, targets, and the statements that are made of them.
-use Rattle.std.proofs.Common.{◌≡◌, inl, inr, ℕ, zero, suc, ◌+◌, Bool, true, false, ◌&&◌, List, [], ◌∷◌, map, length, Option, Some, None, option_map, refl, ap, sym, ◌∙◌, subst, arith}
-use Rattle.std.specs.Prelude.{IfSome, IsTrue, if◌then◌else◌, is_none, is_some, nat_eq, not, slice_get}
-use Rattle.std.specs.List.{list_all}
+use Rattle.std.proofs.Common.{◌≡◌, ℕ, suc, Bool, true, false, List, [], ◌∷◌, map, length, Option, Some, None, option_map, refl, ap, sym, ◌∙◌, subst, arith}
+use Rattle.std.specs.Prelude.{IfSome, IsTrue, if◌then◌else◌, nat_eq, not, slice_get}
 use Rattle.std.proofs.lemmas.Bool.Decides.{nat_tests}
-use Rattle.psm_list.specs.Several.{Several}
 use Rattle.psm_token.specs.declared.place.Place.{Place}
 use Rattle.psm_value.specs.declared.sqltype.SqlType.{SqlType}
 use Rattle.psm_value.specs.declared.sqltype.SqlType.TheVariants as types
@@ -11,32 +9,25 @@ use Rattle.psm_exprcode.specs.declared.op.Letter.{Letter}
 use Rattle.psm_exprcode.specs.Kinds.{letter_of}
 use Rattle.psm_scope.specs.Lookup.{meant}
 use Rattle.psm_scope.specs.declared.known.Variable.{Variable}
-use Rattle.psm_rules.specs.declared.fault.Fault.{Fault}
 use Rattle.psm_rules.specs.declared.found.Found.{Found}
 use Rattle.psm_rules.specs.declared.query.Item.{Item}
 use Rattle.psm_rules.specs.declared.rule.Rule.TheVariants as rule
 use Rattle.psm_rules.specs.declared.shape.Family.{Family}
 use Rattle.psm_rules.specs.declared.shape.Shape.{Shape}
 use Rattle.psm_rules.specs.declared.shape.Shape.TheVariants.{Value, Untyped, Condition}
-use Rattle.psm_rules.specs.Faults.{breaks, breaks_if, earlier, first_of}
-use Rattle.psm_rules.specs.Found.{as_value, shape_of}
+use Rattle.psm_rules.specs.Faults.{breaks, breaks_if}
+use Rattle.psm_rules.specs.Found.{as_value}
 use Rattle.psm_rules.specs.Shapes.{family_of, is_of, typed}
 use Rattle.psm_rules.specs.ExprFaults as faults
 use Rattle.psm_rules.specs.ExprFaults.{QueryFound, expr_found, items_of, query_fault, query_found, spelling}
-use Rattle.psm_rules.specs.StatementFaults.{Context, Within, InProcedure, InFunction, assigned_type, diagnostics_fault, family_due, into_fault, item_fault, items_into, mixed_at, number_fault, number_type_fault, return_fault, select_into_fault, set_fault, several, simple_fault, source_fault, target_fault, target_fault_of, target_type, targets_fault, variable_of}
+use Rattle.psm_rules.specs.StatementFaults.{Context, Within, InProcedure, InFunction, assigned_type, into_fault, items_into, mixed_at, return_fault, select_into_fault, set_fault, several, source_fault, target_fault, target_fault_of, target_type, targets_fault}
 use Rattle.psm_rules.specs.View.{View}
 use Rattle.psm_rules.proofs.Earliest.{first_of_cons}
 use Rattle.psm_tree.specs.Names.{Targets}
 use Rattle.psm_tree.specs.declared.name.Target.{Target}
 use Rattle.psm_tree.specs.declared.expr.Expr.{Expr}
 use Rattle.psm_tree.specs.declared.expr.Select.{Select}
-use Rattle.psm_tree.specs.declared.statement.ConditionNumber.{ConditionNumber}
-use Rattle.psm_tree.specs.declared.statement.ConditionNumber.TheVariants as numbers
-use Rattle.psm_tree.specs.declared.statement.Diagnostics.{Diagnostics}
-use Rattle.psm_tree.specs.declared.statement.Diagnostics.TheVariants as diagnostics
-use Rattle.psm_resolved.specs.declared.expr.ResolvedExpr.{ResolvedExpr}
 use Rattle.psm_resolve_expr.specs.declared.made.Made.{Made}
-use Rattle.psm_resolve_expr.specs.declared.made.MadeQuery.{MadeQuery}
 use Rattle.psm_resolve_expr.specs.Exprs.{made_of, query_made}
 use Rattle.psm_resolve_expr.specs.Sight.{Sight}
 use Rattle.psm_resolve.specs.Statements as making
@@ -44,15 +35,15 @@ use Rattle.psm_resolve.specs.Statements.{expr_at, slot_of, slots_of}
 use Rattle.psm_sound.specs.Expressions.{IsExpr}
 use Rattle.psm_sound.specs.Queries.{IsQuery}
 use Rattle.psm_sound.specs.Scene.{Each, IsThere, Scene}
-use Rattle.psm_sound.specs.Statements.{AreDiagnostics, IsFor, IsNumber, IsSlot}
+use Rattle.psm_sound.specs.Statements.{IsFor, IsSlot}
 use Rattle.psm_accept.specs.Agreement.{Agree, HasSlot, IsWithin, letter_in}
 use Rattle.psm_accept.specs.Stands.{Standing, as_source, select_stands, stands}
 use Rattle.psm_accept.proofs.Names.{meant_alike, meant_each}
 use Rattle.psm_accept.proofs.Judging.{Source, Where, Control}
-use Rattle.psm_accept.proofs.Parts.{IsResult, IsSourceOf, IsValue, Part, as_value-clean, neither, result, same_family}
+use Rattle.psm_accept.proofs.Parts.{IsResult, IsSourceOf, Part, as_value-clean, neither, result, same_family}
 use Rattle.psm_accept.proofs.Results.{Agrees}
 use Rattle.psm_accept.proofs.Choices.{source_of}
-use Rattle.psm_accept.proofs.Queries.{IsQueryMade, ItemsAre}
+use Rattle.psm_accept.proofs.Queries.{ItemsAre}
 use Rattle.psm_accept.proofs.Accepted.{Fits}
 use Rattle.psm_accept.proofs.Whole.{expr_accepted, query_accepted, three_none}
 
@@ -121,7 +112,7 @@ assigned slots place (Some u) (Some v) same h none = record { type = h.type; the
 pub target_is : (e : Scene) (view : View) (sight : Sight) → Agree e view sight → (t : Target) → target_fault view.frames t ≡ None → IsTarget e view sight t
 target_is e view sight a t none =
     let n = assigned e.routine.slots t.first.place (meant t.first.name (spelling t.second) view.frames) (meant t.first.name (spelling t.second) sight.frames)
-        (meant_alike t.first.name (spelling t.second) view.frames sight.frames a.frames) (meant_each e.routine.slots t.first.name (spelling t.second) sight.frames a.slots) none in
+    (meant_alike t.first.name (spelling t.second) view.frames sight.frames a.frames) (meant_each e.routine.slots t.first.name (spelling t.second) sight.frames a.slots) none in
     record { type = n.type; there = n.there; due = n.due }
 
 pub there_is : {A : Type 0} (o : Option A) (a : A) → o ≡ Some a → IsThere o
@@ -181,5 +172,5 @@ select_into_sound e view sight a q ts well none =
     let may : faults.may_be (length kinds) (items_of f) ≡ true = counted_into (length kinds) (items_of f) kinds ts.first.first.place (faults.may_be (length kinds) (items_of f)) refl parts.2 in
     let many : length g.0 ≡ length kinds = same_count (length g.0) (length kinds) (ap (faults.may_be (length kinds)) (sym g.1) ∙ may) in
     let all : length (slots_of sight.frames (several ts)) ≡ length g.2.letters =
-        mapped_many (slot_of sight.frames) (several ts) ∙ sym (mapped_many (target_type view.frames) (several ts)) ∙ sym many ∙ items_many g.0 (query_made q sight).shapes g.2.letters g.2.shapes in
+    mapped_many (slot_of sight.frames) (several ts) ∙ sym (mapped_many (target_type view.frames) (several ts)) ∙ sym many ∙ items_many g.0 (query_made q sight).shapes g.2.letters g.2.shapes in
     (g.2.letters, g.2.sound, all, targets_slots e view sight a (several ts) parts.1)

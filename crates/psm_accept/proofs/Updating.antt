@@ -1,22 +1,18 @@
 -- UPDATE without a fault is sound.
-use Rattle.std.proofs.Common.{◌≡◌, ℕ, zero, suc, ◌+◌, Bool, true, false, ◌&&◌, List, [], ◌∷◌, map, Option, Some, None, option_map, refl, ap, sym, ◌∙◌, subst, arith}
-use Rattle.std.specs.Prelude.{IfSome, IsTrue, if◌then◌else◌, is_some, not, slice_get}
-use Rattle.psm_token.specs.declared.place.Place.{Place}
+use Rattle.std.proofs.Common.{◌≡◌, ℕ, List, [], ◌∷◌, map, Option, Some, None, option_map, refl, ap, sym, ◌∙◌, subst, arith}
+use Rattle.std.specs.Prelude.{IfSome, IsTrue, is_some, not, slice_get}
 use Rattle.psm_value.specs.declared.sqltype.SqlType.{SqlType}
-use Rattle.psm_value.specs.declared.sqltype.SqlType.TheVariants as types
-use Rattle.psm_exprcode.specs.declared.op.Letter.{Letter}
-use Rattle.psm_exprcode.specs.Kinds.{is_value, letter_of}
+use Rattle.psm_exprcode.specs.Kinds.{letter_of}
 use Rattle.psm_scope.specs.Lookup.{named, place_named}
 use Rattle.psm_rules.specs.declared.fault.Fault.{Fault}
 use Rattle.psm_rules.specs.declared.rule.Rule.TheVariants as rule
-use Rattle.psm_rules.specs.Faults.{breaks, breaks_if, earlier, first_of}
+use Rattle.psm_rules.specs.Faults.{breaks_if, first_of}
 use Rattle.psm_rules.specs.ExprFaults.{columns_known, expr_found, table_fault}
 use Rattle.psm_rules.specs.StatementFaults.{assignment_fault, column_fault, columns_fault, on_table, repeated, several, source_fault, type_of_column, update_fault, where_fault}
 use Rattle.psm_rules.specs.View.{Columns, View, table_named}
 use Rattle.psm_rules.proofs.Earliest.{first_of_cons}
 use Rattle.psm_list.specs.Several.{Several}
 use Rattle.psm_tree.specs.declared.name.Identifier.{Identifier}
-use Rattle.psm_tree.specs.declared.expr.Expr.{Expr}
 use Rattle.psm_tree.specs.declared.statement.Assignment.{Assignment}
 use Rattle.psm_tree.specs.declared.statement.Where.{Where as Which}
 use Rattle.psm_table.specs.Definition.{kinds_of}
@@ -25,8 +21,7 @@ use Rattle.psm_resolve_expr.specs.Exprs.{made_of}
 use Rattle.psm_resolve_expr.specs.Sight.{Sight}
 use Rattle.psm_resolve.specs.Statements as making
 use Rattle.psm_resolve.specs.Statements.{column_of, place_in, set_of, which_in}
-use Rattle.psm_sound.specs.Queries.{IsRowValue}
-use Rattle.psm_sound.specs.Scene.{Each, Scene, columns_of, letters_of, variables_of}
+use Rattle.psm_sound.specs.Scene.{Each, Scene, columns_of}
 use Rattle.psm_sound.specs.Statements as places
 use Rattle.psm_sound.specs.Statements.{IsChange, IsWhere}
 use Rattle.psm_accept.specs.Agreement.{Agree, HaveTypes}
@@ -55,10 +50,10 @@ column_by : (cs : Columns) (kinds : List SqlType) (n : Identifier) (here : Optio
 column_by cs kinds n None is h none = absurd cc
 column_by cs kinds n (Some p) is h none =
     let from : h.place ≡ p.0 = omega (arith, h.from) in record {
-  type = h.type;
-  known = type_known cs n h.type (named_placed n.name 0 cs ∙ ap (option_map (λ p. p.1)) is ∙ ap (λ k. Some k) h.declared);
-  there = ap (λ here. slice_get kinds (place_in here)) is ∙ subst (λ i. slice_get kinds i ≡ Some h.type) from h.there;
-}
+      type = h.type;
+      known = type_known cs n h.type (named_placed n.name 0 cs ∙ ap (option_map (λ p. p.1)) is ∙ ap (λ k. Some k) h.declared);
+      there = ap (λ here. slice_get kinds (place_in here)) is ∙ subst (λ i. slice_get kinds i ≡ Some h.type) from h.there;
+    }
 
 column_there : (cs : Columns) (kinds : List SqlType) (n : Identifier) → HaveTypes cs kinds → column_fault (Some cs) n ≡ None → IsThereAs cs kinds n
 column_there cs kinds n h none = column_by cs kinds n (place_named 0 n.name cs) refl (columns_placed n.name 0 cs kinds h) (ap (λ o. breaks_if (not (is_some o)) rule.UnknownColumn n.place) (sym (named_placed n.name 0 cs)) ∙ none)
@@ -73,11 +68,12 @@ change_sound e view sight a table k x well column none =
     let c : IsThereAs k.columns kinds x.column = column_there k.columns kinds x.column k.types column in
     let due : type_of_column (columns_known (table_named view table.name)) x.column ≡ Some c.type = ap (λ cs. type_of_column (columns_known cs) x.column) k.known ∙ c.known in
     let source = source_by e (OnRow kinds) (stands x.source) (expr_found x.source inner_view) (made_of x.source inner_sight) c.type
-        (expr_accepted x.source e inner_view inner_sight (OnRow kinds) (agree_on e view sight a table k) (fits_on e view sight table k)) well
-        (ap (λ o. source_fault o (expr_found x.source inner_view)) (sym due) ∙ none) in
-    (letter_of c.type,
-    ap (λ cs. slice_get (columns_of k.there) (column_of cs x.column)) k.seen ∙ letter_there kinds (column_of k.columns x.column) c.type c.there,
-    record { value = value_letter c.type; letter = source })
+    (expr_accepted x.source e inner_view inner_sight (OnRow kinds) (agree_on e view sight a table k) (fits_on e view sight table k)) well
+    (ap (λ o. source_fault o (expr_found x.source inner_view)) (sym due) ∙ none) in (
+      letter_of c.type,
+      ap (λ cs. slice_get (columns_of k.there) (column_of cs x.column)) k.seen ∙ letter_there kinds (column_of k.columns x.column) c.type c.there,
+      record { value = value_letter c.type; letter = source },
+    )
 
 changes_sound : (e : Scene) (view : View) (sight : Sight) → Agree e view sight → (table : Identifier) (k : IsKnownTable e view sight table) (xs : List Assignment) → AssignmentsStand xs
     → first_of (map (column_fault (Some k.columns)) (map (λ a. a.column) xs)) ≡ None → first_of (map (assignment_fault (on_table view table (table_named view table.name)) (columns_known (table_named view table.name))) xs) ≡ None
@@ -100,7 +96,9 @@ update_sound e s view sight a m table xs which well true_where none =
     let first = neither (table_fault table columns) (first_of (columns_fault columns names ∷ assigned ∷ filter_fault ∷ [])) (sym (first_of_cons (table_fault table columns) (columns_fault columns names ∷ assigned ∷ filter_fault ∷ [])) ∙ none) in
     let parts = three_none (columns_fault columns names) assigned filter_fault first.1 in
     let k = known_table e view sight a table first.0 in
-    let there = neither (first_of (map (column_fault columns) names)) (repeated rule.ColumnRepeated names) parts.0 in
-    (k.there, k.at,
-    changes_sound e view sight a table k (several xs) well (ap (λ cs. first_of (map (column_fault cs) names)) (sym k.known) ∙ there.0) parts.1,
-    where_sound e s view sight a m table k which true_where parts.2)
+    let there = neither (first_of (map (column_fault columns) names)) (repeated rule.ColumnRepeated names) parts.0 in (
+      k.there,
+      k.at,
+      changes_sound e view sight a table k (several xs) well (ap (λ cs. first_of (map (column_fault cs) names)) (sym k.known) ∙ there.0) parts.1,
+      where_sound e s view sight a m table k which true_where parts.2,
+    )

@@ -49,8 +49,3 @@ SimpleStands (simples.Delete place table which) = WhichStands which
 SimpleStands (simples.Open place cursor) = Unit {0}
 SimpleStands (simples.Fetch place cursor targets) = Unit {0}
 SimpleStands (simples.Close place cursor) = Unit {0}
-
--- any simple statement but CALL
-abbrev pub IsNoCall : Simple → Type 0
-IsNoCall (simples.Call place procedure arguments) = ⊥
-IsNoCall x = Unit {0}

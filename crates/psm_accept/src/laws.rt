@@ -26,7 +26,7 @@ ghost use Rattle.psm_sound.specs.Scene.{Scene, letters_of, variables_of};
 ghost use Rattle.psm_sound.specs.Statements.{IsSimple, Sight as Place};
 ghost use Rattle.psm_accept.specs.Agreement.{Agree, AllSuit, HaveTypes, IsWithin, Suits};
 ghost use Rattle.psm_accept.specs.Meant.{Meant};
-ghost use Rattle.psm_accept.specs.Simples.{IsNoCall, SimpleStands};
+ghost use Rattle.psm_accept.specs.Simples.{SimpleStands};
 ghost use Rattle.psm_accept.specs.Stands.{are_small, as_operand, as_source, select_stands, stands};
 
 /// Where an expression or a query has no fault, what stands for it without names is sound: it has the shape that was found, and
@@ -46,8 +46,8 @@ pub fn null_stands_where_it_may()
     ensures queries { (depth : ℕ) (tokens : Words Placed) (q : Select) → IsTrue (are_small tokens) → Spells productions depth select tokens q → IsTrue (select_stands q) }
 {}
 
-/// Where a simple statement other than CALL has no fault, what stands for it without names is sound (ISO/IEC 9075-4:1996), at a place
-/// where the checker and the scene mean the same by names.
+/// Where a simple statement has no fault, what stands for it without names is sound (ISO/IEC 9075-4:1996), at a place where the names
+/// of cursors, conditions, labels and procedures that the checker knows have numbers that the scene has.
 pub fn accepted_simple_statements_are_sound()
-    ensures { (e : Scene) (s : Place) (c : Context) (sight : Sight) → Agree e c.view sight → Meant e s c.view sight → sight.row ≡ None → IsWithin c.within e.routine.returns → (x : Simple) → IsNoCall x → SimpleStands x → simple_fault c x ≡ None → IsSimple e s (simple_of sight x) }
+    ensures { (e : Scene) (s : Place) (c : Context) (sight : Sight) → Agree e c.view sight → Meant e s c.view sight → sight.row ≡ None → IsWithin c.within e.routine.returns → (x : Simple) → SimpleStands x → simple_fault c x ≡ None → IsSimple e s (simple_of sight x) }
 {}

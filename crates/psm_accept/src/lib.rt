@@ -3,4 +3,6 @@
 
 mod laws;
 
-pub use laws::{accepted_expressions_are_sound, accepted_simple_statements_are_sound, null_stands_where_it_may};
+pub use laws::{
+    accepted_expressions_are_sound, accepted_simple_statements_are_sound, null_stands_where_it_may,
+};
