@@ -1,0 +1,23 @@
+-- Lines of a routine that break no rule, and the line at which a run goes on behind others.
+use Rattle.std.specs.Prelude.{◌≡◌, ◌≤◌, ◌<◌, ℕ, List, [], reverse, Option, Some, None}
+use Rattle.psm_exprcode.specs.declared.op.Letter.{Letter}
+use Rattle.psm_code.specs.declared.code.RawCode.{RawCode}
+use Rattle.psm_code.specs.declared.code.RawRoutine.{RawRoutine}
+use Rattle.psm_code.specs.declared.lines.CodeLine.{CodeLine}
+use Rattle.psm_code.specs.Parts.{line_at}
+use Rattle.psm_code.specs.RoutineRules.{line_fault}
+
+-- the lines from a line on, up to another one, break no rule
+pub record Free (code : RawCode) (r : RawRoutine) (from to : ℕ) : Type 0 where
+  pub right : (n : ℕ) (l : CodeLine) → from ≤ n → n < to → line_at r n ≡ Some l → line_fault code r n l ≡ None
+
+-- there is a line, in that context, and it states these operands, the last one first
+pub record Follows (r : RawRoutine) (n context : ℕ) (stack : List Letter) : Type 0 where
+  pub line : CodeLine
+  pub there : line_at r n ≡ Some line
+  pub inside : line.context ≡ context
+  pub states : reverse line.stack ≡ stack
+
+-- a line at which a run may go on behind a condition that was handled in that context
+abbrev pub Ends : RawRoutine → ℕ → ℕ → Type 0
+Ends r resume context = Follows r resume context []

@@ -1,0 +1,2 @@
+//! The law that code which is written for sound module files breaks no rule of code. It has no code that runs.
+#![tactic(auto)]
