@@ -1,1 +1,4 @@
-mod Lines
+pub mod Lines
+pub mod Putting
+pub mod Starts
+pub mod Typing

@@ -28,7 +28,7 @@ use Rattle.psm_right.specs.Frame.{Ends, Follows, Free}
 pub both : {a b : Bool} → a ≡ true → b ≡ true → (a && b) ≡ true
 both {a} {b} h k = ap (λ x. x && b) h ∙ k
 
-or_first : (a b : Bool) → a ≡ true → (a || b) ≡ true
+pub or_first : (a b : Bool) → a ≡ true → (a || b) ≡ true
 or_first a b h = ap (λ x. x || b) h
 
 pub or_second : (a b : Bool) → b ≡ true → (a || b) ≡ true
