@@ -4,3 +4,4 @@ pub mod Starts
 pub mod Typing
 pub mod Propers
 pub mod Forms
+pub mod Stacks
