@@ -5,3 +5,5 @@ pub mod Typing
 pub mod Propers
 pub mod Forms
 pub mod Stacks
+pub mod Asking
+pub mod Frees
