@@ -49,17 +49,17 @@ use Rattle.psm_right.proofs.Typing.{sound-layer}
 
 -- ---- the letter of NULL is a value's
 
-null-typed : {known : Known} {x : ResolvedExpr} → Proper known false x → out-ResolvedExpr x ≡ layers.Null → ⊥
+pub null-typed : {known : Known} {x : ResolvedExpr} → Proper known false x → out-ResolvedExpr x ≡ layers.Null → ⊥
 null-typed (parts.proper a w p) q = false≢true (sym (ap (allows false) q) ∙ a)
 
-null-wanted : {e : Scene} {x : ResolvedExpr} {k : Letter} (j : Letter) → j ≡ k → IsExpr e x k → out-ResolvedExpr x ≡ layers.Null → is_value j ≡ true
+pub null-wanted : {e : Scene} {x : ResolvedExpr} {k : Letter} (j : Letter) → j ≡ k → IsExpr e x k → out-ResolvedExpr x ≡ layers.Null → is_value j ≡ true
 null-wanted j h t q = ap is_value h ∙ sound-layer t q
 
 result-value : (scale : Option ℕ) → is_value (sorts.letter_at scale) ≡ true
 result-value None = refl
 result-value (Some s) = refl
 
-free-as : {code : RawCode} {r : RawRoutine} {m n from to : ℕ} → Free code r m n → m ≡ from → n ≡ to → Free code r from to
+pub free-as : {code : RawCode} {r : RawRoutine} {m n from to : ℕ} → Free code r m n → m ≡ from → n ≡ to → Free code r from to
 free-as {code} {r} f p q = subst₂ (λ m n. Free code r m n) p q f
 
 module _ {e : Scene} {known : Known} {code : RawCode} {r : RawRoutine} {context resume : ℕ} (keeps : Keeps e known code r) (first : Follows r 0 0 []) (there : context_there r context ≡ true) (ends : Ends r resume context) where

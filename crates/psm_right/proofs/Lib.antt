@@ -7,3 +7,5 @@ pub mod Forms
 pub mod Stacks
 pub mod Asking
 pub mod Frees
+pub mod Keeping
+pub mod Sources

@@ -1,18 +1,20 @@
 -- What code keeps of a file, where the lines of one of its routines are written: the letters of variables, of functions and of queries.
-use Rattle.std.specs.Prelude.{◌≡◌, ℕ, true, List, Some}
+use Rattle.std.specs.Prelude.{◌≡◌, ℕ, true, List, Some, not}
+use Rattle.std.specs.List.{list_all}
 use Rattle.psm_value.specs.declared.sqltype.SqlType.{SqlType}
 use Rattle.psm_exprcode.specs.declared.op.Letter.{Letter}
 use Rattle.psm_exprcode.specs.declared.query.Query.{Query}
 use Rattle.psm_exprcode.specs.Kinds.{letter_of}
 use Rattle.psm_resolved.specs.declared.expr.ResolvedQuery.{ResolvedQuery}
 use Rattle.psm_resolved.specs.declared.file.ResolvedRoutine.{ResolvedRoutine}
-use Rattle.psm_meaning.specs.Calls.{function_at}
+use Rattle.psm_meaning.specs.Calls.{function_at, returns}
 use Rattle.psm_code.specs.declared.code.RawCode.{RawCode}
 use Rattle.psm_code.specs.declared.code.RawRoutine.{RawRoutine}
 use Rattle.psm_code.specs.Instructions.{letters_of_query, parameter_letters, variables_of}
 use Rattle.psm_code.specs.Parts.{routine_at}
 use Rattle.psm_emit.specs.declared.known.Known.{Known}
 use Rattle.psm_emit.specs.Exprs.{function_number}
+use Rattle.psm_emit.specs.Files.{gives_back}
 use Rattle.psm_emit.specs.Queries.{QueryMade, is_query, item_letters}
 use Rattle.psm_emit.specs.Written.{letter_at, letters_at}
 use Rattle.psm_sound.specs.Queries.{IsQuery}
@@ -35,6 +37,14 @@ pub record KeepsFunction (known : Known) (code : RawCode) (n : ℕ) (ks : List L
   pub takes : letters_at known.takes n ≡ ks
   pub result : letter_at known.results n ≡ k
 
+-- a function has IN parameters alone
+abbrev pub FunctionTakes : ResolvedRoutine → Type 0
+FunctionTakes r = returns r.returns ≡ true → list_all (λ p. not (gives_back p.mode)) r.parameters ≡ true
+
+-- the items of each query that is made are of the letters that are known
+abbrev pub QueriesKeep : Known → RawCode → RawRoutine → Type 0
+QueriesKeep known code r = (query : ResolvedQuery) (made : Query) → is_query known query ≡ true → QueryMade known query made → letters_of_query code r made ≡ item_letters known query
+
 pub record Keeps (e : Scene) (known : Known) (code : RawCode) (r : RawRoutine) : Type 0 where
   pub variables : variables_of r ≡ known.variables
   pub slots : known.variables ≡ scenes.variables_of e
@@ -42,4 +52,4 @@ pub record Keeps (e : Scene) (known : Known) (code : RawCode) (r : RawRoutine) :
       → KeepsFunction known code (function_number known function) (letters_of (taken_by routine.parameters)) (letter_of t)
   -- the items of a query are of the letters that are known, in the tree and in the code
   pub items : (query : ResolvedQuery) (ks : List Letter) → is_query known query ≡ true → IsQuery e query ks → item_letters known query ≡ ks
-  pub queries : (query : ResolvedQuery) (made : Query) → is_query known query ≡ true → QueryMade known query made → letters_of_query code r made ≡ item_letters known query
+  pub queries : QueriesKeep known code r

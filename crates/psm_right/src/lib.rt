@@ -1,2 +1,6 @@
 //! The law that code which is written for sound module files breaks no rule of code. It has no code that runs.
 #![tactic(auto)]
+
+mod laws;
+
+pub use laws::expressions_break_no_rule;

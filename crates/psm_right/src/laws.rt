@@ -1,0 +1,25 @@
+//! The law of code that is written.
+ghost use Rattle.std.specs.Prelude.{◌≡◌, ◌≤◌, ℕ, Bool, false, true, ◌∷◌, []};
+ghost use Rattle.psm_exprcode.specs.declared.op.Letter.{Letter};
+ghost use Rattle.psm_resolved.specs.declared.expr.ResolvedExpr.{ResolvedExpr};
+ghost use Rattle.psm_code.specs.declared.code.RawCode.{RawCode};
+ghost use Rattle.psm_code.specs.declared.code.RawRoutine.{RawRoutine};
+ghost use Rattle.psm_code.specs.RoutineRules.{context_there};
+ghost use Rattle.psm_emit.specs.declared.known.Known.{Known};
+ghost use Rattle.psm_emit.specs.Exprs.{Writes};
+ghost use Rattle.psm_emit.specs.Written.{Written, here};
+ghost use Rattle.psm_emit.specs.Writing.{Begins};
+ghost use Rattle.psm_sound.specs.Expressions.{IsExpr};
+ghost use Rattle.psm_sound.specs.Scene.{Scene};
+ghost use Rattle.psm_right.specs.Frame.{Ends, Follows, Free};
+ghost use Rattle.psm_right.specs.Kept.{Keeps};
+ghost use Rattle.psm_right.specs.Proper.{Proper};
+
+/// The lines that are written for a sound expression break no rule, in code that keeps the letters of its file: they stand in the
+/// context of their statement, in a routine whose first line is the routine's own, before a line at which a run goes on behind a
+/// condition. They put one operand of the letter of the expression on those that stood there; NULL is put with the letter that was
+/// asked for, and stands only where one is asked for.
+pub fn expressions_break_no_rule()
+    ensures sources { (e : Scene) (known : Known) (code : RawCode) (r : RawRoutine) (context resume : ℕ) → Keeps e known code r → Follows r 0 0 [] → context_there r context ≡ true → Ends r resume context → (k : Letter) (x : ResolvedExpr) (w v : Written) → IsExpr e x k → Proper known true x → Writes known context resume k x w v → Begins v r → here v ≤ resume → Follows r (here v) context v.stack → (v.stack ≡ k ∷ w.stack) × Follows r (here w) context w.stack × Free code r (here w) (here v) }
+    ensures operands { (e : Scene) (known : Known) (code : RawCode) (r : RawRoutine) (context resume : ℕ) → Keeps e known code r → Follows r 0 0 [] → context_there r context ≡ true → Ends r resume context → (k j : Letter) (x : ResolvedExpr) (w v : Written) → IsExpr e x k → Proper known false x → Writes known context resume j x w v → Begins v r → here v ≤ resume → Follows r (here v) context v.stack → (v.stack ≡ k ∷ w.stack) × Follows r (here w) context w.stack × Free code r (here w) (here v) }
+{}
