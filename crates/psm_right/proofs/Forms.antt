@@ -206,13 +206,13 @@ module _ {e : Scene} {known : Known} {code : RawCode} {r : RawRoutine} (keeps : 
   form (layers.In negated value list) k h w p t =
       let n = length (listed list) in
       as-letter t.1 (typed-form (layers.In negated value list) B (t.0 ∷ replicate n t.0) (sound.more t.3 (are-same t.4)) p
-        (subst (λ js. AllMake code r js (op.In n ∷ negating negated) B) (sym (turned-list n t.0)) (negating-made negated (op.In n) (replicate n t.0 ++ t.0 ∷ []) (made (op.In n) t.0 (replicate n t.0 ++ t.0 ∷ []) B refl refl refl t.2 refl)))
-        (negating-stays negated (op.In n) refl) refl refl (λ v s q. refl))
+      (subst (λ js. AllMake code r js (op.In n ∷ negating negated) B) (sym (turned-list n t.0)) (negating-made negated (op.In n) (replicate n t.0 ++ t.0 ∷ []) (made (op.In n) t.0 (replicate n t.0 ++ t.0 ∷ []) B refl refl refl t.2 refl)))
+      (negating-stays negated (op.In n) refl) refl refl (λ v s q. refl))
   form (layers.Like negated value pattern None) k h w p t =
       as-letter t.0 (typed-form (layers.Like negated value pattern None) B (T ∷ T ∷ []) (two t.1 t.2) p (negating-made negated op.Like (T ∷ T ∷ []) (made op.Like N (T ∷ T ∷ []) B refl refl refl refl refl)) (negating-stays negated op.Like refl) refl refl (λ v s q. refl))
   form (layers.Like negated value pattern (Some escape)) k h w p t =
       as-letter t.0 (typed-form (layers.Like negated value pattern (Some escape)) B (T ∷ T ∷ T ∷ []) (three t.1 t.2 t.3) p (negating-made negated op.LikeEscape (T ∷ T ∷ T ∷ []) (made op.LikeEscape N (T ∷ T ∷ T ∷ []) B refl refl refl refl refl))
-        (negating-stays negated op.LikeEscape refl) refl refl (λ v s q. refl))
+      (negating-stays negated op.LikeEscape refl) refl refl (λ v s q. refl))
   form (layers.Chain first links) k h w p t = absurd (false≢true h)
   form (layers.Negated x) k h w p t = as-letter t.0 (typed-form (layers.Negated x) N (N ∷ []) (one t.1) p (made op.Negate N (N ∷ []) N refl refl refl refl refl, tt) (refl, tt) refl refl (λ v s q. refl))
   form (layers.Call function arguments) k h w p t = absurd (false≢true h)
@@ -221,14 +221,14 @@ module _ {e : Scene} {known : Known} {code : RawCode} {r : RawRoutine} (keeps : 
   form (layers.Case operand whens otherwise scale) k h w p t = absurd (false≢true h)
   form (layers.Coalesce values scale) k h w p t = absurd (false≢true h)
   form (layers.Cast source to) k h w p t = as-letter t.1 (record {
-      letters = t.0 ∷ [];
-      operands = one t.3;
-      makes = (made (op.Cast to) (letter_put N source t.0) (letter_put N source t.0 ∷ []) (letter_of to) w refl refl (put-value N source t.0 refl t.2) refl, tt);
-      stays = (refl, tt);
-      some = refl;
-      typed = refl;
-      letter = λ v s q. refl;
-    })
+    letters = t.0 ∷ [];
+    operands = one t.3;
+    makes = (made (op.Cast to) (letter_put N source t.0) (letter_put N source t.0 ∷ []) (letter_of to) w refl refl (put-value N source t.0 refl t.2) refl, tt);
+    stays = (refl, tt);
+    some = refl;
+    typed = refl;
+    letter = λ v s q. refl;
+  })
   form (layers.NullIf left right) k h w p t =
       typed-form (layers.NullIf left right) k (k ∷ k ∷ []) (two t.1 t.2) p (made op.NullIf k (k ∷ k ∷ []) k refl refl refl t.0 refl, tt) (refl, tt) refl refl (λ v s q. ap (λ z. letter_or (slice_get z 1)) q)
   form (layers.Function f argument) k h w p t = as-letter t.0 (typed-form (layers.Function f argument) (function_of f) (T ∷ []) (one t.1) p (function-made f, tt) (function-stays f) refl refl (λ v s q. refl))

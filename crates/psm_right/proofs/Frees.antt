@@ -279,7 +279,7 @@ module _ {e : Scene} {known : Known} {code : RawCode} {r : RawRoutine} {context 
         let l_s : here dropped ≤ here s = grows-after (grows-writes c) in
         let l_u : here copy ≤ here u = grows-after (grows-writes a) in
         free-join (free-as (written-free first there ends (instruction.Operation op.Duplicate) (plain (codes "DUP") (j ∷ []) (j ∷ j ∷ [])) below w b_copy.lines (duplicate-does j i) (calm-operation op.Duplicate) q
-          (omega (arith, h_copy, l_u, h_equal, h_jump, h_dropped, l_s, h_leap, l_leap, m)) (goes-ahead (instruction.Operation op.Duplicate) (follows-as f_copy h_copy s_copy)) (no-jump (instruction.Operation op.Duplicate) refl)) refl (sym h_copy))
+        (omega (arith, h_copy, l_u, h_equal, h_jump, h_dropped, l_s, h_leap, l_leap, m)) (goes-ahead (instruction.Operation op.Duplicate) (follows-as f_copy h_copy s_copy)) (no-jump (instruction.Operation op.Duplicate) refl)) refl (sym h_copy))
         (free-join (writes-free a t three.0 (λ q. absurd (null-typed three.0 q)) b_u (omega (arith, h_equal, h_jump, h_dropped, l_s, h_leap, l_leap, m)) f_u)
         (free-join (applied-free first there ends op.Equal (j ∷ j ∷ []) (j ∷ below) 2 B u b_equal (made op.Equal j (j ∷ j ∷ []) B refl refl refl i refl) refl refl s_u (omega (arith, h_jump, h_dropped, l_s, h_leap, l_leap, m)) f_equal)
         (free-join (free-as (test-free first there ends place (j ∷ below) equal b_jump.lines s_equal (omega (arith, h_jump, h_dropped, l_s)) (omega (arith, h_jump, h_dropped, l_s, h_leap, l_leap, m)) (follows-as f_jump h_jump s_jump) (follows-as f_leap h_leap s_leap)) refl (sym h_jump))

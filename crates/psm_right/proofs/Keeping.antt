@@ -160,8 +160,8 @@ keeps-written e code r w routine begin takes queries =
       variables = ap (map letter_of) slots;
       slots = refl;
       functions = λ function f t at h.
-        let there : slice_get e.file.routines (function_number known function) ≡ Some f = known_functions e.file e.routine function f at in
-        function-kept e.file e.routine f code (function_number known function) t w (takes (function_number known function) f there) there h;
+          let there : slice_get e.file.routines (function_number known function) ≡ Some f = known_functions e.file e.routine function f at in
+          function-kept e.file e.routine f code (function_number known function) t w (takes (function_number known function) f there) there h;
       items = query-letters e;
       queries = queries;
     }

@@ -82,18 +82,22 @@ pub free-none : {code : RawCode} {r : RawRoutine} {n : ℕ} → Free code r n n
 free-none = record { right = λ m l a b q. absurd (omega (arith, a, b)) }
 
 pub free-join : {code : RawCode} {r : RawRoutine} {from mid to : ℕ} → Free code r from mid → Free code r mid to → Free code r from to
-free-join {code} {r} {from} {mid} {to} f g = record { right = λ n l a b q. elim (leb_tells mid n) as (λ _. line_fault code r n l ≡ None) [
-  | inl h ↦ g.right n l h.1 b q
-  | inr h ↦ f.right n l a h.1 q
-] }
+free-join {code} {r} {from} {mid} {to} f g = record {
+  right = λ n l a b q. elim (leb_tells mid n) as (λ _. line_fault code r n l ≡ None) [
+    | inl h ↦ g.right n l h.1 b q
+    | inr h ↦ f.right n l a h.1 q
+  ];
+}
 
 same_line : (r : RawRoutine) (l o : CodeLine) (n m : ℕ) → m ≡ n → line_at r n ≡ Some l → line_at r m ≡ Some o → o ≡ l
 same_line r l o n m e there q = let some : Some o ≡ Some l = sym q ∙ ap (line_at r) e ∙ there in cc
 
 pub free-one : {code : RawCode} {r : RawRoutine} {n : ℕ} (l : CodeLine) → line_at r n ≡ Some l → line_fault code r n l ≡ None → Free code r n (suc n)
-free-one {code} {r} {n} l there h = record { right = λ m o a b q.
-    let same : m ≡ n = omega (arith, a, b) in
-    subst (λ x. line_fault code r x o ≡ None) (sym same) (subst (λ x. line_fault code r n x ≡ None) (sym (same_line r l o n m same there q)) h) }
+free-one {code} {r} {n} l there h = record {
+  right = λ m o a b q.
+      let same : m ≡ n = omega (arith, a, b) in
+      subst (λ x. line_fault code r x o ≡ None) (sym same) (subst (λ x. line_fault code r n x ≡ None) (sym (same_line r l o n m same there q)) h);
+}
 
 -- ---- what one line needs
 
@@ -162,6 +166,7 @@ resumes-behind {r} {at} {context} {resume} l inside q behind ends = record {
 } where
   same : nat_eq ends.line.context l.context ≡ true
   same = eq-eqb ends.line.context l.context (ends.inside ∙ sym inside)
+
   is : is_resume r at l resume ≡ true
   is = both (lt-ltb at resume behind) (ap (λ o. where_there o (λ m. nat_eq m.context l.context && not (is_some m.stack))) ends.there ∙ both same (none_stated ends.line.stack ends.states))
 
@@ -178,8 +183,8 @@ pub first-right : {r : RawRoutine} (at : ℕ) (l : CodeLine) → Follows r 0 0 [
 first-right (suc at) l first q = or_first (not (nat_eq (suc at) 0)) (nat_eq l.context 0 && not (is_some l.stack)) (ap not (ne_eqb (suc at) 0 (suc-ne-zero at)))
 first-right zero l first q = let same : first.line ≡ l = by (sym first.there ∙ q) in
     both (eq-eqb l.context 0 (ap (λ x. x.context) (sym same) ∙ first.inside)) (none_stated l.stack (ap (λ x. reverse x.stack) (sym same) ∙ first.states)) where
-  by : Some first.line ≡ Some l → first.line ≡ l
-  by e = cc
+      by : Some first.line ≡ Some l → first.line ≡ l
+      by e = cc
 
 stack-follows : {code : RawCode} {r : RawRoutine} (at : ℕ) (l : CodeLine) (e : Effect) (rest : List Letter) → Does code r l.instruction e → reverse l.stack ≡ e.takes ++ rest
     → stated_ahead r at e.ahead rest ≡ true → stated_away r e.away rest ≡ true → stack_follows code r at l ≡ true

@@ -89,7 +89,7 @@ module _ {code : RawCode} {r : RawRoutine} {context resume : ℕ} (first : Follo
       let l : CodeLine = line_of context (Some resume) i w in
       let there : line_at r (here w) ≡ Some l = there_at w.lines b in
       free-one l there (line-right l e rest there first known d (or_first (not (stands_alone i)) (not (is_some (reverse w.stack))) (ap not calm.stands)) (calm.right l) (calm.behind l) (reverse-reverse w.stack ∙ s)
-        (resumes-behind l refl refl h ends) ahead away)
+      (resumes-behind l refl refl h ends) ahead away)
 
   pub puts-free : (i : Instruction) (name : List ℕ) (ks letters rest : List Letter) (count : ℕ) (w : Written) → Begins (puts context resume i count letters w) r → Does code r i (operations.plain name ks letters) → Calm r i → jump_of i ≡ None
       → length ks ≡ count → w.stack ≡ ks ++ rest → here (puts context resume i count letters w) ≤ resume → Follows r (here (puts context resume i count letters w)) context (puts context resume i count letters w).stack
@@ -97,7 +97,7 @@ module _ {code : RawCode} {r : RawRoutine} {context resume : ℕ} (first : Follo
   puts-free i name ks letters rest count w b d calm stays n s h f =
       let next = here-puts context resume i count letters w in
       let lines : Free code r (here w) (suc (here w)) = written-free i (operations.plain name ks letters) rest w b.lines d calm s (omega (arith, h, next))
-        (goes-ahead i (follows-as f next (ap (λ t. letters ++ t) (dropped ks rest w.stack count n s)))) (no-jump i stays) in
+      (goes-ahead i (follows-as f next (ap (λ t. letters ++ t) (dropped ks rest w.stack count n s)))) (no-jump i stays) in
       subst₂ (λ m k. Free code r (here w) m) (sym next) (sym next) lines
 
   -- an operation that jumps nowhere
@@ -135,5 +135,5 @@ module _ {code : RawCode} {r : RawRoutine} {context resume : ℕ} (first : Follo
       let next = applied context resume o count k w in
       let grows : Grows next (all_applied context resume 1 k os next) = grows-all_applied context resume 1 k os next in
       free-join
-        (applied-free o ks rest count k w (begins-earlier grows b) all.0 stay.0 n s (omega (arith, h, grows-after grows)) (all_applied-starts context resume 1 k os next b f))
-        (all_applied-free (k ∷ []) rest 1 k os next all.1 stay.1 refl (ap (λ t. k ∷ t) (dropped ks rest w.stack count n s)) b h f)
+      (applied-free o ks rest count k w (begins-earlier grows b) all.0 stay.0 n s (omega (arith, h, grows-after grows)) (all_applied-starts context resume 1 k os next b f))
+      (all_applied-free (k ∷ []) rest 1 k os next all.1 stay.1 refl (ap (λ t. k ∷ t) (dropped ks rest w.stack count n s)) b h f)

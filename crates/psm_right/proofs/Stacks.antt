@@ -144,7 +144,7 @@ module _ {e : Scene} {known : Known} {code : RawCode} {r : RawRoutine} {context 
     links-stack (written.links {l = l} {u = u} a rest) k s h (sound.and_link o t ts) p =
         let two = of_link p in
         links-stack rest k s (ap (λ z. letter_of_operator (out-ResolvedLink l).operator ∷ drop 2 z) (typed-put N k two.0 (writes-stack a t two.0)) ∙ ap (λ z. letter_of_operator (out-ResolvedLink l).operator ∷ drop 1 z) h
-          ∙ ap (λ i. i ∷ s) (operator-same (out-ResolvedLink l).operator ∙ o)) ts two.1
+        ∙ ap (λ i. i ∷ s) (operator-same (out-ResolvedLink l).operator ∙ o)) ts two.1
 
     pub whens-stack : {k : Letter} {out : ℕ} {xs : List ResolvedWhen} {w v : Written} → Whens known context resume k out xs w v → AreWhens e xs B k → WhensProper known xs → v.stack ≡ w.stack
     whens-stack written.no_when t p = refl
@@ -157,8 +157,8 @@ module _ {e : Scene} {known : Known} {code : RawCode} {r : RawRoutine} {context 
     compares-stack {k = k} (written.compare {x = x} {w = w} a c rest) j s h (sound.and_when t g ts) p =
         let three = of_when p in
         compares-stack rest j s
-          (ap (λ z. last_letter w ∷ drop 1 z) (wanted-put k (out-ResolvedWhen x).result k refl (writes-stack c g three.1) ∙ ap (λ z. k ∷ drop 1 (drop 2 z)) (typed-put (last_letter w) j three.0 (writes-stack a t three.0)) ∙ ap (λ z. k ∷ drop 1 z) h)
-          ∙ ap (λ l. l ∷ s) (last-is w j s h)) ts three.2
+        (ap (λ z. last_letter w ∷ drop 1 z) (wanted-put k (out-ResolvedWhen x).result k refl (writes-stack c g three.1) ∙ ap (λ z. k ∷ drop 1 (drop 2 z)) (typed-put (last_letter w) j three.0 (writes-stack a t three.0)) ∙ ap (λ z. k ∷ drop 1 z) h)
+        ∙ ap (λ l. l ∷ s) (last-is w j s h)) ts three.2
 
     pub otherwise-stack : {k : Letter} {o : Option ResolvedExpr} {w v : Written} → Otherwise known context resume k o w v → IsElse e o k → PerhapsProper known true o → v.stack ≡ k ∷ w.stack
     otherwise-stack written.no_else t p = refl
