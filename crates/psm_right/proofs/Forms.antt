@@ -153,7 +153,7 @@ pub record Form (e : Scene) (known : Known) (code : RawCode) (r : RawRoutine) (l
   pub typed : allows false layer ≡ true
   pub letter : (v : Written) (s : List Letter) → v.stack ≡ reverse (letters_put N (operands_of layer) letters) ++ s → straight_letter known layer v ≡ k
 
-there-mapped : (k : Letter) (o : Option SqlType) → option_map letter_of o ≡ Some k → there o ≡ true
+pub there-mapped : (k : Letter) (o : Option SqlType) → option_map letter_of o ≡ Some k → there o ≡ true
 there-mapped k None h = absurd (cc)
 there-mapped k (Some t) h = refl
 

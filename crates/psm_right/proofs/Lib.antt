@@ -9,3 +9,5 @@ pub mod Asking
 pub mod Frees
 pub mod Keeping
 pub mod Sources
+pub mod Rights
+pub mod Slots
