@@ -175,7 +175,7 @@ module _ {e : Scene} {known : Known} {code : RawCode} {r : RawRoutine} (keeps : 
         letter = λ v s h. l v s (h ∙ ap (λ js. reverse js ++ s) same);
       }
 
-  variable-made : (slot : ℕ) (k : Letter) → slice_get (scenes.variables_of e) slot ≡ Some k → Makes code r (op.Variable slot) [] k
+  pub variable-made : (slot : ℕ) (k : Letter) → slice_get (scenes.variables_of e) slot ≡ Some k → Makes code r (op.Variable slot) [] k
   variable-made slot k h =
       let letter : option_map letter_of (slice_get (slots_of r) slot) ≡ Some k = sym (slice_get-map letter_of (slots_of r) slot) ∙ ap (λ vs. slice_get vs slot) (keeps.variables ∙ keeps.slots) ∙ h in
       made (op.Variable slot) N [] k (there-mapped k (slice_get (slots_of r) slot) letter) refl refl refl (ap (option_map (λ l. operations.plain (effect (op.Variable slot) N B).mnemonic [] (l ∷ []))) letter)

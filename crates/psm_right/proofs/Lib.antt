@@ -11,3 +11,4 @@ pub mod Keeping
 pub mod Sources
 pub mod Rights
 pub mod Slots
+pub mod Simples

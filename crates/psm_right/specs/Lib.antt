@@ -1,3 +1,4 @@
 pub mod Frame
 pub mod Proper
 pub mod Kept
+pub mod ProperSimples
