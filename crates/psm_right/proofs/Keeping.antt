@@ -56,7 +56,7 @@ taken-one modes.In p kept ts h = ap (λ s. letter_of p.kind ∷ s) h
 taken-one modes.Out p kept ts h = h
 taken-one modes.InOut p kept ts h = ap (λ s. letter_of p.kind ∷ s) h
 
-taken-letters : (ps : List ResolvedParameter) → map (λ q. letter_of q.kind) (filter (λ q. wants q.mode) ps) ≡ scenes.letters_of (taken_by ps)
+pub taken-letters : (ps : List ResolvedParameter) → map (λ q. letter_of q.kind) (filter (λ q. wants q.mode) ps) ≡ scenes.letters_of (taken_by ps)
 taken-letters [] = refl
 taken-letters (p ∷ ps) = taken-one p.mode p (filter (λ q. wants q.mode) ps) (taken_by ps) (taken-letters ps)
 
@@ -73,7 +73,7 @@ in-letters (p ∷ ps) h =
 
 -- ---- functions
 
-routine-written : (file : ResolvedFile) (rs : List ResolvedRoutine) (qs : List RawRoutine) (n : ℕ) (routine : ResolvedRoutine) → RoutinesWritten file rs qs → slice_get rs n ≡ Some routine
+pub routine-written : (file : ResolvedFile) (rs : List ResolvedRoutine) (qs : List RawRoutine) (n : ℕ) (routine : ResolvedRoutine) → RoutinesWritten file rs qs → slice_get rs n ≡ Some routine
     → (q : RawRoutine) × (slice_get qs n ≡ Some q) × RoutineWritten (known_of file routine) routine q
 routine-written file [] qs n routine h e = absurd (cc)
 routine-written file (r ∷ rs) [] n routine h e = absurd h

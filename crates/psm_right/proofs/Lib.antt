@@ -12,3 +12,5 @@ pub mod Sources
 pub mod Rights
 pub mod Slots
 pub mod Simples
+pub mod Procedures
+pub mod Simply

@@ -5,6 +5,7 @@ use Rattle.std.proofs.lemmas.List.{reverse-reverse}
 use Rattle.psm_exprcode.specs.declared.op.Letter.{Letter}
 use Rattle.psm_exprcode.specs.declared.op.Letter.TheVariants.{N, B}
 use Rattle.psm_exprcode.specs.declared.op.Op.TheVariants as op
+use Rattle.psm_exprcode.specs.declared.query.Query.{Query}
 use Rattle.psm_exprcode.specs.Kinds.{is_value}
 use Rattle.psm_exprcode.specs.Operations as operations
 use Rattle.psm_code.specs.declared.code.RawCode.{RawCode}
@@ -12,16 +13,17 @@ use Rattle.psm_code.specs.declared.code.RawRoutine.{RawRoutine}
 use Rattle.psm_code.specs.declared.instruction.Instruction.{Instruction}
 use Rattle.psm_code.specs.declared.instruction.Instruction.TheVariants as instruction
 use Rattle.psm_code.specs.declared.lines.CodeLine.{CodeLine}
+use Rattle.psm_code.specs.Instructions.{last}
 use Rattle.psm_code.specs.Parts.{line_at}
 use Rattle.psm_code.specs.Rules.{is_some}
-use Rattle.psm_code.specs.RoutineRules.{context_behind, context_there, jump_of, stands_alone, stands_right}
+use Rattle.psm_code.specs.RoutineRules.{context_behind, context_there, jump_of, line_goes_ahead, stands_alone, stands_right}
 use Rattle.psm_resolved.specs.declared.expr.ResolvedExpr.{ResolvedExpr}
 use Rattle.psm_emit.specs.declared.known.Known.{Known}
 use Rattle.psm_emit.specs.Exprs.{Arguments, Writes}
-use Rattle.psm_emit.specs.Written.{Written, applied, here, last_letter, plain, puts}
+use Rattle.psm_emit.specs.Written.{Written, applied, here, last_letter, plain, puts, takes, with_query}
 use Rattle.psm_emit.specs.Writing.{Begins, Grows}
-use Rattle.psm_emit.proofs.Counts.{here-applied, here-plain, here-puts}
-use Rattle.psm_emit.proofs.Growth.{begins-earlier, grows-applied, grows-arguments, grows-here, grows-on, grows-plain, grows-puts, grows-writes}
+use Rattle.psm_emit.proofs.Counts.{here-applied, here-plain, here-puts, here-takes}
+use Rattle.psm_emit.proofs.Growth.{begins-earlier, grows-applied, grows-arguments, grows-here, grows-on, grows-plain, grows-puts, grows-query, grows-takes, grows-writes}
 use Rattle.psm_emit.proofs.There.{line_of, there_at}
 use Rattle.psm_sound.specs.Expressions.{AreExprs, IsExpr}
 use Rattle.psm_sound.specs.Scene.{Scene}
@@ -30,7 +32,7 @@ use Rattle.psm_right.specs.Kept.{Keeps}
 use Rattle.psm_right.specs.Proper.{AllProper, Proper}
 use Rattle.psm_right.proofs.Asking.{duplicate-does}
 use Rattle.psm_right.proofs.Frees.{arguments-free, free-as, null-typed, null-wanted, writes-free}
-use Rattle.psm_right.proofs.Lines.{Does, free-join, free-none, free-one, goes-ahead, line-right, no-jump, or_second, resumes-behind, resumes-never}
+use Rattle.psm_right.proofs.Lines.{Does, free-join, free-none, free-one, goes-ahead, line-right, never-ahead, no-jump, or_second, resumes-behind, resumes-never}
 use Rattle.psm_right.proofs.Putting.{Calm, calm-operation, dropped, follows-as, grows-after, line-starts, puts-free, written-free}
 use Rattle.psm_right.proofs.Stacks.{arguments-stack, last-is, typed-put, wanted-put, writes-stack}
 use Rattle.psm_right.proofs.Starts.{arguments-starts, writes-starts}
@@ -53,6 +55,10 @@ right-then a c = record {
   starts = λ b f. a.starts (begins-earlier c.grows b) (c.starts b f);
   free = λ b h f. free-join (a.free (begins-earlier c.grows b) (omega (arith, h, grows-after c.grows)) (c.starts b f)) (c.free b h f);
 }
+
+-- a query more is no line
+pub query-right : {code : RawCode} {r : RawRoutine} {context resume : ℕ} {s : List Letter} (query : Query) (w : Written) → w.stack ≡ s → Right code r context resume w (with_query query w) s
+query-right query w q = record { grows = grows-query query {w = w}; stack = q; starts = λ b f. f; free = λ b h f. free-none }
 
 -- an instruction stands in any context, in which it goes on, and where no operand stands
 pub record Alone (r : RawRoutine) (i : Instruction) : Type 0 where
@@ -110,6 +116,18 @@ module _ {code : RawCode} {r : RawRoutine} {context resume : ℕ} (first : Follo
         starts = λ b f. line-starts context (Some resume) (instruction.Operation op.Duplicate) w b.lines;
         free = λ b h f. free-as (written-free first there ends (instruction.Operation op.Duplicate) (operations.plain (codes "DUP") (k ∷ []) (k ∷ k ∷ [])) s w b.lines (duplicate-does k v) (calm-operation op.Duplicate) q
             (omega (arith, h, next)) (goes-ahead (instruction.Operation op.Duplicate) (follows-as f next after)) (no-jump (instruction.Operation op.Duplicate) refl)) refl (sym next);
+      }
+
+  -- an instruction that takes an operand, and behind which the routine ends
+  pub last-right : (i : Instruction) (name : List ℕ) (k : Letter) (s : List Letter) (w : Written) → Does code r i (last name (k ∷ [])) → Calm r i → jump_of i ≡ None → line_goes_ahead code r i ≡ false → w.stack ≡ k ∷ s
+      → Right code r context resume w (takes context resume i 1 w) s
+  last-right i name k s w d calm stays never q =
+      let next = here-takes context resume i 1 w in
+      record {
+        grows = grows-takes context resume i 1 {w = w};
+        stack = ap (drop 1) q;
+        starts = λ b f. line-starts context (Some resume) i w b.lines;
+        free = λ b h f. free-as (written-free first there ends i (last name (k ∷ [])) s w b.lines d calm q (omega (arith, h, next)) (never-ahead i never) (no-jump i stays)) refl (sym next);
       }
 
   module _ {e : Scene} {known : Known} (keeps : Keeps e known code r) where

@@ -55,7 +55,7 @@ right-as {code} {r} {context} {resume} {w} {v} a q = subst (λ s. Right code r c
 
 -- ---- variables
 
-slot-of : (e : Scene) (slot : ℕ) (t : SqlType) → slice_get e.routine.slots slot ≡ Some t → SlotOf e slot (letter_of t)
+pub slot-of : (e : Scene) (slot : ℕ) (t : SqlType) → slice_get e.routine.slots slot ≡ Some t → SlotOf e slot (letter_of t)
 slot-of e slot t h = slice_get-map letter_of e.routine.slots slot ∙ ap (option_map letter_of) h
 
 each-of : (e : Scene) (slots : List ℕ) (t : SqlType) → Each (λ slot. slice_get e.routine.slots slot ≡ Some t) slots → EachOf e slots (letter_of t)
@@ -63,7 +63,7 @@ each-of e [] t h = tt
 each-of e (slot ∷ slots) t h = (slot-of e slot t h.0, each-of e slots t h.1)
 
 module _ {e : Scene} {known : Known} {code : RawCode} {r : RawRoutine} {context resume : ℕ} (keeps : Keeps e known code r) (first : Follows r 0 0 []) (there : context_there r context ≡ true) (ends : Ends r resume context) where
-  variable-letter : (slot : ℕ) (k : Letter) → SlotOf e slot k → letter_at known.variables slot ≡ k
+  pub variable-letter : (slot : ℕ) (k : Letter) → SlotOf e slot k → letter_at known.variables slot ≡ k
   variable-letter slot k h = ap letter_or (ap (λ vs. slice_get vs slot) keeps.slots ∙ h)
 
   variable-right : (slot : ℕ) (k : Letter) (w : Written) → SlotOf e slot k → Right code r context resume w (applied context resume (op.Variable slot) 0 (letter_at known.variables slot) w) (k ∷ w.stack)

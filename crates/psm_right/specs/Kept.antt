@@ -1,5 +1,5 @@
 -- What code keeps of a file, where the lines of one of its routines are written: the letters of variables, of functions and of queries.
-use Rattle.std.specs.Prelude.{◌≡◌, ℕ, true, List, [], ◌∷◌, Some, not, slice_get}
+use Rattle.std.specs.Prelude.{◌≡◌, ℕ, true, false, List, [], ◌∷◌, Some, not, slice_get}
 use Rattle.std.specs.List.{list_all}
 use Rattle.psm_value.specs.declared.sqltype.SqlType.{SqlType}
 use Rattle.psm_exprcode.specs.declared.op.Letter.{Letter}
@@ -11,10 +11,10 @@ use Rattle.psm_meaning.specs.Calls.{function_at, returns}
 use Rattle.psm_code.specs.declared.code.RawCode.{RawCode}
 use Rattle.psm_code.specs.declared.code.RawRoutine.{RawRoutine}
 use Rattle.psm_code.specs.Instructions.{letters_of_query, parameter_letters, variables_of}
-use Rattle.psm_code.specs.Parts.{routine_at}
+use Rattle.psm_code.specs.Parts.{giving, routine_at, taking}
 use Rattle.psm_emit.specs.declared.known.Known.{Known}
 use Rattle.psm_emit.specs.Exprs.{function_number}
-use Rattle.psm_emit.specs.Files.{gives_back}
+use Rattle.psm_emit.specs.Files.{gives_back, is_function, letter_of_result}
 use Rattle.psm_emit.specs.Queries.{QueryMade, is_query, item_letters}
 use Rattle.psm_emit.specs.Written.{letter_at, letters_at}
 use Rattle.psm_sound.specs.Queries.{IsQuery}
@@ -53,6 +53,23 @@ pub record Keeps (e : Scene) (known : Known) (code : RawCode) (r : RawRoutine) :
   -- the items of a query are of the letters that are known, in the tree and in the code
   pub items : (query : ResolvedQuery) (ks : List Letter) → is_query known query ≡ true → IsQuery e query ks → item_letters known query ≡ ks
   pub queries : QueriesKeep known code r
+
+-- ---- the routine itself, and procedures
+
+pub record KeepsRoutine (e : Scene) (known : Known) (r : RawRoutine) : Type 0 where
+  pub returns : r.returns ≡ e.routine.returns
+  pub kind : r.is_function ≡ is_function e.routine
+  pub result : known.result ≡ letter_of_result e.routine.returns
+
+-- a routine of the code is a procedure that takes values of the letters ks and gives back values of the letters js, as is known
+pub record KeepsProcedure (known : Known) (code : RawCode) (n : ℕ) (ks js : List Letter) : Type 0 where
+  pub routine : RawRoutine
+  pub there : routine_at code n ≡ Some routine
+  pub procedure : routine.is_function ≡ false
+  pub taking : parameter_letters (taking routine.parameters) ≡ ks
+  pub giving : parameter_letters (giving routine.parameters) ≡ js
+  pub takes : letters_at known.takes n ≡ ks
+  pub gives : letters_at known.gives n ≡ js
 
 -- ---- variables of the routine
 
