@@ -14,3 +14,5 @@ pub mod Slots
 pub mod Simples
 pub mod Procedures
 pub mod Simply
+pub mod Contexts
+pub mod Whole

@@ -27,7 +27,7 @@ use Rattle.psm_emit.proofs.Growth.{begins-earlier, grows-applied, grows-argument
 use Rattle.psm_emit.proofs.There.{line_of, there_at}
 use Rattle.psm_sound.specs.Expressions.{AreExprs, IsExpr}
 use Rattle.psm_sound.specs.Scene.{Scene}
-use Rattle.psm_right.specs.Frame.{Ends, Follows, Free}
+use Rattle.psm_right.specs.Frame.{Ends, Follows, Free, Right}
 use Rattle.psm_right.specs.Kept.{Keeps}
 use Rattle.psm_right.specs.Proper.{AllProper, Proper}
 use Rattle.psm_right.proofs.Asking.{duplicate-does}
@@ -36,14 +36,6 @@ use Rattle.psm_right.proofs.Lines.{Does, free-join, free-none, free-one, goes-ah
 use Rattle.psm_right.proofs.Putting.{Calm, calm-operation, dropped, follows-as, grows-after, line-starts, puts-free, written-free}
 use Rattle.psm_right.proofs.Stacks.{arguments-stack, last-is, typed-put, wanted-put, writes-stack}
 use Rattle.psm_right.proofs.Starts.{arguments-starts, writes-starts}
-
--- What is written from w to v leaves these operands. In a routine that begins with it its first line states the operands of w where a
--- line follows, and then its lines break no rule.
-pub record Right (code : RawCode) (r : RawRoutine) (context resume : ℕ) (w v : Written) (s : List Letter) : Type 0 where
-  pub grows : Grows w v
-  pub stack : v.stack ≡ s
-  pub starts : Begins v r → Follows r (here v) context v.stack → Follows r (here w) context w.stack
-  pub free : Begins v r → here v ≤ resume → Follows r (here v) context v.stack → Free code r (here w) (here v)
 
 pub right-none : {code : RawCode} {r : RawRoutine} {context resume : ℕ} {w : Written} {s : List Letter} → w.stack ≡ s → Right code r context resume w w s
 right-none {w = w} q = record { grows = grows-here {w = w}; stack = q; starts = λ b f. f; free = λ b h f. free-none }

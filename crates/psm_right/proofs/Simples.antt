@@ -38,7 +38,7 @@ use Rattle.psm_emit.specs.Simples as written
 use Rattle.psm_emit.specs.Written.{Written, applied, last_letter, letter_at, puts, takes}
 use Rattle.psm_sound.specs.Scene.{Each, Scene, letters_of, taken_by, with_taken}
 use Rattle.psm_sound.specs.Statements.{AreArguments, IsDeclaration, IsDefault, IsMessage}
-use Rattle.psm_right.specs.Frame.{Ends, Follows}
+use Rattle.psm_right.specs.Frame.{Ends, Follows, Right}
 use Rattle.psm_right.specs.Kept.{EachOf, Keeps, SlotOf}
 use Rattle.psm_right.specs.Proper.{PerhapsProper}
 use Rattle.psm_right.specs.ProperSimples.{ConditionSlots, NumberOf, ProperArguments, ProperDeclaration, RowOf, StatementSlots}
@@ -46,7 +46,7 @@ use Rattle.psm_right.proofs.Forms.{made, null-made, turned, variable-made}
 use Rattle.psm_right.proofs.Lines.{Does}
 use Rattle.psm_right.proofs.Propers.{of_just}
 use Rattle.psm_right.proofs.Putting.{Calm, Makes, calm-operation}
-use Rattle.psm_right.proofs.Rights.{Alone, Right, alone-right, arguments-part, duplicate-right, puts-right, right-none, right-then, source-part}
+use Rattle.psm_right.proofs.Rights.{Alone, alone-right, arguments-part, duplicate-right, puts-right, right-none, right-then, source-part}
 use Rattle.psm_right.proofs.Slots.{copied-right, store-right, type-value}
 use Rattle.psm_right.proofs.Stacks.{letter-first, letter-rest}
 

@@ -21,13 +21,13 @@ use Rattle.psm_emit.specs.declared.known.Known.{Known}
 use Rattle.psm_emit.specs.Simples.{copied, retrieved, stored}
 use Rattle.psm_emit.specs.Written.{Written, applied, last_letter, takes}
 use Rattle.psm_sound.specs.Scene.{Scene, variables_of}
-use Rattle.psm_right.specs.Frame.{Ends, Follows}
+use Rattle.psm_right.specs.Frame.{Ends, Follows, Right}
 use Rattle.psm_right.specs.Kept.{AreSlots, EachOf, Keeps, SlotOf}
 use Rattle.psm_right.proofs.Asking.{drop-does, duplicate-does}
 use Rattle.psm_right.proofs.Forms.{there-mapped}
 use Rattle.psm_right.proofs.Lines.{Does}
 use Rattle.psm_right.proofs.Putting.{Calm, calm-operation}
-use Rattle.psm_right.proofs.Rights.{Alone, Right, alone-right, duplicate-right, puts-right, right-none, right-then}
+use Rattle.psm_right.proofs.Rights.{Alone, alone-right, duplicate-right, puts-right, right-none, right-then}
 use Rattle.psm_right.proofs.Stacks.{last-is}
 
 pub type-value : (t : SqlType) → is_value (letter_of t) ≡ true

@@ -6,6 +6,8 @@ use Rattle.psm_code.specs.declared.code.RawRoutine.{RawRoutine}
 use Rattle.psm_code.specs.declared.lines.CodeLine.{CodeLine}
 use Rattle.psm_code.specs.Parts.{line_at}
 use Rattle.psm_code.specs.RoutineRules.{line_fault}
+use Rattle.psm_emit.specs.Written.{Written, here}
+use Rattle.psm_emit.specs.Writing.{Begins, Grows}
 
 -- the lines from a line on, up to another one, break no rule
 pub record Free (code : RawCode) (r : RawRoutine) (from to : ℕ) : Type 0 where
@@ -21,3 +23,11 @@ pub record Follows (r : RawRoutine) (n context : ℕ) (stack : List Letter) : Ty
 -- a line at which a run may go on behind a condition that was handled in that context
 abbrev pub Ends : RawRoutine → ℕ → ℕ → Type 0
 Ends r resume context = Follows r resume context []
+
+-- What is written from w to v leaves these operands. In a routine that begins with it its first line states the operands of w where a
+-- line follows, and then its lines break no rule.
+pub record Right (code : RawCode) (r : RawRoutine) (context resume : ℕ) (w v : Written) (s : List Letter) : Type 0 where
+  pub grows : Grows w v
+  pub stack : v.stack ≡ s
+  pub starts : Begins v r → Follows r (here v) context v.stack → Follows r (here w) context w.stack
+  pub free : Begins v r → here v ≤ resume → Follows r (here v) context v.stack → Free code r (here w) (here v)
