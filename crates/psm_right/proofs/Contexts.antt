@@ -1,10 +1,9 @@
 -- Lines that raise no condition break no rule: those that clear, jump, begin a turn, enter and leave a block, and end a routine.
-use Rattle.std.proofs.Common.{◌≡◌, ◌<◌, ◌++◌, ◌&&◌, ◌||◌, ℕ, suc, Bool, true, false, not, nat_eq, nat_lt, List, [], ◌∷◌, Option, Some, None, ap, refl, sym, ◌∙◌}
-use Rattle.std.specs.Prelude.{codes, reverse, slice_get}
+use Rattle.std.proofs.Common.{◌≡◌, ◌<◌, ◌++◌, ◌||◌, ℕ, suc, Bool, true, false, not, nat_eq, nat_lt, List, [], ◌∷◌, Some, None, ap, refl, ◌∙◌}
+use Rattle.std.specs.Prelude.{codes, reverse}
 use Rattle.std.proofs.lemmas.Bool.{eq-eqb}
 use Rattle.std.proofs.lemmas.List.{reverse-reverse}
 use Rattle.psm_cond.specs.declared.handlers.Block.{Block}
-use Rattle.psm_cond.specs.declared.handlers.Context.{Context}
 use Rattle.psm_cond.specs.declared.handlers.ContextKind.TheVariants as kinds
 use Rattle.psm_cond.specs.Handlers.{context_at}
 use Rattle.psm_exprcode.specs.declared.op.Letter.{Letter}
@@ -19,12 +18,12 @@ use Rattle.psm_code.specs.declared.lines.CodeLine.{CodeLine}
 use Rattle.psm_code.specs.Instructions.{last}
 use Rattle.psm_code.specs.Parts.{block_of_context, line_at}
 use Rattle.psm_code.specs.Rules.{is_some, is_there, there, where_there}
-use Rattle.psm_code.specs.RoutineRules.{context_behind, context_there, is_in, is_turn, jump_of, line_goes_ahead, parent_of_context, stands_alone, stands_right, uses_turn, wants_resume}
+use Rattle.psm_code.specs.RoutineRules.{context_behind, context_there, is_in, is_turn, jump_of, parent_of_context, stands_alone, stands_right, uses_turn, wants_resume}
 use Rattle.psm_emit.specs.Written.{Written, here}
 use Rattle.psm_emit.specs.Writing.{BeginsWith}
 use Rattle.psm_emit.proofs.There.{line_of, there_at}
 use Rattle.psm_right.specs.Frame.{Follows, Free}
-use Rattle.psm_right.proofs.Lines.{Ahead, Away, Does, both, follows-inside, follows-stated, follows-there, free-one, goes-ahead, jumps-on, line-right, never-ahead, no-jump, or_first, or_second, resumes-never}
+use Rattle.psm_right.proofs.Lines.{Ahead, Away, Does, both, follows-inside, follows-stated, follows-there, free-one, goes-ahead, jumps-on, line-right, never-ahead, no-jump, or_second, resumes-never}
 
 -- a jump back leads to the begin of a turn
 pub jumps-back : {r : RawRoutine} {at context p : ℕ} {puts rest : List Letter} (i : Instruction) → jump_of i ≡ Some p → (f : Follows r p context (puts ++ rest)) → f.line.instruction ≡ instruction.Turn → Away r at context i (Some (p, puts)) rest

@@ -1,5 +1,5 @@
 -- Operations of expressions take operands of the letters that their parts have, and put one of the letter of the whole.
-use Rattle.std.proofs.Common.{◌≡◌, ◌++◌, ℕ, zero, suc, Bool, true, false, List, [], ◌∷◌, map, replicate, length, Option, Some, None, option_map, ap, refl, sym, subst, ◌∙◌}
+use Rattle.std.proofs.Common.{◌≡◌, ◌++◌, ℕ, zero, suc, Bool, true, false, List, [], ◌∷◌, replicate, length, Option, Some, None, option_map, ap, refl, sym, subst, ◌∙◌}
 use Rattle.std.specs.Prelude.{reverse, slice_get}
 use Rattle.std.proofs.lemmas.Bool.{false≢true}
 use Rattle.std.proofs.lemmas.List.{append_assoc, reverse-append}
@@ -13,7 +13,6 @@ use Rattle.psm_exprcode.specs.declared.op.Op.TheVariants as op
 use Rattle.psm_exprcode.specs.Kinds.{is_value, letter_of}
 use Rattle.psm_exprcode.specs.Operations.{effect}
 use Rattle.psm_exprcode.specs.Operations as operations
-use Rattle.psm_exprcode.specs.WellFormed.{is_type}
 use Rattle.psm_resolved.specs.declared.expr.Comparison.{Comparison}
 use Rattle.psm_resolved.specs.declared.expr.Comparison.TheVariants as comparisons
 use Rattle.psm_resolved.specs.declared.expr.Junction.{Junction}
@@ -22,7 +21,7 @@ use Rattle.psm_resolved.specs.declared.expr.Operator.{Operator}
 use Rattle.psm_resolved.specs.declared.expr.Operator.TheVariants as operators
 use Rattle.psm_resolved.specs.declared.expr.TextFunction.{TextFunction}
 use Rattle.psm_resolved.specs.declared.expr.TextFunction.TheVariants as functions
-use Rattle.psm_resolved.specs.declared.expr.ResolvedExpr.{ResolvedExpr, out-ResolvedExpr}
+use Rattle.psm_resolved.specs.declared.expr.ResolvedExpr.{ResolvedExpr}
 use Rattle.psm_resolved.specs.declared.expr.ResolvedExpr.TheOpen as layers
 use Rattle.psm_resolved.specs.RowValue.{listed}
 use Rattle.psm_resolved.specs.Sort.{function_of, is_scale, letter_at}
@@ -37,7 +36,7 @@ use Rattle.psm_code.specs.Rules.{is_some, there}
 use Rattle.psm_lower.specs.Expressions.{Layer, is_straight, negating, operands_of, operations_of, scaling}
 use Rattle.psm_emit.specs.declared.known.Known.{Known}
 use Rattle.psm_emit.specs.Exprs.{straight_letter}
-use Rattle.psm_emit.specs.Written.{Written, second_letter}
+use Rattle.psm_emit.specs.Written.{Written}
 use Rattle.psm_sound.specs.Expressions.{AreExprs}
 use Rattle.psm_sound.specs.Expressions as sound
 use Rattle.psm_sound.specs.Scene.{Scene}

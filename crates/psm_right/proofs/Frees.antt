@@ -1,13 +1,12 @@
 -- The lines that are written for a sound expression break no rule.
-use Rattle.std.proofs.Common.{arith, ◌≡◌, ◌≤◌, ◌<◌, ◌++◌, ℕ, suc, Bool, true, false, List, [], ◌∷◌, drop, length, Option, Some, None, ap, refl, sym, subst, subst₂, ◌∙◌}
+use Rattle.std.proofs.Common.{arith, ◌≡◌, ◌≤◌, ◌++◌, ℕ, suc, Bool, true, false, List, [], ◌∷◌, drop, length, Option, Some, None, ap, refl, sym, subst, subst₂, ◌∙◌}
 use Rattle.std.specs.Prelude.{codes, reverse, slice_get}
 use Rattle.std.proofs.lemmas.Bool.{false≢true}
 use Rattle.std.proofs.lemmas.List.{length-reverse}
 use Rattle.psm_value.specs.declared.datum.Datum.TheVariants as data_of
 use Rattle.psm_exprcode.specs.declared.op.Letter.{Letter}
-use Rattle.psm_exprcode.specs.declared.op.Letter.TheVariants.{N, T, B}
+use Rattle.psm_exprcode.specs.declared.op.Letter.TheVariants.{N, B}
 use Rattle.psm_exprcode.specs.declared.op.Op.TheVariants as op
-use Rattle.psm_exprcode.specs.declared.query.Query.{Query}
 use Rattle.psm_exprcode.specs.Kinds.{is_value}
 use Rattle.psm_exprcode.specs.Operations.{plain}
 use Rattle.psm_code.specs.declared.code.RawCode.{RawCode}
@@ -29,7 +28,7 @@ use Rattle.psm_emit.specs.Queries.{item_letters}
 use Rattle.psm_emit.specs.Written.{Written, all_applied, applied, here, last_letter, letter_at, taken, with_query}
 use Rattle.psm_emit.specs.Writing.{Begins}
 use Rattle.psm_emit.proofs.Counts.{here-applied, here-taken}
-use Rattle.psm_emit.proofs.Growth.{begins-earlier, grows-all, grows-all_applied, grows-applied, grows-arguments, grows-compares, grows-firsts, grows-joins, grows-line, grows-links, grows-otherwise, grows-puts, grows-taken, grows-whens, grows-writes}
+use Rattle.psm_emit.proofs.Growth.{begins-earlier, grows-all, grows-all_applied, grows-applied, grows-arguments, grows-compares, grows-firsts, grows-joins, grows-links, grows-otherwise, grows-puts, grows-taken, grows-whens, grows-writes}
 use Rattle.psm_emit.proofs.There.{there_at}
 use Rattle.psm_sound.specs.Expressions.{AreAll, AreExprs, AreLinks, AreWhens, IsElse, IsExpr}
 use Rattle.psm_sound.specs.Expressions as sound
@@ -41,7 +40,7 @@ use Rattle.psm_right.specs.Proper as parts
 use Rattle.psm_right.proofs.Asking.{call-does, calm-call, calm-exists, calm-scalar, drop-does, duplicate-does, exists-does, scalar-does}
 use Rattle.psm_right.proofs.Forms.{Form, form, joined-made, joined-stays, made, null-made, operated-made, operated-stays, scaling-made, scaling-stays}
 use Rattle.psm_right.proofs.Lines.{free-join, free-none, goes-ahead, no-jump}
-use Rattle.psm_right.proofs.Propers.{letters_put, of_call, of_case, of_chain, of_coalesce, of_exists, of_first, of_junction, of_just, of_link, of_rest, of_scalar, of_straight, of_when, proper-layer, proper-within, puts-length}
+use Rattle.psm_right.proofs.Propers.{letters_put, of_call, of_case, of_chain, of_coalesce, of_first, of_junction, of_just, of_link, of_rest, of_scalar, of_straight, of_when, proper-layer, proper-within, puts-length}
 use Rattle.psm_right.proofs.Putting.{AllMake, all_applied-free, all_applied-starts, applied-free, calm-operation, follows-as, grows-after, jump-free, line-starts, puts-free, test-free, unless_null-free, written-free}
 use Rattle.psm_right.proofs.Stacks.{all-first, all-rest, all-stack, arguments-stack, compares-stack, exprs-length, firsts-stack, last-is, letter-first, letter-rest, operator-same, otherwise-stack, typed-put, wanted-put, whens-stack, writes-stack}
 use Rattle.psm_right.proofs.Starts.{all-starts, arguments-starts, compares-starts, firsts-starts, joins-starts, links-starts, otherwise-starts, whens-starts, writes-starts}

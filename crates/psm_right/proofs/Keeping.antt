@@ -1,5 +1,5 @@
 -- Code that is written for a file keeps the letters of its variables and functions, and what is known of its queries is what they are of.
-use Rattle.std.proofs.Common.{◌≡◌, ◌++◌, ℕ, zero, suc, Bool, true, false, ◌&&◌, List, [], ◌∷◌, map, drop, length, Option, Some, None, option_map, if◌then◌else◌, ap, ap₂, refl, sym, subst, ◌∙◌}
+use Rattle.std.proofs.Common.{◌≡◌, ◌++◌, ℕ, zero, suc, true, List, [], ◌∷◌, map, drop, length, Option, Some, None, option_map, if◌then◌else◌, ap, ap₂, refl, sym, subst, ◌∙◌}
 use Rattle.std.specs.Prelude.{filter, not, slice_get}
 use Rattle.std.specs.List.{list_all}
 use Rattle.std.proofs.lemmas.Bool.{false≢true}
@@ -9,7 +9,7 @@ use Rattle.psm_value.specs.declared.sqltype.SqlType.{SqlType}
 use Rattle.psm_exprcode.specs.declared.aggregate.SetFunction.{SetFunction}
 use Rattle.psm_exprcode.specs.declared.aggregate.SetFunction.TheVariants as functions
 use Rattle.psm_exprcode.specs.declared.op.Letter.{Letter}
-use Rattle.psm_exprcode.specs.Kinds.{is_letter, letter_of, some_value}
+use Rattle.psm_exprcode.specs.Kinds.{letter_of, some_value}
 use Rattle.psm_exprcode.proofs.Stripping.{is_letter-same}
 use Rattle.psm_tablecode.specs.Codes.{set_function}
 use Rattle.psm_resolved.specs.declared.expr.ResolvedExpr.{ResolvedExpr}
@@ -23,7 +23,7 @@ use Rattle.psm_resolved.specs.declared.file.ResolvedFile.{ResolvedFile}
 use Rattle.psm_resolved.specs.declared.file.ResolvedParameter.{ResolvedParameter}
 use Rattle.psm_resolved.specs.declared.file.ResolvedRoutine.{ResolvedRoutine}
 use Rattle.psm_resolved.specs.Sort.{Sort, Wrong, Untyped, Of, goes_as, is_of, sort_of}
-use Rattle.psm_meaning.specs.Calls.{function_at, returns}
+use Rattle.psm_meaning.specs.Calls.{returns}
 use Rattle.psm_meaning.specs.Rows.{items_of, set_of}
 use Rattle.psm_code.specs.declared.code.RawCode.{RawCode}
 use Rattle.psm_code.specs.declared.code.RawRoutine.{RawRoutine}

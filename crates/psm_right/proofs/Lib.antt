@@ -16,3 +16,4 @@ pub mod Procedures
 pub mod Simply
 pub mod Contexts
 pub mod Whole
+pub mod Changing

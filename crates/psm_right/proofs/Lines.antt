@@ -1,12 +1,12 @@
 -- When a line breaks no rule.
-use Rattle.std.proofs.Common.{arith, ◌≡◌, ◌≤◌, ◌<◌, inl, inr, ℕ, zero, suc, Bool, true, false, ◌&&◌, ◌||◌, not, nat_eq, nat_lt, List, [], ◌∷◌, ◌++◌, Option, Some, None, if◌then◌else◌, ap, refl, sym, ◌∙◌, subst, suc-ne-zero}
-use Rattle.std.specs.Prelude.{reverse, slice_get}
+use Rattle.std.proofs.Common.{arith, ◌≡◌, ◌<◌, inl, inr, ℕ, zero, suc, Bool, true, false, ◌&&◌, ◌||◌, not, nat_eq, nat_lt, List, [], ◌∷◌, ◌++◌, Option, Some, None, if◌then◌else◌, ap, refl, sym, ◌∙◌, subst, suc-ne-zero}
+use Rattle.std.specs.Prelude.{reverse}
 use Rattle.std.proofs.lemmas.Bool.{eq-eqb, false≢true, lt-ltb, ne_eqb}
 use Rattle.std.proofs.lemmas.Bool.Decides.{leb_tells}
 use Rattle.std.proofs.lemmas.List.{reverse-reverse}
 use Rattle.psm_exprcode.specs.declared.op.Letter.{Letter}
 use Rattle.psm_exprcode.specs.declared.op.Letter.TheVariants.{N, T, B}
-use Rattle.psm_exprcode.specs.Kinds.{is_letter, is_value, some_letter, some_value}
+use Rattle.psm_exprcode.specs.Kinds.{is_value, some_letter, some_value}
 use Rattle.psm_exprcode.specs.Operations.{Effect}
 use Rattle.psm_exprcode.specs.WellFormed.{left_of, same_stack}
 use Rattle.psm_exprcode.proofs.Stripping.{is_letter-self, same_stack-self}
@@ -14,12 +14,11 @@ use Rattle.psm_code.specs.declared.code.RawCode.{RawCode}
 use Rattle.psm_code.specs.declared.code.RawRoutine.{RawRoutine}
 use Rattle.psm_code.specs.declared.instruction.Instruction.{Instruction}
 use Rattle.psm_code.specs.declared.lines.CodeLine.{CodeLine}
-use Rattle.psm_code.specs.declared.rule.CodeRule.{CodeRule}
 use Rattle.psm_code.specs.declared.rule.CodeRule.TheVariants.{Range, Target, Stack, Resume, Turn, Place}
 use Rattle.psm_code.specs.declared.rule.CodeRule.TheVariants.{Context as InContext}
 use Rattle.psm_code.specs.Instructions.{instruction_effect}
 use Rattle.psm_code.specs.Parts.{line_at}
-use Rattle.psm_code.specs.RoutineRules.{are_targets, constant_fits, context_behind, context_there, contexts_follow, follows_with, is_bare, is_first_right, is_in, is_resume, is_stated, jump_of, line_fault, line_goes_ahead, may_stand, names_there, resumes_right, stack_follows, stands_right, stated_ahead, stated_away, stated_behind, uses_turn, wants_resume}
+use Rattle.psm_code.specs.RoutineRules.{constant_fits, context_behind, context_there, follows_with, is_bare, is_first_right, is_in, is_resume, is_stated, jump_of, line_fault, line_goes_ahead, may_stand, names_there, resumes_right, stack_follows, stands_right, stated_ahead, stated_away, stated_behind, uses_turn, wants_resume}
 use Rattle.psm_code.specs.Rules.{first_of, is_some, is_there, there, unless, where_there}
 use Rattle.psm_right.specs.Frame.{Ends, Follows, Free}
 

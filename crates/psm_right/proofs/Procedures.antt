@@ -1,5 +1,5 @@
 -- Code that is written for a file keeps its procedures, and what a routine is.
-use Rattle.std.proofs.Common.{◌≡◌, ℕ, suc, Bool, true, false, List, [], ◌∷◌, map, Option, Some, None, option_map, if◌then◌else◌, ap, refl, sym, subst, ◌∙◌}
+use Rattle.std.proofs.Common.{◌≡◌, ℕ, true, false, List, [], ◌∷◌, map, Some, option_map, if◌then◌else◌, ap, refl, sym, subst, ◌∙◌}
 use Rattle.std.specs.Prelude.{filter, slice_get}
 use Rattle.std.proofs.lemmas.Option.{slice_get-map}
 use Rattle.psm_exprcode.specs.declared.op.Letter.{Letter}

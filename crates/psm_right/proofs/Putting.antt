@@ -1,5 +1,5 @@
 -- Lines of operations that are written one behind another break no rule.
-use Rattle.std.proofs.Common.{arith, ◌≡◌, ◌≤◌, ◌<◌, ℕ, suc, Bool, true, false, ◌++◌, not, List, [], ◌∷◌, drop, length, Option, Some, None, ap, refl, sym, ◌∙◌, subst₂, length-append}
+use Rattle.std.proofs.Common.{arith, ◌≡◌, ◌≤◌, ◌<◌, ℕ, suc, true, false, ◌++◌, not, List, [], ◌∷◌, drop, length, Option, Some, None, ap, refl, sym, ◌∙◌, subst₂, length-append}
 use Rattle.std.specs.Prelude.{reverse}
 use Rattle.std.proofs.Math.Seq.{drop-append_seam}
 use Rattle.std.proofs.lemmas.Bool.{false≢true}
@@ -21,7 +21,7 @@ use Rattle.psm_code.specs.Rules.{is_some}
 use Rattle.psm_code.specs.RoutineRules.{context_behind, context_there, jump_of, stands_alone, stands_right}
 use Rattle.psm_emit.specs.Written.{Written, all_applied, applied, here, puts, taken}
 use Rattle.psm_emit.specs.Writing.{Begins, BeginsWith, Grows}
-use Rattle.psm_emit.proofs.Counts.{here-applied, here-puts}
+use Rattle.psm_emit.proofs.Counts.{here-puts}
 use Rattle.psm_emit.proofs.Growth.{begins-earlier, grows-all_applied}
 use Rattle.psm_emit.proofs.There.{line_of, there_at}
 use Rattle.psm_right.specs.Frame.{Ends, Follows, Free}

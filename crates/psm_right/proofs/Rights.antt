@@ -1,5 +1,5 @@
 -- Parts of what is written that are right, one behind another.
-use Rattle.std.proofs.Common.{arith, ◌≡◌, ◌≤◌, ◌<◌, ◌++◌, ℕ, suc, Bool, true, false, not, List, [], ◌∷◌, drop, length, Option, Some, None, ap, refl, sym, subst₂, ◌∙◌, append-nil, ◌||◌}
+use Rattle.std.proofs.Common.{arith, ◌≡◌, ◌++◌, ℕ, Bool, true, false, not, List, [], ◌∷◌, drop, length, Some, None, ap, refl, sym, ◌∙◌, append-nil, ◌||◌}
 use Rattle.std.specs.Prelude.{codes, reverse}
 use Rattle.std.proofs.lemmas.List.{reverse-reverse}
 use Rattle.psm_exprcode.specs.declared.op.Letter.{Letter}
@@ -14,20 +14,18 @@ use Rattle.psm_code.specs.declared.instruction.Instruction.{Instruction}
 use Rattle.psm_code.specs.declared.instruction.Instruction.TheVariants as instruction
 use Rattle.psm_code.specs.declared.lines.CodeLine.{CodeLine}
 use Rattle.psm_code.specs.Instructions.{last}
-use Rattle.psm_code.specs.Parts.{line_at}
 use Rattle.psm_code.specs.Rules.{is_some}
 use Rattle.psm_code.specs.RoutineRules.{context_behind, context_there, jump_of, line_goes_ahead, stands_alone, stands_right}
 use Rattle.psm_resolved.specs.declared.expr.ResolvedExpr.{ResolvedExpr}
 use Rattle.psm_emit.specs.declared.known.Known.{Known}
 use Rattle.psm_emit.specs.Exprs.{Arguments, Writes}
-use Rattle.psm_emit.specs.Written.{Written, applied, here, last_letter, plain, puts, takes, with_query}
-use Rattle.psm_emit.specs.Writing.{Begins, Grows}
+use Rattle.psm_emit.specs.Written.{Written, applied, last_letter, plain, puts, takes, with_query}
 use Rattle.psm_emit.proofs.Counts.{here-applied, here-plain, here-puts, here-takes}
 use Rattle.psm_emit.proofs.Growth.{begins-earlier, grows-applied, grows-arguments, grows-here, grows-on, grows-plain, grows-puts, grows-query, grows-takes, grows-writes}
 use Rattle.psm_emit.proofs.There.{line_of, there_at}
 use Rattle.psm_sound.specs.Expressions.{AreExprs, IsExpr}
 use Rattle.psm_sound.specs.Scene.{Scene}
-use Rattle.psm_right.specs.Frame.{Ends, Follows, Free, Right}
+use Rattle.psm_right.specs.Frame.{Ends, Follows, Right}
 use Rattle.psm_right.specs.Kept.{Keeps}
 use Rattle.psm_right.specs.Proper.{AllProper, Proper}
 use Rattle.psm_right.proofs.Asking.{duplicate-does}

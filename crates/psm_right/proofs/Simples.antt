@@ -1,5 +1,5 @@
 -- Parts of simple statements that are written break no rule.
-use Rattle.std.proofs.Common.{◌≡◌, ◌++◌, ℕ, suc, Bool, true, false, List, [], ◌∷◌, drop, length, replicate, Option, Some, None, option_map, ap, refl, sym, subst, ◌∙◌}
+use Rattle.std.proofs.Common.{◌≡◌, ◌++◌, ℕ, true, List, [], ◌∷◌, drop, length, replicate, Option, Some, None, option_map, ap, refl, sym, subst, ◌∙◌}
 use Rattle.std.specs.Prelude.{codes, reverse, slice_get}
 use Rattle.std.specs.List.{flat_map}
 use Rattle.std.proofs.lemmas.Bool.{false≢true}
@@ -15,11 +15,8 @@ use Rattle.psm_exprcode.specs.declared.op.Op.TheVariants as op
 use Rattle.psm_exprcode.specs.Kinds.{is_value, letter_of}
 use Rattle.psm_exprcode.specs.Operations.{plain}
 use Rattle.psm_resolved.specs.declared.expr.ResolvedExpr.{ResolvedExpr}
-use Rattle.psm_resolved.specs.declared.file.ParameterMode.{ParameterMode}
-use Rattle.psm_resolved.specs.declared.file.ParameterMode.TheVariants as modes
 use Rattle.psm_resolved.specs.declared.file.ResolvedParameter.{ResolvedParameter}
 use Rattle.psm_resolved.specs.declared.statement.ResolvedArgument.{ResolvedArgument}
-use Rattle.psm_resolved.specs.declared.statement.ResolvedArgument.TheVariants as arguments
 use Rattle.psm_resolved.specs.declared.statement.ResolvedDeclaration.{ResolvedDeclaration}
 use Rattle.psm_resolved.specs.declared.statement.ResolvedNumber.{ResolvedNumber}
 use Rattle.psm_resolved.specs.declared.statement.ResolvedNumber.TheVariants as numbers
@@ -35,7 +32,7 @@ use Rattle.psm_emit.specs.declared.known.Known.{Known}
 use Rattle.psm_emit.specs.Exprs.{Writes}
 use Rattle.psm_emit.specs.Simples.{CallArguments, Declares, Default, Signals, WritesRows, condition_items, copied, item_stored, letter_of_slots, number_op, statement_items}
 use Rattle.psm_emit.specs.Simples as written
-use Rattle.psm_emit.specs.Written.{Written, applied, last_letter, letter_at, puts, takes}
+use Rattle.psm_emit.specs.Written.{Written, applied, letter_at, puts, takes}
 use Rattle.psm_sound.specs.Scene.{Each, Scene, letters_of, taken_by, with_taken}
 use Rattle.psm_sound.specs.Statements.{AreArguments, IsDeclaration, IsDefault, IsMessage}
 use Rattle.psm_right.specs.Frame.{Ends, Follows, Right}
@@ -136,7 +133,7 @@ module _ {e : Scene} {known : Known} {code : RawCode} {r : RawRoutine} {context 
       let k = statement_letter i.1 in
       let asked = puts context resume (instruction.StatementItem i.1) 0 (k ∷ []) w in
       let one : Right code r context resume w asked (k ∷ s) = puts-right first there ends (instruction.StatementItem i.1) (codes "GETS") [] (k ∷ []) s 0 w
-          (record { names = refl; place = refl; fits = refl; value = N; other = B; is_value = refl; effect = refl }) (record { stands = refl; right = λ l. refl; behind = λ l. refl }) refl refl q in
+      (record { names = refl; place = refl; fits = refl; value = N; other = B; is_value = refl; effect = refl }) (record { stands = refl; right = λ l. refl; behind = λ l. refl }) refl refl q in
       let two = store-right keeps first there ends i.0 k s asked h.0 one.stack in
       right-then one (right-then two (statement_items-right items s (takes context resume (instruction.Store i.0) 1 asked) h.1 two.stack))
 
@@ -145,7 +142,7 @@ module _ {e : Scene} {known : Known} {code : RawCode} {r : RawRoutine} {context 
       let k = condition_letter i.1 in
       let asked = puts context resume (instruction.ConditionItem i.1) 1 (k ∷ []) w in
       let one : Right code r context resume w asked (k ∷ s) = puts-right first there ends (instruction.ConditionItem i.1) (codes "GETC") (N ∷ []) (k ∷ []) s 1 w
-          (record { names = refl; place = refl; fits = refl; value = N; other = B; is_value = refl; effect = refl }) (record { stands = refl; right = λ l. refl; behind = λ l. refl }) refl refl q in
+      (record { names = refl; place = refl; fits = refl; value = N; other = B; is_value = refl; effect = refl }) (record { stands = refl; right = λ l. refl; behind = λ l. refl }) refl refl q in
       right-then one (store-right keeps first there ends i.0 k s asked h one.stack)
 
   number-copied : (s : List Letter) (w : Written) → w.stack ≡ N ∷ s → Right code r context resume w (applied context resume op.Duplicate 0 N w) (N ∷ N ∷ s)

@@ -1,12 +1,10 @@
 -- Simple statements that are written break no rule: they begin and end with no operand.
-use Rattle.std.proofs.Common.{arith, ◌≡◌, ◌++◌, ◌-◌, ℕ, suc, Bool, true, false, not, ◌&&◌, List, [], ◌∷◌, length, Option, Some, None, option_map, ap, refl, sym, subst, ◌∙◌, append-nil}
+use Rattle.std.proofs.Common.{arith, ◌≡◌, ◌++◌, ℕ, true, not, ◌&&◌, List, [], ◌∷◌, length, Option, Some, None, option_map, ap, refl, sym, subst, ◌∙◌, append-nil}
 use Rattle.std.specs.Prelude.{codes, reverse, slice_get}
-use Rattle.std.proofs.lemmas.List.{length-reverse}
 use Rattle.psm_cond.specs.declared.item.ConditionItem.{ConditionItem}
 use Rattle.psm_cond.specs.declared.item.StatementItem.{StatementItem}
 use Rattle.psm_value.specs.declared.sqltype.SqlType.{SqlType}
-use Rattle.psm_exprcode.specs.declared.op.Letter.{Letter}
-use Rattle.psm_exprcode.specs.declared.op.Letter.TheVariants.{N, T, B}
+use Rattle.psm_exprcode.specs.declared.op.Letter.TheVariants.{N, B}
 use Rattle.psm_exprcode.specs.declared.query.Query.{Query}
 use Rattle.psm_exprcode.specs.Kinds.{letter_of}
 use Rattle.psm_exprcode.specs.Operations.{plain}
@@ -21,7 +19,7 @@ use Rattle.psm_code.specs.declared.instruction.Instruction.TheVariants as instru
 use Rattle.psm_code.specs.Instructions.{last, letters_of_query, of_routine, parameter_letters, procedure_effect, putting}
 use Rattle.psm_code.specs.Parts.{giving, routine_at}
 use Rattle.psm_code.specs.Rules.{is_some, is_there, there, where_there}
-use Rattle.psm_code.specs.RoutineRules.{context_there, goes_ahead, line_goes_ahead}
+use Rattle.psm_code.specs.RoutineRules.{context_there, goes_ahead}
 use Rattle.psm_meaning.specs.Calls.{returns}
 use Rattle.psm_lower.specs.Scheme.{slots_given}
 use Rattle.psm_emit.specs.declared.known.Known.{Known}
@@ -31,7 +29,6 @@ use Rattle.psm_emit.specs.Parts.{Parts}
 use Rattle.psm_emit.specs.Queries.{QueryMade, is_query, item_letters}
 use Rattle.psm_emit.specs.Simples.{CallArguments, Signals, cleared, condition_items, more_operands, number_op, retrieved, statement_items, stored}
 use Rattle.psm_emit.specs.Written.{Written, applied, letter_at, letters_at, puts, takes, with_query}
-use Rattle.psm_emit.specs.Writing.{BeginsWith}
 use Rattle.psm_sound.specs.Expressions.{IsExpr}
 use Rattle.psm_sound.specs.Scene.{Scene, letters_of, taken_by}
 use Rattle.psm_sound.specs.Statements.{AreArguments, IsFor, IsMessage}
@@ -41,9 +38,8 @@ use Rattle.psm_right.specs.Proper.{PerhapsProper, Proper}
 use Rattle.psm_right.specs.ProperSimples.{ConditionSlots, NumberOf, ProperArguments, StatementSlots}
 use Rattle.psm_right.proofs.Lines.{Does}
 use Rattle.psm_right.proofs.Procedures.{letters_given, slots-back}
-use Rattle.psm_right.proofs.Putting.{Calm}
-use Rattle.psm_right.proofs.Rights.{Alone, alone-right, clear-right, last-right, puts-right, query-right, right-then, source-part}
-use Rattle.psm_right.proofs.Simples.{call-right, condition_items-right, number-right, right-as, signals-right, slot-of, statement_items-right, variable-letter}
+use Rattle.psm_right.proofs.Rights.{alone-right, clear-right, last-right, puts-right, query-right, right-then, source-part}
+use Rattle.psm_right.proofs.Simples.{call-right, condition_items-right, number-right, signals-right, slot-of, statement_items-right, variable-letter}
 use Rattle.psm_right.proofs.Slots.{retrieved-right, store-right, stored-right}
 
 module _ {e : Scene} {known : Known} {code : RawCode} {r : RawRoutine} {context resume : ℕ} (keeps : Keeps e known code r) (is : KeepsRoutine e known r) (first : Follows r 0 0 []) (in_routine : context_there r context ≡ true) (ends : Ends r resume context) where
@@ -54,7 +50,7 @@ module _ {e : Scene} {known : Known} {code : RawCode} {r : RawRoutine} {context 
       let here : SlotOf e slot k = slot-of e slot t.type t.there in
       let zero = clear-right first in_routine ends p.code q in
       let one : Right code r context resume (cleared context p) w (k ∷ p.code.stack) =
-        source-part first in_routine ends keeps (subst (λ l. Writes known context resume l x (cleared context p) w) (variable-letter keeps first in_routine ends slot k here) a) t.source o in
+      source-part first in_routine ends keeps (subst (λ l. Writes known context resume l x (cleared context p) w) (variable-letter keeps first in_routine ends slot k here) a) t.source o in
       right-then zero (right-then one (store-right keeps first in_routine ends slot k [] w here (one.stack ∙ ap (λ s. k ∷ s) q)))
 
   -- RETURN stands in a function
@@ -66,8 +62,8 @@ module _ {e : Scene} {known : Known} {code : RawCode} {r : RawRoutine} {context 
       let type : r.returns ≡ Some t = is.returns ∙ h in
       let one : Right code r context resume w v (k ∷ w.stack) = source-part first in_routine ends keeps (subst (λ l. Writes known context resume l x w v) known_result a) s o in
       right-then one (last-right first in_routine ends instruction.Return (codes "RETV") k [] v
-        (record { names = refl; place = is.kind ∙ ap returns h; fits = refl; value = N; other = B; is_value = refl; effect = ap (option_map (λ u. last (codes "RETV") (letter_of u ∷ []))) type })
-        (record { stands = refl; right = λ l. refl; behind = λ l. refl }) refl (ap (λ o. goes_ahead (option_map (λ u. last (codes "RETV") (letter_of u ∷ [])) o)) type) (one.stack ∙ ap (λ z. k ∷ z) q))
+      (record { names = refl; place = is.kind ∙ ap returns h; fits = refl; value = N; other = B; is_value = refl; effect = ap (option_map (λ u. last (codes "RETV") (letter_of u ∷ []))) type })
+      (record { stands = refl; right = λ l. refl; behind = λ l. refl }) refl (ap (λ o. goes_ahead (option_map (λ u. last (codes "RETV") (letter_of u ∷ [])) o)) type) (one.stack ∙ ap (λ z. k ∷ z) q))
 
   -- CALL stands in a procedure
   pub call-statement : (n : ℕ) (args : List ResolvedArgument) (ps : List ResolvedParameter) (p : Parts) (w : Written) → CallArguments known context resume (letters_at known.takes n) 0 args (cleared context p) w
@@ -92,7 +88,7 @@ module _ {e : Scene} {known : Known} {code : RawCode} {r : RawRoutine} {context 
       } in
       let called = puts context resume (instruction.Call n) (more_operands p w) (letters_at known.gives n) w in
       let two : Right code r context resume w called (js ++ []) = subst (λ ls. Right code r context resume w (puts context resume (instruction.Call n) (more_operands p w) ls w) (js ++ [])) (sym kept.gives)
-        (puts-right first in_routine ends (instruction.Call n) (codes "CALL") (reverse ks) js [] (more_operands p w) w does (record { stands = refl; right = λ l. refl; behind = λ l. refl }) refl (omega (arith, many, below)) all) in
+      (puts-right first in_routine ends (instruction.Call n) (codes "CALL") (reverse ks) js [] (more_operands p w) w does (record { stands = refl; right = λ l. refl; behind = λ l. refl }) refl (omega (arith, many, below)) all) in
       right-then zero (right-then one (right-then two (stored-right keeps first in_routine ends (slots_given args) js [] called (slots-back e known args ps t o) two.stack)))
 
   -- ---- conditions, whose number is there
@@ -133,9 +129,14 @@ module _ {e : Scene} {known : Known} {code : RawCode} {r : RawRoutine} {context 
       let ks = item_letters known query in
       let asked = puts context resume (instruction.SelectRow n) 0 ks (with_query made (cleared context p)) in
       let does : Does code r (instruction.SelectRow n) (plain (codes "ROW") [] ks) = record {
-        names = ap there at; place = refl; fits = refl; value = N; other = B; is_value = refl;
+        names = ap there at;
+        place = refl;
+        fits = refl;
+        value = N;
+        other = B;
+        is_value = refl;
         effect = ap (λ o. putting (codes "ROW") (option_map (letters_of_query code r) o)) at ∙ ap (λ ls. putting (codes "ROW") (Some ls)) (keeps.queries query made v m);
       } in
       let one : Right code r context resume (with_query made (cleared context p)) asked (ks ++ []) = puts-right first in_routine ends (instruction.SelectRow n) (codes "ROW") [] ks [] 0 (with_query made (cleared context p)) does
-        (record { stands = refl; right = λ l. refl; behind = λ l. refl }) refl refl q in
+      (record { stands = refl; right = λ l. refl; behind = λ l. refl }) refl refl q in
       right-then (clear-right first in_routine ends p.code q) (right-then (query-right made (cleared context p) q) (right-then one (retrieved-right keeps first in_routine ends slots ks asked h (one.stack ∙ append-nil ks))))

@@ -1,5 +1,5 @@
 -- Operands that go into variables of their letters.
-use Rattle.std.proofs.Common.{◌≡◌, ◌++◌, ℕ, suc, Bool, true, false, List, [], ◌∷◌, map, length, Option, Some, None, option_map, ap, refl, sym, ◌∙◌, append-nil}
+use Rattle.std.proofs.Common.{◌≡◌, ◌++◌, ℕ, true, List, [], ◌∷◌, Some, ap, refl, sym, ◌∙◌, append-nil}
 use Rattle.std.specs.Prelude.{codes, slice_get}
 use Rattle.std.proofs.lemmas.Option.{slice_get-map}
 use Rattle.psm_value.specs.declared.sqltype.SqlType.{SqlType}
@@ -11,24 +11,21 @@ use Rattle.psm_exprcode.specs.Kinds.{is_value, letter_of}
 use Rattle.psm_exprcode.specs.Operations.{plain}
 use Rattle.psm_code.specs.declared.code.RawCode.{RawCode}
 use Rattle.psm_code.specs.declared.code.RawRoutine.{RawRoutine}
-use Rattle.psm_code.specs.declared.instruction.Instruction.{Instruction}
 use Rattle.psm_code.specs.declared.instruction.Instruction.TheVariants as instruction
 use Rattle.psm_code.specs.Instructions.{slot_letter, taking_from}
 use Rattle.psm_code.specs.Parts.{slots_of}
-use Rattle.psm_code.specs.Rules.{there}
-use Rattle.psm_code.specs.RoutineRules.{context_there, jump_of}
+use Rattle.psm_code.specs.RoutineRules.{context_there}
 use Rattle.psm_emit.specs.declared.known.Known.{Known}
 use Rattle.psm_emit.specs.Simples.{copied, retrieved, stored}
 use Rattle.psm_emit.specs.Written.{Written, applied, last_letter, takes}
-use Rattle.psm_sound.specs.Scene.{Scene, variables_of}
+use Rattle.psm_sound.specs.Scene.{Scene}
 use Rattle.psm_right.specs.Frame.{Ends, Follows, Right}
 use Rattle.psm_right.specs.Kept.{AreSlots, EachOf, Keeps, SlotOf}
-use Rattle.psm_right.proofs.Asking.{drop-does, duplicate-does}
+use Rattle.psm_right.proofs.Asking.{drop-does}
 use Rattle.psm_right.proofs.Forms.{there-mapped}
 use Rattle.psm_right.proofs.Lines.{Does}
 use Rattle.psm_right.proofs.Putting.{Calm, calm-operation}
-use Rattle.psm_right.proofs.Rights.{Alone, alone-right, duplicate-right, puts-right, right-none, right-then}
-use Rattle.psm_right.proofs.Stacks.{last-is}
+use Rattle.psm_right.proofs.Rights.{alone-right, duplicate-right, puts-right, right-none, right-then}
 
 pub type-value : (t : SqlType) → is_value (letter_of t) ≡ true
 type-value SmallInt = refl
@@ -71,7 +68,7 @@ module _ {e : Scene} {known : Known} {code : RawCode} {r : RawRoutine} (keeps : 
     retrieved-each (slot ∷ slots) [] s w h q = absurd h
     retrieved-each (slot ∷ slots) (k ∷ ks) s w h q =
         let one : Right code r context resume w (takes context resume (instruction.Retrieve slot) 1 w) (ks ++ s) =
-          puts-right first known_context ends (instruction.Retrieve slot) (codes "FSTORE") (k ∷ []) [] (ks ++ s) 1 w (retrieve-does slot k h.0) (calm-retrieve slot) refl refl q in
+        puts-right first known_context ends (instruction.Retrieve slot) (codes "FSTORE") (k ∷ []) [] (ks ++ s) 1 w (retrieve-does slot k h.0) (calm-retrieve slot) refl refl q in
         right-then one (retrieved-each slots ks s (takes context resume (instruction.Retrieve slot) 1 w) h.1 one.stack)
 
     -- the items of a row
@@ -79,7 +76,7 @@ module _ {e : Scene} {known : Known} {code : RawCode} {r : RawRoutine} (keeps : 
     retrieved-right slots ks w h q =
         let all = retrieved-each slots ks [] w h (q ∙ sym (append-nil ks)) in
         right-then all (alone-right first known_context ends instruction.Warn (codes "WARN") [] (stored context resume (λ slot. instruction.Retrieve slot) slots w)
-          (record { names = refl; place = refl; fits = refl; value = N; other = B; is_value = refl; effect = refl }) (record { right = λ l. refl; behind = λ l. refl; stays = refl }) all.stack)
+        (record { names = refl; place = refl; fits = refl; value = N; other = B; is_value = refl; effect = refl }) (record { right = λ l. refl; behind = λ l. refl; stays = refl }) all.stack)
 
     -- the last operand goes into each of several variables of its letter
     pub copied-right : (slots : List ℕ) (k : Letter) (s : List Letter) (w : Written) → is_value k ≡ true → EachOf e slots k → w.stack ≡ k ∷ s → Right code r context resume w (copied context resume slots w) s

@@ -1,5 +1,5 @@
 -- Of what letters the parts of a sound expression are, form by form.
-use Rattle.std.proofs.Common.{◌≡◌, ℕ, true, List, [], ◌∷◌, Option, Some, None, ap, refl, sym, subst, replicate, length}
+use Rattle.std.proofs.Common.{◌≡◌, List, [], ◌∷◌, Some, None, refl, sym, subst, replicate, length}
 use Rattle.std.specs.Prelude.{IsTrue, slice_get}
 use Rattle.psm_value.specs.declared.sqltype.SqlType.{SqlType}
 use Rattle.psm_exprcode.specs.declared.op.Letter.{Letter}
