@@ -1,6 +1,7 @@
 -- Code that is written for a file keeps its procedures, and what a routine is.
-use Rattle.std.proofs.Common.{◌≡◌, ℕ, true, false, List, [], ◌∷◌, map, Some, option_map, if◌then◌else◌, ap, refl, sym, subst, ◌∙◌}
+use Rattle.std.proofs.Common.{Bool, not, ◌≡◌, ℕ, zero, suc, true, false, List, [], ◌∷◌, map, Some, option_map, if◌then◌else◌, ap, refl, sym, subst, ◌∙◌}
 use Rattle.std.specs.Prelude.{filter, slice_get}
+use Rattle.std.proofs.lemmas.Bool.{false≢true}
 use Rattle.std.proofs.lemmas.Option.{slice_get-map}
 use Rattle.psm_exprcode.specs.declared.op.Letter.{Letter}
 use Rattle.psm_exprcode.specs.Kinds.{letter_of}
@@ -21,17 +22,16 @@ use Rattle.psm_lower.specs.Scheme.{slots_given}
 use Rattle.psm_lower.specs.Simulation.{mode_of, parameter_of}
 use Rattle.psm_emit.specs.declared.known.Known.{Known}
 use Rattle.psm_emit.specs.Files.{FileWritten, RoutineWritten, gives_back, is_function, known_of, letters_of}
+use Rattle.psm_meaning.specs.Calls.{procedure_at, returns}
+use Rattle.psm_emit.specs.Simples.{procedure_number}
 use Rattle.psm_emit.specs.Written.{letters_or}
+use Rattle.psm_emit.proofs.Numbers.{known_procedures}
 use Rattle.psm_sound.specs.Scene.{Scene, taken_by, with_taken}
 use Rattle.psm_sound.specs.Scene as scenes
 use Rattle.psm_sound.specs.Statements.{AreArguments}
-use Rattle.psm_right.specs.Kept.{AreSlots, KeepsProcedure, KeepsRoutine}
+use Rattle.psm_right.specs.Kept.{AreSlots, KeepsProcedure, KeepsRoutine, letters_given}
 use Rattle.psm_right.specs.ProperSimples.{ProperArguments}
 use Rattle.psm_right.proofs.Keeping.{routine-written, taken-letters}
-
--- the letters of the parameters that give a value back
-abbrev pub letters_given : List ResolvedParameter → List Letter
-letters_given ps = map (λ p. letter_of p.kind) (filter (λ p. gives_back p.mode) ps)
 
 taking-one : (m : ParameterMode) (p : Parameter) (kept : List Parameter) (q : ResolvedParameter) (others : List ResolvedParameter) → letter_of p.kind ≡ letter_of q.kind → parameter_letters kept ≡ map (λ x. letter_of x.kind) others
     → parameter_letters (if takes (mode_of m) then p ∷ kept else kept) ≡ map (λ x. letter_of x.kind) (if wants m then q ∷ others else others)
@@ -91,3 +91,24 @@ slots-back e known (arguments.InOut slot ∷ others) [] t p = absurd t
 slots-back e known (arguments.In x ∷ others) (q ∷ ps) t p = none-back e (slots_given others) q.mode q (filter (λ y. gives_back y.mode) ps) (ap gives_back t.0.0) (slots-back e known others ps t.1 p.1)
 slots-back e known (arguments.Out slot ∷ others) (q ∷ ps) t p = back-one e slot (slots_given others) q.mode q (filter (λ y. gives_back y.mode) ps) (ap gives_back t.0.0) (p.0, slots-back e known others ps t.1 p.1)
 slots-back e known (arguments.InOut slot ∷ others) (q ∷ ps) t p = back-one e slot (slots_given others) q.mode q (filter (λ y. gives_back y.mode) ps) (ap gives_back t.0.0) (p.0, slots-back e known others ps t.1 p.1)
+
+-- ---- the procedures of a file
+
+kept-one : {A : Type 0} (test : A → Bool) (x a : A) (others : List A) (b : Bool) (n : ℕ) → ((i : ℕ) → slice_get others i ≡ Some a → test a ≡ true) → test x ≡ b → slice_get (if b then x ∷ others else others) n ≡ Some a → test a ≡ true
+kept-one test x a others false n rest q g = rest n g
+kept-one test x a others true zero rest q g = let same : x ≡ a = cc in ap test (sym same) ∙ q
+kept-one test x a others true (suc n) rest q g = rest n g
+
+filtered : {A : Type 0} (test : A → Bool) (xs : List A) (i : ℕ) (a : A) → slice_get (filter test xs) i ≡ Some a → test a ≡ true
+filtered test [] i a h = absurd (cc)
+filtered test (x ∷ xs) i a h = kept-one test x a (filter test xs) (test x) i (λ n g. filtered test xs n a g) refl h
+
+not-true : (b : Bool) → not b ≡ true → b ≡ false
+not-true false h = refl
+not-true true h = absurd (false≢true h)
+
+pub procedures-kept : (e : Scene) (code : RawCode) → FileWritten e.file code → (n : ℕ) (routine : ResolvedRoutine) → procedure_at e.file n ≡ Some routine
+    → KeepsProcedure (known_of e.file e.routine) code (procedure_number (known_of e.file e.routine) n) (scenes.letters_of (taken_by routine.parameters)) (letters_given routine.parameters)
+procedures-kept e code w n routine at =
+    procedure-kept e.file e.routine routine code (procedure_number (known_of e.file e.routine) n) w (known_procedures e.file e.routine n routine at)
+    (not-true (is_function routine) (filtered (λ r. not (returns r.returns)) e.file.routines n routine at))

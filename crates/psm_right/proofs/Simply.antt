@@ -33,11 +33,11 @@ use Rattle.psm_sound.specs.Expressions.{IsExpr}
 use Rattle.psm_sound.specs.Scene.{Scene, letters_of, taken_by}
 use Rattle.psm_sound.specs.Statements.{AreArguments, IsFor, IsMessage}
 use Rattle.psm_right.specs.Frame.{Ends, Follows, Right}
-use Rattle.psm_right.specs.Kept.{AreSlots, Keeps, KeepsProcedure, KeepsRoutine, SlotOf}
+use Rattle.psm_right.specs.Kept.{AreSlots, Keeps, KeepsProcedure, KeepsRoutine, SlotOf, letters_given}
 use Rattle.psm_right.specs.Proper.{PerhapsProper, Proper}
 use Rattle.psm_right.specs.ProperSimples.{ConditionSlots, NumberOf, ProperArguments, StatementSlots}
 use Rattle.psm_right.proofs.Lines.{Does}
-use Rattle.psm_right.proofs.Procedures.{letters_given, slots-back}
+use Rattle.psm_right.proofs.Procedures.{slots-back}
 use Rattle.psm_right.proofs.Rights.{alone-right, clear-right, last-right, puts-right, query-right, right-then, source-part}
 use Rattle.psm_right.proofs.Simples.{call-right, condition_items-right, number-right, signals-right, slot-of, statement_items-right, variable-letter}
 use Rattle.psm_right.proofs.Slots.{retrieved-right, store-right, stored-right}

@@ -1,11 +1,12 @@
 -- What code keeps of a file, where the lines of one of its routines are written: the letters of variables, of functions and of queries.
-use Rattle.std.specs.Prelude.{◌≡◌, ℕ, true, false, List, [], ◌∷◌, Some, not, slice_get}
+use Rattle.std.specs.Prelude.{◌≡◌, ℕ, true, false, List, [], ◌∷◌, Some, not, filter, map, slice_get}
 use Rattle.std.specs.List.{list_all}
 use Rattle.psm_value.specs.declared.sqltype.SqlType.{SqlType}
 use Rattle.psm_exprcode.specs.declared.op.Letter.{Letter}
 use Rattle.psm_exprcode.specs.declared.query.Query.{Query}
 use Rattle.psm_exprcode.specs.Kinds.{letter_of}
 use Rattle.psm_resolved.specs.declared.expr.ResolvedQuery.{ResolvedQuery}
+use Rattle.psm_resolved.specs.declared.file.ResolvedParameter.{ResolvedParameter}
 use Rattle.psm_resolved.specs.declared.file.ResolvedRoutine.{ResolvedRoutine}
 use Rattle.psm_meaning.specs.Calls.{function_at, returns}
 use Rattle.psm_code.specs.declared.code.RawCode.{RawCode}
@@ -55,6 +56,10 @@ pub record Keeps (e : Scene) (known : Known) (code : RawCode) (r : RawRoutine) :
   pub queries : QueriesKeep known code r
 
 -- ---- the routine itself, and procedures
+
+-- the letters of the parameters that give a value back
+abbrev pub letters_given : List ResolvedParameter → List Letter
+letters_given ps = map (λ p. letter_of p.kind) (filter (λ p. gives_back p.mode) ps)
 
 pub record KeepsRoutine (e : Scene) (known : Known) (r : RawRoutine) : Type 0 where
   pub returns : r.returns ≡ e.routine.returns
