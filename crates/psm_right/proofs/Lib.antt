@@ -17,3 +17,4 @@ pub mod Simply
 pub mod Contexts
 pub mod Whole
 pub mod Changing
+pub mod Doing
