@@ -31,7 +31,7 @@ use Rattle.psm_emit.proofs.There.{there_at}
 use Rattle.psm_sound.specs.Scene.{Scene, letters_of, taken_by}
 use Rattle.psm_sound.specs.Statements.{IsSimple, Sight}
 use Rattle.psm_right.specs.Frame.{Ends, Follows, Right}
-use Rattle.psm_right.specs.Kept.{Keeps, KeepsProcedure, KeepsRoutine, letters_given}
+use Rattle.psm_right.specs.Kept.{Keeps, KeepsProcedures, KeepsRoutine}
 use Rattle.psm_right.specs.ProperSimples.{ConditionThere, PartsBegin, ProperSimple}
 use Rattle.psm_right.proofs.Changing.{changed-right, changed_query-right, close-right, fetch-right, insert-right, open-right}
 use Rattle.psm_right.proofs.Simply.{call-statement, condition_diagnostics-right, resignal-right, resignal_condition-right, return-right, select_into-right, set-right, signal-right, statement_diagnostics-right}
@@ -53,7 +53,7 @@ deletes-none code (written.delete_where t) = refl
 deletes-none code written.delete_current = refl
 
 module _ {e : Scene} {known : Known} {code : RawCode} {r : RawRoutine} {context resume : ℕ} (keeps : Keeps e known code r) (is : KeepsRoutine e known r) (first : Follows r 0 0 []) (in_routine : context_there r context ≡ true) (ends : Ends r resume context)
-    (procedures : (n : ℕ) (routine : ResolvedRoutine) → procedure_at e.file n ≡ Some routine → KeepsProcedure known code (procedure_number known n) (letters_of (taken_by routine.parameters)) (letters_given routine.parameters)) where
+    (procedures : KeepsProcedures e known code) where
   pub simple-right : {around : List Around} {x : ResolvedSimple} {p q : Parts} (s : Sight) → WritesSimple known context resume around x p q → IsSimple e s x → ProperSimple e known code r p x → PartsBegin q r → p.code.stack ≡ []
       → ((level : ℕ) → Right code r context resume p.code (leaves around level context p.code) []) → ((level : ℕ) → Right code r context resume p.code (iterates around level context p.code) []) → Right code r context resume p.code q.code []
   simple-right {p = p} sight (written.set {slot = slot} {e = x} {w = w} a) t o b h leave iterate = set-right keeps is first in_routine ends slot x p w a t o h
@@ -80,3 +80,8 @@ module _ {e : Scene} {known : Known} {code : RawCode} {r : RawRoutine} {context 
   simple-right {p = p} sight (written.open_ {cursor = cursor}) t o b h leave iterate = open-right keeps is first in_routine ends cursor p o h
   simple-right {p = p} sight (written.fetch_ {cursor = cursor} {slots = slots}) t o b h leave iterate = fetch-right keeps is first in_routine ends cursor slots p o.0 o.1 o.2 h
   simple-right {p = p} sight (written.close_ {cursor = cursor}) t o b h leave iterate = close-right keeps is first in_routine ends cursor p o h
+
+pub simple-statement : (e : Scene) (known : Known) (code : RawCode) (r : RawRoutine) (context resume : ℕ) → Keeps e known code r → KeepsProcedures e known code → KeepsRoutine e known r → Follows r 0 0 [] → context_there r context ≡ true → Ends r resume context
+    → (around : List Around) (s : Sight) (x : ResolvedSimple) (p q : Parts) → IsSimple e s x → ProperSimple e known code r p x → WritesSimple known context resume around x p q → PartsBegin q r → p.code.stack ≡ []
+    → ((level : ℕ) → Right code r context resume p.code (leaves around level context p.code) []) → ((level : ℕ) → Right code r context resume p.code (iterates around level context p.code) []) → Right code r context resume p.code q.code []
+simple-statement e known code r context resume keeps procedures is first in_routine ends around s x p q t o a b h leave iterate = simple-right keeps is first in_routine ends procedures s a t o b h leave iterate

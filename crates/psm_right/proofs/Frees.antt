@@ -115,7 +115,7 @@ module _ {e : Scene} {known : Known} {code : RawCode} {r : RawRoutine} {context 
         let number = length w.queries in
         let there_is : slice_get r.queries number ≡ Some made = there_at w.queries b.queries in
         puts-free first there ends (instruction.Scalar number) (codes "SCALAR") [] (letter_at (item_letters known query) 0 ∷ []) w.stack 0 (with_query made w) b
-        (scalar-does there_is (keeps.queries query made is m ∙ known_letters ∙ ap (λ ls. letter_at ls 0 ∷ []) (sym known_letters))) (calm-scalar number) refl refl refl h f
+        (scalar-does there_is (keeps.queries query made number is m there_is ∙ known_letters ∙ ap (λ ls. letter_at ls 0 ∷ []) (sym known_letters))) (calm-scalar number) refl refl refl h f
     writes-free {w = w} (written.exists query made q m) t p n b h f =
         let number = length w.queries in
         let there_is : slice_get r.queries number ≡ Some made = there_at w.queries b.queries in

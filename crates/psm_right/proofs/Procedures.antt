@@ -26,12 +26,12 @@ use Rattle.psm_meaning.specs.Calls.{procedure_at, returns}
 use Rattle.psm_emit.specs.Simples.{procedure_number}
 use Rattle.psm_emit.specs.Written.{letters_or}
 use Rattle.psm_emit.proofs.Numbers.{known_procedures}
-use Rattle.psm_sound.specs.Scene.{Scene, taken_by, with_taken}
+use Rattle.psm_sound.specs.Scene.{Begin, Scene, taken_by, with_taken}
 use Rattle.psm_sound.specs.Scene as scenes
 use Rattle.psm_sound.specs.Statements.{AreArguments}
-use Rattle.psm_right.specs.Kept.{AreSlots, KeepsProcedure, KeepsRoutine, letters_given}
+use Rattle.psm_right.specs.Kept.{AreSlots, FunctionTakes, Keeps, KeepsProcedure, KeepsProcedures, KeepsRoutine, QueriesKeep, letters_given}
 use Rattle.psm_right.specs.ProperSimples.{ProperArguments}
-use Rattle.psm_right.proofs.Keeping.{routine-written, taken-letters}
+use Rattle.psm_right.proofs.Keeping.{keeps-written, routine-written, taken-letters}
 
 taking-one : (m : ParameterMode) (p : Parameter) (kept : List Parameter) (q : ResolvedParameter) (others : List ResolvedParameter) → letter_of p.kind ≡ letter_of q.kind → parameter_letters kept ≡ map (λ x. letter_of x.kind) others
     → parameter_letters (if takes (mode_of m) then p ∷ kept else kept) ≡ map (λ x. letter_of x.kind) (if wants m then q ∷ others else others)
@@ -112,3 +112,10 @@ pub procedures-kept : (e : Scene) (code : RawCode) → FileWritten e.file code �
 procedures-kept e code w n routine at =
     procedure-kept e.file e.routine routine code (procedure_number (known_of e.file e.routine) n) w (known_procedures e.file e.routine n routine at)
     (not-true (is_function routine) (filtered (λ r. not (returns r.returns)) e.file.routines n routine at))
+
+-- ---- all that is kept
+
+pub all-kept : (e : Scene) (code : RawCode) (r : RawRoutine) → FileWritten e.file code → RoutineWritten (known_of e.file e.routine) e.routine r → Begin e.routine.parameters e.routine.slots
+    → ((n : ℕ) (routine : ResolvedRoutine) → slice_get e.file.routines n ≡ Some routine → FunctionTakes routine) → QueriesKeep (known_of e.file e.routine) code r
+    → Keeps e (known_of e.file e.routine) code r × KeepsProcedures e (known_of e.file e.routine) code × KeepsRoutine e (known_of e.file e.routine) r
+all-kept e code r w routine begin takes queries = (keeps-written e code r w routine begin takes queries, procedures-kept e code w, routine-kept e r routine)

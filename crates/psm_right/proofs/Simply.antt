@@ -135,7 +135,7 @@ module _ {e : Scene} {known : Known} {code : RawCode} {r : RawRoutine} {context 
         value = N;
         other = B;
         is_value = refl;
-        effect = ap (λ o. putting (codes "ROW") (option_map (letters_of_query code r) o)) at ∙ ap (λ ls. putting (codes "ROW") (Some ls)) (keeps.queries query made v m);
+        effect = ap (λ o. putting (codes "ROW") (option_map (letters_of_query code r) o)) at ∙ ap (λ ls. putting (codes "ROW") (Some ls)) (keeps.queries query made n v m at);
       } in
       let one : Right code r context resume (with_query made (cleared context p)) asked (ks ++ []) = puts-right first in_routine ends (instruction.SelectRow n) (codes "ROW") [] ks [] 0 (with_query made (cleared context p)) does
       (record { stands = refl; right = λ l. refl; behind = λ l. refl }) refl refl q in

@@ -8,7 +8,7 @@ use Rattle.psm_exprcode.specs.Kinds.{letter_of}
 use Rattle.psm_resolved.specs.declared.expr.ResolvedQuery.{ResolvedQuery}
 use Rattle.psm_resolved.specs.declared.file.ResolvedParameter.{ResolvedParameter}
 use Rattle.psm_resolved.specs.declared.file.ResolvedRoutine.{ResolvedRoutine}
-use Rattle.psm_meaning.specs.Calls.{function_at, returns}
+use Rattle.psm_meaning.specs.Calls.{function_at, procedure_at, returns}
 use Rattle.psm_code.specs.declared.code.RawCode.{RawCode}
 use Rattle.psm_code.specs.declared.code.RawRoutine.{RawRoutine}
 use Rattle.psm_code.specs.Instructions.{letters_of_query, parameter_letters, variables_of}
@@ -17,6 +17,7 @@ use Rattle.psm_emit.specs.declared.known.Known.{Known}
 use Rattle.psm_emit.specs.Exprs.{function_number}
 use Rattle.psm_emit.specs.Files.{gives_back, is_function, letter_of_result}
 use Rattle.psm_emit.specs.Queries.{QueryMade, is_query, item_letters}
+use Rattle.psm_emit.specs.Simples.{procedure_number}
 use Rattle.psm_emit.specs.Written.{letter_at, letters_at}
 use Rattle.psm_sound.specs.Queries.{IsQuery}
 use Rattle.psm_sound.specs.Scene.{Scene, letters_of, taken_by}
@@ -42,9 +43,9 @@ pub record KeepsFunction (known : Known) (code : RawCode) (n : ℕ) (ks : List L
 abbrev pub FunctionTakes : ResolvedRoutine → Type 0
 FunctionTakes r = returns r.returns ≡ true → list_all (λ p. not (gives_back p.mode)) r.parameters ≡ true
 
--- the items of each query that is made are of the letters that are known
+-- the items of each query of the routine are of the letters that are known of the query for which it is made
 abbrev pub QueriesKeep : Known → RawCode → RawRoutine → Type 0
-QueriesKeep known code r = (query : ResolvedQuery) (made : Query) → is_query known query ≡ true → QueryMade known query made → letters_of_query code r made ≡ item_letters known query
+QueriesKeep known code r = (query : ResolvedQuery) (made : Query) (n : ℕ) → is_query known query ≡ true → QueryMade known query made → slice_get r.queries n ≡ Some made → letters_of_query code r made ≡ item_letters known query
 
 pub record Keeps (e : Scene) (known : Known) (code : RawCode) (r : RawRoutine) : Type 0 where
   pub variables : variables_of r ≡ known.variables
@@ -75,6 +76,10 @@ pub record KeepsProcedure (known : Known) (code : RawCode) (n : ℕ) (ks js : Li
   pub giving : parameter_letters (giving routine.parameters) ≡ js
   pub takes : letters_at known.takes n ≡ ks
   pub gives : letters_at known.gives n ≡ js
+
+abbrev pub KeepsProcedures : Scene → Known → RawCode → Type 0
+KeepsProcedures e known code = (n : ℕ) (routine : ResolvedRoutine) → procedure_at e.file n ≡ Some routine
+    → KeepsProcedure known code (procedure_number known n) (letters_of (taken_by routine.parameters)) (letters_given routine.parameters)
 
 -- ---- variables of the routine
 

@@ -4,3 +4,5 @@
 mod laws;
 
 pub use laws::expressions_break_no_rule;
+pub use laws::simple_statements_break_no_rule;
+pub use laws::written_code_keeps_letters;
