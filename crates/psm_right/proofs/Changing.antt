@@ -1,5 +1,5 @@
 -- Simple statements about cursors and tables that are written break no rule, where the routine has the cursor, or the plan, that they name.
-use Rattle.std.proofs.Common.{arith, ◌≡◌, ◌++◌, ◌-◌, ◌&&◌, ℕ, suc, Bool, true, false, not, List, [], ◌∷◌, length, replicate, Option, Some, None, option_map, ap, refl, sym, subst, ◌∙◌, append-nil}
+use Rattle.std.proofs.Common.{arith, ◌≡◌, ◌++◌, ℕ, true, not, List, [], length, replicate, Some, None, option_map, ap, refl, sym, ◌∙◌, append-nil}
 use Rattle.std.specs.Prelude.{codes, reverse, slice_get}
 use Rattle.std.specs.List.{flat_map}
 use Rattle.psm_exprcode.specs.declared.op.Letter.{Letter}
@@ -24,9 +24,9 @@ use Rattle.psm_sound.specs.Scene.{Each, Scene}
 use Rattle.psm_right.specs.Frame.{Ends, Follows, Right}
 use Rattle.psm_right.specs.Kept.{AreSlots, Keeps, KeepsRoutine}
 use Rattle.psm_right.specs.ProperSimples.{RowOf}
-use Rattle.psm_right.proofs.Lines.{Does, both}
+use Rattle.psm_right.proofs.Lines.{Does}
 use Rattle.psm_right.proofs.Rights.{alone-right, clear-right, puts-right, query-right, right-then}
-use Rattle.psm_right.proofs.Simples.{right-as, rows-right}
+use Rattle.psm_right.proofs.Simples.{rows-right}
 use Rattle.psm_right.proofs.Slots.{retrieved-right}
 
 module _ {e : Scene} {known : Known} {code : RawCode} {r : RawRoutine} {context resume : ℕ} (keeps : Keeps e known code r) (is : KeepsRoutine e known r) (first : Follows r 0 0 []) (in_routine : context_there r context ≡ true) (ends : Ends r resume context) where
@@ -47,7 +47,7 @@ module _ {e : Scene} {known : Known} {code : RawCode} {r : RawRoutine} {context 
       let ks = letters_at p.letters cursor in
       let fetched = puts context resume (instruction.Fetch cursor) 0 ks (cleared context p) in
       let one : Right code r context resume (cleared context p) fetched (ks ++ []) = puts-right first in_routine ends (instruction.Fetch cursor) (codes "FETCH") [] ks [] 0 (cleared context p)
-        (record { names = h; place = refl; fits = refl; value = N; other = B; is_value = refl; effect = ap (putting (codes "FETCH")) items }) (record { stands = refl; right = λ l. refl; behind = λ l. refl }) refl refl q in
+      (record { names = h; place = refl; fits = refl; value = N; other = B; is_value = refl; effect = ap (putting (codes "FETCH")) items }) (record { stands = refl; right = λ l. refl; behind = λ l. refl }) refl refl q in
       right-then (clear-right first in_routine ends p.code q) (right-then one (retrieved-right keeps first in_routine ends slots ks fetched s (one.stack ∙ append-nil ks)))
 
   -- ---- changes, which stand in a procedure

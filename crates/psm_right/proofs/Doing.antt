@@ -1,15 +1,11 @@
 -- A simple statement that is written breaks no rule, where LEAVE and ITERATE don't.
-use Rattle.std.proofs.Common.{◌≡◌, ◌++◌, ℕ, true, List, [], ◌∷◌, length, Option, Some, None, ap, refl, sym, ◌∙◌}
-use Rattle.std.specs.Prelude.{slice_get}
+use Rattle.std.proofs.Common.{◌≡◌, ◌++◌, ℕ, true, List, [], ◌∷◌, length, Some, ap, refl}
 use Rattle.psm_cond.specs.declared.handlers.Declared.{Declared}
-use Rattle.psm_exprcode.specs.declared.query.Query.{Query}
-use Rattle.psm_resolved.specs.declared.file.ResolvedRoutine.{ResolvedRoutine}
 use Rattle.psm_resolved.specs.declared.statement.ResolvedCondition.{ResolvedCondition}
 use Rattle.psm_resolved.specs.declared.statement.ResolvedCondition.TheVariants as conditions
 use Rattle.psm_resolved.specs.declared.statement.ResolvedSet.{ResolvedSet}
 use Rattle.psm_resolved.specs.declared.statement.ResolvedSimple.{ResolvedSimple}
 use Rattle.psm_resolved.specs.declared.statement.ResolvedWhere.{ResolvedWhere}
-use Rattle.psm_meaning.specs.Calls.{procedure_at}
 use Rattle.psm_code.specs.declared.code.Plan.{Plan}
 use Rattle.psm_code.specs.declared.code.RawCode.{RawCode}
 use Rattle.psm_code.specs.declared.code.RawRoutine.{RawRoutine}
@@ -28,7 +24,7 @@ use Rattle.psm_emit.specs.Writing.{BeginsWith}
 use Rattle.psm_emit.proofs.Growth.{begins-before}
 use Rattle.psm_emit.proofs.GrowthSimples.{grows-retrieved}
 use Rattle.psm_emit.proofs.There.{there_at}
-use Rattle.psm_sound.specs.Scene.{Scene, letters_of, taken_by}
+use Rattle.psm_sound.specs.Scene.{Scene}
 use Rattle.psm_sound.specs.Statements.{IsSimple, Sight}
 use Rattle.psm_right.specs.Frame.{Ends, Follows, Right}
 use Rattle.psm_right.specs.Kept.{Keeps, KeepsProcedures, KeepsRoutine}

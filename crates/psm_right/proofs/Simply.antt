@@ -72,7 +72,7 @@ module _ {e : Scene} {known : Known} {code : RawCode} {r : RawRoutine} {context 
   call-statement n args ps p w a kept none t o q =
       let ks = letters_of (taken_by ps) in
       let js = letters_given ps in
-      let zero = clear-right first in_routine ends p.code q in
+      let zero : Right code r context resume p.code (cleared context p) [] = clear-right first in_routine ends p.code q in
       let one = call-right keeps first in_routine ends a ps kept.takes t o in
       let all : w.stack ≡ reverse ks ++ [] = one.stack ∙ ap (λ z. reverse ks ++ z) q in
       let many : length w.stack ≡ length (reverse ks) = ap length (all ∙ append-nil (reverse ks)) in

@@ -3,6 +3,6 @@
 
 mod laws;
 
-pub use laws::expressions_break_no_rule;
-pub use laws::simple_statements_break_no_rule;
-pub use laws::written_code_keeps_letters;
+pub use laws::{
+    expressions_break_no_rule, simple_statements_break_no_rule, written_code_keeps_letters,
+};
