@@ -25,9 +25,9 @@ abbrev pub Ends : RawRoutine → ℕ → ℕ → Type 0
 Ends r resume context = Follows r resume context []
 
 -- What is written from w to v leaves these operands. In a routine that begins with it its first line states the operands of w where a
--- line follows, and then its lines break no rule.
+-- line follows, and then its lines break no rule where the first line of the routine is the routine's own.
 pub record Right (code : RawCode) (r : RawRoutine) (context resume : ℕ) (w v : Written) (s : List Letter) : Type 0 where
   pub grows : Grows w v
   pub stack : v.stack ≡ s
   pub starts : Begins v r → Follows r (here v) context v.stack → Follows r (here w) context w.stack
-  pub free : Begins v r → here v ≤ resume → Follows r (here v) context v.stack → Free code r (here w) (here v)
+  pub free : Follows r 0 0 [] → Begins v r → here v ≤ resume → Follows r (here v) context v.stack → Free code r (here w) (here v)
