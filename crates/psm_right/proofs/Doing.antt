@@ -5,6 +5,7 @@ use Rattle.psm_resolved.specs.declared.statement.ResolvedCondition.{ResolvedCond
 use Rattle.psm_resolved.specs.declared.statement.ResolvedCondition.TheVariants as conditions
 use Rattle.psm_resolved.specs.declared.statement.ResolvedSet.{ResolvedSet}
 use Rattle.psm_resolved.specs.declared.statement.ResolvedSimple.{ResolvedSimple}
+use Rattle.psm_resolved.specs.declared.statement.ResolvedSimple.TheVariants as simples
 use Rattle.psm_resolved.specs.declared.statement.ResolvedWhere.{ResolvedWhere}
 use Rattle.psm_code.specs.declared.code.Plan.{Plan}
 use Rattle.psm_code.specs.declared.code.RawCode.{RawCode}
@@ -51,13 +52,13 @@ deletes-none code written.delete_current = refl
 module _ {e : Scene} {known : Known} {code : RawCode} {r : RawRoutine} {context resume : ℕ} (keeps : Keeps e known code r) (is : KeepsRoutine e known r) (in_routine : context_there r context ≡ true) (ends : Ends r resume context)
     (procedures : KeepsProcedures e known code) where
   pub simple-right : {around : List Around} {x : ResolvedSimple} {p q : Parts} (s : Sight) → WritesSimple known context resume around x p q → IsSimple e s x → ProperSimple e known code r p x → PartsBegin q r → p.code.stack ≡ []
-      → ((level : ℕ) → Right code r context resume p.code (leaves around level context p.code) []) → ((level : ℕ) → Right code r context resume p.code (iterates around level context p.code) []) → Right code r context resume p.code q.code []
+      → ((level : ℕ) → x ≡ simples.Leave level → Right code r context resume p.code (leaves around level context p.code) []) → ((level : ℕ) → x ≡ simples.Iterate level → Right code r context resume p.code (iterates around level context p.code) []) → Right code r context resume p.code q.code []
   simple-right {p = p} sight (written.set {slot = slot} {e = x} {w = w} a) t o b h leave iterate = set-right keeps is in_routine ends slot x p w a t o h
   simple-right {p = p} sight (written.call {procedure = procedure} {args = args} {w = w} a) t o b h leave iterate =
       call-statement keeps is in_routine ends (procedure_number known procedure) args t.0.parameters p w a (procedures procedure t.0 t.1) o.0 t.2 (o.1 t.0 t.1) h
   simple-right {p = p} sight (written.return {e = x} {w = w} a) t o b h leave iterate = return-right keeps is in_routine ends x t.0 p.code w a t.1 t.2 o h
-  simple-right sight (written.leave {level = level}) t o b h leave iterate = leave level
-  simple-right sight (written.iterate {level = level}) t o b h leave iterate = iterate level
+  simple-right sight (written.leave {level = level}) t o b h leave iterate = leave level refl
+  simple-right sight (written.iterate {level = level}) t o b h leave iterate = iterate level refl
   simple-right {p = p} sight (written.signal {s = s} {w = w} a) t o b h leave iterate = signal-right keeps is in_routine ends (condition_number s.condition p.declared) s.message p w a (condition-there r s.condition p.declared b.declared o.0) t.1 o.1 h
   simple-right {p = p} sight written.resignal t o b h leave iterate = resignal-right keeps is in_routine ends p h
   simple-right {p = p} sight (written.resignal_condition {s = s} {w = w} a) t o b h leave iterate =
@@ -79,5 +80,5 @@ module _ {e : Scene} {known : Known} {code : RawCode} {r : RawRoutine} {context 
 
 pub simple-statement : (e : Scene) (known : Known) (code : RawCode) (r : RawRoutine) (context resume : ℕ) → Keeps e known code r → KeepsProcedures e known code → KeepsRoutine e known r → context_there r context ≡ true → Ends r resume context
     → (around : List Around) (s : Sight) (x : ResolvedSimple) (p q : Parts) → IsSimple e s x → ProperSimple e known code r p x → WritesSimple known context resume around x p q → PartsBegin q r → p.code.stack ≡ []
-    → ((level : ℕ) → Right code r context resume p.code (leaves around level context p.code) []) → ((level : ℕ) → Right code r context resume p.code (iterates around level context p.code) []) → Right code r context resume p.code q.code []
+    → ((level : ℕ) → x ≡ simples.Leave level → Right code r context resume p.code (leaves around level context p.code) []) → ((level : ℕ) → x ≡ simples.Iterate level → Right code r context resume p.code (iterates around level context p.code) []) → Right code r context resume p.code q.code []
 simple-statement e known code r context resume keeps procedures is in_routine ends around s x p q t o a b h leave iterate = simple-right keeps is in_routine ends procedures s a t o b h leave iterate

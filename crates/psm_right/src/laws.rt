@@ -12,6 +12,7 @@ ghost use Rattle.psm_emit.specs.Writing.{Begins};
 ghost use Rattle.psm_sound.specs.Expressions.{IsExpr};
 ghost use Rattle.psm_resolved.specs.declared.file.ResolvedRoutine.{ResolvedRoutine};
 ghost use Rattle.psm_resolved.specs.declared.statement.ResolvedSimple.{ResolvedSimple};
+ghost use Rattle.psm_resolved.specs.declared.statement.ResolvedSimple.TheVariants as simples;
 ghost use Rattle.psm_emit.specs.declared.around.Around.{Around};
 ghost use Rattle.psm_emit.specs.Files.{FileWritten, RoutineWritten, known_of};
 ghost use Rattle.psm_emit.specs.Parts.{Parts, iterates, leaves};
@@ -41,5 +42,5 @@ pub fn written_code_keeps_letters()
 /// The lines that are written for a sound simple statement break no rule, where those of LEAVE and of ITERATE break none: they begin
 /// and end with no operand.
 pub fn simple_statements_break_no_rule()
-    ensures statements { (e : Scene) (known : Known) (code : RawCode) (r : RawRoutine) (context resume : ℕ) → Keeps e known code r → KeepsProcedures e known code → KeepsRoutine e known r → context_there r context ≡ true → Ends r resume context → (around : List Around) (s : Sight) (x : ResolvedSimple) (p q : Parts) → IsSimple e s x → ProperSimple e known code r p x → WritesSimple known context resume around x p q → PartsBegin q r → p.code.stack ≡ [] → ((level : ℕ) → Right code r context resume p.code (leaves around level context p.code) []) → ((level : ℕ) → Right code r context resume p.code (iterates around level context p.code) []) → Right code r context resume p.code q.code [] }
+    ensures statements { (e : Scene) (known : Known) (code : RawCode) (r : RawRoutine) (context resume : ℕ) → Keeps e known code r → KeepsProcedures e known code → KeepsRoutine e known r → context_there r context ≡ true → Ends r resume context → (around : List Around) (s : Sight) (x : ResolvedSimple) (p q : Parts) → IsSimple e s x → ProperSimple e known code r p x → WritesSimple known context resume around x p q → PartsBegin q r → p.code.stack ≡ [] → ((level : ℕ) → x ≡ simples.Leave level → Right code r context resume p.code (leaves around level context p.code) []) → ((level : ℕ) → x ≡ simples.Iterate level → Right code r context resume p.code (iterates around level context p.code) []) → Right code r context resume p.code q.code [] }
 {}
