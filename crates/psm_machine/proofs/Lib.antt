@@ -10,6 +10,7 @@ pub mod Dropping
 pub mod Exiting
 pub mod Fetching
 pub mod Filled
+pub mod Finishing
 pub mod Leavings
 pub mod Marking
 pub mod Numbering
@@ -19,4 +20,5 @@ pub mod RightCode
 pub mod Rights
 pub mod Spending
 pub mod Standing
+pub mod Starting
 pub mod Staying

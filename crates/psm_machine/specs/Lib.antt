@@ -4,4 +4,5 @@ pub mod Going
 pub mod Innermost
 pub mod Inserting
 pub mod Over
+pub mod Running
 pub mod Stepping

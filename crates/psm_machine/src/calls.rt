@@ -69,7 +69,7 @@ fn takes(mode: ParameterMode) -> bool
 }
 
 // What parameters begin with. The last one of the arguments comes first.
-fn entered(
+pub(crate) fn entered(
     alloc: Global,
     parameters: &[Parameter],
     arguments: Vec<Datum>,

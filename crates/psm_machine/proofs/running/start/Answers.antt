@@ -1,0 +1,52 @@
+use Rattle.std.proofs.Common.{[], ◌-◌, Err, map, reverse, ap, sym, subst, ◌∙◌, arith}
+use Rattle.psm_cond.specs.Condition.{by_state}
+use Rattle.psm_code.specs.Calling.{before_start}
+use Rattle.psm_code.specs.Sits.{StaysRight}
+use Rattle.psm_code.specs.State.{Activation, Lacking, NoTurns, Over, Raised}
+use Rattle.psm_code.specs.Steps.{Came}
+use Rattle.psm_code.proofs.Sound.{starts}
+use Rattle.psm_unwind.specs.View.{activation_of}
+use Rattle.psm_machine.specs.declared.stop.Stop.{Stop}
+use Rattle.psm_machine.specs.declared.stop.Stop.TheVariants as stop
+use Rattle.psm_machine.specs.Coming.{Comes}
+use Rattle.psm_machine.specs.Running.{first_activation}
+use Rattle.psm_machine.proofs.Starting.{begins, begins_ending, begins_late, begins_raising}
+use Rattle.psm_machine.proofs.running.start.Goals as goal
+
+pub returns-then-turns-eq0-clause-due : goal.returns-then-turns-eq0-clause-due
+returns-then-turns-eq0-clause-due c = λ tables.
+    begins_late c.args.code.now c.args.number c.args.arguments.items tables c.args.turns (activation_of (λ m. []) c.in-Ok.running)
+    (ap (λ (x : Came Activation). x.given) (c.in-Ok.ensures.due (λ m. []) (before_start c.args.turns tables))) (omega (arith, c.if-turns-eq0.true))
+
+pub returns-else-turns-eq0-clause-due : goal.returns-else-turns-eq0-clause-due
+returns-else-turns-eq0-clause-due c = λ tables at.
+    begins c.args.code.now c.args.number c.args.arguments.items tables c.args.turns (activation_of at c.in-Ok.running) (map (activation_of at) (reverse c.new.result.items)) (c.args.turns - 1) c.new-in-Ok.result
+    (ap (λ (x : Came Activation). x.given) (c.in-Ok.ensures.due at (before_start c.args.turns tables))) (ap (λ xs. map (activation_of at) (reverse xs)) c.new.ensures.items) (omega (arith, c.if-turns-eq0.false)) c.new-in-Ok.ensures
+
+pub returns-in-Err-Raises-clause-due : goal.returns-in-Err-Raises-clause-due
+returns-in-Err-Raises-clause-due c = λ tables.
+    let m = before_start c.args.turns tables in
+    let due : Comes (first_activation c.args.code.now c.args.number c.args.arguments.items m) (Err (stop.Raises c.in-Err-Raises.condition)) m =
+    subst (λ (s : Stop). Comes (first_activation c.args.code.now c.args.number c.args.arguments.items m) (Err s) m) c.in-Err-Raises.field-0-is (c.in-Err-Raises.ensures.due (λ m. []) m) in
+    begins_raising c.args.code.now c.args.number c.args.arguments.items tables c.args.turns c.in-Err-Raises.condition (ap (λ (x : Came Activation). x.given) due)
+    ∙ ap (λ x. Over (Raised (by_state x)) m) (sym c.in-Err-Raises.condition-is)
+    ∙ ap (λ x. Over (Raised x) m) (sym c.by_state.ensures)
+
+pub returns-in-Err-NoTurns-clause-due : goal.returns-in-Err-NoTurns-clause-due
+returns-in-Err-NoTurns-clause-due c = λ tables.
+    let m = before_start c.args.turns tables in
+    let due : Comes (first_activation c.args.code.now c.args.number c.args.arguments.items m) (Err stop.NoTurns) m =
+    subst (λ (s : Stop). Comes (first_activation c.args.code.now c.args.number c.args.arguments.items m) (Err s) m) c.in-Err-NoTurns.field-0-is (c.in-Err-NoTurns.ensures.due (λ m. []) m) in
+    begins_ending c.args.code.now c.args.number c.args.arguments.items tables c.args.turns NoTurns due.0
+
+pub returns-in-Err-Lacking-clause-due : goal.returns-in-Err-Lacking-clause-due
+returns-in-Err-Lacking-clause-due c = λ tables.
+    let m = before_start c.args.turns tables in
+    let due : Comes (first_activation c.args.code.now c.args.number c.args.arguments.items m) (Err stop.Lacking) m =
+    subst (λ (s : Stop). Comes (first_activation c.args.code.now c.args.number c.args.arguments.items m) (Err s) m) c.in-Err-Lacking.field-0-is (c.in-Err-Lacking.ensures.due (λ m. []) m) in
+    begins_ending c.args.code.now c.args.number c.args.arguments.items tables c.args.turns Lacking due.0
+
+pub returns-else-turns-eq0-clause-sits : goal.returns-else-turns-eq0-clause-sits
+returns-else-turns-eq0-clause-sits c = λ right takes tables at kept.
+    subst (StaysRight c.args.code.now) (returns-else-turns-eq0-clause-due c tables at)
+    (starts c.args.code.now right c.args.number takes.routine takes.there c.args.arguments.items tables c.args.turns takes.many kept)

@@ -1,0 +1,100 @@
+-- How a run begins and how it ends.
+use Rattle.std.specs.Prelude.{◌≡◌, ℕ, suc, Bool, true, false, List, [], length, Some, Result, Ok, Err}
+use Rattle.std.specs.declared.alloc.AllocError.{AllocError}
+use Rattle.psm_value.specs.declared.datum.Datum.{Datum}
+use Rattle.psm_table.specs.Table.{Contents}
+use Rattle.psm_store.specs.declared.store.Mark.{Mark}
+use Rattle.psm_code.specs.declared.code.RawCode.{RawCode}
+use Rattle.psm_code.specs.declared.code.RawRoutine.{RawRoutine}
+use Rattle.psm_code.specs.Calling.{activation, before_start, entered, started}
+use Rattle.psm_code.specs.Parts.{routine_at, taking}
+use Rattle.psm_code.specs.Rows.{Ran, rows}
+use Rattle.psm_code.specs.Sits.{AreKept, Sits}
+use Rattle.psm_code.specs.State as state
+use Rattle.psm_code.specs.Steps.{Act, got, present, ◌>>=◌}
+use Rattle.psm_unwind.specs.declared.ending.Ending.{Ending}
+use Rattle.psm_unwind.specs.declared.ending.Ending.TheVariants as ending
+use Rattle.psm_unwind.specs.declared.run.Run.{Run}
+use Rattle.psm_unwind.specs.Marks.{Around, Stays, open_marks}
+use Rattle.psm_unwind.specs.View.{end_of, machine_of}
+use Rattle.psm_machine.specs.declared.running.Beginning.{Beginning}
+use Rattle.psm_machine.specs.declared.running.Beginning.TheVariants.{Runs, Over}
+use Rattle.psm_machine.specs.declared.running.Finished.{Finished}
+
+-- ---- the beginning
+
+-- the first activation of a run, before its turn is used
+abbrev pub first_activation : RawCode → ℕ → List Datum → Act state.Activation
+first_activation code n args = do
+  r ← present (routine_at code n)
+  parameters ← entered r.parameters args
+  got (activation n r parameters)
+
+-- whatever the tables are, a run begins as is due; or it is over, before anything has changed
+abbrev pub Begins : (List Contents → state.Turned) → ℕ → Beginning → Type 0
+Begins due turns (Runs r) = (tables : List Contents) (at : Mark → List Contents) → due tables ≡ state.More (machine_of tables at r)
+Begins due turns (Over e) = (tables : List Contents) → due tables ≡ state.Over (end_of e) (before_start turns tables)
+
+-- what is always true of a machine is true where a run begins over the tables of the code
+abbrev pub BeginsRight : RawCode → Beginning → Type 0
+BeginsRight code (Runs r) = (tables : List Contents) (at : Mark → List Contents) → AreKept code.tables tables → Sits code (machine_of tables at r)
+BeginsRight code (Over e) = Unit {0}
+
+-- a run that begins has no mark open, in a store that has so many at most
+abbrev pub HasNoMarks : ℕ → Beginning → Type 0
+HasNoMarks marks (Runs r) = (open_marks r ≡ []) × (r.marks ≡ marks)
+HasNoMarks marks (Over e) = Unit {0}
+
+-- the routine is there, and takes as many arguments
+pub record Takes (code : RawCode) (n : ℕ) (args : List Datum) : Type 0 where
+  pub routine : RawRoutine
+  pub there : routine_at code n ≡ Some routine
+  pub many : length args ≡ length (taking routine.parameters)
+
+-- ---- the end
+
+-- the turns that are left
+abbrev pub turns_of : state.Turned → ℕ
+turns_of (state.More m) = m.turns
+turns_of (state.Over e m) = m.turns
+
+-- so many turns are left before the last of so many rows
+abbrev pub LeavesTurns : RawCode → state.Turned → ℕ → ℕ → Type 0
+LeavesTurns code from count left = (k : ℕ) × (count ≡ suc k) × (turns_of (rows code k from) ≡ left)
+
+-- a run comes to its end from there on, with these tables and turns left
+pub record Finishes (code : RawCode) (from : state.Turned) (f : Finished) (tables : List Contents) : Type 0 where
+  pub count : ℕ
+  pub last : state.Machine
+  pub leads : rows code count from ≡ state.Over (end_of f.ending) last
+  pub left : LeavesTurns code from count f.turns
+  pub tables_left : last.tables ≡ tables
+
+-- the tables behind a run: those that it found, where it ended for want of turns
+abbrev pub behind : state.End → List Contents → List Contents → List Contents
+behind (state.Ended ds) found last = last
+behind (state.Raised c) found last = last
+behind state.NoTurns found last = found
+behind state.Lacking found last = found
+
+-- a run of a routine comes to that end, with so many turns left, and leaves the tables that are due
+pub record RunsTo (code : RawCode) (n : ℕ) (args : List Datum) (found : List Contents) (turns : ℕ) (f : Finished) (now : List Contents) : Type 0 where
+  pub last : state.Machine
+  pub ran : Ran code n args found turns (end_of f.ending) last
+  pub left : LeavesTurns code (started code n args found turns) ran.count f.turns
+  pub tables : now ≡ behind (end_of f.ending) found last.tables
+
+-- whether what a run did to the tables stays
+abbrev pub stays_behind : Ending → Bool
+stays_behind (ending.Ended ds) = true
+stays_behind (ending.Raised c) = true
+stays_behind ending.NoTurns = false
+stays_behind ending.Lacking = false
+
+abbrev pub leaves_tables : Result Finished AllocError → Bool
+leaves_tables (Ok f) = stays_behind f.ending
+leaves_tables (Err e) = false
+
+-- marks outside all that a run has open stay
+abbrev pub StayAround : (Mark → Type 0) → (Mark → List Contents) → Run → (Mark → Type 0) → (Mark → List Contents) → Type 0
+StayAround holds at r holds_new at_new = (m : Mark) → holds m → Around (open_marks r) m → Stays at holds_new at_new m

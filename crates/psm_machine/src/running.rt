@@ -1,0 +1,222 @@
+//! A run of a routine, from its beginning to its end.
+ghost use Rattle.std.specs.Prelude.{◌≡◌, ◌<◌, ◌≤◌, ◌+◌, [], None, All, IfErr, IfOk, IsTrue, List};
+ghost use Rattle.psm_value.specs.SqlType.{IsType};
+ghost use Rattle.psm_cond.specs.Sound.{is_numbered};
+ghost use Rattle.psm_table.specs.Table.{Contents};
+ghost use Rattle.psm_store.specs.declared.store.Mark.{Mark as MarkValue};
+ghost use Rattle.psm_store.specs.Marks.{AnyMark, IsOutside, Keeps};
+ghost use Rattle.psm_code.specs.Calling.{started};
+ghost use Rattle.psm_code.specs.Parts.{slots_of};
+ghost use Rattle.psm_code.specs.RoutineRules.{first_fault};
+ghost use Rattle.psm_code.specs.Sits.{AreKept, Sits, is_due};
+ghost use Rattle.psm_code.specs.State.{More};
+ghost use Rattle.psm_unwind.specs.Marks.{MarksStand, most_open};
+ghost use Rattle.psm_unwind.specs.View.{activation_of, end_of, machine_of};
+ghost use Rattle.psm_machine.specs.Going.{Shows};
+ghost use Rattle.psm_machine.specs.Running.{Begins, BeginsRight, Finishes, HasNoMarks, RunsTo, StayAround, Takes, first_activation, leaves_tables};
+
+use crate::calls::{activation, entered};
+use crate::stepping::step;
+use crate::stop::Stop;
+use psm_code::RawCode;
+use psm_cond::Area;
+use psm_store::{Mark, Steps, Store};
+use psm_unwind::{Activation, Ending, Outcome, Run, routine_at};
+use psm_value::Datum;
+use std::alloc::{AllocError, Global};
+use std::marker::Brand;
+use std::sync::ledger::{Blank, Ledger};
+
+/// How a run begins.
+#[derive(Debug, Drop)]
+pub enum Beginning {
+    /// At the first line of its routine.
+    Runs(Run),
+    /// It is over before its first line: an argument raises a condition, or there is no turn.
+    Over(Ending),
+}
+
+/// How a run has ended, and how many turns it left.
+#[derive(Debug, Drop)]
+pub struct Finished {
+    pub ending: Ending,
+    pub turns: u64,
+}
+
+/// Begins a run of a routine, with one argument for each of its IN and INOUT parameters and so many turns. The store over which it
+/// runs has no more than so many marks.
+pub fn start(
+    alloc: Global,
+    code: &RawCode,
+    number: u32,
+    arguments: Vec<Datum>,
+    turns: u64,
+    marks: u128,
+) -> Result<Beginning, AllocError>
+    requires { All (λ r. All IsType (slots_of r)) code.now.routines }
+    ensures due { IfOk result (Begins (λ tables. started code.now number arguments.items tables turns) turns) }
+    ensures sits { first_fault code.now ≡ None → Takes code.now number arguments.items → IfOk result (BeginsRight code.now) }
+    ensures marks { IfOk result (HasNoMarks marks) }
+{
+    match first(alloc, code, number, arguments) {
+        Ok(running) => {
+            if turns == 0 {
+                return Ok(Beginning::Over(Ending::NoTurns));
+            }
+            Ok(Beginning::Runs(Run {
+                running,
+                callers: Vec::new(alloc),
+                area: Area::new(),
+                pending: None,
+                turns: turns - 1,
+                marks,
+            }))
+        }
+        Err(Stop::Raises(condition)) => Ok(Beginning::Over(Ending::Raised(condition.by_state()))),
+        Err(Stop::NoTurns) => Ok(Beginning::Over(Ending::NoTurns)),
+        Err(Stop::Lacking) => Ok(Beginning::Over(Ending::Lacking)),
+        Err(Stop::Memory) => Err(AllocError),
+    }
+}
+
+// The first activation.
+fn first(
+    alloc: Global,
+    code: &RawCode,
+    number: u32,
+    arguments: Vec<Datum>,
+) -> Result<Activation, Stop>
+    requires { All (λ r. All IsType (slots_of r)) code.now.routines }
+    ensures due { (at : MarkValue → List Contents) → Shows (activation_of at) (first_activation code.now number arguments.items) result }
+    ensures frames { IfOk result (λ a. a.frames.items ≡ []) }
+{
+    let Some(routine) = routine_at(code, number) else {
+        return Err(Stop::Lacking);
+    };
+    let mut arguments = arguments;
+    arguments.reverse();
+    let parameters = entered(alloc, routine.parameters.items(), arguments)?;
+    Ok(activation(alloc, routine, number, parameters)?)
+}
+
+/// Runs a routine of code over the tables of a store, from the beginning to the end, with one argument for each of its IN and INOUT
+/// parameters and so many turns. Gives back how the run ended, and how many turns it left.
+///
+/// The tables are those that the run leaves, or, where it ended for want of turns or memory ran out, those that it found. All marks
+/// that the store held stay. The code has to break no rule, with handlers that 32 bits are enough to number, and the tables have to be
+/// those of the code.
+///
+/// Memory counts as run out where a run isn't over after 2 ^ 64 - 1 instructions.
+pub fn run<S: Store>(
+    alloc: Global,
+    code: &RawCode,
+    number: u32,
+    arguments: Vec<Datum>,
+    store: &mut S,
+    turns: u64,
+) -> Result<Finished, AllocError>
+    requires right { first_fault code.now ≡ None }
+    requires numbered { All (λ r. IsTrue (is_numbered r.handlers)) code.now.routines }
+    requires takes { Takes code.now number arguments.items }
+    requires kept { AreKept code.now.tables (S.tables store.old) }
+    requires few { S.marks store.old < most_open }
+    ensures due { IfOk result (λ f. RunsTo code.now number arguments.items (S.tables store.old) turns f (S.tables store.new)) }
+    ensures ends { IfOk result (λ f. IsTrue (is_due (end_of f.ending))) }
+    ensures kept { AreKept code.now.tables (S.tables store.new) }
+    ensures memory { IfErr result (λ e. S.tables store.new ≡ S.tables store.old) }
+    ensures marks { S.marks store.new ≡ S.marks store.old }
+    ensures keeps { Keeps AnyMark (S.holds store.old) (S.at store.old) (S.holds store.new) (S.at store.new) }
+{
+    let mark = store.mark(alloc)?;
+    let finished = run_behind(alloc, code, number, arguments, store, turns, mark.depth + 1);
+    if leaves_tables(&finished) {
+        store.release(mark);
+    } else {
+        put_back::<S, Brand>(store, mark, Blank::new(1));
+    }
+    finished
+}
+
+// Whether what a run did to the tables stays.
+fn leaves_tables(finished: &Result<Finished, AllocError>) -> bool
+    ensures { result ≡ leaves_tables finished.now }
+{
+    match finished {
+        Ok(
+            Finished {
+                ending: Ending::Ended(_),
+                ..
+            }
+            | Finished {
+                ending: Ending::Raised(_),
+                ..
+            },
+        ) => true,
+        _ => false,
+    }
+}
+
+// Puts the tables back to what a mark stands for, and closes it. The steps aren't counted.
+fn put_back<S: Store, L: Ledger>(store: &mut S, mark: Mark, blank: Blank)
+    requires name { blank.name ≡ L.name }
+    requires parts { blank.parts ≡ L.parts }
+    requires some { 0 < blank.parts }
+    requires held { S.holds store.old mark }
+    ensures tables { S.tables store.new ≡ S.at store.old mark }
+    ensures marks { S.marks store.new ≡ mark.depth }
+    ensures keeps { Keeps (IsOutside mark) (S.holds store.old) (S.at store.old) (S.holds store.new) (S.at store.new) }
+{
+    let mut steps: Steps<L> = Steps::open(blank);
+    store.rollback(mark, &mut steps);
+    store.release(mark);
+}
+
+// Runs a routine in a store that has no more than so many marks.
+fn run_behind<S: Store>(
+    alloc: Global,
+    code: &RawCode,
+    number: u32,
+    arguments: Vec<Datum>,
+    store: &mut S,
+    turns: u64,
+    marks: u128,
+) -> Result<Finished, AllocError>
+    requires right { first_fault code.now ≡ None }
+    requires numbered { All (λ r. IsTrue (is_numbered r.handlers)) code.now.routines }
+    requires takes { Takes code.now number arguments.items }
+    requires kept { AreKept code.now.tables (S.tables store.old) }
+    requires counted { S.marks store.old ≤ marks }
+    requires most { marks ≤ most_open }
+    ensures due { IfOk result (λ f. Finishes code.now (started code.now number arguments.items (S.tables store.old) turns) f (S.tables store.new)) }
+    ensures keeps { Keeps AnyMark (S.holds store.old) (S.at store.old) (S.holds store.new) (S.at store.new) }
+{
+    match start(alloc, code, number, arguments, turns, marks)? {
+        Beginning::Over(ending) => Ok(Finished { ending, turns }),
+        Beginning::Runs(run) => go_through(alloc, code, run, store),
+    }
+}
+
+// One instruction after another, to the end.
+fn go_through<S: Store>(
+    alloc: Global,
+    code: &RawCode,
+    run: Run,
+    store: &mut S,
+) -> Result<Finished, AllocError>
+    requires right { first_fault code.now ≡ None }
+    requires numbered { All (λ r. IsTrue (is_numbered r.handlers)) code.now.routines }
+    requires sits { Sits code.now (machine_of (S.tables store.old) (S.at store.old) run) }
+    requires stand { MarksStand (S.holds store.old) (S.marks store.old) run }
+    ensures due { IfOk result (λ f. Finishes code.now (More (machine_of (S.tables store.old) (S.at store.old) run)) f (S.tables store.new)) }
+    ensures around { StayAround (S.holds store.old) (S.at store.old) run (S.holds store.new) (S.at store.new) }
+{
+    let mut run = run;
+    'rows: for _ in 0..u64::MAX {
+        let turns = run.turns;
+        match step(alloc, code, &mut run, store)? {
+            Outcome::More => {}
+            Outcome::Over(ending) => return Ok(Finished { ending, turns }),
+        }
+    }
+    Err(AllocError)
+}
