@@ -18,3 +18,11 @@ pub mod Contexts
 pub mod Whole
 pub mod Changing
 pub mod Doing
+pub mod Plains
+pub mod ProperForms
+pub mod Leavings
+pub mod Declaring
+pub mod Statements
+pub mod Blocks
+pub mod Comparing
+pub mod Walking

@@ -2,3 +2,4 @@ pub mod Frame
 pub mod Proper
 pub mod Kept
 pub mod ProperSimples
+pub mod ProperStatements
