@@ -16,3 +16,4 @@ pub mod Changing
 pub mod Updating
 pub mod Statements
 pub mod Calling
+pub mod Standing
