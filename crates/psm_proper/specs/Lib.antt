@@ -1,0 +1,6 @@
+pub mod Queries
+pub mod Expressions
+pub mod Slots
+pub mod Simples
+pub mod Statements
+pub mod Files

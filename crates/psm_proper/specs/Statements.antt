@@ -1,0 +1,111 @@
+-- Statements as they are checked: sound, with proper expressions, and with blocks whose handlers may be theirs (ISO/IEC 9075-4:1996).
+use Rattle.std.specs.List.{concat}
+use Rattle.std.specs.Prelude.{◌≡◌, ◌≤◌, ◌||◌, ℕ, Bool, true, not, List, [], ◌∷◌, ◌++◌, map, slice_get, IsTrue, Option, Some, None}
+use Rattle.psm_cond.specs.declared.handlers.ConditionValue.{ConditionValue}
+use Rattle.psm_cond.specs.declared.handlers.ConditionValue.TheVariants as values
+use Rattle.psm_exprcode.specs.declared.op.Letter.{Letter}
+use Rattle.psm_exprcode.specs.declared.op.Letter.TheVariants.{B}
+use Rattle.psm_exprcode.specs.Kinds.{is_value}
+use Rattle.psm_resolved.specs.declared.expr.ResolvedExpr.{ResolvedExpr}
+use Rattle.psm_resolved.specs.declared.statement.ResolvedBlock.{ResolvedBlock, out-ResolvedBlock}
+use Rattle.psm_resolved.specs.declared.statement.ResolvedBranch.{ResolvedBranch, out-ResolvedBranch}
+use Rattle.psm_resolved.specs.declared.statement.ResolvedCursor.{ResolvedCursor}
+use Rattle.psm_resolved.specs.declared.statement.ResolvedDeclaration.{ResolvedDeclaration}
+use Rattle.psm_resolved.specs.declared.statement.ResolvedFor.{ResolvedFor}
+use Rattle.psm_resolved.specs.declared.statement.ResolvedHandler.{ResolvedHandler, out-ResolvedHandler}
+use Rattle.psm_resolved.specs.declared.statement.ResolvedSimple.{ResolvedSimple}
+use Rattle.psm_resolved.specs.declared.statement.ResolvedStatement.{ResolvedStatement, out-ResolvedStatement}
+use Rattle.psm_resolved.specs.declared.statement.ResolvedStatement.TheOpen as layers
+use Rattle.psm_code.specs.RoutineRules.{are_new, is_condition, is_undo}
+use Rattle.psm_code.specs.Rules.{is_some}
+use Rattle.psm_emit.specs.declared.known.Known.{Known}
+use Rattle.psm_emit.specs.Queries.{item_letters}
+use Rattle.psm_sound.specs.Expressions.{IsExpr}
+use Rattle.psm_sound.specs.Scene.{Each, IsThere, Scene}
+use Rattle.psm_sound.specs.Statements.{AreForItems, IsCursor, IsDeclaration, IsSimple, Sight, in_action, inside, looping, over_rows}
+use Rattle.psm_proper.specs.Expressions.{PerhapsProper, Proper}
+use Rattle.psm_proper.specs.Queries.{ProperQuery, has_rows, items_of}
+use Rattle.psm_proper.specs.Simples.{ProperSimple}
+use Rattle.psm_proper.specs.Slots.{AreSlots}
+
+-- the letters of the items of each cursor, by its number
+abbrev pub Letters : Type 0
+Letters = List (List Letter)
+
+-- an expression of that letter, which isn't NULL
+abbrev pub IsTest : Scene → Known → ResolvedExpr → Letter → Type 0
+IsTest e known x k = IsExpr e x k × Proper known false x
+
+-- ---- declarations
+
+-- variables are declared
+abbrev pub ProperDeclaration : Known → ResolvedDeclaration → Type 0
+ProperDeclaration known d = (is_some d.slots ≡ true) × PerhapsProper known true d.default
+
+-- no set function stands in the query of a cursor
+pub record ProperCursor (known : Known) (letters : Letters) (x : ResolvedCursor) : Type 0 where
+  pub query : ProperQuery known x.query
+  pub rows : has_rows (items_of x.query) ≡ true
+  pub items : slice_get letters x.number ≡ Some (item_letters known x.query)
+
+-- ---- handlers
+
+abbrev pub ProperValue : Scene → ConditionValue → Type 0
+ProperValue e (values.Named n) = IsThere (slice_get e.routine.conditions n)
+ProperValue e (values.State s) = is_condition s ≡ true
+ProperValue e values.SqlException = Unit {0}
+ProperValue e values.SqlWarning = Unit {0}
+ProperValue e values.NotFound = Unit {0}
+
+-- a handler has values, and UNDO stands in an ATOMIC block alone
+pub record MayHandle (e : Scene) (atomic : Bool) (h : ResolvedHandler) : Type 0 where
+  pub some : is_some (out-ResolvedHandler h).values ≡ true
+  pub values : Each (ProperValue e) (out-ResolvedHandler h).values
+  pub undo : not (is_undo (out-ResolvedHandler h).kind) || atomic ≡ true
+
+-- no value stands twice in the handlers of a block
+abbrev pub AreApart : List ResolvedHandler → Type 0
+AreApart hs = are_new [] (concat (map (λ h. (out-ResolvedHandler h).values) hs)) ≡ true
+
+-- ---- statements
+
+mutual
+  pub data IsProper (e : Scene) (known : Known) (letters : Letters) : Sight → ResolvedStatement → Type 0 where
+    simple : {s : Sight} {x : ResolvedStatement} (y : ResolvedSimple) → out-ResolvedStatement x ≡ layers.Simple y → IsSimple e s y → ProperSimple e known letters s y → IsProper e known letters s x
+    compound : {s : Sight} {x : ResolvedStatement} (level : ℕ) (block : ResolvedBlock) → out-ResolvedStatement x ≡ layers.Compound level block → s.bound ≤ level
+        → Each (IsDeclaration e) (out-ResolvedBlock block).declarations → Each (ProperDeclaration known) (out-ResolvedBlock block).declarations
+        → Each (IsCursor e) (out-ResolvedBlock block).cursors → Each (ProperCursor known letters) (out-ResolvedBlock block).cursors
+        → AreApart (out-ResolvedBlock block).handlers → Each (MayHandle e (out-ResolvedBlock block).atomic) (out-ResolvedBlock block).handlers
+        → AreActions e known letters level ((out-ResolvedBlock block).cursors ++ s.cursors) (out-ResolvedBlock block).handlers
+        → AreProper e known letters (inside level (out-ResolvedBlock block).cursors s) (out-ResolvedBlock block).statements → IsProper e known letters s x
+    loop : {s : Sight} {x : ResolvedStatement} (level : ℕ) (xs : List ResolvedStatement) → out-ResolvedStatement x ≡ layers.Loop level xs → AreProper e known letters (looping level s) xs → IsProper e known letters s x
+    while : {s : Sight} {x : ResolvedStatement} (level : ℕ) (test : ResolvedExpr) (xs : List ResolvedStatement) → out-ResolvedStatement x ≡ layers.While level test xs
+        → IsTest e known test B → AreProper e known letters (looping level s) xs → IsProper e known letters s x
+    repeat : {s : Sight} {x : ResolvedStatement} (level : ℕ) (xs : List ResolvedStatement) (until : ResolvedExpr) → out-ResolvedStatement x ≡ layers.Repeat level xs until
+        → AreProper e known letters (looping level s) xs → IsTest e known until B → IsProper e known letters s x
+    for_each : {s : Sight} {x : ResolvedStatement} (level : ℕ) (head : ResolvedFor) (xs : List ResolvedStatement) → out-ResolvedStatement x ≡ layers.For level head xs → s.bound ≤ level
+        → IsCursor e head.cursor → ProperCursor known letters head.cursor → AreForItems e head.cursor.number head.slots → AreSlots e head.slots (item_letters known head.cursor.query)
+        → AreProper e known letters (over_rows level head.cursor s) xs → IsProper e known letters s x
+    if : {s : Sight} {x : ResolvedStatement} (branches : List ResolvedBranch) (otherwise : List ResolvedStatement) → out-ResolvedStatement x ≡ layers.If branches otherwise
+        → AreBranches e known letters s branches B → AreProper e known letters s otherwise → IsProper e known letters s x
+    searched : {s : Sight} {x : ResolvedStatement} (branches : List ResolvedBranch) (otherwise : List ResolvedStatement) → out-ResolvedStatement x ≡ layers.Case None branches otherwise
+        → AreBranches e known letters s branches B → AreProper e known letters s otherwise → IsProper e known letters s x
+    compared : {s : Sight} {x : ResolvedStatement} {k : Letter} (operand : ResolvedExpr) (branches : List ResolvedBranch) (otherwise : List ResolvedStatement) → out-ResolvedStatement x ≡ layers.Case (Some operand) branches otherwise
+        → IsTrue (is_value k) → IsTest e known operand k → AreBranches e known letters s branches k → AreProper e known letters s otherwise → IsProper e known letters s x
+
+  -- statements one after another
+  pub data AreProper (e : Scene) (known : Known) (letters : Letters) : Sight → List ResolvedStatement → Type 0 where
+    none : {s : Sight} → AreProper e known letters s []
+    more : {s : Sight} {x : ResolvedStatement} {xs : List ResolvedStatement} → IsProper e known letters s x → AreProper e known letters s xs → AreProper e known letters s (x ∷ xs)
+
+  -- tests of one letter, and statements
+  pub data AreBranches (e : Scene) (known : Known) (letters : Letters) : Sight → List ResolvedBranch → Letter → Type 0 where
+    no_branch : {s : Sight} {k : Letter} → AreBranches e known letters s [] k
+    and_branch : {s : Sight} {b : ResolvedBranch} {bs : List ResolvedBranch} {k : Letter} → IsTest e known (out-ResolvedBranch b).test k → AreProper e known letters s (out-ResolvedBranch b).statements
+        → AreBranches e known letters s bs k → AreBranches e known letters s (b ∷ bs) k
+
+  -- the actions of handlers of a block, which see these cursors
+  pub data AreActions (e : Scene) (known : Known) (letters : Letters) : ℕ → List ResolvedCursor → List ResolvedHandler → Type 0 where
+    no_handler : {level : ℕ} {cursors : List ResolvedCursor} → AreActions e known letters level cursors []
+    and_handler : {level : ℕ} {cursors : List ResolvedCursor} {h : ResolvedHandler} {hs : List ResolvedHandler} → IsProper e known letters (in_action level cursors) (out-ResolvedHandler h).action
+        → AreActions e known letters level cursors hs → AreActions e known letters level cursors (h ∷ hs)
