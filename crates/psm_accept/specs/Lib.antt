@@ -2,3 +2,5 @@ pub mod Stands
 pub mod Agreement
 pub mod Meant
 pub mod Simples
+pub mod StatementsStand
+pub mod Places

@@ -1,6 +1,6 @@
 -- Which code is that of a query, of what a statement changes, and of tables: where the expressions are those of rows, of letters over
 -- columns and variables, each has the value of its expression.
-use Rattle.std.specs.Prelude.{◌≡◌, ℕ, Bool, true, ◌&&◌, List, [], ◌∷◌, map, Option, Some, None}
+use Rattle.std.specs.Prelude.{◌≡◌, ℕ, Bool, true, ◌&&◌, IsTrue, List, [], ◌∷◌, map, Option, Some, None}
 use Rattle.std.specs.List.{list_all}
 use Rattle.psm_value.specs.declared.datum.Datum.{Datum}
 use Rattle.psm_exprcode.specs.declared.aggregate.Aggregate.{Aggregate}
@@ -15,6 +15,7 @@ use Rattle.psm_exprcode.specs.declared.query.Query.{Query}
 use Rattle.psm_exprcode.specs.declared.set_item.SetItem.{SetItem}
 use Rattle.psm_exprcode.specs.Evaluated.{evaluated}
 use Rattle.psm_exprcode.specs.Kinds.{letter_of, some_value}
+use Rattle.psm_exprcode.specs.WellFormed.{does_fit}
 use Rattle.psm_table.specs.Definition.{kinds_of}
 use Rattle.psm_resolved.specs.declared.expr.ResolvedExpr.{ResolvedExpr}
 use Rattle.psm_resolved.specs.declared.expr.ResolvedExpr.TheOpen.{ResolvedItems-F}
@@ -128,10 +129,65 @@ pub record QueryIs (query : ResolvedQuery) (code : Query) : Type 0 where
   pub items : ItemsAre (out-ResolvedItems (out-ResolvedQuery query).items) code.items
   pub test : PerhapsIs (out-ResolvedQuery query).test code.test
 
--- code of a query, over the same table
+-- ---- code that fits columns and variables of known letters, and ends with a letter
+
+abbrev pub FitsAs : List Letter → List Letter → Letter → List Line → Type 0
+FitsAs columns variables k lines = IsTrue (does_fit columns variables lines k)
+
+-- each ends with the letter of its expression
+abbrev pub ExprFits : List Letter → List Letter → ResolvedExpr → List Line → Type 0
+ExprFits columns variables e lines = FitsAs columns variables (letter_of_sort (sort_of columns variables e)) lines
+
+abbrev pub ExprsFit : List Letter → List Letter → List ResolvedExpr → List (List Line) → Type 0
+ExprsFit columns variables [] [] = Unit {0}
+ExprsFit columns variables [] (c ∷ cs) = ⊥
+ExprsFit columns variables (e ∷ es) [] = ⊥
+ExprsFit columns variables (e ∷ es) (c ∷ cs) = ExprFits columns variables e c × ExprsFit columns variables es cs
+
+abbrev pub OperandFits : List Letter → List Letter → Option ResolvedExpr → Option (List Line) → Type 0
+OperandFits columns variables None None = Unit {0}
+OperandFits columns variables None (Some c) = ⊥
+OperandFits columns variables (Some e) None = ⊥
+OperandFits columns variables (Some e) (Some c) = ExprFits columns variables e c
+
+abbrev pub AggregatesFit : List Letter → List Letter → List ResolvedItem → List Aggregate → Type 0
+AggregatesFit columns variables [] [] = Unit {0}
+AggregatesFit columns variables [] (a ∷ others) = ⊥
+AggregatesFit columns variables (i ∷ is) [] = ⊥
+AggregatesFit columns variables (i ∷ is) (a ∷ others) = (a.function ≡ (out-ResolvedItem i).function) × OperandFits columns variables (out-ResolvedItem i).operand a.operand × AggregatesFit columns variables is others
+
+abbrev pub ItemsFit : List Letter → List Letter → Layer → Items → Type 0
+ItemsFit columns variables (layers.Rows es) (coded.Rows cs) = ExprsFit columns variables es cs
+ItemsFit columns variables (layers.Rows es) (coded.Sets sets) = ⊥
+ItemsFit columns variables (layers.Sets is) (coded.Rows cs) = ⊥
+ItemsFit columns variables (layers.Sets is) (coded.Sets sets) = AggregatesFit columns variables is sets
+
+-- a test ends with a truth value
+abbrev pub TestFits : List Letter → List Letter → Option ResolvedExpr → Option (List Line) → Type 0
+TestFits columns variables None None = Unit {0}
+TestFits columns variables None (Some c) = ⊥
+TestFits columns variables (Some e) None = ⊥
+TestFits columns variables (Some e) (Some c) = FitsAs columns variables B c
+
+-- a source ends with the letter of its column
+abbrev pub SetsFit : List Letter → List Letter → List ResolvedSet → List SetItem → Type 0
+SetsFit columns variables [] [] = Unit {0}
+SetsFit columns variables [] (c ∷ cs) = ⊥
+SetsFit columns variables (s ∷ ss) [] = ⊥
+SetsFit columns variables (s ∷ ss) (c ∷ cs) = (c.column ≡ s.column) × FitsAs columns variables (letter_at columns s.column) c.source × SetsFit columns variables ss cs
+
+abbrev pub ChecksFit : List Letter → List (List Line) → Type 0
+ChecksFit columns [] = Unit {0}
+ChecksFit columns (c ∷ cs) = FitsAs columns [] B c × ChecksFit columns cs
+
+-- ---- queries
+
+-- code of a query, over the same table, which fits whatever its expressions are
 pub record QueryMade (known : Known) (query : ResolvedQuery) (code : Query) : Type 0 where
   pub table : code.table ≡ (out-ResolvedQuery query).table
   pub is : is_query known query ≡ true → QueryIs query code
+  pub items_fit : ItemsFit (letters_at known.columns (out-ResolvedQuery query).table) known.variables (out-ResolvedItems (out-ResolvedQuery query).items) code.items
+  pub test_fits : TestFits (letters_at known.columns (out-ResolvedQuery query).table) known.variables (out-ResolvedQuery query).test code.test
 
 -- a cursor over the query of that number
 abbrev pub cursor_of : ResolvedCursor → ℕ → CodeCursor
@@ -146,12 +202,14 @@ SetsAre (s ∷ ss) [] = ⊥
 SetsAre (s ∷ ss) (c ∷ cs) = (c.column ≡ s.column) × ExprIs s.source c.source × SetsAre ss cs
 
 -- the columns that are set, of a table
-abbrev pub SetsMade : Known → ℕ → List ResolvedSet → List SetItem → Type 0
-SetsMade known table sets coded = list_all (is_set (letters_at known.columns table) known.variables) sets ≡ true → SetsAre sets coded
+pub record SetsMade (known : Known) (table : ℕ) (sets : List ResolvedSet) (coded : List SetItem) : Type 0 where
+  pub are : list_all (is_set (letters_at known.columns table) known.variables) sets ≡ true → SetsAre sets coded
+  pub fit : SetsFit (letters_at known.columns table) known.variables sets coded
 
 -- the test on the rows of a table
-abbrev pub TestMade : Known → ℕ → Option ResolvedExpr → Option (List Line) → Type 0
-TestMade known table test coded = is_test_perhaps (letters_at known.columns table) known.variables test ≡ true → PerhapsIs test coded
+pub record TestMade (known : Known) (table : ℕ) (test : Option ResolvedExpr) (coded : Option (List Line)) : Type 0 where
+  pub is : is_test_perhaps (letters_at known.columns table) known.variables test ≡ true → PerhapsIs test coded
+  pub fits : TestFits (letters_at known.columns table) known.variables test coded
 
 -- ---- tables, whose CHECKs see their columns and no variable
 
@@ -161,6 +219,7 @@ column_letters t = map letter_of (kinds_of t.definition.columns)
 pub record TableMade (t : ResolvedTable) (u : CodeTable) : Type 0 where
   pub definition : u.definition ≡ t.definition
   pub checks : list_all (is_test (column_letters t) []) t.checks ≡ true → ExprsAre t.checks u.checks
+  pub checks_fit : ChecksFit (column_letters t) u.checks
 
 abbrev pub TablesMade : List ResolvedTable → List CodeTable → Type 0
 TablesMade [] [] = Unit {0}
