@@ -1,6 +1,6 @@
 -- Statements as they are checked: sound, with proper expressions, and with blocks whose handlers may be theirs (ISO/IEC 9075-4:1996).
-use Rattle.std.specs.List.{concat}
-use Rattle.std.specs.Prelude.{◌≡◌, ◌≤◌, ◌||◌, ℕ, Bool, true, not, List, [], ◌∷◌, ◌++◌, map, slice_get, IsTrue, Option, Some, None}
+use Rattle.std.specs.List.{flat_map}
+use Rattle.std.specs.Prelude.{◌≡◌, ◌≤◌, ◌||◌, ℕ, Bool, true, false, not, List, [], ◌∷◌, ◌++◌, slice_get, IsTrue, Option, Some, None}
 use Rattle.psm_cond.specs.declared.handlers.ConditionValue.{ConditionValue}
 use Rattle.psm_cond.specs.declared.handlers.ConditionValue.TheVariants as values
 use Rattle.psm_exprcode.specs.declared.op.Letter.{Letter}
@@ -65,7 +65,7 @@ pub record MayHandle (e : Scene) (atomic : Bool) (h : ResolvedHandler) : Type 0 
 
 -- no value stands twice in the handlers of a block
 abbrev pub AreApart : List ResolvedHandler → Type 0
-AreApart hs = are_new [] (concat (map (λ h. (out-ResolvedHandler h).values) hs)) ≡ true
+AreApart hs = are_new [] (flat_map (λ h. (out-ResolvedHandler h).values) hs) ≡ true
 
 -- ---- statements
 
