@@ -1,0 +1,5 @@
+pub mod Sound
+pub mod Typing
+pub mod Outside
+pub mod Standing
+pub mod Statements
