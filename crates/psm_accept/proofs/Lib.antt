@@ -9,7 +9,14 @@ pub mod Queries
 pub mod Accepted
 pub mod Whole
 pub mod Clauses
+pub mod StandingForms
+pub mod Saying
 pub mod Spelled
+pub mod SpelledSimples
+pub mod SpelledStatements
+pub mod SpelledWhole
+pub mod SpelledFiles
+pub mod SmallTokens
 pub mod Simples
 pub mod Naming
 pub mod Changing

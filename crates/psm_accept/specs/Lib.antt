@@ -3,4 +3,5 @@ pub mod Agreement
 pub mod Meant
 pub mod Simples
 pub mod StatementsStand
+pub mod ScriptsStand
 pub mod Places

@@ -1,4 +1,4 @@
-use Rattle.psm_accept.proofs.Spelled.{spelled-expr, spelled-select, spelled-source}
+use Rattle.psm_accept.proofs.SpelledWhole.{spelled-expr, spelled-select, spelled-source}
 use Rattle.psm_accept.proofs.laws.null_stands_where_it_may.Goals as goal
 
 pub returns : goal.returns
