@@ -34,7 +34,7 @@ use Rattle.psm_sound.specs.Scene.{Each, Scene}
 use Rattle.psm_sound.specs.Statements.{IsDeclaration}
 use Rattle.psm_right.specs.Frame.{Follows, Free}
 use Rattle.psm_right.specs.Kept.{Keeps}
-use Rattle.psm_right.specs.ProperSimples.{ProperDeclaration}
+use Rattle.psm_proper.specs.Statements.{ProperDeclaration}
 use Rattle.psm_right.proofs.Declaring.{declares-stack, declares-starts}
 use Rattle.psm_right.proofs.Frees.{free-as}
 use Rattle.psm_right.proofs.Leavings.{AroundRight, around-lower}
@@ -163,7 +163,7 @@ module _ {e : Scene} {known : Known} {code : RawCode} {r : RawRoutine} (keeps : 
             let entry = passed-entry {code = code} inner hs entered b handlers none begins_b (list.starts inside back) in
             let around_list : AroundRight r (at c) inner (Block level inner context (at c) ∷ around) = (refl, is, reaches-ahead (omega arith) back, around-lower r (at (with_plain inner exit c)) (at c) context around (omega (arith, next)) around_all) in
             let last_line : here w ≤ suc (at c) = omega (arith, same, enters, grows-after grown_p.code, grows-after grown_h.code, grows-after grown_b.code) in
-            free-join ((declares-right keeps there ends declares typed proper).free first (begins_w k) last_line (enter_starts (before k)))
+            free-join ((declares-right keeps declares typed proper).free first there ends (begins_w k) last_line (enter_starts (before k)))
             (free-join (free-as (enter-free first there inner a.code (before k).code.lines none is (follows-as entry.starts enters refl)) same (sym enters))
             (free-join (entry.free first is.known) (free-join (actions.free first begins_b) (free-join (list.free first is.known inside back around_list)
             (free-as (exit-free first is.known inner context c.code k.code.lines list.stack refl is ends) refl (sym next))))));

@@ -14,30 +14,30 @@ use Rattle.psm_code.specs.declared.code.RawRoutine.{RawRoutine}
 use Rattle.psm_code.specs.declared.instruction.Instruction.TheVariants as instruction
 use Rattle.psm_code.specs.Instructions.{cursor_letters, letters_in, of_plan, plan_letters, putting, table_letters, values_letters}
 use Rattle.psm_code.specs.Rules.{is_there, there}
-use Rattle.psm_code.specs.RoutineRules.{context_there}
 use Rattle.psm_meaning.specs.Calls.{returns}
 use Rattle.psm_emit.specs.declared.known.Known.{Known}
 use Rattle.psm_emit.specs.Parts.{Parts, with_code}
 use Rattle.psm_emit.specs.Simples.{WritesRows, changed, cleared, letters_of_columns, more_operands, retrieved}
 use Rattle.psm_emit.specs.Written.{Written, letters_at, puts, takes, with_query}
 use Rattle.psm_sound.specs.Scene.{Each, Scene}
-use Rattle.psm_right.specs.Frame.{Ends, Right}
-use Rattle.psm_right.specs.Kept.{AreSlots, Keeps, KeepsRoutine}
-use Rattle.psm_right.specs.ProperSimples.{RowOf}
+use Rattle.psm_right.specs.Frame.{Right}
+use Rattle.psm_proper.specs.Slots.{AreSlots}
+use Rattle.psm_right.specs.Kept.{Keeps, KeepsRoutine}
+use Rattle.psm_proper.specs.Simples.{RowOf}
 use Rattle.psm_right.proofs.Lines.{Does}
 use Rattle.psm_right.proofs.Rights.{alone-right, clear-right, puts-right, query-right, right-then}
 use Rattle.psm_right.proofs.Simples.{rows-right}
 use Rattle.psm_right.proofs.Slots.{retrieved-right}
 
-module _ {e : Scene} {known : Known} {code : RawCode} {r : RawRoutine} {context resume : ℕ} (keeps : Keeps e known code r) (is : KeepsRoutine e known r) (in_routine : context_there r context ≡ true) (ends : Ends r resume context) where
+module _ {e : Scene} {known : Known} {code : RawCode} {r : RawRoutine} {context resume : ℕ} (keeps : Keeps e known code r) (is : KeepsRoutine e known r) where
   -- ---- cursors
 
   pub open-right : (cursor : ℕ) (p : Parts) → is_there r.cursors cursor ≡ true → p.code.stack ≡ [] → Right code r context resume p.code (takes context resume (instruction.Open cursor) 0 (cleared context p)) []
-  open-right cursor p h q = right-then (clear-right in_routine ends p.code q) (alone-right in_routine ends (instruction.Open cursor) (codes "OPEN") [] (cleared context p)
+  open-right cursor p h q = right-then (clear-right p.code q) (alone-right (instruction.Open cursor) (codes "OPEN") [] (cleared context p)
       (record { names = h; place = refl; fits = refl; value = N; other = B; is_value = refl; effect = refl }) (record { right = λ l. refl; behind = λ l. refl; stays = refl }) q)
 
   pub close-right : (cursor : ℕ) (p : Parts) → is_there r.cursors cursor ≡ true → p.code.stack ≡ [] → Right code r context resume p.code (takes context resume (instruction.Close cursor) 0 (cleared context p)) []
-  close-right cursor p h q = right-then (clear-right in_routine ends p.code q) (alone-right in_routine ends (instruction.Close cursor) (codes "CLOSE") [] (cleared context p)
+  close-right cursor p h q = right-then (clear-right p.code q) (alone-right (instruction.Close cursor) (codes "CLOSE") [] (cleared context p)
       (record { names = h; place = refl; fits = refl; value = N; other = B; is_value = refl; effect = refl }) (record { right = λ l. refl; behind = λ l. refl; stays = refl }) q)
 
   -- the items of the cursor are of these letters
@@ -46,9 +46,9 @@ module _ {e : Scene} {known : Known} {code : RawCode} {r : RawRoutine} {context 
   fetch-right cursor slots p h items s q =
       let ks = letters_at p.letters cursor in
       let fetched = puts context resume (instruction.Fetch cursor) 0 ks (cleared context p) in
-      let one : Right code r context resume (cleared context p) fetched (ks ++ []) = puts-right in_routine ends (instruction.Fetch cursor) (codes "FETCH") [] ks [] 0 (cleared context p)
+      let one : Right code r context resume (cleared context p) fetched (ks ++ []) = puts-right (instruction.Fetch cursor) (codes "FETCH") [] ks [] 0 (cleared context p)
       (record { names = h; place = refl; fits = refl; value = N; other = B; is_value = refl; effect = ap (putting (codes "FETCH")) items }) (record { stands = refl; right = λ l. refl; behind = λ l. refl }) refl refl q in
-      right-then (clear-right in_routine ends p.code q) (right-then one (retrieved-right keeps in_routine ends slots ks fetched s (one.stack ∙ append-nil ks)))
+      right-then (clear-right p.code q) (right-then one (retrieved-right keeps slots ks fetched s (one.stack ∙ append-nil ks)))
 
   -- ---- changes, which stand in a procedure
 
@@ -65,7 +65,7 @@ module _ {e : Scene} {known : Known} {code : RawCode} {r : RawRoutine} {context 
         is_value = refl;
         effect = ap (λ o. option_map (λ ls. plain (codes "DATA") ls []) (of_plan (plan_letters code) o)) at ∙ ap (option_map (λ ls. plain (codes "DATA") ls [])) letters;
       } in
-      puts-right in_routine ends (instruction.Change n) (codes "DATA") ks [] [] count w does (record { stands = refl; right = λ l. refl; behind = λ l. refl }) refl many (q ∙ sym (append-nil ks))
+      puts-right (instruction.Change n) (codes "DATA") ks [] [] count w does (record { stands = refl; right = λ l. refl; behind = λ l. refl }) refl many (q ∙ sym (append-nil ks))
 
   -- INSERT of values, where the columns are of the letters that are known
   pub insert-right : (table : ℕ) (columns : List ℕ) (rows : List (List ResolvedExpr)) (p : Parts) (w : Written) → WritesRows known context resume (letters_of_columns known table columns) rows (cleared context p) w
@@ -74,19 +74,19 @@ module _ {e : Scene} {known : Known} {code : RawCode} {r : RawRoutine} {context 
   insert-right table columns rows p w a at letters values none q =
       let ls = letters_of_columns known table columns in
       let ks : List Letter = reverse (flat_map (λ xs. xs) (replicate (length rows) ls)) in
-      let one : Right code r context resume (cleared context p) w (ks ++ p.code.stack) = rows-right keeps in_routine ends a values in
+      let one : Right code r context resume (cleared context p) w (ks ++ p.code.stack) = rows-right keeps a values in
       let all : w.stack ≡ ks = one.stack ∙ ap (λ z. ks ++ z) q ∙ append-nil ks in
       let many : length w.stack ≡ length ks = ap length all in
       let below : length p.code.stack ≡ 0 = ap length q in
-      right-then (clear-right in_routine ends p.code q) (right-then one
+      right-then (clear-right p.code q) (right-then one
       (change-right (length p.plans) (plans.Insert table columns (length rows)) ks (more_operands p w) w at (ap (values_letters (length rows)) letters) none (omega (arith, many, below)) all))
 
   -- the other changes take no operand
   pub changed-right : (plan : Plan) (p : Parts) → slice_get r.plans (length p.plans) ≡ Some plan → plan_letters code plan ≡ Some [] → e.routine.returns ≡ None → p.code.stack ≡ []
       → Right code r context resume p.code (changed context resume plan 0 (with_code (cleared context p) p)).code []
-  changed-right plan p at letters none q = right-then (clear-right in_routine ends p.code q) (change-right (length p.plans) plan [] 0 (cleared context p) at letters none refl q)
+  changed-right plan p at letters none q = right-then (clear-right p.code q) (change-right (length p.plans) plan [] 0 (cleared context p) at letters none refl q)
 
   pub changed_query-right : (query : Query) (plan : Plan) (p : Parts) → slice_get r.plans (length p.plans) ≡ Some plan → plan_letters code plan ≡ Some [] → e.routine.returns ≡ None → p.code.stack ≡ []
       → Right code r context resume p.code (changed context resume plan 0 (with_code (with_query query (cleared context p)) p)).code []
   changed_query-right query plan p at letters none q =
-      right-then (clear-right in_routine ends p.code q) (right-then (query-right query (cleared context p) q) (change-right (length p.plans) plan [] 0 (with_query query (cleared context p)) at letters none refl q))
+      right-then (clear-right p.code q) (right-then (query-right query (cleared context p) q) (change-right (length p.plans) plan [] 0 (with_query query (cleared context p)) at letters none refl q))

@@ -22,9 +22,9 @@ use Rattle.psm_emit.proofs.Growing.{Grown, grown-code, no_context}
 use Rattle.psm_emit.proofs.Growth.{begins-earlier, grows-applied, grows-on, grows-taken, grows-writes}
 use Rattle.psm_emit.proofs.Placing.{Kept, kept-earlier}
 use Rattle.psm_sound.specs.Scene.{Scene}
-use Rattle.psm_right.specs.Frame.{Ends, Follows, Free, Right}
+use Rattle.psm_right.specs.Frame.{Follows, Free, Right}
 use Rattle.psm_right.specs.Kept.{Keeps}
-use Rattle.psm_right.specs.ProperStatements.{IsTest}
+use Rattle.psm_proper.specs.Statements.{IsTest}
 use Rattle.psm_right.proofs.Asking.{drop-does}
 use Rattle.psm_right.proofs.Forms.{made}
 use Rattle.psm_right.proofs.Frees.{free-as}
@@ -57,8 +57,8 @@ module _ {e : Scene} {known : Known} {code : RawCode} {r : RawRoutine} (keeps : 
       → p.code.stack ≡ k ∷ [] → w.stack ≡ k ∷ k ∷ k ∷ []
   compared-stack k p w a t q = typed-put (last_letter p.code) k t.1 (writes-stack keeps a t.0 t.1) ∙ ap (λ l. k ∷ l ∷ p.code.stack) (last-is p.code k [] q) ∙ ap (λ s. k ∷ k ∷ s) q
 
-  drop-right : {context resume : ℕ} → context_there r context ≡ true → Ends r resume context → (k : Letter) (s : List Letter) (w : Written) → is_value k ≡ true → w.stack ≡ k ∷ s → Right code r context resume w (taken context resume op.Drop w) s
-  drop-right there ends k s w v q = puts-right there ends (instruction.Operation op.Drop) (codes "DROP") (k ∷ []) [] s 1 w (drop-does k v) (calm-operation op.Drop) refl refl q
+  drop-right : {context resume : ℕ} (k : Letter) (s : List Letter) (w : Written) → is_value k ≡ true → w.stack ≡ k ∷ s → Right code r context resume w (taken context resume op.Drop w) s
+  drop-right k s w v q = puts-right (instruction.Operation op.Drop) (codes "DROP") (k ∷ []) [] s 1 w (drop-does k v) (calm-operation op.Drop) refl refl q
 
   pub comparison-good : {context out : ℕ} {around : List Around} {k : Letter} {x : ResolvedExpr} → is_value k ≡ true → (p b c : Parts) (w : Written) → p.code.stack ≡ k ∷ []
       → Writes known context out (last_letter p.code) x (applied context out op.Duplicate 0 (last_letter p.code) p.code) w → IsTest e known x k
@@ -98,12 +98,12 @@ module _ {e : Scene} {known : Known} {code : RawCode} {r : RawRoutine} (keeps : 
             let at_jump : Follows r (here equal) context equal.stack = line-starts context (Some out) (instruction.Operation (op.JumpUnlessTrue to)) equal begins_j.lines in
             let at_drop : Follows r (here jump) context jump.stack = line-starts context (Some out) (instruction.Operation op.Drop) jump begins_d.lines in
             let equals : Makes code r op.Equal (k ∷ k ∷ []) B = made op.Equal k (k ∷ k ∷ []) B refl refl refl v refl in
-            let compare : Right code r context out w equal (B ∷ k ∷ []) = puts-right there ends (instruction.Operation op.Equal) equals.name (k ∷ k ∷ []) (B ∷ []) (k ∷ []) 2 w equals.does (calm-operation op.Equal) refl refl three in
-            let value = right-then (duplicate-right there ends k [] p.code v q) (right-then (operand-part there ends keeps a t.0 t.1) compare) in
-            let drops = drop-right there ends k [] jump v rested in
-            free-join (value.free first begins_e (omega (arith, n2, n3, longer, n1, later, h)) at_jump)
+            let compare : Right code r context out w equal (B ∷ k ∷ []) = puts-right (instruction.Operation op.Equal) equals.name (k ∷ k ∷ []) (B ∷ []) (k ∷ []) 2 w equals.does (calm-operation op.Equal) refl refl three in
+            let value = right-then (duplicate-right k [] p.code v q) (right-then (operand-part keeps a t.0 t.1) compare) in
+            let drops = drop-right k [] jump v rested in
+            free-join (value.free first there ends begins_e (omega (arith, n2, n3, longer, n1, later, h)) at_jump)
             (free-join (free-as (test-free first there ends to (k ∷ []) equal begins_j.lines tested (omega (arith, n2, n3, longer)) (omega (arith, n2, n3, longer, n1, later, h)) (follows-as at_drop n2 rested) others) refl (sym n2))
-            (free-join (drops.free first begins_d (omega (arith, longer, n1, later, h)) (follows-as (list.starts inside back) refl (sym drops.stack)))
+            (free-join (drops.free first there ends begins_d (omega (arith, longer, n1, later, h)) (follows-as (list.starts inside back) refl (sym drops.stack)))
             (free-join (list.free first there inside back (around-lower r (at c) (at b) context around (omega (arith, n1, later)) around_all))
             (free-join (free-as (jump-free first there ends out b.code left_kept.code.lines (omega (arith, n1, later, h)) (omega (arith, n1, later, h)) (follows-as ends refl (sym list.stack))) refl (sym n1))
             (rest.free first there kept f ends h around_all)))));
@@ -128,9 +128,9 @@ module _ {e : Scene} {known : Known} {code : RawCode} {r : RawRoutine} (keeps : 
         free = λ first there kept f around_all.
             let second = kept-earlier grown_rest kept in
             let inside = kept-earlier last second in
-            let value = operand-part there f keeps a t.0 t.1 in
-            let drops = drop-right there f k [] b.code v g.stack in
-            free-join (value.free first (kept-earlier grown inside).code (omega (arith, longer, n, later)) (follows-as (g.starts inside (ahead second)) refl (sym operand)))
+            let value = operand-part keeps a t.0 t.1 in
+            let drops = drop-right k [] b.code v g.stack in
+            free-join (value.free first there f (kept-earlier grown inside).code (omega (arith, longer, n, later)) (follows-as (g.starts inside (ahead second)) refl (sym operand)))
             (free-join (g.free first there inside (ahead second) f (omega (arith, n, later)) (around-lower r (at c) (at b) context around (omega (arith, n, later)) around_all))
-            (free-join (drops.free first second.code later (follows-as (rest.starts kept f) refl (sym drops.stack))) (rest.free first there kept f around_all)));
+            (free-join (drops.free first there f second.code later (follows-as (rest.starts kept f) refl (sym drops.stack))) (rest.free first there kept f around_all)));
       }

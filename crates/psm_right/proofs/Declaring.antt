@@ -19,8 +19,8 @@ use Rattle.psm_sound.specs.Scene.{Each, Scene}
 use Rattle.psm_sound.specs.Statements.{IsDeclaration, IsDefault}
 use Rattle.psm_right.specs.Frame.{Follows}
 use Rattle.psm_right.specs.Kept.{Keeps}
-use Rattle.psm_right.specs.Proper.{PerhapsProper}
-use Rattle.psm_right.specs.ProperSimples.{ProperDeclaration}
+use Rattle.psm_proper.specs.Expressions.{PerhapsProper}
+use Rattle.psm_proper.specs.Statements.{ProperDeclaration}
 use Rattle.psm_right.proofs.Propers.{of_just}
 use Rattle.psm_right.proofs.Putting.{line-starts}
 use Rattle.psm_right.proofs.Stacks.{writes-stack}

@@ -42,7 +42,7 @@ use Rattle.psm_sound.specs.Expressions as sound
 use Rattle.psm_sound.specs.Scene.{Scene}
 use Rattle.psm_sound.specs.Scene as scenes
 use Rattle.psm_right.specs.Kept.{Keeps}
-use Rattle.psm_right.specs.Proper.{AllProper, allows, is_within, takes_null}
+use Rattle.psm_proper.specs.Expressions.{AllProper, allows, is_within, takes_null}
 use Rattle.psm_right.proofs.Propers.{letter_put, letters_put, put-value, puts-typed}
 use Rattle.psm_right.proofs.Putting.{AllMake, AllStay, Makes}
 use Rattle.psm_right.proofs.Typing.{IsLayer, are-same}

@@ -35,8 +35,8 @@ use Rattle.psm_sound.specs.Expressions as sound
 use Rattle.psm_sound.specs.Scene.{Scene, letters_of, taken_by}
 use Rattle.psm_right.specs.Frame.{Ends, Follows, Free}
 use Rattle.psm_right.specs.Kept.{Keeps}
-use Rattle.psm_right.specs.Proper.{AllProper, LinksProper, PerhapsProper, Proper, WhensProper, allows}
-use Rattle.psm_right.specs.Proper as parts
+use Rattle.psm_proper.specs.Expressions.{AllProper, LinksProper, PerhapsProper, Proper, WhensProper, allows}
+use Rattle.psm_proper.specs.Expressions as parts
 use Rattle.psm_right.proofs.Asking.{call-does, calm-call, calm-exists, calm-scalar, drop-does, duplicate-does, exists-does, scalar-does}
 use Rattle.psm_right.proofs.Forms.{Form, form, joined-made, joined-stays, made, null-made, operated-made, operated-stays, scaling-made, scaling-stays}
 use Rattle.psm_right.proofs.Lines.{free-join, free-none, goes-ahead, no-jump}

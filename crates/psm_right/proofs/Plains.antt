@@ -91,3 +91,14 @@ pub end_action-free : {code : RawCode} {r : RawRoutine} (context : ℕ) → Foll
     → is_there r.handlers.handlers n ≡ true → is_action_context n (context_at r.handlers context) ≡ true → Free code r (here w) (suc (here w))
 end_action-free context first known n w b q h is = plain-free first known (instruction.EndAction n) (last (codes "ENDACT") []) context w b (record { names = h; place = refl; fits = refl; value = N; other = B; is_value = refl; effect = refl }) q refl refl
     is refl (never-ahead (instruction.EndAction n) refl) (no-jump (instruction.EndAction n) refl)
+
+-- ---- the line behind the body, which is the routine's own
+
+module _ {code : RawCode} {r : RawRoutine} (first : Follows r 0 0 []) (known : context_there r 0 ≡ true) where
+  pub end-free : (w : Written) → BeginsWith (w.lines ++ line_of 0 None instruction.End w ∷ []) r.lines → r.is_function ≡ false → w.stack ≡ [] → Free code r (here w) (suc (here w))
+  end-free w b procedure q = plain-free first known instruction.End (last (codes "END") []) 0 w b (record { names = refl; place = ap not procedure; fits = refl; value = N; other = B; is_value = refl; effect = refl }) q refl refl refl refl
+      (never-ahead instruction.End refl) (no-jump instruction.End refl)
+
+  pub no_return-free : (w : Written) → BeginsWith (w.lines ++ line_of 0 None instruction.NoReturn w ∷ []) r.lines → r.is_function ≡ true → w.stack ≡ [] → Free code r (here w) (suc (here w))
+  no_return-free w b function q = plain-free first known instruction.NoReturn (last (codes "NORET") []) 0 w b (record { names = refl; place = function; fits = refl; value = N; other = B; is_value = refl; effect = refl }) q refl refl refl refl
+      (never-ahead instruction.NoReturn refl) (no-jump instruction.NoReturn refl)

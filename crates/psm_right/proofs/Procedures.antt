@@ -28,8 +28,9 @@ use Rattle.psm_emit.proofs.Numbers.{known_procedures}
 use Rattle.psm_sound.specs.Scene.{Begin, Scene, taken_by, with_taken}
 use Rattle.psm_sound.specs.Scene as scenes
 use Rattle.psm_sound.specs.Statements.{AreArguments}
-use Rattle.psm_right.specs.Kept.{AreSlots, FunctionTakes, Keeps, KeepsProcedure, KeepsProcedures, KeepsRoutine, QueriesKeep, letters_given}
-use Rattle.psm_right.specs.ProperSimples.{ProperArguments}
+use Rattle.psm_proper.specs.Slots.{AreSlots}
+use Rattle.psm_right.specs.Kept.{FunctionTakes, Keeps, KeepsProcedure, KeepsProcedures, KeepsRoutine, QueriesKeep, letters_given}
+use Rattle.psm_proper.specs.Simples.{ProperArguments}
 use Rattle.psm_right.proofs.Keeping.{keeps-written, routine-written, taken-letters}
 
 taking-one : (m : ParameterMode) (p : Parameter) (kept : List Parameter) (q : ResolvedParameter) (others : List ResolvedParameter) → letter_of p.kind ≡ letter_of q.kind → parameter_letters kept ≡ map (λ x. letter_of x.kind) others

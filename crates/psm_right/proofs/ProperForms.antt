@@ -1,73 +1,108 @@
--- What a statement has as it is checked, form by form.
-use Rattle.std.proofs.Common.{◌≡◌, ℕ, true, List, [], ◌∷◌, Some, None, subst}
+-- What a proper statement has, form by form.
+use Rattle.std.proofs.Common.{◌≡◌, ℕ, List, ◌∷◌, ◌++◌, ◌∙◌, Some, None, sym, subst, IsTrue}
 use Rattle.psm_exprcode.specs.declared.op.Letter.{Letter}
 use Rattle.psm_exprcode.specs.declared.op.Letter.TheVariants.{B}
 use Rattle.psm_exprcode.specs.Kinds.{is_value}
 use Rattle.psm_resolved.specs.declared.expr.ResolvedExpr.{ResolvedExpr}
 use Rattle.psm_resolved.specs.declared.statement.ResolvedBlock.{ResolvedBlock, out-ResolvedBlock}
 use Rattle.psm_resolved.specs.declared.statement.ResolvedBranch.{ResolvedBranch, out-ResolvedBranch}
+use Rattle.psm_resolved.specs.declared.statement.ResolvedCursor.{ResolvedCursor}
 use Rattle.psm_resolved.specs.declared.statement.ResolvedFor.{ResolvedFor}
 use Rattle.psm_resolved.specs.declared.statement.ResolvedHandler.{ResolvedHandler, out-ResolvedHandler}
 use Rattle.psm_resolved.specs.declared.statement.ResolvedSimple.{ResolvedSimple}
 use Rattle.psm_resolved.specs.declared.statement.ResolvedStatement.{ResolvedStatement, out-ResolvedStatement}
 use Rattle.psm_resolved.specs.declared.statement.ResolvedStatement.TheOpen as layers
 use Rattle.psm_emit.specs.declared.known.Known.{Known}
+use Rattle.psm_emit.specs.Queries.{item_letters}
 use Rattle.psm_emit.specs.Standing.{Layer}
 use Rattle.psm_sound.specs.Scene.{Each, Scene}
-use Rattle.psm_sound.specs.Statements.{IsDeclaration}
-use Rattle.psm_right.specs.ProperSimples.{ProperDeclaration}
-use Rattle.psm_right.specs.ProperStatements.{AllProper, BranchesProper, HandlersProper, IsTest, LayerProper, ProperStatement}
-use Rattle.psm_right.specs.ProperStatements as of
+use Rattle.psm_sound.specs.Statements.{IsDeclaration, IsSimple, Sight, in_action, inside, looping, over_rows}
+use Rattle.psm_proper.specs.Simples.{ProperSimple}
+use Rattle.psm_proper.specs.Slots.{AreSlots}
+use Rattle.psm_proper.specs.Statements.{AreActions, AreBranches, AreProper, IsProper, IsTest, Letters, ProperCursor, ProperDeclaration}
+use Rattle.psm_proper.specs.Statements as of
 
-pub record BlockProper (e : Scene) (known : Known) (Simple : ResolvedSimple → Type 0) (labels loops : List ℕ) (level : ℕ) (block : ResolvedBlock) : Type 0 where
+pub record BlockProper (e : Scene) (known : Known) (letters : Letters) (s : Sight) (level : ℕ) (block : ResolvedBlock) : Type 0 where
   pub declared : Each (IsDeclaration e) (out-ResolvedBlock block).declarations
   pub proper : Each (ProperDeclaration known) (out-ResolvedBlock block).declarations
-  pub handlers : HandlersProper e known Simple (out-ResolvedBlock block).handlers
-  pub statements : AllProper e known Simple (level ∷ labels) loops (out-ResolvedBlock block).statements
+  pub cursors : Each (ProperCursor known letters) (out-ResolvedBlock block).cursors
+  pub actions : AreActions e known letters level ((out-ResolvedBlock block).cursors ++ s.cursors) (out-ResolvedBlock block).handlers
+  pub statements : AreProper e known letters (inside level (out-ResolvedBlock block).cursors s) (out-ResolvedBlock block).statements
 
-pub record ComparedProper (e : Scene) (known : Known) (Simple : ResolvedSimple → Type 0) (labels loops : List ℕ) (x : ResolvedExpr) (bs : List ResolvedBranch) (ss : List ResolvedStatement) : Type 0 where
+pub record ForProper (e : Scene) (known : Known) (letters : Letters) (s : Sight) (level : ℕ) (head : ResolvedFor) (xs : List ResolvedStatement) : Type 0 where
+  pub cursor : ProperCursor known letters head.cursor
+  pub slots : AreSlots e head.slots (item_letters known head.cursor.query)
+  pub statements : AreProper e known letters (over_rows level head.cursor s) xs
+
+pub record ComparedProper (e : Scene) (known : Known) (letters : Letters) (s : Sight) (x : ResolvedExpr) (bs : List ResolvedBranch) (ss : List ResolvedStatement) : Type 0 where
   pub letter : Letter
-  pub value : is_value letter ≡ true
+  pub value : IsTrue (is_value letter)
   pub operand : IsTest e known x letter
-  pub branches : BranchesProper e known Simple labels loops letter bs
-  pub otherwise : AllProper e known Simple labels loops ss
+  pub branches : AreBranches e known letters s bs letter
+  pub otherwise : AreProper e known letters s ss
 
-module _ {e : Scene} {known : Known} {Simple : ResolvedSimple → Type 0} {labels loops : List ℕ} where
-  pub layer-of : {s : ResolvedStatement} {layer : Layer} → ProperStatement e known Simple labels loops s → out-ResolvedStatement s ≡ layer → LayerProper e known Simple labels loops layer
-  layer-of (of.proper p) q = subst (LayerProper e known Simple labels loops) q p
+-- the parts of each form
+pub data Parted (e : Scene) (known : Known) (letters : Letters) (s : Sight) : Layer → Type 0 where
+  simple : {y : ResolvedSimple} → IsSimple e s y → ProperSimple e known letters s y → Parted e known letters s (layers.Simple y)
+  compound : {level : ℕ} {block : ResolvedBlock} → BlockProper e known letters s level block → Parted e known letters s (layers.Compound level block)
+  loop : {level : ℕ} {xs : List ResolvedStatement} → AreProper e known letters (looping level s) xs → Parted e known letters s (layers.Loop level xs)
+  while : {level : ℕ} {test : ResolvedExpr} {xs : List ResolvedStatement} → IsTest e known test B → AreProper e known letters (looping level s) xs → Parted e known letters s (layers.While level test xs)
+  repeat : {level : ℕ} {xs : List ResolvedStatement} {until : ResolvedExpr} → AreProper e known letters (looping level s) xs → IsTest e known until B → Parted e known letters s (layers.Repeat level xs until)
+  for_each : {level : ℕ} {head : ResolvedFor} {xs : List ResolvedStatement} → ForProper e known letters s level head xs → Parted e known letters s (layers.For level head xs)
+  if_ : {bs : List ResolvedBranch} {ss : List ResolvedStatement} → AreBranches e known letters s bs B → AreProper e known letters s ss → Parted e known letters s (layers.If bs ss)
+  searched : {bs : List ResolvedBranch} {ss : List ResolvedStatement} → AreBranches e known letters s bs B → AreProper e known letters s ss → Parted e known letters s (layers.Case None bs ss)
+  compared : {operand : ResolvedExpr} {bs : List ResolvedBranch} {ss : List ResolvedStatement} → ComparedProper e known letters s operand bs ss → Parted e known letters s (layers.Case (Some operand) bs ss)
 
-  pub of_compound : {level : ℕ} {block : ResolvedBlock} → LayerProper e known Simple labels loops (layers.Compound level block) → BlockProper e known Simple labels loops level block
-  of_compound (of.compound a b c d) = record { declared = a; proper = b; handlers = c; statements = d }
+module _ {e : Scene} {known : Known} {letters : Letters} {s : Sight} where
+  parted-as : {made layer : Layer} (x : ResolvedStatement) → out-ResolvedStatement x ≡ made → out-ResolvedStatement x ≡ layer → Parted e known letters s made → Parted e known letters s layer
+  parted-as x n m p = subst (Parted e known letters s) (sym n ∙ m) p
 
-  pub of_loop : {level : ℕ} {ss : List ResolvedStatement} → LayerProper e known Simple labels loops (layers.Loop level ss) → AllProper e known Simple (level ∷ labels) (level ∷ loops) ss
-  of_loop (of.loop a) = a
+  pub parted : {x : ResolvedStatement} {layer : Layer} → IsProper e known letters s x → out-ResolvedStatement x ≡ layer → Parted e known letters s layer
+  parted {x = x} (of.simple y n t o) m = parted-as x n m (simple t o)
+  parted {x = x} (of.compound level block n bound declared proper cursors letters apart may actions statements) m =
+      parted-as x n m (compound (record { declared = declared; proper = proper; cursors = letters; actions = actions; statements = statements }))
+  parted {x = x} (of.loop level xs n all) m = parted-as x n m (loop all)
+  parted {x = x} (of.while level test xs n t all) m = parted-as x n m (while t all)
+  parted {x = x} (of.repeat level xs until n all t) m = parted-as x n m (repeat all t)
+  parted {x = x} (of.for_each level head xs n bound is cursor items slots all) m = parted-as x n m (for_each (record { cursor = cursor; slots = slots; statements = all }))
+  parted {x = x} (of.if bs ss n branches all) m = parted-as x n m (if_ branches all)
+  parted {x = x} (of.searched bs ss n branches all) m = parted-as x n m (searched branches all)
+  parted {x = x} (of.compared {k = k} operand bs ss n value t branches all) m = parted-as x n m (compared (record { letter = k; value = value; operand = t; branches = branches; otherwise = all }))
 
-  pub of_while : {level : ℕ} {test : ResolvedExpr} {ss : List ResolvedStatement} → LayerProper e known Simple labels loops (layers.While level test ss) → IsTest e known test B × AllProper e known Simple (level ∷ labels) (level ∷ loops) ss
-  of_while (of.while a b) = (a, b)
+  pub of_simple : {y : ResolvedSimple} → Parted e known letters s (layers.Simple y) → IsSimple e s y × ProperSimple e known letters s y
+  of_simple (simple t o) = (t, o)
 
-  pub of_repeat : {level : ℕ} {ss : List ResolvedStatement} {until : ResolvedExpr} → LayerProper e known Simple labels loops (layers.Repeat level ss until) → AllProper e known Simple (level ∷ labels) (level ∷ loops) ss × IsTest e known until B
-  of_repeat (of.repeat a b) = (a, b)
+  pub of_compound : {level : ℕ} {block : ResolvedBlock} → Parted e known letters s (layers.Compound level block) → BlockProper e known letters s level block
+  of_compound (compound a) = a
 
-  pub of_if : {bs : List ResolvedBranch} {ss : List ResolvedStatement} → LayerProper e known Simple labels loops (layers.If bs ss) → BranchesProper e known Simple labels loops B bs × AllProper e known Simple labels loops ss
-  of_if (of.if_ a b) = (a, b)
+  pub of_loop : {level : ℕ} {xs : List ResolvedStatement} → Parted e known letters s (layers.Loop level xs) → AreProper e known letters (looping level s) xs
+  of_loop (loop a) = a
 
-  pub of_searched : {bs : List ResolvedBranch} {ss : List ResolvedStatement} → LayerProper e known Simple labels loops (layers.Case None bs ss) → BranchesProper e known Simple labels loops B bs × AllProper e known Simple labels loops ss
-  of_searched (of.searched a b) = (a, b)
+  pub of_while : {level : ℕ} {test : ResolvedExpr} {xs : List ResolvedStatement} → Parted e known letters s (layers.While level test xs) → IsTest e known test B × AreProper e known letters (looping level s) xs
+  of_while (while a b) = (a, b)
 
-  pub of_compared : {operand : ResolvedExpr} {bs : List ResolvedBranch} {ss : List ResolvedStatement} → LayerProper e known Simple labels loops (layers.Case (Some operand) bs ss) → ComparedProper e known Simple labels loops operand bs ss
-  of_compared (of.compared {k = k} a b c d) = record { letter = k; value = a; operand = b; branches = c; otherwise = d }
+  pub of_repeat : {level : ℕ} {xs : List ResolvedStatement} {until : ResolvedExpr} → Parted e known letters s (layers.Repeat level xs until) → AreProper e known letters (looping level s) xs × IsTest e known until B
+  of_repeat (repeat a b) = (a, b)
 
-  -- FOR isn't told yet
-  pub of_for : {level : ℕ} {head : ResolvedFor} {ss : List ResolvedStatement} → LayerProper e known Simple labels loops (layers.For level head ss) → ⊥
-  of_for t = elim t [ ]
+  pub of_for : {level : ℕ} {head : ResolvedFor} {xs : List ResolvedStatement} → Parted e known letters s (layers.For level head xs) → ForProper e known letters s level head xs
+  of_for (for_each a) = a
 
-  pub of_more : {s : ResolvedStatement} {ss : List ResolvedStatement} → AllProper e known Simple labels loops (s ∷ ss) → ProperStatement e known Simple labels loops s × AllProper e known Simple labels loops ss
+  pub of_if : {bs : List ResolvedBranch} {ss : List ResolvedStatement} → Parted e known letters s (layers.If bs ss) → AreBranches e known letters s bs B × AreProper e known letters s ss
+  of_if (if_ a b) = (a, b)
+
+  pub of_searched : {bs : List ResolvedBranch} {ss : List ResolvedStatement} → Parted e known letters s (layers.Case None bs ss) → AreBranches e known letters s bs B × AreProper e known letters s ss
+  of_searched (searched a b) = (a, b)
+
+  pub of_compared : {operand : ResolvedExpr} {bs : List ResolvedBranch} {ss : List ResolvedStatement} → Parted e known letters s (layers.Case (Some operand) bs ss) → ComparedProper e known letters s operand bs ss
+  of_compared (compared a) = a
+
+  pub of_more : {x : ResolvedStatement} {xs : List ResolvedStatement} → AreProper e known letters s (x ∷ xs) → IsProper e known letters s x × AreProper e known letters s xs
   of_more (of.more a b) = (a, b)
 
-  pub of_branch : {k : Letter} {x : ResolvedBranch} {xs : List ResolvedBranch} → BranchesProper e known Simple labels loops k (x ∷ xs)
-      → IsTest e known (out-ResolvedBranch x).test k × AllProper e known Simple labels loops (out-ResolvedBranch x).statements × BranchesProper e known Simple labels loops k xs
-  of_branch (of.branch a b c) = (a, b, c)
+  pub of_branch : {k : Letter} {b : ResolvedBranch} {bs : List ResolvedBranch} → AreBranches e known letters s (b ∷ bs) k
+      → IsTest e known (out-ResolvedBranch b).test k × AreProper e known letters s (out-ResolvedBranch b).statements × AreBranches e known letters s bs k
+  of_branch (of.and_branch a b c) = (a, b, c)
 
-module _ {e : Scene} {known : Known} {Simple : ResolvedSimple → Type 0} where
-  pub of_handler : {h : ResolvedHandler} {hs : List ResolvedHandler} → HandlersProper e known Simple (h ∷ hs) → ProperStatement e known Simple [] [] (out-ResolvedHandler h).action × HandlersProper e known Simple hs
-  of_handler (of.handler a b) = (a, b)
+pub of_handler : {e : Scene} {known : Known} {letters : Letters} {level : ℕ} {cursors : List ResolvedCursor} {h : ResolvedHandler} {hs : List ResolvedHandler} → AreActions e known letters level cursors (h ∷ hs)
+    → IsProper e known letters (in_action level cursors) (out-ResolvedHandler h).action × AreActions e known letters level cursors hs
+of_handler (of.and_handler a b) = (a, b)

@@ -17,8 +17,8 @@ use Rattle.psm_emit.specs.Queries.{is_query}
 use Rattle.psm_sound.specs.Expressions.{AreExprs}
 use Rattle.psm_sound.specs.Expressions as sound
 use Rattle.psm_sound.specs.Scene.{Scene}
-use Rattle.psm_right.specs.Proper.{AllProper, LayerProper, LinksProper, PerhapsProper, Proper, WhensProper, allows, is_within, takes_null}
-use Rattle.psm_right.specs.Proper as parts
+use Rattle.psm_proper.specs.Expressions.{AllProper, LayerProper, LinksProper, PerhapsProper, Proper, WhensProper, allows, is_within, takes_null}
+use Rattle.psm_proper.specs.Expressions as parts
 
 pub proper-layer : {known : Known} {null : Bool} {e : ResolvedExpr} {layer : Layer} → Proper known null e → out-ResolvedExpr e ≡ layer → LayerProper known layer
 proper-layer {known} (parts.proper a w p) q = subst (LayerProper known) q p
@@ -54,11 +54,11 @@ module _ {known : Known} where
 
   pub of_scalar : {query : ResolvedQuery} → LayerProper known (layers.Scalar query) → is_query known query ≡ true
   of_scalar (parts.straight h all) = absurd (false≢true h)
-  of_scalar (parts.scalar is) = is
+  of_scalar (parts.scalar p) = p.is
 
   pub of_exists : {query : ResolvedQuery} → LayerProper known (layers.Exists query) → is_query known query ≡ true
   of_exists (parts.straight h all) = absurd (false≢true h)
-  of_exists (parts.exists is) = is
+  of_exists (parts.exists p) = p.is
 
   pub of_case : {operand otherwise : Option ResolvedExpr} {whens : Several ResolvedWhen} {scale : Option ℕ} → LayerProper known (layers.Case operand whens otherwise scale)
       → PerhapsProper known false operand × WhensProper known (listed whens) × PerhapsProper known true otherwise

@@ -15,7 +15,7 @@ use Rattle.psm_code.specs.declared.instruction.Instruction.TheVariants as instru
 use Rattle.psm_code.specs.declared.lines.CodeLine.{CodeLine}
 use Rattle.psm_code.specs.Instructions.{last}
 use Rattle.psm_code.specs.Rules.{is_some}
-use Rattle.psm_code.specs.RoutineRules.{context_behind, context_there, jump_of, line_goes_ahead, stands_alone, stands_right}
+use Rattle.psm_code.specs.RoutineRules.{context_behind, jump_of, line_goes_ahead, stands_alone, stands_right}
 use Rattle.psm_resolved.specs.declared.expr.ResolvedExpr.{ResolvedExpr}
 use Rattle.psm_emit.specs.declared.known.Known.{Known}
 use Rattle.psm_emit.specs.Exprs.{Arguments, Writes}
@@ -25,9 +25,9 @@ use Rattle.psm_emit.proofs.Growth.{begins-earlier, grows-applied, grows-argument
 use Rattle.psm_emit.proofs.There.{line_of, there_at}
 use Rattle.psm_sound.specs.Expressions.{AreExprs, IsExpr}
 use Rattle.psm_sound.specs.Scene.{Scene}
-use Rattle.psm_right.specs.Frame.{Ends, Right}
+use Rattle.psm_right.specs.Frame.{Right}
 use Rattle.psm_right.specs.Kept.{Keeps}
-use Rattle.psm_right.specs.Proper.{AllProper, Proper}
+use Rattle.psm_proper.specs.Expressions.{AllProper, Proper}
 use Rattle.psm_right.proofs.Asking.{duplicate-does}
 use Rattle.psm_right.proofs.Frees.{arguments-free, free-as, null-typed, null-wanted, writes-free}
 use Rattle.psm_right.proofs.Lines.{Does, free-join, free-none, free-one, goes-ahead, line-right, never-ahead, no-jump, or_second, resumes-behind, resumes-never}
@@ -36,19 +36,19 @@ use Rattle.psm_right.proofs.Stacks.{arguments-stack, last-is, typed-put, wanted-
 use Rattle.psm_right.proofs.Starts.{arguments-starts, writes-starts}
 
 pub right-none : {code : RawCode} {r : RawRoutine} {context resume : ℕ} {w : Written} {s : List Letter} → w.stack ≡ s → Right code r context resume w w s
-right-none {w = w} q = record { grows = grows-here {w = w}; stack = q; starts = λ b f. f; free = λ first b h f. free-none }
+right-none {w = w} q = record { grows = grows-here {w = w}; stack = q; starts = λ b f. f; free = λ first there ends b h f. free-none }
 
 pub right-then : {code : RawCode} {r : RawRoutine} {context resume : ℕ} {w u v : Written} {s t : List Letter} → Right code r context resume w u s → Right code r context resume u v t → Right code r context resume w v t
 right-then a c = record {
   grows = grows-on a.grows c.grows;
   stack = c.stack;
   starts = λ b f. a.starts (begins-earlier c.grows b) (c.starts b f);
-  free = λ first b h f. free-join (a.free first (begins-earlier c.grows b) (omega (arith, h, grows-after c.grows)) (c.starts b f)) (c.free first b h f);
+  free = λ first there ends b h f. free-join (a.free first there ends (begins-earlier c.grows b) (omega (arith, h, grows-after c.grows)) (c.starts b f)) (c.free first there ends b h f);
 }
 
 -- a query more is no line
 pub query-right : {code : RawCode} {r : RawRoutine} {context resume : ℕ} {s : List Letter} (query : Query) (w : Written) → w.stack ≡ s → Right code r context resume w (with_query query w) s
-query-right query w q = record { grows = grows-query query {w = w}; stack = q; starts = λ b f. f; free = λ first b h f. free-none }
+query-right query w q = record { grows = grows-query query {w = w}; stack = q; starts = λ b f. f; free = λ first there ends b h f. free-none }
 
 -- an instruction stands in any context, in which it goes on, and where no operand stands
 pub record Alone (r : RawRoutine) (i : Instruction) : Type 0 where
@@ -59,14 +59,14 @@ pub record Alone (r : RawRoutine) (i : Instruction) : Type 0 where
 bare : (b : Bool) (s : List Letter) → s ≡ [] → (not b || not (is_some (reverse s))) ≡ true
 bare b s q = or_second (not b) (not (is_some (reverse s))) (ap (λ t. not (is_some (reverse t))) q)
 
-module _ {code : RawCode} {r : RawRoutine} {context resume : ℕ} (there : context_there r context ≡ true) (ends : Ends r resume context) where
+module _ {code : RawCode} {r : RawRoutine} {context resume : ℕ} where
   pub puts-right : (i : Instruction) (name : List ℕ) (ks letters rest : List Letter) (count : ℕ) (w : Written) → Does code r i (operations.plain name ks letters) → Calm r i → jump_of i ≡ None → length ks ≡ count → w.stack ≡ ks ++ rest
       → Right code r context resume w (puts context resume i count letters w) (letters ++ rest)
   puts-right i name ks letters rest count w d calm stays n q = record {
     grows = grows-puts context resume i count letters {w = w};
     stack = ap (λ t. letters ++ t) (dropped ks rest w.stack count n q);
     starts = λ b f. line-starts context (Some resume) i w b.lines;
-    free = λ first b h f. puts-free first there ends i name ks letters rest count w b d calm stays n q h f;
+    free = λ first there ends b h f. puts-free first there ends i name ks letters rest count w b d calm stays n q h f;
   }
 
   pub alone-right : (i : Instruction) (name : List ℕ) (letters : List Letter) (w : Written) → Does code r i (operations.plain name [] letters) → Alone r i → w.stack ≡ [] → Right code r context resume w (puts context resume i 0 letters w) letters
@@ -78,7 +78,7 @@ module _ {code : RawCode} {r : RawRoutine} {context resume : ℕ} (there : conte
         grows = grows-puts context resume i 0 letters {w = w};
         stack = after ∙ append-nil letters;
         starts = λ b f. line-starts context (Some resume) i w b.lines;
-        free = λ first b h f. free-as (free-one l (there_at w.lines b.lines) (line-right l (operations.plain name [] letters) [] (there_at w.lines b.lines) first there d (bare (stands_alone i) w.stack q) (alone.right l) (alone.behind l)
+        free = λ first there ends b h f. free-as (free-one l (there_at w.lines b.lines) (line-right l (operations.plain name [] letters) [] (there_at w.lines b.lines) first there d (bare (stands_alone i) w.stack q) (alone.right l) (alone.behind l)
             (reverse-reverse w.stack ∙ q) (resumes-behind l refl refl (omega (arith, h, next)) ends) (goes-ahead i (follows-as f next after)) (no-jump i alone.stays))) refl (sym next);
       }
 
@@ -90,7 +90,7 @@ module _ {code : RawCode} {r : RawRoutine} {context resume : ℕ} (there : conte
         grows = grows-plain context instruction.Clear {w = w};
         stack = q;
         starts = λ b f. line-starts context None instruction.Clear w b.lines;
-        free = λ first b h f. free-as (free-one l (there_at w.lines b.lines) (line-right {code = code} l (operations.plain (codes "CLEAR") [] []) [] (there_at w.lines b.lines) first there
+        free = λ first there ends b h f. free-as (free-one l (there_at w.lines b.lines) (line-right {code = code} l (operations.plain (codes "CLEAR") [] []) [] (there_at w.lines b.lines) first there
             (record { names = refl; place = refl; fits = refl; value = N; other = B; is_value = refl; effect = refl }) (bare true w.stack q) refl refl (reverse-reverse w.stack ∙ q) (resumes-never l refl refl)
             (goes-ahead instruction.Clear (follows-as f next q)) (no-jump instruction.Clear refl))) refl (sym next);
       }
@@ -104,7 +104,7 @@ module _ {code : RawCode} {r : RawRoutine} {context resume : ℕ} (there : conte
         grows = grows-applied context resume op.Duplicate 0 (last_letter w) {w = w};
         stack = after;
         starts = λ b f. line-starts context (Some resume) (instruction.Operation op.Duplicate) w b.lines;
-        free = λ first b h f. free-as (written-free first there ends (instruction.Operation op.Duplicate) (operations.plain (codes "DUP") (k ∷ []) (k ∷ k ∷ [])) s w b.lines (duplicate-does k v) (calm-operation op.Duplicate) q
+        free = λ first there ends b h f. free-as (written-free first there ends (instruction.Operation op.Duplicate) (operations.plain (codes "DUP") (k ∷ []) (k ∷ k ∷ [])) s w b.lines (duplicate-does k v) (calm-operation op.Duplicate) q
             (omega (arith, h, next)) (goes-ahead (instruction.Operation op.Duplicate) (follows-as f next after)) (no-jump (instruction.Operation op.Duplicate) refl)) refl (sym next);
       }
 
@@ -117,7 +117,7 @@ module _ {code : RawCode} {r : RawRoutine} {context resume : ℕ} (there : conte
         grows = grows-takes context resume i 1 {w = w};
         stack = ap (drop 1) q;
         starts = λ b f. line-starts context (Some resume) i w b.lines;
-        free = λ first b h f. free-as (written-free first there ends i (last name (k ∷ [])) s w b.lines d calm q (omega (arith, h, next)) (never-ahead i never) (no-jump i stays)) refl (sym next);
+        free = λ first there ends b h f. free-as (written-free first there ends i (last name (k ∷ [])) s w b.lines d calm q (omega (arith, h, next)) (never-ahead i never) (no-jump i stays)) refl (sym next);
       }
 
   module _ {e : Scene} {known : Known} (keeps : Keeps e known code r) where
@@ -127,7 +127,7 @@ module _ {code : RawCode} {r : RawRoutine} {context resume : ℕ} (there : conte
       grows = grows-writes a;
       stack = wanted-put k x k refl (writes-stack keeps a t p);
       starts = λ b f. writes-starts a b f;
-      free = λ first b h f. writes-free keeps first there ends a t p (null-wanted k refl t) b h f;
+      free = λ first there ends b h f. writes-free keeps first there ends a t p (null-wanted k refl t) b h f;
     }
 
     -- one that isn't NULL
@@ -136,7 +136,7 @@ module _ {code : RawCode} {r : RawRoutine} {context resume : ℕ} (there : conte
       grows = grows-writes a;
       stack = typed-put j k p (writes-stack keeps a t p);
       starts = λ b f. writes-starts a b f;
-      free = λ first b h f. writes-free keeps first there ends a t p (λ q. absurd (null-typed p q)) b h f;
+      free = λ first there ends b h f. writes-free keeps first there ends a t p (λ q. absurd (null-typed p q)) b h f;
     }
 
     pub arguments-part : {letters : List Letter} {n : ℕ} {es : List ResolvedExpr} {w v : Written} → Arguments known context resume letters n es w v → (ks : List Letter) → drop n letters ≡ ks → AreExprs e es ks → AllProper known true es
@@ -145,5 +145,5 @@ module _ {code : RawCode} {r : RawRoutine} {context resume : ℕ} (there : conte
       grows = grows-arguments a;
       stack = arguments-stack keeps a ks l t p;
       starts = λ b f. arguments-starts a b f;
-      free = λ first b h f. arguments-free keeps first there ends a ks l t p b h f;
+      free = λ first there ends b h f. arguments-free keeps first there ends a ks l t p b h f;
     }

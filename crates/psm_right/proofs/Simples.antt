@@ -27,7 +27,7 @@ use Rattle.psm_code.specs.declared.instruction.Instruction.{Instruction}
 use Rattle.psm_code.specs.declared.instruction.Instruction.TheVariants as instruction
 use Rattle.psm_code.specs.Instructions.{condition_letter, statement_letter}
 use Rattle.psm_code.specs.Rules.{is_some}
-use Rattle.psm_code.specs.RoutineRules.{context_there, jump_of}
+use Rattle.psm_code.specs.RoutineRules.{jump_of}
 use Rattle.psm_emit.specs.declared.known.Known.{Known}
 use Rattle.psm_emit.specs.Exprs.{Writes}
 use Rattle.psm_emit.specs.Simples.{CallArguments, Declares, Default, Signals, WritesRows, condition_items, copied, item_stored, letter_of_slots, number_op, statement_items}
@@ -35,10 +35,12 @@ use Rattle.psm_emit.specs.Simples as written
 use Rattle.psm_emit.specs.Written.{Written, applied, letter_at, puts, takes}
 use Rattle.psm_sound.specs.Scene.{Each, Scene, letters_of, taken_by, with_taken}
 use Rattle.psm_sound.specs.Statements.{AreArguments, IsDeclaration, IsDefault, IsMessage}
-use Rattle.psm_right.specs.Frame.{Ends, Right}
-use Rattle.psm_right.specs.Kept.{EachOf, Keeps, SlotOf}
-use Rattle.psm_right.specs.Proper.{PerhapsProper}
-use Rattle.psm_right.specs.ProperSimples.{ConditionSlots, NumberOf, ProperArguments, ProperDeclaration, RowOf, StatementSlots}
+use Rattle.psm_right.specs.Frame.{Right}
+use Rattle.psm_proper.specs.Slots.{EachOf, SlotOf}
+use Rattle.psm_right.specs.Kept.{Keeps}
+use Rattle.psm_proper.specs.Expressions.{PerhapsProper}
+use Rattle.psm_proper.specs.Simples.{ConditionSlots, NumberOf, ProperArguments, RowOf, StatementSlots}
+use Rattle.psm_proper.specs.Statements.{ProperDeclaration}
 use Rattle.psm_right.proofs.Forms.{made, null-made, turned, variable-made}
 use Rattle.psm_right.proofs.Lines.{Does}
 use Rattle.psm_right.proofs.Propers.{of_just}
@@ -59,27 +61,28 @@ each-of : (e : Scene) (slots : List ℕ) (t : SqlType) → Each (λ slot. slice_
 each-of e [] t h = tt
 each-of e (slot ∷ slots) t h = (slot-of e slot t h.0, each-of e slots t h.1)
 
-module _ {e : Scene} {known : Known} {code : RawCode} {r : RawRoutine} {context resume : ℕ} (keeps : Keeps e known code r) (there : context_there r context ≡ true) (ends : Ends r resume context) where
+module _ {e : Scene} {known : Known} {code : RawCode} {r : RawRoutine} (keeps : Keeps e known code r) where
   pub variable-letter : (slot : ℕ) (k : Letter) → SlotOf e slot k → letter_at known.variables slot ≡ k
   variable-letter slot k h = ap letter_or (ap (λ vs. slice_get vs slot) keeps.slots ∙ h)
 
+  slots-letter : (slots : List ℕ) (k : Letter) → is_some slots ≡ true → EachOf e slots k → letter_of_slots known slots ≡ k
+  slots-letter [] k s h = absurd (false≢true s)
+  slots-letter (slot ∷ slots) k s h = variable-letter slot k h.0
+
+module _ {e : Scene} {known : Known} {code : RawCode} {r : RawRoutine} {context resume : ℕ} (keeps : Keeps e known code r) where
   variable-right : (slot : ℕ) (k : Letter) (w : Written) → SlotOf e slot k → Right code r context resume w (applied context resume (op.Variable slot) 0 (letter_at known.variables slot) w) (k ∷ w.stack)
   variable-right slot k w h =
       let m : Makes code r (op.Variable slot) [] k = variable-made keeps slot k h in
-      subst (λ l. Right code r context resume w (applied context resume (op.Variable slot) 0 l w) (k ∷ w.stack)) (sym (variable-letter slot k h))
-      (puts-right there ends (instruction.Operation (op.Variable slot)) m.name [] (k ∷ []) w.stack 0 w m.does (calm-operation (op.Variable slot)) refl refl refl)
+      subst (λ l. Right code r context resume w (applied context resume (op.Variable slot) 0 l w) (k ∷ w.stack)) (sym (variable-letter keeps slot k h))
+      (puts-right (instruction.Operation (op.Variable slot)) m.name [] (k ∷ []) w.stack 0 w m.does (calm-operation (op.Variable slot)) refl refl refl)
 
   -- ---- declarations
 
   pub default-right : {k : Letter} {d : Option ResolvedExpr} {w v : Written} → Default known context resume k d w v → IsDefault e d k → PerhapsProper known true d → is_value k ≡ true → Right code r context resume w v (k ∷ w.stack)
   default-right {k = k} {w = w} written.no_default t p i =
       let m : Makes code r (op.Constant k data_of.Null) [] k = null-made k i in
-      puts-right there ends (instruction.Operation (op.Constant k data_of.Null)) m.name [] (k ∷ []) w.stack 0 w m.does (calm-operation (op.Constant k data_of.Null)) refl refl refl
-  default-right (written.default a) t p i = source-part there ends keeps a t (of_just p)
-
-  slots-letter : (slots : List ℕ) (k : Letter) → is_some slots ≡ true → EachOf e slots k → letter_of_slots known slots ≡ k
-  slots-letter [] k s h = absurd (false≢true s)
-  slots-letter (slot ∷ slots) k s h = variable-letter slot k h.0
+      puts-right (instruction.Operation (op.Constant k data_of.Null)) m.name [] (k ∷ []) w.stack 0 w m.does (calm-operation (op.Constant k data_of.Null)) refl refl refl
+  default-right (written.default a) t p i = source-part keeps a t (of_just p)
 
   pub declares-right : {xs : List ResolvedDeclaration} {w v : Written} → Declares known context resume xs w v → Each (IsDeclaration e) xs → Each (ProperDeclaration known) xs → Right code r context resume w v w.stack
   declares-right written.no_declaration t p = right-none refl
@@ -87,8 +90,8 @@ module _ {e : Scene} {known : Known} {code : RawCode} {r : RawRoutine} {context 
       let d = t.0 in
       let k = letter_of d.0 in
       let slots = each-of e x.slots d.0 d.1 in
-      let one : Right code r context resume w u (k ∷ w.stack) = default-right (subst (λ l. Default known context resume l x.default w u) (slots-letter x.slots k p.0.0 slots) a) d.2 p.0.1 (type-value d.0) in
-      let two = copied-right keeps there ends x.slots k w.stack u (type-value d.0) slots one.stack in
+      let one : Right code r context resume w u (k ∷ w.stack) = default-right (subst (λ l. Default known context resume l x.default w u) (slots-letter keeps x.slots k p.0.0 slots) a) d.2 p.0.1 (type-value d.0) in
+      let two = copied-right keeps x.slots k w.stack u (type-value d.0) slots one.stack in
       right-then one (right-then two (right-as (declares-right rest t.1 p.1) two.stack))
 
   -- ---- CALL
@@ -102,7 +105,7 @@ module _ {e : Scene} {known : Known} {code : RawCode} {r : RawRoutine} {context 
       let k = letter_of q.kind in
       let ks = letters_of (taken_by ps) in
       let all : letters_of (taken_by (q ∷ ps)) ≡ k ∷ ks = ap (λ m. letters_of (with_taken m q.kind (taken_by ps))) t.0.0 in
-      let one : Right code r context resume w u (k ∷ w.stack) = source-part there ends keeps (subst (λ j. Writes known context resume j x w u) (letter-first letters n k ks (l ∙ all)) a) t.0.1 p.0 in
+      let one : Right code r context resume w u (k ∷ w.stack) = source-part keeps (subst (λ j. Writes known context resume j x w u) (letter-first letters n k ks (l ∙ all)) a) t.0.1 p.0 in
       right-as (right-then one (call-right rest ps (letter-rest letters n k ks (l ∙ all)) t.1 p.1)) (ap (λ z. reverse ks ++ z) one.stack ∙ sym (turned k ks w.stack) ∙ ap (λ js. reverse js ++ w.stack) (sym all))
   call-right (written.out_argument rest) [] l t p = absurd t
   call-right {w = w} (written.out_argument rest) (q ∷ ps) l t p =
@@ -120,10 +123,10 @@ module _ {e : Scene} {known : Known} {code : RawCode} {r : RawRoutine} {context 
 
   pub signals-right : {without with_message : Instruction} {m : Option ResolvedExpr} {w v : Written} (name more : List ℕ) → Signals known context resume without with_message m w v → IsMessage e m → PerhapsProper known true m → w.stack ≡ []
       → Does code r without (plain name [] []) → Alone r without → Does code r with_message (plain more (T ∷ []) []) → Calm r with_message → jump_of with_message ≡ None → Right code r context resume w v []
-  signals-right {without = without} {w = w} name more written.no_message t p q d alone g calm stays = alone-right there ends without name [] w d alone q
+  signals-right {without = without} {w = w} name more written.no_message t p q d alone g calm stays = alone-right without name [] w d alone q
   signals-right {with_message = with_message} {w = w} name more (written.message {v = v} a) t p q d alone g calm stays =
-      let one : Right code r context resume w v (T ∷ w.stack) = source-part there ends keeps a t (of_just p) in
-      right-then one (puts-right there ends with_message more (T ∷ []) [] [] 1 v g calm stays refl (one.stack ∙ ap (λ z. T ∷ z) q))
+      let one : Right code r context resume w v (T ∷ w.stack) = source-part keeps a t (of_just p) in
+      right-then one (puts-right with_message more (T ∷ []) [] [] 1 v g calm stays refl (one.stack ∙ ap (λ z. T ∷ z) q))
 
   -- ---- GET DIAGNOSTICS
 
@@ -132,21 +135,21 @@ module _ {e : Scene} {known : Known} {code : RawCode} {r : RawRoutine} {context 
   statement_items-right (i ∷ items) s w h q =
       let k = statement_letter i.1 in
       let asked = puts context resume (instruction.StatementItem i.1) 0 (k ∷ []) w in
-      let one : Right code r context resume w asked (k ∷ s) = puts-right there ends (instruction.StatementItem i.1) (codes "GETS") [] (k ∷ []) s 0 w
+      let one : Right code r context resume w asked (k ∷ s) = puts-right (instruction.StatementItem i.1) (codes "GETS") [] (k ∷ []) s 0 w
       (record { names = refl; place = refl; fits = refl; value = N; other = B; is_value = refl; effect = refl }) (record { stands = refl; right = λ l. refl; behind = λ l. refl }) refl refl q in
-      let two = store-right keeps there ends i.0 k s asked h.0 one.stack in
+      let two = store-right keeps i.0 k s asked h.0 one.stack in
       right-then one (right-then two (statement_items-right items s (takes context resume (instruction.Store i.0) 1 asked) h.1 two.stack))
 
   item_stored-right : (i : ℕ × ConditionItem) (s : List Letter) (w : Written) → SlotOf e i.0 (condition_letter i.1) → w.stack ≡ N ∷ s → Right code r context resume w (item_stored context resume i w) s
   item_stored-right i s w h q =
       let k = condition_letter i.1 in
       let asked = puts context resume (instruction.ConditionItem i.1) 1 (k ∷ []) w in
-      let one : Right code r context resume w asked (k ∷ s) = puts-right there ends (instruction.ConditionItem i.1) (codes "GETC") (N ∷ []) (k ∷ []) s 1 w
+      let one : Right code r context resume w asked (k ∷ s) = puts-right (instruction.ConditionItem i.1) (codes "GETC") (N ∷ []) (k ∷ []) s 1 w
       (record { names = refl; place = refl; fits = refl; value = N; other = B; is_value = refl; effect = refl }) (record { stands = refl; right = λ l. refl; behind = λ l. refl }) refl refl q in
-      right-then one (store-right keeps there ends i.0 k s asked h one.stack)
+      right-then one (store-right keeps i.0 k s asked h one.stack)
 
   number-copied : (s : List Letter) (w : Written) → w.stack ≡ N ∷ s → Right code r context resume w (applied context resume op.Duplicate 0 N w) (N ∷ N ∷ s)
-  number-copied s w q = subst (λ l. Right code r context resume w (applied context resume op.Duplicate 0 l w) (N ∷ N ∷ s)) (ap (λ z. letter_or (slice_get z 0)) q) (duplicate-right there ends N s w refl q)
+  number-copied s w q = subst (λ l. Right code r context resume w (applied context resume op.Duplicate 0 l w) (N ∷ N ∷ s)) (ap (λ z. letter_or (slice_get z 0)) q) (duplicate-right N s w refl q)
 
   pub condition_items-right : (items : List (ℕ × ConditionItem)) (s : List Letter) (w : Written) → is_some items ≡ true → ConditionSlots e items → w.stack ≡ N ∷ s → Right code r context resume w (condition_items context resume items w) s
   condition_items-right [] s w some h q = absurd (false≢true some)
@@ -160,10 +163,10 @@ module _ {e : Scene} {known : Known} {code : RawCode} {r : RawRoutine} {context 
   pub number-right : (n : ResolvedNumber) (w : Written) → NumberOf e n → Right code r context resume w (applied context resume (number_op n) 0 N w) (N ∷ w.stack)
   number-right (numbers.Constant n) w h =
       let m : Makes code r (op.Constant N (data_of.Num n)) [] N = made (op.Constant N (data_of.Num n)) N [] N refl refl refl refl refl in
-      puts-right there ends (instruction.Operation (op.Constant N (data_of.Num n))) m.name [] (N ∷ []) w.stack 0 w m.does (calm-operation (op.Constant N (data_of.Num n))) refl refl refl
+      puts-right (instruction.Operation (op.Constant N (data_of.Num n))) m.name [] (N ∷ []) w.stack 0 w m.does (calm-operation (op.Constant N (data_of.Num n))) refl refl refl
   number-right (numbers.Variable slot) w h =
       let m : Makes code r (op.Variable slot) [] N = variable-made keeps slot N h in
-      puts-right there ends (instruction.Operation (op.Variable slot)) m.name [] (N ∷ []) w.stack 0 w m.does (calm-operation (op.Variable slot)) refl refl refl
+      puts-right (instruction.Operation (op.Variable slot)) m.name [] (N ∷ []) w.stack 0 w m.does (calm-operation (op.Variable slot)) refl refl refl
 
   -- ---- INSERT
 
@@ -172,5 +175,5 @@ module _ {e : Scene} {known : Known} {code : RawCode} {r : RawRoutine} {context 
   rows-right written.no_row h = right-none refl
   rows-right {letters = letters} {w = w} (written.row {rows = rows} a rest) h =
       let others = flat_map (λ xs. xs) (replicate (length rows) letters) in
-      let one = arguments-part there ends keeps a letters refl h.0.0 h.0.1 in
+      let one = arguments-part keeps a letters refl h.0.0 h.0.1 in
       right-as (right-then one (rows-right rest h.1)) (ap (λ z. reverse others ++ z) one.stack ∙ sym (append_assoc (reverse others) (reverse letters) w.stack) ∙ ap (λ z. z ++ w.stack) (sym (reverse-append letters others)))

@@ -19,7 +19,7 @@ use Rattle.psm_code.specs.declared.instruction.Instruction.TheVariants as instru
 use Rattle.psm_code.specs.Instructions.{last, letters_of_query, of_routine, parameter_letters, procedure_effect, putting}
 use Rattle.psm_code.specs.Parts.{giving, routine_at}
 use Rattle.psm_code.specs.Rules.{is_some, is_there, there, where_there}
-use Rattle.psm_code.specs.RoutineRules.{context_there, goes_ahead}
+use Rattle.psm_code.specs.RoutineRules.{goes_ahead}
 use Rattle.psm_meaning.specs.Calls.{returns}
 use Rattle.psm_lower.specs.Scheme.{slots_given}
 use Rattle.psm_emit.specs.declared.known.Known.{Known}
@@ -32,26 +32,27 @@ use Rattle.psm_emit.specs.Written.{Written, applied, letter_at, letters_at, puts
 use Rattle.psm_sound.specs.Expressions.{IsExpr}
 use Rattle.psm_sound.specs.Scene.{Scene, letters_of, taken_by}
 use Rattle.psm_sound.specs.Statements.{AreArguments, IsFor, IsMessage}
-use Rattle.psm_right.specs.Frame.{Ends, Right}
-use Rattle.psm_right.specs.Kept.{AreSlots, Keeps, KeepsProcedure, KeepsRoutine, SlotOf, letters_given}
-use Rattle.psm_right.specs.Proper.{PerhapsProper, Proper}
-use Rattle.psm_right.specs.ProperSimples.{ConditionSlots, NumberOf, ProperArguments, StatementSlots}
+use Rattle.psm_right.specs.Frame.{Right}
+use Rattle.psm_proper.specs.Slots.{AreSlots, SlotOf}
+use Rattle.psm_right.specs.Kept.{Keeps, KeepsProcedure, KeepsRoutine, letters_given}
+use Rattle.psm_proper.specs.Expressions.{PerhapsProper, Proper}
+use Rattle.psm_proper.specs.Simples.{ConditionSlots, NumberOf, ProperArguments, StatementSlots}
 use Rattle.psm_right.proofs.Lines.{Does}
 use Rattle.psm_right.proofs.Procedures.{slots-back}
 use Rattle.psm_right.proofs.Rights.{alone-right, clear-right, last-right, puts-right, query-right, right-then, source-part}
 use Rattle.psm_right.proofs.Simples.{call-right, condition_items-right, number-right, signals-right, slot-of, statement_items-right, variable-letter}
 use Rattle.psm_right.proofs.Slots.{retrieved-right, store-right, stored-right}
 
-module _ {e : Scene} {known : Known} {code : RawCode} {r : RawRoutine} {context resume : ℕ} (keeps : Keeps e known code r) (is : KeepsRoutine e known r) (in_routine : context_there r context ≡ true) (ends : Ends r resume context) where
+module _ {e : Scene} {known : Known} {code : RawCode} {r : RawRoutine} {context resume : ℕ} (keeps : Keeps e known code r) (is : KeepsRoutine e known r) where
   pub set-right : (slot : ℕ) (x : ResolvedExpr) (p : Parts) (w : Written) → Writes known context resume (letter_at known.variables slot) x (cleared context p) w → IsFor e slot x → Proper known true x → p.code.stack ≡ []
       → Right code r context resume p.code (takes context resume (instruction.Store slot) 1 w) []
   set-right slot x p w a t o q =
       let k = letter_of t.type in
       let here : SlotOf e slot k = slot-of e slot t.type t.there in
-      let zero = clear-right in_routine ends p.code q in
+      let zero = clear-right p.code q in
       let one : Right code r context resume (cleared context p) w (k ∷ p.code.stack) =
-      source-part in_routine ends keeps (subst (λ l. Writes known context resume l x (cleared context p) w) (variable-letter keeps in_routine ends slot k here) a) t.source o in
-      right-then zero (right-then one (store-right keeps in_routine ends slot k [] w here (one.stack ∙ ap (λ s. k ∷ s) q)))
+      source-part keeps (subst (λ l. Writes known context resume l x (cleared context p) w) (variable-letter keeps slot k here) a) t.source o in
+      right-then zero (right-then one (store-right keeps slot k [] w here (one.stack ∙ ap (λ s. k ∷ s) q)))
 
   -- RETURN stands in a function
   pub return-right : (x : ResolvedExpr) (t : SqlType) (w v : Written) → Writes known context resume known.result x w v → e.routine.returns ≡ Some t → IsExpr e x (letter_of t) → Proper known true x → w.stack ≡ []
@@ -60,8 +61,8 @@ module _ {e : Scene} {known : Known} {code : RawCode} {r : RawRoutine} {context 
       let k = letter_of t in
       let known_result : known.result ≡ k = is.result ∙ ap letter_of_result h in
       let type : r.returns ≡ Some t = is.returns ∙ h in
-      let one : Right code r context resume w v (k ∷ w.stack) = source-part in_routine ends keeps (subst (λ l. Writes known context resume l x w v) known_result a) s o in
-      right-then one (last-right in_routine ends instruction.Return (codes "RETV") k [] v
+      let one : Right code r context resume w v (k ∷ w.stack) = source-part keeps (subst (λ l. Writes known context resume l x w v) known_result a) s o in
+      right-then one (last-right instruction.Return (codes "RETV") k [] v
       (record { names = refl; place = is.kind ∙ ap returns h; fits = refl; value = N; other = B; is_value = refl; effect = ap (option_map (λ u. last (codes "RETV") (letter_of u ∷ []))) type })
       (record { stands = refl; right = λ l. refl; behind = λ l. refl }) refl (ap (λ o. goes_ahead (option_map (λ u. last (codes "RETV") (letter_of u ∷ [])) o)) type) (one.stack ∙ ap (λ z. k ∷ z) q))
 
@@ -72,8 +73,8 @@ module _ {e : Scene} {known : Known} {code : RawCode} {r : RawRoutine} {context 
   call-statement n args ps p w a kept none t o q =
       let ks = letters_of (taken_by ps) in
       let js = letters_given ps in
-      let zero : Right code r context resume p.code (cleared context p) [] = clear-right in_routine ends p.code q in
-      let one = call-right keeps in_routine ends a ps kept.takes t o in
+      let zero : Right code r context resume p.code (cleared context p) [] = clear-right p.code q in
+      let one = call-right keeps a ps kept.takes t o in
       let all : w.stack ≡ reverse ks ++ [] = one.stack ∙ ap (λ z. reverse ks ++ z) q in
       let many : length w.stack ≡ length (reverse ks) = ap length (all ∙ append-nil (reverse ks)) in
       let below : length p.code.stack ≡ 0 = ap length q in
@@ -88,37 +89,37 @@ module _ {e : Scene} {known : Known} {code : RawCode} {r : RawRoutine} {context 
       } in
       let called = puts context resume (instruction.Call n) (more_operands p w) (letters_at known.gives n) w in
       let two : Right code r context resume w called (js ++ []) = subst (λ ls. Right code r context resume w (puts context resume (instruction.Call n) (more_operands p w) ls w) (js ++ [])) (sym kept.gives)
-      (puts-right in_routine ends (instruction.Call n) (codes "CALL") (reverse ks) js [] (more_operands p w) w does (record { stands = refl; right = λ l. refl; behind = λ l. refl }) refl (omega (arith, many, below)) all) in
-      right-then zero (right-then one (right-then two (stored-right keeps in_routine ends (slots_given args) js [] called (slots-back e known args ps t o) two.stack)))
+      (puts-right (instruction.Call n) (codes "CALL") (reverse ks) js [] (more_operands p w) w does (record { stands = refl; right = λ l. refl; behind = λ l. refl }) refl (omega (arith, many, below)) all) in
+      right-then zero (right-then one (right-then two (stored-right keeps (slots_given args) js [] called (slots-back e known args ps t o) two.stack)))
 
   -- ---- conditions, whose number is there
 
   pub signal-right : (n : ℕ) (m : Option ResolvedExpr) (p : Parts) (w : Written) → Signals known context resume (instruction.Signal n) (instruction.SignalMessage n) m (cleared context p) w → is_there r.handlers.declared n ≡ true → IsMessage e m → PerhapsProper known true m
       → p.code.stack ≡ [] → Right code r context resume p.code w []
-  signal-right n m p w a h t o q = right-then (clear-right in_routine ends p.code q) (signals-right keeps in_routine ends (codes "SIG") (codes "SIGM") a t o q
+  signal-right n m p w a h t o q = right-then (clear-right p.code q) (signals-right keeps (codes "SIG") (codes "SIGM") a t o q
       (record { names = h; place = refl; fits = refl; value = N; other = B; is_value = refl; effect = refl }) (record { right = λ l. refl; behind = λ l. refl; stays = refl })
       (record { names = h; place = refl; fits = refl; value = N; other = B; is_value = refl; effect = refl }) (record { stands = refl; right = λ l. refl; behind = λ l. refl }) refl)
 
   pub resignal_condition-right : (n : ℕ) (m : Option ResolvedExpr) (p : Parts) (w : Written) → Signals known context resume (instruction.ResignalCondition n) (instruction.ResignalMessage n) m (cleared context p) w → is_there r.handlers.declared n ≡ true
       → IsMessage e m → PerhapsProper known true m → p.code.stack ≡ [] → Right code r context resume p.code w []
-  resignal_condition-right n m p w a h t o q = right-then (clear-right in_routine ends p.code q) (signals-right keeps in_routine ends (codes "RESIGC") (codes "RESIGM") a t o q
+  resignal_condition-right n m p w a h t o q = right-then (clear-right p.code q) (signals-right keeps (codes "RESIGC") (codes "RESIGM") a t o q
       (record { names = h; place = refl; fits = refl; value = N; other = B; is_value = refl; effect = refl }) (record { right = λ l. refl; behind = λ l. refl; stays = refl })
       (record { names = h; place = refl; fits = refl; value = N; other = B; is_value = refl; effect = refl }) (record { stands = refl; right = λ l. refl; behind = λ l. refl }) refl)
 
   pub resignal-right : (p : Parts) → p.code.stack ≡ [] → Right code r context resume p.code (takes context resume instruction.Resignal 0 (cleared context p)) []
-  resignal-right p q = right-then (clear-right in_routine ends p.code q) (alone-right in_routine ends instruction.Resignal (codes "RESIG") [] (cleared context p)
+  resignal-right p q = right-then (clear-right p.code q) (alone-right instruction.Resignal (codes "RESIG") [] (cleared context p)
       (record { names = refl; place = refl; fits = refl; value = N; other = B; is_value = refl; effect = refl }) (record { right = λ l. refl; behind = λ l. refl; stays = refl }) q)
 
   -- ---- GET DIAGNOSTICS
 
   pub statement_diagnostics-right : (items : List (ℕ × StatementItem)) (w : Written) → StatementSlots e items → w.stack ≡ [] → Right code r context resume w (statement_items context resume items w) []
-  statement_diagnostics-right items w h q = statement_items-right keeps in_routine ends items [] w h q
+  statement_diagnostics-right items w h q = statement_items-right keeps items [] w h q
 
   pub condition_diagnostics-right : (n : ResolvedNumber) (items : List (ℕ × ConditionItem)) (w : Written) → is_some items ≡ true → NumberOf e n → ConditionSlots e items → w.stack ≡ []
       → Right code r context resume w (condition_items context resume items (applied context resume (number_op n) 0 N w)) []
   condition_diagnostics-right n items w some h g q =
-      let one = number-right keeps in_routine ends n w h in
-      right-then one (condition_items-right keeps in_routine ends items [] (applied context resume (number_op n) 0 N w) some g (one.stack ∙ ap (λ z. N ∷ z) q))
+      let one = number-right keeps n w h in
+      right-then one (condition_items-right keeps items [] (applied context resume (number_op n) 0 N w) some g (one.stack ∙ ap (λ z. N ∷ z) q))
 
   -- ---- SELECT INTO, where the routine has the query at its number
 
@@ -137,6 +138,6 @@ module _ {e : Scene} {known : Known} {code : RawCode} {r : RawRoutine} {context 
         is_value = refl;
         effect = ap (λ o. putting (codes "ROW") (option_map (letters_of_query code r) o)) at ∙ ap (λ ls. putting (codes "ROW") (Some ls)) (keeps.queries query made n v m at);
       } in
-      let one : Right code r context resume (with_query made (cleared context p)) asked (ks ++ []) = puts-right in_routine ends (instruction.SelectRow n) (codes "ROW") [] ks [] 0 (with_query made (cleared context p)) does
+      let one : Right code r context resume (with_query made (cleared context p)) asked (ks ++ []) = puts-right (instruction.SelectRow n) (codes "ROW") [] ks [] 0 (with_query made (cleared context p)) does
       (record { stands = refl; right = λ l. refl; behind = λ l. refl }) refl refl q in
-      right-then (clear-right in_routine ends p.code q) (right-then (query-right made (cleared context p) q) (right-then one (retrieved-right keeps in_routine ends slots ks asked h (one.stack ∙ append-nil ks))))
+      right-then (clear-right p.code q) (right-then (query-right made (cleared context p) q) (right-then one (retrieved-right keeps slots ks asked h (one.stack ∙ append-nil ks))))

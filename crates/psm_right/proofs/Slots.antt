@@ -14,13 +14,13 @@ use Rattle.psm_code.specs.declared.code.RawRoutine.{RawRoutine}
 use Rattle.psm_code.specs.declared.instruction.Instruction.TheVariants as instruction
 use Rattle.psm_code.specs.Instructions.{slot_letter, taking_from}
 use Rattle.psm_code.specs.Parts.{slots_of}
-use Rattle.psm_code.specs.RoutineRules.{context_there}
 use Rattle.psm_emit.specs.declared.known.Known.{Known}
 use Rattle.psm_emit.specs.Simples.{copied, retrieved, stored}
 use Rattle.psm_emit.specs.Written.{Written, applied, last_letter, takes}
 use Rattle.psm_sound.specs.Scene.{Scene}
-use Rattle.psm_right.specs.Frame.{Ends, Right}
-use Rattle.psm_right.specs.Kept.{AreSlots, EachOf, Keeps, SlotOf}
+use Rattle.psm_right.specs.Frame.{Right}
+use Rattle.psm_proper.specs.Slots.{AreSlots, EachOf, SlotOf}
+use Rattle.psm_right.specs.Kept.{Keeps}
 use Rattle.psm_right.proofs.Asking.{drop-does}
 use Rattle.psm_right.proofs.Forms.{there-mapped}
 use Rattle.psm_right.proofs.Lines.{Does}
@@ -50,9 +50,9 @@ module _ {e : Scene} {known : Known} {code : RawCode} {r : RawRoutine} (keeps : 
   retrieve-does : (slot : ℕ) (k : Letter) → SlotOf e slot k → Does code r (instruction.Retrieve slot) (plain (codes "FSTORE") (k ∷ []) [])
   retrieve-does slot k h = record { names = there-mapped k (slice_get (slots_of r) slot) (slot-is slot k h); place = refl; fits = refl; value = N; other = B; is_value = refl; effect = ap (taking_from (codes "FSTORE")) (slot-is slot k h) }
 
-  module _ {context resume : ℕ} (known_context : context_there r context ≡ true) (ends : Ends r resume context) where
+  module _ {context resume : ℕ} where
     pub store-right : (slot : ℕ) (k : Letter) (s : List Letter) (w : Written) → SlotOf e slot k → w.stack ≡ k ∷ s → Right code r context resume w (takes context resume (instruction.Store slot) 1 w) s
-    store-right slot k s w h q = puts-right known_context ends (instruction.Store slot) (codes "STORE") (k ∷ []) [] s 1 w (store-does slot k h) (calm-store slot) refl refl q
+    store-right slot k s w h q = puts-right (instruction.Store slot) (codes "STORE") (k ∷ []) [] s 1 w (store-does slot k h) (calm-store slot) refl refl q
 
     pub stored-right : (slots : List ℕ) (ks s : List Letter) (w : Written) → AreSlots e slots ks → w.stack ≡ ks ++ s → Right code r context resume w (stored context resume (λ slot. instruction.Store slot) slots w) s
     stored-right [] [] s w h q = right-none q
@@ -68,21 +68,21 @@ module _ {e : Scene} {known : Known} {code : RawCode} {r : RawRoutine} (keeps : 
     retrieved-each (slot ∷ slots) [] s w h q = absurd h
     retrieved-each (slot ∷ slots) (k ∷ ks) s w h q =
         let one : Right code r context resume w (takes context resume (instruction.Retrieve slot) 1 w) (ks ++ s) =
-        puts-right known_context ends (instruction.Retrieve slot) (codes "FSTORE") (k ∷ []) [] (ks ++ s) 1 w (retrieve-does slot k h.0) (calm-retrieve slot) refl refl q in
+        puts-right (instruction.Retrieve slot) (codes "FSTORE") (k ∷ []) [] (ks ++ s) 1 w (retrieve-does slot k h.0) (calm-retrieve slot) refl refl q in
         right-then one (retrieved-each slots ks s (takes context resume (instruction.Retrieve slot) 1 w) h.1 one.stack)
 
     -- the items of a row
     pub retrieved-right : (slots : List ℕ) (ks : List Letter) (w : Written) → AreSlots e slots ks → w.stack ≡ ks → Right code r context resume w (retrieved context resume slots w) []
     retrieved-right slots ks w h q =
         let all = retrieved-each slots ks [] w h (q ∙ sym (append-nil ks)) in
-        right-then all (alone-right known_context ends instruction.Warn (codes "WARN") [] (stored context resume (λ slot. instruction.Retrieve slot) slots w)
+        right-then all (alone-right instruction.Warn (codes "WARN") [] (stored context resume (λ slot. instruction.Retrieve slot) slots w)
         (record { names = refl; place = refl; fits = refl; value = N; other = B; is_value = refl; effect = refl }) (record { right = λ l. refl; behind = λ l. refl; stays = refl }) all.stack)
 
     -- the last operand goes into each of several variables of its letter
     pub copied-right : (slots : List ℕ) (k : Letter) (s : List Letter) (w : Written) → is_value k ≡ true → EachOf e slots k → w.stack ≡ k ∷ s → Right code r context resume w (copied context resume slots w) s
-    copied-right [] k s w v h q = puts-right known_context ends (instruction.Operation op.Drop) (codes "DROP") (k ∷ []) [] s 1 w (drop-does k v) (calm-operation op.Drop) refl refl q
+    copied-right [] k s w v h q = puts-right (instruction.Operation op.Drop) (codes "DROP") (k ∷ []) [] s 1 w (drop-does k v) (calm-operation op.Drop) refl refl q
     copied-right (slot ∷ []) k s w v h q = store-right slot k s w h.0 q
     copied-right (slot ∷ t ∷ slots) k s w v h q =
-        let two = duplicate-right known_context ends k s w v q in
+        let two = duplicate-right k s w v q in
         let one = store-right slot k (k ∷ s) (applied context resume op.Duplicate 0 (last_letter w) w) h.0 two.stack in
         right-then two (right-then one (copied-right (t ∷ slots) k s (takes context resume (instruction.Store slot) 1 (applied context resume op.Duplicate 0 (last_letter w) w)) v h.1 one.stack))

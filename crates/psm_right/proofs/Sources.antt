@@ -13,7 +13,7 @@ use Rattle.psm_sound.specs.Expressions.{IsExpr}
 use Rattle.psm_sound.specs.Scene.{Scene}
 use Rattle.psm_right.specs.Frame.{Ends, Follows, Free}
 use Rattle.psm_right.specs.Kept.{Keeps}
-use Rattle.psm_right.specs.Proper.{Proper}
+use Rattle.psm_proper.specs.Expressions.{Proper}
 use Rattle.psm_right.proofs.Frees.{null-typed, null-wanted, writes-free}
 use Rattle.psm_right.proofs.Stacks.{typed-put, wanted-put, writes-stack}
 use Rattle.psm_right.proofs.Starts.{writes-starts}

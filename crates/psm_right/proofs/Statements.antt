@@ -28,7 +28,7 @@ use Rattle.psm_emit.proofs.There.{line_of, there_at}
 use Rattle.psm_sound.specs.Scene.{Scene}
 use Rattle.psm_right.specs.Frame.{Ends, Follows, Free}
 use Rattle.psm_right.specs.Kept.{Keeps}
-use Rattle.psm_right.specs.ProperStatements.{IsTest}
+use Rattle.psm_proper.specs.Statements.{IsTest}
 use Rattle.psm_right.proofs.Frees.{free-as, null-typed, writes-free}
 use Rattle.psm_right.proofs.Leavings.{AroundRight, around-lower}
 use Rattle.psm_right.proofs.Lines.{free-join, free-none, free-one, goes-ahead, line-right, never-ahead, no-jump, resumes-behind}

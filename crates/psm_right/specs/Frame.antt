@@ -1,11 +1,11 @@
 -- Lines of a routine that break no rule, and the line at which a run goes on behind others.
-use Rattle.std.specs.Prelude.{◌≡◌, ◌≤◌, ◌<◌, ℕ, List, [], reverse, Some, None}
+use Rattle.std.specs.Prelude.{◌≡◌, ◌≤◌, ◌<◌, ℕ, true, List, [], reverse, Some, None}
 use Rattle.psm_exprcode.specs.declared.op.Letter.{Letter}
 use Rattle.psm_code.specs.declared.code.RawCode.{RawCode}
 use Rattle.psm_code.specs.declared.code.RawRoutine.{RawRoutine}
 use Rattle.psm_code.specs.declared.lines.CodeLine.{CodeLine}
 use Rattle.psm_code.specs.Parts.{line_at}
-use Rattle.psm_code.specs.RoutineRules.{line_fault}
+use Rattle.psm_code.specs.RoutineRules.{context_there, line_fault}
 use Rattle.psm_emit.specs.Written.{Written, here}
 use Rattle.psm_emit.specs.Writing.{Begins, Grows}
 
@@ -25,9 +25,10 @@ abbrev pub Ends : RawRoutine → ℕ → ℕ → Type 0
 Ends r resume context = Follows r resume context []
 
 -- What is written from w to v leaves these operands. In a routine that begins with it its first line states the operands of w where a
--- line follows, and then its lines break no rule where the first line of the routine is the routine's own.
+-- line follows, and then its lines break no rule where the first line of the routine is the routine's own, the context is there, and a run
+-- may go on at the line resume.
 pub record Right (code : RawCode) (r : RawRoutine) (context resume : ℕ) (w v : Written) (s : List Letter) : Type 0 where
   pub grows : Grows w v
   pub stack : v.stack ≡ s
   pub starts : Begins v r → Follows r (here v) context v.stack → Follows r (here w) context w.stack
-  pub free : Follows r 0 0 [] → Begins v r → here v ≤ resume → Follows r (here v) context v.stack → Free code r (here w) (here v)
+  pub free : Follows r 0 0 [] → context_there r context ≡ true → Ends r resume context → Begins v r → here v ≤ resume → Follows r (here v) context v.stack → Free code r (here w) (here v)

@@ -1,5 +1,5 @@
 -- What code keeps of a file, where the lines of one of its routines are written: the letters of variables, of functions and of queries.
-use Rattle.std.specs.Prelude.{◌≡◌, ℕ, true, false, List, [], ◌∷◌, Some, not, filter, map, slice_get}
+use Rattle.std.specs.Prelude.{◌≡◌, ℕ, true, false, List, Some, not, filter, map, slice_get}
 use Rattle.std.specs.List.{list_all}
 use Rattle.psm_value.specs.declared.sqltype.SqlType.{SqlType}
 use Rattle.psm_exprcode.specs.declared.op.Letter.{Letter}
@@ -80,21 +80,3 @@ pub record KeepsProcedure (known : Known) (code : RawCode) (n : ℕ) (ks js : Li
 abbrev pub KeepsProcedures : Scene → Known → RawCode → Type 0
 KeepsProcedures e known code = (n : ℕ) (routine : ResolvedRoutine) → procedure_at e.file n ≡ Some routine
     → KeepsProcedure known code (procedure_number known n) (letters_of (taken_by routine.parameters)) (letters_given routine.parameters)
-
--- ---- variables of the routine
-
--- a variable of that letter
-abbrev pub SlotOf : Scene → ℕ → Letter → Type 0
-SlotOf e slot k = slice_get (scenes.variables_of e) slot ≡ Some k
-
--- variables of letters, one for one
-abbrev pub AreSlots : Scene → List ℕ → List Letter → Type 0
-AreSlots e [] [] = Unit {0}
-AreSlots e [] (k ∷ ks) = ⊥
-AreSlots e (slot ∷ slots) [] = ⊥
-AreSlots e (slot ∷ slots) (k ∷ ks) = SlotOf e slot k × AreSlots e slots ks
-
--- variables that are all of that letter
-abbrev pub EachOf : Scene → List ℕ → Letter → Type 0
-EachOf e [] k = Unit {0}
-EachOf e (slot ∷ slots) k = SlotOf e slot k × EachOf e slots k

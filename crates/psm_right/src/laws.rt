@@ -1,28 +1,23 @@
 //! The law of code that is written.
-ghost use Rattle.std.specs.Prelude.{◌≡◌, ◌≤◌, ℕ, false, true, List, ◌∷◌, [], Some, slice_get};
+ghost use Rattle.std.specs.Prelude.{◌≡◌, ◌≤◌, ℕ, false, true, ◌∷◌, [], Some, None, slice_get};
 ghost use Rattle.psm_exprcode.specs.declared.op.Letter.{Letter};
 ghost use Rattle.psm_resolved.specs.declared.expr.ResolvedExpr.{ResolvedExpr};
+ghost use Rattle.psm_resolved.specs.declared.file.ResolvedFile.{ResolvedFile};
+ghost use Rattle.psm_resolved.specs.declared.file.ResolvedRoutine.{ResolvedRoutine};
 ghost use Rattle.psm_code.specs.declared.code.RawCode.{RawCode};
 ghost use Rattle.psm_code.specs.declared.code.RawRoutine.{RawRoutine};
-ghost use Rattle.psm_code.specs.RoutineRules.{context_there};
+ghost use Rattle.psm_code.specs.RoutineRules.{context_there, line_faults};
 ghost use Rattle.psm_emit.specs.declared.known.Known.{Known};
 ghost use Rattle.psm_emit.specs.Exprs.{Writes};
+ghost use Rattle.psm_emit.specs.Files.{FileWritten, RoutineWritten, known_of};
 ghost use Rattle.psm_emit.specs.Written.{Written, here};
 ghost use Rattle.psm_emit.specs.Writing.{Begins};
 ghost use Rattle.psm_sound.specs.Expressions.{IsExpr};
-ghost use Rattle.psm_resolved.specs.declared.file.ResolvedRoutine.{ResolvedRoutine};
-ghost use Rattle.psm_resolved.specs.declared.statement.ResolvedSimple.{ResolvedSimple};
-ghost use Rattle.psm_resolved.specs.declared.statement.ResolvedSimple.TheVariants as simples;
-ghost use Rattle.psm_emit.specs.declared.around.Around.{Around};
-ghost use Rattle.psm_emit.specs.Files.{FileWritten, RoutineWritten, known_of};
-ghost use Rattle.psm_emit.specs.Parts.{Parts, iterates, leaves};
-ghost use Rattle.psm_emit.specs.Simples.{WritesSimple};
-ghost use Rattle.psm_sound.specs.Scene.{Begin, Scene};
-ghost use Rattle.psm_sound.specs.Statements.{IsSimple, Sight};
-ghost use Rattle.psm_right.specs.ProperSimples.{PartsBegin, ProperSimple};
-ghost use Rattle.psm_right.specs.Frame.{Ends, Follows, Free, Right};
+ghost use Rattle.psm_sound.specs.Scene.{Begin, Each, Scene};
+ghost use Rattle.psm_right.specs.Frame.{Ends, Follows, Free};
 ghost use Rattle.psm_right.specs.Kept.{FunctionTakes, Keeps, KeepsProcedures, KeepsRoutine, QueriesKeep};
-ghost use Rattle.psm_right.specs.Proper.{Proper};
+ghost use Rattle.psm_proper.specs.Expressions.{Proper};
+ghost use Rattle.psm_proper.specs.Files.{ProperFile};
 
 /// The lines that are written for a sound expression break no rule, in code that keeps the letters of its file: they stand in the
 /// context of their statement, in a routine whose first line is the routine's own, before a line at which a run goes on behind a
@@ -39,8 +34,7 @@ pub fn written_code_keeps_letters()
     ensures routines { (e : Scene) (code : RawCode) (r : RawRoutine) → FileWritten e.file code → RoutineWritten (known_of e.file e.routine) e.routine r → Begin e.routine.parameters e.routine.slots → ((n : ℕ) (routine : ResolvedRoutine) → slice_get e.file.routines n ≡ Some routine → FunctionTakes routine) → QueriesKeep (known_of e.file e.routine) code r → Keeps e (known_of e.file e.routine) code r × KeepsProcedures e (known_of e.file e.routine) code × KeepsRoutine e (known_of e.file e.routine) r }
 {}
 
-/// The lines that are written for a sound simple statement break no rule, where those of LEAVE and of ITERATE break none: they begin
-/// and end with no operand.
-pub fn simple_statements_break_no_rule()
-    ensures statements { (e : Scene) (known : Known) (code : RawCode) (r : RawRoutine) (context resume : ℕ) → Keeps e known code r → KeepsProcedures e known code → KeepsRoutine e known r → context_there r context ≡ true → Ends r resume context → (around : List Around) (s : Sight) (x : ResolvedSimple) (p q : Parts) → IsSimple e s x → ProperSimple e known code r p x → WritesSimple known context resume around x p q → PartsBegin q r → p.code.stack ≡ [] → ((level : ℕ) → x ≡ simples.Leave level → Right code r context resume p.code (leaves around level context p.code) []) → ((level : ℕ) → x ≡ simples.Iterate level → Right code r context resume p.code (iterates around level context p.code) []) → Right code r context resume p.code q.code [] }
+/// No line of a routine that is written for a proper file breaks a rule, where the items of its queries are of the letters that are known.
+pub fn lines_break_no_rule()
+    ensures lines { (file : ResolvedFile) (code : RawCode) (routine : ResolvedRoutine) (r : RawRoutine) (n : ℕ) → FileWritten file code → ProperFile file → slice_get file.routines n ≡ Some routine → slice_get code.routines n ≡ Some r → RoutineWritten (known_of file routine) routine r → QueriesKeep (known_of file routine) code r → Each (λ f. f ≡ None) (line_faults code r 0 r.lines) }
 {}

@@ -1,8 +1,6 @@
-//! The law that code which is written for sound module files breaks no rule of code. It has no code that runs.
+//! The laws that code which is written for proper module files breaks no rule of code. It has no code that runs.
 #![tactic(auto)]
 
 mod laws;
 
-pub use laws::{
-    expressions_break_no_rule, simple_statements_break_no_rule, written_code_keeps_letters,
-};
+pub use laws::{expressions_break_no_rule, lines_break_no_rule, written_code_keeps_letters};
