@@ -31,3 +31,8 @@ pub mod OverRows
 pub mod KnownAll
 pub mod Walking
 pub mod AllLines
+pub mod Lawful
+pub mod HandlerValues
+pub mod FirstLines
+pub mod ProperInside
+pub mod HandlerRules
