@@ -36,3 +36,6 @@ pub mod HandlerValues
 pub mod FirstLines
 pub mod ProperInside
 pub mod HandlerRules
+pub mod Placed
+pub mod BlocksLawful
+pub mod AllLawful
