@@ -1,59 +1,33 @@
 -- Blocks and actions that are written break no rule of contexts and handlers where what is inside them breaks none.
-use Rattle.std.specs.List.{list_all}
-use Rattle.std.proofs.Common.{arith, ◌≡◌, ◌≤◌, ◌<◌, ◌&&◌, ◌||◌, ℕ, suc, Bool, true, false, not, nat_eq, List, [], ◌∷◌, ◌++◌, length, map, Option, Some, None, ap, inl, inr, refl, sym, ◌∙◌, subst}
-use Rattle.std.specs.Prelude.{reverse}
-use Rattle.std.proofs.lemmas.Bool.{eq-eqb, false≢true}
-use Rattle.std.proofs.lemmas.List.{reverse-reverse}
-use Rattle.std.proofs.lemmas.List.Folds.{list_all-append}
-use Rattle.psm_num.proofs.Literals.{and_first, and_second}
-use Rattle.psm_exprcode.specs.declared.op.Letter.{Letter}
-use Rattle.psm_exprcode.specs.declared.op.Letter.TheVariants.{B}
+use Rattle.std.proofs.Common.{arith, ◌≡◌, ◌≤◌, ℕ, suc, Bool, true, false, nat_eq, List, [], ◌∷◌, length, map, Some, None, ap, inl, refl, sym, ◌∙◌}
+use Rattle.std.proofs.lemmas.Bool.{eq-eqb}
 use Rattle.psm_exprcode.specs.declared.op.Op.TheVariants as op
 use Rattle.psm_resolved.specs.declared.statement.ResolvedBlock.{ResolvedBlock, out-ResolvedBlock}
-use Rattle.psm_resolved.specs.declared.statement.ResolvedBranch.{ResolvedBranch, out-ResolvedBranch}
-use Rattle.psm_resolved.specs.declared.statement.ResolvedCondition.{ResolvedCondition}
-use Rattle.psm_resolved.specs.declared.statement.ResolvedCondition.TheVariants as conditions
-use Rattle.psm_resolved.specs.declared.statement.ResolvedCursor.{ResolvedCursor}
 use Rattle.psm_resolved.specs.declared.statement.ResolvedFor.{ResolvedFor}
 use Rattle.psm_resolved.specs.declared.statement.ResolvedHandler.{ResolvedHandler, out-ResolvedHandler}
-use Rattle.psm_resolved.specs.declared.statement.ResolvedSimple.{ResolvedSimple}
-use Rattle.psm_resolved.specs.declared.statement.ResolvedStatement.{ResolvedStatement}
 use Rattle.psm_code.specs.declared.code.RawRoutine.{RawRoutine}
-use Rattle.psm_code.specs.declared.instruction.Instruction.{Instruction}
 use Rattle.psm_code.specs.declared.instruction.Instruction.TheVariants as instruction
-use Rattle.psm_code.specs.declared.lines.CodeLine.{CodeLine}
-use Rattle.psm_code.specs.declared.rule.CodeRule.TheVariants.{Definition}
 use Rattle.psm_code.specs.Parts.{line_at}
-use Rattle.psm_code.specs.RoutineRules.{are_new, is_bare, stands_alone}
-use Rattle.psm_code.specs.Rules.{is_some, unless}
+use Rattle.psm_code.specs.RoutineRules.{are_new}
 use Rattle.psm_code.specs.TableRules.{are_there}
-use Rattle.psm_emit.specs.declared.around.Around.{Around}
 use Rattle.psm_emit.specs.declared.known.Known.{Known}
 use Rattle.psm_emit.specs.Parts.{Parts, at, block_entered, next_context, with_code, with_handler, with_plain}
-use Rattle.psm_emit.specs.Simples.{Declares, WritesSimple, declared_with}
-use Rattle.psm_emit.specs.Simples as simple
-use Rattle.psm_emit.specs.Standing.{cursors_of}
-use Rattle.psm_emit.specs.Statements.{WritesBranches, WritesComparisons, WritesCursors, WritesElse, WritesHandlers, WritesStatement, WritesStatements, fetched, jumped, opened, passed, unless_true}
-use Rattle.psm_emit.specs.Statements as written
-use Rattle.psm_emit.specs.Written.{Written, applied, here, last_letter, taken}
-use Rattle.psm_emit.specs.Writing.{BeginsWith}
+use Rattle.psm_emit.specs.Simples.{Declares}
+use Rattle.psm_emit.specs.Statements.{WritesCursors, WritesStatement, fetched, jumped, opened, passed}
+use Rattle.psm_emit.specs.Written.{Written}
 use Rattle.psm_emit.proofs.Counts.{here-plain}
 use Rattle.psm_emit.proofs.Growing.{Grown, begins-length, grown-any, grown-code, grown-cursors, grown-entered, grown-fetched, grown-handler, grown-here, grown-on, grown-opened, grown-passed, grown-plain, next-entered, next-handler, no_context, own_in}
-use Rattle.psm_emit.proofs.GrowingAll.{before-list, grown-all, grown-branches, grown-comparisons, grown-else, grown-handlers, grown-statement, high-context}
-use Rattle.psm_emit.proofs.Growth.{grows-applied, grows-on, grows-taken, grows-takes, grows-writes}
+use Rattle.psm_emit.proofs.GrowingAll.{grown-statement, high-context}
 use Rattle.psm_emit.proofs.GrowthSimples.{grows-declares}
-use Rattle.psm_emit.proofs.Numbering.{block_cursors-out, branch_cursors-out, cursors-out, cursors_in, cursors_in_branches, cursors_in_handlers, cursors_of_branch, cursors_of_handler, handler_cursors-out}
-use Rattle.psm_emit.proofs.Placing.{Kept, kept-earlier}
+use Rattle.psm_emit.proofs.Placing.{kept-earlier}
 use Rattle.psm_emit.proofs.There.{line_of, there_at}
-use Rattle.psm_sound.specs.Scene.{Each, Scene}
-use Rattle.psm_proper.specs.Simples.{ProperCondition, ProperSimple}
-use Rattle.psm_proper.specs.Statements.{AreApart, Letters, MayHandle}
+use Rattle.psm_sound.specs.Scene.{Scene}
+use Rattle.psm_proper.specs.Statements.{AreApart, MayHandle}
 use Rattle.psm_right.specs.Frame.{Follows}
 use Rattle.psm_right.proofs.FirstLines.{statement-starts}
 use Rattle.psm_right.proofs.HandlerRules.{BlockAt, NamesDeclared, entered-block, entered-lawful, handler-lawful}
 use Rattle.psm_right.proofs.HandlerValues.{AreNew, new-here, new-later, values-none, values_of_handlers}
-use Rattle.psm_right.proofs.Lawful.{Counts, Lawful, Pass, counts, lawful-cursors, lawful-none, lawful-on, lawful-passed, pass-none, pass-one}
-use Rattle.psm_right.proofs.ProperInside.{ProperActions, ProperBlock, ProperBranches, ProperList, ProperOne, action-of, branch-of, first-of, inside-of}
+use Rattle.psm_right.proofs.Lawful.{Lawful, counts, lawful-cursors, lawful-on, lawful-passed}
 use Rattle.psm_right.proofs.Putting.{follows-as, line-starts}
 
 use Rattle.psm_right.proofs.Placed.{AllBare, Place, bare-stack, later-other, passed-stack, place-behind, place-first, place-in, place-last, place-part}

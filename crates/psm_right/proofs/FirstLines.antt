@@ -1,6 +1,6 @@
 -- The first line that is written for a statement stands in its context and states the operands that stand before it, as the line does
 -- that follows: where nothing is written that line is the first one.
-use Rattle.std.proofs.Common.{◌≡◌, ℕ, suc, Bool, true, false, nat_eq, if◌then◌else◌, List, [], ◌∷◌, length, map, Some, None, refl}
+use Rattle.std.proofs.Common.{ℕ, suc, Bool, true, false, nat_eq, if◌then◌else◌, List, [], ◌∷◌, length, map, Some, None}
 use Rattle.psm_cond.specs.declared.item.StatementItem.{StatementItem}
 use Rattle.psm_exprcode.specs.declared.op.Letter.TheVariants.{N, B}
 use Rattle.psm_exprcode.specs.declared.op.Op.TheVariants as op
@@ -10,24 +10,23 @@ use Rattle.psm_resolved.specs.declared.statement.ResolvedCursor.{ResolvedCursor}
 use Rattle.psm_resolved.specs.declared.statement.ResolvedSimple.{ResolvedSimple}
 use Rattle.psm_resolved.specs.declared.statement.ResolvedStatement.{ResolvedStatement}
 use Rattle.psm_code.specs.declared.code.RawRoutine.{RawRoutine}
-use Rattle.psm_code.specs.declared.instruction.Instruction.{Instruction}
 use Rattle.psm_code.specs.declared.instruction.Instruction.TheVariants as instruction
 use Rattle.psm_code.specs.Instructions.{statement_letter}
 use Rattle.psm_lower.specs.Scheme.{slots_given}
 use Rattle.psm_emit.specs.declared.around.Around.{Around}
 use Rattle.psm_emit.specs.declared.around.Around.TheVariants.{Loop, Block, Rows}
 use Rattle.psm_emit.specs.declared.known.Known.{Known}
-use Rattle.psm_emit.specs.Parts.{Parts, at, block_entered, iterates, leaves, next_context, with_code, with_plain}
+use Rattle.psm_emit.specs.Parts.{Parts, at, block_entered, iterates, leaves, next_context, with_plain}
 use Rattle.psm_emit.specs.Queries.{item_letters}
 use Rattle.psm_emit.specs.Simples.{WritesSimple, cleared, changed, more_operands, number_op, procedure_number, statement_items}
 use Rattle.psm_emit.specs.Simples as simple
 use Rattle.psm_emit.specs.Statements.{WritesBranches, WritesComparisons, WritesCursors, WritesElse, WritesStatement, WritesStatements, fetched, jumped, opened, passed, unless_true}
 use Rattle.psm_emit.specs.Statements as written
-use Rattle.psm_emit.specs.Written.{Written, applied, here, last_letter, letters_at, plain, puts, taken, takes, with_query}
+use Rattle.psm_emit.specs.Written.{Written, applied, here, last_letter, letters_at, plain, puts, takes, with_query}
 use Rattle.psm_emit.specs.Writing.{Begins, Grows}
 use Rattle.psm_emit.proofs.Growing.{Grown, grown-cursors, grown-entered, grown-fetched, grown-on, grown-opened, grown-passed, grown-plain, no_context}
 use Rattle.psm_emit.proofs.GrowingAll.{grown-all, grown-branches, grown-comparisons, grown-else, grown-handlers}
-use Rattle.psm_emit.proofs.Growth.{begins-earlier, grows-applied, grows-here, grows-on, grows-plain, grows-puts, grows-query, grows-taken, grows-takes, grows-writes}
+use Rattle.psm_emit.proofs.Growth.{begins-earlier, grows-applied, grows-on, grows-plain, grows-puts, grows-query, grows-taken, grows-takes, grows-writes}
 use Rattle.psm_emit.proofs.GrowthSimples.{grows-call, grows-condition_items, grows-iterates, grows-leaves, grows-retrieved, grows-rows, grows-signals, grows-statement_items, grows-stored}
 use Rattle.psm_right.specs.Frame.{Follows}
 use Rattle.psm_right.proofs.Declaring.{declares-starts}

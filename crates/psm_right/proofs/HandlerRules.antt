@@ -1,5 +1,5 @@
 -- A context and a handler that are written break no rule.
-use Rattle.std.proofs.Common.{arith, ◌≡◌, ◌≤◌, ◌<◌, ◌&&◌, ◌||◌, ℕ, zero, suc, Bool, true, false, not, nat_eq, nat_le, nat_lt, List, [], ◌∷◌, ◌++◌, length, map, slice_get, take, Option, Some, None, ap, refl, sym, ◌∙◌, subst}
+use Rattle.std.proofs.Common.{arith, ◌≡◌, ◌≤◌, ◌||◌, ℕ, zero, suc, Bool, true, not, List, [], ◌∷◌, ◌++◌, length, map, slice_get, take, Some, None, ap, refl, sym, ◌∙◌, subst}
 use Rattle.std.specs.List.{list_all}
 use Rattle.std.specs.Prelude.{reverse}
 use Rattle.std.proofs.Math.Seq.{take-append_seam}
@@ -10,9 +10,7 @@ use Rattle.psm_cond.specs.declared.handlers.Block.{Block}
 use Rattle.psm_cond.specs.declared.handlers.ConditionValue.{ConditionValue}
 use Rattle.psm_cond.specs.declared.handlers.ConditionValue.TheVariants as values
 use Rattle.psm_cond.specs.declared.handlers.Context.{Context}
-use Rattle.psm_cond.specs.declared.handlers.ContextKind.{ContextKind}
 use Rattle.psm_cond.specs.declared.handlers.ContextKind.TheVariants as kinds
-use Rattle.psm_cond.specs.declared.handlers.Declared.{Declared}
 use Rattle.psm_cond.specs.declared.handlers.Declared.TheVariants as declares
 use Rattle.psm_cond.specs.declared.handlers.Handler.{Handler}
 use Rattle.psm_cond.specs.declared.handlers.HandlerKind.{HandlerKind}
@@ -21,9 +19,9 @@ use Rattle.psm_code.specs.declared.code.RawRoutine.{RawRoutine}
 use Rattle.psm_code.specs.declared.lines.CodeLine.{CodeLine}
 use Rattle.psm_code.specs.declared.rule.CodeRule.{CodeRule}
 use Rattle.psm_code.specs.declared.rule.CodeRule.TheVariants as rules
-use Rattle.psm_code.specs.Parts.{block_at, block_of_context, handler_at, line_at}
-use Rattle.psm_code.specs.RoutineRules.{are_new, context_fault, context_there, exits, handler_fault, is_action_context, is_action_line, is_exit_of, is_parent, is_named, is_undo, is_value_right, may_undo, value_there, values_in, values_of}
-use Rattle.psm_code.specs.Rules.{first_of, is_some, is_there, or_else, there, unless, where_there}
+use Rattle.psm_code.specs.Parts.{block_at, block_of_context, line_at}
+use Rattle.psm_code.specs.RoutineRules.{are_new, context_fault, context_there, exits, handler_fault, is_action_context, is_action_line, is_exit_of, is_parent, is_named, is_undo, is_value_right, value_there, values_in}
+use Rattle.psm_code.specs.Rules.{first_of, is_some, there, unless, where_there}
 use Rattle.psm_code.specs.TableRules.{are_there}
 use Rattle.psm_emit.specs.Parts.{Parts, at, block_entered, next_context, several_values, with_handler}
 use Rattle.psm_emit.specs.Writing.{BeginsWith}
@@ -35,7 +33,7 @@ use Rattle.psm_sound.specs.Scene.{Each, IsThere, Scene}
 use Rattle.psm_proper.specs.Statements.{ProperValue}
 use Rattle.psm_right.specs.Frame.{Follows}
 use Rattle.psm_right.proofs.HandlerValues.{values-there}
-use Rattle.psm_right.proofs.Lawful.{Counts, Lawful, counts, pass-none, pass-one}
+use Rattle.psm_right.proofs.Lawful.{Lawful, counts, pass-none, pass-one}
 use Rattle.psm_right.proofs.Lines.{both}
 
 -- ---- rules

@@ -1,6 +1,6 @@
 -- The values of the handlers of a block: those of an action in between are of other blocks, and the next ones are new.
 use Rattle.std.specs.List.{flat_map}
-use Rattle.std.proofs.Common.{arith, ◌≡◌, ◌≤◌, ◌<◌, ◌&&◌, ◌||◌, ℕ, suc, Bool, true, false, not, nat_eq, filter, if◌then◌else◌, List, [], ◌∷◌, ◌++◌, length, map, inl, inr, ap, refl, sym, ◌∙◌, subst, append_assoc, append-nil}
+use Rattle.std.proofs.Common.{arith, ◌≡◌, ◌≤◌, ◌&&◌, ◌||◌, ℕ, suc, Bool, true, false, not, nat_eq, filter, if◌then◌else◌, List, [], ◌∷◌, ◌++◌, length, inl, ap, refl, sym, ◌∙◌, append_assoc, append-nil}
 use Rattle.std.proofs.lemmas.Bool.{eq-eqb}
 use Rattle.psm_num.proofs.Literals.{and_first, and_second}
 use Rattle.psm_cond.specs.declared.handlers.ConditionValue.{ConditionValue}

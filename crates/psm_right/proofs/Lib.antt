@@ -39,3 +39,4 @@ pub mod HandlerRules
 pub mod Placed
 pub mod BlocksLawful
 pub mod AllLawful
+pub mod ContextsRight
