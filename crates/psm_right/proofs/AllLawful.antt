@@ -27,7 +27,6 @@ use Rattle.psm_right.proofs.HandlerRules.{BlockAt, NamesDeclared}
 use Rattle.psm_right.proofs.HandlerValues.{AreNew}
 use Rattle.psm_right.proofs.Lawful.{Lawful, counts, lawful-none, lawful-on}
 use Rattle.psm_right.proofs.ProperInside.{ProperActions, ProperBranches, ProperList, ProperOne, action-of, branch-of, first-of, inside-of}
-
 use Rattle.psm_right.proofs.BlocksLawful.{action-lawful, compound-lawful, for-lawful}
 use Rattle.psm_right.proofs.Placed.{AllBare, Place, place-behind, place-first, place-part, simple-lawful, there-as, there-first, there-rest}
 
@@ -100,7 +99,7 @@ module _ (e : Scene) (known : Known) (letters : Letters) (r : RawRoutine) (bare 
         let unless = unless_true context out (suc (at b)) equal in
         let left : Grown no_context b (with_code (applied context out (op.Jump out) 0 (last_letter p.code) b.code) b) = grown-code (grows-applied context out (op.Jump out) 0 (last_letter p.code) {w = b.code}) in
         let tested : Grown no_context p (with_code (taken context out op.Drop unless) p) = grown-code (grows-on (grows-applied context out op.Duplicate 0 (last_letter p.code) {w = p.code}) (grows-on (grows-writes a)
-            (grows-on (grows-applied context out op.Equal 2 B {w = w}) (grows-on (grows-taken context out (op.JumpUnlessTrue (suc (at b))) {w = equal}) (grows-taken context out op.Drop {w = unless}))))) in
+        (grows-on (grows-applied context out op.Equal 2 B {w = w}) (grows-on (grows-taken context out (op.JumpUnlessTrue (suc (at b))) {w = equal}) (grows-taken context out op.Drop {w = unless}))))) in
         lawful-on (list-lawful all both.0 (there-as r (branch_cursors-out x) (there-first r (cursors_of_branch x) (cursors_in_branches xs) h)) (place-part tested (grown-on left (grown-comparisons rest)) place))
         (comparisons-lawful rest both.1 (there-rest r (cursors_of_branch x) (cursors_in_branches xs) h) (place-behind (grown-on tested (grown-on (grown-all all) left)) place))
 

@@ -29,7 +29,6 @@ use Rattle.psm_right.proofs.HandlerRules.{BlockAt, NamesDeclared, entered-block,
 use Rattle.psm_right.proofs.HandlerValues.{AreNew, new-here, new-later, values-none, values_of_handlers}
 use Rattle.psm_right.proofs.Lawful.{Lawful, counts, lawful-cursors, lawful-on, lawful-passed}
 use Rattle.psm_right.proofs.Putting.{follows-as, line-starts}
-
 use Rattle.psm_right.proofs.Placed.{AllBare, Place, bare-stack, later-other, passed-stack, place-behind, place-first, place-in, place-last, place-part}
 
 module _ {known : Known} {r : RawRoutine} (bare : AllBare r) where

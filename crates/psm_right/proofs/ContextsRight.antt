@@ -122,7 +122,8 @@ contexts-right file routine r proper w bare =
     let lawful : Lawful r (counts (no_parts routine)) (counts w.parts) = statement-lawful (scene_of file routine proper.shapes) (known_of file routine) proper.letters r bare first.declared w.body (body, proper.proper) there place in
     let named : Pass DeclaredRight r.handlers.declared 0 (length (no_parts routine).declared) = record { each = λ n d low high q. named-right routine.conditions first.declared.more n d high (ap (λ l. slice_get l n) (sym first.declared.is) ∙ q) } in
     let declared = pass-all (pass-on named lawful.declared) (ap length w.declared) in
-    let contexts = pass-all lawful.contexts (ap length w.contexts) in
-    (each-map (λ f. f ≡ None) declared_fault r.handlers.declared declared,
-    each-context r 1 r.handlers.contexts (λ n c q. subst (λ i. context_fault r i c.parent c.kind ≡ None) (omega (arith)) (contexts n c q)),
-    each-after (λ f. f ≡ None) (handler_fault r) [] r.handlers.handlers (pass-all lawful.handlers (ap length w.handlers)))
+    let contexts = pass-all lawful.contexts (ap length w.contexts) in (
+      each-map (λ f. f ≡ None) declared_fault r.handlers.declared declared,
+      each-context r 1 r.handlers.contexts (λ n c q. subst (λ i. context_fault r i c.parent c.kind ≡ None) (omega (arith)) (contexts n c q)),
+      each-after (λ f. f ≡ None) (handler_fault r) [] r.handlers.handlers (pass-all lawful.handlers (ap length w.handlers)),
+    )

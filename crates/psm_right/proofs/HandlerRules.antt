@@ -139,11 +139,13 @@ module _ (r : RawRoutine) (e : Scene) (names : NamesDeclared e r) (context : ℕ
       → Each (λ x. x ≡ None) (handler_fault r p.handlers (record { context = context; kind = kind; pc = at p; values = several_values vs }))
   handler-right block some proper undo new f =
       let same = values-there vs some in
-      let right = values-right r e names vs proper in
-      (four-hold rules.Range rules.Target rules.Context rules.Definition (both block.known (ap (list_all (value_there r)) same ∙ right.0)) (ap there f.there)
-      (ap (λ o. where_there o (is_action_line r (length p.handlers))) f.there ∙ line-right f)
-      (both (ap (λ o. not (is_undo kind) || where_there o (λ b. b.atomic)) block.there ∙ ap (λ x. not (is_undo kind) || x) block.undone ∙ undo)
-      (both (ap (list_all (is_value_right r)) same ∙ right.1) (ap (are_new (values_in context p.handlers)) same ∙ new))), tt)
+      let right = values-right r e names vs proper in (
+        four-hold rules.Range rules.Target rules.Context rules.Definition (both block.known (ap (list_all (value_there r)) same ∙ right.0)) (ap there f.there)
+            (ap (λ o. where_there o (is_action_line r (length p.handlers))) f.there ∙ line-right f)
+            (both (ap (λ o. not (is_undo kind) || where_there o (λ b. b.atomic)) block.there ∙ ap (λ x. not (is_undo kind) || x) block.undone ∙ undo)
+            (both (ap (list_all (is_value_right r)) same ∙ right.1) (ap (are_new (values_in context p.handlers)) same ∙ new))),
+        tt,
+      )
 
   pub handler-lawful : {atomic : Bool} → BlockAt r context atomic → context ≤ length p.contexts → is_some vs ≡ true → Each (ProperValue e) vs → (not (is_undo kind) || atomic) ≡ true → are_new (values_in context p.handlers) vs ≡ true
       → Follows r (at p) (next_context p) [] → Lawful r (counts p) (counts (with_handler context kind vs p))

@@ -1,4 +1,5 @@
--- Where statements are written in a routine, and that no operand stands there.
+-- Where statements are written in a routine: no operand stands before a line that stands alone, cursors are there, and the conditions that
+-- simple statements declare break no rule.
 use Rattle.std.proofs.Common.{arith, ◌≡◌, ◌≤◌, ◌<◌, ◌||◌, ℕ, Bool, true, false, not, nat_eq, List, [], ◌∷◌, ◌++◌, length, Some, None, ap, inr, refl, sym, ◌∙◌}
 use Rattle.std.specs.Prelude.{reverse}
 use Rattle.std.proofs.lemmas.Bool.{false≢true}
@@ -34,8 +35,9 @@ use Rattle.psm_proper.specs.Simples.{ProperCondition, ProperSimple}
 use Rattle.psm_proper.specs.Statements.{Letters}
 use Rattle.psm_right.proofs.Lawful.{Lawful, counts, lawful-none, pass-none, pass-one}
 
--- ---- what is written from p up to q is in the routine; its context is there, and no handler is of a context behind those of p
+-- ---- places
 
+-- what is written from p up to q is in the routine; its context is among those of p, and no handler of p is of a later one
 pub record Place (r : RawRoutine) (context : ℕ) (p q : Parts) : Type 0 where
   pub kept : Kept q r
   pub inside : context ≤ length p.contexts
@@ -81,7 +83,7 @@ pub passed-stack : (context start : ℕ) (hs : List ResolvedHandler) (p : Parts)
 passed-stack context start [] p = refl
 passed-stack context start (h ∷ hs) p = refl
 
--- ---- cursors of parts
+-- ---- cursors that are there
 
 module _ (r : RawRoutine) where
   pub there-first : (ns ms : List ℕ) → are_there r.cursors (ns ++ ms) ≡ true → are_there r.cursors ns ≡ true
@@ -118,4 +120,3 @@ simple-lawful e letters (simple.delete d) t k = lawful-none
 simple-lawful e letters simple.open_ t k = lawful-none
 simple-lawful e letters simple.fetch_ t k = lawful-none
 simple-lawful e letters simple.close_ t k = lawful-none
-
