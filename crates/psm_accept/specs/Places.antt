@@ -4,6 +4,7 @@ use Rattle.psm_scope.specs.Frames.{Spelling, is_spelled}
 use Rattle.psm_scope.specs.Lookup as lookup
 use Rattle.psm_scope.specs.declared.known.DeclaredCondition.{DeclaredCondition}
 use Rattle.psm_rules.specs.declared.shape.Shape.{Shape}
+use Rattle.psm_rules.specs.declared.shape.Shape.TheVariants.{Value, Untyped, Condition}
 use Rattle.psm_rules.specs.StatementFaults.{Context, InProcedure}
 use Rattle.psm_rules.specs.View.{Cursor}
 use Rattle.psm_resolved.specs.declared.statement.ResolvedCursor.{ResolvedCursor}
@@ -15,13 +16,19 @@ use Rattle.psm_code.specs.RoutineRules.{is_condition}
 use Rattle.psm_emit.specs.declared.known.Known.{Known}
 use Rattle.psm_emit.specs.Files.{known_of}
 use Rattle.psm_emit.specs.Queries.{item_letters}
-use Rattle.psm_sound.specs.Scene.{Scene}
+use Rattle.psm_sound.specs.Scene.{Each, Scene}
 use Rattle.psm_sound.specs.Statements as places
 use Rattle.psm_proper.specs.Statements.{Letters}
 use Rattle.psm_accept.specs.Agreement.{Agree, AllSuit, IsWithin}
 use Rattle.psm_accept.specs.Meant.{Meant}
 
 -- ---- cursors
+
+-- an item is a value with a type of its own, so that NULL is none
+abbrev pub IsTyped : Shape → Type 0
+IsTyped (Value t) = Unit {0}
+IsTyped Untyped = ⊥
+IsTyped Condition = ⊥
 
 -- a cursor is seen: over the table that the checker knows, with items of these shapes, and with the letters that are known of its number
 pub record IsKnown (e : Scene) (known : Known) (letters : Letters) (s : places.Sight) (sight : Sight) (cursor : Cursor) (number : ℕ) : Type 0 where
@@ -33,6 +40,7 @@ pub record IsKnown (e : Scene) (known : Known) (letters : Letters) (s : places.S
   pub shapes : List Shape
   pub items : cursor.items ≡ Some (map (λ s. Some s) shapes)
   pub suit : AllSuit shapes (item_letters known x.query)
+  pub typed : Each IsTyped shapes
   pub lettered : slice_get letters number ≡ Some (item_letters known x.query)
 
 abbrev pub IsCursorKnown : Scene → Known → Letters → places.Sight → Sight → Option Cursor → Option ℕ → Type 0
