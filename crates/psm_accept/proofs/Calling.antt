@@ -58,7 +58,7 @@ target_slot_of e view sight a r kind x h none = absurd cc
 
 -- ---- arguments
 
-passed_by : (b : Bool) (place : Place) (given other : Option Fault) → (if b then given else earlier (breaks rule.NotAssignable place) other) ≡ None → (b ≡ true) × (given ≡ None)
+pub passed_by : (b : Bool) (place : Place) (given other : Option Fault) → (if b then given else earlier (breaks rule.NotAssignable place) other) ≡ None → (b ≡ true) × (given ≡ None)
 passed_by true place given other none = (refl, none)
 passed_by false place given None none = absurd cc
 passed_by false place given (Some f) none = absurd cc

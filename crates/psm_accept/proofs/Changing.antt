@@ -133,8 +133,8 @@ record IsOfSome (e : Scene) (x : ResolvedExpr) : Type 0 where
   judged : IsExpr e x letter
 
 source_some : (e : Scene) (m : Made) (s : Shape) → IsSourceOf e Control m s → IsOfSome e m.expr
-source_some e m (Value t) h = record { letter = letter_in (family_of t.kind); value = value_of_family (family_of t.kind); judged = h.judged }
-source_some e m Untyped h = record { letter = N; value = refl; judged = subst (λ x. IsExpr e x N) (sym h.1) (null-source e Control N refl) }
+source_some e m (Value t) h = record { letter = letter_in (family_of t.kind); value = value_of_family (family_of t.kind); judged = h.judged.0 }
+source_some e m Untyped h = record { letter = N; value = refl; judged = subst (λ x. IsExpr e x N) (sym h.1) (null-source e Control N refl).0 }
 source_some e m Condition h = absurd h
 
 value_some : (e : Scene) (view : View) (sight : Sight) → Agree e view sight → sight.row ≡ None → (x : Expr) → IsTrue (as_source (stands x)) → (k : Option SqlType) → source_fault k (expr_found x view) ≡ None → IsOfSome e (expr_at sight x)
@@ -170,7 +170,7 @@ values_some e view sight a r (x ∷ xs) well (k ∷ ks) many none =
     let more : AreOfSome e (map (expr_at sight) xs) = values_some e view sight a r xs well.1 ks (one_less (length ks) (length xs) many) parts.1 in
     record { letters = first.letter ∷ more.letters; values = (first.value, more.values); exprs = typed_expr.more first.judged more.exprs; many = ap suc more.many }
 
-counted_values : (n m : ℕ) (place : Place) (inner other : Option Fault) (b : Bool) → nat_eq n m ≡ b → (if b then inner else earlier (breaks rule.CountsDiffer place) other) ≡ None → (n ≡ m) × (inner ≡ None)
+pub counted_values : (n m : ℕ) (place : Place) (inner other : Option Fault) (b : Bool) → nat_eq n m ≡ b → (if b then inner else earlier (breaks rule.CountsDiffer place) other) ≡ None → (n ≡ m) × (inner ≡ None)
 counted_values n m place inner other true is none = (same_count n m is, none)
 counted_values n m place inner None false is none = absurd cc
 counted_values n m place inner (Some f) false is none = absurd cc
@@ -192,7 +192,7 @@ rows_sound e view sight a r columns kinds many (row ∷ rows) well none =
 
 -- ---- INSERT
 
-query_counted : (f : QueryFound) (kinds : List (Option SqlType)) (b : Bool) → faults.may_be (length kinds) (items_of f) ≡ b → (if b then earlier (query_fault f) (items_into (items_of f) kinds) else faults.miscounted_fault f) ≡ None
+pub query_counted : (f : QueryFound) (kinds : List (Option SqlType)) (b : Bool) → faults.may_be (length kinds) (items_of f) ≡ b → (if b then earlier (query_fault f) (items_into (items_of f) kinds) else faults.miscounted_fault f) ≡ None
     → (faults.may_be (length kinds) (items_of f) ≡ true) × (query_fault f ≡ None)
 query_counted f kinds true is none = (is, (neither (query_fault f) (items_into (items_of f) kinds) none).0)
 query_counted f kinds false is none =

@@ -50,6 +50,9 @@ use Rattle.psm_sound.specs.Scene.{Each, Scene, letters_of, taken_by}
 use Rattle.psm_meaning.specs.Calls.{returns}
 use Rattle.psm_accept.specs.Agreement.{AreFunctions, letter_in}
 use Rattle.psm_accept.specs.Stands.{Standing, as_operand, as_source, may_be}
+use Rattle.psm_resolved.specs.declared.expr.ResolvedExpr.TheOpen as layers
+use Rattle.psm_proper.specs.Expressions as proper
+use Rattle.psm_accept.proofs.ProperParts.{AllFit, Fit, more_fit, none_fit, null_fit, proper_as, widened_fit}
 use Rattle.psm_accept.proofs.Choosing.{IsCallee, chosen_called}
 use Rattle.psm_accept.proofs.Judging.{AllSources, ElseJudged, Judged, Source, WhensJudged, Where, Control, cast-judged, cast_null-judged, coalesce-judged, compared-judged, judged-source, null-source, searched-judged}
 use Rattle.psm_accept.proofs.Parts.{AllResults, Clean, Good, IsMade, IsNullAlone, IsOperand, IsResult, IsSane, IsSourceOf, IsValue, Part, Parts, all_shaped, as_condition-clean, as_value-clean, compares_clean, compares_judged, made_of-clean, made_of-parts, neither, operand, operand_source, operands, result, results, same_family, sources_clean, tested, value_of_family, compared_shape}
@@ -356,12 +359,12 @@ case_parts place ts rs s h = by (list_all is_shaped ts && list_all is_shaped rs)
     by false is h = absurd cc
 
 -- an operand with a WHEN
-test_clean : (e : Scene) (w : Where) (a b : Standing) (f g : Found) (m n : Made) → Part e w a f m → as_operand a ≡ true → Part e w b g n → as_operand b ≡ true → Clean (simple_test (as_value f) g)
+pub test_clean : (e : Scene) (w : Where) (a b : Standing) (f g : Found) (m n : Made) → Part e w a f m → as_operand a ≡ true → Part e w b g n → as_operand b ≡ true → Clean (simple_test (as_value f) g)
 test_clean e w a b f g m n p h q k none =
     let parts = neither (as_value g).fault (compares (as_value f).place (as_value f ∷ as_value g ∷ [])).fault none in
     compares_clean e w (as_value f).place (a ∷ b ∷ []) (f ∷ g ∷ []) (m ∷ n ∷ []) (p, (q, tt)) (all_true (as_operand a) (as_operand b && true) h (all_true (as_operand b) true k refl)) parts.1
 
-test_judged : (e : Scene) (w : Where) (a b : Standing) (f g : Found) (m n : Made) (t : Typed) → Part e w a f m → as_operand a ≡ true → as_value f ≡ sound f.place (Value t) → Part e w b g n → as_operand b ≡ true
+pub test_judged : (e : Scene) (w : Where) (a b : Standing) (f g : Found) (m n : Made) (t : Typed) → Part e w a f m → as_operand a ≡ true → as_value f ≡ sound f.place (Value t) → Part e w b g n → as_operand b ≡ true
     → is_shaped (simple_test (as_value f) g) ≡ true → Judged e w n.expr (letter_in (family_of t.kind))
 test_judged e w a b f g m n t p h found q k shaped =
     let whole : Found = compares (as_value f).place (as_value f ∷ as_value g ∷ []) in
@@ -491,8 +494,8 @@ value_letter (types.Char n) = refl
 value_letter (types.VarChar n) = refl
 
 source_goes : (e : Scene) (m : Made) (s : Shape) (t : SqlType) → IsSourceOf e Control m s → goes_to (made.kind_of s) (kind_of t) ≡ true → IsExpr e m.expr (letter_of t)
-source_goes e m (Value u) t h g = subst (IsExpr e m.expr) (letter_goes u.kind t h.sane.typed g) h.judged
-source_goes e m Untyped t h g = subst (λ x. IsExpr e x (letter_of t)) (sym h.1) (null-source e Control (letter_of t) (value_letter t))
+source_goes e m (Value u) t h g = subst (IsExpr e m.expr) (letter_goes u.kind t h.sane.typed g) h.judged.0
+source_goes e m Untyped t h g = subst (λ x. IsExpr e x (letter_of t)) (sym h.1) (null-source e Control (letter_of t) (value_letter t)).0
 source_goes e m Condition t h g = absurd h
 
 arguments_go : (e : Scene) (fs : List Found) (ms : List Made) (ts : List SqlType) → AllResults e Control fs ms → all_go (map (λ a. made.kind_of a.shape) ms) (map kind_of ts) ≡ true → AreExprs e (map expr_in ms) (letters_of ts)
@@ -506,6 +509,17 @@ arguments_go e (f ∷ fs) (m ∷ ms) (t ∷ ts) h g =
     let r : IsResult e Control f m = h.0 in
     typed_expr.more (source_goes e m r.shape t r.source (subst (λ s. goes_to (made.kind_of s) (kind_of t) ≡ true) (source_shape e Control m r.shape r.source) parts.0))
     (arguments_go e fs ms ts h.1 parts.1)
+
+pub source_fit : (e : Scene) (m : Made) (s : Shape) → IsSourceOf e Control m s → Fit e true m.expr
+source_fit e m (Value t) h = widened_fit e m.expr h.judged.1
+source_fit e m Untyped h = subst (Fit e true) (sym h.1) (null_fit e)
+source_fit e m Condition h = absurd h
+
+arguments_fit : (e : Scene) (fs : List Found) (ms : List Made) → AllResults e Control fs ms → AllFit e true (map expr_in ms)
+arguments_fit e [] [] h = none_fit e true
+arguments_fit e [] (m ∷ ms) h = absurd h
+arguments_fit e (f ∷ fs) [] h = absurd h
+arguments_fit e (f ∷ fs) (m ∷ ms) h = let r : IsResult e Control f m = h.0 in more_fit e true m.expr (map expr_in ms) (source_fit e m r.shape r.source) (arguments_fit e fs ms h.1)
 
 listed_at : {A : Type 0} (xs : List A) (i : ℕ) (x d : A) → slice_get xs i ≡ Some x → slice_index_or xs i d ≡ x
 listed_at [] i x d h = absurd cc
@@ -536,8 +550,10 @@ called_good e place standing callable name fs ms (Ok k) known rs is =
     let args : List ArgKind = map (λ a. made.kind_of a.shape) ms in
     let callee : IsCallee args callable.results (functions_of e) k = chosen_called name args callable.signatures callable.results (functions_of e) k known is in
     type_good e Control standing place (slice_index_or callable.results k None) callee.type (made.called (map expr_in ms) (Ok (k, slice_index_or callable.results k None)))
-    (listed_at callable.results k (Some callee.type) None callee.result) refl callee.bounded
-    (typed_expr.call k (map expr_in ms) callee.routine callee.type (exprs.outs-Call k (map expr_in ms)) callee.there callee.returned (arguments_go e fs ms (taken_by callee.routine.parameters) rs callee.goes))
+    (listed_at callable.results k (Some callee.type) None callee.result) refl callee.bounded (
+      typed_expr.call k (map expr_in ms) callee.routine callee.type (exprs.outs-Call k (map expr_in ms)) callee.there callee.returned (arguments_go e fs ms (taken_by callee.routine.parameters) rs callee.goes),
+      λ c. proper_as (exprs.Call k (map expr_in ms)) (layers.Call k (map expr_in ms)) (exprs.outs-Call k (map expr_in ms)) refl refl (proper.call (arguments_fit e fs ms rs c)),
+    )
 called_good e place standing callable name fs ms (Err NoRoutine) known rs is = record { clean = λ none. absurd cc; made = λ s is. absurd cc }
 called_good e place standing callable name fs ms (Err Ambiguous) known rs is = record { clean = λ none. absurd cc; made = λ s is. absurd cc }
 

@@ -51,7 +51,9 @@ accepted e w standing f m part well none =
 
 pub outside_of_rows : (e : Scene) (view : View) (sight : Sight) → Agree e view sight → sight.row ≡ None → (x : Expr) → IsTrue (as_source (stands x)) → (expr_found x view).fault ≡ None
     → ((expr_found x view).shape ≡ Some (made_of x sight).shape) × ((k : Letter) → Suits (made_of x sight).shape k → IsExpr e (made_of x sight).expr k)
-outside_of_rows e view sight a r x well none = accepted e Control (stands x) (expr_found x view) (made_of x sight) (expr_accepted x e view sight Control a (subst (Fits Control) (sym r) tt)) well none
+outside_of_rows e view sight a r x well none =
+    let g = accepted e Control (stands x) (expr_found x view) (made_of x sight) (expr_accepted x e view sight Control a (subst (Fits Control) (sym r) tt)) well none in
+    (g.0, λ k suits. (g.1 k suits).0)
 
 pub on_rows : (e : Scene) (view : View) (sight : Sight) (row : RowTable (Option SqlType)) (types : List SqlType) → Agree e view sight → sight.row ≡ Some row → HaveTypes row.columns types → (x : Expr) → IsTrue (as_source (stands x)) → (expr_found x view).fault ≡ None
     → ((expr_found x view).shape ≡ Some (made_of x sight).shape) × ((k : Letter) → Suits (made_of x sight).shape k → IsOfLetter (letters_of types) (variables_of e) (made_of x sight).expr k)

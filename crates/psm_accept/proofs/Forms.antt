@@ -61,7 +61,7 @@ made_condition e w standing m s is shape j = subst (λ s. IsMade e w m s × IsNu
 pub made_value : (e : Scene) (w : Where) (standing : Standing) (m : Made) (t : Typed) (s : Shape) → Value t ≡ s → IsValue e w m t → IsMade e w m s × IsNullAlone standing s
 made_value e w standing m t s is v = subst (λ s. IsMade e w m s × IsNullAlone standing s) is (v, tt)
 
-typed_letter : (t : SqlType) → letter_in (family_of (typed t).kind) ≡ letter_of t
+pub typed_letter : (t : SqlType) → letter_in (family_of (typed t).kind) ≡ letter_of t
 typed_letter types.SmallInt = refl
 typed_letter types.Integer = refl
 typed_letter (types.Numeric p s) = refl

@@ -1,5 +1,7 @@
 pub mod Names
 pub mod Choosing
+pub mod ProperParts
+pub mod ProperItems
 pub mod Judging
 pub mod Parts
 pub mod Results
@@ -24,3 +26,10 @@ pub mod Updating
 pub mod Statements
 pub mod Calling
 pub mod Standing
+pub mod ProperForms
+pub mod ProperQueries
+pub mod ProperSlots
+pub mod ProperColumns
+pub mod ProperChanges
+pub mod ProperCalls
+pub mod ProperSimples

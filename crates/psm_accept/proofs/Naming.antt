@@ -41,7 +41,8 @@ use Rattle.psm_accept.specs.Agreement.{Agree, HasSlot}
 use Rattle.psm_accept.specs.Meant.{HasNumber, HasShape, IsConditionMeant, IsCursorMeant, IsLabelMeant, Meant}
 use Rattle.psm_accept.specs.Stands.{as_operand, may_be, stands}
 use Rattle.psm_accept.proofs.Names.{meant_alike, meant_each}
-use Rattle.psm_accept.proofs.Judging.{Control}
+use Rattle.psm_exprcode.specs.declared.op.Letter.TheVariants.{T}
+use Rattle.psm_accept.proofs.Judging.{Judged, Control}
 use Rattle.psm_accept.proofs.Parts.{Part, as_value-clean, neither, of_family-clean, operand_source}
 use Rattle.psm_accept.proofs.Forms.{argument_judged}
 use Rattle.psm_accept.proofs.Accepted.{Fits}
@@ -80,12 +81,15 @@ condition_sound : (e : Scene) (s : places.Sight) (view : View) (sight : Sight) �
 condition_sound e s view sight m (signals.Name n) none = named_condition e (lookup.condition n.name view.frames) (lookup.condition n.name sight.frames) n.place (m.conditions n.name) none
 condition_sound e s view sight m (signals.State state) none = tt
 
-message_sound : (e : Scene) (view : View) (sight : Sight) → Agree e view sight → sight.row ≡ None → (x : Option Expr) → IsTrue (may_be as_operand (option_map stands x)) → message_fault view x ≡ None → IsMessage e (option_map (expr_at sight) x)
-message_sound e view sight a r None well none = tt
-message_sound e view sight a r (Some x) well none =
+pub message_judged : (e : Scene) (view : View) (sight : Sight) → Agree e view sight → sight.row ≡ None → (x : Expr) → IsTrue (as_operand (stands x)) → message_fault view (Some x) ≡ None → Judged e Control (expr_at sight x) T
+message_judged e view sight a r x well none =
     let part : Part e Control (stands x) (expr_found x view) (made_of x sight) = expr_accepted x e view sight Control a (subst (Fits Control) (sym r) tt) in
     let shaped = of_family-clean Texts (as_value (expr_found x view)) (as_value-clean (expr_found x view) (part (operand_source (stands x) well)).clean) none in
     argument_judged e Control Texts (stands x) (expr_found x view) (made_of x sight) part well shaped
+
+message_sound : (e : Scene) (view : View) (sight : Sight) → Agree e view sight → sight.row ≡ None → (x : Option Expr) → IsTrue (may_be as_operand (option_map stands x)) → message_fault view x ≡ None → IsMessage e (option_map (expr_at sight) x)
+message_sound e view sight a r None well none = tt
+message_sound e view sight a r (Some x) well none = (message_judged e view sight a r x well none).0
 
 pub signal_sound : (e : Scene) (s : places.Sight) (view : View) (sight : Sight) → Agree e view sight → Meant e s view sight → sight.row ≡ None → (x : Signalled) → IsTrue (may_be as_operand (option_map stands x.message)) → signalled_fault view x ≡ None
     → IsSignal e (signal_of sight x)

@@ -29,7 +29,7 @@ use Rattle.psm_accept.specs.Agreement.{letter_in}
 use Rattle.psm_accept.specs.Stands.{Standing, are_operands, as_operand, as_source}
 use Rattle.psm_accept.proofs.Judging.{AllJudged, Judged, Where}
 
-true_false : true ≡ false → ⊥
+pub true_false : true ≡ false → ⊥
 true_false e = cc
 
 -- ---- faults
@@ -206,7 +206,7 @@ pub record IsOperand (e : Scene) (w : Where) (f : Found) (m : Made) : Type 0 whe
   pub found : as_value f ≡ sound f.place (Value type)
   pub value : IsValue e w m type
 
-not_null : (s : Standing) → IsTrue (as_operand s) → s ≡ None → ⊥
+pub not_null : (s : Standing) → IsTrue (as_operand s) → s ≡ None → ⊥
 not_null None h is = cc
 not_null (Some b) h is = cc
 

@@ -32,12 +32,13 @@ use Rattle.psm_rules.proofs.Earliest.{first_of_cons}
 use Rattle.psm_tree.specs.declared.expr.SetFunction.{SetFunction}
 use Rattle.psm_tree.specs.declared.expr.SetFunction.TheVariants as sets
 use Rattle.psm_table.specs.Definition.{kinds_of}
+use Rattle.psm_table.specs.declared.definition.Column.{Column}
 use Rattle.psm_tablecode.specs.Codes.{set_function}
 use Rattle.psm_resolved.specs.declared.expr.ResolvedExpr.TheVariants as exprs
 use Rattle.psm_resolved.specs.declared.expr.ResolvedItem.{ResolvedItem, out-roll-ResolvedItem}
 use Rattle.psm_resolved.specs.declared.expr.ResolvedItems.{out-ResolvedItems}
 use Rattle.psm_resolved.specs.declared.expr.ResolvedItems.TheVariants as items
-use Rattle.psm_resolved.specs.declared.expr.ResolvedQuery.{ResolvedQuery, out-roll-ResolvedQuery}
+use Rattle.psm_resolved.specs.declared.expr.ResolvedQuery.{ResolvedQuery, out-ResolvedQuery, out-roll-ResolvedQuery}
 use Rattle.psm_resolved.specs.declared.file.ResolvedTable.{ResolvedTable}
 use Rattle.psm_resolve_expr.specs.declared.made.Made.{Made}
 use Rattle.psm_resolve_expr.specs.declared.made.MadeQuery.{MadeQuery}
@@ -50,6 +51,16 @@ use Rattle.psm_sound.specs.Queries.{AreItems, AreRowValues, AreSets, IsOperand a
 use Rattle.psm_sound.specs.Scene.{Scene, columns_of, letters_of, variables_of}
 use Rattle.psm_accept.specs.Agreement.{AreTables, HaveTypes, letter_in}
 use Rattle.psm_accept.specs.Stands.{Standing, as_operand}
+use Rattle.psm_code.specs.PlanRules.{is_due}
+use Rattle.psm_code.specs.Rules.{is_some as some}
+use Rattle.psm_emit.specs.Queries.{Layer, item_letters}
+use Rattle.psm_exprcode.specs.Kinds.{is_letter}
+use Rattle.psm_proper.specs.Expressions as proper
+use Rattle.psm_proper.specs.Queries.{ProperQuery, are_proper, has_rows}
+use Rattle.psm_proper.specs.Queries.{items_of as items_at}
+use Rattle.psm_resolved.specs.declared.expr.ResolvedExpr.TheOpen as layers
+use Rattle.psm_accept.proofs.ProperParts.{HaveColumns, known_in, proper_as}
+use Rattle.psm_accept.proofs.ProperItems.{AreKnown, AreSetsOf, AreValuesOf, IsSetOf, IsValueOf, count_is, each_at, letter_from, query_is, query_letters, query_proper, rows_known, set_is_of, sets_known, sets_proper, table_in}
 use Rattle.psm_accept.proofs.Judging.{Control, OnRow, column-judged, goes_as_sort, sort_at}
 use Rattle.psm_accept.proofs.Parts.{Clean, IsOperand, IsSane, IsValue, Part, as_value-clean, made_of-clean, made_of-parts, neither, of_family-clean, operand, operand_source, valued}
 use Rattle.psm_accept.proofs.Forms.{argued, made_condition, made_value, without_none, shape_some, typed_value}
@@ -105,6 +116,25 @@ pub all_items_in : (cs : Columns) (ps : List PickFound) → items_in (Some cs) p
 all_items_in cs [] = refl
 all_items_in cs (p ∷ ps) = ap (λ o. joined_items o (items_in (Some cs) ps)) (pick_items_by cs p (is_all p.form)) ∙ ap (joined_items (Some (pick_items cs p))) (all_items_in cs ps)
 
+-- some columns are some items, and so is each other pick
+pick_some : (cs : Columns) (p : PickFound) (b : Bool) → some cs ≡ true → some (if b then map (column_item p.found.place) cs else item_of p.found ∷ []) ≡ true
+pick_some [] p true h = absurd cc
+pick_some (c ∷ cs) p true h = refl
+pick_some cs p false h = refl
+
+appended_some : (is js : List Item) → some is ≡ true → some (is ++ js) ≡ true
+appended_some [] js h = absurd cc
+appended_some (i ∷ is) js h = refl
+
+pub items_some : (cs : Columns) (p : PickFound) (ps : List PickFound) → some cs ≡ true → some (all_items cs (p ∷ ps)) ≡ true
+items_some cs p ps h = appended_some (pick_items cs p) (all_items cs ps) (pick_some cs p (is_all p.form) h)
+
+-- columns are as many as their types, so that some are some
+pub types_some : (cs : Columns) (columns : List Column) → HaveTypes cs (kinds_of columns) → some columns ≡ true → some cs ≡ true
+types_some [] [] h k = k
+types_some [] (c ∷ columns) h k = absurd h
+types_some (c ∷ cs) columns h k = refl
+
 -- items that are values on each row, one for one
 abbrev pub AreValues : Scene → List SqlType → List Item → List Made → Type 0
 AreValues e types [] [] = Unit {0}
@@ -119,6 +149,7 @@ pub record IsSetItem (e : Scene) (types : List SqlType) (i : Item) (item : Resol
   pub made : shape ≡ Value type
   pub sane : IsSane type
   pub set : IsSet (letters_of types) (variables_of e) (rows.set_of item) (letter_in (family_of type.kind))
+  pub known : IsSetOf (letters_of types) (variables_of e) item (letter_in (family_of type.kind))
 
 abbrev pub AreSetItems : Scene → List SqlType → List Item → List (ResolvedItem × Shape) → Type 0
 AreSetItems e types [] [] = Unit {0}
@@ -185,7 +216,7 @@ rows_counted types e = let r = sym (out-roll-ResolvedItem (record { function = c
 
 pub count_good : (e : Scene) (types : List SqlType) (cs : Columns) (place : Place) (alias : Option Spelling)
     → PickGood e types cs (record { form = Set; found = sound place (Value integer); alias = alias }) (OfAll (set_item coded.Count None) (Value integer))
-count_good e types cs place alias none = (refl, (record { type = integer; found = refl; made = refl; sane = record { typed = refl; small = omega arith }; set = rows_counted types e }, tt))
+count_good e types cs place alias none = (refl, (record { type = integer; found = refl; made = refl; sane = record { typed = refl; small = omega arith }; set = rows_counted types e; known = count_is (letters_of types) (variables_of e) }, tt))
 
 set_sane : (function : SetFunction) (t : Typed) → IsSane t → IsSane (set_result function t)
 set_sane sets.Count t h = record { typed = refl; small = omega arith }
@@ -216,23 +247,40 @@ set_is e types function m t v = let r = sym (out-roll-ResolvedItem (record { fun
   subst (λ i. letter_of_set (set_function i.function) (letter_in (family_of t.kind)) ≡ letter_in (family_of (set_result function t).kind)) r (set_letter function t),
 )
 
+from_letter : (function : SetFunction) (t : Typed) → letter_from (set_of function) (letter_in (family_of t.kind)) ≡ letter_in (family_of (set_result function t).kind)
+from_letter sets.Count t = refl
+from_letter sets.Sum t = refl
+from_letter sets.Avg t = refl
+from_letter sets.Min t = refl
+from_letter sets.Max t = refl
+
+value_of : (e : Scene) (types : List SqlType) (m : Made) (t : Typed) → IsValue e (OnRow types) m t → IsValueOf (letters_of types) (variables_of e) m.expr (letter_in (family_of t.kind))
+value_of e types m t v = record { letter = v.judged; value = value_letter (family_of t.kind) }
+
+set_known : (e : Scene) (types : List SqlType) (function : SetFunction) (m : Made) (t : Typed) → IsValue e (OnRow types) m t → is_due (set_of function) (letter_in (family_of t.kind)) ≡ true
+    → IsSetOf (letters_of types) (variables_of e) (set_item (set_of function) (Some m.expr)) (letter_in (family_of (set_result function t).kind))
+set_known e types function m t v due = subst (IsSetOf (letters_of types) (variables_of e) (set_item (set_of function) (Some m.expr))) (from_letter function t)
+    (set_is_of (letters_of types) (variables_of e) (set_of function) m.expr (letter_in (family_of t.kind)) (value_of e types m t v) due)
+
 -- the argument of a set function as it is found
 record IsSetArgument (e : Scene) (types : List SqlType) (function : SetFunction) (f : Found) (m : Made) : Type 0 where
   operand : IsOperand e (OnRow types) f m
   is : shape_of (set_argument function f) ≡ Value operand.type
+  due : is_due (set_of function) (letter_in (family_of operand.type.kind)) ≡ true
 
 any_argument : (e : Scene) (types : List SqlType) (a : Standing) (f : Found) (m : Made) → Part e (OnRow types) a f m → as_operand a ≡ true → is_shaped (as_value f) ≡ true → (o : IsOperand e (OnRow types) f m) × (shape_of (as_value f) ≡ Value o.type)
 any_argument e types a f m p well shaped = let o = operand e (OnRow types) a f m p well shaped in (o, ap shape_of o.found)
 
-number_argument : (e : Scene) (types : List SqlType) (a : Standing) (f : Found) (m : Made) → Part e (OnRow types) a f m → as_operand a ≡ true → is_shaped (argument Numbers f) ≡ true → (o : IsOperand e (OnRow types) f m) × (shape_of (argument Numbers f) ≡ Value o.type)
-number_argument e types a f m p well shaped = let g = argued e (OnRow types) Numbers a f m p well shaped in (g.operand, ap shape_of g.is)
+number_argument : (e : Scene) (types : List SqlType) (a : Standing) (f : Found) (m : Made) → Part e (OnRow types) a f m → as_operand a ≡ true → is_shaped (argument Numbers f) ≡ true
+    → (o : IsOperand e (OnRow types) f m) × (shape_of (argument Numbers f) ≡ Value o.type) × (is_letter N (letter_in (family_of o.type.kind)) ≡ true)
+number_argument e types a f m p well shaped = let g = argued e (OnRow types) Numbers a f m p well shaped in (g.operand, ap shape_of g.is, ap (λ family. is_letter N (letter_in family)) g.of)
 
 set_argued : (e : Scene) (types : List SqlType) (function : SetFunction) (a : Standing) (f : Found) (m : Made) → Part e (OnRow types) a f m → as_operand a ≡ true → is_shaped (set_argument function f) ≡ true → IsSetArgument e types function f m
-set_argued e types sets.Count a f m p well shaped = let o = any_argument e types a f m p well shaped in record { operand = o.0; is = o.1 }
-set_argued e types sets.Sum a f m p well shaped = let o = number_argument e types a f m p well shaped in record { operand = o.0; is = o.1 }
-set_argued e types sets.Avg a f m p well shaped = let o = number_argument e types a f m p well shaped in record { operand = o.0; is = o.1 }
-set_argued e types sets.Min a f m p well shaped = let o = any_argument e types a f m p well shaped in record { operand = o.0; is = o.1 }
-set_argued e types sets.Max a f m p well shaped = let o = any_argument e types a f m p well shaped in record { operand = o.0; is = o.1 }
+set_argued e types sets.Count a f m p well shaped = let o = any_argument e types a f m p well shaped in record { operand = o.0; is = o.1; due = value_letter (family_of o.0.type.kind) }
+set_argued e types sets.Sum a f m p well shaped = let o = number_argument e types a f m p well shaped in record { operand = o.0; is = o.1; due = o.2 }
+set_argued e types sets.Avg a f m p well shaped = let o = number_argument e types a f m p well shaped in record { operand = o.0; is = o.1; due = o.2 }
+set_argued e types sets.Min a f m p well shaped = let o = any_argument e types a f m p well shaped in record { operand = o.0; is = o.1; due = value_letter (family_of o.0.type.kind) }
+set_argued e types sets.Max a f m p well shaped = let o = any_argument e types a f m p well shaped in record { operand = o.0; is = o.1; due = value_letter (family_of o.0.type.kind) }
 
 set_argument_clean : (e : Scene) (types : List SqlType) (function : SetFunction) (a : Standing) (f : Found) (m : Made) → Part e (OnRow types) a f m → as_operand a ≡ true → Clean (set_argument function f)
 set_argument_clean e types sets.Count a f m p well = as_value-clean f (p (operand_source a well)).clean
@@ -267,6 +315,7 @@ aggregate_good e types cs place function alias a f m p well none =
           made = ap (shape_of_set function) g.operand.value.shape;
           sane = set_sane function t g.operand.value.sane;
           set = set_is e types function m t g.operand.value;
+          known = set_known e types function m t g.operand.value g.due;
         },
         tt,
       ),
@@ -316,6 +365,20 @@ values_are e types (i ∷ is) (m ∷ ms) h =
       (subst (IsRowValue (letters_of types) (variables_of e) m.expr) (sym due) (row_value_of e types m h.0 h.2), more.1),
     )
 
+values_known : (e : Scene) (types : List SqlType) (is : List Item) (ms : List Made) → AreValues e types is ms → AreValuesOf (letters_of types) (variables_of e) (map expr_in ms) (map letter_due (shapes_in ms))
+values_known e types [] [] h = tt
+values_known e types [] (m ∷ ms) h = absurd h
+values_known e types (i ∷ is) [] h = absurd h
+values_known e types (i ∷ is) (m ∷ ms) h =
+    (subst (IsValueOf (letters_of types) (variables_of e) m.expr) (sym (ap letter_due h.2.shape)) (value_of e types m h.0 h.2), values_known e types is ms h.3)
+
+-- some items are made of some
+values_some : (e : Scene) (types : List SqlType) (is : List Item) (ms : List Made) → AreValues e types is ms → some is ≡ true → some (map expr_in ms) ≡ true
+values_some e types [] [] h k = k
+values_some e types [] (m ∷ ms) h k = absurd h
+values_some e types (i ∷ is) [] h k = absurd h
+values_some e types (i ∷ is) (m ∷ ms) h k = refl
+
 abbrev set_shapes : List (ResolvedItem × Shape) → List Shape
 set_shapes ss = map (λ p. p.1) ss
 
@@ -330,6 +393,12 @@ sets_are e types (i ∷ is) (s ∷ ss) h =
       (record { type = h.0.type; found = h.0.found; made = h.0.made; sane = h.0.sane; letter = due }, more.0),
       (subst (IsSet (letters_of types) (variables_of e) (rows.set_of s.0)) (sym due) h.0.set, more.1),
     )
+
+all_sets_known : (e : Scene) (types : List SqlType) (is : List Item) (ss : List (ResolvedItem × Shape)) → AreSetItems e types is ss → AreSetsOf (letters_of types) (variables_of e) (map (λ p. p.0) ss) (map letter_due (set_shapes ss))
+all_sets_known e types [] [] h = tt
+all_sets_known e types [] (s ∷ ss) h = absurd h
+all_sets_known e types (i ∷ is) [] h = absurd h
+all_sets_known e types (i ∷ is) (s ∷ ss) h = (subst (IsSetOf (letters_of types) (variables_of e) s.0) (sym (ap letter_due h.0.made)) h.0.known, all_sets_known e types is ss h.1)
 
 values_append : (e : Scene) (types : List SqlType) (is js : List Item) (ms ns : List Made) → AreValues e types is ms → AreValues e types js ns → AreValues e types (is ++ js) (ms ++ ns)
 values_append e types [] js [] ns h k = k
@@ -371,6 +440,30 @@ pub record ItemsMade (e : Scene) (types : List SqlType) (is : List Item) (ms : L
   pub letters : List Letter
   pub shapes : ItemsAre is (shapes_of (values_in ms) (sets_in ms)) letters
   pub sound : AreItems (letters_of types) (variables_of e) (rows.items_of (out-ResolvedItems (making.items_of (values_in ms) (sets_in ms)))) letters
+  pub known : AreKnown (letters_of types) (variables_of e) (out-ResolvedItems (making.items_of (values_in ms) (sets_in ms))) letters
+  pub proper : some is ≡ true → are_proper (letters_of types) (variables_of e) (out-ResolvedItems (making.items_of (values_in ms) (sets_in ms))) ≡ true
+
+-- what is made of values alone, and of set functions
+record MadeProper (columns variables : List Letter) (items : Layer) (ks : List Letter) (given : Bool) : Type 0 where
+  known : AreKnown columns variables items ks
+  proper : given ≡ true → are_proper columns variables items ≡ true
+
+rows_proper : (e : Scene) (types : List SqlType) (is : List Item) (values : List Made) (ss : List (ResolvedItem × Shape)) → ss ≡ [] → AreValues e types is values
+    → MadeProper (letters_of types) (variables_of e) (out-ResolvedItems (making.items_of values ss)) (map letter_due (shapes_in values)) (some is)
+rows_proper e types is values ss none h =
+    subst (λ ss. MadeProper (letters_of types) (variables_of e) (out-ResolvedItems (making.items_of values ss)) (map letter_due (shapes_in values)) (some is)) (sym none)
+    (subst (λ o. MadeProper (letters_of types) (variables_of e) o (map letter_due (shapes_in values)) (some is)) (sym (items.outs-Rows (map expr_in values)))
+    (record { known = rows_known (letters_of types) (variables_of e) (map expr_in values) (map letter_due (shapes_in values)) (values_known e types is values h); proper = values_some e types is values h }))
+
+made_sets_proper : (e : Scene) (types : List SqlType) (is : List Item) (values : List Made) (s : ResolvedItem × Shape) (ss : List (ResolvedItem × Shape)) → AreSetItems e types is (s ∷ ss)
+    → MadeProper (letters_of types) (variables_of e) (out-ResolvedItems (making.items_of values (s ∷ ss))) (map letter_due (set_shapes (s ∷ ss))) (some is)
+made_sets_proper e types is values s ss h =
+    let v = all_sets_known e types is (s ∷ ss) h in
+    subst (λ o. MadeProper (letters_of types) (variables_of e) o (map letter_due (set_shapes (s ∷ ss))) (some is)) (sym (items.outs-Sets (map (λ p. p.0) (s ∷ ss))))
+    (record {
+      known = sets_known (letters_of types) (variables_of e) (map (λ p. p.0) (s ∷ ss)) (map letter_due (set_shapes (s ∷ ss))) v;
+      proper = λ given. sets_proper (letters_of types) (variables_of e) s.0 (map (λ p. p.0) ss) (map letter_due (set_shapes (s ∷ ss))) v;
+    })
 
 made_rows : (e : Scene) (types : List SqlType) (is : List Item) (values : List Made) (ss : List (ResolvedItem × Shape)) → ss ≡ [] → AreValues e types is values
     → ItemsAre is (shapes_of values ss) (map letter_due (shapes_in values)) × AreItems (letters_of types) (variables_of e) (rows.items_of (out-ResolvedItems (making.items_of values ss))) (map letter_due (shapes_in values))
@@ -389,15 +482,18 @@ sets_first : (e : Scene) (types : List SqlType) (cs : Columns) (p : PickFound) (
     → ItemsMade e types (all_items cs (p ∷ ps)) (m ∷ ms)
 sets_first e types cs p ps (Values made) ms h all = absurd (differ (sym (both (is_set p.form) (list_all (λ p. is_set p.form) ps) all).0 ∙ h.0.0))
 sets_first e types cs p ps (OfAll item shape) ms h all =
-    let v = made_sets e types (all_items cs (p ∷ ps)) (values_in ms) (item, shape) (sets_in ms) (all_sets e types cs (p ∷ ps) (OfAll item shape ∷ ms) h all) in
-    record { letters = map letter_due (set_shapes ((item, shape) ∷ sets_in ms)); shapes = v.0; sound = v.1 }
+    let given = all_sets e types cs (p ∷ ps) (OfAll item shape ∷ ms) h all in
+    let v = made_sets e types (all_items cs (p ∷ ps)) (values_in ms) (item, shape) (sets_in ms) given in
+    let q = made_sets_proper e types (all_items cs (p ∷ ps)) (values_in ms) (item, shape) (sets_in ms) given in
+    record { letters = map letter_due (set_shapes ((item, shape) ∷ sets_in ms)); shapes = v.0; sound = v.1; known = q.known; proper = q.proper }
 
 items_by : (e : Scene) (types : List SqlType) (cs : Columns) (p : PickFound) (ps : List PickFound) (m : MadePick) (ms : List MadePick) (d : Option Place) (b : Bool) → PicksAre e types cs (p ∷ ps) (m ∷ ms)
     → first_set (p ∷ ps) ≡ d → list_all (λ p. is_set p.form) (p ∷ ps) ≡ b → misplaced_set (not b) d ≡ None → ItemsMade e types (all_items cs (p ∷ ps)) (m ∷ ms)
 items_by e types cs p ps m ms None b h is all none =
     let v = no_sets e types cs (p ∷ ps) (m ∷ ms) h is in
     let w = made_rows e types (all_items cs (p ∷ ps)) (values_in (m ∷ ms)) (sets_in (m ∷ ms)) v.1 v.0 in
-    record { letters = map letter_due (shapes_in (values_in (m ∷ ms))); shapes = w.0; sound = w.1 }
+    let q = rows_proper e types (all_items cs (p ∷ ps)) (values_in (m ∷ ms)) (sets_in (m ∷ ms)) v.1 v.0 in
+    record { letters = map letter_due (shapes_in (values_in (m ∷ ms))); shapes = w.0; sound = w.1; known = q.known; proper = q.proper }
 items_by e types cs p ps m ms (Some place) true h is all none = sets_first e types cs p ps m ms h all
 items_by e types cs p ps m ms (Some place) false h is all none = absurd cc
 
@@ -411,24 +507,43 @@ pub record IsQueryMade (e : Scene) (is : List Item) (m : MadeQuery) : Type 0 whe
   pub letters : List Letter
   pub shapes : ItemsAre is m.shapes letters
   pub sound : IsQuery e m.query letters
+  pub known : item_letters (known_in e) m.query ≡ letters
+  pub proper : HaveColumns e → ProperQuery (known_in e) m.query
 
 pub query_made_of : (e : Scene) (is : List Item) (table : ℕ) (there : ResolvedTable) (ms : List MadePick) (test : Option Made) → slice_get e.file.tables table ≡ Some there → ItemsMade e (kinds_of there.definition.columns) is ms
-    → IsRowTest (columns_of there) (variables_of e) (optional_in test) → IsQueryMade e is (query_of table ms test)
-query_made_of e is table there ms test h i t =
-    let r = sym (out-roll-ResolvedQuery (record { table = table; downward = false; items = making.items_of (values_in ms) (sets_in ms); test = optional_in test })) in record {
+    → IsRowTest (columns_of there) (variables_of e) (optional_in test) → (some there.definition.columns ≡ true → some is ≡ true) → IsQueryMade e is (query_of table ms test)
+query_made_of e is table there ms test h i t given =
+    let r = sym (out-roll-ResolvedQuery (record { table = table; downward = false; items = making.items_of (values_in ms) (sets_in ms); test = optional_in test })) in
+    let made : ResolvedQuery = (query_of table ms test).query in
+    let at : slice_get e.file.tables (table_in made) ≡ Some there = subst (λ o. slice_get e.file.tables o.table ≡ Some there) r h in
+    let row_test : IsRowTest (columns_of there) (variables_of e) (out-ResolvedQuery made).test = subst (λ o. IsRowTest (columns_of there) (variables_of e) o.test) r t in
+    let known : AreKnown (columns_of there) (variables_of e) (items_at made) i.letters = subst (λ o. AreKnown (columns_of there) (variables_of e) (out-ResolvedItems o.items) i.letters) r i.known in
+    record {
       letters = i.letters;
       shapes = i.shapes;
+      known = query_letters e made there i.letters at known;
+      proper = λ c. query_proper e made there at (query_is e made there i.letters at known row_test)
+          (subst (λ o. are_proper (columns_of there) (variables_of e) (out-ResolvedItems o.items) ≡ true) r (i.proper (given (each_at (λ t. some t.definition.columns ≡ true) e.file.tables table there c h))));
       sound = record {
         table = there;
-        there = subst (λ o. slice_get e.file.tables o.table ≡ Some there) r h;
+        there = at;
         items = subst (λ o. AreItems (columns_of there) (variables_of e) (rows.items_of (out-ResolvedItems o.items)) i.letters) r i.sound;
-        test = subst (λ o. IsRowTest (columns_of there) (variables_of e) o.test) r t;
+        test = row_test;
       };
     }
 
--- a query without a fault has items, and is sound
+-- a query without a fault has items, is sound, and has rows where no set function stands in it
 abbrev pub QueryGood : Scene → QueryFound → MadeQuery → Type 0
-QueryGood e f m = query_fault f ≡ None → (is : List Item) × (faults.items_of f ≡ Some is) × IsQueryMade e is m
+QueryGood e f m = query_fault f ≡ None → (is : List Item) × (faults.items_of f ≡ Some is) × IsQueryMade e is m × (first_set f.picks ≡ None → has_rows (items_at m.query) ≡ true)
+
+no_rows_lost : (values : List Made) (ss : List (ResolvedItem × Shape)) → ss ≡ [] → has_rows (out-ResolvedItems (making.items_of values ss)) ≡ true
+no_rows_lost values ss none = subst (λ ss. has_rows (out-ResolvedItems (making.items_of values ss)) ≡ true) (sym none) (ap has_rows (items.outs-Rows (map expr_in values)))
+
+pub rows_made : (e : Scene) (types : List SqlType) (cs : Columns) (table : ℕ) (ps : List PickFound) (ms : List MadePick) (test : Option Made) → Picks e types cs ps ms → items_fault ps ≡ None → first_set ps ≡ None
+    → has_rows (items_at (query_of table ms test).query) ≡ true
+rows_made e types cs table ps ms test h none first =
+    let r = sym (out-roll-ResolvedQuery (record { table = table; downward = false; items = making.items_of (values_in ms) (sets_in ms); test = optional_in test })) in
+    subst (λ o. has_rows (out-ResolvedItems o.items) ≡ true) r (no_rows_lost (values_in ms) (sets_in ms) (no_sets e types cs ps ms (picks_are e types cs ps ms h none) first).1)
 
 without_clean : (place : Place) (x : Option Fault) (o : Option Shape) → (x ≡ None → is_some o ≡ true) → Clean (faults.without_fault place x o)
 without_clean place None o h = λ none. h refl
@@ -440,7 +555,10 @@ exists_part e place b f m h well = record {
   made = λ s is.
       let none = without_none place (query_fault f) (Some Condition) s is in
       let good : IsQueryMade e (h well none.0).0 m = (h well none.0).2 in
-      made_condition e Control (Some b) (making.condition (exprs.Exists m.query)) s (some_inside Condition s none.1) refl (typed_expr.exists m.query good.letters (exprs.outs-Exists m.query) good.sound);
+      made_condition e Control (Some b) (making.condition (exprs.Exists m.query)) s (some_inside Condition s none.1) refl (
+        typed_expr.exists m.query good.letters (exprs.outs-Exists m.query) good.sound,
+        λ c. proper_as (exprs.Exists m.query) (layers.Exists m.query) (exprs.outs-Exists m.query) refl refl (proper.exists (good.proper c)),
+      );
 }
   where
     some_inside : (a b : Shape) → Some a ≡ Some b → a ≡ b
@@ -452,18 +570,25 @@ record IsScalar (e : Scene) (is : List Item) (m : MadeQuery) : Type 0 where
   found : faults.only_shape (Some is) ≡ Some (Value type)
   value : IsValue e Control (record { expr = exprs.Scalar m.query; shape = making.only_shape m.shapes }) type
 
-scalar_by : (e : Scene) (is : List Item) (shapes : List Shape) (ks : List Letter) (query : ResolvedQuery) → nat_eq (length is) 1 ≡ true → ItemsAre is shapes ks → IsQuery e query ks → IsScalar e is (record { query = query; shapes = shapes })
-scalar_by e [] shapes ks query one h sound = absurd cc
-scalar_by e (i ∷ []) (s ∷ []) (k ∷ []) query one h sound = record {
+scalar_by : (e : Scene) (is : List Item) (shapes : List Shape) (ks : List Letter) (query : ResolvedQuery) → nat_eq (length is) 1 ≡ true → ItemsAre is shapes ks → IsQuery e query ks → (HaveColumns e → ProperQuery (known_in e) query) → IsScalar e is (record { query = query; shapes = shapes })
+scalar_by e [] shapes ks query one h sound good = absurd cc
+scalar_by e (i ∷ []) (s ∷ []) (k ∷ []) query one h sound good = record {
   type = h.0.type;
   found = h.0.found;
-  value = record { shape = h.0.made; sane = h.0.sane; judged = typed_expr.scalar query (exprs.outs-Scalar query) (subst (λ k. IsQuery e query (k ∷ [])) h.0.letter sound) };
+  value = record {
+    shape = h.0.made;
+    sane = h.0.sane;
+    judged = (
+      typed_expr.scalar query (exprs.outs-Scalar query) (subst (λ k. IsQuery e query (k ∷ [])) h.0.letter sound),
+      λ c. proper_as (exprs.Scalar query) (layers.Scalar query) (exprs.outs-Scalar query) refl refl (proper.scalar (good c)),
+    );
+  };
 }
-scalar_by e (i ∷ []) [] ks query one h sound = absurd h
-scalar_by e (i ∷ []) (s ∷ ss) [] query one h sound = absurd h
-scalar_by e (i ∷ []) (s ∷ []) (k ∷ l ∷ ks) query one h sound = absurd h.1
-scalar_by e (i ∷ []) (s ∷ t ∷ ss) (k ∷ ks) query one h sound = absurd h.1
-scalar_by e (i ∷ j ∷ is) shapes ks query one h sound = absurd (more_than_one (length is) one)
+scalar_by e (i ∷ []) [] ks query one h sound good = absurd h
+scalar_by e (i ∷ []) (s ∷ ss) [] query one h sound good = absurd h
+scalar_by e (i ∷ []) (s ∷ []) (k ∷ l ∷ ks) query one h sound good = absurd h.1
+scalar_by e (i ∷ []) (s ∷ t ∷ ss) (k ∷ ks) query one h sound good = absurd h.1
+scalar_by e (i ∷ j ∷ is) shapes ks query one h sound good = absurd (more_than_one (length is) one)
   where
     more_than_one : (n : ℕ) → nat_eq (suc (suc n)) 1 ≡ true → ⊥
     more_than_one n h = grind (arith, nat_tests, h)
@@ -480,7 +605,7 @@ scalar_of e f m h none =
     let c = counted_by f (faults.may_be 1 (faults.items_of f)) refl none in
     let good = h c.1 in
     let one : nat_eq (length good.0) 1 ≡ true = ap (faults.may_be 1) (sym good.1) ∙ c.0 in
-    (good.0, good.1, scalar_by e good.0 m.shapes good.2.letters m.query one good.2.shapes good.2.sound)
+    (good.0, good.1, scalar_by e good.0 m.shapes good.2.letters m.query one good.2.shapes good.2.sound good.2.proper)
 
 pub scalar_part : (e : Scene) (place : Place) (b : Bool) (f : QueryFound) (m : MadeQuery) → (b ≡ true → QueryGood e f m)
     → Part e Control (Some b) (faults.without_fault place (faults.counted_fault 1 f) (faults.only_shape (faults.items_of f))) (record { expr = exprs.Scalar m.query; shape = making.only_shape m.shapes })

@@ -4,7 +4,6 @@ use Rattle.std.specs.Prelude.{IfSome, IsTrue, if◌then◌else◌, nat_eq, not, 
 use Rattle.std.proofs.lemmas.Bool.Decides.{nat_tests}
 use Rattle.psm_token.specs.declared.place.Place.{Place}
 use Rattle.psm_value.specs.declared.sqltype.SqlType.{SqlType}
-use Rattle.psm_value.specs.declared.sqltype.SqlType.TheVariants as types
 use Rattle.psm_exprcode.specs.declared.op.Letter.{Letter}
 use Rattle.psm_exprcode.specs.Kinds.{letter_of}
 use Rattle.psm_scope.specs.Lookup.{meant}
@@ -36,11 +35,12 @@ use Rattle.psm_sound.specs.Expressions.{IsExpr}
 use Rattle.psm_sound.specs.Queries.{IsQuery}
 use Rattle.psm_sound.specs.Scene.{Each, IsThere, Scene}
 use Rattle.psm_sound.specs.Statements.{IsFor, IsSlot}
-use Rattle.psm_accept.specs.Agreement.{Agree, HasSlot, IsWithin, letter_in}
+use Rattle.psm_accept.specs.Agreement.{Agree, HasSlot, IsWithin}
 use Rattle.psm_accept.specs.Stands.{Standing, as_source, select_stands, stands}
 use Rattle.psm_accept.proofs.Names.{meant_alike, meant_each}
 use Rattle.psm_accept.proofs.Judging.{Source, Where, Control}
 use Rattle.psm_accept.proofs.Parts.{IsResult, IsSourceOf, Part, as_value-clean, neither, result, same_family}
+use Rattle.psm_accept.proofs.Forms.{typed_letter}
 use Rattle.psm_accept.proofs.Results.{Agrees}
 use Rattle.psm_accept.proofs.Choices.{source_of}
 use Rattle.psm_accept.proofs.Queries.{ItemsAre}
@@ -48,13 +48,6 @@ use Rattle.psm_accept.proofs.Accepted.{Fits}
 use Rattle.psm_accept.proofs.Whole.{expr_accepted, query_accepted, three_none}
 
 -- ---- sources
-
-typed_letter : (t : SqlType) → letter_in (family_of (typed t).kind) ≡ letter_of t
-typed_letter types.SmallInt = refl
-typed_letter types.Integer = refl
-typed_letter (types.Numeric p s) = refl
-typed_letter (types.Char n) = refl
-typed_letter (types.VarChar n) = refl
 
 mixed_by : (place : Place) (family : Family) (s : Shape) (b : Bool) → is_of family s ≡ b → breaks_if (not b) rule.FamiliesMixed place ≡ None → is_of family s ≡ true
 mixed_by place family s true is none = is
@@ -76,10 +69,14 @@ source_by e w standing f m to part well none =
     subst (Source e w m.expr) (typed_letter to) (source_of e w m r.shape family r.source (agrees_by e w m family r.shape r.source of))
 
 -- the same outside of rows, where the type is that of a declaration
+pub source_at : (e : Scene) (view : View) (sight : Sight) → Agree e view sight → sight.row ≡ None → (x : Expr) → IsTrue (as_source (stands x)) → (o : Option SqlType) (to : SqlType) → o ≡ Some to → source_fault o (expr_found x view) ≡ None
+    → Source e Control (expr_at sight x) (letter_of to)
+source_at e view sight a r x well o to is none =
+    source_by e Control (stands x) (expr_found x view) (made_of x sight) to (expr_accepted x e view sight Control a (subst (Fits Control) (sym r) tt)) well (ap (λ o. source_fault o (expr_found x view)) (sym is) ∙ none)
+
 pub source_for : (e : Scene) (view : View) (sight : Sight) → Agree e view sight → sight.row ≡ None → (x : Expr) → IsTrue (as_source (stands x)) → (o : Option SqlType) (to : SqlType) → o ≡ Some to → source_fault o (expr_found x view) ≡ None
     → IsExpr e (expr_at sight x) (letter_of to)
-source_for e view sight a r x well o to is none =
-    source_by e Control (stands x) (expr_found x view) (made_of x sight) to (expr_accepted x e view sight Control a (subst (Fits Control) (sym r) tt)) well (ap (λ o. source_fault o (expr_found x view)) (sym is) ∙ none)
+source_for e view sight a r x well o to is none = (source_at e view sight a r x well o to is none).0
 
 -- ---- targets
 

@@ -37,10 +37,10 @@ use Rattle.psm_accept.proofs.Changing.{IsKnownTable, agree_on, fits_on, known_ta
 use Rattle.psm_accept.proofs.Whole.{expr_accepted, three_none}
 
 -- a column that is there, with its type
-record IsThereAs (cs : Columns) (kinds : List SqlType) (n : Identifier) : Type 0 where
-  type : SqlType
-  known : type_of_column cs n ≡ Some type
-  there : slice_get kinds (column_of cs n) ≡ Some type
+pub record IsThereAs (cs : Columns) (kinds : List SqlType) (n : Identifier) : Type 0 where
+  pub type : SqlType
+  pub known : type_of_column cs n ≡ Some type
+  pub there : slice_get kinds (column_of cs n) ≡ Some type
 
 type_known : (cs : Columns) (n : Identifier) (t : SqlType) → named n.name cs ≡ Some (Some t) → type_of_column cs n ≡ Some t
 type_known cs n t h = cc
@@ -55,7 +55,7 @@ column_by cs kinds n (Some p) is h none =
       there = ap (λ here. slice_get kinds (place_in here)) is ∙ subst (λ i. slice_get kinds i ≡ Some h.type) from h.there;
     }
 
-column_there : (cs : Columns) (kinds : List SqlType) (n : Identifier) → HaveTypes cs kinds → column_fault (Some cs) n ≡ None → IsThereAs cs kinds n
+pub column_there : (cs : Columns) (kinds : List SqlType) (n : Identifier) → HaveTypes cs kinds → column_fault (Some cs) n ≡ None → IsThereAs cs kinds n
 column_there cs kinds n h none = column_by cs kinds n (place_named 0 n.name cs) refl (columns_placed n.name 0 cs kinds h) (ap (λ o. breaks_if (not (is_some o)) rule.UnknownColumn n.place) (sym (named_placed n.name 0 cs)) ∙ none)
 
 change_sound : (e : Scene) (view : View) (sight : Sight) → Agree e view sight → (table : Identifier) (k : IsKnownTable e view sight table) (x : Assignment) → IsTrue (as_source (stands x.source))
