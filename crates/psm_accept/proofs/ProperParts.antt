@@ -34,7 +34,7 @@ allowed : (layer : Layer) → allows false layer ≡ true → allows true layer 
 allowed layers.Null h = refl
 allowed layer h = refl
 
--- where nothing but NULL may not stand, more may stand
+-- what is proper where NULL may not stand is proper where it may
 pub widened : {known : Known} {x : ResolvedExpr} → Proper known false x → Proper known true x
 widened {known} {x} (proper.proper a w p) = proper.proper (allowed (out-ResolvedExpr x) a) w p
 
