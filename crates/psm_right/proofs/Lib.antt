@@ -40,3 +40,6 @@ pub mod Placed
 pub mod BlocksLawful
 pub mod AllLawful
 pub mod ContextsRight
+pub mod Faultless
+pub mod OneEnd
+pub mod RowLines
