@@ -15,6 +15,7 @@ use Rattle.psm_resolved.specs.declared.statement.ResolvedDeclaration.{ResolvedDe
 use Rattle.psm_resolved.specs.declared.statement.ResolvedSet.{ResolvedSet}
 use Rattle.psm_resolved.specs.declared.statement.ResolvedSimple.{ResolvedSimple}
 use Rattle.psm_resolved.specs.declared.statement.ResolvedWhere.{ResolvedWhere}
+use Rattle.psm_code.specs.declared.code.CodeCursor.{CodeCursor}
 use Rattle.psm_code.specs.declared.code.Plan.{Plan}
 use Rattle.psm_code.specs.declared.code.Plan.TheVariants as plans
 use Rattle.psm_code.specs.declared.code.RawCode.{RawCode}
@@ -32,7 +33,9 @@ use Rattle.psm_emit.specs.Queries.{TestMade, item_letters}
 use Rattle.psm_emit.specs.Simples.{CallArguments, Declares, Default, Deletes, Signals, Updates, WritesRows, WritesSimple, cleared, condition_items, copied, item_stored, more_operands, number_op, procedure_number, retrieved, statement_items, stored}
 use Rattle.psm_emit.specs.Simples as written
 use Rattle.psm_emit.specs.Written.{Written, applied, last_letter, letters_at, plain, puts, takes, with_query}
-use Rattle.psm_emit.proofs.Placing.{Kept}
+use Rattle.psm_emit.specs.Writing.{BeginsWith}
+use Rattle.psm_emit.proofs.Growing.{Grown}
+use Rattle.psm_emit.proofs.Growth.{begins-before}
 use Rattle.psm_emit.proofs.There.{there_at}
 use Rattle.psm_proper.specs.Expressions.{PerhapsProper}
 use Rattle.psm_proper.specs.Simples.{AreSets, ProperArguments, ProperSimple, ProperWhere, RowOf}
@@ -87,6 +90,17 @@ queries-iterates (AroundBlock l inner outer exit ∷ around) level context w = q
 queries-iterates (Rows inner outer ∷ around) level context w = queries-iterates around level outer (plain context (instruction.Exit inner) w)
 
 -- ---- what a routine has so far
+
+-- the queries and the cursors so far are the first ones of a routine
+pub record Begun (queries : List Query) (cursors : List CodeCursor) (r : RawRoutine) : Type 0 where
+  pub asked : BeginsWith queries r.queries
+  pub declared : BeginsWith cursors r.cursors
+
+abbrev pub Inside : Parts → RawRoutine → Type 0
+Inside p r = Begun p.code.queries p.cursors r
+
+pub inside-earlier : {but : ℕ → Bool} {p q : Parts} {r : RawRoutine} → Grown but p q → Inside q r → Inside p r
+inside-earlier g i = record { asked = begins-before g.code.queries i.asked; declared = begins-before g.cursors i.declared }
 
 -- none of its queries, cursors and plans breaks a rule
 abbrev pub Fine : RawCode → RawRoutine → Parts → Type 0
@@ -151,7 +165,7 @@ module _ {e : Scene} {known : Known} {code : RawCode} {r : RawRoutine} (holds : 
   -- ---- simple statements
 
   pub simple-fine : (letters : List (List Letter)) (s : Sight) → Each (IsHere known r) s.cursors → {context resume : ℕ} {around : List Around} {x : ResolvedSimple} {p q : Parts} → WritesSimple known context resume around x p q
-      → IsSimple e s x → ProperSimple e known letters s x → Kept q r → Fine code r p → Fine code r q
+      → IsSimple e s x → ProperSimple e known letters s x → Inside q r → Fine code r p → Fine code r q
   simple-fine letters s each (written.set a) t y k f = (writes-clear holds a (_, t.source) y f.0, f.1, f.2)
   simple-fine letters s each {context = context} {resume = resume} (written.call {procedure = procedure} {args = args} {p = p} {w = w} a) t y k f =
       let n = procedure_number known procedure in
@@ -175,7 +189,7 @@ module _ {e : Scene} {known : Known} {code : RawCode} {r : RawRoutine} (holds : 
   simple-fine letters s each {context = context} (written.insert_query {table = table} {columns = columns} {p = p} {code = made} m) t y k f =
       let number = length p.code.queries in
       (asked-clear holds (cleared context p) f.0 m y.2 t.2.1, f.1,
-      with-plan (plans.InsertQuery table columns number) p.plans f.2 (insert_query-faultless holds table t.0 t.1 columns number y.1 m (there_at p.code.queries k.code.queries) y.3))
+      with-plan (plans.InsertQuery table columns number) p.plans f.2 (insert_query-faultless holds table t.0 t.1 columns number y.1 m (there_at p.code.queries k.asked) y.3))
   simple-fine letters s each (written.update {table = table} {sets = sets} {rows = x} {p = p} {plan = plan} u) t y k f = (f.0, f.1, with-plan plan p.plans f.2 (updates-faultless s table t.0 sets x plan t.1 each u y.1 y.2))
   simple-fine letters s each (written.delete {table = table} {rows = x} {p = p} {plan = plan} d) t y k f = (f.0, f.1, with-plan plan p.plans f.2 (deletes-faultless s table t.0 x plan t.1 each d y.1))
   simple-fine letters s each written.open_ t y k f = f
