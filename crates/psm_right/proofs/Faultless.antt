@@ -1,5 +1,6 @@
 -- Lines of a listing that break no rule, one part behind another.
-use Rattle.std.proofs.Common.{◌≡◌, ℕ, suc, List, [], ◌∷◌, ◌++◌, map, Option, None, ap, refl, ◌∙◌}
+use Rattle.std.proofs.Common.{◌≡◌, ℕ, zero, suc, List, [], ◌∷◌, ◌++◌, map, Option, Some, None, ap, refl, subst, ◌∙◌}
+use Rattle.std.specs.Prelude.{slice_get}
 use Rattle.std.specs.List.{flat_map}
 use Rattle.psm_code.specs.declared.rule.CodeRule.{CodeRule}
 use Rattle.psm_code.specs.Rules.{fault_in}
@@ -20,6 +21,12 @@ faultless-flat f (x ∷ xs) h = faultless-append (f x) (flat_map f xs) h.0 (faul
 pub faultless-map : {A : Type 0} (f : A → Option CodeRule) (xs : List A) → Each (λ x. f x ≡ None) xs → Faultless (map f xs)
 faultless-map f [] h = tt
 faultless-map f (x ∷ xs) h = (h.0, faultless-map f xs h.1)
+
+-- one of some is as each of them
+pub each-at : {A : Type 0} (P : A → Type 0) (xs : List A) (n : ℕ) (x : A) → Each P xs → slice_get xs n ≡ Some x → P x
+each-at P [] n x h q = absurd (cc)
+each-at P (y ∷ ys) zero x h q = let same : y ≡ x = cc in subst P same h.0
+each-at P (y ∷ ys) (suc n) x h q = each-at P ys n x h.1 q
 
 -- such a listing has no first fault
 pub faultless-none : (n : ℕ) (fs : List (Option CodeRule)) → Faultless fs → fault_in n fs ≡ None

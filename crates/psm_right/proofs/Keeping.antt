@@ -45,7 +45,7 @@ use Rattle.psm_right.specs.Kept.{FunctionTakes, Keeps, KeepsFunction, QueriesKee
 
 -- ---- parameters and slots
 
-slots-kept : (ps : List ResolvedParameter) (ts : List SqlType) → Begin ps ts → map (λ p. p.kind) (map parameter_of ps) ++ drop (length ps) ts ≡ ts
+pub slots-kept : (ps : List ResolvedParameter) (ts : List SqlType) → Begin ps ts → map (λ p. p.kind) (map parameter_of ps) ++ drop (length ps) ts ≡ ts
 slots-kept [] ts h = refl
 slots-kept (p ∷ ps) [] h = absurd h
 slots-kept (p ∷ ps) (t ∷ ts) h = ap₂ (λ s ss. s ∷ ss) h.0 (slots-kept ps ts h.1)
