@@ -1,5 +1,5 @@
 -- The queries that are added where lines are written for sound, proper expressions break no rule.
-use Rattle.std.proofs.Common.{◌≡◌, ◌++◌, ℕ, Bool, true, List, [], ◌∷◌, Option, Some, None, length, ap, refl, sym, subst, ◌∙◌}
+use Rattle.std.proofs.Common.{◌≡◌, ℕ, Bool, true, List, [], ◌∷◌, Option, length, refl, sym, subst}
 use Rattle.std.proofs.lemmas.Bool.{false≢true}
 use Rattle.psm_exprcode.specs.declared.op.Letter.{Letter}
 use Rattle.psm_exprcode.specs.declared.op.Letter.TheVariants.{N}
@@ -27,15 +27,12 @@ use Rattle.psm_sound.specs.Expressions.{AreLinks, AreWhens, IsElse, IsExpr}
 use Rattle.psm_sound.specs.Expressions as sound
 use Rattle.psm_sound.specs.Queries.{IsQuery}
 use Rattle.psm_sound.specs.Scene.{Each, Scene}
+use Rattle.psm_sound.proofs.Answers.{each-append}
 use Rattle.psm_right.proofs.Faultless.{Faultless}
 use Rattle.psm_right.proofs.Propers.{of_call, of_case, of_chain, of_coalesce, of_first, of_junction, of_just, of_link, of_rest, of_straight, of_when, proper-layer}
 use Rattle.psm_right.proofs.QueriesRight.{Holds, query-faultless}
 use Rattle.psm_right.proofs.Sounds.{IsSound, all-sound, exprs-sound, operands-sound}
 use Rattle.psm_right.proofs.Typing.{sound-layer}
-
-pub each-more : {A : Type 0} (P : A → Type 0) (xs : List A) (x : A) → Each P xs → P x → Each P (xs ++ x ∷ [])
-each-more P [] x h p = (p, tt)
-each-more P (y ∷ ys) x h p = (h.0, each-more P ys x h.1 p)
 
 -- operations leave the queries as they are
 pub queries-applied : (context resume count : ℕ) (k : Letter) (os : List Op) (w : Written) → (all_applied context resume count k os w).queries ≡ w.queries
@@ -56,7 +53,7 @@ Clear code r w = Each (λ q. Faultless (query_faults code r q)) w.queries
 
 module _ {e : Scene} {known : Known} {code : RawCode} {r : RawRoutine} (holds : Holds e known code r) where
   pub asked-clear : {query : ResolvedQuery} {made : Query} {ks : List Letter} (w : Written) → Clear code r w → QueryMade known query made → ProperQuery known query → IsQuery e query ks → Clear code r (with_query made w)
-  asked-clear {made = made} w c m p is = each-more (λ q. Faultless (query_faults code r q)) w.queries made c (query-faultless holds m p is)
+  asked-clear {made = made} w c m p is = each-append (λ q. Faultless (query_faults code r q)) w.queries (made ∷ []) c (query-faultless holds m p is, tt)
 
   all_applied-clear : (context resume count : ℕ) (k : Letter) (os : List Op) (w : Written) → Clear code r w → Clear code r (all_applied context resume count k os w)
   all_applied-clear context resume count k os w c = subst (λ qs. Each (λ q. Faultless (query_faults code r q)) qs) (sym (queries-applied context resume count k os w)) c

@@ -1,5 +1,5 @@
 -- The queries, cursors and plans of a routine that is written for one of an accepted file break no rule.
-use Rattle.std.proofs.Common.{◌≡◌, ◌+◌, ◌++◌, ℕ, zero, suc, List, [], ◌∷◌, Option, Some, None, length, map, ap, ap₂, refl, sym, subst, ◌∙◌, arith, append-nil}
+use Rattle.std.proofs.Common.{◌≡◌, ◌++◌, ℕ, zero, suc, List, [], ◌∷◌, Some, None, length, map, ap, ap₂, refl, sym, subst, ◌∙◌, arith, append-nil}
 use Rattle.std.specs.List.{flat_map}
 use Rattle.std.specs.Prelude.{slice_get}
 use Rattle.psm_exprcode.specs.Kinds.{letter_of}
@@ -9,23 +9,20 @@ use Rattle.psm_resolved.specs.declared.file.ResolvedTable.{ResolvedTable}
 use Rattle.psm_code.specs.declared.code.CodeTable.{CodeTable}
 use Rattle.psm_code.specs.declared.code.RawCode.{RawCode}
 use Rattle.psm_code.specs.declared.code.RawRoutine.{RawRoutine}
-use Rattle.psm_code.specs.Instructions.{variables_of}
-use Rattle.psm_code.specs.Parts.{slots_of}
 use Rattle.psm_code.specs.PlanRules.{cursor_fault, plan_faults, query_faults}
-use Rattle.psm_emit.specs.Files.{FileWritten, RoutineWritten, known_of, no_parts}
-use Rattle.psm_emit.specs.Parts.{Parts}
+use Rattle.psm_emit.specs.Files.{FileWritten, RoutineWritten, known_of}
 use Rattle.psm_emit.specs.Queries.{TablesMade}
 use Rattle.psm_emit.specs.Standing.{CountsUp, cursors_of}
 use Rattle.psm_emit.specs.Writing.{BeginsWith}
 use Rattle.psm_emit.proofs.Numbering.{counted, counts-to}
 use Rattle.psm_proper.specs.Files.{ProperFile, ProperRoutine, scene_of}
 use Rattle.psm_sound.specs.Scene.{Begin, Each}
-use Rattle.psm_right.proofs.Data.{Fine}
-use Rattle.psm_right.proofs.DataWalk.{statement-fine}
+use Rattle.psm_right.proofs.Adding.{Fine}
+use Rattle.psm_right.proofs.AddingAll.{statement-fine}
 use Rattle.psm_right.proofs.Faultless.{Faultless, each-at, faultless-flat, faultless-map}
 use Rattle.psm_right.proofs.Keeping.{slots-kept}
-use Rattle.psm_right.proofs.Lettered.{Knows, columns-made, queries-keep}
-use Rattle.psm_right.proofs.QueriesRight.{Holds, IsTable}
+use Rattle.psm_right.proofs.QueryLetters.{Knows, columns-made, queries-keep}
+use Rattle.psm_right.proofs.QueriesRight.{Holds}
 use Rattle.psm_right.specs.Kept.{QueriesKeep}
 
 -- ---- tables

@@ -43,3 +43,16 @@ pub mod ContextsRight
 pub mod Faultless
 pub mod OneEnd
 pub mod RowLines
+pub mod QueryLetters
+pub mod QueriesRight
+pub mod Sounds
+pub mod Asked
+pub mod Tables
+pub mod PlansRight
+pub mod Adding
+pub mod AddingAll
+pub mod DataRight
+pub mod Names
+pub mod TablesRight
+pub mod HeadsRight
+pub mod Unbroken

@@ -1,7 +1,6 @@
 -- Plans of sound, proper changes break no rule.
 use Rattle.std.proofs.Common.{◌≡◌, ◌++◌, ℕ, Bool, true, false, ◌&&◌, not, List, [], ◌∷◌, map, nat_eq, Option, Some, None, option_map, if◌then◌else◌, ap, refl, sym, subst, ◌∙◌}
-use Rattle.std.specs.List.{list_all}
-use Rattle.std.specs.Prelude.{find, slice_get}
+use Rattle.std.specs.Prelude.{slice_get}
 use Rattle.std.proofs.lemmas.Bool.{eqb-true, eq-eqb, false≢true}
 use Rattle.psm_num.proofs.Literals.{and_first, and_second}
 use Rattle.psm_exprcode.specs.declared.op.Letter.{Letter}
@@ -10,7 +9,7 @@ use Rattle.psm_exprcode.specs.declared.query.Query.{Query}
 use Rattle.psm_exprcode.specs.declared.set_item.SetItem.{SetItem}
 use Rattle.psm_exprcode.proofs.Stripping.{is_letter-self, same_stack-self}
 use Rattle.psm_resolved.specs.declared.expr.ResolvedExpr.{ResolvedExpr}
-use Rattle.psm_resolved.specs.declared.expr.ResolvedQuery.{ResolvedQuery, out-ResolvedQuery}
+use Rattle.psm_resolved.specs.declared.expr.ResolvedQuery.{ResolvedQuery}
 use Rattle.psm_resolved.specs.declared.file.ResolvedTable.{ResolvedTable}
 use Rattle.psm_resolved.specs.declared.statement.ResolvedCursor.{ResolvedCursor}
 use Rattle.psm_resolved.specs.declared.statement.ResolvedSet.{ResolvedSet}
@@ -19,7 +18,7 @@ use Rattle.psm_code.specs.declared.code.RawCode.{RawCode}
 use Rattle.psm_code.specs.declared.code.RawRoutine.{RawRoutine}
 use Rattle.psm_code.specs.declared.rule.CodeRule.TheVariants.{Range, Definition}
 use Rattle.psm_code.specs.Instructions.{columns_at, letters_of_query, variables_of}
-use Rattle.psm_code.specs.PlanRules.{are_items, columns_there, cursor_table, fits_columns, is_column_letter, is_positioned, or_none, plan_faults, set_faults, set_line, sets_in, table_of_query, test_in}
+use Rattle.psm_code.specs.PlanRules.{are_items, columns_there, cursor_table, fits_columns, is_column_letter, is_positioned, or_none, plan_faults, set_faults, sets_in, table_of_query, test_in}
 use Rattle.psm_code.specs.Rules.{are_distinct, each_after, is_among, is_some, is_there, there, where_there}
 use Rattle.psm_code.specs.TableRules.{are_there, is_column_list}
 use Rattle.psm_emit.specs.declared.known.Known.{Known}
@@ -31,13 +30,11 @@ use Rattle.psm_sound.specs.Scene.{Each, Scene}
 use Rattle.psm_sound.specs.Statements.{Sight}
 use Rattle.psm_sound.proofs.Fetching.{find-each}
 use Rattle.psm_right.proofs.Faultless.{Faultless, faultless-append}
-use Rattle.psm_right.proofs.Lettered.{made-letters}
+use Rattle.psm_right.proofs.Lines.{both}
+use Rattle.psm_right.proofs.QueryLetters.{made-letters}
 use Rattle.psm_right.proofs.QueriesRight.{Holds, as-known, test-faultless}
 use Rattle.psm_right.proofs.RowLines.{fit-faultless, none_of-two, none_unless}
 use Rattle.psm_right.proofs.Tables.{all-columns-there, column-letter, column-there, columns-letters, table-there}
-
-both : {a b : Bool} → a ≡ true → b ≡ true → (a && b) ≡ true
-both {a} {b} h k = ap (λ x. x && b) h ∙ k
 
 -- ---- columns that are named once
 

@@ -1,5 +1,5 @@
 -- Queries that are made of proper ones, and cursors over them, break no rule.
-use Rattle.std.proofs.Common.{◌≡◌, ◌++◌, ℕ, Bool, true, false, ◌&&◌, List, [], ◌∷◌, map, Option, Some, None, ap, refl, sym, subst, ◌∙◌}
+use Rattle.std.proofs.Common.{◌≡◌, ℕ, Bool, true, List, [], ◌∷◌, Option, Some, None, ap, refl, sym, subst, ◌∙◌}
 use Rattle.std.specs.List.{flat_map, list_all}
 use Rattle.std.specs.Prelude.{slice_get}
 use Rattle.std.proofs.lemmas.Bool.{false≢true}
@@ -33,9 +33,9 @@ use Rattle.psm_emit.specs.Written.{letters_at}
 use Rattle.psm_proper.specs.Queries.{ProperQuery, are_proper, is_operand, is_set_function, items_of}
 use Rattle.psm_proper.specs.Queries as proper
 use Rattle.psm_sound.specs.Queries.{IsQuery}
-use Rattle.psm_sound.specs.Scene.{Each, Scene}
+use Rattle.psm_sound.specs.Scene.{Scene}
 use Rattle.psm_right.proofs.Faultless.{Faultless, faultless-append}
-use Rattle.psm_right.proofs.Lettered.{Knows, made-items}
+use Rattle.psm_right.proofs.QueryLetters.{Knows, made-items}
 use Rattle.psm_right.proofs.RowLines.{fit-faultless, none_of-two}
 
 -- ---- items

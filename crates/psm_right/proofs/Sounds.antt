@@ -1,5 +1,5 @@
 -- The operands of a sound expression whose parts are evaluated one after another are sound.
-use Rattle.std.proofs.Common.{◌≡◌, true, List, [], ◌∷◌, Some, None}
+use Rattle.std.proofs.Common.{◌≡◌, true, List, Some, None}
 use Rattle.std.proofs.lemmas.Bool.{false≢true}
 use Rattle.psm_exprcode.specs.declared.op.Letter.{Letter}
 use Rattle.psm_resolved.specs.declared.expr.ResolvedExpr.{ResolvedExpr}

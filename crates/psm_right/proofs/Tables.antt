@@ -1,6 +1,5 @@
 -- Tables and their columns in the code.
-use Rattle.std.proofs.Common.{◌≡◌, ℕ, Bool, true, false, ◌&&◌, List, [], ◌∷◌, map, Option, Some, None, option_map, ap, ap₂, refl, sym, ◌∙◌}
-use Rattle.std.specs.List.{list_all}
+use Rattle.std.proofs.Common.{◌≡◌, ℕ, true, ◌&&◌, List, [], ◌∷◌, map, Option, Some, None, option_map, ap, ap₂, refl, ◌∙◌}
 use Rattle.std.specs.Prelude.{slice_get}
 use Rattle.std.proofs.lemmas.Bool.{false≢true}
 use Rattle.std.proofs.lemmas.Option.{slice_get-map}
@@ -21,7 +20,6 @@ use Rattle.psm_code.specs.TableRules.{are_there}
 use Rattle.psm_emit.specs.declared.known.Known.{Known}
 use Rattle.psm_emit.specs.Simples.{letters_of_columns}
 use Rattle.psm_emit.specs.Written.{letter_at, letters_at}
-use Rattle.psm_proper.specs.Simples.{AreColumns}
 use Rattle.psm_sound.specs.Scene.{Scene}
 use Rattle.psm_right.proofs.QueriesRight.{Holds, IsTable}
 
@@ -80,7 +78,3 @@ module _ {e : Scene} {known : Known} {code : RawCode} {r : RawRoutine} (holds : 
   columns-letters ns h =
       letters-all (columns_at code table) ns (ap (λ ls. are_there ls ns) columns-are ∙ all-there t.definition.columns ns ∙ h)
       ∙ ap (λ ls. Some (map (letter_at ls) ns)) (holds.knows.columns table) ∙ ap Some (columns-all known table ns)
-
-  -- as an instruction sees them
-  pub letters-in : (ns : List ℕ) → are_there t.definition.columns ns ≡ true → letters_in ns (table_letters code table) ≡ Some (letters_of_columns known table ns)
-  letters-in ns h = ap (λ o. letters_in ns (option_map code_letters.column_letters o)) is.there ∙ sym (ap (λ ls. code_letters.letters_at ls ns) (ap columns_of_table is.there)) ∙ columns-letters ns h

@@ -1,6 +1,6 @@
 -- The queries, cursors and plans that a simple statement adds to its routine break no rule.
 use Rattle.std.specs.Prelude.{slice_get}
-use Rattle.std.proofs.Common.{◌≡◌, ◌-◌, ◌++◌, ℕ, Bool, true, false, List, [], ◌∷◌, Option, Some, None, length, nat_eq, if◌then◌else◌, ap, refl, sym, subst, ◌∙◌}
+use Rattle.std.proofs.Common.{◌≡◌, ◌++◌, ℕ, Bool, true, false, List, [], ◌∷◌, Option, Some, None, length, nat_eq, if◌then◌else◌, refl, sym, subst}
 use Rattle.psm_cond.specs.declared.item.ConditionItem.{ConditionItem}
 use Rattle.psm_cond.specs.declared.item.StatementItem.{StatementItem}
 use Rattle.psm_exprcode.specs.declared.op.Letter.{Letter}
@@ -22,13 +22,13 @@ use Rattle.psm_code.specs.declared.code.RawCode.{RawCode}
 use Rattle.psm_code.specs.declared.code.RawRoutine.{RawRoutine}
 use Rattle.psm_code.specs.declared.instruction.Instruction.{Instruction}
 use Rattle.psm_code.specs.declared.instruction.Instruction.TheVariants as instruction
-use Rattle.psm_code.specs.Instructions.{condition_letter, statement_letter}
+use Rattle.psm_code.specs.Instructions.{statement_letter}
 use Rattle.psm_code.specs.PlanRules.{cursor_fault, plan_faults, query_faults}
 use Rattle.psm_lower.specs.Scheme.{slots_given}
 use Rattle.psm_emit.specs.declared.around.Around.{Around}
 use Rattle.psm_emit.specs.declared.around.Around.TheVariants.{Loop, Block as AroundBlock, Rows}
 use Rattle.psm_emit.specs.declared.known.Known.{Known}
-use Rattle.psm_emit.specs.Parts.{Parts, iterates, leaves, with_code}
+use Rattle.psm_emit.specs.Parts.{Parts, iterates, leaves}
 use Rattle.psm_emit.specs.Queries.{TestMade, item_letters}
 use Rattle.psm_emit.specs.Simples.{CallArguments, Declares, Default, Deletes, Signals, Updates, WritesRows, WritesSimple, cleared, condition_items, copied, item_stored, more_operands, number_op, procedure_number, retrieved, statement_items, stored}
 use Rattle.psm_emit.specs.Simples as written
@@ -42,7 +42,8 @@ use Rattle.psm_proper.specs.Simples.{AreSets, ProperArguments, ProperSimple, Pro
 use Rattle.psm_proper.specs.Statements.{ProperDeclaration}
 use Rattle.psm_sound.specs.Scene.{Each, Scene}
 use Rattle.psm_sound.specs.Statements.{AreArguments, IsDeclaration, IsDefault, IsMessage, IsSimple, Sight}
-use Rattle.psm_right.proofs.Asked.{Clear, arguments-clear, asked-clear, each-more, writes-clear}
+use Rattle.psm_sound.proofs.Answers.{each-append}
+use Rattle.psm_right.proofs.Asked.{Clear, arguments-clear, asked-clear, writes-clear}
 use Rattle.psm_right.proofs.Faultless.{Faultless}
 use Rattle.psm_right.proofs.PlansRight.{IsHere, delete-faultless, delete_all-faultless, delete_at-faultless, insert-faultless, insert_query-faultless, update-faultless, update_at-faultless}
 use Rattle.psm_right.proofs.Propers.{of_just}
@@ -160,7 +161,7 @@ module _ {e : Scene} {known : Known} {code : RawCode} {r : RawRoutine} (holds : 
   deletes-faultless s table t x plan at each (written.delete_current {cursor = cursor}) p = delete_at-faultless holds s table cursor each p
 
   with-plan : (plan : Plan) (before : List Plan) → Each (λ x. Faultless (plan_faults code r x)) before → Faultless (plan_faults code r plan) → Each (λ x. Faultless (plan_faults code r x)) (before ++ plan ∷ [])
-  with-plan plan before h k = each-more (λ x. Faultless (plan_faults code r x)) before plan h k
+  with-plan plan before h k = each-append (λ x. Faultless (plan_faults code r x)) before (plan ∷ []) h (k, tt)
 
   -- ---- simple statements
 

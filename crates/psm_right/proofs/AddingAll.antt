@@ -1,13 +1,12 @@
 -- The queries, cursors and plans that a sound, proper statement adds to its routine break no rule.
-use Rattle.std.proofs.Common.{◌≡◌, ◌+◌, ◌++◌, ℕ, suc, Bool, true, false, List, [], ◌∷◌, Option, Some, None, length, map, nat_eq, ap, refl, sym, subst, ◌∙◌, arith, length-append}
+use Rattle.std.proofs.Common.{◌≡◌, ◌++◌, ℕ, suc, false, List, [], ◌∷◌, None, length, ap, sym, subst, ◌∙◌, arith}
 use Rattle.std.specs.Prelude.{slice_get}
 use Rattle.psm_exprcode.specs.declared.op.Letter.{Letter}
 use Rattle.psm_exprcode.specs.declared.op.Letter.TheVariants.{B}
-use Rattle.psm_exprcode.specs.declared.query.Query.{Query}
-use Rattle.psm_resolved.specs.declared.statement.ResolvedBlock.{ResolvedBlock, out-ResolvedBlock}
-use Rattle.psm_resolved.specs.declared.statement.ResolvedBranch.{ResolvedBranch, out-ResolvedBranch}
+use Rattle.psm_resolved.specs.declared.statement.ResolvedBlock.{out-ResolvedBlock}
+use Rattle.psm_resolved.specs.declared.statement.ResolvedBranch.{ResolvedBranch}
 use Rattle.psm_resolved.specs.declared.statement.ResolvedCursor.{ResolvedCursor}
-use Rattle.psm_resolved.specs.declared.statement.ResolvedHandler.{ResolvedHandler, out-ResolvedHandler}
+use Rattle.psm_resolved.specs.declared.statement.ResolvedHandler.{ResolvedHandler}
 use Rattle.psm_resolved.specs.declared.statement.ResolvedStatement.{ResolvedStatement, out-ResolvedStatement}
 use Rattle.psm_resolved.specs.declared.statement.ResolvedStatement.TheOpen as layers
 use Rattle.psm_code.specs.declared.code.RawCode.{RawCode}
@@ -16,14 +15,14 @@ use Rattle.psm_code.specs.declared.instruction.Instruction.TheVariants as instru
 use Rattle.psm_code.specs.PlanRules.{cursor_fault}
 use Rattle.psm_emit.specs.declared.around.Around.{Around}
 use Rattle.psm_emit.specs.declared.known.Known.{Known}
-use Rattle.psm_emit.specs.Parts.{Parts, at, block_entered, next_context, with_code}
+use Rattle.psm_emit.specs.Parts.{Parts, at, block_entered, next_context}
 use Rattle.psm_emit.specs.Queries.{cursor_of}
 use Rattle.psm_emit.specs.Standing.{CountsUp, Layer, cursors_of, numbers_of}
 use Rattle.psm_emit.specs.Statements.{WritesBranches, WritesComparisons, WritesCursors, WritesElse, WritesHandlers, WritesStatement, WritesStatements, opened, passed, with_cursor}
 use Rattle.psm_emit.specs.Statements as written
 use Rattle.psm_emit.specs.Writing.{BeginsWith}
 use Rattle.psm_emit.specs.Written.{letters_at, puts}
-use Rattle.psm_emit.proofs.Growing.{Grown, grown-cursors, grown-passed, length-snoc, no_context}
+use Rattle.psm_emit.proofs.Growing.{grown-cursors, grown-passed, length-snoc, no_context}
 use Rattle.psm_emit.proofs.GrowingAll.{grown-all, grown-branches, grown-comparisons, grown-else, grown-handlers}
 use Rattle.psm_emit.proofs.Growth.{begins-before, grows-writes}
 use Rattle.psm_emit.proofs.Numbering.{block_cursors-out, branch_cursors-out, counted, counted-all, counted-branches, counted-comparisons, counted-cursors, counted-handlers, counts-split, cursors-out, cursors_in, cursors_in_branches, cursors_in_handlers, cursors_of_branch, cursors_of_handler, handler_cursors-out, passed-cursors}
@@ -31,9 +30,10 @@ use Rattle.psm_emit.proofs.There.{there_at}
 use Rattle.psm_proper.specs.Statements.{AreActions, AreBranches, AreProper, IsProper, Letters, ProperCursor}
 use Rattle.psm_proper.specs.Statements as of
 use Rattle.psm_sound.specs.Scene.{Each, Scene}
-use Rattle.psm_sound.specs.Statements.{IsCursor, Sight, in_action, inside, looping, over_rows}
-use Rattle.psm_right.proofs.Asked.{asked-clear, each-more, writes-clear}
-use Rattle.psm_right.proofs.Data.{Fine, Inside, clear-as, declares-clear, inside-earlier, queries-stored, simple-fine}
+use Rattle.psm_sound.specs.Statements.{IsCursor, Sight}
+use Rattle.psm_sound.proofs.Answers.{each-append}
+use Rattle.psm_right.proofs.Asked.{asked-clear, writes-clear}
+use Rattle.psm_right.proofs.Adding.{Fine, Inside, clear-as, declares-clear, inside-earlier, queries-stored, simple-fine}
 use Rattle.psm_right.proofs.PlansRight.{IsHere}
 use Rattle.psm_right.proofs.ProperForms.{of_branch, of_compared, of_compound, of_for, of_handler, of_if, of_loop, of_more, of_repeat, of_searched, of_simple, of_while, parted}
 use Rattle.psm_right.proofs.QueriesRight.{Holds, cursor-faultless}
@@ -74,10 +74,6 @@ module _ {e : Scene} {known : Known} {letters : Letters} {s : Sight} where
 counts-as : (from to : ℕ) {xs ys : List ℕ} → xs ≡ ys → CountsUp from xs to → CountsUp from ys to
 counts-as from to e n = subst (λ ns. CountsUp from ns to) e n
 
-each-both : {A : Type 0} (P : A → Type 0) (xs ys : List A) → Each P xs → Each P ys → Each P (xs ++ ys)
-each-both P [] ys a b = b
-each-both P (x ∷ xs) ys a b = (a.0, each-both P xs ys a.1 b)
-
 -- cursors that are written are there by their numbers
 cursors-here : {known : Known} {r : RawRoutine} (to : ℕ) {xs : List ResolvedCursor} {p q : Parts} → WritesCursors known xs p q → Inside q r → CountsUp (length p.cursors) (numbers_of xs) to → Each (IsHere known r) xs
 cursors-here to written.no_cursor i n = tt
@@ -97,7 +93,7 @@ module _ {e : Scene} {known : Known} {code : RawCode} {r : RawRoutine} (holds : 
       let c = cursor_of x (length p.code.queries) in
       let here : Inside (with_cursor known x made p) r = inside-earlier {but = no_context} (grown-cursors others) i in
       let mine : cursor_fault r c ≡ None = cursor-faultless holds c m proper.0.rows (there_at p.code.queries here.asked) in
-      cursors-fine others is.1 proper.1 i (asked-clear holds p.code f.0 m proper.0.query is.0.query, each-more (λ y. cursor_fault r y ≡ None) p.cursors c f.1 mine, f.2)
+      cursors-fine others is.1 proper.1 i (asked-clear holds p.code f.0 m proper.0.query is.0.query, each-append (λ y. cursor_fault r y ≡ None) p.cursors (c ∷ []) f.1 (mine, tt), f.2)
 
   passed-fine : (context start : ℕ) (hs : List ResolvedHandler) (p : Parts) → Fine code r p → Fine code r (passed context start hs p)
   passed-fine context start [] p f = f
@@ -119,7 +115,7 @@ module _ {e : Scene} {known : Known} {code : RawCode} {r : RawRoutine} (holds : 
         (counts-as (length p.cursors) (length c.cursors) (cursors-out x n ∙ block_cursors-out block) count) (length started.cursors) (omega (arith, ap length (passed-cursors k (at b) o.handlers entered), counted-cursors cursors)) in
         let others = counts-split (length started.cursors) (cursors_in_handlers o.handlers) (cursors_in o.statements) (length c.cursors) mine.1 (length b.cursors) (counted-handlers handlers) in
         let own = cursors-here (length started.cursors) cursors i_a mine.0 in
-        let seen = each-both (IsHere known r) o.cursors s.cursors own each in
+        let seen = each-append (IsHere known r) o.cursors s.cursors own each in
         let first = cursors-fine cursors (declared-in proper n) parts.cursors i_a (declares-clear holds declarations parts.declared parts.proper f.0, f.1, f.2) in
         let actions = handlers-fine seen handlers parts.actions i_b others.0 (passed-fine k (at b) o.handlers entered first) in
         all-fine seen statements parts.statements i others.1 actions

@@ -16,7 +16,6 @@ use Rattle.psm_resolved.specs.declared.expr.ResolvedExpr.TheOpen as layers
 use Rattle.psm_resolved.specs.declared.expr.ResolvedItem.{ResolvedItem, out-ResolvedItem}
 use Rattle.psm_resolved.specs.declared.expr.ResolvedItems.{out-ResolvedItems}
 use Rattle.psm_resolved.specs.declared.expr.ResolvedQuery.{ResolvedQuery, out-ResolvedQuery}
-use Rattle.psm_resolved.specs.declared.file.ResolvedFile.{ResolvedFile}
 use Rattle.psm_resolved.specs.declared.file.ResolvedTable.{ResolvedTable}
 use Rattle.psm_resolved.specs.Sort.{sort_of}
 use Rattle.psm_code.specs.declared.code.CodeTable.{CodeTable}
@@ -25,7 +24,7 @@ use Rattle.psm_code.specs.declared.code.RawRoutine.{RawRoutine}
 use Rattle.psm_code.specs.Instructions.{columns_at, columns_of_table, letters_of_query, set_letter, variables_of}
 use Rattle.psm_code.specs.Instructions as code_letters
 use Rattle.psm_emit.specs.declared.known.Known.{Known}
-use Rattle.psm_emit.specs.Queries.{AggregatesFit, ExprsFit, ItemsFit, Layer, OperandFits, QueryMade, TableMade, TablesMade, column_letters, item_letters, letter_of_item, letter_of_set, letter_of_sort, letters_of_layer}
+use Rattle.psm_emit.specs.Queries.{AggregatesFit, ExprsFit, ItemsFit, Layer, OperandFits, QueryMade, TablesMade, column_letters, item_letters, letter_of_item, letter_of_set, letter_of_sort, letters_of_layer}
 use Rattle.psm_emit.specs.Written.{letters_at}
 use Rattle.psm_right.specs.Kept.{QueriesKeep}
 use Rattle.psm_right.proofs.RowLines.{fit-letter}
