@@ -188,9 +188,11 @@ module _ {e : Scene} {known : Known} {code : RawCode} {r : RawRoutine} (holds : 
   simple-fine letters s each (written.insert {table = table} {columns = columns} {rows = rows} {p = p} w) t y k f =
       (rows-clear _ w y.2 f.0, f.1, with-plan (plans.Insert table columns (length rows)) p.plans f.2 (insert-faultless holds table t.0 t.1 columns (length rows) y.1))
   simple-fine letters s each {context = context} (written.insert_query {table = table} {columns = columns} {p = p} {code = made} m) t y k f =
-      let number = length p.code.queries in
-      (asked-clear holds (cleared context p) f.0 m y.2 t.2.1, f.1,
-      with-plan (plans.InsertQuery table columns number) p.plans f.2 (insert_query-faultless holds table t.0 t.1 columns number y.1 m (there_at p.code.queries k.asked) y.3))
+      let number = length p.code.queries in (
+        asked-clear holds (cleared context p) f.0 m y.2 t.2.1,
+        f.1,
+        with-plan (plans.InsertQuery table columns number) p.plans f.2 (insert_query-faultless holds table t.0 t.1 columns number y.1 m (there_at p.code.queries k.asked) y.3),
+      )
   simple-fine letters s each (written.update {table = table} {sets = sets} {rows = x} {p = p} {plan = plan} u) t y k f = (f.0, f.1, with-plan plan p.plans f.2 (updates-faultless s table t.0 sets x plan t.1 each u y.1 y.2))
   simple-fine letters s each (written.delete {table = table} {rows = x} {p = p} {plan = plan} d) t y k f = (f.0, f.1, with-plan plan p.plans f.2 (deletes-faultless s table t.0 x plan t.1 each d y.1))
   simple-fine letters s each written.open_ t y k f = f

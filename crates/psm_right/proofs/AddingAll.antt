@@ -37,6 +37,7 @@ use Rattle.psm_right.proofs.Adding.{Fine, Inside, clear-as, declares-clear, insi
 use Rattle.psm_right.proofs.PlansRight.{IsHere}
 use Rattle.psm_right.proofs.ProperForms.{of_branch, of_compared, of_compound, of_for, of_handler, of_if, of_loop, of_more, of_repeat, of_searched, of_simple, of_while, parted}
 use Rattle.psm_right.proofs.QueriesRight.{Holds, cursor-faultless}
+use Rattle.psm_right.proofs.Walking.{counts-as}
 
 -- ---- cursors that a statement declares
 
@@ -69,10 +70,7 @@ module _ {e : Scene} {known : Known} {letters : Letters} {s : Sight} where
   declared-in : {x : ResolvedStatement} {layer : Layer} → IsProper e known letters s x → out-ResolvedStatement x ≡ layer → Declared e layer
   declared-in p n = subst (Declared e) n (declared p)
 
--- ---- numbers
-
-counts-as : (from to : ℕ) {xs ys : List ℕ} → xs ≡ ys → CountsUp from xs to → CountsUp from ys to
-counts-as from to e n = subst (λ ns. CountsUp from ns to) e n
+-- ---- cursors by their numbers
 
 -- cursors that are written are there by their numbers
 cursors-here : {known : Known} {r : RawRoutine} (to : ℕ) {xs : List ResolvedCursor} {p q : Parts} → WritesCursors known xs p q → Inside q r → CountsUp (length p.cursors) (numbers_of xs) to → Each (IsHere known r) xs
@@ -81,9 +79,10 @@ cursors-here {known} {r} to (written.cursor {x = x} {xs = xs} {p = p} made m oth
     let next = with_cursor known x made p in
     let number = length p.code.queries in
     let here : Inside next r = inside-earlier {but = no_context} (grown-cursors others) i in
-    let longer : length next.cursors ≡ suc (length p.cursors) = length-snoc p.cursors (cursor_of x number) in
-    (record { number = number; there = ap (slice_get r.cursors) n.0 ∙ there_at p.cursors here.declared; made = made; query = there_at p.code.queries here.asked; is = m },
-    cursors-here to others i (subst (λ k. CountsUp k (numbers_of xs) to) (sym longer) n.1))
+    let longer : length next.cursors ≡ suc (length p.cursors) = length-snoc p.cursors (cursor_of x number) in (
+      record { number = number; there = ap (slice_get r.cursors) n.0 ∙ there_at p.cursors here.declared; made = made; query = there_at p.code.queries here.asked; is = m },
+      cursors-here to others i (subst (λ k. CountsUp k (numbers_of xs) to) (sym longer) n.1),
+    )
 
 module _ {e : Scene} {known : Known} {code : RawCode} {r : RawRoutine} (holds : Holds e known code r) (letters : Letters) where
   -- they are over queries that have rows

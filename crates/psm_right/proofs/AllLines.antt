@@ -1,5 +1,5 @@
 -- No line of a routine that is written for a proper file breaks a rule: neither those of its body nor the one behind it.
-use Rattle.std.proofs.Common.{arith, ◌≡◌, ◌++◌, ℕ, zero, suc, true, List, [], ◌∷◌, length, map, Option, Some, None, ap, refl, sym, subst, ◌∙◌, append-nil}
+use Rattle.std.proofs.Common.{arith, ◌≡◌, ◌++◌, ℕ, suc, true, [], ◌∷◌, length, map, Option, Some, None, ap, refl, sym, subst, ◌∙◌}
 use Rattle.std.specs.Prelude.{slice_get}
 use Rattle.std.specs.List.{list_all}
 use Rattle.std.proofs.lemmas.Bool.{le-leb}
@@ -18,29 +18,22 @@ use Rattle.psm_emit.specs.Written.{Written, here}
 use Rattle.psm_emit.specs.Writing.{BeginsWith}
 use Rattle.psm_emit.proofs.Growing.{length-snoc}
 use Rattle.psm_emit.proofs.GrowingAll.{grown-statement}
-use Rattle.psm_emit.proofs.Placing.{Kept}
 use Rattle.psm_emit.proofs.There.{line_of}
 use Rattle.psm_sound.specs.Scene.{Each, Scene}
 use Rattle.psm_proper.specs.Files.{ProperFile, ProperRoutine, is_passed, scene_of}
 use Rattle.psm_right.specs.Frame.{Follows, Free}
 use Rattle.psm_right.specs.Kept.{FunctionTakes, QueriesKeep}
+use Rattle.psm_right.proofs.Faultless.{each-at}
 use Rattle.psm_right.proofs.Frees.{free-as}
 use Rattle.psm_right.proofs.KnownAll.{KeepsAll, conditions-kept, tables-kept}
 use Rattle.psm_right.proofs.Lines.{free-join}
+use Rattle.psm_right.proofs.PartsKept.{begins-same, parts-kept}
 use Rattle.psm_right.proofs.Plains.{end-free, no_return-free}
 use Rattle.psm_right.proofs.Procedures.{all-kept}
 use Rattle.psm_right.proofs.Putting.{follows-as, line-starts}
 use Rattle.psm_right.proofs.Statements.{Good}
 use Rattle.psm_right.proofs.Walking.{statement-good}
 use Rattle.psm_right.proofs.Whole.{routine-none}
-
-pub each-at : {A : Type 0} (P : A → Type 0) (xs : List A) (n : ℕ) (x : A) → Each P xs → slice_get xs n ≡ Some x → P x
-each-at P [] n x h e = absurd (cc)
-each-at P (y ∷ xs) zero x h e = let same : y ≡ x = cc in subst P same h.0
-each-at P (y ∷ xs) (suc n) x h e = each-at P xs n x h.1 e
-
-begins-same : {A : Type 0} {xs ys : List A} → ys ≡ xs → BeginsWith xs ys
-begins-same {xs = xs} e = record { more = []; is = e ∙ sym (append-nil xs) }
 
 -- a function has IN parameters alone
 function-takes : (file : ResolvedFile) (routine : ResolvedRoutine) → ProperRoutine file routine → FunctionTakes routine
@@ -57,16 +50,6 @@ module _ (file : ResolvedFile) (code : RawCode) (routine : ResolvedRoutine) (r :
   abbrev scene : Scene
   scene = scene_of file routine proper.shapes
 
-  routine-kept : Kept w.parts r
-  routine-kept = record {
-    code = record { lines = record { more = _; is = w.lines }; queries = begins-same w.queries };
-    contexts = begins-same w.contexts;
-    handlers = begins-same w.handlers;
-    declared = begins-same w.declared;
-    plans = begins-same w.plans;
-    cursors = begins-same w.cursors;
-  }
-
   keeps-all : KeepsAll scene (known_of file routine) code r
   keeps-all =
       let three = all-kept scene code r made w proper.begin (λ n q at. function-takes file q (each-at (ProperRoutine file) file.routines n q accepted.routines at)) queries in
@@ -79,17 +62,17 @@ module _ (file : ResolvedFile) (code : RawCode) (routine : ResolvedRoutine) (r :
       }
 
   body-good : Good code r 0 [] (no_parts routine) w.parts
-  body-good = statement-good keeps-all routine.cursors w.body proper.proper (record { named = record { leaves = refl; iterates = refl }; sees = record { even = refl; each = tt }; kept = routine-kept; none = refl }) proper.cursors
+  body-good = statement-good keeps-all routine.cursors w.body proper.proper (record { named = record { leaves = refl; iterates = refl }; sees = record { even = refl; each = tt }; kept = parts-kept w; none = refl }) proper.cursors
 
   pub routine-free : Free code r 0 (length r.lines)
   routine-free =
       let last = last_instruction routine.returns in
       let begins : BeginsWith (w.parts.code.lines ++ line_of 0 None last w.parts.code ∷ []) r.lines = begins-same w.lines in
       let follows : Follows r (at w.parts) 0 [] = follows-as (line-starts 0 None last w.parts.code begins) refl body-good.stack in
-      let first : Follows r 0 0 [] = body-good.starts routine-kept follows in
+      let first : Follows r 0 0 [] = body-good.starts (parts-kept w) follows in
       let there : context_there r 0 ≡ true = le-leb 0 (length r.handlers.contexts) (omega arith) in
       let many : length r.lines ≡ suc (at w.parts) = ap length w.lines ∙ length-snoc w.parts.code.lines (line_of 0 None last w.parts.code) in
-      free-join (body-good.free first there routine-kept follows tt) (free-as (last-free routine.returns w.parts.code first there begins w.kind body-good.stack) refl (sym many))
+      free-join (body-good.free first there (parts-kept w) follows tt) (free-as (last-free routine.returns w.parts.code first there begins w.kind body-good.stack) refl (sym many))
 
 -- the lines of a routine that is written for one of a proper file
 pub lines-right : (file : ResolvedFile) (code : RawCode) (routine : ResolvedRoutine) (r : RawRoutine) (n : ℕ) → FileWritten file code → ProperFile file → slice_get file.routines n ≡ Some routine → slice_get code.routines n ≡ Some r

@@ -14,19 +14,18 @@ use Rattle.psm_code.specs.declared.rule.CodeRule.TheVariants as rules
 use Rattle.psm_code.specs.RoutineRules.{are_targets, context_fault, context_faults, context_there, contexts_follow, declared_fault, handler_fault, is_bare, is_first_right, jump_of, line_fault, line_faults, may_stand, names_there, resumes_right, stack_follows, stands_right, uses_turn}
 use Rattle.psm_code.specs.Rules.{each_after, first_of, is_there, unless, where_there}
 use Rattle.psm_code.specs.TableRules.{are_there}
-use Rattle.psm_emit.specs.declared.known.Known.{Known}
 use Rattle.psm_emit.specs.Files.{RoutineWritten, known_of, no_parts}
 use Rattle.psm_emit.specs.Standing.{CountsUp, cursors_of}
-use Rattle.psm_emit.specs.Writing.{BeginsWith}
 use Rattle.psm_emit.proofs.GrowingAll.{grown-statement}
 use Rattle.psm_emit.proofs.Numbering.{counted, counts-to}
-use Rattle.psm_emit.proofs.Placing.{Kept, kept-earlier}
+use Rattle.psm_emit.proofs.Placing.{kept-earlier}
 use Rattle.psm_sound.specs.Scene.{Each}
 use Rattle.psm_sound.proofs.Answers.{each-append}
 use Rattle.psm_proper.specs.Files.{ProperRoutine, body, scene_of}
 use Rattle.psm_right.proofs.AllLawful.{statement-lawful}
 use Rattle.psm_right.proofs.Lawful.{DeclaredRight, Lawful, Pass, counts, pass-on}
 use Rattle.psm_right.proofs.Lines.{both}
+use Rattle.psm_right.proofs.PartsKept.{parts-kept}
 use Rattle.psm_right.proofs.Placed.{AllBare, Place}
 
 -- ---- of each item of a list
@@ -78,20 +77,6 @@ bare-lines code r h = bare-in code r 0 r.lines h
 
 -- ---- a routine
 
-begins-same : {A : Type 0} {xs ys : List A} → ys ≡ xs → BeginsWith xs ys
-begins-same {xs = xs} e = record { more = []; is = e ∙ sym (append-nil xs) }
-
--- all that is written is in the routine
-all-kept : {known : Known} {routine : ResolvedRoutine} {r : RawRoutine} → (w : RoutineWritten known routine r) → Kept w.parts r
-all-kept w = record {
-  code = record { lines = record { more = _; is = w.lines }; queries = begins-same w.queries };
-  contexts = begins-same w.contexts;
-  handlers = begins-same w.handlers;
-  declared = begins-same w.declared;
-  plans = begins-same w.plans;
-  cursors = begins-same w.cursors;
-}
-
 there-below : {A : Type 0} (xs : List A) (n : ℕ) → n < length xs → is_there xs n ≡ true
 there-below [] n h = absurd (omega (arith, h))
 there-below (x ∷ xs) zero h = refl
@@ -114,7 +99,7 @@ named-right (m ∷ names) more (suc n) d l q = named-right names more n d (omega
 pub contexts-right : (file : ResolvedFile) (routine : ResolvedRoutine) (r : RawRoutine) → ProperRoutine file routine → RoutineWritten (known_of file routine) routine r → AllBare r
     → Each (λ f. f ≡ None) (map declared_fault r.handlers.declared) × Each (λ f. f ≡ None) (context_faults r 1 r.handlers.contexts) × Each (λ f. f ≡ None) (each_after (handler_fault r) [] r.handlers.handlers)
 contexts-right file routine r proper w bare =
-    let kept = all-kept w in
+    let kept = parts-kept w in
     let first = kept-earlier (grown-statement w.body) kept in
     let place : Place r 0 (no_parts routine) w.parts = record { kept = kept; inside = omega arith; low = λ k l. refl } in
     let count : routine.cursors ≡ length r.cursors = omega (arith, counts-to 0 (cursors_of routine.body) routine.cursors proper.cursors, counted w.body, ap length w.cursors) in

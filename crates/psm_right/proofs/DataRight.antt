@@ -1,19 +1,15 @@
 -- The queries, cursors and plans of a routine that is written for one of an accepted file break no rule.
-use Rattle.std.proofs.Common.{◌≡◌, ◌++◌, ℕ, zero, suc, List, [], ◌∷◌, Some, None, length, map, ap, ap₂, refl, sym, subst, ◌∙◌, arith, append-nil}
+use Rattle.std.proofs.Common.{◌≡◌, ◌++◌, ℕ, Some, None, length, map, ap, ap₂, sym, subst, ◌∙◌, arith}
 use Rattle.std.specs.List.{flat_map}
 use Rattle.std.specs.Prelude.{slice_get}
 use Rattle.psm_exprcode.specs.Kinds.{letter_of}
 use Rattle.psm_resolved.specs.declared.file.ResolvedFile.{ResolvedFile}
 use Rattle.psm_resolved.specs.declared.file.ResolvedRoutine.{ResolvedRoutine}
-use Rattle.psm_resolved.specs.declared.file.ResolvedTable.{ResolvedTable}
-use Rattle.psm_code.specs.declared.code.CodeTable.{CodeTable}
 use Rattle.psm_code.specs.declared.code.RawCode.{RawCode}
 use Rattle.psm_code.specs.declared.code.RawRoutine.{RawRoutine}
 use Rattle.psm_code.specs.PlanRules.{cursor_fault, plan_faults, query_faults}
 use Rattle.psm_emit.specs.Files.{FileWritten, RoutineWritten, known_of}
-use Rattle.psm_emit.specs.Queries.{TablesMade}
 use Rattle.psm_emit.specs.Standing.{CountsUp, cursors_of}
-use Rattle.psm_emit.specs.Writing.{BeginsWith}
 use Rattle.psm_emit.proofs.Numbering.{counted, counts-to}
 use Rattle.psm_proper.specs.Files.{ProperFile, ProperRoutine, scene_of}
 use Rattle.psm_sound.specs.Scene.{Begin, Each}
@@ -21,17 +17,11 @@ use Rattle.psm_right.proofs.Adding.{Fine}
 use Rattle.psm_right.proofs.AddingAll.{statement-fine}
 use Rattle.psm_right.proofs.Faultless.{Faultless, each-at, faultless-flat, faultless-map}
 use Rattle.psm_right.proofs.Keeping.{slots-kept}
+use Rattle.psm_right.proofs.KnownAll.{table-made}
+use Rattle.psm_right.proofs.PartsKept.{parts-kept}
 use Rattle.psm_right.proofs.QueryLetters.{Knows, columns-made, queries-keep}
 use Rattle.psm_right.proofs.QueriesRight.{Holds}
 use Rattle.psm_right.specs.Kept.{QueriesKeep}
-
--- ---- tables
-
-table-made : (code : RawCode) (ts : List ResolvedTable) (us : List CodeTable) → TablesMade ts us → (n : ℕ) (t : ResolvedTable) → slice_get ts n ≡ Some t → (u : CodeTable) × (slice_get us n ≡ Some u) × (u.definition ≡ t.definition)
-table-made code [] us h n t at = absurd (cc)
-table-made code (x ∷ ts) [] h n t at = absurd h
-table-made code (x ∷ ts) (u ∷ us) h zero t at = let same : x ≡ t = cc in (u, refl, h.0.definition ∙ ap (λ y. y.definition) same)
-table-made code (x ∷ ts) (u ∷ us) h (suc n) t at = table-made code ts us h.1 n t at
 
 -- ---- a routine
 
@@ -41,9 +31,6 @@ module _ (file : ResolvedFile) (code : RawCode) (routine : ResolvedRoutine) (r :
     columns = columns-made file.tables code.tables made.tables;
     variables = ap (map letter_of) (ap₂ (λ ps vs. map (λ p. p.kind) ps ++ vs) w.parameters w.variables ∙ slots-kept routine.parameters routine.slots begin);
   }
-
-begins-same : {A : Type 0} {xs ys : List A} → ys ≡ xs → BeginsWith xs ys
-begins-same {xs = xs} q = record { more = []; is = q ∙ sym (append-nil xs) }
 
 -- what is known of the queries of such a routine is what the code has
 pub queries-right : (file : ResolvedFile) (code : RawCode) (routine : ResolvedRoutine) (r : RawRoutine) (n : ℕ) → FileWritten file code → ProperFile file → slice_get file.routines n ≡ Some routine → RoutineWritten (known_of file routine) routine r
@@ -58,16 +45,15 @@ parts-fine file code routine r made proper w =
     let e = scene_of file routine proper.shapes in
     let holds : Holds e (known_of file routine) code r = record {
       knows = knows-written file code routine r made w proper.begin;
-      tables = λ n t at. let u = table-made code file.tables code.tables made.tables n t at in record { table = u.0; there = u.1; same = u.2 };
+      tables = λ n t at. let u = table-made file.tables code.tables n t made.tables at in record { table = u.0; there = u.1; same = u.2 };
     } in
     let many : routine.cursors ≡ length w.parts.cursors = omega (arith, counts-to 0 (cursors_of routine.body) routine.cursors proper.cursors, counted w.body) in
-    statement-fine holds proper.letters tt w.body proper.proper (record { asked = begins-same w.queries; declared = begins-same w.cursors }) (subst (λ n. CountsUp 0 (cursors_of routine.body) n) many proper.cursors) (tt, tt, tt)
+    statement-fine holds proper.letters tt w.body proper.proper (record { asked = (parts-kept w).code.queries; declared = (parts-kept w).cursors }) (subst (λ n. CountsUp 0 (cursors_of routine.body) n) many proper.cursors) (tt, tt, tt)
 
 pub data-right : (file : ResolvedFile) (code : RawCode) (routine : ResolvedRoutine) (r : RawRoutine) (n : ℕ) → FileWritten file code → ProperFile file → slice_get file.routines n ≡ Some routine → RoutineWritten (known_of file routine) routine r
     → Each (λ f. f ≡ None) (flat_map (query_faults code r) r.queries) × Each (λ f. f ≡ None) (map (cursor_fault r) r.cursors) × Each (λ f. f ≡ None) (flat_map (plan_faults code r) r.plans)
 data-right file code routine r n made accepted at w =
-    let f = parts-fine file code routine r made (each-at (ProperRoutine file) file.routines n routine accepted.routines at) w in
-    (
+    let f = parts-fine file code routine r made (each-at (ProperRoutine file) file.routines n routine accepted.routines at) w in (
       faultless-flat (query_faults code r) r.queries (subst (λ qs. Each (λ q. Faultless (query_faults code r q)) qs) (sym w.queries) f.0),
       faultless-map (cursor_fault r) r.cursors (subst (λ cs. Each (λ c. cursor_fault r c ≡ None) cs) (sym w.cursors) f.1),
       faultless-flat (plan_faults code r) r.plans (subst (λ ps. Each (λ p. Faultless (plan_faults code r p)) ps) (sym w.plans) f.2),

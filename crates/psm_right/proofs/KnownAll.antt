@@ -93,7 +93,7 @@ conditions-kept e r b n h = ap (λ ds. there (slice_get ds n)) b.is ∙ there-in
 
 -- ---- tables
 
-table-made : (ts : List ResolvedTable) (us : List CodeTable) (n : ℕ) (t : ResolvedTable) → TablesMade ts us → slice_get ts n ≡ Some t → (u : CodeTable) × (slice_get us n ≡ Some u) × (u.definition ≡ t.definition)
+pub table-made : (ts : List ResolvedTable) (us : List CodeTable) (n : ℕ) (t : ResolvedTable) → TablesMade ts us → slice_get ts n ≡ Some t → (u : CodeTable) × (slice_get us n ≡ Some u) × (u.definition ≡ t.definition)
 table-made [] us n t h e = absurd (cc)
 table-made (x ∷ ts) [] n t h e = absurd h
 table-made (x ∷ ts) (u ∷ us) zero t h e = let same : x ≡ t = cc in (u, refl, h.0.definition ∙ ap (λ y. y.definition) same)
@@ -103,7 +103,7 @@ letter-there : (o : Option Column) (l : Option Letter) → there o ≡ true → 
 letter-there None l h q = absurd (false≢true h)
 letter-there (Some c) l h q = q ∙ ap (λ x. Some (letter_or x)) (sym q)
 
-columns-letters : (known : Known) (table : ℕ) (columns : List Column) → letters_at known.columns table ≡ map letter_of (kinds_of columns) → (cs : List ℕ) → are_there columns cs ≡ true
+pub columns-letters : (known : Known) (table : ℕ) (columns : List Column) → letters_at known.columns table ≡ map letter_of (kinds_of columns) → (cs : List ℕ) → are_there columns cs ≡ true
     → code_of.letters_at (map letter_of (kinds_of columns)) cs ≡ Some (letters_of_columns known table cs)
 columns-letters known table columns same [] h = refl
 columns-letters known table columns same (c ∷ cs) h =

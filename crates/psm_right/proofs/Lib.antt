@@ -30,6 +30,8 @@ pub mod Comparing
 pub mod OverRows
 pub mod KnownAll
 pub mod Walking
+pub mod Faultless
+pub mod PartsKept
 pub mod AllLines
 pub mod Lawful
 pub mod HandlerValues
@@ -40,7 +42,6 @@ pub mod Placed
 pub mod BlocksLawful
 pub mod AllLawful
 pub mod ContextsRight
-pub mod Faultless
 pub mod OneEnd
 pub mod RowLines
 pub mod QueryLetters
@@ -56,3 +57,4 @@ pub mod Names
 pub mod TablesRight
 pub mod HeadsRight
 pub mod Unbroken
+pub mod CodeRight

@@ -116,26 +116,32 @@ pub record IsHere (known : Known) (r : RawRoutine) (x : ResolvedCursor) : Type 0
 module _ {e : Scene} {known : Known} {code : RawCode} {r : RawRoutine} (holds : Holds e known code r) where
   module _ (table : ℕ) (t : ResolvedTable) (at : slice_get e.file.tables table ≡ Some t) where
     pub insert-faultless : (columns : List ℕ) (rows : ℕ) → AreColumns e table columns → Faultless (plan_faults code r (plans.Insert table columns rows))
-    insert-faultless columns rows p = (none_of-two (is_there code.tables table && columns_there code table columns) (is_column_list columns) Range Definition
-        (both (table-there holds table t at) (all-columns-there holds table t at columns (p.there t at))) p.list, tt)
+    insert-faultless columns rows p = (
+      none_of-two (is_there code.tables table && columns_there code table columns) (is_column_list columns) Range Definition
+          (both (table-there holds table t at) (all-columns-there holds table t at columns (p.there t at))) p.list,
+      tt,
+    )
 
     pub insert_query-faultless : {query : ResolvedQuery} {made : Query} (columns : List ℕ) (number : ℕ) → AreColumns e table columns → QueryMade known query made → slice_get r.queries number ≡ Some made
         → item_letters known query ≡ letters_of_columns known table columns → Faultless (plan_faults code r (plans.InsertQuery table columns number))
     insert_query-faultless {query} {made} columns number p m there_is same =
         let letters = letters_of_columns known table columns in
         let fits : fits_columns code r table columns made ≡ true =
-        ap (λ o. are_items o (letters_of_query code r made)) (columns-letters holds table t at columns (p.there t at)) ∙ ap (are_items (Some letters)) (made-letters holds.knows m ∙ same) ∙ same_stack-self letters in
-        (none_of-two (is_there code.tables table && (columns_there code table columns && is_there r.queries number)) (is_column_list columns && where_there (slice_get r.queries number) (fits_columns code r table columns)) Range Definition
-        (both (table-there holds table t at) (both (all-columns-there holds table t at columns (p.there t at)) (ap there there_is)))
-        (both p.list (ap (λ o. where_there o (fits_columns code r table columns)) there_is ∙ fits)), tt)
+        ap (λ o. are_items o (letters_of_query code r made)) (columns-letters holds table t at columns (p.there t at)) ∙ ap (are_items (Some letters)) (made-letters holds.knows m ∙ same) ∙ same_stack-self letters in (
+          none_of-two (is_there code.tables table && (columns_there code table columns && is_there r.queries number)) (is_column_list columns && where_there (slice_get r.queries number) (fits_columns code r table columns)) Range Definition
+              (both (table-there holds table t at) (both (all-columns-there holds table t at columns (p.there t at)) (ap there there_is)))
+              (both p.list (ap (λ o. where_there o (fits_columns code r table columns)) there_is ∙ fits)),
+          tt,
+        )
 
     pub update-faultless : (sets : List ResolvedSet) (coded : List SetItem) (test : Option ResolvedExpr) (coded_test : Option (List Line)) → SetsMade known table sets coded → AreSets e known table sets → TestMade known table test coded_test
         → Faultless (plan_faults code r (plans.Update table coded coded_test))
     update-faultless sets coded test coded_test m p k =
         let names = map (λ s. s.column) sets in
-        let some : is_some coded ≡ true = sets-some (letters_at known.columns table) known.variables sets coded m.fit (and_first (is_some names) (are_distinct names) p.0.list) in
-        (none_of-two (is_there code.tables table) (is_some coded) Range Definition (table-there holds table t at) some,
-        faultless-append (sets_in code r table coded) (test_in code r table coded_test) (sets-faultless holds table t at sets coded m p) (test-right holds table t at test coded_test k))
+        let some : is_some coded ≡ true = sets-some (letters_at known.columns table) known.variables sets coded m.fit (and_first (is_some names) (are_distinct names) p.0.list) in (
+          none_of-two (is_there code.tables table) (is_some coded) Range Definition (table-there holds table t at) some,
+          faultless-append (sets_in code r table coded) (test_in code r table coded_test) (sets-faultless holds table t at sets coded m p) (test-right holds table t at test coded_test k),
+        )
 
     pub delete-faultless : (test : Option ResolvedExpr) (coded_test : Option (List Line)) → TestMade known table test coded_test → Faultless (plan_faults code r (plans.Delete table coded_test))
     delete-faultless test coded_test k = (none_unless (is_there code.tables table) Range (table-there holds table t at), test-right holds table t at test coded_test k)
@@ -165,9 +171,10 @@ module _ {e : Scene} {known : Known} {code : RawCode} {r : RawRoutine} (holds : 
   update_at-faultless s table cursor t sets coded at each may m p =
       let names = map (λ s. s.column) sets in
       let x = positioned s table cursor each may in
-      let some : is_some coded ≡ true = sets-some (letters_at known.columns table) known.variables sets coded m.fit (and_first (is_some names) (are_distinct names) p.0.list) in
-      (none_of-two (is_there r.cursors cursor) (is_some coded && is_positioned r cursor) Range Definition x.there (both some x.right),
-      subst (λ n. Faultless (sets_in code r n coded)) (sym x.over) (sets-faultless holds table t at sets coded m p))
+      let some : is_some coded ≡ true = sets-some (letters_at known.columns table) known.variables sets coded m.fit (and_first (is_some names) (are_distinct names) p.0.list) in (
+        none_of-two (is_there r.cursors cursor) (is_some coded && is_positioned r cursor) Range Definition x.there (both some x.right),
+        subst (λ n. Faultless (sets_in code r n coded)) (sym x.over) (sets-faultless holds table t at sets coded m p),
+      )
 
   pub delete_at-faultless : (s : Sight) (table cursor : ℕ) → Each (IsHere known r) s.cursors → MayChange s table cursor → Faultless (plan_faults code r (plans.DeleteAt cursor))
   delete_at-faultless s table cursor each may = let x = positioned s table cursor each may in (none_of-two (is_there r.cursors cursor) (is_positioned r cursor) Range Definition x.there x.right, tt)

@@ -143,11 +143,10 @@ module _ {e : Scene} {known : Known} {code : RawCode} {r : RawRoutine} (holds : 
       as-known (λ cs vs. are_proper cs vs layer ≡ true) made.table (ap (λ n. are_proper (letters_at known.columns n) known.variables layer) m.table ∙ p.items) in
       let test : TestFits (columns_at code made.table) (variables_of r) (out-ResolvedQuery query).test made.test =
       as-known (λ cs vs. TestFits cs vs (out-ResolvedQuery query).test made.test) made.table (subst (λ n. TestFits (letters_at known.columns n) known.variables (out-ResolvedQuery query).test made.test) (sym m.table) m.test_fits) in
-      let there_is : is_there code.tables made.table ≡ true = ap at m.table ∙ ap there (holds.tables table is.table is.there).there in
-      (
+      let there_is : is_there code.tables made.table ≡ true = ap at m.table ∙ ap there (holds.tables table is.table is.there).there in (
         none_of-two (at made.table) (has_items made.items) Range Definition there_is (items-some (columns_at code made.table) (variables_of r) layer made.items items right),
         faultless-append (items_in code r made.table made.items) (test_in code r made.table made.test) (items-faultless code r made.table layer made.items items values right)
-        (test-faultless code r made.table (out-ResolvedQuery query).test made.test test),
+            (test-faultless code r made.table (out-ResolvedQuery query).test made.test test),
       )
 
   pub cursor-faultless : {query : ResolvedQuery} {made : Query} (c : CodeCursor) → QueryMade known query made → proper.has_rows (items_of query) ≡ true → slice_get r.queries c.query ≡ Some made → cursor_fault r c ≡ None

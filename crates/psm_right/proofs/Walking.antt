@@ -64,7 +64,7 @@ module _ {code : RawCode} {r : RawRoutine} {letters : Letters} {around : List Ar
   place-looping : {p q : Parts} (level out again : ℕ) → Place code r letters around sight p q → Place code r letters (Loop level out again ∷ around) (looping level sight) p q
   place-looping level out again place = record { named = record { leaves = ap (λ ls. level ∷ ls) place.named.leaves; iterates = ap (λ ls. level ∷ ls) place.named.iterates }; sees = place.sees; kept = place.kept; none = place.none }
 
-counts-as : {ns ms : List ℕ} (from to : ℕ) → ns ≡ ms → CountsUp from ns to → CountsUp from ms to
+pub counts-as : {ns ms : List ℕ} (from to : ℕ) → ns ≡ ms → CountsUp from ns to → CountsUp from ms to
 counts-as from to q n = subst (λ l. CountsUp from l to) q n
 
 counts-from : {from next : ℕ} (ns : List ℕ) (to : ℕ) → from ≡ next → CountsUp from ns to → CountsUp next ns to

@@ -6,7 +6,7 @@ ghost use Rattle.psm_resolved.specs.declared.file.ResolvedFile.{ResolvedFile};
 ghost use Rattle.psm_resolved.specs.declared.file.ResolvedRoutine.{ResolvedRoutine};
 ghost use Rattle.psm_code.specs.declared.code.RawCode.{RawCode};
 ghost use Rattle.psm_code.specs.declared.code.RawRoutine.{RawRoutine};
-ghost use Rattle.psm_code.specs.RoutineRules.{context_there, line_faults};
+ghost use Rattle.psm_code.specs.RoutineRules.{context_there, first_fault, line_faults};
 ghost use Rattle.psm_emit.specs.declared.known.Known.{Known};
 ghost use Rattle.psm_emit.specs.Exprs.{Writes};
 ghost use Rattle.psm_emit.specs.Files.{FileWritten, RoutineWritten, known_of};
@@ -37,4 +37,9 @@ pub fn written_code_keeps_letters()
 /// No line of a routine that is written for a proper file breaks a rule, where the items of its queries are of the letters that are known.
 pub fn lines_break_no_rule()
     ensures lines { (file : ResolvedFile) (code : RawCode) (routine : ResolvedRoutine) (r : RawRoutine) (n : ℕ) → FileWritten file code → ProperFile file → slice_get file.routines n ≡ Some routine → slice_get code.routines n ≡ Some r → RoutineWritten (known_of file routine) routine r → QueriesKeep (known_of file routine) code r → Each (λ f. f ≡ None) (line_faults code r 0 r.lines) }
+{}
+
+/// Code that is written for a proper file breaks no rule: neither its tables nor its routines, with all their parts, do.
+pub fn written_code_breaks_no_rule()
+    ensures files { (file : ResolvedFile) (code : RawCode) → FileWritten file code → ProperFile file → first_fault code ≡ None }
 {}
