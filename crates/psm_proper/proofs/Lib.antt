@@ -3,3 +3,4 @@ pub mod Typing
 pub mod Outside
 pub mod Standing
 pub mod Statements
+pub mod Definitions

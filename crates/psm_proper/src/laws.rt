@@ -1,4 +1,6 @@
 //! The laws of proper module files.
+ghost use Rattle.std.specs.Prelude.{All, map};
+ghost use Rattle.psm_table.specs.Definition.{IsDefinition};
 ghost use Rattle.psm_resolved.specs.declared.file.ResolvedFile.{ResolvedFile};
 ghost use Rattle.psm_emit.specs.Standing.{CanStand};
 ghost use Rattle.psm_sound.specs.Files.{IsSound};
@@ -12,4 +14,9 @@ pub fn proper_files_are_sound()
 /// Code can stand for a proper file.
 pub fn proper_files_can_stand()
     ensures { (file : ResolvedFile) → ProperFile file → CanStand file }
+{}
+
+/// The tables of a proper file are defined as tables may be.
+pub fn proper_tables_are_definitions()
+    ensures { (file : ResolvedFile) → ProperFile file → All IsDefinition (map (λ t. t.definition) file.tables) }
 {}
