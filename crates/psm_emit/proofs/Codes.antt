@@ -1,6 +1,7 @@
 -- The code of expressions, one after another.
 use Rattle.std.proofs.Common.{◌≡◌, ℕ, ◌+◌, ◌<◌, Bool, true, List, [], ◌∷◌, ◌++◌, length, get_or, Option}
 use Rattle.psm_exprcode.specs.declared.aggregate.Aggregate.{Aggregate}
+use Rattle.psm_exprcode.specs.declared.op.Letter.{Letter}
 use Rattle.psm_exprcode.specs.declared.op.Line.{Line}
 use Rattle.psm_exprcode.specs.declared.set_item.SetItem.{SetItem}
 use Rattle.psm_resolved.specs.declared.expr.ResolvedExpr.{ResolvedExpr}
@@ -8,7 +9,7 @@ use Rattle.psm_resolved.specs.declared.expr.ResolvedItem.{ResolvedItem, out-Reso
 use Rattle.psm_resolved.specs.declared.file.ResolvedTable.{ResolvedTable}
 use Rattle.psm_resolved.specs.declared.statement.ResolvedSet.{ResolvedSet}
 use Rattle.psm_code.specs.declared.code.CodeTable.{CodeTable}
-use Rattle.psm_emit.specs.Queries.{AggregatesAre, ExprIs, ExprsAre, PerhapsIs, SetsAre, TableMade, TablesMade}
+use Rattle.psm_emit.specs.Queries.{AggregatesAre, ExprIs, ExprsAre, PerhapsIs, RowTestsFit, SetsAre, TableMade, TablesMade}
 use Rattle.psm_emit.proofs.Lists.{Makes, Where, makes_all, makes_next, where_next}
 
 pub exprs_next : (test : ResolvedExpr → Bool) (xs : List ResolvedExpr) (at : ℕ) (a : ResolvedExpr) (done : List (List Line)) (b : List Line) (next : List (List Line))
@@ -18,6 +19,10 @@ exprs_next test xs at a done b next i l e n h = makes_next (Where test ExprsAre)
 pub exprs_all : (test : ResolvedExpr → Bool) (xs es : List ResolvedExpr) (at : ℕ) (done result : List (List Line))
     → es ≡ xs → at ≡ length xs → result ≡ done → Makes (Where test ExprsAre) xs at done → Where test ExprsAre es result
 exprs_all test xs es at done result e n r h = makes_all (Where test ExprsAre) xs es at done result e n r (λ t. tt) h
+
+-- tests that fit, one for each expression
+abbrev pub RowTestsMade : List Letter → List Letter → List ResolvedExpr → List (List Line) → Type 0
+RowTestsMade columns variables es cs = RowTestsFit columns variables cs
 
 -- ---- set functions
 

@@ -30,6 +30,7 @@ pub mod SimplesStand
 pub mod StatementsStand
 pub mod FilesStand
 pub mod SimpleForms
+pub mod ChangeForms
 pub mod Dropping
 pub mod CallForms
 pub mod StatementCounting

@@ -148,16 +148,16 @@ module _ (file : ResolvedFile) (code : RawCode) (made : TablesMade file.tables c
 
   pub update_stands : (known : Known) (sets : List ResolvedSet) (coded : List SetItem) (test : Option ResolvedExpr) (coded_test : Option (List Line)) → SetsMade known table sets coded
       → list_all (is_set (letters_at known.columns table) known.variables) sets ≡ true → PerhapsIs test coded_test → IsUpdate file code table sets test coded coded_test
-  update_stands known sets coded test coded_test is h same = record {
+  update_stands known sets coded test coded_test sets_made h same = record {
     same = λ t u p q vars rows.
-        updated-same (codes.over vars) plans.plain (trees.over vars) meaning.plain (plans.schema_of u) (meaning.schema_of t) (schemas-same t u p q) (map plans.set_item coded) (map meaning.set_item sets) (sets-same vars sets coded (is h))
+        updated-same (codes.over vars) plans.plain (trees.over vars) meaning.plain (plans.schema_of u) (meaning.schema_of t) (schemas-same t u p q) (map plans.set_item coded) (map meaning.set_item sets) (sets-same vars sets coded (sets_made.are h))
         coded_test test (perhaps-same vars test coded_test same) rows;
   }
 
   pub update_at_stands : (known : Known) (sets : List ResolvedSet) (coded : List SetItem) → SetsMade known table sets coded → list_all (is_set (letters_at known.columns table) known.variables) sets ≡ true → IsUpdateAt file code table sets coded
-  update_at_stands known sets coded is h = record {
+  update_at_stands known sets coded sets_made h = record {
     same = λ t u p q vars row rows.
-        updated_at-same (codes.over vars) plans.plain (trees.over vars) meaning.plain (plans.schema_of u) (meaning.schema_of t) (schemas-same t u p q) (map plans.set_item coded) (map meaning.set_item sets) (sets-same vars sets coded (is h)) row rows;
+        updated_at-same (codes.over vars) plans.plain (trees.over vars) meaning.plain (plans.schema_of u) (meaning.schema_of t) (schemas-same t u p q) (map plans.set_item coded) (map meaning.set_item sets) (sets-same vars sets coded (sets_made.are h)) row rows;
   }
 
 pub delete_stands : (test : Option ResolvedExpr) (coded_test : Option (List Line)) → PerhapsIs test coded_test → IsDelete test coded_test

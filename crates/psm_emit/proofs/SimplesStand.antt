@@ -178,7 +178,7 @@ module _ (file : ResolvedFile) (code : RawCode) (routine : ResolvedRoutine) (r :
       (length p.plans, coded, None, x.0, update_stands file code given.tables given.checks table known sets coded None None made fit tt, x.1, x.2, x.3)
   updates_stand {table = table} {sets = sets} p (written.update_where {e = t} {coded = coded} {test = test} made tested) seen fit f kept e =
       let x = plan-behind (plans.Update table coded test) p kept e in
-      (length p.plans, coded, test, x.0, update_stands file code given.tables given.checks table known sets coded (Some t) test made fit (tested f), x.1, x.2, x.3)
+      (length p.plans, coded, test, x.0, update_stands file code given.tables given.checks table known sets coded (Some t) test made fit (tested.is f), x.1, x.2, x.3)
   updates_stand {table = table} {sets = sets} p (written.update_current {cursor = cursor} {coded = coded} made) seen fit f kept e =
       let x = plan-behind (plans.UpdateAt cursor coded) p kept e in
       (length p.plans, coded, f.0, x.0, sees seen f.1, f.2, update_at_stands file code given.tables given.checks table known sets coded made fit, x.1, x.2, x.3)
@@ -190,7 +190,7 @@ module _ (file : ResolvedFile) (code : RawCode) (routine : ResolvedRoutine) (r :
       (length p.plans, None, x.0, delete_stands None None tt, x.1, x.2, x.3)
   deletes_stand {table = table} p (written.delete_where {e = t} {test = test} tested) seen f kept e =
       let x = plan-behind (plans.Delete table test) p kept e in
-      (length p.plans, test, x.0, delete_stands (Some t) test (tested f), x.1, x.2, x.3)
+      (length p.plans, test, x.0, delete_stands (Some t) test (tested.is f), x.1, x.2, x.3)
   deletes_stand {table = table} p (written.delete_current {cursor = cursor}) seen f kept e =
       let x = plan-behind (plans.DeleteAt cursor) p kept e in
       (length p.plans, f.0, x.0, sees seen f.1, f.2, x.1, x.2, x.3)

@@ -163,22 +163,26 @@ ItemsFit columns variables (layers.Sets is) (coded.Rows cs) = ⊥
 ItemsFit columns variables (layers.Sets is) (coded.Sets sets) = AggregatesFit columns variables is sets
 
 -- a test ends with a truth value
-abbrev pub TestFits : List Letter → List Letter → Option ResolvedExpr → Option (List Line) → Type 0
-TestFits columns variables None None = Unit {0}
-TestFits columns variables None (Some c) = ⊥
-TestFits columns variables (Some e) None = ⊥
-TestFits columns variables (Some e) (Some c) = FitsAs columns variables B c
+abbrev pub RowTestFits : List Letter → List Letter → Option ResolvedExpr → Option (List Line) → Type 0
+RowTestFits columns variables None None = Unit {0}
+RowTestFits columns variables None (Some c) = ⊥
+RowTestFits columns variables (Some e) None = ⊥
+RowTestFits columns variables (Some e) (Some c) = FitsAs columns variables B c
+
+abbrev pub RowTestsFit : List Letter → List Letter → List (List Line) → Type 0
+RowTestsFit columns variables [] = Unit {0}
+RowTestsFit columns variables (c ∷ cs) = FitsAs columns variables B c × RowTestsFit columns variables cs
 
 -- a source ends with the letter of its column
-abbrev pub SetsFit : List Letter → List Letter → List ResolvedSet → List SetItem → Type 0
-SetsFit columns variables [] [] = Unit {0}
-SetsFit columns variables [] (c ∷ cs) = ⊥
-SetsFit columns variables (s ∷ ss) [] = ⊥
-SetsFit columns variables (s ∷ ss) (c ∷ cs) = (c.column ≡ s.column) × FitsAs columns variables (letter_at columns s.column) c.source × SetsFit columns variables ss cs
+abbrev pub SourcesFit : List Letter → List Letter → List ResolvedSet → List SetItem → Type 0
+SourcesFit columns variables [] [] = Unit {0}
+SourcesFit columns variables [] (c ∷ cs) = ⊥
+SourcesFit columns variables (s ∷ ss) [] = ⊥
+SourcesFit columns variables (s ∷ ss) (c ∷ cs) = (c.column ≡ s.column) × FitsAs columns variables (letter_at columns s.column) c.source × SourcesFit columns variables ss cs
 
+-- CHECKs see no variable
 abbrev pub ChecksFit : List Letter → List (List Line) → Type 0
-ChecksFit columns [] = Unit {0}
-ChecksFit columns (c ∷ cs) = FitsAs columns [] B c × ChecksFit columns cs
+ChecksFit columns checks = RowTestsFit columns [] checks
 
 -- ---- queries
 
@@ -187,7 +191,7 @@ pub record QueryMade (known : Known) (query : ResolvedQuery) (code : Query) : Ty
   pub table : code.table ≡ (out-ResolvedQuery query).table
   pub is : is_query known query ≡ true → QueryIs query code
   pub items_fit : ItemsFit (letters_at known.columns (out-ResolvedQuery query).table) known.variables (out-ResolvedItems (out-ResolvedQuery query).items) code.items
-  pub test_fits : TestFits (letters_at known.columns (out-ResolvedQuery query).table) known.variables (out-ResolvedQuery query).test code.test
+  pub test_fits : RowTestFits (letters_at known.columns (out-ResolvedQuery query).table) known.variables (out-ResolvedQuery query).test code.test
 
 -- a cursor over the query of that number
 abbrev pub cursor_of : ResolvedCursor → ℕ → CodeCursor
@@ -204,12 +208,12 @@ SetsAre (s ∷ ss) (c ∷ cs) = (c.column ≡ s.column) × ExprIs s.source c.sou
 -- the columns that are set, of a table
 pub record SetsMade (known : Known) (table : ℕ) (sets : List ResolvedSet) (coded : List SetItem) : Type 0 where
   pub are : list_all (is_set (letters_at known.columns table) known.variables) sets ≡ true → SetsAre sets coded
-  pub fit : SetsFit (letters_at known.columns table) known.variables sets coded
+  pub fit : SourcesFit (letters_at known.columns table) known.variables sets coded
 
 -- the test on the rows of a table
 pub record TestMade (known : Known) (table : ℕ) (test : Option ResolvedExpr) (coded : Option (List Line)) : Type 0 where
   pub is : is_test_perhaps (letters_at known.columns table) known.variables test ≡ true → PerhapsIs test coded
-  pub fits : TestFits (letters_at known.columns table) known.variables test coded
+  pub fits : RowTestFits (letters_at known.columns table) known.variables test coded
 
 -- ---- tables, whose CHECKs see their columns and no variable
 

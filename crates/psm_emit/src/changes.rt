@@ -1,7 +1,7 @@
 //! The code of what UPDATE and DELETE change.
 ghost use Rattle.std.specs.Prelude.{◌≡◌, Some, true, IfOk};
 ghost use Rattle.std.specs.List.{list_all};
-ghost use Rattle.psm_emit.specs.Queries.{ExprIs, SetsAre, SetsMade, TestMade, is_set};
+ghost use Rattle.psm_emit.specs.Queries.{ExprIs, FitsAs, SetsAre, SetsMade, SourcesFit, TestMade, is_set};
 ghost use Rattle.psm_emit.specs.Simples.{Deletes, Updates};
 ghost use Rattle.psm_emit.specs.Written.{letter_at};
 
@@ -95,7 +95,8 @@ fn sets_of(
     columns: &[Letter],
     variables: &[Letter],
 ) -> Result<List<SetItem>, AllocError>
-    ensures { IfOk result (λ codes. list_all (is_set columns.now variables.now) sets.now ≡ true → SetsAre sets.now codes) }
+    ensures fits { IfOk result (λ codes. SourcesFit columns.now variables.now sets.now codes) }
+    ensures value { IfOk result (λ codes. list_all (is_set columns.now variables.now) sets.now ≡ true → SetsAre sets.now codes) }
 {
     let mut codes = Vec::new(alloc);
     for set in sets.items() {
@@ -111,6 +112,7 @@ fn set_of(
     variables: &[Letter],
 ) -> Result<SetItem, AllocError>
     ensures column { IfOk result (λ code. code.column ≡ set.now.column) }
+    ensures fits { IfOk result (λ code. FitsAs columns.now variables.now (letter_at columns.now set.now.column) code.source) }
     ensures source { IfOk result (λ code. is_set columns.now variables.now set.now ≡ true → ExprIs set.now.source code.source) }
 {
     let letter = letter_of_column(columns, set.column);

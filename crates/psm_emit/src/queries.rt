@@ -3,7 +3,7 @@ ghost use Rattle.std.specs.Prelude.{◌≡◌, true, IfOk};
 ghost use Rattle.std.specs.List.{list_all};
 ghost use Rattle.psm_resolved.specs.declared.expr.ResolvedItem.{out-ResolvedItem};
 ghost use Rattle.psm_resolved.specs.declared.expr.ResolvedItems.{out-ResolvedItems};
-ghost use Rattle.psm_emit.specs.Queries.{AggregatesAre, ItemsAre, PerhapsIs, QueryMade, are_items, is_value_perhaps};
+ghost use Rattle.psm_emit.specs.Queries.{AggregatesAre, AggregatesFit, ItemsAre, ItemsFit, OperandFits, PerhapsIs, QueryMade, are_items, is_value_perhaps};
 
 use crate::known::Known;
 use crate::rows::{test_perhaps, value_perhaps, values};
@@ -38,7 +38,8 @@ fn items_code(
     columns: &[Letter],
     variables: &[Letter],
 ) -> Result<Items, AllocError>
-    ensures { IfOk result (λ code. are_items columns.now variables.now (out-ResolvedItems items.now) ≡ true → ItemsAre (out-ResolvedItems items.now) code) }
+    ensures fits { IfOk result (λ code. ItemsFit columns.now variables.now (out-ResolvedItems items.now) code) }
+    ensures value { IfOk result (λ code. are_items columns.now variables.now (out-ResolvedItems items.now) ≡ true → ItemsAre (out-ResolvedItems items.now) code) }
 {
     match items {
         ResolvedItems::Rows(es) => Ok(Items::Rows(values(alloc, es, columns, variables)?)),
@@ -54,7 +55,8 @@ fn aggregates(
     columns: &[Letter],
     variables: &[Letter],
 ) -> Result<List<Aggregate>, AllocError>
-    ensures { IfOk result (λ codes. list_all (λ i. is_value_perhaps columns.now variables.now (out-ResolvedItem i).operand) items.now ≡ true → AggregatesAre items.now codes) }
+    ensures fits { IfOk result (λ codes. AggregatesFit columns.now variables.now items.now codes) }
+    ensures value { IfOk result (λ codes. list_all (λ i. is_value_perhaps columns.now variables.now (out-ResolvedItem i).operand) items.now ≡ true → AggregatesAre items.now codes) }
 {
     let mut codes = Vec::new(alloc);
     for item in items.items() {
@@ -70,6 +72,7 @@ fn aggregate(
     variables: &[Letter],
 ) -> Result<Aggregate, AllocError>
     ensures function { IfOk result (λ code. code.function ≡ (out-ResolvedItem item.now).function) }
+    ensures fits { IfOk result (λ code. OperandFits columns.now variables.now (out-ResolvedItem item.now).operand code.operand) }
     ensures operand { IfOk result (λ code. is_value_perhaps columns.now variables.now (out-ResolvedItem item.now).operand ≡ true → PerhapsIs (out-ResolvedItem item.now).operand code.operand) }
 {
     Ok(Aggregate {

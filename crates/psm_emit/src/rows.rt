@@ -4,7 +4,8 @@ ghost use Rattle.std.specs.List.{list_all};
 ghost use Rattle.psm_exprcode.specs.WellFormed.{does_fit, is_well_formed};
 ghost use Rattle.psm_resolved.specs.Sort.{goes_as, sort_of};
 ghost use Rattle.psm_emit.specs.Nulls.{null_lines};
-ghost use Rattle.psm_emit.specs.Queries.{ExprIs, ExprsAre, PerhapsIs, is_test, is_test_perhaps, is_value_of, is_value_perhaps};
+ghost use Rattle.psm_exprcode.specs.declared.op.Letter.TheVariants.{B};
+ghost use Rattle.psm_emit.specs.Queries.{ExprFits, ExprIs, ExprsAre, ExprsFit, FitsAs, OperandFits, PerhapsIs, RowTestFits, RowTestsFit, is_test, is_test_perhaps, is_value_of, is_value_perhaps};
 
 use crate::sorts::sort_of;
 use psm_exprcode::{ExprCode, Letter, Op, RawExpr};
@@ -73,7 +74,8 @@ pub(crate) fn value(
     columns: &[Letter],
     variables: &[Letter],
 ) -> Result<ExprCode, AllocError>
-    ensures { IfOk result (λ code. is_value_of columns.now variables.now e.now ≡ true → ExprIs e.now code) }
+    ensures fits { IfOk result (λ code. ExprFits columns.now variables.now e.now code) }
+    ensures value { IfOk result (λ code. is_value_of columns.now variables.now e.now ≡ true → ExprIs e.now code) }
 {
     let letter = sort_of(columns, variables, e).letter();
     row(alloc, e, columns, variables, letter)
@@ -86,7 +88,8 @@ pub(crate) fn value_perhaps(
     columns: &[Letter],
     variables: &[Letter],
 ) -> Result<Option<ExprCode>, AllocError>
-    ensures { IfOk result (λ code. is_value_perhaps columns.now variables.now e.now ≡ true → PerhapsIs e.now code) }
+    ensures fits { IfOk result (λ code. OperandFits columns.now variables.now e.now code) }
+    ensures value { IfOk result (λ code. is_value_perhaps columns.now variables.now e.now ≡ true → PerhapsIs e.now code) }
 {
     match e {
         None => Ok(None),
@@ -101,7 +104,8 @@ pub(crate) fn values(
     columns: &[Letter],
     variables: &[Letter],
 ) -> Result<List<ExprCode>, AllocError>
-    ensures { IfOk result (λ codes. list_all (is_value_of columns.now variables.now) es.now ≡ true → ExprsAre es.now codes) }
+    ensures fits { IfOk result (λ codes. ExprsFit columns.now variables.now es.now codes) }
+    ensures value { IfOk result (λ codes. list_all (is_value_of columns.now variables.now) es.now ≡ true → ExprsAre es.now codes) }
 {
     let mut codes = Vec::new(alloc);
     for e in es.items() {
@@ -118,7 +122,8 @@ pub(crate) fn test(
     columns: &[Letter],
     variables: &[Letter],
 ) -> Result<ExprCode, AllocError>
-    ensures { IfOk result (λ code. is_test columns.now variables.now e.now ≡ true → ExprIs e.now code) }
+    ensures fits { IfOk result (λ code. FitsAs columns.now variables.now B code) }
+    ensures value { IfOk result (λ code. is_test columns.now variables.now e.now ≡ true → ExprIs e.now code) }
 {
     row(alloc, e, columns, variables, Letter::B)
 }
@@ -130,7 +135,8 @@ pub(crate) fn test_perhaps(
     columns: &[Letter],
     variables: &[Letter],
 ) -> Result<Option<ExprCode>, AllocError>
-    ensures { IfOk result (λ code. is_test_perhaps columns.now variables.now e.now ≡ true → PerhapsIs e.now code) }
+    ensures fits { IfOk result (λ code. RowTestFits columns.now variables.now e.now code) }
+    ensures value { IfOk result (λ code. is_test_perhaps columns.now variables.now e.now ≡ true → PerhapsIs e.now code) }
 {
     match e {
         None => Ok(None),
@@ -145,7 +151,8 @@ pub(crate) fn tests(
     columns: &[Letter],
     variables: &[Letter],
 ) -> Result<List<ExprCode>, AllocError>
-    ensures { IfOk result (λ codes. list_all (is_test columns.now variables.now) es.now ≡ true → ExprsAre es.now codes) }
+    ensures fits { IfOk result (λ codes. RowTestsFit columns.now variables.now codes) }
+    ensures value { IfOk result (λ codes. list_all (is_test columns.now variables.now) es.now ≡ true → ExprsAre es.now codes) }
 {
     let mut codes = Vec::new(alloc);
     for e in es.items() {

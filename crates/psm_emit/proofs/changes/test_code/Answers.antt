@@ -1,10 +1,5 @@
-use Rattle.std.proofs.Common.{◌≡◌, List, true, subst}
-use Rattle.std.specs.Prelude.{IfOk}
-use Rattle.psm_exprcode.specs.declared.op.Letter.{Letter}
-use Rattle.psm_emit.specs.Queries.{ExprIs, is_test}
+use Rattle.psm_emit.proofs.ChangeForms.{test_made}
 use Rattle.psm_emit.proofs.changes.test_code.Goals as goal
 
 pub returns : goal.returns
-returns c =
-    subst (λ (ks : List Letter). IfOk c.test.result (λ code. is_test ks c.args.known.now.variables c.args.e.now ≡ true → ExprIs c.args.e.now code)) c.columns_at.ensures
-    (subst (λ (ks : List Letter). IfOk c.test.result (λ code. is_test c.columns_at.result.now ks c.args.e.now ≡ true → ExprIs c.args.e.now code)) c.items.ensures c.test.ensures)
+returns c = test_made c.args.known.now c.args.table c.args.e.now c.columns_at.result.now c.items.result.now c.test.result c.columns_at.ensures c.items.ensures c.test.ensures.value c.test.ensures.fits
