@@ -1,5 +1,5 @@
 -- What an UPDATE or a DELETE is made of, from the code of its expressions.
-use Rattle.std.proofs.Common.{◌≡◌, ℕ, Bool, true, List, Some, subst}
+use Rattle.std.proofs.Common.{◌≡◌, ℕ, true, List, Some, subst}
 use Rattle.std.specs.Prelude.{Result, Ok, Err, IfOk}
 use Rattle.std.specs.List.{list_all}
 use Rattle.std.specs.declared.alloc.AllocError.{AllocError}

@@ -1,5 +1,5 @@
 -- The code that is written for a module file stands for it.
-use Rattle.std.proofs.Common.{◌≡◌, ℕ, zero, suc, true, List, [], ◌∷◌, ◌++◌, drop, length, map, reverse, slice_get, Option, Some, None, ap, sym, refl, ◌∙◌, subst, arith, append-nil}
+use Rattle.std.proofs.Common.{◌≡◌, ℕ, zero, suc, true, List, [], ◌∷◌, ◌++◌, drop, length, map, reverse, slice_get, Option, Some, None, ap, sym, refl, ◌∙◌, subst, arith}
 use Rattle.psm_resolved.specs.declared.file.ResolvedFile.{ResolvedFile}
 use Rattle.psm_resolved.specs.declared.file.ResolvedParameter.{ResolvedParameter}
 use Rattle.psm_resolved.specs.declared.file.ResolvedRoutine.{ResolvedRoutine}
@@ -12,20 +12,18 @@ use Rattle.psm_emit.specs.Files.{FileWritten, RoutineWritten, RoutinesWritten, k
 use Rattle.psm_emit.specs.Parts.{at}
 use Rattle.psm_emit.specs.Standing.{CanStand, CountsUp, RoutineFits, RoutinesFit, cursors_of, outermost}
 use Rattle.psm_emit.specs.Writing.{BeginsWith}
+use Rattle.psm_emit.proofs.Finished.{code-keeps}
 use Rattle.psm_emit.proofs.Growing.{own_in}
 use Rattle.psm_emit.proofs.GrowingAll.{grown-statement}
 use Rattle.psm_emit.proofs.Growth.{begins-here}
 use Rattle.psm_emit.proofs.Numbering.{counted, counts-to}
-use Rattle.psm_emit.proofs.Placing.{Kept, Space}
+use Rattle.psm_emit.proofs.Placing.{Space}
 use Rattle.psm_emit.proofs.Querying.{tables_stand}
 use Rattle.psm_emit.proofs.Scoping.{Given, Seen, searches-nothing}
 use Rattle.psm_emit.proofs.StatementsStand.{statement-stands}
 use Rattle.psm_emit.proofs.There.{there_at}
 
 -- ---- routines
-
-begins-same : {A : Type 0} {xs ys : List A} → ys ≡ xs → BeginsWith xs ys
-begins-same {xs = xs} e = record { more = []; is = e ∙ sym (append-nil xs) }
 
 -- the parameters have the first slots
 parameter-kinds : (ps : List ResolvedParameter) → map (λ p. p.kind) (map parameter_of ps) ≡ map (λ p. p.kind) ps
@@ -43,21 +41,11 @@ module _ (file : ResolvedFile) (code : RawCode) (made : FileWritten file code) (
   given : Given file code routine r
   given = record { tables = made.tables; checks = can.tables; conditions = begins }
 
-  all-kept : Kept w.parts r
-  all-kept = record {
-    code = record { lines = record { more = _; is = w.lines }; queries = begins-same w.queries };
-    contexts = begins-same w.contexts;
-    handlers = begins-same w.handlers;
-    declared = begins-same w.declared;
-    plans = begins-same w.plans;
-    cursors = begins-same w.cursors;
-  }
-
   nothing-around : Seen r env_of.outermost [] outermost
   nothing-around = record { search = λ n h. searches-nothing r n; frames = refl; blocks = refl; labels = refl; loops = refl; cursors = refl; stand = tt }
 
   whole : Space r 0 [] (λ n. true) (no_parts routine) w.parts
-  whole = record { kept = all-kept; own = λ k low high. ap (own_in k) w.handlers; low = λ k low. refl; free = λ n low high. refl; context = omega arith; visible = tt }
+  whole = record { kept = code-keeps w; own = λ k low high. ap (own_in k) w.handlers; low = λ k low. refl; free = λ n low high. refl; context = omega arith; visible = tt }
 
   cursor-count : routine.cursors ≡ length w.parts.cursors
   cursor-count = omega (arith, counts-to 0 (cursors_of routine.body) routine.cursors f.cursors, counted w.body)

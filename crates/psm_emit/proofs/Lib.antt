@@ -23,6 +23,7 @@ pub mod Growing
 pub mod GrowingAll
 pub mod Numbering
 pub mod Placing
+pub mod Finished
 pub mod Scoping
 pub mod Fitting
 pub mod BlocksStand

@@ -1,9 +1,11 @@
 -- The code of a routine, from what was written of it.
-use Rattle.std.proofs.Common.{◌≡◌, List, [], drop, length, map, ap, subst, ◌∙◌}
-use Rattle.std.specs.Prelude.{Result, Ok, Err, IfOk}
+use Rattle.std.proofs.Common.{◌≡◌, ◌<◌, ◌^◌, List, [], drop, length, map, ap, subst, ◌∙◌, arith}
+use Rattle.std.specs.Prelude.{IsTrue, Result, Ok, Err, IfOk}
 use Rattle.std.specs.declared.alloc.AllocError.{AllocError}
 use Rattle.psm_cond.specs.declared.handlers.Declared.{Declared}
 use Rattle.psm_cond.specs.declared.handlers.Declared.TheVariants as declares
+use Rattle.psm_cond.specs.declared.handlers.HandlerTable.{HandlerTable}
+use Rattle.psm_cond.specs.Sound.{is_numbered}
 use Rattle.psm_code.specs.declared.code.RawRoutine.{RawRoutine}
 use Rattle.psm_code.specs.declared.instruction.Instruction.{Instruction}
 use Rattle.psm_resolved.specs.declared.file.ResolvedRoutine.{ResolvedRoutine}
@@ -17,6 +19,10 @@ use Rattle.psm_emit.specs.Statements.{WritesStatement}
 -- nothing is written yet
 abbrev pub only_declared : List Declared → Parts
 only_declared ds = record { code = record { lines = []; stack = []; queries = [] }; contexts = []; handlers = []; declared = ds; plans = []; cursors = []; letters = [] }
+
+-- the numbers of all conditions, contexts and handlers have 32 bits
+pub table_numbered : (t : HandlerTable) → length t.declared < 2 ^ 32 → length t.contexts < 2 ^ 32 → length t.handlers < 2 ^ 32 → IsTrue (is_numbered t)
+table_numbered t d c h = grind (arith, d, c, h)
 
 pub routine_written : {known : Known} {p a b : Parts} {ds : List Declared} {i : Instruction} (routine : ResolvedRoutine) (body : ResolvedStatement) (res : Result RawRoutine AllocError)
     → ds ≡ map (λ name. declares.Named name) routine.conditions → p ≡ only_declared ds → body ≡ routine.body → WritesStatement known 0 [] body p a → i ≡ last_instruction routine.returns → b ≡ with_plain 0 i a

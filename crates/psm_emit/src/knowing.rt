@@ -29,7 +29,11 @@ pub(crate) fn file_known(alloc: Global, file: &ResolvedFile) -> Result<Known, Al
     })
 }
 
-fn columns_of(alloc: Global, tables: &List<ResolvedTable>) -> Result<List<List<Letter>>, AllocError>
+/// The letters of the columns of each table, one a column: N for a number, T for a text. Want of memory is the one error.
+pub fn columns_of(
+    alloc: Global,
+    tables: &List<ResolvedTable>,
+) -> Result<List<List<Letter>>, AllocError>
     ensures { IfOk result (λ letters. letters ≡ map queries.column_letters tables.now) }
 {
     let mut letters = Vec::new(alloc);

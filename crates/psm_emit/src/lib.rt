@@ -28,6 +28,8 @@ mod tables;
 mod writer;
 
 pub use around::Around;
+pub use knowing::columns_of;
 pub use known::Known;
 pub use lowering::lower;
+pub use queries::query_code;
 pub use sorts::{Sort, sort_of};

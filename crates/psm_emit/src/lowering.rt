@@ -1,6 +1,8 @@
 //! The code of a module file without names.
-ghost use Rattle.std.specs.Prelude.{◌≡◌, drop, length, map, IfOk};
+ghost use Rattle.std.specs.Prelude.{◌≡◌, IsTrue, drop, length, map, IfOk};
+ghost use Rattle.std.specs.List.{All};
 ghost use Rattle.psm_cond.specs.declared.handlers.Declared.TheVariants as declares;
+ghost use Rattle.psm_cond.specs.Sound.{is_numbered};
 ghost use Rattle.psm_lower.specs.Simulation.{FileStands, last_instruction, mode_of, parameter_of};
 ghost use Rattle.psm_emit.specs.Files.{FileWritten, RoutineWritten, RoutinesWritten, is_function};
 ghost use Rattle.psm_emit.specs.Standing.{CanStand};
@@ -25,6 +27,7 @@ use std::alloc::{AllocError, Global};
 pub fn lower(alloc: Global, file: &ResolvedFile) -> Result<RawCode, AllocError>
     ensures written { IfOk result (λ code. FileWritten file.now code) }
     ensures stands { IfOk result (λ code. CanStand file.now → FileStands file.now code) }
+    ensures numbered { IfOk result (λ code. All (λ r. IsTrue (is_numbered r.handlers)) code.routines) }
 {
     let tables = tables_code(alloc, &file.tables)?;
     let routines = routines_code(alloc, file)?;
@@ -32,7 +35,8 @@ pub fn lower(alloc: Global, file: &ResolvedFile) -> Result<RawCode, AllocError>
 }
 
 fn routines_code(alloc: Global, file: &ResolvedFile) -> Result<List<RawRoutine>, AllocError>
-    ensures { IfOk result (λ codes. RoutinesWritten file.now file.now.routines codes) }
+    ensures written { IfOk result (λ codes. RoutinesWritten file.now file.now.routines codes) }
+    ensures numbered { IfOk result (λ codes. All (λ r. IsTrue (is_numbered r.handlers)) codes) }
 {
     let mut known = file_known(alloc, file)?;
     let mut codes = Vec::new(alloc);
@@ -48,7 +52,8 @@ fn routine_code(
     known: &Known,
     routine: &ResolvedRoutine,
 ) -> Result<RawRoutine, AllocError>
-    ensures { IfOk result (λ code. RoutineWritten known.now routine.now code) }
+    ensures written { IfOk result (λ code. RoutineWritten known.now routine.now code) }
+    ensures numbered { IfOk result (λ code. IsTrue (is_numbered code.handlers)) }
 {
     let declared = conditions(alloc, &routine.conditions)?;
     let mut parts = Parts::new(alloc, declared);
@@ -64,6 +69,7 @@ fn routine_code(
 }
 
 /// The code of a routine, of all that is written of it.
+#[tactic(auto, using(crate::proofs::RoutineForms::table_numbered))]
 fn finished(
     alloc: Global,
     parts: Parts,
@@ -81,7 +87,9 @@ fn finished(
     ensures declared { IfOk result (λ r. r.handlers.declared ≡ parts.declared) }
     ensures contexts { IfOk result (λ r. r.handlers.contexts ≡ parts.contexts) }
     ensures handlers { IfOk result (λ r. r.handlers.handlers ≡ parts.handlers) }
+    ensures numbered { IfOk result (λ r. IsTrue (is_numbered r.handlers)) }
 {
+    parts.numbers_fit()?;
     let name = routine.name.copy(alloc)?;
     let parameters = parameters_of(alloc, &routine.parameters)?;
     let variables = variables_of(alloc, routine)?;

@@ -1,5 +1,5 @@
 //! What is written of a routine.
-ghost use Rattle.std.specs.Prelude.{◌≡◌, [], ◌∷◌, ◌++◌, length, suc, IfOk};
+ghost use Rattle.std.specs.Prelude.{◌≡◌, ◌<◌, ◌^◌, [], ◌∷◌, ◌++◌, length, suc, IfOk};
 ghost use Rattle.psm_emit.specs.declared.known.Known.{Known};
 ghost use Rattle.psm_emit.specs.Parts.{at, block_entered, next_context, several_values, with_code, with_handler, with_plain};
 ghost use Rattle.psm_emit.specs.Queries.{item_letters};
@@ -187,6 +187,18 @@ impl Parts {
             updatable: cursor.updatable,
         })?;
         self.letters.push(List::of(letters))?;
+        Ok(())
+    }
+
+    /// More conditions, contexts or handlers than fit in 32 bits are want of memory.
+    pub fn numbers_fit(&self) -> Result<(), AllocError>
+        ensures declared { IfOk result (λ _. length self.now.declared < 2 ^ 32) }
+        ensures contexts { IfOk result (λ _. length self.now.contexts < 2 ^ 32) }
+        ensures handlers { IfOk result (λ _. length self.now.handlers < 2 ^ 32) }
+    {
+        numbered(self.declared.len())?;
+        numbered(self.contexts.len())?;
+        numbered(self.handlers.len())?;
         Ok(())
     }
 

@@ -12,12 +12,10 @@ use psm_list::List;
 use psm_resolved::{ResolvedItem, ResolvedItems, ResolvedQuery};
 use std::alloc::{AllocError, Global};
 
-/// The code of a query.
-pub(crate) fn query_code(
-    alloc: Global,
-    known: &Known,
-    query: &ResolvedQuery,
-) -> Result<Query, AllocError>
+/// The code of a query (ISO/IEC 9075:1992, clause 7): over the columns of its table and the variables that are known, letters N, T or B
+/// each. It fits them whatever the query's expressions are, and does what the query does where these are of letters. Nothing else of
+/// what is known is looked at. Want of memory is the one error.
+pub fn query_code(alloc: Global, known: &Known, query: &ResolvedQuery) -> Result<Query, AllocError>
     ensures { IfOk result (λ code. QueryMade known.now query.now code) }
 {
     let columns = known.columns_at(query.table);
