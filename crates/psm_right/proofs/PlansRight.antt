@@ -22,7 +22,7 @@ use Rattle.psm_code.specs.PlanRules.{are_items, columns_there, cursor_table, fit
 use Rattle.psm_code.specs.Rules.{are_distinct, each_after, is_among, is_some, is_there, there, where_there}
 use Rattle.psm_code.specs.TableRules.{are_there, is_column_list}
 use Rattle.psm_emit.specs.declared.known.Known.{Known}
-use Rattle.psm_emit.specs.Queries.{QueryMade, SetsFit, SetsMade, TestFits, TestMade, cursor_of, item_letters}
+use Rattle.psm_emit.specs.Queries.{QueryMade, RowTestFits, SetsMade, SourcesFit, TestMade, cursor_of, item_letters}
 use Rattle.psm_emit.specs.Simples.{letters_of_columns}
 use Rattle.psm_emit.specs.Written.{letter_at, letters_at}
 use Rattle.psm_proper.specs.Simples.{AreColumns, AreSets, MayChange}
@@ -66,7 +66,7 @@ move-one f (y ∷ ys) x ns = ap (λ l. f y ∷ l) (move-one f ys x ns)
 -- ---- columns that are set
 
 module _ {e : Scene} {known : Known} {code : RawCode} {r : RawRoutine} (holds : Holds e known code r) (table : ℕ) (t : ResolvedTable) (at : slice_get e.file.tables table ≡ Some t) where
-  sets-from : (before : List SetItem) (sets : List ResolvedSet) (coded : List SetItem) → SetsFit (columns_at code table) (variables_of r) sets coded → are_there t.definition.columns (map (λ s. s.column) sets) ≡ true
+  sets-from : (before : List SetItem) (sets : List ResolvedSet) (coded : List SetItem) → SourcesFit (columns_at code table) (variables_of r) sets coded → are_there t.definition.columns (map (λ s. s.column) sets) ≡ true
       → are_distinct (map (λ b. b.column) before ++ map (λ s. s.column) sets) ≡ true → Faultless (each_after (set_faults code r table) before coded)
   sets-from before [] [] h a d = tt
   sets-from before [] (c ∷ cs) h a d = absurd h
@@ -90,13 +90,13 @@ module _ {e : Scene} {known : Known} {code : RawCode} {r : RawRoutine} (holds : 
   pub sets-faultless : (sets : List ResolvedSet) (coded : List SetItem) → SetsMade known table sets coded → AreSets e known table sets → Faultless (sets_in code r table coded)
   sets-faultless sets coded m p =
       let names = map (λ s. s.column) sets in
-      sets-from [] sets coded (as-known holds (λ cs vs. SetsFit cs vs sets coded) table m.fit) (p.0.there t at) (and_second (is_some names) (are_distinct names) p.0.list)
+      sets-from [] sets coded (as-known holds (λ cs vs. SourcesFit cs vs sets coded) table m.fit) (p.0.there t at) (and_second (is_some names) (are_distinct names) p.0.list)
 
   pub test-right : (test : Option ResolvedExpr) (coded : Option (List Line)) → TestMade known table test coded → Faultless (test_in code r table coded)
-  test-right test coded m = test-faultless code r table test coded (as-known holds (λ cs vs. TestFits cs vs test coded) table m.fits)
+  test-right test coded m = test-faultless code r table test coded (as-known holds (λ cs vs. RowTestFits cs vs test coded) table m.fits)
 
 -- some columns are set
-sets-some : (columns variables : List Letter) (sets : List ResolvedSet) (coded : List SetItem) → SetsFit columns variables sets coded → is_some (map (λ s. s.column) sets) ≡ true → is_some coded ≡ true
+sets-some : (columns variables : List Letter) (sets : List ResolvedSet) (coded : List SetItem) → SourcesFit columns variables sets coded → is_some (map (λ s. s.column) sets) ≡ true → is_some coded ≡ true
 sets-some columns variables [] coded h p = absurd (false≢true p)
 sets-some columns variables (s ∷ ss) [] h p = absurd h
 sets-some columns variables (s ∷ ss) (c ∷ cs) h p = refl

@@ -28,7 +28,7 @@ use Rattle.psm_code.specs.Instructions.{columns_at, variables_of}
 use Rattle.psm_code.specs.PlanRules.{cursor_fault, has_items, has_rows, is_due, item_in, items_in, operand_in, query_faults, set_in, test_in}
 use Rattle.psm_code.specs.Rules.{is_some, is_there, there, where_there}
 use Rattle.psm_emit.specs.declared.known.Known.{Known}
-use Rattle.psm_emit.specs.Queries.{AggregatesFit, ExprsFit, ItemsFit, Layer, OperandFits, QueryMade, TestFits, are_items, is_test_perhaps, is_value_of, letter_of_sort}
+use Rattle.psm_emit.specs.Queries.{AggregatesFit, ExprsFit, ItemsFit, Layer, OperandFits, QueryMade, RowTestFits, are_items, is_test_perhaps, is_value_of, letter_of_sort}
 use Rattle.psm_emit.specs.Written.{letters_at}
 use Rattle.psm_proper.specs.Queries.{ProperQuery, are_proper, is_operand, is_set_function, items_of}
 use Rattle.psm_proper.specs.Queries as proper
@@ -88,7 +88,7 @@ module _ (code : RawCode) (r : RawRoutine) (table : ℕ) where
   items-faultless (layers.Sets is) (coded.Rows cs) h v p = absurd h
   items-faultless (layers.Sets is) (coded.Sets sets) h v p = sets-faultless is sets h (and_second (is_some is) (list_all (is_set_function Columns Variables) is) p)
 
-  pub test-faultless : (e : Option ResolvedExpr) (c : Option (List Line)) → TestFits Columns Variables e c → Faultless (test_in code r table c)
+  pub test-faultless : (e : Option ResolvedExpr) (c : Option (List Line)) → RowTestFits Columns Variables e c → Faultless (test_in code r table c)
   test-faultless None None h = tt
   test-faultless None (Some c) h = absurd h
   test-faultless (Some e) None h = absurd h
@@ -141,8 +141,8 @@ module _ {e : Scene} {known : Known} {code : RawCode} {r : RawRoutine} (holds : 
       as-known (λ cs vs. are_items cs vs layer ≡ true) made.table (ap (λ n. are_items (letters_at known.columns n) known.variables layer) m.table ∙ mine) in
       let right : are_proper (columns_at code made.table) (variables_of r) layer ≡ true =
       as-known (λ cs vs. are_proper cs vs layer ≡ true) made.table (ap (λ n. are_proper (letters_at known.columns n) known.variables layer) m.table ∙ p.items) in
-      let test : TestFits (columns_at code made.table) (variables_of r) (out-ResolvedQuery query).test made.test =
-      as-known (λ cs vs. TestFits cs vs (out-ResolvedQuery query).test made.test) made.table (subst (λ n. TestFits (letters_at known.columns n) known.variables (out-ResolvedQuery query).test made.test) (sym m.table) m.test_fits) in
+      let test : RowTestFits (columns_at code made.table) (variables_of r) (out-ResolvedQuery query).test made.test =
+      as-known (λ cs vs. RowTestFits cs vs (out-ResolvedQuery query).test made.test) made.table (subst (λ n. RowTestFits (letters_at known.columns n) known.variables (out-ResolvedQuery query).test made.test) (sym m.table) m.test_fits) in
       let there_is : is_there code.tables made.table ≡ true = ap at m.table ∙ ap there (holds.tables table is.table is.there).there in (
         none_of-two (at made.table) (has_items made.items) Range Definition there_is (items-some (columns_at code made.table) (variables_of r) layer made.items items right),
         faultless-append (items_in code r made.table made.items) (test_in code r made.table made.test) (items-faultless code r made.table layer made.items items values right)
