@@ -101,7 +101,7 @@ this_type u t h is = subst (λ t. is_type t ≡ true) (same u t is) h
     same : (u t : SqlType) → Some u ≡ Some t → u ≡ t
     same u t is = cc
 
-type_bounded : (f : TypeForm) (t : SqlType) → type_in f ≡ Some t → is_type t ≡ true
+pub type_bounded : (f : TypeForm) (t : SqlType) → type_in f ≡ Some t → is_type t ≡ true
 type_bounded forms.SmallInt t is = this_type types.SmallInt t refl is
 type_bounded forms.Integer t is = this_type types.Integer t refl is
 type_bounded (forms.Numeric None) t is = this_type (types.Numeric 18 0) t refl is

@@ -33,3 +33,10 @@ pub mod ProperColumns
 pub mod ProperChanges
 pub mod ProperCalls
 pub mod ProperSimples
+pub mod Premises
+pub mod Opening
+pub mod Growing
+pub mod DeclaredOnce
+pub mod GoodStates
+pub mod Moving
+pub mod Declaring

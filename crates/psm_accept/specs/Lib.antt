@@ -5,3 +5,4 @@ pub mod Simples
 pub mod StatementsStand
 pub mod ScriptsStand
 pub mod Places
+pub mod Numbered
