@@ -5,7 +5,7 @@ use Rattle.std.specs.Prelude.{◌&&◌, IsTrue}
 use Rattle.psm_value.specs.declared.sqltype.SqlType.{SqlType}
 use Rattle.psm_exprcode.specs.WellFormed.{is_type}
 use Rattle.psm_exprcode.specs.Kinds.{letter_of}
-use Rattle.psm_code.specs.Rules as codes
+use Rattle.psm_code.specs.RoutineRules.{is_condition}
 use Rattle.psm_scope.specs.Frames.{Spelling}
 use Rattle.psm_scope.specs.Frames as frame
 use Rattle.psm_scope.specs.declared.known.DeclaredCondition.{DeclaredCondition}
@@ -40,7 +40,9 @@ use Rattle.psm_sound.specs.Statements.{IsDeclaration, IsDefault}
 use Rattle.psm_proper.specs.Expressions.{PerhapsProper}
 use Rattle.psm_proper.specs.Statements.{Letters, ProperDeclaration}
 use Rattle.psm_accept.specs.Agreement.{Agree, HasSlot}
+use Rattle.psm_accept.specs.Meant.{HasNumber}
 use Rattle.psm_accept.specs.Numbered.{Fills}
+use Rattle.psm_accept.specs.Places.{IsGood}
 use Rattle.psm_accept.specs.StatementsStand.{DeclarationStands, DefaultStands}
 use Rattle.psm_accept.proofs.Choices.{type_bounded}
 use Rattle.psm_accept.proofs.Declaring.{Checked, InBlock, IsFresh, Made, at_frames, block_context, block_frames, condition_declared, variable_declared}
@@ -92,6 +94,17 @@ types-variables t told (n ∷ ns) bounded h = types-variables t (making.told_var
 default_sound : (e : Scene) (view : View) (sight : Sight) → Agree e view sight → sight.row ≡ None → (x : Option Expr) → DefaultStands x → (t : SqlType) → default_fault view (Some t) x ≡ None → IsDefault e (option_map (expr_at sight) x) (letter_of t)
 default_sound e view sight a r None well t none = tt
 default_sound e view sight a r (Some x) well t none = source_for e view sight a r x well (Some t) t refl none
+
+-- ---- conditions of an SQLSTATE
+
+numbered : (e : Scene) (o : Option (List ℕ)) (text : List ℕ) → o ≡ Some text → HasNumber e o 0
+numbered e o text is = subst (λ o. HasNumber e o 0) (sym is) tt
+
+good_condition : (o : Option (List ℕ)) (text : List ℕ) → o ≡ Some text → is_condition text ≡ true → IsGood (Some (record { number = 0; state = o }))
+good_condition o text is h = subst (λ o. IsGood (Some (record { number = 0; state = o }))) (sym is) h
+
+none_some : (o : Option (List ℕ)) (text : List ℕ) → o ≡ None → o ≡ Some text → ⊥
+none_some o text h k = cc
 
 -- ---- behind declarations
 
@@ -176,6 +189,34 @@ module _ (e : Scene) (known : Known) (letters : Letters) (s : places.Sight) (c :
         made = record made { conditions = declared_once made.conditions name x };
         frames = refl;
         told_frames = refl;
-        here = condition_declared e known letters s c world outer label d made n n (grows-here n) name x x refl (numbered good.0) (of_state (good_state state.text) state.text good.0 good.1) (λ is. absurd (some_none (sym is ∙ good.0))) h;
+        here = condition_declared e known letters s c world outer label d made n n (grows-here n) name x x refl (numbered e (good_state state.text) state.text good.0) (good_condition (good_state state.text) state.text good.0 good.1) (λ is. absurd (none_some (good_state state.text) state.text is good.0)) h;
         types = types;
       }
+
+  -- ---- a declaration, and all of a block
+
+  declaration_at : PartsProper e known letters → (from : Numbering) (x : Declaration) → DeclarationStands x → (d : Checked) (made : Made) (n : Numbering) → (AreTypes from → AreTypes n) → Here d made n
+      → declaration_fault (block_context c label d).view x ≡ None → Fills e (told_behind (told_at made n) x).1 → Declares from (faults.behind (checked_frames d) x) (told_behind (told_at made n) x) (declaration_of world (told_at made n) x)
+  declaration_at parts from (declarations.Variables place names kind default) well d made n types h none f =
+      let two = neither (type_fault kind (type_of kind)) (default_fault (block_context c label d).view (type_of kind) default) none in
+      variables_at parts from kind names.first names.rest default (type_of kind) (λ t is. type_bounded kind.form t is) two.0 well d made n types h two.1 f
+  declaration_at parts from (declarations.Condition place name state) well d made n types h none f = (condition_at from name.name state none d made n types h f, tt, tt)
+
+  abbrev Declared_at : Numbering → Declaration → views.Frames → Told → Type 0
+  Declared_at from x fs told = declaration_fault (faults.in_frames c.view fs) x ≡ None → Fills e (told_behind told x).1 → Declares from (faults.behind fs x) (told_behind told x) (declaration_of world told x)
+
+  declaration_step : PartsProper e known letters → (from : Numbering) (x : Declaration) → DeclarationStands x → (fs : views.Frames) (told : Told) → Behind from fs told → Declared_at from x fs told
+  declaration_step parts from x well fs told w =
+      subst (λ g. Declared_at from x g told) (sym w.frames) (subst (λ g. Declared_at from x (checked_frames w.d) (g, told.1)) (sym w.told_frames) (declaration_at parts from x well w.d w.made told.1 w.types w.here))
+
+  pub declarations_walk : PartsProper e known letters → (from : Numbering) (xs : List Declaration) → Each DeclarationStands xs → (fs : views.Frames) (told : Told) → Behind from fs told → first_of (declarations_fault (faults.in_frames c.view fs) xs) ≡ None
+      → Fills e (told_by told xs).1 → Declares from (faults.declared_by fs xs) (told_by told xs) (declarations_of world told xs)
+  declarations_walk parts from [] well fs told w none f = (w, tt, tt)
+  declarations_walk parts from (x ∷ xs) well fs told w none f =
+      let view : View = faults.in_frames c.view fs in
+      let others : View = faults.in_frames c.view (faults.behind fs x) in
+      let two = neither (declaration_fault view x) (first_of (declarations_fault others xs)) (sym (first_of_cons (declaration_fault view x) (declarations_fault others xs)) ∙ none) in
+      let one = declaration_step parts from x well.0 fs told w two.0 (fills-before (declarations-grow (told_behind told x) xs) f) in
+      let more = declarations_walk parts from xs well.1 (faults.behind fs x) (told_behind told x) one.0 two.1 f in
+      (more.0, each_append (IsDeclaration e) (declaration_of world told x) (declarations_of world (told_behind told x) xs) one.1 more.1,
+        each_append (ProperDeclaration known) (declaration_of world told x) (declarations_of world (told_behind told x) xs) one.2 more.2)

@@ -1,7 +1,6 @@
 -- What a name means behind a declaration: a name that is declared already stays what it is.
 use Rattle.std.proofs.Common.{◌≡◌, ◌⊎◌, inl, inr, Bool, true, false, List, [], ◌∷◌, ◌++◌, map, Option, Some, None, option_map, refl, ap, sym, ◌∙◌, subst}
 use Rattle.std.specs.Prelude.{if◌then◌else◌, is_some}
-use Rattle.std.proofs.lemmas.List.{map-append}
 use Rattle.psm_scope.specs.Frames.{Spelling, is_spelled}
 use Rattle.psm_scope.specs.Lookup.{named, or_else}
 use Rattle.psm_rules.specs.BlockFaults.{declared_once}
@@ -75,19 +74,26 @@ synced_once xs ys n x y s m =
 
 -- ---- what is made of each thing that is declared
 
+abbrev pub mapped : {A B : Type 0} → (A → B) → List (Spelling × A) → List (Spelling × B)
+mapped f xs = map (λ p. (p.0, f p.1)) xs
+
 some_mapped : {A B : Type 0} (f : A → B) (o : Option A) → is_some o ≡ is_some (option_map f o)
 some_mapped f None = refl
 some_mapped f (Some a) = refl
 
-once_by : {A B : Type 0} (f : A → B) (xs : List (Spelling × A)) (n : Spelling) (x : A) (b : Bool)
-    → map (λ p. (p.0, f p.1)) (if b then xs else xs ++ (n, x) ∷ []) ≡ (if b then map (λ p. (p.0, f p.1)) xs else map (λ p. (p.0, f p.1)) xs ++ (n, f x) ∷ [])
-once_by f xs n x true = refl
-once_by f xs n x false = map-append (λ p. (p.0, f p.1)) xs ((n, x) ∷ [])
+mapped_append : {A B : Type 0} (f : A → B) (xs : List (Spelling × A)) (n : Spelling) (x : A) → mapped f (xs ++ (n, x) ∷ []) ≡ mapped f xs ++ (n, f x) ∷ []
+mapped_append f [] n x = refl
+mapped_append f (p ∷ xs) n x = ap (λ ps. (p.0, f p.1) ∷ ps) (mapped_append f xs n x)
 
-pub once_mapped : {A B : Type 0} (f : A → B) (xs : List (Spelling × A)) (n : Spelling) (x : A) → map (λ p. (p.0, f p.1)) (declared_once xs n x) ≡ declared_once (map (λ p. (p.0, f p.1)) xs) n (f x)
+once_by : {A B : Type 0} (f : A → B) (xs : List (Spelling × A)) (n : Spelling) (x : A) (b : Bool)
+    → mapped f (if b then xs else xs ++ (n, x) ∷ []) ≡ (if b then mapped f xs else mapped f xs ++ (n, f x) ∷ [])
+once_by f xs n x true = refl
+once_by f xs n x false = mapped_append f xs n x
+
+pub once_mapped : {A B : Type 0} (f : A → B) (xs : List (Spelling × A)) (n : Spelling) (x : A) → mapped f (declared_once xs n x) ≡ declared_once (mapped f xs) n (f x)
 once_mapped f xs n x =
     once_by f xs n x (is_some (named n xs))
-    ∙ ap (λ b. if b then map (λ p. (p.0, f p.1)) xs else map (λ p. (p.0, f p.1)) xs ++ (n, f x) ∷ []) (some_mapped f (named n xs) ∙ ap is_some (sym (named_mapped f n xs)))
+    ∙ ap (λ b. if b then mapped f xs else mapped f xs ++ (n, f x) ∷ []) (some_mapped f (named n xs) ∙ ap is_some (sym (named_mapped f n xs)))
 
 -- ---- each of what is declared
 

@@ -27,7 +27,7 @@ use Rattle.psm_accept.specs.Numbered.{AreBelow, IsConditionBelow, IsCursorBelow}
 use Rattle.psm_accept.specs.Places.{AreDistinct, IsCursorKnown, IsGood, IsKnown, StandsAt, state_in}
 use Rattle.psm_accept.proofs.DeclaredOnce.{Synced, each_once, looked, looked_in, once_mapped, synced_once}
 use Rattle.psm_accept.proofs.Growing.{Grows}
-use Rattle.psm_accept.proofs.Moving.{below-grown, condition_below, cursor_below, known_moved, longer}
+use Rattle.psm_accept.proofs.Moving.{below-grown, known_moved}
 
 -- ---- a block in which so much is declared
 

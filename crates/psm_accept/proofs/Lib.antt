@@ -40,3 +40,4 @@ pub mod DeclaredOnce
 pub mod GoodStates
 pub mod Moving
 pub mod Declaring
+pub mod Declarations

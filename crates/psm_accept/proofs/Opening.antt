@@ -1,6 +1,5 @@
 -- The fault of a statement, what stands for it without names, and the cursors in that, by the layer of the statement.
 use Rattle.std.proofs.Common.{◌≡◌, List, map, ap, ◌∙◌}
-use Rattle.std.specs.List.{concat}
 use Rattle.std.specs.Prelude.{◌++◌, Option}
 use Rattle.psm_scope.specs.Frames.{Spelling}
 use Rattle.psm_rules.specs.declared.fault.Fault.{Fault}
@@ -25,7 +24,7 @@ use Rattle.psm_resolve.specs.Blocks.{block_made, branch_made, handler_made, kind
 use Rattle.psm_resolve.specs.Numbering.{Numbering, Step, then_as}
 use Rattle.psm_resolve.specs.Statements.{expr_at}
 use Rattle.psm_scope.specs.Frames as frame
-use Rattle.psm_accept.specs.Numbered.{Cursors, block_cursors_layer, branch_cursors_layer, cursors_in, cursors_in_block, cursors_in_branch, cursors_in_handler, cursors_layer, handler_cursors_layer}
+use Rattle.psm_accept.specs.Numbered.{Cursors, block_cursors_layer, branch_cursors_layer, cursors_in, cursors_in_block, cursors_in_branch, cursors_in_handler, cursors_layer, handler_cursors_layer, together}
 
 -- ---- faults
 
@@ -108,13 +107,13 @@ abbrev pub cursors_of_layer : ResolvedLayer → Cursors
 cursors_of_layer layer = cursors_layer (map-ResolvedStatement ResolvedStatement ResolvedBlock ResolvedBranch ResolvedHandler Cursors Cursors Cursors Cursors cursors_in cursors_in_block cursors_in_branch cursors_in_handler layer)
 
 abbrev pub cursors_of_all : List ResolvedStatement → Cursors
-cursors_of_all xs = concat (map cursors_in xs)
+cursors_of_all xs = together (map cursors_in xs)
 
 abbrev pub cursors_of_branches : List ResolvedBranch → Cursors
-cursors_of_branches xs = concat (map cursors_in_branch xs)
+cursors_of_branches xs = together (map cursors_in_branch xs)
 
 abbrev pub cursors_of_handlers : List ResolvedHandler → Cursors
-cursors_of_handlers xs = concat (map cursors_in_handler xs)
+cursors_of_handlers xs = together (map cursors_in_handler xs)
 
 pub cursors-out : (x : ResolvedStatement) (layer : ResolvedLayer) → out-ResolvedStatement x ≡ layer → cursors_in x ≡ cursors_of_layer layer
 cursors-out x layer is = fold_out-ResolvedStatement Cursors Cursors Cursors Cursors cursors_layer block_cursors_layer branch_cursors_layer handler_cursors_layer x ∙ ap cursors_of_layer is

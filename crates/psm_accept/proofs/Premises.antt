@@ -4,8 +4,8 @@ use Rattle.psm_value.specs.declared.sqltype.SqlType.{SqlType}
 use Rattle.psm_exprcode.specs.declared.op.Letter.{Letter}
 use Rattle.psm_exprcode.specs.declared.op.Letter.TheVariants.{B}
 use Rattle.psm_exprcode.specs.Kinds.{is_value}
-use Rattle.psm_rules.specs.BlockFaults.{default_fault, simple_test, test_part}
-use Rattle.psm_rules.specs.ExprFaults.{expr_found, first_set, query_fault, query_found}
+use Rattle.psm_rules.specs.BlockFaults.{default_fault, test_part}
+use Rattle.psm_rules.specs.ExprFaults.{expr_found, first_set, query_fault, query_found, simple_test}
 use Rattle.psm_rules.specs.Found.{as_value}
 use Rattle.psm_rules.specs.StatementFaults.{Context, simple_fault}
 use Rattle.psm_rules.specs.View.{View}
@@ -42,5 +42,5 @@ pub record PartsProper (e : Scene) (known : Known) (letters : Letters) : Type 0 
   pub defaults : (view : View) (sight : Sight) → Agree e view sight → sight.row ≡ None → (x : Option Expr) → DefaultStands x → (o : Option SqlType) → default_fault view o x ≡ None → PerhapsProper known true (option_map (expr_at sight) x)
   pub compared : (view : View) (sight : Sight) → Agree e view sight → sight.row ≡ None → (x : Expr) → Tested x → (as_value (expr_found x view)).fault ≡ None → IsCompared e known view sight x
   pub queries : (view : View) (sight : Sight) → Agree e view sight → (q : Select) → IsTrue (select_stands q) → query_fault (query_found q view) ≡ None → ProperQuery known (query_made q sight).query
-  pub letters : (view : View) (sight : Sight) → Agree e view sight → (q : Select) → IsTrue (select_stands q) → query_fault (query_found q view) ≡ None → AllSuit (query_made q sight).shapes (item_letters known (query_made q sight).query)
+  pub suit : (view : View) (sight : Sight) → Agree e view sight → (q : Select) → IsTrue (select_stands q) → query_fault (query_found q view) ≡ None → AllSuit (query_made q sight).shapes (item_letters known (query_made q sight).query)
   pub rows : (view : View) (sight : Sight) → Agree e view sight → (q : Select) → IsTrue (select_stands q) → query_fault (query_found q view) ≡ None → first_set (query_found q view).picks ≡ None → has_rows (items_of (query_made q sight).query) ≡ true

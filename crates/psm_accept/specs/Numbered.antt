@@ -1,6 +1,5 @@
 -- What the declarations of a routine are numbered by: what is known of the slots, the cursors and the conditions that have been
 -- numbered where a statement stands, and of those of the whole routine.
-use Rattle.std.specs.List.{concat}
 use Rattle.std.specs.Prelude.{◌≡◌, ◌<◌, ℕ, List, [], ◌∷◌, ◌++◌, length, slice_get, Option, Some, None}
 use Rattle.psm_scope.specs.Frames.{Spelling}
 use Rattle.psm_scope.specs.Lookup as lookup
@@ -26,21 +25,25 @@ use Rattle.psm_proper.specs.Statements.{Letters}
 abbrev pub Cursors : Type 0
 Cursors = List ResolvedCursor
 
+abbrev pub together : List Cursors → Cursors
+together [] = []
+together (xs ∷ others) = xs ++ together others
+
 abbrev pub cursors_layer : ResolvedStatement-F Cursors Cursors Cursors Cursors → Cursors
 cursors_layer (layers.Compound level block) = block
-cursors_layer (layers.Loop level statements) = concat statements
-cursors_layer (layers.While level test statements) = concat statements
-cursors_layer (layers.Repeat level statements until) = concat statements
-cursors_layer (layers.For level head statements) = head.cursor ∷ concat statements
-cursors_layer (layers.If branches otherwise) = concat branches ++ concat otherwise
-cursors_layer (layers.Case operand branches otherwise) = concat branches ++ concat otherwise
+cursors_layer (layers.Loop level statements) = together statements
+cursors_layer (layers.While level test statements) = together statements
+cursors_layer (layers.Repeat level statements until) = together statements
+cursors_layer (layers.For level head statements) = head.cursor ∷ together statements
+cursors_layer (layers.If branches otherwise) = together branches ++ together otherwise
+cursors_layer (layers.Case operand branches otherwise) = together branches ++ together otherwise
 cursors_layer (layers.Simple simple) = []
 
 abbrev pub block_cursors_layer : ResolvedBlock-F Cursors Cursors Cursors Cursors → Cursors
-block_cursors_layer b = b.cursors ++ (concat b.handlers ++ concat b.statements)
+block_cursors_layer b = b.cursors ++ (together b.handlers ++ together b.statements)
 
 abbrev pub branch_cursors_layer : ResolvedBranch-F Cursors Cursors Cursors Cursors → Cursors
-branch_cursors_layer b = concat b.statements
+branch_cursors_layer b = together b.statements
 
 abbrev pub handler_cursors_layer : ResolvedHandler-F Cursors Cursors Cursors Cursors → Cursors
 handler_cursors_layer h = h.action
