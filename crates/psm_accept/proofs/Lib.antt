@@ -41,3 +41,5 @@ pub mod GoodStates
 pub mod Moving
 pub mod Declaring
 pub mod Declarations
+pub mod CursorQueries
+pub mod CursorDeclarations
