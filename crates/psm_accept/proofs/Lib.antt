@@ -43,3 +43,4 @@ pub mod Declaring
 pub mod Declarations
 pub mod CursorQueries
 pub mod CursorDeclarations
+pub mod EnteringBlocks
