@@ -44,3 +44,4 @@ pub mod Declarations
 pub mod CursorQueries
 pub mod CursorDeclarations
 pub mod EnteringBlocks
+pub mod HandledValues
