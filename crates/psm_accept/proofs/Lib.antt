@@ -45,3 +45,4 @@ pub mod CursorQueries
 pub mod CursorDeclarations
 pub mod EnteringBlocks
 pub mod HandledValues
+pub mod MayHandle
