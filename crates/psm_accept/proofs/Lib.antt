@@ -46,3 +46,4 @@ pub mod CursorDeclarations
 pub mod EnteringBlocks
 pub mod HandledValues
 pub mod MayHandle
+pub mod ForItems

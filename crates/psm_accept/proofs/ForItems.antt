@@ -1,0 +1,200 @@
+-- The items of a FOR statement: each has a name and a type within bounds, whose letter is that of its values.
+use Rattle.std.proofs.Common.{◌≡◌, ℕ, suc, ◌+◌, ◌≤◌, Bool, true, false, ◌&&◌, List, [], ◌∷◌, ◌++◌, map, nat_le, Option, Some, None, option_map, refl, ap, sym, ◌∙◌, subst, arith}
+use Rattle.std.proofs.lemmas.Bool.Decides.{nat_tests}
+use Rattle.std.specs.Prelude.{IfSome, IsTrue, is_some, if◌then◌else◌}
+use Rattle.psm_token.specs.declared.place.Place.{Place}
+use Rattle.psm_value.specs.declared.sqltype.SqlType.{SqlType}
+use Rattle.psm_value.specs.declared.sqltype.SqlType.TheVariants as types
+use Rattle.psm_exprcode.specs.WellFormed.{is_type}
+use Rattle.psm_exprcode.specs.Kinds.{letter_of}
+use Rattle.psm_scope.specs.Frames.{Spelling}
+use Rattle.psm_scope.specs.Lookup as lookup
+use Rattle.psm_scope.specs.Lookup.{RowTable, as_column, as_variable, column_meant, is_table, meant, named, or_else, place_named}
+use Rattle.psm_scope.specs.declared.known.Variable.{Variable}
+use Rattle.psm_rules.specs.declared.found.Found.{Found}
+use Rattle.psm_rules.specs.declared.query.Picked.TheVariants.{All, Plain, Set}
+use Rattle.psm_rules.specs.declared.rule.Rule.TheVariants as rule
+use Rattle.psm_rules.specs.declared.shape.Family.{Family}
+use Rattle.psm_rules.specs.declared.shape.Family.TheVariants.{Numbers, Texts}
+use Rattle.psm_rules.specs.declared.shape.Shape.{Shape}
+use Rattle.psm_rules.specs.declared.shape.Shape.TheVariants.{Value, Untyped, Condition}
+use Rattle.psm_rules.specs.declared.shape.Typed.{Typed}
+use Rattle.psm_rules.specs.BlockFaults as faults
+use Rattle.psm_rules.specs.BlockFaults.{declared_once, for_item, item_of_for, local_variable, named_fault, unless_broken, wide, with_columns, with_item}
+use Rattle.psm_rules.specs.ExprFaults as found
+use Rattle.psm_rules.specs.ExprFaults.{Of, PickFound, PickPart, LinkPart, QueryFound, WhenPart, expr_found, is_set, link_found, pick_found, query_found, spelling, when_found}
+use Rattle.psm_rules.specs.Faults.{breaks_if, earlier}
+use Rattle.psm_rules.specs.Found.{as_value}
+use Rattle.psm_rules.specs.Shapes.{family_of, typed}
+use Rattle.psm_rules.specs.View.{Columns, View}
+use Rattle.psm_tree.specs.declared.expr.Expr.{Expr, out-Expr}
+use Rattle.psm_tree.specs.declared.expr.Expr.TheFolds.{fold_out-Expr, fold_out-Pick, map-Expr, map-Pick}
+use Rattle.psm_tree.specs.declared.expr.Expr.TheOpen.{Expr-F, Pick-F}
+use Rattle.psm_tree.specs.declared.expr.Expr.TheOpen as layers
+use Rattle.psm_tree.specs.declared.expr.Link.{Link}
+use Rattle.psm_tree.specs.declared.expr.Operator.{Operator as WrittenOperator}
+use Rattle.psm_tree.specs.declared.expr.Pick.{Pick, out-Pick}
+use Rattle.psm_tree.specs.declared.expr.Select.{Select}
+use Rattle.psm_tree.specs.declared.expr.When.{When}
+use Rattle.psm_tree.specs.declared.name.Identifier.{Identifier}
+use Rattle.psm_tree.specs.declared.name.Target.{Target}
+use Rattle.psm_resolve_expr.specs.declared.made.Made.{Made}
+use Rattle.psm_resolve_expr.specs.declared.made.MadeQuery.{MadeQuery}
+use Rattle.psm_resolve_expr.specs.Exprs as making
+use Rattle.psm_resolve_expr.specs.Exprs.{columns_from, columns_on, made_of, pick_made, type_known}
+use Rattle.psm_resolve_expr.specs.Made as made
+use Rattle.psm_resolve_expr.specs.Made.{MadePick, Values, shape_of_type}
+use Rattle.psm_resolve_expr.specs.Sight.{Sight, meant_in}
+use Rattle.psm_resolve.specs.Blocks as blocks
+use Rattle.psm_resolve.specs.Blocks.{ForItem, column_items, items_of_pick}
+use Rattle.psm_sound.specs.Scene.{Scene}
+use Rattle.psm_accept.specs.Agreement.{Agree, HaveTypes, letter_in}
+use Rattle.psm_accept.specs.Stands.{Standing, as_operand, link_stands, link_stands_layer, pick_stands, pick_stands_layer, select_stands, select_stands_layer, stands, stands_layer, when_stands, when_stands_layer}
+use Rattle.psm_accept.proofs.Accepted.{Fits}
+use Rattle.psm_accept.proofs.Declaring.{kinds}
+use Rattle.psm_accept.proofs.DeclaredOnce.{once_mapped}
+use Rattle.psm_accept.proofs.Judging.{OnRow}
+use Rattle.psm_accept.proofs.Names.{IsColumn, columns_placed}
+use Rattle.psm_accept.proofs.Parts.{IsOperand, IsSane, Part, as_value-clean, neither, operand, operand_source}
+use Rattle.psm_accept.proofs.Whole.{expr_accepted}
+
+-- ---- what is declared by items, by names and types
+
+abbrev pub declared_kinds : List (Spelling × Option SqlType) → List ForItem → List (Spelling × Option SqlType)
+declared_kinds ks [] = ks
+declared_kinds ks ((Some n, t) ∷ is) = declared_kinds (declared_once ks n (Some t)) is
+declared_kinds ks ((None, t) ∷ is) = declared_kinds ks is
+
+-- an item with its name and its type, and what is made of it
+pub record IsNamedItem (i : ForItem) (m : Made) : Type 0 where
+  pub name : Spelling
+  pub has : i.0 ≡ Some name
+  pub bounded : is_type i.1 ≡ true
+  pub type : Typed
+  pub shape : m.shape ≡ Value type
+  pub letter : letter_of i.1 ≡ letter_in (family_of type.kind)
+
+-- one for one
+abbrev pub AreNamed : List ForItem → List Made → Type 0
+AreNamed [] [] = Unit {0}
+AreNamed [] (m ∷ ms) = ⊥
+AreNamed (i ∷ is) [] = ⊥
+AreNamed (i ∷ is) (m ∷ ms) = IsNamedItem i m × AreNamed is ms
+
+pub named_append : (is js : List ForItem) (ms ns : List Made) → AreNamed is ms → AreNamed js ns → AreNamed (is ++ js) (ms ++ ns)
+named_append [] js [] ns h k = k
+named_append [] js (m ∷ ms) ns h k = absurd h
+named_append (i ∷ is) js [] ns h k = absurd h
+named_append (i ∷ is) js (m ∷ ms) ns h k = (h.0, named_append is js ms ns h.1 k)
+
+pub kinds_append : (ks : List (Spelling × Option SqlType)) (is js : List ForItem) → declared_kinds ks (is ++ js) ≡ declared_kinds (declared_kinds ks is) js
+kinds_append ks [] js = refl
+kinds_append ks ((Some n, t) ∷ is) js = kinds_append (declared_once ks n (Some t)) is js
+kinds_append ks ((None, t) ∷ is) js = kinds_append ks is js
+
+-- ---- letters of types
+
+typed_letter : (t : SqlType) → letter_of t ≡ letter_in (family_of (typed t).kind)
+typed_letter types.SmallInt = refl
+typed_letter types.Integer = refl
+typed_letter (types.Numeric p s) = refl
+typed_letter (types.Char n) = refl
+typed_letter (types.VarChar n) = refl
+
+wide_letter : (family : Family) (scale : ℕ) → letter_of (wide family scale) ≡ letter_in family
+wide_letter Numbers scale = refl
+wide_letter Texts scale = refl
+
+scale_bounded : (s : ℕ) → s ≤ 18 → nat_le s 18 ≡ true
+scale_bounded s h = grind (arith, nat_tests, h)
+
+wide_bounded : (family : Family) (scale : ℕ) → scale ≤ 18 → is_type (wide family scale) ≡ true
+wide_bounded Numbers scale h = scale_bounded scale h
+wide_bounded Texts scale h = refl
+
+-- ---- `*`: each column
+
+columns_named : (i : ℕ) (cs : Columns) (ts : List SqlType) → HaveTypes cs ts → AreNamed (column_items cs) (columns_from i cs)
+columns_named i [] [] h = tt
+columns_named i [] (t ∷ ts) h = absurd h
+columns_named i (c ∷ cs) [] h = absurd h
+columns_named i (c ∷ cs) (t ∷ ts) h = (
+  record {
+    name = c.0;
+    has = refl;
+    bounded = ap (λ o. is_type (type_known o)) h.0 ∙ h.1;
+    type = typed t;
+    shape = ap shape_of_type h.0;
+    letter = ap (λ o. letter_of (type_known o)) h.0 ∙ typed_letter t;
+  },
+  columns_named (suc i) cs ts h.2,
+)
+
+columns_kinds : (before : List (Spelling × Variable)) (cs : Columns) (ts : List SqlType) → HaveTypes cs ts → kinds (with_columns before cs) ≡ declared_kinds (kinds before) (column_items cs)
+columns_kinds before [] [] h = refl
+columns_kinds before [] (t ∷ ts) h = absurd h
+columns_kinds before (c ∷ cs) [] h = absurd h
+columns_kinds before (c ∷ cs) (t ∷ ts) h =
+    columns_kinds (declared_once before c.0 (local_variable c.1)) cs ts h.2
+    ∙ ap (λ ks. declared_kinds ks (column_items cs)) (once_mapped (λ v. v.kind) before c.0 (local_variable c.1) ∙ ap (declared_once (kinds before) c.0) (h.0 ∙ ap (λ o. Some (type_known o)) (sym h.0)))
+
+-- ---- the column that an item names
+
+column_same : (t : Target) (x : Option (ℕ × Option SqlType)) (u v : Option Variable) → faults.column_named t (or_else (as_column x) (as_variable u)) ≡ blocks.column_meant t (or_else (as_column x) (as_variable v))
+column_same t (Some p) u v = refl
+column_same t None None None = refl
+column_same t None None (Some v) = refl
+column_same t None (Some u) None = refl
+column_same t None (Some u) (Some v) = refl
+
+abbrev Layer : Type 0
+Layer = Expr-F Expr Pick Link Select When
+
+columns_same : (view : View) (sight : Sight) (row : RowTable (Option SqlType)) → view.row ≡ Some row → sight.row ≡ Some row → (layer : Layer) → faults.item_column view layer ≡ blocks.item_column sight layer
+columns_same view sight row h k (layers.Name t) =
+    ap (λ o. faults.column_named t (found.name_in view o t)) h
+    ∙ column_same t (column_meant t.first.name (spelling t.second) row) (meant t.first.name (spelling t.second) view.frames) (meant t.first.name (spelling t.second) sight.frames)
+    ∙ ap (λ o. blocks.column_meant t (meant_in sight.frames o t)) (sym k)
+columns_same view sight row h k layer = refl
+
+-- a column of the row has a type
+tabled : (b : Bool) (types : List SqlType) (o : Option (ℕ × Option SqlType)) → IfSome o (IsColumn types 0) → IfSome (if b then o else None) (IsColumn types 0)
+tabled true types o h = h
+tabled false types o h = tt
+
+column_typed : (first : Spelling) (second : Option Spelling) (row : RowTable (Option SqlType)) (types : List SqlType) → HaveTypes row.columns types → IfSome (column_meant first second row) (IsColumn types 0)
+column_typed first None row types h = columns_placed first 0 row.columns types h
+column_typed first (Some n) row types h = tabled (is_table first row) types (place_named 0 n row.columns) (columns_placed n 0 row.columns types h)
+
+-- the item that is a column, with the column's type
+pub record IsColumnItem (c : Spelling × Option SqlType) (m : Made) : Type 0 where
+  pub type : SqlType
+  pub declared : c.1 ≡ Some type
+  pub bounded : is_type type ≡ true
+  pub shape : m.shape ≡ Value (typed type)
+
+kind_inside : (c d : Spelling × Option SqlType) → Some c ≡ Some d → c.1 ≡ d.1
+kind_inside c d h = cc
+
+column_item_by : (t : Target) (c : Spelling × Option SqlType) (types : List SqlType) (x : Option (ℕ × Option SqlType)) (v : Option Variable) → IfSome x (IsColumn types 0) → blocks.column_meant t (or_else (as_column x) (as_variable v)) ≡ Some c
+    → IsColumnItem c (made.of_meaning (or_else (as_column x) (as_variable v)))
+column_item_by t c types (Some p) v h is =
+    let same : p.1 ≡ c.1 = kind_inside (faults.last_name t.first t.second, p.1) c is in
+    record { type = h.type; declared = sym same ∙ h.declared; bounded = h.bounded; shape = ap shape_of_type h.declared }
+column_item_by t c types None None h is = absurd cc
+column_item_by t c types None (Some v) h is = absurd cc
+
+abbrev made_in : Layer → Sight → Made
+made_in layer = making.expr_layer (map-Expr Expr Pick Link Select When (making.Of Made) (making.Of MadePick) (making.Of (WrittenOperator × Made)) (making.Of MadeQuery) (making.Of (Made × Made)) made_of pick_made making.link_made making.query_made making.when_made layer)
+
+column_item_at : (sight : Sight) (row : RowTable (Option SqlType)) (types : List SqlType) → sight.row ≡ Some row → HaveTypes row.columns types → (c : Spelling × Option SqlType) (layer : Layer) → blocks.item_column sight layer ≡ Some c → IsColumnItem c (made_in layer sight)
+column_item_at sight row types k h c (layers.Name t) is =
+    subst (λ o. IsColumnItem c (made.of_meaning (meant_in sight.frames o t))) (sym k)
+    (column_item_by t c types (column_meant t.first.name (spelling t.second) row) (meant t.first.name (spelling t.second) sight.frames) (column_typed t.first.name (spelling t.second) row types h)
+    (ap (λ o. blocks.column_meant t (meant_in sight.frames o t)) (sym k) ∙ is))
+column_item_at sight row types k h c layer is = absurd cc
+
+column_item : (sight : Sight) (row : RowTable (Option SqlType)) (types : List SqlType) → sight.row ≡ Some row → HaveTypes row.columns types → (c : Spelling × Option SqlType) (x : Expr) → blocks.item_column sight (out-Expr x) ≡ Some c → IsColumnItem c (made_of x sight)
+column_item sight row types k h c x is =
+    subst (IsColumnItem c) (sym (ap (λ f. f sight) (fold_out-Expr (making.Of Made) (making.Of MadePick) (making.Of (WrittenOperator × Made)) (making.Of MadeQuery) (making.Of (Made × Made)) making.expr_layer making.pick_layer making.link_layer making.select_layer making.when_layer x)))
+    (column_item_at sight row types k h c (out-Expr x) is)
