@@ -94,27 +94,27 @@ kinds_append ks ((None, t) ∷ is) js = kinds_append ks is js
 
 -- ---- letters of types
 
-typed_letter : (t : SqlType) → letter_of t ≡ letter_in (family_of (typed t).kind)
+pub typed_letter : (t : SqlType) → letter_of t ≡ letter_in (family_of (typed t).kind)
 typed_letter types.SmallInt = refl
 typed_letter types.Integer = refl
 typed_letter (types.Numeric p s) = refl
 typed_letter (types.Char n) = refl
 typed_letter (types.VarChar n) = refl
 
-wide_letter : (family : Family) (scale : ℕ) → letter_of (wide family scale) ≡ letter_in family
+pub wide_letter : (family : Family) (scale : ℕ) → letter_of (wide family scale) ≡ letter_in family
 wide_letter Numbers scale = refl
 wide_letter Texts scale = refl
 
 scale_bounded : (s : ℕ) → s ≤ 18 → nat_le s 18 ≡ true
 scale_bounded s h = grind (arith, nat_tests, h)
 
-wide_bounded : (family : Family) (scale : ℕ) → scale ≤ 18 → is_type (wide family scale) ≡ true
+pub wide_bounded : (family : Family) (scale : ℕ) → scale ≤ 18 → is_type (wide family scale) ≡ true
 wide_bounded Numbers scale h = scale_bounded scale h
 wide_bounded Texts scale h = refl
 
 -- ---- `*`: each column
 
-columns_named : (i : ℕ) (cs : Columns) (ts : List SqlType) → HaveTypes cs ts → AreNamed (column_items cs) (columns_from i cs)
+pub columns_named : (i : ℕ) (cs : Columns) (ts : List SqlType) → HaveTypes cs ts → AreNamed (column_items cs) (columns_from i cs)
 columns_named i [] [] h = tt
 columns_named i [] (t ∷ ts) h = absurd h
 columns_named i (c ∷ cs) [] h = absurd h
@@ -130,7 +130,7 @@ columns_named i (c ∷ cs) (t ∷ ts) h = (
   columns_named (suc i) cs ts h.2,
 )
 
-columns_kinds : (before : List (Spelling × Variable)) (cs : Columns) (ts : List SqlType) → HaveTypes cs ts → kinds (with_columns before cs) ≡ declared_kinds (kinds before) (column_items cs)
+pub columns_kinds : (before : List (Spelling × Variable)) (cs : Columns) (ts : List SqlType) → HaveTypes cs ts → kinds (with_columns before cs) ≡ declared_kinds (kinds before) (column_items cs)
 columns_kinds before [] [] h = refl
 columns_kinds before [] (t ∷ ts) h = absurd h
 columns_kinds before (c ∷ cs) [] h = absurd h
@@ -150,7 +150,7 @@ column_same t None (Some u) (Some v) = refl
 abbrev Layer : Type 0
 Layer = Expr-F Expr Pick Link Select When
 
-columns_same : (view : View) (sight : Sight) (row : RowTable (Option SqlType)) → view.row ≡ Some row → sight.row ≡ Some row → (layer : Layer) → faults.item_column view layer ≡ blocks.item_column sight layer
+pub columns_same : (view : View) (sight : Sight) (row : RowTable (Option SqlType)) → view.row ≡ Some row → sight.row ≡ Some row → (layer : Layer) → faults.item_column view layer ≡ blocks.item_column sight layer
 columns_same view sight row h k (layers.Name t) =
     ap (λ o. faults.column_named t (found.name_in view o t)) h
     ∙ column_same t (column_meant t.first.name (spelling t.second) row) (meant t.first.name (spelling t.second) view.frames) (meant t.first.name (spelling t.second) sight.frames)
@@ -194,7 +194,7 @@ column_item_at sight row types k h c (layers.Name t) is =
     (ap (λ o. blocks.column_meant t (meant_in sight.frames o t)) (sym k) ∙ is))
 column_item_at sight row types k h c layer is = absurd cc
 
-column_item : (sight : Sight) (row : RowTable (Option SqlType)) (types : List SqlType) → sight.row ≡ Some row → HaveTypes row.columns types → (c : Spelling × Option SqlType) (x : Expr) → blocks.item_column sight (out-Expr x) ≡ Some c → IsColumnItem c (made_of x sight)
+pub column_item : (sight : Sight) (row : RowTable (Option SqlType)) (types : List SqlType) → sight.row ≡ Some row → HaveTypes row.columns types → (c : Spelling × Option SqlType) (x : Expr) → blocks.item_column sight (out-Expr x) ≡ Some c → IsColumnItem c (made_of x sight)
 column_item sight row types k h c x is =
     subst (IsColumnItem c) (sym (ap (λ f. f sight) (fold_out-Expr (making.Of Made) (making.Of MadePick) (making.Of (WrittenOperator × Made)) (making.Of MadeQuery) (making.Of (Made × Made)) making.expr_layer making.pick_layer making.link_layer making.select_layer making.when_layer x)))
     (column_item_at sight row types k h c (out-Expr x) is)

@@ -47,3 +47,11 @@ pub mod EnteringBlocks
 pub mod HandledValues
 pub mod MayHandle
 pub mod ForItems
+pub mod ProperForms
+pub mod ProperQueries
+pub mod ProperSlots
+pub mod ProperColumns
+pub mod ProperChanges
+pub mod ProperCalls
+pub mod ProperSimples
+pub mod ForPicks

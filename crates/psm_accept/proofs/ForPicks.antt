@@ -1,0 +1,219 @@
+-- What FOR declares for each item of its query, and for all of them.
+use Rattle.std.proofs.Common.{◌≡◌, ℕ, Bool, true, false, ◌&&◌, List, [], ◌∷◌, ◌++◌, map, Option, Some, None, option_map, refl, ap, sym, ◌∙◌, subst}
+use Rattle.std.specs.List.{list_all}
+use Rattle.std.specs.Prelude.{IsTrue, if◌then◌else◌}
+use Rattle.psm_scope.proofs.Calls.{both}
+use Rattle.psm_token.specs.declared.place.Place.{Place}
+use Rattle.psm_value.specs.declared.sqltype.SqlType.{SqlType}
+use Rattle.psm_exprcode.specs.WellFormed.{is_type}
+use Rattle.psm_exprcode.specs.Kinds.{letter_of}
+use Rattle.psm_scope.specs.Frames.{Spelling}
+use Rattle.psm_scope.specs.Lookup.{RowTable}
+use Rattle.psm_scope.specs.declared.known.Variable.{Variable}
+use Rattle.psm_rules.specs.declared.fault.Fault.{Fault}
+use Rattle.psm_rules.specs.declared.found.Found.{Found}
+use Rattle.psm_rules.specs.declared.query.Picked.TheVariants.{All, Plain, Set}
+use Rattle.psm_rules.specs.declared.shape.Shape.TheVariants.{Value, Untyped}
+use Rattle.psm_rules.specs.declared.shape.Typed.{Typed}
+use Rattle.psm_rules.specs.BlockFaults as faults
+use Rattle.psm_rules.specs.BlockFaults.{declared_once, for_item, item_of_for, local_variable, name_of_item, named_fault, type_of_item, unless_broken, with_item, with_named}
+use Rattle.psm_rules.specs.ExprFaults as found
+use Rattle.psm_rules.specs.ExprFaults.{Of, PickFound, PickPart, LinkPart, QueryFound, WhenPart, expr_found, first_set, is_set, items_fault, link_found, pick_found, query_found, spelling, when_found}
+use Rattle.psm_rules.specs.Faults.{earlier, first_of}
+use Rattle.psm_rules.specs.Found.{as_value, sound}
+use Rattle.psm_rules.specs.Shapes.{family_of, typed}
+use Rattle.psm_rules.specs.View.{View}
+use Rattle.psm_rules.proofs.Earliest.{first_of_cons}
+use Rattle.psm_tree.specs.declared.expr.Expr.{Expr, out-Expr}
+use Rattle.psm_tree.specs.declared.expr.Expr.TheFolds.{fold_out-Pick, map-Pick}
+use Rattle.psm_tree.specs.declared.expr.Expr.TheOpen.{Pick-F}
+use Rattle.psm_tree.specs.declared.expr.Expr.TheOpen as layers
+use Rattle.psm_tree.specs.declared.expr.Link.{Link}
+use Rattle.psm_tree.specs.declared.expr.Operator.{Operator as WrittenOperator}
+use Rattle.psm_tree.specs.declared.expr.Pick.{Pick, out-Pick}
+use Rattle.psm_tree.specs.declared.expr.Select.{Select}
+use Rattle.psm_tree.specs.declared.expr.When.{When}
+use Rattle.psm_tree.specs.declared.name.Identifier.{Identifier}
+use Rattle.psm_resolve_expr.specs.declared.made.Made.{Made}
+use Rattle.psm_resolve_expr.specs.declared.made.MadeQuery.{MadeQuery}
+use Rattle.psm_resolve_expr.specs.Exprs as making
+use Rattle.psm_resolve_expr.specs.Exprs.{columns_from, columns_on, made_of, pick_made, type_known}
+use Rattle.psm_resolve_expr.specs.Made.{MadePick, Values, sets_in, values_in}
+use Rattle.psm_resolve_expr.specs.Sight.{Sight}
+use Rattle.psm_resolve.specs.Blocks as blocks
+use Rattle.psm_resolve.specs.Blocks.{ForItem, items_in, items_of_pick}
+use Rattle.psm_sound.specs.Scene.{Scene}
+use Rattle.psm_accept.specs.Agreement.{Agree, HaveTypes, letter_in}
+use Rattle.psm_accept.specs.Stands.{Standing, as_operand, link_stands, link_stands_layer, pick_stands, pick_stands_layer, select_stands, select_stands_layer, stands, stands_layer, when_stands, when_stands_layer}
+use Rattle.psm_accept.proofs.Accepted.{Fits}
+use Rattle.psm_accept.proofs.Declaring.{kinds}
+use Rattle.psm_accept.proofs.DeclaredOnce.{once_mapped}
+use Rattle.psm_accept.proofs.ForItems.{AreNamed, IsColumnItem, IsNamedItem, column_item, columns_kinds, columns_named, columns_same, declared_kinds, kinds_append, named_append, typed_letter, wide_bounded, wide_letter}
+use Rattle.psm_accept.proofs.Judging.{OnRow}
+use Rattle.psm_accept.proofs.Parts.{IsOperand, Part, as_value-clean, neither, operand, operand_source}
+use Rattle.psm_accept.proofs.Whole.{expr_accepted}
+
+-- ---- picks, opened
+
+abbrev PickLayer : Type 0
+PickLayer = Pick-F Expr Pick Link Select When
+
+abbrev found_of : PickLayer → View → PickFound
+found_of layer = found.pick_layer (map-Pick Expr Pick Link Select When (Of Found) PickPart LinkPart (Of QueryFound) WhenPart expr_found pick_found link_found query_found when_found layer)
+
+abbrev made_in : PickLayer → Sight → MadePick
+made_in layer = making.pick_layer (map-Pick Expr Pick Link Select When (making.Of Made) (making.Of MadePick) (making.Of (WrittenOperator × Made)) (making.Of MadeQuery) (making.Of (Made × Made)) made_of pick_made making.link_made making.query_made making.when_made layer)
+
+abbrev stands_in : PickLayer → Bool
+stands_in layer = pick_stands_layer (map-Pick Expr Pick Link Select When Standing Bool Bool Bool Bool stands pick_stands link_stands select_stands when_stands layer)
+
+found-out : (p : Pick) (view : View) → pick_found p view ≡ found_of (out-Pick p) view
+unfolding expr_found pick_found link_found query_found when_found
+found-out p view = ap (λ f. f view) (fold_out-Pick (Of Found) PickPart LinkPart (Of QueryFound) WhenPart found.expr_layer found.pick_layer found.link_layer found.select_layer found.when_layer p)
+
+made-out : (p : Pick) (sight : Sight) → pick_made p sight ≡ made_in (out-Pick p) sight
+made-out p sight = ap (λ f. f sight) (fold_out-Pick (making.Of Made) (making.Of MadePick) (making.Of (WrittenOperator × Made)) (making.Of MadeQuery) (making.Of (Made × Made)) making.expr_layer making.pick_layer making.link_layer making.select_layer making.when_layer p)
+
+stands-out : (p : Pick) → pick_stands p ≡ stands_in (out-Pick p)
+stands-out p = fold_out-Pick Standing Bool Bool Bool Bool stands_layer pick_stands_layer link_stands_layer select_stands_layer when_stands_layer p
+
+-- ---- names of items
+
+unless_none : (o : Option Fault) (f : Found) → unless_broken o f ≡ None → (o ≡ None) × ((as_value f).fault ≡ None)
+unless_none None f h = (refl, h)
+unless_none (Some fault) f h = absurd (some_none (neither (Some fault) f.fault h).0)
+  where
+    some_none : Some fault ≡ None → ⊥
+    some_none h = cc
+
+has_name : (before : List (Spelling × Variable)) (place : Place) (o : Option Spelling) → named_fault before place o ≡ None → (n : Spelling) × (o ≡ Some n)
+has_name before place None h = absurd cc
+has_name before place (Some n) h = (n, refl)
+
+own_same : (alias : Option Identifier) (column : Option (Spelling × Option SqlType)) → faults.own_name (spelling alias) column ≡ blocks.own_name alias column
+own_same (Some a) column = refl
+own_same None None = refl
+own_same None (Some c) = refl
+
+named_kinds : (before : List (Spelling × Variable)) (o p : Option Spelling) (n : Spelling) (kind : Option SqlType) (t : SqlType) → o ≡ Some n → p ≡ Some n → kind ≡ Some t → kinds (with_named before o kind) ≡ declared_kinds (kinds before) ((p, t) ∷ [])
+named_kinds before o p n kind t is_o is_p is_kind =
+    ap (λ o. kinds (with_named before o kind)) is_o ∙ once_mapped (λ v. v.kind) before n (local_variable kind) ∙ ap (declared_once (kinds before) n) is_kind ∙ sym (ap (λ p. declared_kinds (kinds before) ((p, t) ∷ [])) is_p)
+
+-- ---- types of items
+
+value_inside : (a b : Typed) → Value a ≡ Value b → a ≡ b
+value_inside a b h = cc
+
+-- the type that an item has for the checker, and as it is declared
+record IsTypedItem (due : Option SqlType) (t : SqlType) (type : Typed) : Type 0 where
+  declared : due ≡ Some t
+  bounded : is_type t ≡ true
+  letter : letter_of t ≡ letter_in (family_of type.kind)
+
+module _ (e : Scene) (types : List SqlType) (view : View) (sight : Sight) (row : RowTable (Option SqlType)) (a : Agree e view sight) (on : sight.row ≡ Some row) (h : HaveTypes row.columns types) where
+  fits : Fits (OnRow types) sight.row
+  fits = subst (Fits (OnRow types)) (sym on) h
+
+  typed_item : (f : Found) (m : Made) (o : IsOperand e (OnRow types) f m) (column : Option (Spelling × Option SqlType)) → ((c : Spelling × Option SqlType) → column ≡ Some c → IsColumnItem c m)
+      → IsTypedItem (faults.item_type column (as_value f).shape) (blocks.item_type column m.shape) o.type
+  typed_item f m o None g = record {
+    declared = ap (λ s. faults.item_type None s) (ap (λ g. g.shape) o.found) ∙ ap (λ s. Some (blocks.item_type None s)) (sym o.value.shape);
+    bounded = ap (λ s. is_type (blocks.item_type None s)) o.value.shape ∙ wide_bounded (family_of o.type.kind) o.type.scale o.value.sane.small;
+    letter = ap (λ s. letter_of (blocks.item_type None s)) o.value.shape ∙ wide_letter (family_of o.type.kind) o.type.scale;
+  }
+  typed_item f m o (Some c) g =
+      let i : IsColumnItem c m = g c refl in
+      let same : typed i.type ≡ o.type = value_inside (typed i.type) o.type (sym i.shape ∙ o.value.shape) in record {
+        declared = i.declared ∙ ap (λ o. Some (type_known o)) (sym i.declared);
+        bounded = ap (λ o. is_type (type_known o)) i.declared ∙ i.bounded;
+        letter = ap (λ o. letter_of (type_known o)) i.declared ∙ typed_letter i.type ∙ ap (λ t. letter_in (family_of t.kind)) same;
+      }
+
+  -- what an item is for the checker, what is made of it, and what is declared for it
+  pub record IsForPick (before : List (Spelling × Variable)) (i : faults.ForItem) (m : MadePick) (is : List ForItem) : Type 0 where
+    pub values : List Made
+    pub made : m ≡ Values values
+    pub clean : (as_value i.pick.found).fault ≡ None
+    pub items : AreNamed is values
+    pub kinds : kinds (with_item row.columns before i) ≡ declared_kinds (kinds before) is
+
+  abbrev plain_item : Expr → Option Identifier → faults.ForItem
+  plain_item x alias = record { pick = found.pick_item Plain (expr_found x view) alias; column = faults.item_column view (out-Expr x) }
+
+  plain_pick : (before : List (Spelling × Variable)) (x : Expr) (alias : Option Identifier) → as_operand (stands x) ≡ true → item_of_for before (plain_item x alias) ≡ None
+      → IsForPick before (plain_item x alias) (Values (made_of x sight ∷ [])) (blocks.item_of sight x alias ∷ [])
+  plain_pick before x alias well none =
+      let i : faults.ForItem = plain_item x alias in
+      let f : Found = expr_found x view in
+      let m : Made = made_of x sight in
+      let part : Part e (OnRow types) (stands x) f m = expr_accepted x e view sight (OnRow types) a fits in
+      let two = unless_none (named_fault before f.place (name_of_item i)) f none in
+      let n = has_name before f.place (name_of_item i) two.0 in
+      let o : IsOperand e (OnRow types) f m = operand e (OnRow types) (stands x) f m part well (as_value-clean f (part (operand_source (stands x) well)).clean two.1) in
+      let same : faults.item_column view (out-Expr x) ≡ blocks.item_column sight (out-Expr x) = columns_same view sight row (a.row ∙ on) on (out-Expr x) in
+      let t : SqlType = blocks.item_type (blocks.item_column sight (out-Expr x)) m.shape in
+      let ti : IsTypedItem (faults.item_type (blocks.item_column sight (out-Expr x)) (as_value f).shape) t o.type = typed_item f m o (blocks.item_column sight (out-Expr x)) (λ c is. column_item sight row types on h c x is) in
+      let own : blocks.own_name alias (blocks.item_column sight (out-Expr x)) ≡ Some n.0 = sym (own_same alias (blocks.item_column sight (out-Expr x))) ∙ ap (faults.own_name (spelling alias)) (sym same) ∙ n.1 in record {
+        values = m ∷ [];
+        made = refl;
+        clean = two.1;
+        items = (record { name = n.0; has = own; bounded = ti.bounded; type = o.type; shape = o.value.shape; letter = ti.letter }, tt);
+        kinds = named_kinds before (name_of_item i) (blocks.own_name alias (blocks.item_column sight (out-Expr x))) n.0 (type_of_item i) t n.1 own (ap (λ c. faults.item_type c (as_value f).shape) same ∙ ti.declared);
+      }
+
+  abbrev item_at : PickLayer → faults.ForItem
+  item_at layer = record { pick = found_of layer view; column = faults.pick_column view layer }
+
+  pick_at : (before : List (Spelling × Variable)) (layer : PickLayer) → stands_in layer ≡ true → item_of_for before (item_at layer) ≡ None → is_set (found_of layer view).form ≡ false
+      → IsForPick before (item_at layer) (made_in layer sight) (items_of_pick sight row.columns layer)
+  pick_at before (layers.All place) well none plain = record {
+    values = columns_from 0 row.columns;
+    made = ap (λ o. Values (columns_on o)) on;
+    clean = refl;
+    items = columns_named 0 row.columns types h;
+    kinds = columns_kinds before row.columns types h;
+  }
+  pick_at before (layers.Expr x alias) well none plain = plain_pick before x alias well none
+  pick_at before (layers.CountRows place alias) well none plain = absurd cc
+  pick_at before (layers.Aggregate place function x alias) well none plain = absurd cc
+
+  pick_is : (before : List (Spelling × Variable)) (p : Pick) → pick_stands p ≡ true → item_of_for before (for_item view p) ≡ None → is_set (pick_found p view).form ≡ false → IsForPick before (for_item view p) (pick_made p sight) (items_of_pick sight row.columns (out-Pick p))
+  pick_is before p well none plain =
+      let same : for_item view p ≡ item_at (out-Pick p) = ap (λ f. let i : faults.ForItem = record { pick = f; column = faults.pick_column view (out-Pick p) } in i) (found-out p view) in
+      let at = pick_at before (out-Pick p) (sym (stands-out p) ∙ well) (ap (item_of_for before) (sym same) ∙ none) (ap (λ f. is_set f.form) (sym (found-out p view)) ∙ plain) in
+      subst (λ i. IsForPick before i (pick_made p sight) (items_of_pick sight row.columns (out-Pick p))) (sym same)
+      (subst (λ m. IsForPick before (item_at (out-Pick p)) m (items_of_pick sight row.columns (out-Pick p))) (sym (made-out p sight)) at)
+
+  -- ---- all items
+
+  pub record AreForPicks (before : List (Spelling × Variable)) (ps : List Pick) : Type 0 where
+    pub values : List Made
+    pub made : values_in (map (λ p. pick_made p sight) ps) ≡ values
+    pub no_sets : sets_in (map (λ p. pick_made p sight) ps) ≡ []
+    pub clean : items_fault (map (λ p. pick_found p view) ps) ≡ None
+    pub items : AreNamed (items_in sight row.columns ps) values
+    pub kinds : kinds (faults.for_variables row.columns before (map (for_item view) ps)) ≡ declared_kinds (kinds before) (items_in sight row.columns ps)
+
+  set_by : (b : Bool) (place : Place) (o : Option Place) → (if b then Some place else o) ≡ None → (b ≡ false) × (o ≡ None)
+  set_by true place o none = absurd cc
+  set_by false place o none = (refl, none)
+
+  pub picks_are : (before : List (Spelling × Variable)) (ps : List Pick) → list_all (λ well. well) (map pick_stands ps) ≡ true → first_of (faults.for_items row.columns before (map (for_item view) ps)) ≡ None
+      → first_set (map (λ p. pick_found p view) ps) ≡ None → AreForPicks before ps
+  picks_are before [] well none plain = record { values = []; made = refl; no_sets = refl; clean = refl; items = tt; kinds = refl }
+  picks_are before (p ∷ ps) well none plain =
+      let i : faults.ForItem = for_item view p in
+      let after = with_item row.columns before i in
+      let wells = both (pick_stands p) (list_all (λ well. well) (map pick_stands ps)) well in
+      let two = neither (item_of_for before i) (first_of (faults.for_items row.columns after (map (for_item view) ps))) (sym (first_of_cons (item_of_for before i) (faults.for_items row.columns after (map (for_item view) ps))) ∙ none) in
+      let sets = set_by (is_set (pick_found p view).form) (pick_found p view).found.place (first_set (map (λ p. pick_found p view) ps)) plain in
+      let one : IsForPick before i (pick_made p sight) (items_of_pick sight row.columns (out-Pick p)) = pick_is before p wells.0 two.0 sets.0 in
+      let more : AreForPicks after ps = picks_are after ps wells.1 two.1 sets.1 in
+      let made_rest = map (λ p. pick_made p sight) ps in record {
+        values = one.values ++ more.values;
+        made = ap (λ m. values_in (m ∷ made_rest)) one.made ∙ ap (λ vs. one.values ++ vs) more.made;
+        no_sets = ap (λ m. sets_in (m ∷ made_rest)) one.made ∙ more.no_sets;
+        clean = first_of_cons (as_value (pick_found p view).found).fault (map (λ p. (as_value p.found).fault) (map (λ p. pick_found p view) ps)) ∙ ap (λ f. earlier f (items_fault (map (λ p. pick_found p view) ps))) one.clean ∙ more.clean;
+        items = named_append (items_of_pick sight row.columns (out-Pick p)) (items_in sight row.columns ps) one.values more.values one.items more.items;
+        kinds = more.kinds ∙ ap (λ ks. declared_kinds ks (items_in sight row.columns ps)) one.kinds ∙ sym (kinds_append (kinds before) (items_of_pick sight row.columns (out-Pick p)) (items_in sight row.columns ps));
+      }
