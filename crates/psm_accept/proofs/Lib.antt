@@ -55,3 +55,4 @@ pub mod ProperChanges
 pub mod ProperCalls
 pub mod ProperSimples
 pub mod ForPicks
+pub mod ForQueries
