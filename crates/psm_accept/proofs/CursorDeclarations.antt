@@ -42,7 +42,7 @@ use Rattle.psm_accept.proofs.Whole.{three_none}
 
 -- ---- the numbers of cursors that are declared one after another
 
-same_number : (n : ℕ) → nat_eq n n ≡ true
+pub same_number : (n : ℕ) → nat_eq n n ≡ true
 same_number n = grind (arith, nat_tests)
 
 other_number : (n m : ℕ) → m < n → nat_eq n m ≡ false

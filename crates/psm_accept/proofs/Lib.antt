@@ -56,3 +56,4 @@ pub mod ProperCalls
 pub mod ProperSimples
 pub mod ForPicks
 pub mod ForQueries
+pub mod ForSlots
