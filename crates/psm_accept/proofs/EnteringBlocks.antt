@@ -48,7 +48,7 @@ cursor_further : (e : Scene) (here : ℕ) (cursors : List ResolvedCursor) (s : p
 cursor_further e here cursors s None number m = tt
 cursor_further e here cursors s (Some cursor) number m = (there_past cursors s.cursors number m.0, m.1)
 
-below_by : (bound k : ℕ) (o : Option ℕ) → o ≡ Some k → IsCursorBelow bound o → k < bound
+pub below_by : (bound k : ℕ) (o : Option ℕ) → o ≡ Some k → IsCursorBelow bound o → k < bound
 below_by bound k o is h = subst (IsCursorBelow bound) is h
 
 -- ---- the block, whose cursors have numbers that none around it has

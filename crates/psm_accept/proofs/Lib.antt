@@ -57,3 +57,4 @@ pub mod ProperSimples
 pub mod ForPicks
 pub mod ForQueries
 pub mod ForSlots
+pub mod EnteringFor
