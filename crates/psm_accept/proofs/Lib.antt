@@ -45,6 +45,7 @@ pub mod CursorQueries
 pub mod CursorDeclarations
 pub mod EnteringBlocks
 pub mod HandledValues
+pub mod Composing
 pub mod MayHandle
 pub mod ForItems
 pub mod ProperForms
@@ -58,3 +59,4 @@ pub mod ForPicks
 pub mod ForQueries
 pub mod ForSlots
 pub mod EnteringFor
+pub mod Branches

@@ -28,6 +28,7 @@ use Rattle.psm_sound.specs.Statements as places
 use Rattle.psm_proper.specs.Statements.{AreApart, MayHandle, ProperValue}
 use Rattle.psm_accept.specs.Meant.{Meant}
 use Rattle.psm_accept.specs.Places.{ConditionsKnown}
+use Rattle.psm_accept.proofs.Composing.{each_split}
 use Rattle.psm_accept.proofs.HandledValues.{values_new}
 use Rattle.psm_accept.proofs.Opening.{handler_made-out, handler_of, handler_part-out, handlers_made}
 use Rattle.psm_accept.proofs.Parts.{neither}
@@ -86,10 +87,6 @@ may_at e atomic h sight action none proper =
       values = subst (λ o. Each (ProperValue e) o.values) r proper;
       undo = subst (λ o. (not (is_undo o.kind) || atomic) ≡ true) r (undo_by (out-Handler h).«at» (out-Handler h).kind atomic none);
     }
-
-each_split : {A : Type 0} (P : A → Type 0) (xs ys : List A) → Each P (xs ++ ys) → Each P xs × Each P ys
-each_split P [] ys h = (tt, h)
-each_split P (x ∷ xs) ys h = let more = each_split P xs ys h.1 in ((h.0, more.0), more.1)
 
 may_all : (e : Scene) (c : Context) (atomic : Bool) (hs : List Handler) (sight : Sight) (n : Numbering) → Each (HandlerSound c atomic) hs → Each (ProperValue e) (map (value_of sight.frames) (written_values hs))
     → Each (MayHandle e atomic) (handlers_made hs sight n).0
