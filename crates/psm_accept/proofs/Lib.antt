@@ -60,3 +60,4 @@ pub mod ForQueries
 pub mod ForSlots
 pub mod EnteringFor
 pub mod Branches
+pub mod Compounds
