@@ -61,3 +61,4 @@ pub mod ForSlots
 pub mod EnteringFor
 pub mod Branches
 pub mod Compounds
+pub mod Blocks
