@@ -289,3 +289,17 @@ module _ (e : Scene) (known : Known) (letters : Letters) (parts : PartsProper e 
           proper.and_branch (subst (λ o. IsTest e known o.test k) (sym opened) good.0.0) (subst (λ o. AreProper e known letters s o.statements) (sym opened) first.0) second.0,
           λ a. second.1 (subst (λ r. AreTypes r.1) (sym same) (first.1 a)),
         )
+
+-- ---- the whole
+
+outside : (sight : Sight) → sight.row ≡ None → sight ≡ at_frames sight.world sight.frames
+outside sight h = ap (λ r. let s : Sight = record { world = sight.world; frames = sight.frames; row = r } in s) h
+
+pub statement-proper : (e : Scene) (known : Known) (letters : Letters) → HaveColumns e → (s : places.Sight) (c : Context) (sight : Sight) (n : Numbering) (x : Statement) → StatementStands x → statement_fault x c ≡ None
+    → StandsAt e known letters s c sight → AreBelow n sight.frames → Fills e (statement_made x sight n).1 → Each (IsNumbered e known letters) (cursors_in (statement_made x sight n).0) → IsDone e known letters s n (statement_made x sight n)
+statement-proper e known letters columns s c sight n x well none at below filled numbered =
+    let same : sight ≡ at_frames sight.world sight.frames = outside sight at.outside in
+    let here : IsHere e known letters s c (at_frames sight.world sight.frames) n = subst (λ o. IsHere e known letters s c o n) same (record { stands = at; below = below }) in
+    let closed : IsClosed e known letters (statement_made x (at_frames sight.world sight.frames) n) = subst (λ o. IsClosed e known letters (statement_made x o n)) same (filled, numbered) in
+    subst (λ o. IsDone e known letters s n (statement_made x o n)) (sym same)
+    (statement e known letters (parts_proper e known letters columns at.is) well s c sight.world sight.frames n none here closed)
