@@ -20,7 +20,7 @@ use Rattle.psm_tree.specs.declared.statement.Handler.{Handler, out-Handler}
 use Rattle.psm_tree.specs.declared.statement.Statement.{Statement, out-Statement}
 use Rattle.psm_resolved.specs.declared.statement.ResolvedBranch.{ResolvedBranch, out-ResolvedBranch, out-roll-ResolvedBranch}
 use Rattle.psm_resolved.specs.declared.statement.ResolvedHandler.{ResolvedHandler, out-ResolvedHandler, out-roll-ResolvedHandler}
-use Rattle.psm_resolved.specs.declared.statement.ResolvedStatement.{ResolvedStatement}
+use Rattle.psm_resolved.specs.declared.statement.ResolvedStatement.{ResolvedStatement, out-ResolvedStatement}
 use Rattle.psm_resolved.specs.declared.statement.ResolvedStatement.TheOpen as layers
 use Rattle.psm_resolved.specs.declared.statement.ResolvedStatement.TheVariants as made
 use Rattle.psm_resolve_expr.specs.Sight.{Frames, Sight}
@@ -31,7 +31,7 @@ use Rattle.psm_resolve.specs.Statements.{expr_at, simple_of}
 use Rattle.psm_emit.specs.declared.known.Known.{Known}
 use Rattle.psm_sound.specs.Scene.{Each, Scene}
 use Rattle.psm_sound.specs.Statements as places
-use Rattle.psm_sound.specs.Statements.{in_action, looping, over_rows}
+use Rattle.psm_sound.specs.Statements.{in_action, inside, looping, over_rows}
 use Rattle.psm_proper.specs.Statements as proper
 use Rattle.psm_proper.specs.Statements.{AreActions, AreBranches, AreProper, IsProper, IsTest, Letters}
 use Rattle.psm_accept.specs.Numbered.{AreBelow, Fills, IsNumbered, cursors_in, cursors_in_branch, cursors_in_handler}
@@ -40,7 +40,7 @@ use Rattle.psm_accept.specs.StatementsStand as stand
 use Rattle.psm_accept.specs.StatementsStand.{AllStand, BlockLayerStands, BlockStands, BranchesStand, HandlersStand, LayerStands, StatementStands}
 use Rattle.psm_accept.proofs.Branches.{IsGoodBranch, compared_good, searched_good}
 use Rattle.psm_accept.proofs.Composing.{AreParts, BlockParts, compound_cursors, compound_of, each_split}
-use Rattle.psm_accept.proofs.Compounds.{IsOpened, before, declared, open_block, own_cursors, told, within}
+use Rattle.psm_accept.proofs.Compounds.{IsOpened, before, open_block, own_cursors, told}
 use Rattle.psm_accept.proofs.Declarations.{AreTypes}
 use Rattle.psm_accept.proofs.Declaring.{at_frames}
 use Rattle.psm_accept.proofs.EnteringFor.{IsEntered, cursor_is, cursor_proper, enter_for}
@@ -48,7 +48,7 @@ use Rattle.psm_accept.proofs.ForQueries.{IsForHead, head_is}
 use Rattle.psm_accept.proofs.Growing.{Grows, all-grow, branches-grow, fills-before, handlers-grow, statement-grows}
 use Rattle.psm_accept.proofs.MayHandle.{HandlerSound, handlers_may, handlers_sound}
 use Rattle.psm_accept.proofs.Moving.{IsHere, here-grown, here_in-action, here_in-loop}
-use Rattle.psm_accept.proofs.Opening.{BlockLayer, StatementLayer, block_fault-out, block_fault_in, block_made-out, block_made_in, branch_cursors-out, branch_made-out, branch_of, branches_made, cursors-out, cursors_of_all, cursors_of_branches, cursors_of_handlers, fault-out, fault_in, handler_cursors-out, handler_made-out, handler_of, handlers_made, made-out, made_in, statements_made}
+use Rattle.psm_accept.proofs.Opening.{BlockLayer, ResolvedLayer, StatementLayer, block_fault-out, block_fault_in, block_made-out, block_made_in, branch_cursors-out, branch_made-out, branch_of, branches_made, cursors-out, cursors_of_all, cursors_of_branches, cursors_of_handlers, cursors_of_layer, fault-out, fault_in, handler_cursors-out, handler_made-out, handler_of, handlers_made, made-out, made_in, statements_made}
 use Rattle.psm_accept.proofs.Parts.{neither}
 use Rattle.psm_accept.proofs.Premises.{PartsProper, parts_proper}
 use Rattle.psm_accept.proofs.ProperForms.{IsCompared}
@@ -90,8 +90,32 @@ module _ (e : Scene) (known : Known) (letters : Letters) (parts : PartsProper e 
   abbrev HandlersClosed : List ResolvedHandler × Numbering → Type 0
   HandlersClosed r = Fills e r.1 × Each (IsNumbered e known letters) (cursors_of_handlers r.0)
 
-  loop_closed : (level : ℕ) (ss : List ResolvedStatement) (m : Numbering) → Closed (made.Loop level ss, m) → AllClosed (ss, m)
-  loop_closed level ss m closed = (closed.0, subst (Each (IsNumbered e known letters)) (cursors-out (made.Loop level ss) (layers.Loop level ss) (made.outs-Loop level ss)) closed.1)
+  -- branches with what stands behind ELSE
+  abbrev ChosenClosed : List ResolvedBranch × Numbering → List ResolvedStatement × Numbering → Type 0
+  ChosenClosed bs ss = Fills e ss.1 × Each (IsNumbered e known letters) (cursors_of_branches bs.0 ++ cursors_of_all ss.0)
+
+  abbrev ChosenDone : places.Sight → Letter → Numbering → List ResolvedBranch × Numbering → List ResolvedStatement × Numbering → Type 0
+  ChosenDone s k n bs ss = AreBranches e known letters s bs.0 k × AreProper e known letters s ss.0 × (AreTypes n → AreTypes ss.1)
+
+  -- what stands in a layer
+  abbrev LayerClosed : ResolvedLayer → Numbering → Type 0
+  LayerClosed l m = Fills e m × Each (IsNumbered e known letters) (cursors_of_layer l)
+
+  closed_at : (x : ResolvedStatement) (l : ResolvedLayer) (m : Numbering) → out-ResolvedStatement x ≡ l → Closed (x, m) → LayerClosed l m
+  closed_at x l m is closed = (closed.0, subst (Each (IsNumbered e known letters)) (cursors-out x l is) closed.1)
+
+  -- each of both is done, and so are they together
+  chosen_done : {xs : List Branch} {ys : List Statement} → BranchesStand xs → AllStand ys → (k : Letter) (s : places.Sight) (c : Context) (world : World) (frames : Frames) (n : Numbering) → Here s c world frames n
+      → let bs = branches_made xs (at_frames world frames) n in let ss = statements_made ys (at_frames world frames) bs.1 in
+        (BranchesClosed bs → AreBranches e known letters s bs.0 k × (AreTypes n → AreTypes bs.1)) → (Here s c world frames bs.1 → AllClosed ss → AllDone s bs.1 ss) → ChosenClosed bs ss → ChosenDone s k n bs ss
+  chosen_done {xs = xs} {ys = ys} hs h k s c world frames n here branches others closed =
+      let sight : Sight = at_frames world frames in
+      let bs = branches_made xs sight n in
+      let ss = statements_made ys sight bs.1 in
+      let numbered = each_split (IsNumbered e known letters) (cursors_of_branches bs.0) (cursors_of_all ss.0) closed.1 in
+      let first = branches (fills-before (all-grow h sight bs.1) closed.0, numbered.0) in
+      let second = others (here-grown (branches-grow hs sight n) here) (closed.0, numbered.1) in
+      (first.0, second.0, λ a. second.1 (first.1 a))
 
   deep : (level : ℕ) (frames : Frames) → suc level ≤ length frames → level ≤ length frames
   deep level frames h = omega (arith, h)
@@ -108,27 +132,21 @@ module _ (e : Scene) (known : Known) (letters : Letters) (parts : PartsProper e 
     layer (stand.block {label = label} {b = b} h) s c world frames n none here closed =
         block h (label_name label) s c world frames n (neither (label_of c.view.frames label) (block_fault b (label_name label) c) none).1 here closed
     layer (stand.if {branches = branches} {otherwise = otherwise} hs h) s c world frames n none here closed =
-        let sight : Sight = at_frames world frames in
         let p = here.stands in
-        let bs = branches_made (several branches) sight n in
-        let ss = statements_made otherwise sight bs.1 in
+        let bs = branches_made (several branches) (at_frames world frames) n in
+        let ss = statements_made otherwise (at_frames world frames) bs.1 in
         let two = neither (first_of (searched c (map branch_part (several branches)))) (faults.all c (map statement_fault otherwise)) none in
-        let numbered = each_split (IsNumbered e known letters) (cursors_of_branches bs.0) (cursors_of_all ss.0) (subst (Each (IsNumbered e known letters)) (cursors-out (made.If bs.0 ss.0) (layers.If bs.0 ss.0) (made.outs-If bs.0 ss.0)) closed.1) in
-        let good = searched_good e known letters parts c sight p.agree p.outside hs two.0 in
-        let first = branches_done hs B s c world frames n good here (fills-before (all-grow h sight bs.1) closed.0, numbered.0) in
-        let second = all_done h s c world frames bs.1 two.1 (here-grown (branches-grow hs sight n) here) (closed.0, numbered.1) in
-        record { proper = proper.if bs.0 ss.0 (made.outs-If bs.0 ss.0) first.0 second.0; types = λ a. second.1 (first.1 a) }
+        let good = searched_good e known letters parts c (at_frames world frames) p.agree p.outside hs two.0 in
+        let done = chosen_done hs h B s c world frames n here (λ own. branches_done hs B s c world frames n good here own) (λ there own. all_done h s c world frames bs.1 two.1 there own) (closed_at (made.If bs.0 ss.0) (layers.If bs.0 ss.0) ss.1 (made.outs-If bs.0 ss.0) closed) in
+        record { proper = proper.if bs.0 ss.0 (made.outs-If bs.0 ss.0) done.0 done.1; types = done.2 }
     layer (stand.case {operand = None} {branches = branches} {otherwise = otherwise} w hs h) s c world frames n none here closed =
-        let sight : Sight = at_frames world frames in
         let p = here.stands in
-        let bs = branches_made (several branches) sight n in
-        let ss = statements_made otherwise sight bs.1 in
+        let bs = branches_made (several branches) (at_frames world frames) n in
+        let ss = statements_made otherwise (at_frames world frames) bs.1 in
         let two = neither (first_of (searched c (map branch_part (several branches)))) (faults.all c (map statement_fault otherwise)) none in
-        let numbered = each_split (IsNumbered e known letters) (cursors_of_branches bs.0) (cursors_of_all ss.0) (subst (Each (IsNumbered e known letters)) (cursors-out (made.Case None bs.0 ss.0) (layers.Case None bs.0 ss.0) (made.outs-Case None bs.0 ss.0)) closed.1) in
-        let good = searched_good e known letters parts c sight p.agree p.outside hs two.0 in
-        let first = branches_done hs B s c world frames n good here (fills-before (all-grow h sight bs.1) closed.0, numbered.0) in
-        let second = all_done h s c world frames bs.1 two.1 (here-grown (branches-grow hs sight n) here) (closed.0, numbered.1) in
-        record { proper = proper.searched bs.0 ss.0 (made.outs-Case None bs.0 ss.0) first.0 second.0; types = λ a. second.1 (first.1 a) }
+        let good = searched_good e known letters parts c (at_frames world frames) p.agree p.outside hs two.0 in
+        let done = chosen_done hs h B s c world frames n here (λ own. branches_done hs B s c world frames n good here own) (λ there own. all_done h s c world frames bs.1 two.1 there own) (closed_at (made.Case None bs.0 ss.0) (layers.Case None bs.0 ss.0) ss.1 (made.outs-Case None bs.0 ss.0) closed) in
+        record { proper = proper.searched bs.0 ss.0 (made.outs-Case None bs.0 ss.0) done.0 done.1; types = done.2 }
     layer (stand.case {operand = Some x} {branches = branches} {otherwise = otherwise} w hs h) s c world frames n none here closed =
         let sight : Sight = at_frames world frames in
         let p = here.stands in
@@ -138,12 +156,10 @@ module _ (e : Scene) (known : Known) (letters : Letters) (parts : PartsProper e 
         let tests = simple c (as_value (found c.view x)) (map branch_part (several branches)) in
         let two = neither (first_of ((as_value (found c.view x)).fault ∷ tests)) (faults.all c (map statement_fault otherwise)) none in
         let own = neither (as_value (found c.view x)).fault (first_of tests) (sym (first_of_cons (as_value (found c.view x)).fault tests) ∙ two.0) in
-        let numbered = each_split (IsNumbered e known letters) (cursors_of_branches bs.0) (cursors_of_all ss.0) (subst (Each (IsNumbered e known letters)) (cursors-out (made.Case y bs.0 ss.0) (layers.Case y bs.0 ss.0) (made.outs-Case y bs.0 ss.0)) closed.1) in
         let q : IsCompared e known c.view sight x = parts.compared c.view sight p.agree p.outside x w own.0 in
         let good = compared_good e known letters parts c sight p.agree p.outside x q hs own.1 in
-        let first = branches_done hs q.letter s c world frames n good here (fills-before (all-grow h sight bs.1) closed.0, numbered.0) in
-        let second = all_done h s c world frames bs.1 two.1 (here-grown (branches-grow hs sight n) here) (closed.0, numbered.1) in
-        record { proper = proper.compared (expr_at sight x) bs.0 ss.0 (made.outs-Case y bs.0 ss.0) q.value q.operand first.0 second.0; types = λ a. second.1 (first.1 a) }
+        let done = chosen_done hs h q.letter s c world frames n here (λ own. branches_done hs q.letter s c world frames n good here own) (λ there own. all_done h s c world frames bs.1 two.1 there own) (closed_at (made.Case y bs.0 ss.0) (layers.Case y bs.0 ss.0) ss.1 (made.outs-Case y bs.0 ss.0) closed) in
+        record { proper = proper.compared (expr_at sight x) bs.0 ss.0 (made.outs-Case y bs.0 ss.0) q.value q.operand done.0 done.1; types = done.2 }
     layer (stand.simple {x = x} h) s c world frames n none here closed =
         let sight : Sight = at_frames world frames in
         let p = here.stands in record {
@@ -160,31 +176,26 @@ module _ (e : Scene) (known : Known) (letters : Letters) (parts : PartsProper e 
     block_layer : {l : BlockLayer} → BlockLayerStands l → (label : Option Spelling) (s : places.Sight) (c : Context) (world : World) (frames : Frames) (n : Numbering) → block_fault_in l label c ≡ None → Here s c world frames n
         → Closed (block_made_in l label (at_frames world frames) n) → Done s n (block_made_in l label (at_frames world frames) n)
     block_layer (stand.loop {statements = statements} h) label s c world frames n none here closed =
-        let sight : Sight = at_frames world frames in
-        let ss = statements_made (several statements) (making.in_loop label sight) n in
-        let done = all_done h (looping (length frames) s) (faults.in_loop label c) world (frame.Loop label ∷ frames) n none (here_in-loop e known letters s label c sight n here) (loop_closed (length frames) ss.0 ss.1 closed) in
-        record { proper = proper.loop (length frames) ss.0 (made.outs-Loop (length frames) ss.0) done.0; types = done.1 }
-
+        let level : ℕ = length frames in
+        let ss = statements_made (several statements) (making.in_loop label (at_frames world frames)) n in
+        let done = all_done h (looping level s) (faults.in_loop label c) world (frame.Loop label ∷ frames) n none (here_in-loop e known letters s label c (at_frames world frames) n here) (closed_at (made.Loop level ss.0) (layers.Loop level ss.0) ss.1 (made.outs-Loop level ss.0) closed) in
+        record { proper = proper.loop level ss.0 (made.outs-Loop level ss.0) done.0; types = done.1 }
     block_layer (stand.while {test = test} {statements = statements} t h) label s c world frames n none here closed =
         let sight : Sight = at_frames world frames in
-        let p = here.stands in
         let level : ℕ = length frames in
         let x = expr_at sight test in
         let two = neither (test_part c.view test) (faults.all (faults.in_loop label c) (map statement_fault (several statements))) none in
         let ss = statements_made (several statements) (making.in_loop label sight) n in
-        let numbered = subst (Each (IsNumbered e known letters)) (cursors-out (made.While level x ss.0) (layers.While level x ss.0) (made.outs-While level x ss.0)) closed.1 in
-        let done = all_done h (looping level s) (faults.in_loop label c) world (frame.Loop label ∷ frames) n two.1 (here_in-loop e known letters s label c sight n here) (closed.0, numbered) in
-        record { proper = proper.while level x ss.0 (made.outs-While level x ss.0) (parts.tests c.view sight p.agree p.outside test t two.0) done.0; types = done.1 }
+        let done = all_done h (looping level s) (faults.in_loop label c) world (frame.Loop label ∷ frames) n two.1 (here_in-loop e known letters s label c (at_frames world frames) n here) (closed_at (made.While level x ss.0) (layers.While level x ss.0) ss.1 (made.outs-While level x ss.0) closed) in
+        record { proper = proper.while level x ss.0 (made.outs-While level x ss.0) (parts.tests c.view sight here.stands.agree here.stands.outside test t two.0) done.0; types = done.1 }
     block_layer (stand.repeat {statements = statements} {until = until} h t) label s c world frames n none here closed =
         let sight : Sight = at_frames world frames in
-        let p = here.stands in
         let level : ℕ = length frames in
         let x = expr_at sight until in
         let two = neither (faults.all (faults.in_loop label c) (map statement_fault (several statements))) (test_part c.view until) none in
         let ss = statements_made (several statements) (making.in_loop label sight) n in
-        let numbered = subst (Each (IsNumbered e known letters)) (cursors-out (made.Repeat level ss.0 x) (layers.Repeat level ss.0 x) (made.outs-Repeat level ss.0 x)) closed.1 in
-        let done = all_done h (looping level s) (faults.in_loop label c) world (frame.Loop label ∷ frames) n two.0 (here_in-loop e known letters s label c sight n here) (closed.0, numbered) in
-        record { proper = proper.repeat level ss.0 x (made.outs-Repeat level ss.0 x) done.0 (parts.tests c.view sight p.agree p.outside until t two.1); types = done.1 }
+        let done = all_done h (looping level s) (faults.in_loop label c) world (frame.Loop label ∷ frames) n two.0 (here_in-loop e known letters s label c (at_frames world frames) n here) (closed_at (made.Repeat level ss.0 x) (layers.Repeat level ss.0 x) ss.1 (made.outs-Repeat level ss.0 x) closed) in
+        record { proper = proper.repeat level ss.0 x (made.outs-Repeat level ss.0 x) done.0 (parts.tests c.view sight here.stands.agree here.stands.outside until t two.1); types = done.1 }
     block_layer (stand.for_each {head = head} {statements = statements} w h) label s c world frames n none here closed =
         let sight : Sight = at_frames world frames in
         let p = here.stands in
@@ -194,7 +205,7 @@ module _ (e : Scene) (known : Known) (letters : Letters) (parts : PartsProper e 
         let inner : Context = checked.inside c (head_frame c.view label head) in
         let two = neither (head_fault c.view head) (faults.all inner (map statement_fault (several statements))) none in
         let ss = statements_made (several statements) (at_frames world told.0) told.1 in
-        let numbered = subst (Each (IsNumbered e known letters)) (cursors-out (made.For level x ss.0) (layers.For level x ss.0) (made.outs-For level x ss.0)) closed.1 in
+        let numbered = (closed_at (made.For level x ss.0) (layers.For level x ss.0) ss.1 (made.outs-For level x ss.0) closed).1 in
         let q : IsForHead e known c.view sight head = head_is e known letters parts c.view sight p.agree head w two.0 in
         let entered = enter_for e known letters s c world frames label head n q numbered.0 here (fills-before (all-grow h (at_frames world told.0) told.1) closed.0) in
         let done = all_done h (over_rows level x.cursor s) inner world told.0 told.1 two.1 entered.here (closed.0, numbered.1) in
@@ -204,14 +215,14 @@ module _ (e : Scene) (known : Known) (letters : Letters) (parts : PartsProper e 
         }
     block_layer (stand.compound {atomic = atomic} {xs = xs} {cursors = cursors} {handlers = handlers} {statements = statements} ds cs hs h) label s c world frames n none here closed =
         let level : ℕ = length frames in
-        let t : making.Told = told e known letters parts s c world frames label n xs cursors in
-        let own = own_cursors e known letters parts s c world frames label n xs cursors in
-        let place : places.Sight = within e known letters parts s c world frames label n xs cursors in
+        let t : making.Told = told label frames n xs cursors in
+        let own = own_cursors world label frames n xs cursors in
+        let place : places.Sight = inside level own s in
         let inner : Context = within_frames c (declared_frames label c.view xs cursors) in
         let sight : Sight = at_frames world t.0 in
         let hm = handlers_made handlers sight t.1 in
         let ss = statements_made statements sight hm.1 in
-        let o : BlockParts = record { atomic = atomic; declarations = making.declarations_of world (before e known letters parts s c world frames label n xs cursors) xs; cursors = own; handlers = hm.0; statements = ss.0 } in
+        let o : BlockParts = record { atomic = atomic; declarations = making.declarations_of world (before label frames n) xs; cursors = own; handlers = hm.0; statements = ss.0 } in
         let two = neither (declared_fault label c.view xs cursors) (body_fault inner atomic (map handler_part handlers) (map statement_fault statements)) none in
         let three = three_none (first_of (values_fault inner.view.frames [] (all_values (map handler_part handlers)))) (first_of (handlers_fault inner atomic (map handler_part handlers))) (faults.all inner (map statement_fault statements)) two.1 in
         let numbered = each_split (IsNumbered e known letters) own (cursors_of_handlers hm.0 ++ cursors_of_all ss.0) (subst (Each (IsNumbered e known letters)) (compound_cursors level o) closed.1) in

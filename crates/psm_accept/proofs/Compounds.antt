@@ -32,29 +32,39 @@ use Rattle.psm_accept.proofs.Growing.{Grows, cursors-grow, declarations-grow, fi
 use Rattle.psm_accept.proofs.Moving.{IsHere}
 use Rattle.psm_accept.proofs.Premises.{PartsProper}
 
+-- ---- what is told
+
+abbrev pub before : Option Spelling → Frames → Numbering → Told
+before label outer n = (opened label outer, n)
+
+abbrev pub told : Option Spelling → Frames → Numbering → List Declaration → List CursorDeclaration → Told
+told label outer n xs cursors = told_cursors (told_by (before label outer n) xs) cursors
+
+abbrev pub own_cursors : World → Option Spelling → Frames → Numbering → List Declaration → List CursorDeclaration → List ResolvedCursor
+own_cursors world label outer n xs cursors = cursors_of world (told_by (before label outer n) xs) cursors
+
+-- ---- a block, its declarations and its cursors
+
 module _ (e : Scene) (known : Known) (letters : Letters) (parts : PartsProper e known letters) (s : places.Sight) (c : Context) (world : World) (outer : Frames) (label : Option Spelling) (n : Numbering) (xs : List Declaration) (cursors : List CursorDeclaration) where
-  abbrev pub before : Told
-  before = (opened label outer, n)
+  abbrev declared : Told
+  declared = told_by (before label outer n) xs
 
-  abbrev pub declared : Told
-  declared = told_by before xs
+  abbrev own : List ResolvedCursor
+  own = own_cursors world label outer n xs cursors
 
-  abbrev pub told : Told
-  told = told_cursors declared cursors
+  abbrev end : Told
+  end = told label outer n xs cursors
 
-  abbrev pub own_cursors : List ResolvedCursor
-  own_cursors = cursors_of world declared cursors
-
-  abbrev pub within : places.Sight
-  within = inside (length outer) own_cursors s
+  abbrev within : places.Sight
+  within = inside (length outer) own s
 
   pub record IsOpened : Type 0 where
-    pub here : IsHere e known letters within (within_frames c (declared_frames label c.view xs cursors)) (at_frames world told.0) told.1
-    pub declarations : Each (IsDeclaration e) (declarations_of world before xs)
-    pub proper : Each (ProperDeclaration known) (declarations_of world before xs)
-    pub are_cursors : Each (IsCursor e) own_cursors
-    pub proper_cursors : Each (ProperCursor known letters) own_cursors
-    pub types : AreTypes n → AreTypes told.1
+    pub here : IsHere e known letters within (within_frames c (declared_frames label c.view xs cursors)) (at_frames world end.0) end.1
+    pub declarations : Each (IsDeclaration e) (declarations_of world (before label outer n) xs)
+    pub proper : Each (ProperDeclaration known) (declarations_of world (before label outer n) xs)
+    pub are_cursors : Each (IsCursor e) own
+    pub proper_cursors : Each (ProperCursor known letters) own
+    pub types : AreTypes n → AreTypes end.1
 
   here_of : (fs : views.Frames) (t : Told) → Walked e known letters within c world outer label n fs t → IsHere e known letters within (within_frames c fs) (at_frames world t.0) t.1
   here_of fs t w = record {
@@ -63,24 +73,24 @@ module _ (e : Scene) (known : Known) (letters : Letters) (parts : PartsProper e 
     below = subst (AreBelow t.1) (sym w.told_frames) w.here.below;
   }
 
-  pub open_block : Each DeclarationStands xs → Each CursorStands cursors → declared_fault label c.view xs cursors ≡ None → IsHere e known letters s c (at_frames world outer) n → Fills e told.1 → Each (IsNumbered e known letters) own_cursors → IsOpened
+  pub open_block : Each DeclarationStands xs → Each CursorStands cursors → declared_fault label c.view xs cursors ≡ None → IsHere e known letters s c (at_frames world outer) n → Fills e end.1 → Each (IsNumbered e known letters) own → IsOpened
   open_block ds cs none h f numbered =
       let five = five_none (repeated rule.DeclarationRepeated (variable_names xs)) (repeated rule.DeclarationRepeated (condition_names xs)) (repeated rule.DeclarationRepeated (map (λ x. x.name) cursors))
           (first_of (declarations_fault (faults.opened label c.view) xs)) (first_of (cursors_fault (declared_view (faults.opened label c.view) xs) cursors)) none in
-      let g : Grows n declared.1 = declarations-grow before xs in
-      let above : Each (λ x. n.cursors ≤ x.number) own_cursors = numbers_from world declared cursors n.cursors g.cursors in
-      let start : Walked e known letters within c world outer label n (frame.Compound label undeclared ∷ c.view.frames) before = record {
+      let g : Grows n declared.1 = declarations-grow (before label outer n) xs in
+      let above : Each (λ x. n.cursors ≤ x.number) own = numbers_from world declared cursors n.cursors g.cursors in
+      let start : Walked e known letters within c world outer label n (frame.Compound label undeclared ∷ c.view.frames) (before label outer n) = record {
         d = undeclared;
         made = undeclared;
         frames = refl;
         told_frames = refl;
-        here = enter_block e known letters s c world outer n h label own_cursors above;
+        here = enter_block e known letters s c world outer n h label own above;
         types = λ a. a;
       } in
-      let first = declarations_walk e known letters within c world outer label parts n xs ds (frame.Compound label undeclared ∷ c.view.frames) before start five.3 (fills-before (cursors-grow declared cursors) f) in
+      let first = declarations_walk e known letters within c world outer label parts n xs ds (frame.Compound label undeclared ∷ c.view.frames) (before label outer n) start five.3 (fills-before (cursors-grow declared cursors) f) in
       let fs : views.Frames = faults.declared_by (frame.Compound label undeclared ∷ c.view.frames) xs in
       let second = cursors_walk e known letters within c world outer label parts n cursors cs fs declared first.0 five.4 (each_first world declared cursors s.cursors) numbered in record {
-        here = here_of (declared_frames label c.view xs cursors) told second.0;
+        here = here_of (declared_frames label c.view xs cursors) end second.0;
         declarations = first.1;
         proper = first.2;
         are_cursors = second.1;
