@@ -1,6 +1,6 @@
 -- What stands for a statement that has no fault is proper: an induction over statements.
-use Rattle.std.proofs.Common.{◌≡◌, ◌≤◌, ℕ, suc, List, [], ◌∷◌, ◌++◌, length, map, Option, Some, None, option_map, refl, ap, sym, ◌∙◌, subst, arith}
-use Rattle.std.specs.Prelude.{Bool, IsTrue}
+use Rattle.std.proofs.Common.{◌≡◌, ◌≤◌, ℕ, suc, List, [], ◌∷◌, ◌++◌, length, map, Option, Some, None, ap, sym, ◌∙◌, subst, arith}
+use Rattle.std.specs.Prelude.{Bool}
 use Rattle.psm_exprcode.specs.declared.op.Letter.{Letter}
 use Rattle.psm_exprcode.specs.declared.op.Letter.TheVariants.{B}
 use Rattle.psm_scope.specs.Frames.{Spelling}
@@ -13,11 +13,10 @@ use Rattle.psm_rules.specs.StatementFaults as checked
 use Rattle.psm_rules.specs.StatementFaults.{Context, found, label_name, label_of, several}
 use Rattle.psm_rules.specs.View.{World}
 use Rattle.psm_rules.proofs.Earliest.{first_of_cons}
-use Rattle.psm_tree.specs.declared.expr.Expr.{Expr}
-use Rattle.psm_tree.specs.declared.statement.Block.{Block, out-Block}
+use Rattle.psm_tree.specs.declared.statement.Block.{Block}
 use Rattle.psm_tree.specs.declared.statement.Branch.{Branch, out-Branch}
 use Rattle.psm_tree.specs.declared.statement.Handler.{Handler, out-Handler}
-use Rattle.psm_tree.specs.declared.statement.Statement.{Statement, out-Statement}
+use Rattle.psm_tree.specs.declared.statement.Statement.{Statement}
 use Rattle.psm_resolved.specs.declared.statement.ResolvedBranch.{ResolvedBranch, out-ResolvedBranch, out-roll-ResolvedBranch}
 use Rattle.psm_resolved.specs.declared.statement.ResolvedHandler.{ResolvedHandler, out-ResolvedHandler, out-roll-ResolvedHandler}
 use Rattle.psm_resolved.specs.declared.statement.ResolvedStatement.{ResolvedStatement, out-ResolvedStatement}
@@ -39,16 +38,16 @@ use Rattle.psm_accept.specs.Places.{StandsAt}
 use Rattle.psm_accept.specs.StatementsStand as stand
 use Rattle.psm_accept.specs.StatementsStand.{AllStand, BlockLayerStands, BlockStands, BranchesStand, HandlersStand, LayerStands, StatementStands}
 use Rattle.psm_accept.proofs.Branches.{IsGoodBranch, compared_good, searched_good}
-use Rattle.psm_accept.proofs.Composing.{AreParts, BlockParts, compound_cursors, compound_of, each_split}
+use Rattle.psm_accept.proofs.Composing.{BlockParts, compound_cursors, compound_of, each_split}
 use Rattle.psm_accept.proofs.Compounds.{IsOpened, before, open_block, own_cursors, told}
 use Rattle.psm_accept.proofs.Declarations.{AreTypes}
 use Rattle.psm_accept.proofs.Declaring.{at_frames}
-use Rattle.psm_accept.proofs.EnteringFor.{IsEntered, cursor_is, cursor_proper, enter_for}
+use Rattle.psm_accept.proofs.EnteringFor.{cursor_is, cursor_proper, enter_for}
 use Rattle.psm_accept.proofs.ForQueries.{IsForHead, head_is}
 use Rattle.psm_accept.proofs.Growing.{Grows, all-grow, branches-grow, fills-before, handlers-grow, statement-grows}
 use Rattle.psm_accept.proofs.MayHandle.{HandlerSound, handlers_may, handlers_sound}
 use Rattle.psm_accept.proofs.Moving.{IsHere, here-grown, here_in-action, here_in-loop}
-use Rattle.psm_accept.proofs.Opening.{BlockLayer, ResolvedLayer, StatementLayer, block_fault-out, block_fault_in, block_made-out, block_made_in, branch_cursors-out, branch_made-out, branch_of, branches_made, cursors-out, cursors_of_all, cursors_of_branches, cursors_of_handlers, cursors_of_layer, fault-out, fault_in, handler_cursors-out, handler_made-out, handler_of, handlers_made, made-out, made_in, statements_made}
+use Rattle.psm_accept.proofs.Opening.{BlockLayer, ResolvedLayer, StatementLayer, block_fault-out, block_fault_in, block_made-out, block_made_in, branch_cursors-out, branch_made-out, branches_made, cursors-out, cursors_of_all, cursors_of_branches, cursors_of_handlers, cursors_of_layer, fault-out, fault_in, handler_cursors-out, handler_made-out, handlers_made, made-out, made_in, statements_made}
 use Rattle.psm_accept.proofs.Parts.{neither}
 use Rattle.psm_accept.proofs.Premises.{PartsProper, parts_proper}
 use Rattle.psm_accept.proofs.ProperForms.{IsCompared}

@@ -1,12 +1,11 @@
 -- The tests of branches that have no fault, and that their statements have none.
-use Rattle.std.proofs.Common.{◌≡◌, List, [], ◌∷◌, Option, None, map, ap, sym, ◌∙◌}
+use Rattle.std.proofs.Common.{◌≡◌, List, None, map, ap, sym, ◌∙◌}
 use Rattle.psm_exprcode.specs.declared.op.Letter.{Letter}
 use Rattle.psm_exprcode.specs.declared.op.Letter.TheVariants.{B}
-use Rattle.psm_rules.specs.declared.fault.Fault.{Fault}
 use Rattle.psm_rules.specs.declared.found.Found.{Found}
 use Rattle.psm_rules.specs.BlockFaults as faults
 use Rattle.psm_rules.specs.BlockFaults.{BranchPart, branch_part, searched, simple, statement_fault, test_part}
-use Rattle.psm_rules.specs.ExprFaults.{expr_found, simple_test}
+use Rattle.psm_rules.specs.ExprFaults.{simple_test}
 use Rattle.psm_rules.specs.Faults.{earlier, first_of}
 use Rattle.psm_rules.specs.Found.{as_condition, as_value}
 use Rattle.psm_rules.specs.StatementFaults.{Context, found, several}

@@ -1,12 +1,10 @@
 -- Proper statements, made of proper parts.
-use Rattle.std.proofs.Common.{◌≡◌, ◌≤◌, ℕ, List, [], ◌∷◌, ◌++◌, Option, None, map, refl, ap, sym, ◌∙◌, subst}
+use Rattle.std.proofs.Common.{◌≡◌, ◌≤◌, ℕ, List, [], ◌∷◌, ◌++◌, Option, None, ap, sym, ◌∙◌, subst}
 use Rattle.psm_rules.specs.declared.fault.Fault.{Fault}
 use Rattle.psm_rules.specs.Faults.{first_of}
 use Rattle.psm_rules.proofs.Earliest.{first_of_cons}
 use Rattle.psm_resolved.specs.declared.statement.ResolvedBlock.{ResolvedBlock, out-ResolvedBlock, out-roll-ResolvedBlock, roll-ResolvedBlock}
 use Rattle.psm_resolved.specs.declared.statement.ResolvedBranch.{ResolvedBranch}
-use Rattle.psm_resolved.specs.declared.statement.ResolvedCursor.{ResolvedCursor}
-use Rattle.psm_resolved.specs.declared.statement.ResolvedDeclaration.{ResolvedDeclaration}
 use Rattle.psm_resolved.specs.declared.statement.ResolvedHandler.{ResolvedHandler}
 use Rattle.psm_resolved.specs.declared.statement.ResolvedStatement.{ResolvedStatement}
 use Rattle.psm_resolved.specs.declared.statement.ResolvedStatement.TheOpen.{ResolvedBlock-F}
@@ -18,8 +16,8 @@ use Rattle.psm_sound.specs.Statements as places
 use Rattle.psm_sound.specs.Statements.{IsCursor, IsDeclaration, inside}
 use Rattle.psm_proper.specs.Statements as proper
 use Rattle.psm_proper.specs.Statements.{AreActions, AreApart, AreProper, IsProper, Letters, MayHandle, ProperCursor, ProperDeclaration}
-use Rattle.psm_accept.specs.Numbered.{Cursors, cursors_in, cursors_in_block, together}
-use Rattle.psm_accept.proofs.Opening.{block_cursors-out, cursors-out, cursors_of_all, cursors_of_branches, cursors_of_handlers}
+use Rattle.psm_accept.specs.Numbered.{cursors_in}
+use Rattle.psm_accept.proofs.Opening.{block_cursors-out, cursors-out, cursors_of_all, cursors_of_handlers}
 use Rattle.psm_accept.proofs.Parts.{neither}
 
 -- ---- a block

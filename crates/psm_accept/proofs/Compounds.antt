@@ -1,5 +1,5 @@
 -- What is declared in a compound statement that has no fault, and what is known behind its declarations.
-use Rattle.std.proofs.Common.{◌≡◌, ◌≤◌, ℕ, List, [], ◌∷◌, ◌++◌, length, map, Option, None, refl, ap, sym, ◌∙◌, subst}
+use Rattle.std.proofs.Common.{◌≡◌, ◌≤◌, List, ◌∷◌, length, map, Option, None, refl, sym, subst}
 use Rattle.psm_scope.specs.Frames.{Spelling, undeclared}
 use Rattle.psm_scope.specs.Frames as frame
 use Rattle.psm_rules.specs.declared.rule.Rule.TheVariants as rule
@@ -12,7 +12,7 @@ use Rattle.psm_rules.specs.View.{World}
 use Rattle.psm_tree.specs.declared.statement.CursorDeclaration.{CursorDeclaration}
 use Rattle.psm_tree.specs.declared.statement.Declaration.{Declaration}
 use Rattle.psm_resolved.specs.declared.statement.ResolvedCursor.{ResolvedCursor}
-use Rattle.psm_resolve_expr.specs.Sight.{Frames, Sight}
+use Rattle.psm_resolve_expr.specs.Sight.{Frames}
 use Rattle.psm_resolve.specs.Blocks.{Told, cursors_of, declarations_of, opened, told_by, told_cursors}
 use Rattle.psm_resolve.specs.Numbering.{Numbering}
 use Rattle.psm_emit.specs.declared.known.Known.{Known}

@@ -1,7 +1,7 @@
 -- The declarations of variables and of conditions in a block are proper, and what is known in the block goes over behind them.
-use Rattle.std.proofs.Common.{◌≡◌, ℕ, suc, ◌<◌, ◌≤◌, Bool, true, false, List, [], ◌∷◌, ◌++◌, length, length-append, append_assoc, slice_get, Option, Some, None, option_map, is_none, refl, ap, sym, ◌∙◌, subst, arith}
+use Rattle.std.proofs.Common.{◌≡◌, ℕ, suc, Bool, true, false, List, [], ◌∷◌, ◌++◌, length, length-append, append_assoc, slice_get, Option, Some, None, option_map, refl, ap, sym, ◌∙◌, subst, arith}
 use Rattle.std.specs.List.{list_all}
-use Rattle.std.specs.Prelude.{◌&&◌, IsTrue}
+use Rattle.std.specs.Prelude.{◌&&◌}
 use Rattle.psm_value.specs.declared.sqltype.SqlType.{SqlType}
 use Rattle.psm_exprcode.specs.WellFormed.{is_type}
 use Rattle.psm_exprcode.specs.Kinds.{letter_of}
@@ -9,12 +9,11 @@ use Rattle.psm_code.specs.RoutineRules.{is_condition}
 use Rattle.psm_scope.specs.Frames.{Spelling}
 use Rattle.psm_scope.specs.Frames as frame
 use Rattle.psm_scope.specs.declared.known.DeclaredCondition.{DeclaredCondition}
-use Rattle.psm_rules.specs.declared.rule.Rule.TheVariants as rule
 use Rattle.psm_rules.specs.BlockFaults as faults
 use Rattle.psm_rules.specs.BlockFaults.{declaration_fault, declarations_fault, declared_once, default_fault, local_variable, optional_state_fault}
 use Rattle.psm_rules.specs.ExprFaults.{type_fault}
 use Rattle.psm_rules.specs.Faults.{first_of}
-use Rattle.psm_rules.specs.StatementFaults.{Context, good_state, several}
+use Rattle.psm_rules.specs.StatementFaults.{Context, good_state}
 use Rattle.psm_rules.specs.Types.{type_of}
 use Rattle.psm_rules.specs.View as views
 use Rattle.psm_rules.specs.View.{View, World}
@@ -37,7 +36,6 @@ use Rattle.psm_emit.specs.Writing.{BeginsWith}
 use Rattle.psm_sound.specs.Scene.{Each, Scene}
 use Rattle.psm_sound.specs.Statements as places
 use Rattle.psm_sound.specs.Statements.{IsDeclaration, IsDefault}
-use Rattle.psm_proper.specs.Expressions.{PerhapsProper}
 use Rattle.psm_proper.specs.Statements.{Letters, ProperDeclaration}
 use Rattle.psm_accept.specs.Agreement.{Agree, HasSlot}
 use Rattle.psm_accept.specs.Meant.{HasNumber}
@@ -45,10 +43,10 @@ use Rattle.psm_accept.specs.Numbered.{Fills}
 use Rattle.psm_accept.specs.Places.{IsGood}
 use Rattle.psm_accept.specs.StatementsStand.{DeclarationStands, DefaultStands}
 use Rattle.psm_accept.proofs.Choices.{type_bounded}
-use Rattle.psm_accept.proofs.Declaring.{Checked, InBlock, IsFresh, Made, at_frames, block_context, block_frames, condition_declared, variable_declared}
+use Rattle.psm_accept.proofs.Declaring.{Checked, InBlock, Made, at_frames, block_context, block_frames, condition_declared, variable_declared}
 use Rattle.psm_accept.proofs.DeclaredOnce.{each_append}
 use Rattle.psm_accept.proofs.GoodStates.{state_good}
-use Rattle.psm_accept.proofs.Growing.{Grows, behind-grows, declarations-grow, fills-before, grows-condition, grows-here, grows-slot, variables-grow}
+use Rattle.psm_accept.proofs.Growing.{declarations-grow, fills-before, grows-condition, grows-here, grows-slot, variables-grow}
 use Rattle.psm_accept.proofs.Parts.{neither}
 use Rattle.psm_accept.proofs.Premises.{PartsProper}
 use Rattle.psm_accept.proofs.Simples.{source_for, there_is}

@@ -1,7 +1,6 @@
 -- What is known in a block goes over from one declaration to the next.
-use Rattle.std.proofs.Common.{◌≡◌, ℕ, suc, ◌<◌, ◌≤◌, Bool, true, false, List, [], ◌∷◌, ◌++◌, map, length, length-append, append_assoc, nat_eq, find, slice_get, Option, Some, None, refl, ap, sym, ◌∙◌, subst, arith}
+use Rattle.std.proofs.Common.{◌≡◌, ℕ, ◌<◌, ◌≤◌, true, List, [], ◌∷◌, map, length, Option, Some, None, refl, ap, sym, ◌∙◌, subst, arith}
 use Rattle.std.specs.Cmp.Lexicographic.{same_text}
-use Rattle.std.specs.Prelude.{IsTrue, is_some}
 use Rattle.psm_value.specs.declared.sqltype.SqlType.{SqlType}
 use Rattle.psm_scope.specs.Frames.{Declared, Frame, Spelling, is_spelled}
 use Rattle.psm_scope.specs.Frames as frame
@@ -18,11 +17,11 @@ use Rattle.psm_resolve_expr.specs.Sight.{Frames, Sight}
 use Rattle.psm_resolve.specs.Numbering.{Numbering}
 use Rattle.psm_resolve.specs.Statements.{or_zero}
 use Rattle.psm_emit.specs.declared.known.Known.{Known}
-use Rattle.psm_sound.specs.Scene.{Each, Scene}
+use Rattle.psm_sound.specs.Scene.{Scene}
 use Rattle.psm_sound.specs.Statements as places
 use Rattle.psm_proper.specs.Statements.{Letters}
-use Rattle.psm_accept.specs.Agreement.{Agree, HasSlot, kinds_in}
-use Rattle.psm_accept.specs.Meant.{HasNumber, IsConditionMeant, IsCursorMeant, Meant}
+use Rattle.psm_accept.specs.Agreement.{HasSlot, kinds_in}
+use Rattle.psm_accept.specs.Meant.{HasNumber, IsConditionMeant, IsCursorMeant}
 use Rattle.psm_accept.specs.Numbered.{AreBelow, IsConditionBelow, IsCursorBelow}
 use Rattle.psm_accept.specs.Places.{AreDistinct, IsCursorKnown, IsGood, IsKnown, StandsAt, state_in}
 use Rattle.psm_accept.proofs.DeclaredOnce.{Synced, each_once, looked, looked_in, once_mapped, synced_once}

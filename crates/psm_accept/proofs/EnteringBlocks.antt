@@ -1,5 +1,5 @@
 -- What is known where a compound statement stands goes over into it, before anything is declared there.
-use Rattle.std.proofs.Common.{◌≡◌, inl, inr, ℕ, ◌<◌, ◌≤◌, Bool, true, false, List, ◌∷◌, ◌++◌, length, find, nat_eq, Option, Some, None, option_map, refl, ap, subst, arith}
+use Rattle.std.proofs.Common.{◌≡◌, inl, inr, ℕ, ◌<◌, ◌≤◌, Bool, true, false, List, ◌∷◌, length, Option, Some, None, option_map, refl, ap, subst, arith}
 use Rattle.std.specs.Prelude.{if◌then◌else◌}
 use Rattle.psm_scope.specs.Frames.{Spelling, is_spelled, undeclared}
 use Rattle.psm_scope.specs.Frames as frame
@@ -9,7 +9,7 @@ use Rattle.psm_scope.specs.Scopes.{level}
 use Rattle.psm_rules.specs.StatementFaults.{Context}
 use Rattle.psm_rules.specs.View.{Cursor, World}
 use Rattle.psm_resolved.specs.declared.statement.ResolvedCursor.{ResolvedCursor}
-use Rattle.psm_resolve_expr.specs.Sight.{Frames, Sight}
+use Rattle.psm_resolve_expr.specs.Sight.{Frames}
 use Rattle.psm_resolve.specs.Numbering.{Numbering}
 use Rattle.psm_resolve.specs.Statements.{or_zero}
 use Rattle.psm_emit.specs.declared.known.Known.{Known}

@@ -1,5 +1,5 @@
 -- What is known where a FOR statement stands goes over into its statements.
-use Rattle.std.proofs.Common.{◌≡◌, inl, inr, ℕ, suc, ◌<◌, ◌≤◌, Bool, true, false, not, cond, List, [], ◌∷◌, map, length, find, nat_eq, Option, Some, None, option_map, refl, ap, sym, ◌∙◌, subst, arith}
+use Rattle.std.proofs.Common.{◌≡◌, inl, inr, ℕ, ◌<◌, ◌≤◌, Bool, true, false, not, cond, List, [], ◌∷◌, map, length, find, nat_eq, Option, Some, None, option_map, refl, ap, sym, ◌∙◌, subst, arith}
 use Rattle.std.specs.Prelude.{if◌then◌else◌}
 use Rattle.psm_value.specs.declared.sqltype.SqlType.{SqlType}
 use Rattle.psm_scope.specs.Frames.{Frame, Spelling, is_spelled, undeclared}
@@ -18,8 +18,8 @@ use Rattle.psm_tree.specs.declared.statement.ForCursor.{ForCursor}
 use Rattle.psm_tree.specs.declared.statement.ForHead.{ForHead}
 use Rattle.psm_resolved.specs.declared.statement.ResolvedCursor.{ResolvedCursor}
 use Rattle.psm_resolve_expr.specs.Sight.{Frames, Sight}
-use Rattle.psm_resolve.specs.Blocks.{ForItem, Told, for_items, head_of, in_frames, is_insensitive, item_slots, ordered_query, told_for_cursor, told_head, told_items}
-use Rattle.psm_resolve.specs.Numbering.{Numbering, next_slot, with_cursor}
+use Rattle.psm_resolve.specs.Blocks.{ForItem, Told, for_items, head_of, in_frames, is_insensitive, told_for_cursor, told_head, told_items}
+use Rattle.psm_resolve.specs.Numbering.{Numbering, with_cursor}
 use Rattle.psm_resolve.specs.Statements.{or_zero}
 use Rattle.psm_emit.specs.declared.known.Known.{Known}
 use Rattle.psm_emit.specs.Queries.{item_letters}
@@ -33,10 +33,9 @@ use Rattle.psm_accept.specs.Meant.{HasShape, IsCursorMeant, IsLabelMeant, Meant}
 use Rattle.psm_accept.specs.Numbered.{AreBelow, Fills, IsCursorBelow, IsNumbered}
 use Rattle.psm_accept.specs.Places.{IsCursorKnown, IsKnown, StandsAt}
 use Rattle.psm_accept.proofs.CursorDeclarations.{found_past, same_number, suit_many, there_past}
-use Rattle.psm_accept.proofs.CursorQueries.{IsCursorQuery}
 use Rattle.psm_accept.proofs.Declarations.{AreTypes}
 use Rattle.psm_accept.proofs.Declaring.{Checked, Made, at_frames, kinds}
-use Rattle.psm_accept.proofs.DeclaredOnce.{looked, looked_in}
+use Rattle.psm_accept.proofs.DeclaredOnce.{looked}
 use Rattle.psm_accept.proofs.EnteringBlocks.{below_by}
 use Rattle.psm_accept.proofs.ForItems.{declared_kinds}
 use Rattle.psm_accept.proofs.ForQueries.{IsForHead}

@@ -1,42 +1,33 @@
 -- The items of a FOR statement: each has a name and a type within bounds, whose letter is that of its values.
-use Rattle.std.proofs.Common.{◌≡◌, ℕ, suc, ◌+◌, ◌≤◌, Bool, true, false, ◌&&◌, List, [], ◌∷◌, ◌++◌, map, nat_le, Option, Some, None, option_map, refl, ap, sym, ◌∙◌, subst, arith}
+use Rattle.std.proofs.Common.{◌≡◌, ℕ, suc, ◌≤◌, Bool, true, false, List, [], ◌∷◌, ◌++◌, nat_le, Option, Some, None, refl, ap, sym, ◌∙◌, subst, arith}
 use Rattle.std.proofs.lemmas.Bool.Decides.{nat_tests}
-use Rattle.std.specs.Prelude.{IfSome, IsTrue, is_some, if◌then◌else◌}
-use Rattle.psm_token.specs.declared.place.Place.{Place}
+use Rattle.std.specs.Prelude.{IfSome, if◌then◌else◌}
 use Rattle.psm_value.specs.declared.sqltype.SqlType.{SqlType}
 use Rattle.psm_value.specs.declared.sqltype.SqlType.TheVariants as types
 use Rattle.psm_exprcode.specs.WellFormed.{is_type}
 use Rattle.psm_exprcode.specs.Kinds.{letter_of}
 use Rattle.psm_scope.specs.Frames.{Spelling}
-use Rattle.psm_scope.specs.Lookup as lookup
-use Rattle.psm_scope.specs.Lookup.{RowTable, as_column, as_variable, column_meant, is_table, meant, named, or_else, place_named}
+use Rattle.psm_scope.specs.Lookup.{RowTable, as_column, as_variable, column_meant, is_table, meant, or_else, place_named}
 use Rattle.psm_scope.specs.declared.known.Variable.{Variable}
-use Rattle.psm_rules.specs.declared.found.Found.{Found}
-use Rattle.psm_rules.specs.declared.query.Picked.TheVariants.{All, Plain, Set}
-use Rattle.psm_rules.specs.declared.rule.Rule.TheVariants as rule
 use Rattle.psm_rules.specs.declared.shape.Family.{Family}
 use Rattle.psm_rules.specs.declared.shape.Family.TheVariants.{Numbers, Texts}
-use Rattle.psm_rules.specs.declared.shape.Shape.{Shape}
-use Rattle.psm_rules.specs.declared.shape.Shape.TheVariants.{Value, Untyped, Condition}
+use Rattle.psm_rules.specs.declared.shape.Shape.TheVariants.{Value}
 use Rattle.psm_rules.specs.declared.shape.Typed.{Typed}
 use Rattle.psm_rules.specs.BlockFaults as faults
 use Rattle.psm_rules.specs.BlockFaults.{declared_once, for_item, item_of_for, local_variable, named_fault, unless_broken, wide, with_columns, with_item}
 use Rattle.psm_rules.specs.ExprFaults as found
 use Rattle.psm_rules.specs.ExprFaults.{Of, PickFound, PickPart, LinkPart, QueryFound, WhenPart, expr_found, is_set, link_found, pick_found, query_found, spelling, when_found}
-use Rattle.psm_rules.specs.Faults.{breaks_if, earlier}
-use Rattle.psm_rules.specs.Found.{as_value}
 use Rattle.psm_rules.specs.Shapes.{family_of, typed}
 use Rattle.psm_rules.specs.View.{Columns, View}
 use Rattle.psm_tree.specs.declared.expr.Expr.{Expr, out-Expr}
-use Rattle.psm_tree.specs.declared.expr.Expr.TheFolds.{fold_out-Expr, fold_out-Pick, map-Expr, map-Pick}
+use Rattle.psm_tree.specs.declared.expr.Expr.TheFolds.{fold_out-Expr, map-Expr}
 use Rattle.psm_tree.specs.declared.expr.Expr.TheOpen.{Expr-F, Pick-F}
 use Rattle.psm_tree.specs.declared.expr.Expr.TheOpen as layers
 use Rattle.psm_tree.specs.declared.expr.Link.{Link}
 use Rattle.psm_tree.specs.declared.expr.Operator.{Operator as WrittenOperator}
-use Rattle.psm_tree.specs.declared.expr.Pick.{Pick, out-Pick}
+use Rattle.psm_tree.specs.declared.expr.Pick.{Pick}
 use Rattle.psm_tree.specs.declared.expr.Select.{Select}
 use Rattle.psm_tree.specs.declared.expr.When.{When}
-use Rattle.psm_tree.specs.declared.name.Identifier.{Identifier}
 use Rattle.psm_tree.specs.declared.name.Target.{Target}
 use Rattle.psm_resolve_expr.specs.declared.made.Made.{Made}
 use Rattle.psm_resolve_expr.specs.declared.made.MadeQuery.{MadeQuery}
@@ -47,16 +38,10 @@ use Rattle.psm_resolve_expr.specs.Made.{MadePick, Values, shape_of_type}
 use Rattle.psm_resolve_expr.specs.Sight.{Sight, meant_in}
 use Rattle.psm_resolve.specs.Blocks as blocks
 use Rattle.psm_resolve.specs.Blocks.{ForItem, column_items, items_of_pick}
-use Rattle.psm_sound.specs.Scene.{Scene}
-use Rattle.psm_accept.specs.Agreement.{Agree, HaveTypes, letter_in}
-use Rattle.psm_accept.specs.Stands.{Standing, as_operand, link_stands, link_stands_layer, pick_stands, pick_stands_layer, select_stands, select_stands_layer, stands, stands_layer, when_stands, when_stands_layer}
-use Rattle.psm_accept.proofs.Accepted.{Fits}
+use Rattle.psm_accept.specs.Agreement.{HaveTypes, letter_in}
 use Rattle.psm_accept.proofs.Declaring.{kinds}
 use Rattle.psm_accept.proofs.DeclaredOnce.{once_mapped}
-use Rattle.psm_accept.proofs.Judging.{OnRow}
 use Rattle.psm_accept.proofs.Names.{IsColumn, columns_placed}
-use Rattle.psm_accept.proofs.Parts.{IsOperand, IsSane, Part, as_value-clean, neither, operand, operand_source}
-use Rattle.psm_accept.proofs.Whole.{expr_accepted}
 
 -- ---- what is declared by items, by names and types
 

@@ -1,7 +1,7 @@
 -- What FOR declares for each item of its query, and for all of them.
-use Rattle.std.proofs.Common.{◌≡◌, ℕ, Bool, true, false, ◌&&◌, List, [], ◌∷◌, ◌++◌, map, Option, Some, None, option_map, refl, ap, sym, ◌∙◌, subst}
+use Rattle.std.proofs.Common.{◌≡◌, Bool, true, false, List, [], ◌∷◌, ◌++◌, map, Option, Some, None, refl, ap, sym, ◌∙◌, subst}
 use Rattle.std.specs.List.{list_all}
-use Rattle.std.specs.Prelude.{IsTrue, if◌then◌else◌}
+use Rattle.std.specs.Prelude.{if◌then◌else◌}
 use Rattle.psm_scope.proofs.Calls.{both}
 use Rattle.psm_token.specs.declared.place.Place.{Place}
 use Rattle.psm_value.specs.declared.sqltype.SqlType.{SqlType}
@@ -12,15 +12,15 @@ use Rattle.psm_scope.specs.Lookup.{RowTable}
 use Rattle.psm_scope.specs.declared.known.Variable.{Variable}
 use Rattle.psm_rules.specs.declared.fault.Fault.{Fault}
 use Rattle.psm_rules.specs.declared.found.Found.{Found}
-use Rattle.psm_rules.specs.declared.query.Picked.TheVariants.{All, Plain, Set}
-use Rattle.psm_rules.specs.declared.shape.Shape.TheVariants.{Value, Untyped}
+use Rattle.psm_rules.specs.declared.query.Picked.TheVariants.{Plain}
+use Rattle.psm_rules.specs.declared.shape.Shape.TheVariants.{Value}
 use Rattle.psm_rules.specs.declared.shape.Typed.{Typed}
 use Rattle.psm_rules.specs.BlockFaults as faults
 use Rattle.psm_rules.specs.BlockFaults.{declared_once, for_item, item_of_for, local_variable, name_of_item, named_fault, type_of_item, unless_broken, with_item, with_named}
 use Rattle.psm_rules.specs.ExprFaults as found
 use Rattle.psm_rules.specs.ExprFaults.{Of, PickFound, PickPart, LinkPart, QueryFound, WhenPart, expr_found, first_set, is_set, items_fault, link_found, pick_found, query_found, spelling, when_found}
 use Rattle.psm_rules.specs.Faults.{earlier, first_of}
-use Rattle.psm_rules.specs.Found.{as_value, sound}
+use Rattle.psm_rules.specs.Found.{as_value}
 use Rattle.psm_rules.specs.Shapes.{family_of, typed}
 use Rattle.psm_rules.specs.View.{View}
 use Rattle.psm_rules.proofs.Earliest.{first_of_cons}
@@ -48,7 +48,7 @@ use Rattle.psm_accept.specs.Stands.{Standing, as_operand, link_stands, link_stan
 use Rattle.psm_accept.proofs.Accepted.{Fits}
 use Rattle.psm_accept.proofs.Declaring.{kinds}
 use Rattle.psm_accept.proofs.DeclaredOnce.{once_mapped}
-use Rattle.psm_accept.proofs.ForItems.{AreNamed, IsColumnItem, IsNamedItem, column_item, columns_kinds, columns_named, columns_same, declared_kinds, kinds_append, named_append, typed_letter, wide_bounded, wide_letter}
+use Rattle.psm_accept.proofs.ForItems.{AreNamed, IsColumnItem, column_item, columns_kinds, columns_named, columns_same, declared_kinds, kinds_append, named_append, typed_letter, wide_bounded, wide_letter}
 use Rattle.psm_accept.proofs.Judging.{OnRow}
 use Rattle.psm_accept.proofs.Parts.{IsOperand, Part, as_value-clean, neither, operand, operand_source}
 use Rattle.psm_accept.proofs.Whole.{expr_accepted}

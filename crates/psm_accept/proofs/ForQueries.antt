@@ -1,16 +1,12 @@
 -- The query of a FOR statement that has no fault: it is that of a cursor, and what is declared for its items.
-use Rattle.std.proofs.Common.{◌≡◌, ℕ, Bool, true, false, not, ◌&&◌, List, [], ◌∷◌, map, Option, Some, None, option_map, refl, ap, sym, ◌∙◌, subst}
+use Rattle.std.proofs.Common.{◌≡◌, ℕ, Bool, true, not, List, [], ◌∷◌, map, Option, Some, None, option_map, refl, ap, sym, ◌∙◌, subst}
 use Rattle.std.specs.List.{list_all}
 use Rattle.std.specs.Prelude.{IfSome, IsTrue}
 use Rattle.psm_scope.proofs.Calls.{both}
-use Rattle.psm_list.specs.Several.{several_map}
-use Rattle.psm_token.specs.declared.place.Place.{Place}
 use Rattle.psm_value.specs.declared.sqltype.SqlType.{SqlType}
 use Rattle.psm_scope.specs.Frames.{Spelling}
 use Rattle.psm_scope.specs.Lookup.{RowTable, named}
-use Rattle.psm_rules.specs.declared.fault.Fault.{Fault}
 use Rattle.psm_rules.specs.declared.found.Found.{Found}
-use Rattle.psm_rules.specs.declared.shape.Shape.{Shape}
 use Rattle.psm_rules.specs.BlockFaults as faults
 use Rattle.psm_rules.specs.BlockFaults.{for_item, for_query_fault, found_query, head_fault, order_fault}
 use Rattle.psm_rules.specs.ExprFaults as found
@@ -21,7 +17,6 @@ use Rattle.psm_rules.specs.View as views
 use Rattle.psm_rules.specs.View.{Columns, View, table_named}
 use Rattle.psm_tree.specs.declared.expr.Expr.{Expr}
 use Rattle.psm_tree.specs.declared.expr.Expr.TheFolds.{fold_out-Select, map-Select}
-use Rattle.psm_tree.specs.declared.expr.Expr.TheOpen.{Select-F}
 use Rattle.psm_tree.specs.declared.expr.Link.{Link}
 use Rattle.psm_tree.specs.declared.expr.Operator.{Operator as WrittenOperator}
 use Rattle.psm_tree.specs.declared.expr.Pick.{Pick}

@@ -1,9 +1,6 @@
 -- The variables of a FOR statement have slots of their types.
-use Rattle.std.proofs.Common.{◌≡◌, ℕ, suc, Bool, List, [], ◌∷◌, map, length, slice_get, Option, Some, None, refl, ap, sym, ◌∙◌, subst, arith}
-use Rattle.psm_value.specs.declared.sqltype.SqlType.{SqlType}
+use Rattle.std.proofs.Common.{◌≡◌, ℕ, suc, Bool, List, [], ◌∷◌, map, length, slice_get, Option, Some, None, refl, ap, sym, ◌∙◌, subst}
 use Rattle.psm_exprcode.specs.declared.op.Letter.{Letter}
-use Rattle.psm_exprcode.specs.WellFormed.{is_type}
-use Rattle.psm_exprcode.specs.Kinds.{letter_of}
 use Rattle.psm_scope.specs.Frames.{Spelling}
 use Rattle.psm_scope.specs.Frames as frame
 use Rattle.psm_scope.specs.declared.known.Variable.{Variable}
@@ -13,7 +10,7 @@ use Rattle.psm_resolve_expr.specs.declared.made.Made.{Made as MadeExpr}
 use Rattle.psm_resolve_expr.specs.Sight.{Frames}
 use Rattle.psm_resolve.specs.Blocks.{ForItem, Told, item_slots, told_items, variable_in}
 use Rattle.psm_resolve.specs.Numbering.{Numbering, next_slot, with_slot}
-use Rattle.psm_sound.specs.Scene.{Each, Scene, Shape}
+use Rattle.psm_sound.specs.Scene.{Each, Scene}
 use Rattle.psm_sound.specs.Statements.{AreForItems, IsSlot}
 use Rattle.psm_proper.specs.Slots.{AreSlots, SlotOf}
 use Rattle.psm_accept.specs.Agreement.{AllSuit, HasSlot, Suits, letter_in}

@@ -1,19 +1,19 @@
 -- What has been numbered stays numbered: slots, cursors and conditions only become more.
-use Rattle.std.proofs.Common.{◌≡◌, ◌≤◌, ℕ, suc, List, [], ◌∷◌, ◌++◌, map, Option, Some, None, ap, sym, refl, ◌∙◌, subst, arith, append_assoc, append-nil}
+use Rattle.std.proofs.Common.{◌≤◌, List, [], ◌∷◌, ◌++◌, Option, Some, None, ap, sym, refl, ◌∙◌, subst, arith, append_assoc, append-nil}
 use Rattle.psm_value.specs.declared.sqltype.SqlType.{SqlType}
 use Rattle.psm_scope.specs.Frames.{Spelling}
 use Rattle.psm_rules.specs.StatementFaults.{label_name, several}
 use Rattle.psm_rules.specs.Types.{type_of}
 use Rattle.psm_tree.specs.declared.name.Identifier.{Identifier}
 use Rattle.psm_tree.specs.declared.types.State.{State}
-use Rattle.psm_tree.specs.declared.statement.Block.{Block, out-Block}
-use Rattle.psm_tree.specs.declared.statement.Branch.{Branch, out-Branch}
+use Rattle.psm_tree.specs.declared.statement.Block.{Block}
+use Rattle.psm_tree.specs.declared.statement.Branch.{Branch}
 use Rattle.psm_tree.specs.declared.statement.CursorDeclaration.{CursorDeclaration}
 use Rattle.psm_tree.specs.declared.statement.Declaration.{Declaration}
 use Rattle.psm_tree.specs.declared.statement.Declaration.TheVariants as declarations
 use Rattle.psm_tree.specs.declared.statement.ForHead.{ForHead}
-use Rattle.psm_tree.specs.declared.statement.Handler.{Handler, out-Handler}
-use Rattle.psm_tree.specs.declared.statement.Statement.{Statement, out-Statement}
+use Rattle.psm_tree.specs.declared.statement.Handler.{Handler}
+use Rattle.psm_tree.specs.declared.statement.Statement.{Statement}
 use Rattle.psm_resolve_expr.specs.Exprs.{type_known}
 use Rattle.psm_resolve_expr.specs.Sight.{Sight}
 use Rattle.psm_resolve.specs.Blocks as making

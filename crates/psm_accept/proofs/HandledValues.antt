@@ -1,8 +1,8 @@
 -- The values of the handlers of a block that has no fault: each may be one, and none stands twice.
-use Rattle.std.proofs.Common.{◌≡◌, ℕ, Bool, true, false, not, ◌||◌, ◌&&◌, List, [], ◌∷◌, ◌++◌, map, Option, Some, None, option_map, nat_eq, refl, ap, sym, ◌∙◌, subst, arith}
+use Rattle.std.proofs.Common.{◌≡◌, ℕ, Bool, true, false, not, ◌||◌, List, [], ◌∷◌, map, Option, Some, None, option_map, nat_eq, refl, ap, sym, ◌∙◌, subst, arith}
 use Rattle.std.proofs.lemmas.Bool.Decides.{nat_tests}
 use Rattle.std.specs.List.{list_any}
-use Rattle.std.specs.Prelude.{is_some, if◌then◌else◌}
+use Rattle.std.specs.Prelude.{is_some}
 use Rattle.psm_cond.specs.declared.handlers.ConditionValue.{ConditionValue}
 use Rattle.psm_cond.specs.declared.handlers.ConditionValue.TheVariants as values
 use Rattle.psm_token.specs.declared.place.Place.{Place}
@@ -10,14 +10,12 @@ use Rattle.psm_scope.specs.Frames.{Spelling, is_spelled}
 use Rattle.psm_scope.specs.Lookup as lookup
 use Rattle.psm_scope.specs.declared.known.DeclaredCondition.{DeclaredCondition}
 use Rattle.psm_rules.specs.declared.rule.Rule.TheVariants as rule
-use Rattle.psm_rules.specs.BlockFaults as faults
 use Rattle.psm_rules.specs.BlockFaults.{Handles, ByState, ByName, Exceptions, Warnings, NoData, handles, is_among, more_values, named_value, same_value, value_fault, value_place, values_fault}
 use Rattle.psm_rules.specs.Faults.{breaks_if, earlier, first_of}
-use Rattle.psm_rules.specs.StatementFaults.{Context, good_state}
+use Rattle.psm_rules.specs.StatementFaults.{Context}
 use Rattle.psm_rules.proofs.Earliest.{first_of_cons}
 use Rattle.psm_tree.specs.declared.statement.HandlerValue.{HandlerValue}
 use Rattle.psm_tree.specs.declared.statement.HandlerValue.TheVariants as handled
-use Rattle.psm_tree.specs.declared.types.State.{State}
 use Rattle.psm_resolve_expr.specs.Sight.{Frames, Sight}
 use Rattle.psm_resolve.specs.Blocks.{value_for, value_of}
 use Rattle.psm_resolve.specs.Statements.{declared_as, state_or_number, state_or_success}

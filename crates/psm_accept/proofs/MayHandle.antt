@@ -5,7 +5,6 @@ use Rattle.std.specs.List.{flat_map}
 use Rattle.psm_cond.specs.declared.handlers.ConditionValue.{ConditionValue}
 use Rattle.psm_token.specs.declared.place.Place.{Place}
 use Rattle.psm_scope.specs.Frames as frame
-use Rattle.psm_rules.specs.BlockFaults as faults
 use Rattle.psm_rules.specs.BlockFaults.{HandlerPart, all_values, handler_part, handlers_fault, statement_fault, undo_fault, values_fault}
 use Rattle.psm_rules.specs.Faults.{earlier, first_of}
 use Rattle.psm_rules.specs.StatementFaults as checked

@@ -19,7 +19,7 @@ use Rattle.psm_sound.specs.Statements as places
 use Rattle.psm_sound.specs.Statements.{in_action, looping}
 use Rattle.psm_proper.specs.Statements.{Letters}
 use Rattle.psm_accept.specs.Numbered.{AreBelow, IsConditionBelow, IsCursorBelow}
-use Rattle.psm_accept.specs.Places.{ConditionsKnown, IsCursorKnown, IsKnown, StandsAt}
+use Rattle.psm_accept.specs.Places.{IsCursorKnown, StandsAt}
 use Rattle.psm_accept.proofs.Growing.{Grows}
 use Rattle.psm_accept.proofs.Standing.{IsPlace, in_a_loop, in_an_action}
 

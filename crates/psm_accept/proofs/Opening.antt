@@ -2,7 +2,6 @@
 use Rattle.std.proofs.Common.{◌≡◌, List, map, ap, ◌∙◌}
 use Rattle.std.specs.Prelude.{◌++◌, Option}
 use Rattle.psm_scope.specs.Frames.{Spelling}
-use Rattle.psm_rules.specs.declared.fault.Fault.{Fault}
 use Rattle.psm_rules.specs.BlockFaults as faults
 use Rattle.psm_rules.specs.BlockFaults.{BlockPart, BranchPart, HandlerPart, Part, block_fault, branch_part, handler_part, statement_fault, undo_fault}
 use Rattle.psm_rules.specs.StatementFaults.{Context, found, several}
