@@ -1,5 +1,5 @@
 -- The declarations of variables and of conditions in a block are proper, and what is known in the block goes over behind them.
-use Rattle.std.proofs.Common.{◌≡◌, ℕ, suc, Bool, true, false, List, [], ◌∷◌, ◌++◌, length, length-append, append_assoc, slice_get, Option, Some, None, option_map, refl, ap, sym, ◌∙◌, subst, arith}
+use Rattle.std.proofs.Common.{◌≡◌, ℕ, suc, Bool, true, false, List, [], ◌∷◌, ◌++◌, length, length-append, slice_get, Option, Some, None, option_map, refl, sym, ◌∙◌, subst, arith}
 use Rattle.std.specs.List.{list_all}
 use Rattle.std.specs.Prelude.{◌&&◌}
 use Rattle.psm_value.specs.declared.sqltype.SqlType.{SqlType}
@@ -32,7 +32,7 @@ use Rattle.psm_resolve.specs.Blocks.{Told, declaration_of, declarations_of, slot
 use Rattle.psm_resolve.specs.Numbering.{Numbering, next_condition, next_slot, with_condition, with_slot}
 use Rattle.psm_resolve.specs.Statements.{expr_at}
 use Rattle.psm_emit.specs.declared.known.Known.{Known}
-use Rattle.psm_emit.specs.Writing.{BeginsWith}
+use Rattle.psm_emit.proofs.There.{there_at}
 use Rattle.psm_sound.specs.Scene.{Each, Scene}
 use Rattle.psm_sound.specs.Statements as places
 use Rattle.psm_sound.specs.Statements.{IsDeclaration, IsDefault}
@@ -52,14 +52,6 @@ use Rattle.psm_accept.proofs.Premises.{PartsProper}
 use Rattle.psm_accept.proofs.Simples.{source_for, there_is}
 
 -- ---- slots
-
-behind : {A : Type 0} (xs : List A) (x : A) (more : List A) → slice_get (xs ++ x ∷ more) (length xs) ≡ Some x
-behind [] x more = refl
-behind (y ∷ xs) x more = behind xs x more
-
--- the last of what a list begins with
-pub last_there : {A : Type 0} (xs : List A) (x : A) (ys : List A) → BeginsWith (xs ++ x ∷ []) ys → slice_get ys (length xs) ≡ Some x
-last_there xs x ys b = ap (λ l. slice_get l (length xs)) (b.is ∙ append_assoc xs (x ∷ []) b.more) ∙ behind xs x b.more
 
 pub one_longer : {A : Type 0} (xs : List A) (x : A) → length (xs ++ x ∷ []) ≡ suc (length xs)
 one_longer xs x = omega (arith, length-append xs (x ∷ []))
@@ -138,7 +130,7 @@ module _ (e : Scene) (known : Known) (letters : Letters) (s : places.Sight) (c :
       let d2 : Checked = record d { variables = declared_once d.variables x.name (local_variable (Some t)) } in
       let made2 : Made = record made { variables = declared_once made.variables x.name (variable_in t n) } in
       let filled : Fills e m = fills-before (variables-grow t (told_at made2 m) ns) f in
-      let there : slice_get e.routine.slots (next_slot n) ≡ Some t = last_there n.slots t e.routine.slots filled.slots in
+      let there : slice_get e.routine.slots (next_slot n) ≡ Some t = there_at n.slots filled.slots in
       let slot : HasSlot e.routine.slots (variable_in t n) = record { type = t; declared = refl; bounded = bounded; there = there } in
       let behind_it : Here d2 made2 m = variable_declared e known letters s c world outer label d made n m (grows-slot t n) x.name (local_variable (Some t)) (variable_in t n) refl slot h in
       let more = variables_walk from t bounded ns d2 made2 m (λ a. types-slot t n bounded (types a)) behind_it f in
@@ -169,7 +161,7 @@ module _ (e : Scene) (known : Known) (letters : Letters) (s : places.Sight) (c :
   condition_at from name None none d made n types h f =
       let y : DeclaredCondition = record { number = next_condition n; state = None } in
       let m : Numbering = with_condition name n in
-      let there = there_is (slice_get e.routine.conditions (next_condition n)) name (last_there n.conditions name e.routine.conditions f.conditions) in
+      let there = there_is (slice_get e.routine.conditions (next_condition n)) name (there_at n.conditions f.conditions) in
       let long : length m.conditions ≡ suc (length n.conditions) = one_longer n.conditions name in
       record {
         d = record d { conditions = declared_once d.conditions name (record { number = 0; state = None }) };

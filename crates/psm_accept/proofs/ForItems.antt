@@ -3,7 +3,6 @@ use Rattle.std.proofs.Common.{◌≡◌, ℕ, suc, ◌≤◌, Bool, true, false,
 use Rattle.std.proofs.lemmas.Bool.Decides.{nat_tests}
 use Rattle.std.specs.Prelude.{IfSome, if◌then◌else◌}
 use Rattle.psm_value.specs.declared.sqltype.SqlType.{SqlType}
-use Rattle.psm_value.specs.declared.sqltype.SqlType.TheVariants as types
 use Rattle.psm_exprcode.specs.WellFormed.{is_type}
 use Rattle.psm_exprcode.specs.Kinds.{letter_of}
 use Rattle.psm_scope.specs.Frames.{Spelling}
@@ -41,6 +40,7 @@ use Rattle.psm_resolve.specs.Blocks.{ForItem, column_items, items_of_pick}
 use Rattle.psm_accept.specs.Agreement.{HaveTypes, letter_in}
 use Rattle.psm_accept.proofs.Declaring.{kinds}
 use Rattle.psm_accept.proofs.DeclaredOnce.{once_mapped}
+use Rattle.psm_accept.proofs.Forms.{typed_letter}
 use Rattle.psm_accept.proofs.Names.{IsColumn, columns_placed}
 
 -- ---- what is declared by items, by names and types
@@ -79,13 +79,6 @@ kinds_append ks ((None, t) ∷ is) js = kinds_append ks is js
 
 -- ---- letters of types
 
-pub typed_letter : (t : SqlType) → letter_of t ≡ letter_in (family_of (typed t).kind)
-typed_letter types.SmallInt = refl
-typed_letter types.Integer = refl
-typed_letter (types.Numeric p s) = refl
-typed_letter (types.Char n) = refl
-typed_letter (types.VarChar n) = refl
-
 pub wide_letter : (family : Family) (scale : ℕ) → letter_of (wide family scale) ≡ letter_in family
 wide_letter Numbers scale = refl
 wide_letter Texts scale = refl
@@ -110,7 +103,7 @@ columns_named i (c ∷ cs) (t ∷ ts) h = (
     bounded = ap (λ o. is_type (type_known o)) h.0 ∙ h.1;
     type = typed t;
     shape = ap shape_of_type h.0;
-    letter = ap (λ o. letter_of (type_known o)) h.0 ∙ typed_letter t;
+    letter = ap (λ o. letter_of (type_known o)) h.0 ∙ sym (typed_letter t);
   },
   columns_named (suc i) cs ts h.2,
 )

@@ -48,7 +48,8 @@ use Rattle.psm_accept.specs.Stands.{Standing, as_operand, link_stands, link_stan
 use Rattle.psm_accept.proofs.Accepted.{Fits}
 use Rattle.psm_accept.proofs.Declaring.{kinds}
 use Rattle.psm_accept.proofs.DeclaredOnce.{once_mapped}
-use Rattle.psm_accept.proofs.ForItems.{AreNamed, IsColumnItem, column_item, columns_kinds, columns_named, columns_same, declared_kinds, kinds_append, named_append, typed_letter, wide_bounded, wide_letter}
+use Rattle.psm_accept.proofs.ForItems.{AreNamed, IsColumnItem, column_item, columns_kinds, columns_named, columns_same, declared_kinds, kinds_append, named_append, wide_bounded, wide_letter}
+use Rattle.psm_accept.proofs.Forms.{typed_letter}
 use Rattle.psm_accept.proofs.Judging.{OnRow}
 use Rattle.psm_accept.proofs.Parts.{IsOperand, Part, as_value-clean, neither, operand, operand_source}
 use Rattle.psm_accept.proofs.Whole.{expr_accepted}
@@ -126,7 +127,7 @@ module _ (e : Scene) (types : List SqlType) (view : View) (sight : Sight) (row :
       let same : typed i.type ≡ o.type = value_inside (typed i.type) o.type (sym i.shape ∙ o.value.shape) in record {
         declared = i.declared ∙ ap (λ o. Some (type_known o)) (sym i.declared);
         bounded = ap (λ o. is_type (type_known o)) i.declared ∙ i.bounded;
-        letter = ap (λ o. letter_of (type_known o)) i.declared ∙ typed_letter i.type ∙ ap (λ t. letter_in (family_of t.kind)) same;
+        letter = ap (λ o. letter_of (type_known o)) i.declared ∙ sym (typed_letter i.type) ∙ ap (λ t. letter_in (family_of t.kind)) same;
       }
 
   -- what an item is for the checker, what is made of it, and what is declared for it

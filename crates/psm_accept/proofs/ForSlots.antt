@@ -10,12 +10,13 @@ use Rattle.psm_resolve_expr.specs.declared.made.Made.{Made as MadeExpr}
 use Rattle.psm_resolve_expr.specs.Sight.{Frames}
 use Rattle.psm_resolve.specs.Blocks.{ForItem, Told, item_slots, told_items, variable_in}
 use Rattle.psm_resolve.specs.Numbering.{Numbering, next_slot, with_slot}
+use Rattle.psm_emit.proofs.There.{there_at}
 use Rattle.psm_sound.specs.Scene.{Each, Scene}
 use Rattle.psm_sound.specs.Statements.{AreForItems, IsSlot}
 use Rattle.psm_proper.specs.Slots.{AreSlots, SlotOf}
 use Rattle.psm_accept.specs.Agreement.{AllSuit, HasSlot, Suits, letter_in}
 use Rattle.psm_accept.specs.Numbered.{Fills}
-use Rattle.psm_accept.proofs.Declarations.{AreTypes, last_there, one_longer, types-slot}
+use Rattle.psm_accept.proofs.Declarations.{AreTypes, one_longer, types-slot}
 use Rattle.psm_accept.proofs.Declaring.{Made, kinds}
 use Rattle.psm_accept.proofs.DeclaredOnce.{each_once, once_mapped}
 use Rattle.psm_accept.proofs.ForItems.{AreNamed, IsNamedItem, declared_kinds}
@@ -87,7 +88,7 @@ items_told e label name outer from ((Some x, t) ∷ is) (m ∷ ms) named made n 
     let made2 : Made = record made { variables = declared_once made.variables x y } in
     let told : Told = (frame.For label name made2 ∷ outer, next) in
     let filled : Fills e next = fills-before (items-grow told is) f in
-    let there : slice_get e.routine.slots (next_slot n) ≡ Some t = last_there n.slots t e.routine.slots filled.slots in
+    let there : slice_get e.routine.slots (next_slot n) ≡ Some t = there_at n.slots filled.slots in
     let slot : HasSlot e.routine.slots y = record { type = t; declared = refl; bounded = named.0.bounded; there = there } in
     let more = items_told e label name outer from is ms named.1 made2 next (each_once (λ p. HasSlot e.routine.slots p.1) made.variables x y have slot) (λ a. types-slot t n named.0.bounded (types a)) f in record {
       variables = more.variables;

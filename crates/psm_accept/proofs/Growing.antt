@@ -1,5 +1,5 @@
 -- What has been numbered stays numbered: slots, cursors and conditions only become more.
-use Rattle.std.proofs.Common.{◌≤◌, List, [], ◌∷◌, ◌++◌, Option, Some, None, ap, sym, refl, ◌∙◌, subst, arith, append_assoc, append-nil}
+use Rattle.std.proofs.Common.{◌≤◌, List, [], ◌∷◌, Option, Some, None, sym, refl, subst, arith}
 use Rattle.psm_value.specs.declared.sqltype.SqlType.{SqlType}
 use Rattle.psm_scope.specs.Frames.{Spelling}
 use Rattle.psm_rules.specs.StatementFaults.{label_name, several}
@@ -21,19 +21,12 @@ use Rattle.psm_resolve.specs.Blocks.{ForItem, Told, block_made, branch_made, for
 use Rattle.psm_resolve.specs.Numbering.{Numbering, with_condition, with_cursor, with_slot}
 use Rattle.psm_scope.specs.Frames as frame
 use Rattle.psm_emit.specs.Writing.{BeginsWith}
+pub use Rattle.psm_emit.proofs.Growth.{begins-before, begins-here}
 use Rattle.psm_sound.specs.Scene.{Scene}
 use Rattle.psm_accept.specs.Numbered.{Fills}
 use Rattle.psm_accept.specs.StatementsStand as stand
 use Rattle.psm_accept.specs.StatementsStand.{AllStand, BlockLayerStands, BlockStands, BranchesStand, HandlersStand, LayerStands, StatementStands}
 use Rattle.psm_accept.proofs.Opening.{BlockLayer, StatementLayer, block_made-out, block_made_in, branch_made-out, branches_made, handler_made-out, handlers_made, made-out, made_in, statements_made}
-
--- ---- lists
-
-pub begins-here : {A : Type 0} (xs : List A) → BeginsWith xs xs
-begins-here xs = record { more = []; is = sym (append-nil xs) }
-
-pub begins-on : {A : Type 0} {xs ys zs : List A} → BeginsWith xs ys → BeginsWith ys zs → BeginsWith xs zs
-begins-on {xs = xs} a b = record { more = a.more ++ b.more; is = b.is ∙ ap (λ l. l ++ b.more) a.is ∙ append_assoc xs a.more b.more }
 
 -- ---- numberings
 
@@ -46,7 +39,7 @@ pub grows-here : (n : Numbering) → Grows n n
 grows-here n = record { slots = begins-here n.slots; cursors = omega arith; conditions = begins-here n.conditions }
 
 pub grows-on : {n m o : Numbering} → Grows n m → Grows m o → Grows n o
-grows-on a b = record { slots = begins-on a.slots b.slots; cursors = omega (arith, a.cursors, b.cursors); conditions = begins-on a.conditions b.conditions }
+grows-on a b = record { slots = begins-before a.slots b.slots; cursors = omega (arith, a.cursors, b.cursors); conditions = begins-before a.conditions b.conditions }
 
 pub grows-slot : (t : SqlType) (n : Numbering) → Grows n (with_slot t n)
 grows-slot t n = record { slots = record { more = t ∷ []; is = refl }; cursors = omega arith; conditions = begins-here n.conditions }
@@ -59,7 +52,7 @@ grows-condition name n = record { slots = begins-here n.slots; cursors = omega a
 
 -- what a routine has it has had before
 pub fills-before : {e : Scene} {n m : Numbering} → Grows n m → Fills e m → Fills e n
-fills-before g f = record { slots = begins-on g.slots f.slots; conditions = begins-on g.conditions f.conditions }
+fills-before g f = record { slots = begins-before g.slots f.slots; conditions = begins-before g.conditions f.conditions }
 
 -- ---- declarations
 

@@ -1,5 +1,5 @@
 -- What is known where a statement stands goes over into a loop and into the action of a handler.
-use Rattle.std.proofs.Common.{◌≡◌, ℕ, ◌<◌, ◌≤◌, List, ◌∷◌, Option, Some, None, find, length, length-append, nat_eq, refl, ◌∙◌, ap, arith}
+use Rattle.std.proofs.Common.{◌≡◌, ℕ, ◌<◌, ◌≤◌, ◌∷◌, Option, Some, None, find, length, nat_eq, refl, ◌∙◌, arith}
 use Rattle.psm_scope.specs.Frames.{Spelling}
 use Rattle.psm_scope.specs.Frames as frame
 use Rattle.psm_scope.specs.Lookup as lookup
@@ -13,7 +13,7 @@ use Rattle.psm_resolve.specs.Blocks as making
 use Rattle.psm_resolve.specs.Blocks.{in_frames, in_loop, level_at}
 use Rattle.psm_resolve.specs.Numbering.{Numbering}
 use Rattle.psm_emit.specs.declared.known.Known.{Known}
-use Rattle.psm_emit.specs.Writing.{BeginsWith}
+use Rattle.psm_emit.proofs.Growing.{begins-length}
 use Rattle.psm_sound.specs.Scene.{Scene}
 use Rattle.psm_sound.specs.Statements as places
 use Rattle.psm_sound.specs.Statements.{in_action, looping}
@@ -38,12 +38,9 @@ cursor_below : (a b : ℕ) → a ≤ b → (o : Option ℕ) → IsCursorBelow a 
 cursor_below a b le None h = tt
 cursor_below a b le (Some k) h = omega (arith, le, h)
 
-pub longer : {A : Type 0} {xs ys : List A} → BeginsWith xs ys → length xs ≤ length ys
-longer {xs = xs} b = omega (arith, ap length b.is, length-append xs b.more)
-
 pub below-grown : {n m : Numbering} {frames : Frames} → Grows n m → AreBelow n frames → AreBelow m frames
 below-grown {n} {m} {frames} g b = record {
-  conditions = λ name. condition_below (length n.conditions) (length m.conditions) (longer g.conditions) (lookup.condition name frames) (b.conditions name);
+  conditions = λ name. condition_below (length n.conditions) (length m.conditions) (begins-length g.conditions) (lookup.condition name frames) (b.conditions name);
   cursors = λ name. cursor_below n.cursors m.cursors g.cursors (lookup.cursor name frames) (b.cursors name);
 }
 
