@@ -148,6 +148,7 @@ module _ (e : Scene) (known : Known) (letters : Letters) (s : places.Sight) (c :
     shapes = q.shapes;
     items = q.items;
     suit = q.suit;
+    typed = q.typed;
     lettered = numbered.items;
   }
 

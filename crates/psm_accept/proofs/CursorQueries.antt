@@ -35,12 +35,13 @@ use Rattle.psm_emit.specs.Queries as written
 use Rattle.psm_emit.specs.Queries.{item_letters, letters_of_layer}
 use Rattle.psm_emit.specs.Written.{letters_at}
 use Rattle.psm_sound.specs.Queries.{AreItems, IsQuery, IsRowTest}
-use Rattle.psm_sound.specs.Scene.{Scene, columns_of, variables_of}
+use Rattle.psm_sound.specs.Scene.{Each, Scene, columns_of, variables_of}
 use Rattle.psm_sound.specs.Statements.{MayBe}
 use Rattle.psm_proper.specs.Queries as asked
 use Rattle.psm_proper.specs.Queries.{ProperQuery, are_proper, has_rows}
 use Rattle.psm_proper.specs.Statements.{Letters}
 use Rattle.psm_accept.specs.Agreement.{Agree, AllSuit}
+use Rattle.psm_accept.specs.Places.{IsTyped}
 use Rattle.psm_accept.specs.Stands.{select_stands}
 use Rattle.psm_accept.proofs.Clauses.{queries}
 use Rattle.psm_accept.proofs.Premises.{PartsProper}
@@ -109,6 +110,7 @@ pub record IsCursorQuery (e : Scene) (known : Known) (view : View) (sight : Sigh
   pub shapes : List Shape
   pub items : option_map (map (λ i. i.shape)) (faults.items_of (found_query view q)) ≡ Some (map (λ s. Some s) shapes)
   pub suit : AllSuit shapes (item_letters known (ordered_query sight q))
+  pub typed : Each IsTyped shapes
   pub table : (query_of (ordered_query sight q)).table ≡ number_of (table_at sight (found_query view q).table.name)
 
 pub no_set : (o : Option Place) → misplaced_set true o ≡ None → o ≡ None
@@ -131,5 +133,6 @@ cursor_query e known letters parts view sight a q well none sets =
       shapes = (query_made q.query sight).shapes;
       items = ap (option_map (map (λ i. i.shape))) g.1 ∙ ap (λ ss. Some ss) g.2;
       suit = subst (AllSuit (query_made q.query sight).shapes) same suit;
+      typed = parts.typed view sight a q.query well none;
       table = ap (λ o. o.table) (opened downward made) ∙ made_table q.query sight ∙ ap (λ t. number_of (table_at sight t.name)) (sym (found_table q.query view));
     }

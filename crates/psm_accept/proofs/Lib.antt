@@ -26,13 +26,6 @@ pub mod Updating
 pub mod Statements
 pub mod Calling
 pub mod Standing
-pub mod ProperForms
-pub mod ProperQueries
-pub mod ProperSlots
-pub mod ProperColumns
-pub mod ProperChanges
-pub mod ProperCalls
-pub mod ProperSimples
 pub mod Premises
 pub mod Opening
 pub mod Growing

@@ -63,6 +63,7 @@ known_moved e known letters s t sight frames (Some cursor) (Some k) same h = rec
   shapes = h.shapes;
   items = h.items;
   suit = h.suit;
+  typed = h.typed;
   lettered = h.lettered;
 }
 
