@@ -55,3 +55,10 @@ pub mod EnteringFor
 pub mod Branches
 pub mod Compounds
 pub mod Blocks
+pub mod Flags
+pub mod Faultless
+pub mod NewNames
+pub mod Columns
+pub mod Keys
+pub mod Refusing
+pub mod Tables
