@@ -62,3 +62,5 @@ pub mod Columns
 pub mod Keys
 pub mod Refusing
 pub mod Tables
+pub mod Routines
+pub mod Apart
