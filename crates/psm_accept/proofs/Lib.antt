@@ -64,3 +64,5 @@ pub mod Refusing
 pub mod Tables
 pub mod Routines
 pub mod Apart
+pub mod Worlds
+pub mod Procedures
