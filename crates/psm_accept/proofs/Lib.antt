@@ -66,3 +66,5 @@ pub mod Routines
 pub mod Apart
 pub mod Worlds
 pub mod Procedures
+pub mod Heads
+pub mod Bodies
