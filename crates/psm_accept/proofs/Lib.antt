@@ -68,3 +68,4 @@ pub mod Worlds
 pub mod Procedures
 pub mod Heads
 pub mod Bodies
+pub mod Cursors
