@@ -69,3 +69,4 @@ pub mod Procedures
 pub mod Heads
 pub mod Bodies
 pub mod Cursors
+pub mod Files
