@@ -65,7 +65,7 @@ same-kinds [] (q ∷ qs) h k = refl
 same-kinds (p ∷ ps) [] h k = refl
 same-kinds (p ∷ ps) (q ∷ qs) h k =
     ap (λ b. b && are_same_kinds (map parameter_of (map parameter_made ps)) (map parameter_of (map parameter_made qs)))
-      (same-kind (type_known (type_of p.kind)) (type_known (type_of q.kind)) ∙ ap (λ a. is_kind a (choice.kind_of (type_known (type_of p.kind)))) (known-kind q k.0) ∙ ap (is_kind (kind_of q.kind.form)) (known-kind p h.0))
+    (same-kind (type_known (type_of p.kind)) (type_known (type_of q.kind)) ∙ ap (λ a. is_kind a (choice.kind_of (type_known (type_of p.kind)))) (known-kind q k.0) ∙ ap (is_kind (kind_of q.kind.form)) (known-kind p h.0))
     ∙ ap (λ b. is_kind (kind_of q.kind.form) (kind_of p.kind.form) && b) (same-kinds ps qs h.1 k.1)
 
 -- ---- two routines
@@ -82,7 +82,6 @@ alike r b = if is_function r then is_function b && same_functions r b else not (
 
 two-apart : (world : World) (b r : Routine) (o q : Option DataType) → Each IsTypeKnown b.parameters → Each IsTypeKnown r.parameters → alike (with_result r q) (with_result b o) ≡ false
     → is_apart_from (routine_made world (with_result r q)) (routine_made world (with_result b o)) ≡ true
-
 two-apart world b r (Some t) (Some u) hb hr is = ap not
     (ap (λ c. c && are_same_kinds (map parameter_of (map parameter_made b.parameters)) (map parameter_of (map parameter_made r.parameters))) (spelled_back b.name.name r.name.name)
     ∙ ap (λ c. is_spelled r.name.name b.name.name && c) (same-kinds b.parameters r.parameters hb hr) ∙ is)
@@ -93,7 +92,6 @@ two-apart world b r (Some t) None hb hr is = refl
 two-apart world b r None (Some u) hb hr is = refl
 
 apart-pair : (world : World) (b r : Routine) → Each IsTypeKnown b.parameters → Each IsTypeKnown r.parameters → alike r b ≡ false → is_apart_from (routine_made world r) (routine_made world b) ≡ true
-
 apart-pair world b r hb hr is = two-apart world b r b.returns r.returns hb hr is
 
 -- ---- each is apart from those before it
@@ -137,10 +135,11 @@ none-alike world r (b ∷ done) hr hs is =
 apart-behind : (world : World) (before done rs : List Routine) → Same before done → Each (λ b. Each IsTypeKnown b.parameters) done → Each (λ b. Each IsTypeKnown b.parameters) rs → AreToldApart before rs
     → AreApart (map (routine_made world) done) (map (routine_made world) rs)
 apart-behind world before done [] same hs known told = tt
-apart-behind world before done (r ∷ rs) same hs known told =
-    (none-alike world r done known.0 hs (sym (same (alike r)) ∙ alike-none r before told.0),
-    subst (λ l. AreApart l (map (routine_made world) rs)) (map-append (routine_made world) done (r ∷ []))
-    (apart-behind world (r ∷ before) (done ++ r ∷ []) rs (same-more before done r same) (each-last _ done r hs known.0) known.1 told.1))
+apart-behind world before done (r ∷ rs) same hs known told = (
+  none-alike world r done known.0 hs (sym (same (alike r)) ∙ alike-none r before told.0),
+  subst (λ l. AreApart l (map (routine_made world) rs)) (map-append (routine_made world) done (r ∷ []))
+      (apart-behind world (r ∷ before) (done ++ r ∷ []) rs (same-more before done r same) (each-last _ done r hs known.0) known.1 told.1),
+)
 
 each-known : (world : World) (rs : List Routine) → Each (IsAccepted world) rs → Each (λ b. Each IsTypeKnown b.parameters) rs
 each-known world [] h = tt

@@ -175,10 +175,11 @@ cursors-numbered s to h = subst (λ ns. CountsUp 0 ns to) (alike s).declared (co
 pub each-numbered : {A : Type 0} (f : ResolvedCursor → A) (before : List A) (xs : Cursors) (from to : ℕ) → from ≡ length before → CountsUp from (numbers xs) to
     → Each (λ x. slice_get (before ++ map f xs) x.number ≡ Some (f x)) xs
 each-numbered f before [] from to long h = tt
-each-numbered f before (x ∷ xs) from to long h =
-    (at-end before (map f xs) (f x) x.number (h.0 ∙ long),
-    subst (λ l. Each (λ y. slice_get l y.number ≡ Some (f y)) xs) (append_assoc before (f x ∷ []) (map f xs))
-    (each-numbered f (before ++ f x ∷ []) xs (suc from) to (longer (length before) from long ∙ sym (length-append before (f x ∷ []))) h.1))
+each-numbered f before (x ∷ xs) from to long h = (
+  at-end before (map f xs) (f x) x.number (h.0 ∙ long),
+  subst (λ l. Each (λ y. slice_get l y.number ≡ Some (f y)) xs) (append_assoc before (f x ∷ []) (map f xs))
+      (each-numbered f (before ++ f x ∷ []) xs (suc from) to (longer (length before) from long ∙ sym (length-append before (f x ∷ []))) h.1),
+)
   where
     longer : (n k : ℕ) → k ≡ n → suc k ≡ n + 1
     longer n k h = omega (arith, h)

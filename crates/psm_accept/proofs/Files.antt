@@ -116,8 +116,8 @@ routine-proper f p r a well =
     let e : Scene = scene_made f r in
     let slots : BeginsWith (map type_in_slot r.parameters) (body_made f r).slots = slots-made f r well in
     let done : IsDone e (known_in f r) (letters_made f r) body (routine_told r).1 (statement_made r.body (body_sight f r) (routine_told r).1) = statement-proper e (known_in f r) (letters_made f r) (have-columns f p r (shapes_made f r)) body (body_context (world_of f) r) (body_sight f r) (routine_told r).1 r.body
-        well a.body (body-stands f p r a (shapes_made f r) (letters_made f r) slots) (body-below r (routine_told r).1)
-        (record { slots = begins-here _; conditions = begins-here _ }) (are-numbered f r) in
+    well a.body (body-stands f p r a (shapes_made f r) (letters_made f r) slots) (body-below r (routine_told r).1)
+    (record { slots = begins-here _; conditions = begins-here _ }) (are-numbered f r) in
     record {
       names = head-names (world_of f) r a;
       modes = head-modes (world_of f) (known_world f) r a;

@@ -125,14 +125,15 @@ module _ (world : World) (file : ResolvedFile) where
       let here : procedure_at file n ≡ Some q = ap (λ l. slice_get l n) h.1.is ∙ at-end h.1.before (filter is_procedure (map (routine_made world) rs)) q n h.1.counted in
       let many : length (map parameter_of r.parameters) ≡ length (map parameter_of r.parameters) = refl in
       let p : IsProcedure file ((r.name.name, length (map parameter_of r.parameters)), record { number = 0; parameters = map parameter_of r.parameters })
-            ((r.name.name, length (map parameter_of r.parameters)), record { number = n; parameters = map parameter_of r.parameters }) =
-          record { header = refl; routine = q; there = here; same = refl; many = many; parameters = are-parameters r.parameters known } in
-      (unless-there file _ _ w.procedures v.procedures _ _ (same-there file r.name.name (length (map parameter_of r.parameters)) w.procedures v.procedures h.0) h.0 p,
-      record {
-        before = h.1.before ++ q ∷ [];
-        counted = last-counted h.1.before q n h.1.counted;
-        is = h.1.is ∙ sym (append_assoc h.1.before (q ∷ []) (filter is_procedure (map (routine_made world) rs)));
-      })
+      ((r.name.name, length (map parameter_of r.parameters)), record { number = n; parameters = map parameter_of r.parameters }) =
+      record { header = refl; routine = q; there = here; same = refl; many = many; parameters = are-parameters r.parameters known } in (
+        unless-there file _ _ w.procedures v.procedures _ _ (same-there file r.name.name (length (map parameter_of r.parameters)) w.procedures v.procedures h.0) h.0 p,
+        record {
+          before = h.1.before ++ q ∷ [];
+          counted = last-counted h.1.before q n h.1.counted;
+          is = h.1.is ∙ sym (append_assoc h.1.before (q ∷ []) (filter is_procedure (map (routine_made world) rs)));
+        },
+      )
 
   steps : (seen : World) (n : ℕ) (w v : World) (rs : List Routine) → Each (IsAccepted seen) rs → Alike n w v rs → AreProcedures file (with_routines w rs).procedures (with_known_routines v n rs).procedures
   steps seen n w v [] a h = h.0
@@ -159,6 +160,6 @@ procedures-known seen world file f is a e same n count =
     let w : World = with_tables no_world f.tables in
     let v : World = with_known_tables no_world f.tables in
     let start : Alike world file 0 w v f.«module».routines =
-        (none-yet file w.procedures v.procedures (tables-procedures no_world f.tables) (known_tables-procedures no_world f.tables), record { before = []; counted = refl; is = ap (filter is_procedure) is }) in
+    (none-yet file w.procedures v.procedures (tables-procedures no_world f.tables) (known_tables-procedures no_world f.tables), record { before = []; counted = refl; is = ap (filter is_procedure) is }) in
     procedures-meant e n count (world_of f).procedures (known_world f).procedures
     (subst (λ g. AreProcedures g (world_of f).procedures (known_world f).procedures) (sym same) (steps world file seen 0 w v f.«module».routines a start))

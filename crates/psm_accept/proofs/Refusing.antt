@@ -93,6 +93,7 @@ refusing key place (elements.Column name kind default rules ∷ es) i zero c is 
   where
     inside : (a b : Column) → Some a ≡ Some b → a ≡ b
     inside a b h = cc
+
     either : (a b : Bool) → b ≡ true → (a || b) ≡ true
     either true b h = refl
     either false b h = h

@@ -172,13 +172,16 @@ is_returning r = returns r.returns
 functions-one : (seen world : World) (r : Routine) (o : Option DataType) (ss : List Signature) (qs : List (Option SqlType)) (rs : List ResolvedRoutine) → IsAccepted seen (with_result r o) → AreFunctions ss qs rs
     → AreFunctions (signatures_from r o ++ ss) (results_from o ++ qs) (filter is_returning (routine_made world (with_result r o) ∷ []) ++ rs)
 functions-one seen world r None ss qs rs a h = h
-functions-one seen world r (Some t) ss qs rs a h = (record {
-  type = type_known (type_of t);
-  declared = result-known t a.result;
-  bounded = type-is t;
-  returned = refl;
-  kinds = taken-kinds r.parameters a.parameters (parameters-known true r.parameters a.parameters);
-}, h)
+functions-one seen world r (Some t) ss qs rs a h = (
+  record {
+    type = type_known (type_of t);
+    declared = result-known t a.result;
+    bounded = type-is t;
+    returned = refl;
+    kinds = taken-kinds r.parameters a.parameters (parameters-known true r.parameters a.parameters);
+  },
+  h,
+)
 
 filter-one : (q : ResolvedRoutine) (rs : List ResolvedRoutine) → filter is_returning (q ∷ rs) ≡ filter is_returning (q ∷ []) ++ filter is_returning rs
 filter-one q rs = by (returns q.returns)
