@@ -14,6 +14,7 @@ ghost use Rattle.psm_value.specs.declared.sqltype.SqlType.{SqlType};
 ghost use Rattle.psm_exprcode.specs.declared.op.Letter.{Letter};
 ghost use Rattle.psm_scope.specs.Lookup.{RowTable};
 ghost use Rattle.psm_rules.specs.ExprFaults.{expr_found, items_of, query_fault, query_found};
+ghost use Rattle.psm_rules.specs.FileFaults.{file_fault};
 ghost use Rattle.psm_rules.specs.StatementFaults.{Context, simple_fault};
 ghost use Rattle.psm_rules.specs.View.{View};
 ghost use Rattle.psm_rules.specs.declared.query.Item.{Item};
@@ -27,7 +28,9 @@ ghost use Rattle.psm_tree.specs.declared.script.ScriptTree.{ScriptTree};
 ghost use Rattle.psm_resolved.specs.Sort.{IsOfLetter};
 ghost use Rattle.psm_resolve_expr.specs.Exprs.{made_of, query_made};
 ghost use Rattle.psm_resolve_expr.specs.Sight.{Sight};
+ghost use Rattle.psm_resolve.specs.Files.{file_made};
 ghost use Rattle.psm_resolve.specs.Statements.{simple_of};
+ghost use Rattle.psm_proper.specs.Files.{ProperFile};
 ghost use Rattle.psm_sound.specs.Expressions.{IsExpr};
 ghost use Rattle.psm_sound.specs.Queries.{IsQuery};
 ghost use Rattle.psm_sound.specs.Scene.{Scene, letters_of, variables_of};
@@ -76,4 +79,10 @@ pub fn null_stands_in_what_is_read_where_it_may()
 /// of cursors, conditions, labels and procedures that the checker knows have numbers that the scene has.
 pub fn accepted_simple_statements_are_sound()
     ensures { (e : Scene) (s : Place) (c : Context) (sight : Sight) → Agree e c.view sight → Meant e s c.view sight → sight.row ≡ None → IsWithin c.within e.routine.returns → (x : Simple) → SimpleStands x → simple_fault c x ≡ None → IsSimple e s (simple_of sight x) }
+{}
+
+/// A module file without a fault is proper with its names put away (ISO/IEC 9075-4:1996, module definitions), where NULL stands in
+/// it only where it may stand.
+pub fn accepted_files_are_proper()
+    ensures { (f : FileTree) → FileStands f → file_fault f ≡ None → ProperFile (file_made f) }
 {}

@@ -4,7 +4,7 @@
 mod laws;
 
 pub use laws::{
-    accepted_expressions_are_sound, accepted_simple_statements_are_sound,
-    null_stands_in_files_where_it_may, null_stands_in_what_is_read_where_it_may,
-    null_stands_where_it_may,
+    accepted_expressions_are_sound, accepted_files_are_proper,
+    accepted_simple_statements_are_sound, null_stands_in_files_where_it_may,
+    null_stands_in_what_is_read_where_it_may, null_stands_where_it_may,
 };
