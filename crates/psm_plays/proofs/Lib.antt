@@ -1,0 +1,4 @@
+pub mod Lines
+pub mod Keeping
+pub mod Entering
+pub mod Calling

@@ -1,0 +1,3 @@
+//! Which commands of code stand for the commands of a script, and the law that these play what the module and the script mean. It has no
+//! code that runs.
+#![tactic(auto)]
