@@ -2,3 +2,5 @@ pub mod Lines
 pub mod Keeping
 pub mod Entering
 pub mod Calling
+pub mod Asking
+pub mod Commands
