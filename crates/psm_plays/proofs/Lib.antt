@@ -4,3 +4,5 @@ pub mod Entering
 pub mod Calling
 pub mod Asking
 pub mod Commands
+pub mod Sequences
+pub mod Scripts

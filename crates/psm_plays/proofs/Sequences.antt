@@ -1,0 +1,51 @@
+-- Commands one after another over code play what they mean, and so does a script.
+use Rattle.std.proofs.Common.{arith, ◌≡◌, ◌≤◌, ◌+◌, ◌++◌, ℕ, suc, List, [], ◌∷◌, length, map, refl, ap, sym, subst, ◌∙◌}
+use Rattle.std.proofs.lemmas.List.{append-nil}
+use Rattle.psm_table.specs.Table.{empty_table}
+use Rattle.psm_resolved.specs.declared.file.ResolvedFile.{ResolvedFile}
+use Rattle.psm_resolved.specs.declared.file.ResolvedTable.{ResolvedTable}
+use Rattle.psm_meaning.specs.Acts.{NoTurns}
+use Rattle.psm_meaning.specs.Heights.{height_for, session}
+use Rattle.psm_meaning.specs.Lines.{first_line}
+use Rattle.psm_meaning.specs.Meaning.{meaning}
+use Rattle.psm_meaning.specs.Session.{Command, Cut, Done, Session, Standing, Stopped, Went, at_start, command_name, commands_from, finished, going_on, played}
+use Rattle.psm_code.specs.declared.code.RawCode.{RawCode}
+use Rattle.psm_lower.specs.Simulation.{FileStands}
+use Rattle.psm_sound.specs.Files.{IsSound}
+use Rattle.psm_sound.specs.States.{AreFilled}
+use Rattle.psm_session.specs.declared.command.ScriptCommand.{ScriptCommand}
+use Rattle.psm_session.specs.Going.{CommandGoes, Plays}
+use Rattle.psm_session.specs.Going as going
+use Rattle.psm_plays.specs.Pieces.{behind}
+use Rattle.psm_plays.specs.Standing.{CommandStands, CommandsStand}
+use Rattle.psm_plays.proofs.Commands.{command-does}
+use Rattle.psm_plays.proofs.Keeping.{IsKept}
+
+-- what commands that play so leave to those behind them
+pub record Leave (file : ResolvedFile) (h turns k : ℕ) (s : Standing) (cs : List Command) (pieces : List (List ℕ)) (t : Standing) : Type 0 where
+  pub same : (later : List Command) → commands_from file (meaning file h) k (cs ++ later) s ≡ behind pieces (commands_from file (meaning file h) (k + length cs) later t)
+  pub kept : IsKept file turns t
+
+module _ (file : ResolvedFile) (code : RawCode) (stands : FileStands file code) (sound : IsSound file) (h turns : ℕ) (enough : height_for file turns ≤ h) where
+  leave-none : (k : ℕ) (s : Standing) → IsKept file turns s → Leave file h turns k s [] [] s
+  leave-none k s kept = let none : k ≡ k + length {A = Command} [] = omega arith in record { same = λ later. ap (λ n. commands_from file (meaning file h) n later s) none; kept = kept }
+
+  leave-next : (k : ℕ) (s t u : Standing) (c : Command) (d : ScriptCommand) (cs : List Command) (piece : List ℕ) (pieces : List (List ℕ)) → CommandStands file code c d → IsKept file turns s → CommandGoes code k s d (Went piece t) → (IsKept file turns t → Leave file h turns (suc k) t cs pieces u)
+      → Leave file h turns k s (c ∷ cs) (piece ∷ pieces) u
+  leave-next k s t u c d cs piece pieces q kept g next =
+      let one = command-does file code stands sound h turns enough k s kept.tables kept.left c d (Went piece t) q g in
+      let others = next (one.kept kept.committed) in
+      let as_many : suc k + length cs ≡ k + length (c ∷ cs) = omega arith in
+      record {
+        same = λ later.
+            ap (λ p. going_on s p (commands_from file (meaning file h) (suc k) (cs ++ later))) one.same
+            ∙ ap (λ rest. behind (piece ∷ []) rest) (others.same later)
+            ∙ ap (λ n. behind (piece ∷ pieces) (commands_from file (meaning file h) n later u)) as_many;
+        kept = others.kept;
+      }
+
+  pub leaves : (k : ℕ) (s t : Standing) (cs : List Command) (ds : List ScriptCommand) (pieces : List (List ℕ)) → CommandsStand file code cs ds → IsKept file turns s → Plays code k s ds pieces t → Leave file h turns k s cs pieces t
+  leaves k s t [] [] pieces q kept going.none = leave-none k s kept
+  leaves k s t [] (d ∷ ds) pieces q kept p = absurd q
+  leaves k s t (c ∷ cs) [] pieces q kept p = absurd q
+  leaves k s u (c ∷ cs) (d ∷ ds) pieces q kept (going.next {t = t} {piece = piece} {pieces = others} g rest) = leave-next k s t u c d cs piece others q.0 kept g (λ after. leaves (suc k) t u cs ds others q.1 after rest)
