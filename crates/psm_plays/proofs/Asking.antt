@@ -10,7 +10,7 @@ use Rattle.psm_meaning.specs.Rows as trees
 use Rattle.psm_code.specs.declared.code.RawRoutine.{RawRoutine}
 use Rattle.psm_lower.specs.Expressions.{IsQuery}
 use Rattle.psm_emit.proofs.Querying.{query_stands}
-use Rattle.psm_plays.specs.Standing.{SameQuery}
+use Rattle.psm_plays.specs.Standing.{SelectStands}
 
 -- a routine with this query alone
 only : Query → RawRoutine
@@ -27,7 +27,7 @@ only coded = record {
   lines = [];
 }
 
-pub answers-same : (query : ResolvedQuery) (coded : Query) → SameQuery query coded → (rows : List (List Datum)) → answer (codes.over []) (codes.query_of coded) rows ≡ answer (trees.over []) (trees.query_of query) rows
+pub answers-same : (query : ResolvedQuery) (coded : Query) → SelectStands query coded → (rows : List (List Datum)) → answer (codes.over []) (codes.query_of coded) rows ≡ answer (trees.over []) (trees.query_of query) rows
 unfolding only
 answers-same query coded q rows =
     let is : IsQuery (only coded) 0 query = query_stands q.made q.is refl in

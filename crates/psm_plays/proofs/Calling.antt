@@ -1,16 +1,15 @@
 -- CALL over code plays what it means.
-use Rattle.std.proofs.Common.{arith, ◌≡◌, ◌≤◌, ◌≢◌, ◌++◌, ◌⊎◌, inl, inr, ℕ, List, [], ◌∷◌, Bool, true, not, map, IfSome, slice_get, Option, Some, None, refl, ap, sym, subst, ◌∙◌}
+use Rattle.std.proofs.Common.{arith, ◌≡◌, ◌≤◌, ◌++◌, ◌⊎◌, inl, inr, ℕ, List, not, map, IfSome, Option, Some, None, refl, ap, sym, subst, ◌∙◌}
 use Rattle.std.proofs.lemmas.List.{append_assoc}
 use Rattle.psm_value.specs.declared.datum.Datum.{Datum}
 use Rattle.psm_table.specs.Table.{Contents}
 use Rattle.psm_resolved.specs.declared.file.ResolvedFile.{ResolvedFile}
 use Rattle.psm_resolved.specs.declared.file.ResolvedParameter.{ResolvedParameter}
 use Rattle.psm_resolved.specs.declared.file.ResolvedRoutine.{ResolvedRoutine}
-use Rattle.psm_meaning.specs.Acts as acts
 use Rattle.psm_meaning.specs.Acts.{Act, Evaluated, Given, Got, Raises, Ends, NoTurns, NoHeight, Lacking, Meaning, go_on, present, ◌>>=◌}
-use Rattle.psm_meaning.specs.Calls.{Ended, activated, entered, procedure_at, returns}
-use Rattle.psm_meaning.specs.Heights.{file_size, height_for, statement_size}
-use Rattle.psm_meaning.specs.Lines.{condition_lines, ok_line, value_lines}
+use Rattle.psm_meaning.specs.Calls.{Ended, activated, entered, returns}
+use Rattle.psm_meaning.specs.Heights.{file_size, height_for}
+use Rattle.psm_meaning.specs.Lines.{condition_lines, ok_line}
 use Rattle.psm_meaning.specs.Meaning.{meaning}
 use Rattle.psm_meaning.specs.Session.{Call, Played, Standing, Stopped, Went, at_command, call_lines, ended, played, run}
 use Rattle.psm_meaning.specs.Session as session
@@ -36,12 +35,11 @@ use Rattle.psm_lower.proofs.Entering.{entered-same, given_as}
 use Rattle.psm_lower.proofs.Running.{runs-as}
 use Rattle.psm_sound.specs.Ends.{IsOver, IsReturned}
 use Rattle.psm_sound.specs.Files.{IsSound}
-use Rattle.psm_sound.specs.Scripts.{outside}
 use Rattle.psm_sound.specs.States.{AreFilled}
 use Rattle.psm_sound.proofs.Assigning.{no_type}
 use Rattle.psm_sound.proofs.Evaluating.{among-filter}
 use Rattle.psm_session.specs.Going.{behind_run, called, given_lines}
-use Rattle.psm_plays.specs.Standing.{SameRoutine}
+use Rattle.psm_plays.specs.Standing.{CallStands}
 use Rattle.psm_plays.proofs.Entering.{IsWell, activated-well, behind_arguments}
 use Rattle.psm_plays.proofs.Keeping.{Does, IsPlayed, run-kept}
 use Rattle.psm_plays.proofs.Lines.{given-lines}
@@ -109,7 +107,7 @@ calling-stays routine (Raises c) m st = refl
 calling-stays routine (Ends stop) m st = refl
 
 module _ (file : ResolvedFile) (code : RawCode) (stands : FileStands file code) (sound : IsSound file) (h turns : ℕ) (enough : height_for file turns ≤ h) (s : Standing) (tables : AreFilled file.tables s.tables) (left : s.turns ≤ turns) (first : List ℕ) (procedure n : ℕ) (args : List Datum)
-    (q : SameRoutine file code procedure n) (end : End) (last : Machine) (ran : Ran code n args s.tables s.turns end last) where
+    (q : CallStands file code procedure n) (end : End) (last : Machine) (ran : Ran code n args s.tables s.turns end last) where
   abbrev m : Meaning
   m = meaning file h
 

@@ -1,5 +1,5 @@
 -- INSERT, SELECT, COMMIT and ROLLBACK over code play what they mean, and so does each command.
-use Rattle.std.proofs.Common.{arith, ◌≡◌, ◌≤◌, ◌++◌, ℕ, Bool, List, [], ◌∷◌, map, slice_get, Option, Some, None, Result, Ok, Err, option_map, refl, ap, sym, subst, ◌∙◌}
+use Rattle.std.proofs.Common.{arith, ◌≡◌, ◌≤◌, ◌++◌, ℕ, Bool, List, [], ◌∷◌, map, slice_get, Option, Some, Result, Ok, Err, option_map, refl, ap, sym, subst, ◌∙◌}
 use Rattle.std.specs.Prelude.{codes as text}
 use Rattle.std.proofs.lemmas.Option.{same_Some, slice_get-map}
 use Rattle.psm_sqlstate.specs.declared.state.SqlState.{SqlState}
@@ -12,16 +12,16 @@ use Rattle.psm_table.specs.Table.{Contents}
 use Rattle.psm_tablecode.specs.Codes as codes
 use Rattle.psm_tablecode.specs.NewRows.{new_row}
 use Rattle.psm_resolved.specs.declared.expr.ResolvedExpr.{ResolvedExpr}
-use Rattle.psm_resolved.specs.declared.expr.ResolvedQuery.{ResolvedQuery, out-ResolvedQuery}
+use Rattle.psm_resolved.specs.declared.expr.ResolvedQuery.{ResolvedQuery}
 use Rattle.psm_resolved.specs.declared.file.ResolvedFile.{ResolvedFile}
 use Rattle.psm_resolved.specs.declared.file.ResolvedTable.{ResolvedTable}
 use Rattle.psm_meaning.specs.Acts.{Act, Meaning, got, present, read, tried, ◌>>=◌, ◌>>◌}
-use Rattle.psm_meaning.specs.Data.{leaves, put_in as put_in_table, schema_of as schema_of_tree, plain as plain_trees, unless_failed}
+use Rattle.psm_meaning.specs.Data.{leaves, schema_of as schema_of_tree, plain as plain_trees, unless_failed}
 use Rattle.psm_meaning.specs.Heights.{height_for}
 use Rattle.psm_meaning.specs.Lines.{first_line, naming, ok_line}
 use Rattle.psm_meaning.specs.Meaning.{meaning}
 use Rattle.psm_meaning.specs.Rows as trees
-use Rattle.psm_meaning.specs.Session.{Command, Call, Insert, Select, Commit, Rollback, Played, Standing, Went, answer_lines, at_command, command_name, ended, inserted, played, procedure_name, run, selected, table_name}
+use Rattle.psm_meaning.specs.Session.{Command, Call, Insert, Select, Commit, Rollback, Played, Standing, Went, answer_lines, at_command, command_name, inserted, procedure_name, run, selected, table_name}
 use Rattle.psm_meaning.proofs.PureActs.{pure-inserted}
 use Rattle.psm_code.specs.declared.code.CodeTable.{CodeTable}
 use Rattle.psm_code.specs.declared.code.RawCode.{RawCode}
@@ -36,10 +36,9 @@ use Rattle.psm_sound.proofs.Holding.{Anything, Holds, holds-bind, holds-got}
 use Rattle.psm_session.specs.declared.command.ScriptCommand.{ScriptCommand}
 use Rattle.psm_session.specs.declared.command.ScriptCommand.TheVariants as commands
 use Rattle.psm_session.specs.Going as going
-use Rattle.psm_session.specs.Going.{CommandGoes, Goes, condition_of, name_of_routine, name_of_table, put_in, with_tables}
+use Rattle.psm_session.specs.Going.{CommandGoes, Goes, name_of_routine, name_of_table, put_in}
+use Rattle.psm_plays.specs.Standing.{CommandStands, InsertStands, SelectStands}
 use Rattle.psm_plays.proofs.Asking.{answers-same}
-use Rattle.psm_plays.specs.Standing.{CommandStands, SameQuery, SameTable}
-
 use Rattle.psm_plays.proofs.Calling.{does-call}
 use Rattle.psm_plays.proofs.Keeping.{Does, IsKept, IsPlayed, run-kept}
 
@@ -95,7 +94,7 @@ selected-kept : (file : ResolvedFile) (turns : ℕ) (first : List ℕ) (s : Stan
 selected-kept file turns first s (Ok a) k = k
 selected-kept file turns first s (Err state) k = k
 
-select-same : (m : Meaning) (first : List ℕ) (s : Standing) (query : ResolvedQuery) (coded : Query) → SameQuery query coded → (c : Contents) → slice_get s.tables coded.table ≡ Some c
+select-same : (m : Meaning) (first : List ℕ) (s : Standing) (query : ResolvedQuery) (coded : Query) → SelectStands query coded → (c : Contents) → slice_get s.tables coded.table ≡ Some c
     → run first s (selected query) m ≡ going.selected first s (answer (codes.over []) (codes.query_of coded) c.rows)
 select-same m first s query coded q c at =
     let shown : Answer → Act (List ℕ) = λ a. answer_lines a.skipped a.rows in
@@ -108,7 +107,8 @@ select-same m first s query coded q c at =
 -- ---- each command
 
 module _ (file : ResolvedFile) (code : RawCode) (stands : FileStands file code) (sound : IsSound file) (h turns : ℕ) (enough : height_for file turns ≤ h) (s : Standing) (tables : AreFilled file.tables s.tables) (left : s.turns ≤ turns) (first : List ℕ) where
-  does-named : (table other : ℕ) (columns places : List ℕ) (rows others : List (List Datum)) (u : CodeTable) (c : Contents) → table ≡ other → columns ≡ places → rows ≡ others → SameTable file code table → slice_get code.tables other ≡ Some u → slice_get s.tables other ≡ Some c
+  -- where both commands say the same
+  does-named : (table other : ℕ) (columns places : List ℕ) (rows others : List (List Datum)) (u : CodeTable) (c : Contents) → table ≡ other → columns ≡ places → rows ≡ others → InsertStands file code table → slice_get code.tables other ≡ Some u → slice_get s.tables other ≡ Some c
       → Does file h turns first s (Insert table columns rows) (put_in first s other u c (rows_inserted plans.plain (plans.schema_of u) (map (new_row u.definition places) others) c.rows))
   does-named table other columns places rows others u c e f g q at here =
       let command = ap (λ x. Insert x columns rows) e ∙ ap (λ x. Insert other x rows) f ∙ ap (λ x. Insert other places x) g in
@@ -131,6 +131,7 @@ module _ (file : ResolvedFile) (code : RawCode) (stands : FileStands file code) 
   goes-does Rollback commands.Rollback p q going.rollback = record { same = refl; kept = λ committed. record { tables = committed; committed = committed; left = left } }
   goes-does c d p q g = absurd q
 
+-- their first lines say the same
 name-same : (file : ResolvedFile) (code : RawCode) (c : Command) (d : ScriptCommand) → CommandStands file code c d → going.command_name code d ≡ command_name file c
 name-same file code (Call procedure values) (commands.Call n others) q =
     ap (λ x. naming (text "CALL ") (name_of_routine x)) q.1.at ∙ ap (λ x. naming (text "CALL ") x) q.1.name ∙ ap (λ x. naming (text "CALL ") (procedure_name x)) (sym q.1.named)

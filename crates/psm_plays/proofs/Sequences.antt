@@ -1,18 +1,12 @@
 -- Commands one after another over code play what they mean, and so does a script.
-use Rattle.std.proofs.Common.{arith, ◌≡◌, ◌≤◌, ◌+◌, ◌++◌, ℕ, suc, List, [], ◌∷◌, length, map, refl, ap, sym, subst, ◌∙◌}
-use Rattle.std.proofs.lemmas.List.{append-nil}
-use Rattle.psm_table.specs.Table.{empty_table}
+use Rattle.std.proofs.Common.{arith, ◌≡◌, ◌≤◌, ◌+◌, ◌++◌, ℕ, suc, List, [], ◌∷◌, length, ap, ◌∙◌}
 use Rattle.psm_resolved.specs.declared.file.ResolvedFile.{ResolvedFile}
-use Rattle.psm_resolved.specs.declared.file.ResolvedTable.{ResolvedTable}
-use Rattle.psm_meaning.specs.Acts.{NoTurns}
-use Rattle.psm_meaning.specs.Heights.{height_for, session}
-use Rattle.psm_meaning.specs.Lines.{first_line}
+use Rattle.psm_meaning.specs.Heights.{height_for}
 use Rattle.psm_meaning.specs.Meaning.{meaning}
-use Rattle.psm_meaning.specs.Session.{Command, Cut, Done, Session, Standing, Stopped, Went, at_start, command_name, commands_from, finished, going_on, played}
+use Rattle.psm_meaning.specs.Session.{Command, Standing, Went, commands_from, going_on}
 use Rattle.psm_code.specs.declared.code.RawCode.{RawCode}
 use Rattle.psm_lower.specs.Simulation.{FileStands}
 use Rattle.psm_sound.specs.Files.{IsSound}
-use Rattle.psm_sound.specs.States.{AreFilled}
 use Rattle.psm_session.specs.declared.command.ScriptCommand.{ScriptCommand}
 use Rattle.psm_session.specs.Going.{CommandGoes, Plays}
 use Rattle.psm_session.specs.Going as going

@@ -21,7 +21,7 @@ use Rattle.psm_session.specs.declared.command.ScriptCommand.TheVariants as comma
 -- ---- what the two commands name
 
 -- A procedure: a script has its number among the procedures, and code that among all routines, as the file has it.
-pub record SameRoutine (file : ResolvedFile) (code : RawCode) (procedure n : ℕ) : Type 0 where
+pub record CallStands (file : ResolvedFile) (code : RawCode) (procedure n : ℕ) : Type 0 where
   pub routine : ResolvedRoutine
   pub coded : RawRoutine
   pub named : procedure_at file procedure ≡ Some routine
@@ -31,7 +31,7 @@ pub record SameRoutine (file : ResolvedFile) (code : RawCode) (procedure n : ℕ
   pub parameters : coded.parameters ≡ map parameter_of routine.parameters
 
 -- a table, which has one number in both
-pub record SameTable (file : ResolvedFile) (code : RawCode) (table : ℕ) : Type 0 where
+pub record InsertStands (file : ResolvedFile) (code : RawCode) (table : ℕ) : Type 0 where
   pub named : ResolvedTable
   pub coded : CodeTable
   pub there : slice_get file.tables table ≡ Some named
@@ -39,7 +39,7 @@ pub record SameTable (file : ResolvedFile) (code : RawCode) (table : ℕ) : Type
   pub stands : TableStands named coded
 
 -- a query whose expressions are of letters, and which sees no variable
-pub record SameQuery (query : ResolvedQuery) (coded : Query) : Type 0 where
+pub record SelectStands (query : ResolvedQuery) (coded : Query) : Type 0 where
   pub known : Known
   pub none : known.variables ≡ []
   pub is : is_query known query ≡ true
@@ -48,9 +48,9 @@ pub record SameQuery (query : ResolvedQuery) (coded : Query) : Type 0 where
 -- ---- commands
 
 abbrev pub CommandStands : ResolvedFile → RawCode → Command → ScriptCommand → Type 0
-CommandStands file code (Call procedure values) (commands.Call n others) = (values ≡ others) × SameRoutine file code procedure n
-CommandStands file code (Insert table columns rows) (commands.Insert other places others) = (table ≡ other) × (columns ≡ places) × (rows ≡ others) × SameTable file code table
-CommandStands file code (Select query) (commands.Select coded) = SameQuery query coded
+CommandStands file code (Call procedure values) (commands.Call n others) = (values ≡ others) × CallStands file code procedure n
+CommandStands file code (Insert table columns rows) (commands.Insert other places others) = (table ≡ other) × (columns ≡ places) × (rows ≡ others) × InsertStands file code table
+CommandStands file code (Select query) (commands.Select coded) = SelectStands query coded
 CommandStands file code Commit commands.Commit = Unit {0}
 CommandStands file code Rollback commands.Rollback = Unit {0}
 CommandStands file code c d = ⊥
