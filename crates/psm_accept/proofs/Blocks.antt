@@ -106,7 +106,7 @@ module _ (e : Scene) (known : Known) (letters : Letters) (parts : PartsProper e 
   -- each of both is done, and so are they together
   chosen_done : {xs : List Branch} {ys : List Statement} → BranchesStand xs → AllStand ys → (k : Letter) (s : places.Sight) (c : Context) (world : World) (frames : Frames) (n : Numbering) → Here s c world frames n
       → let bs = branches_made xs (at_frames world frames) n in let ss = statements_made ys (at_frames world frames) bs.1 in
-        (BranchesClosed bs → AreBranches e known letters s bs.0 k × (AreTypes n → AreTypes bs.1)) → (Here s c world frames bs.1 → AllClosed ss → AllDone s bs.1 ss) → ChosenClosed bs ss → ChosenDone s k n bs ss
+      (BranchesClosed bs → AreBranches e known letters s bs.0 k × (AreTypes n → AreTypes bs.1)) → (Here s c world frames bs.1 → AllClosed ss → AllDone s bs.1 ss) → ChosenClosed bs ss → ChosenDone s k n bs ss
   chosen_done {xs = xs} {ys = ys} hs h k s c world frames n here branches others closed =
       let sight : Sight = at_frames world frames in
       let bs = branches_made xs sight n in
@@ -262,7 +262,7 @@ module _ (e : Scene) (known : Known) (letters : Letters) (parts : PartsProper e 
         let grown : Grows n r.1 = subst (λ r. Grows n r.1) (sym same) (statement-grows h action n) in
         let filled : Fills e r.1 = fills-before (handlers-grow hs sight r.1) closed.0 in
         let first = statement h (in_action level s.cursors) (checked.inside c frame.Action) world (frame.Action ∷ frames) n good.0.1 (here_in-action e known letters s level c sight n below here)
-            (subst (λ r. Fills e r.1) same filled, subst (Each (IsNumbered e known letters)) (handler_cursors-out r.0 ∙ ap (λ o. cursors_in o.action) opened) numbered.0) in
+        (subst (λ r. Fills e r.1) same filled, subst (Each (IsNumbered e known letters)) (handler_cursors-out r.0 ∙ ap (λ o. cursors_in o.action) opened) numbered.0) in
         let second = handlers_done hs level s atomic c world frames r.1 good.1 below (here-grown grown here) (closed.0, numbered.1) in (
           proper.and_handler (subst (λ o. IsProper e known letters (in_action level s.cursors) o.action) (sym opened) first.proper) second.0,
           λ a. second.1 (subst (λ r. AreTypes r.1) (sym same) (first.types a)),

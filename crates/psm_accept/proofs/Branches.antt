@@ -36,7 +36,7 @@ module _ (e : Scene) (known : Known) (letters : Letters) (parts : PartsProper e 
       let b = branch_part x c in
       let two = neither (earlier (as_condition b.0).fault b.1) (first_of (searched c (map branch_part xs))) (sym (first_of_cons (earlier (as_condition b.0).fault b.1) (searched c (map branch_part xs))) ∙ none) in
       let own = neither (test_part c.view (out-Branch x).test) (faults.all c (map statement_fault (several (out-Branch x).statements)))
-          (ap (λ p. earlier (as_condition p.0).fault p.1) (sym (branch_part-out x c)) ∙ two.0) in
+      (ap (λ p. earlier (as_condition p.0).fault p.1) (sym (branch_part-out x c)) ∙ two.0) in
       ((parts.tests c.view sight a outside (out-Branch x).test t own.0, own.1), searched_good hs two.1)
 
   pub compared_good : (x : Expr) (q : IsCompared e known c.view sight x) {xs : List Branch} → BranchesStand xs → first_of (simple c (as_value (found c.view x)) (map branch_part xs)) ≡ None → Each (IsGoodBranch e known c sight q.letter) xs
@@ -46,5 +46,5 @@ module _ (e : Scene) (known : Known) (letters : Letters) (parts : PartsProper e 
       let b = branch_part y c in
       let two = neither (earlier (simple_test operand b.0).fault b.1) (first_of (simple c operand (map branch_part xs))) (sym (first_of_cons (earlier (simple_test operand b.0).fault b.1) (simple c operand (map branch_part xs))) ∙ none) in
       let own = neither (simple_test operand (found c.view (out-Branch y).test)).fault (faults.all c (map statement_fault (several (out-Branch y).statements)))
-          (ap (λ p. earlier (simple_test operand p.0).fault p.1) (sym (branch_part-out y c)) ∙ two.0) in
+      (ap (λ p. earlier (simple_test operand p.0).fault p.1) (sym (branch_part-out y c)) ∙ two.0) in
       ((q.tests (out-Branch y).test t own.0, own.1), compared_good x q hs two.1)

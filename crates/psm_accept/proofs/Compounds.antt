@@ -76,7 +76,7 @@ module _ (e : Scene) (known : Known) (letters : Letters) (parts : PartsProper e 
   pub open_block : Each DeclarationStands xs → Each CursorStands cursors → declared_fault label c.view xs cursors ≡ None → IsHere e known letters s c (at_frames world outer) n → Fills e end.1 → Each (IsNumbered e known letters) own → IsOpened
   open_block ds cs none h f numbered =
       let five = five_none (repeated rule.DeclarationRepeated (variable_names xs)) (repeated rule.DeclarationRepeated (condition_names xs)) (repeated rule.DeclarationRepeated (map (λ x. x.name) cursors))
-          (first_of (declarations_fault (faults.opened label c.view) xs)) (first_of (cursors_fault (declared_view (faults.opened label c.view) xs) cursors)) none in
+      (first_of (declarations_fault (faults.opened label c.view) xs)) (first_of (cursors_fault (declared_view (faults.opened label c.view) xs) cursors)) none in
       let g : Grows n declared.1 = declarations-grow (before label outer n) xs in
       let above : Each (λ x. n.cursors ≤ x.number) own = numbers_from world declared cursors n.cursors g.cursors in
       let start : Walked e known letters within c world outer label n (frame.Compound label undeclared ∷ c.view.frames) (before label outer n) = record {

@@ -89,8 +89,8 @@ each_first world told (x ∷ xs) ys =
     let all : List ResolvedCursor = others ++ ys in (
       ap (λ b. cond b (Some own) (find (λ y. nat_eq y.number own.number) all)) (same_number own.number),
       each_with (λ y. suc told.1.cursors ≤ y.number) (IsFirst all) (IsFirst (own ∷ all))
-        (λ y above first. passed_over own y.number (find (λ z. nat_eq z.number y.number) all) (later_number told.1.cursors y.number (omega (arith, above))) ∙ first)
-        others (numbers_from world (told_cursor told x) xs (suc told.1.cursors) (omega arith)) (each_first world (told_cursor told x) xs ys),
+          (λ y above first. passed_over own y.number (find (λ z. nat_eq z.number y.number) all) (later_number told.1.cursors y.number (omega (arith, above))) ∙ first)
+          others (numbers_from world (told_cursor told x) xs (suc told.1.cursors) (omega arith)) (each_first world (told_cursor told x) xs ys),
     )
 
 -- ---- shapes and letters
@@ -106,7 +106,6 @@ plain_by false o h = refl
 plain_by true None h = absurd cc
 plain_by true (Some updatability.ReadOnly) h = absurd cc
 plain_by true (Some updatability.Update) h = absurd cc
-
 
 -- ---- a cursor, and all of a block
 

@@ -145,7 +145,7 @@ module _ (e : Scene) (known : Known) (letters : Letters) (s : places.Sight) (c :
   variables_at : PartsProper e known letters → (from : Numbering) (kind : DataType) (first : Identifier) (rest : List Identifier) (default : Option Expr) (o : Option SqlType) → ((t : SqlType) → o ≡ Some t → is_type t ≡ true) → type_fault kind o ≡ None → DefaultStands default
       → (d : Checked) (made : Made) (n : Numbering) → (AreTypes from → AreTypes n) → Here d made n → default_fault (block_context c label d).view o default ≡ None → Fills e (told_variables (type_known o) (told_at made n) (first ∷ rest)).1
       → Declares from (faults.with_variables (checked_frames d) (first ∷ rest) (local_variable o)) (told_variables (type_known o) (told_at made n) (first ∷ rest))
-          (record { slots = slots_from (next_slot n) (first ∷ rest); default = option_map (expr_at (sight_at made)) default } ∷ [])
+      (record { slots = slots_from (next_slot n) (first ∷ rest); default = option_map (expr_at (sight_at made)) default } ∷ [])
   variables_at parts from kind first rest default None bounded typed well d made n types h none f = absurd cc
   variables_at parts from kind first rest default (Some t) bounded typed well d made n types h none f =
       let p = h.stands in
@@ -207,6 +207,8 @@ module _ (e : Scene) (known : Known) (letters : Letters) (s : places.Sight) (c :
       let others : View = faults.in_frames c.view (faults.behind fs x) in
       let two = neither (declaration_fault view x) (first_of (declarations_fault others xs)) (sym (first_of_cons (declaration_fault view x) (declarations_fault others xs)) ∙ none) in
       let one = declaration_step parts from x well.0 fs told w two.0 (fills-before (declarations-grow (told_behind told x) xs) f) in
-      let more = declarations_walk parts from xs well.1 (faults.behind fs x) (told_behind told x) one.0 two.1 f in
-      (more.0, each_append (IsDeclaration e) (declaration_of world told x) (declarations_of world (told_behind told x) xs) one.1 more.1,
-        each_append (ProperDeclaration known) (declaration_of world told x) (declarations_of world (told_behind told x) xs) one.2 more.2)
+      let more = declarations_walk parts from xs well.1 (faults.behind fs x) (told_behind told x) one.0 two.1 f in (
+        more.0,
+        each_append (IsDeclaration e) (declaration_of world told x) (declarations_of world (told_behind told x) xs) one.1 more.1,
+        each_append (ProperDeclaration known) (declaration_of world told x) (declarations_of world (told_behind told x) xs) one.2 more.2,
+      )

@@ -140,11 +140,11 @@ condition_declared e known letters s c world outer label d made n m g name x y s
     let a = p.agree in
     let out : Spelling → Option DeclaredCondition = λ k. lookup.condition k outer in
     let apart : (j k : Spelling) → AreDistinct (or_else (named j (declared_once made.conditions name y)) (out j)) (or_else (named k (declared_once made.conditions name y)) (out k)) j k = λ j k.
-        looked_in (λ u. AreDistinct u (or_else (named k (declared_once made.conditions name y)) (out k)) j k) made.conditions name y (out j) j
-        (looked_in (λ v. AreDistinct (or_else (named j made.conditions) (out j)) v j k) made.conditions name y (out k) k (p.conditions.distinct j k)
-        (λ is. apart_right (length n.conditions) (length m.conditions) (or_else (named j made.conditions) (out j)) y j k (h.below.conditions j) fresh))
-        (λ is. looked_in (λ v. AreDistinct (Some y) v j k) made.conditions name y (out k) k
-        (apart_left (length n.conditions) (length m.conditions) (or_else (named k made.conditions) (out k)) y j k (h.below.conditions k) fresh) (λ also p q r. same_names j k name is also)) in record {
+    looked_in (λ u. AreDistinct u (or_else (named k (declared_once made.conditions name y)) (out k)) j k) made.conditions name y (out j) j
+    (looked_in (λ v. AreDistinct (or_else (named j made.conditions) (out j)) v j k) made.conditions name y (out k) k (p.conditions.distinct j k)
+    (λ is. apart_right (length n.conditions) (length m.conditions) (or_else (named j made.conditions) (out j)) y j k (h.below.conditions j) fresh))
+    (λ is. looked_in (λ v. AreDistinct (Some y) v j k) made.conditions name y (out k) k
+    (apart_left (length n.conditions) (length m.conditions) (or_else (named k made.conditions) (out k)) y j k (h.below.conditions k) fresh) (λ also p q r. same_names j k name is also)) in record {
       stands = record {
         agree = record { tables = a.tables; functions = a.functions; frames = a.frames; row = a.row; known_tables = a.known_tables; known_functions = a.known_functions; slots = a.slots };
         meant = record {
@@ -186,7 +186,7 @@ cursor_declared e known letters s c world outer label d made n m g name x number
     let a = p.agree in
     let new : Sight = at_frames world (block_frames label made2 outer) in
     let moved : (o : Option Cursor) (k : Option ℕ) → IsCursorKnown e known letters s (at_frames world (block_frames label made outer)) o k → IsCursorKnown e known letters s new o k = λ o k.
-        known_moved e known letters s s (at_frames world (block_frames label made outer)) (block_frames label made2 outer) o k (λ i is. refl) in record {
+    known_moved e known letters s s (at_frames world (block_frames label made outer)) (block_frames label made2 outer) o k (λ i is. refl) in record {
       stands = record {
         agree = record { tables = a.tables; functions = a.functions; frames = a.frames; row = a.row; known_tables = a.known_tables; known_functions = a.known_functions; slots = a.slots };
         meant = record {

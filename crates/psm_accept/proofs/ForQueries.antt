@@ -153,7 +153,7 @@ head_is e known letters parts view sight a head well none =
     let types = types_of e view sight a table there in
     let picks : AreForPicks e types.0 (found_row s view) (made_row s sight) (row_at s sight) (rows_agree e s view sight a) refl types.1 [] (picks_of s) =
     picks_are e types.0 (found_row s view) (made_row s sight) (row_at s sight) (rows_agree e s view sight a) refl types.1 [] (picks_of s) (picks_stand s well)
-        (ap (λ cs. first_of (faults.for_items cs [] items)) (sym columns) ∙ three.0) (ap first_set (sym (found_picks s view)) ∙ plain) in
+    (ap (λ cs. first_of (faults.for_items cs [] items)) (sym columns) ∙ three.0) (ap first_set (sym (found_picks s view)) ∙ plain) in
     let clean : query_fault q ≡ None = clean_query q (ap items_fault (found_picks s view) ∙ picks.clean) plain inner.1 inner.2 in
     let made = map (λ p. pick_made p (made_row s sight)) (picks_of s) in
     let shapes : (query_made s sight).shapes ≡ map (λ m. m.shape) picks.values = made_shapes s sight ∙ ap (λ ss. shapes_of (values_in made) ss) picks.no_sets ∙ ap (λ ms. map (λ m. m.shape) ms) picks.made in

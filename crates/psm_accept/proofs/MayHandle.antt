@@ -67,9 +67,9 @@ handlers_sound c atomic [] none = tt
 handlers_sound c atomic (h ∷ hs) none =
     let p : HandlerPart = handler_part h in
     let two = neither (earlier (p.own atomic) (p.action (checked.inside c frame.Action))) (first_of (handlers_fault c atomic (map handler_part hs)))
-        (sym (first_of_cons (earlier (p.own atomic) (p.action (checked.inside c frame.Action))) (handlers_fault c atomic (map handler_part hs))) ∙ none) in
+    (sym (first_of_cons (earlier (p.own atomic) (p.action (checked.inside c frame.Action))) (handlers_fault c atomic (map handler_part hs))) ∙ none) in
     let own = neither (undo_fault (out-Handler h).«at» (out-Handler h).kind atomic) (statement_fault (out-Handler h).action (checked.inside c frame.Action))
-        (ap (λ q. earlier (q.own atomic) (q.action (checked.inside c frame.Action))) (sym (handler_part-out h)) ∙ two.0) in
+    (ap (λ q. earlier (q.own atomic) (q.action (checked.inside c frame.Action))) (sym (handler_part-out h)) ∙ two.0) in
     (own, handlers_sound c atomic hs two.1)
 
 undo_by : (place : Place) (kind : HandlerKind) (atomic : Bool) → undo_fault place kind atomic ≡ None → (not (is_undo (kind_of kind)) || atomic) ≡ true
@@ -92,7 +92,7 @@ may_all : (e : Scene) (c : Context) (atomic : Bool) (hs : List Handler) (sight :
 may_all e c atomic [] sight n h proper = tt
 may_all e c atomic (x ∷ hs) sight n h proper =
     let values = each_split (ProperValue e) (map (value_of sight.frames) (several (out-Handler x).values)) (map (value_of sight.frames) (written_values hs))
-        (subst (Each (ProperValue e)) (map-append (value_of sight.frames) (several (out-Handler x).values) (written_values hs)) proper) in
+    (subst (Each (ProperValue e)) (map-append (value_of sight.frames) (several (out-Handler x).values) (written_values hs)) proper) in
     let own = may_at e atomic x sight (statement_made (out-Handler x).action (making.inside sight frame.Action) n).0 h.0.0 values.0 in
     (subst (λ r. MayHandle e atomic r.0) (sym (handler_made-out x sight n)) own, may_all e c atomic hs sight (handler_made x sight n).1 h.1 values.1)
 
