@@ -24,8 +24,9 @@ use Rattle.psm_unwind.specs.View.{machine_of}
 use Rattle.psm_machine.specs.declared.stop.Stop.{Stop}
 use Rattle.psm_machine.specs.Allowed.{HasTable}
 use Rattle.psm_machine.specs.Coming.{Comes}
+use Rattle.psm_machine.specs.Inserting.{EndsIn, PutsInto, put_due}
 use Rattle.psm_machine.specs.Over.{part_of}
-use Rattle.psm_machine.proofs.Asking.{of_some}
+use Rattle.psm_machine.proofs.Asking.{of_some, some_of}
 
 -- the run of a statement about so many rows
 abbrev pub counting : ℕ → Run → Run
@@ -77,13 +78,13 @@ counted_by c due rest t old at r new (Err fault.Memory) h = tt
 abbrev pub nothing_more : ℕ → Act (Unit {0})
 nothing_more n = got tt
 
-put_by : (c : Contents) (due : Result Changed Failure) (t : ℕ) (old : List Contents) (at : Mark → List Contents) (r : Run) (new : List Contents) (res : Result ℕ DataFault)
-    → Ends c due old t new res → Counted (◌>>=◌ (unless_failed c.def due) (λ changed. leaves t c changed.rows changed.count)) nothing_more old at r new (part_of res)
-put_by c due t old at r new (Ok n) h =
-    ap (λ d. ◌>>=◌ (unless_failed c.def d) (λ changed. leaves t c changed.rows changed.count) (machine_of old at r)) h.1 ∙ ap (λ tables. nothing_more n (machine_of tables at (counting n r))) (sym h.2)
-put_by c due t old at r new (Err (fault.Raised e)) h =
-    stopped_by c.def due (λ changed. leaves t c changed.rows changed.count) e (machine_of old at r) (machine_of new at r) h.0 (ap (λ tables. machine_of tables at r) (sym h.1))
-put_by c due t old at r new (Err fault.Memory) h = tt
+put_by : (t : CodeTable) (c : Contents) (due : Result Changed Failure) (n : ℕ) (old : List Contents) (at : Mark → List Contents) (r : Run) (new : List Contents) (res : Result ℕ DataFault)
+    → EndsIn t c due old n new res → Counted (◌>>=◌ (unless_failed t.definition due) (λ changed. leaves n c changed.rows changed.count)) nothing_more old at r new (part_of res)
+put_by t c due n old at r new (Ok count) h =
+    ap (λ d. ◌>>=◌ (unless_failed t.definition d) (λ changed. leaves n c changed.rows changed.count) (machine_of old at r)) h.1 ∙ ap (λ tables. nothing_more count (machine_of tables at (counting count r))) (sym h.2)
+put_by t c due n old at r new (Err (fault.Raised e)) h =
+    stopped_by t.definition due (λ changed. leaves n c changed.rows changed.count) e (machine_of old at r) (machine_of new at r) h.0 (ap (λ tables. machine_of tables at r) (sym h.1))
+put_by t c due n old at r new (Err fault.Memory) h = tt
 
 -- ---- what is there
 
@@ -94,6 +95,21 @@ schema_there (u ∷ ts) (suc i) t e = schema_there ts i t e
 
 pub schema_same : (t : CodeTable) (def : TableDef) → def ≡ t.definition → ends.schema_of def t.checks ≡ schema_of t
 schema_same t def e = ap (λ d. ends.schema_of d t.checks) e
+
+-- the definition of a table that is there is that of the code
+ended_in : (t : CodeTable) (c : Contents) (due : Result Changed Failure) (old : List Contents) (n : ℕ) (new : List Contents) (res : Result ℕ DataFault) → c.def ≡ t.definition → Ends c due old n new res → EndsIn t c due old n new res
+ended_in t c due old n new (Ok count) e h = h
+ended_in t c due old n new (Err (fault.Raised x)) e h = (subst (λ d. IsDue d due x) e h.0, h.1)
+ended_in t c due old n new (Err fault.Memory) e h = h
+
+pub puts_into : (t : CodeTable) (n : ℕ) (columns : List ℕ) (rows : List (List Datum)) (old new : List Contents) (res : Result ℕ DataFault) → HasTable t old n
+    → IfSome (slice_get old n) (λ c. Ends c (inserted plain (ends.schema_of c.def t.checks) (map (new_row t.definition columns) rows) c.rows) old n new res) → PutsInto t n columns rows old new res
+puts_into t n columns rows old new res h f =
+    let c = h.contents in
+    let made = map (new_row t.definition columns) rows in
+    let e = of_some (λ (c : Contents). Ends c (inserted plain (ends.schema_of c.def t.checks) made c.rows) old n new res) (slice_get old n) c h.there f in
+    some_of (λ (c : Contents). EndsIn t c (put_due t columns rows c) old n new res) (slice_get old n) c h.there
+    (subst (λ s. EndsIn t c (inserted plain s made c.rows) old n new res) (schema_same t c.def h.kept.same) (ended_in t c (inserted plain (ends.schema_of c.def t.checks) made c.rows) old n new res h.kept.same e))
 
 -- ---- UPDATE and DELETE
 
@@ -127,16 +143,11 @@ module _ (code : RawCode) (table : ℕ) (t : CodeTable) (declared : slice_get co
 
   -- ---- INSERT
 
-  pub put_counted : (columns : List ℕ) (rows : List (List Datum)) (res : Result ℕ DataFault) → (h : HasTable t old table)
-      → IfSome (slice_get old table) (λ c. Ends c (inserted plain (ends.schema_of c.def t.checks) (map (new_row t.definition columns) rows) c.rows) old table new res)
+  pub put_counted : (columns : List ℕ) (rows : List (List Datum)) (res : Result ℕ DataFault) → (h : HasTable t old table) → PutsInto t table columns rows old new res
       → Counted (put_in code table columns rows) nothing_more old at r new (part_of res)
   put_counted columns rows res h f =
       let c = h.contents in
-      let made = map (new_row t.definition columns) rows in
-      let e = of_some (λ (c : Contents). Ends c (inserted plain (ends.schema_of c.def t.checks) made c.rows) old table new res) (slice_get old table) c h.there f in
-      let due : Schema (List Line) → Result Changed Failure = λ s. inserted plain s made c.rows in
-      let act : TableDef → Schema (List Line) → Act (Unit {0}) = λ d s. ◌>>=◌ (unless_failed d (due s)) (λ changed. leaves table c changed.rows changed.count) in
-      let done = put_by c (due (ends.schema_of c.def t.checks)) table old at r new res e in
-      let named = subst (λ d. Counted (act d (ends.schema_of c.def t.checks)) nothing_more old at r new (part_of res)) h.kept.same done in
-      let ruled = subst (λ s. Counted (act t.definition s) nothing_more old at r new (part_of res)) (schema_same t c.def h.kept.same) named in
-      counted_like (put_in code table columns rows) (act t.definition (schema_of t)) nothing_more old at r new (part_of res) (rw (schema_there code.tables table t declared, h.there) refl) ruled
+      let due = put_due t columns rows c in
+      let e = of_some (λ (c : Contents). EndsIn t c (put_due t columns rows c) old table new res) (slice_get old table) c h.there f in
+      counted_like (put_in code table columns rows) (◌>>=◌ (unless_failed t.definition due) (λ changed. leaves table c changed.rows changed.count)) nothing_more old at r new (part_of res)
+      (rw (schema_there code.tables table t declared, h.there) refl) (put_by t c due table old at r new res e)

@@ -17,7 +17,8 @@ use Rattle.psm_unwind.specs.declared.ending.Outcome.{Outcome}
 use Rattle.psm_unwind.specs.declared.ending.Outcome.TheVariants as outcome
 use Rattle.psm_unwind.specs.View.{LeadsTo, end_of}
 use Rattle.psm_machine.specs.declared.running.Finished.{Finished}
-use Rattle.psm_machine.specs.Running.{Finishes, RunsTo, Takes, behind, leaves_tables, stays_behind, turns_of}
+use Rattle.psm_machine.specs.Running.{Finishes, RunsTo, Takes, behind, leaves_tables, stays_behind}
+use Rattle.psm_machine.proofs.TurnsKept.{OverWith, row_over}
 
 more_of : (t : Turned) (now : Machine) → LeadsTo t outcome.More now → t ≡ More now
 more_of (More m) now h = ap More h
@@ -36,7 +37,7 @@ module _ (code : RawCode) (from : Turned) (f : Finished) (tables : List Contents
         count = suc k;
         last = n;
         leads = ap (λ j. rows code j from) one ∙ rows-more code k 1 from ∙ ap (row_on code) r ∙ e ∙ ap (λ y. Over y n) h.0;
-        left = (k, refl, ap turns_of r ∙ l);
+        left = sym (subst (λ y. OverWith y m.turns) e (row_over code m) ∙ l);
         tables_left = h.1 ∙ q;
       }
 
@@ -50,7 +51,7 @@ module _ (code : RawCode) (from : Turned) (f : Finished) (tables : List Contents
     count = 1;
     last = last;
     leads = ap (row_on code) e;
-    left = (0, refl, ap turns_of e ∙ l);
+    left = sym l;
     tables_left = q;
   }
 

@@ -22,3 +22,5 @@ pub mod Spending
 pub mod Standing
 pub mod Starting
 pub mod Staying
+pub mod TurnsKept
+pub mod TurnsSpared

@@ -1,6 +1,6 @@
 -- Right code has what its queries, cursors and plans ask.
-use Rattle.std.proofs.Common.{◌≡◌, ℕ, zero, suc, true, List, [], ◌∷◌, ◌++◌, slice_get, Option, Some, None, IfSome, refl, ap, sym, subst, ◌∙◌}
-use Rattle.std.specs.Prelude.{option_map}
+use Rattle.std.proofs.Common.{◌≡◌, ℕ, zero, suc, true, List, [], ◌∷◌, ◌++◌, map, slice_get, Option, Some, None, Ok, IfSome, refl, ap, sym, subst, ◌∙◌}
+use Rattle.std.specs.Prelude.{option_map, slice_set}
 use Rattle.std.specs.Option.{option_map_or}
 use Rattle.psm_value.specs.declared.datum.Datum.{Datum}
 use Rattle.psm_exprcode.specs.declared.items.Items.{Items}
@@ -8,9 +8,12 @@ use Rattle.psm_exprcode.specs.declared.items.Items.TheVariants as items
 use Rattle.psm_exprcode.specs.declared.op.Line.{Line}
 use Rattle.psm_exprcode.specs.declared.query.Query.{Query}
 use Rattle.psm_exprcode.specs.declared.set_item.SetItem.{SetItem}
+use Rattle.psm_table.specs.Changing.{Changed}
 use Rattle.psm_table.specs.Cursors.{Closed, Cursor, Insensitive, Plain}
 use Rattle.psm_table.specs.Definition.{IsKey}
 use Rattle.psm_table.specs.Table.{Contents}
+use Rattle.psm_table.proofs.Legal.{legal_inserted}
+use Rattle.psm_tablecode.specs.NewRows.{new_row}
 use Rattle.psm_tablecode.specs.Suits.{gives_truth, letters_of, SuitsTable}
 use Rattle.psm_cursor.specs.Suits.{HasRows, StandsIn, SuitsCursor}
 use Rattle.psm_dml.specs.Suits.{SuitChecks, SuitSets, SuitsTest}
@@ -23,14 +26,19 @@ use Rattle.psm_code.specs.declared.code.RawRoutine.{RawRoutine}
 use Rattle.psm_code.specs.Instructions.{columns_at, columns_of_table, variables_of}
 use Rattle.psm_code.specs.Parts.{slots_of}
 use Rattle.psm_code.specs.PlanRules.{cursor_table, has_rows, or_none, plan_fault, plan_faults, sets_in, table_of_query, test_in}
-use Rattle.psm_code.specs.Sits.{AreCursors, Keeps}
+use Rattle.psm_code.specs.Plans.{plain, schema_of}
+use Rattle.psm_code.specs.RoutineRules.{first_fault}
+use Rattle.psm_code.specs.Sits.{AreCursors, AreKept, IsKept, Keeps}
 use Rattle.psm_code.proofs.Faults.{clean_first, clean_flat, clean_second, clean_tail, routine_right, Clean, RightRoutine}
 use Rattle.psm_code.proofs.Fetching.{right_cursor, RightCursor}
 use Rattle.psm_code.proofs.Operating.{stored_letters}
+use Rattle.psm_code.proofs.Planning.{kept_set}
 use Rattle.psm_code.proofs.Queried.{kept_at, right_query, RightQuery}
+use Rattle.psm_code.proofs.Rowing.{inserted_rows}
 use Rattle.psm_code.proofs.Suiting.{checks_suit, query_suits, sets_suit, test_given}
 use Rattle.psm_machine.specs.Allowed.{HasTable, MayAsk, MayChange, MayChangeAt, MayDo, MayErase, MayEraseAt, MayMove, MayOpen, MayPut, OfCursor, OverQuery, RunsRight}
-use Rattle.psm_machine.proofs.Asking.{of_some}
+use Rattle.psm_machine.specs.Inserting.{put_due}
+use Rattle.psm_machine.proofs.Asking.{of_some, some_of}
 
 -- of what may be there
 if_some : {A : Type 0} (P : A → Type 0) (o : Option A) → ((x : A) → o ≡ Some x → P x) → IfSome o P
@@ -53,6 +61,30 @@ cursor_kept code r (y ∷ xs) (d ∷ cs) zero x c h e f =
     let here : d ≡ c = cc in
     subst (λ c. IsCursor code r x c) here (subst (λ y. IsCursor code r y d) same h.0)
 cursor_kept code r (y ∷ xs) (d ∷ cs) (suc i) x c h e f = cursor_kept code r xs cs i x c h.1 e f
+
+-- ---- tables of right code
+
+module _ (code : RawCode) (tables : List Contents) (right : first_fault code ≡ None) (kept : AreKept code.tables tables) where
+  has_table : (n : ℕ) (t : CodeTable) → slice_get code.tables n ≡ Some t → HasTable t tables n
+  has_table n t e =
+      let k = kept_at code.tables tables n t kept e in
+      record { contents = k.0; there = k.1; kept = k.2; checks = subst (λ d. SuitChecks t.checks d) (sym k.2.same) (checks_suit code n t right e) }
+
+  -- rows may be put in
+  pub put_right : (n : ℕ) → MayPut code tables n
+  put_right n = if_some (λ t. HasTable t tables n) (slice_get code.tables n) (λ t e. has_table n t e)
+
+  -- and the tables stay those of the code with the rows that are due
+  pub put_kept : (n : ℕ) (t : CodeTable) (c : Contents) → slice_get code.tables n ≡ Some t → slice_get tables n ≡ Some c → (columns : List ℕ) (rows : List (List Datum)) (changed : Changed) → put_due t columns rows c ≡ Ok changed
+      → AreKept code.tables (slice_set tables n (record c { rows = changed.rows }))
+  put_kept n t c e f columns rows changed q =
+      let k = kept_at code.tables tables n t kept e in
+      let y = of_some (IsKept t) (slice_get tables n) c f (some_of (IsKept t) (slice_get tables n) k.0 k.1 k.2) in
+      kept_set code.tables tables n t (record c { rows = changed.rows }) kept e (record {
+        same = y.same;
+        rows = inserted_rows plain (schema_of t) columns rows c.rows changed y.rows q;
+        legal = legal_inserted plain (schema_of t) (map (new_row t.definition columns) rows) c.rows changed q;
+      })
 
 module _ (code : RawCode) (r : RawRoutine) (tables : List Contents) (vars : List Datum) (cursors : List Cursor) (h : RunsRight code r tables vars cursors) where
   right : RightRoutine code r
@@ -101,14 +133,6 @@ module _ (code : RawCode) (r : RawRoutine) (tables : List Contents) (vars : List
 
   -- ---- plans
 
-  has_table : (n : ℕ) (t : CodeTable) → slice_get code.tables n ≡ Some t → HasTable t tables n
-  has_table n t e =
-      let k = kept_at code.tables tables n t h.kept e in
-      record { contents = k.0; there = k.1; kept = k.2; checks = subst (λ d. SuitChecks t.checks d) (sym k.2.same) (checks_suit code n t h.right e) }
-
-  may_put : (n : ℕ) → MayPut code tables n
-  may_put n = if_some (λ t. HasTable t tables n) (slice_get code.tables n) (λ t e. has_table n t e)
-
   test_suits : (n : ℕ) (t : CodeTable) (test : Option (List Line)) → slice_get code.tables n ≡ Some t → Clean (test_in code r n test) → SuitsTest test vars t.definition
   test_suits n t test e c =
       let letters : columns_at code n ≡ letters_of t.definition = ap columns_of_table e in
@@ -122,12 +146,12 @@ module _ (code : RawCode) (r : RawRoutine) (tables : List Contents) (vars : List
   sets_do n t sets e c = record { variables = variables_of r; kinds = stored_letters (slots_of r) vars h.stored; fits = sets_suit code r n t [] sets e c }
 
   may_do_by : (p : Plan) → Clean (plan_faults code r p) → MayDo code r tables vars cursors p
-  may_do_by (plans.Insert table columns rows) c = may_put table
-  may_do_by (plans.InsertQuery table columns query) c = (may_ask query, may_put table)
+  may_do_by (plans.Insert table columns rows) c = put_right code tables h.right h.kept table
+  may_do_by (plans.InsertQuery table columns query) c = (may_ask query, put_right code tables h.right h.kept table)
   may_do_by (plans.Update table sets test) c =
       let parts = clean_tail (plan_fault code r (plans.Update table sets test)) (sets_in code r table sets ++ test_in code r table test) c in
       if_some (MayChange tables table vars sets test) (slice_get code.tables table) (λ t e.
-      let k = has_table table t e in
+      let k = has_table code tables h.right h.kept table t e in
       record {
         table = k;
         setting = subst (λ d. SuitSets sets vars d) (sym k.kept.same) (sets_do table t sets e (clean_first (sets_in code r table sets) (test_in code r table test) parts));
@@ -135,7 +159,7 @@ module _ (code : RawCode) (r : RawRoutine) (tables : List Contents) (vars : List
       })
   may_do_by (plans.Delete table test) c =
       if_some (MayErase tables table vars test) (slice_get code.tables table) (λ t e.
-      let k = has_table table t e in
+      let k = has_table code tables h.right h.kept table t e in
       record { table = k; testing = subst (λ d. SuitsTest test vars d) (sym k.kept.same) (test_suits table t test e (clean_tail (plan_fault code r (plans.Delete table test)) (test_in code r table test) c)) })
   may_do_by (plans.UpdateAt cursor sets) c =
       let P : CodeCursor → Cursor → Type 0 = λ x c. OverQuery r x (λ n. IfSome (slice_get code.tables n) (MayChangeAt tables n vars sets c)) in
@@ -143,7 +167,7 @@ module _ (code : RawCode) (r : RawRoutine) (tables : List Contents) (vars : List
       if_some (P x) (slice_get cursors cursor) (λ d f.
       if_some (λ q. IfSome (slice_get code.tables q.table) (MayChangeAt tables q.table vars sets d)) (slice_get r.queries x.query) (λ q a.
       if_some (MayChangeAt tables q.table vars sets d) (slice_get code.tables q.table) (λ t b.
-      let k = has_table q.table t b in
+      let k = has_table code tables h.right h.kept q.table t b in
       let table : cursor_table r cursor ≡ Some q.table = ap (λ o. table_of_query r (option_map (λ (c : CodeCursor). c.query) o)) e ∙ ap (λ o. option_map (λ (q : Query). q.table) o) a in
       let parts = clean_tail (plan_fault code r (plans.UpdateAt cursor sets)) (sets_in code r (or_none code (cursor_table r cursor)) sets) c in
       record {

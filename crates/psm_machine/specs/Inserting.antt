@@ -1,10 +1,38 @@
--- INSERT as a part of an instruction (ISO/IEC 9075:1992, 13.8).
-use Rattle.std.specs.Prelude.{ℕ, List, [], ◌*◌, length}
+-- INSERT, and how it is a part of an instruction (ISO/IEC 9075:1992, 13.8).
+use Rattle.std.specs.Prelude.{◌≡◌, ℕ, List, [], ◌*◌, length, map, slice_get, slice_set, IfSome, Result, Ok, Err}
+use Rattle.psm_cond.specs.declared.fault.DataFault.{DataFault}
+use Rattle.psm_cond.specs.declared.fault.DataFault.TheVariants as fault
+use Rattle.psm_value.specs.declared.datum.Datum.{Datum}
+use Rattle.psm_table.specs.Changing.{Changed, Failure, inserted}
+use Rattle.psm_table.specs.Table.{Contents}
+use Rattle.psm_tablecode.specs.NewRows.{new_row}
+use Rattle.psm_dml.specs.Ends.{IsDue}
+use Rattle.psm_code.specs.declared.code.CodeTable.{CodeTable}
 use Rattle.psm_code.specs.declared.code.RawCode.{RawCode}
 use Rattle.psm_code.specs.declared.code.RawRoutine.{RawRoutine}
-use Rattle.psm_code.specs.Plans.{in_rows, put_in, some_rows}
+use Rattle.psm_code.specs.Plans.{in_rows, plain, put_in, schema_of, some_rows}
 use Rattle.psm_code.specs.Querying.{answer_of, query_at}
 use Rattle.psm_code.specs.Steps.{Act, pops, ◌>>=◌}
+
+-- Table n, which was c, is due to have some rows and the statement to be about so many. It does, and the other tables stay; or the
+-- condition that is due is raised, which bears the name of the table where it is one of the table, or memory runs out, and then all
+-- tables stay.
+abbrev pub EndsIn : CodeTable → Contents → Result Changed Failure → List Contents → ℕ → List Contents → Result ℕ DataFault → Type 0
+EndsIn t c due old n new (Ok count) = (rows : List (List Datum)) × (due ≡ Ok (record { rows = rows; count = count })) × (new ≡ slice_set old n (record c { rows = rows }))
+EndsIn t c due old n new (Err (fault.Raised condition)) = IsDue t.definition due condition × (new ≡ old)
+EndsIn t c due old n new (Err fault.Memory) = new ≡ old
+
+-- what is due where rows for some columns are put into a table
+abbrev pub put_due : CodeTable → List ℕ → List (List Datum) → Contents → Result Changed Failure
+put_due t columns rows c = inserted plain (schema_of t) (map (new_row t.definition columns) rows) c.rows
+
+-- rows for some columns are put into table n, as is due
+abbrev pub PutsInto : CodeTable → ℕ → List ℕ → List (List Datum) → List Contents → List Contents → Result ℕ DataFault → Type 0
+PutsInto t n columns rows old new result = IfSome (slice_get old n) (λ c. EndsIn t c (put_due t columns rows c) old n new result)
+
+-- the same of the table of the code with that number
+abbrev pub PutsRows : RawCode → ℕ → List ℕ → List (List Datum) → List Contents → List Contents → Result ℕ DataFault → Type 0
+PutsRows code n columns rows old new result = IfSome (slice_get code.tables n) (λ t. PutsInto t n columns rows old new result)
 
 -- of so many rows, whose values stand among the operands
 abbrev pub put_operands : RawCode → ℕ → List ℕ → ℕ → Act (Unit {0})

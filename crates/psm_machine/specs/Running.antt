@@ -1,12 +1,12 @@
 -- How a run begins and how it ends.
-use Rattle.std.specs.Prelude.{◌≡◌, ℕ, suc, Bool, true, false, List, [], length, Some, Result, Ok, Err}
+use Rattle.std.specs.Prelude.{◌≡◌, ℕ, Bool, true, false, List, [], length, Some, Result, Ok, Err}
 use Rattle.std.specs.declared.alloc.AllocError.{AllocError}
 use Rattle.psm_value.specs.declared.datum.Datum.{Datum}
 use Rattle.psm_table.specs.Table.{Contents}
 use Rattle.psm_store.specs.declared.store.Mark.{Mark}
 use Rattle.psm_code.specs.declared.code.RawCode.{RawCode}
 use Rattle.psm_code.specs.declared.code.RawRoutine.{RawRoutine}
-use Rattle.psm_code.specs.Calling.{activation, before_start, entered, started}
+use Rattle.psm_code.specs.Calling.{activation, before_start, entered}
 use Rattle.psm_code.specs.Parts.{routine_at, taking}
 use Rattle.psm_code.specs.Rows.{Ran, rows}
 use Rattle.psm_code.specs.Sits.{AreKept, Sits}
@@ -53,21 +53,12 @@ pub record Takes (code : RawCode) (n : ℕ) (args : List Datum) : Type 0 where
 
 -- ---- the end
 
--- the turns that are left
-abbrev pub turns_of : state.Turned → ℕ
-turns_of (state.More m) = m.turns
-turns_of (state.Over e m) = m.turns
-
--- so many turns are left before the last of so many rows
-abbrev pub LeavesTurns : RawCode → state.Turned → ℕ → ℕ → Type 0
-LeavesTurns code from count left = (k : ℕ) × (count ≡ suc k) × (turns_of (rows code k from) ≡ left)
-
 -- a run comes to its end from there on, with these tables and turns left
 pub record Finishes (code : RawCode) (from : state.Turned) (f : Finished) (tables : List Contents) : Type 0 where
   pub count : ℕ
   pub last : state.Machine
   pub leads : rows code count from ≡ state.Over (end_of f.ending) last
-  pub left : LeavesTurns code from count f.turns
+  pub left : f.turns ≡ last.turns
   pub tables_left : last.tables ≡ tables
 
 -- the tables behind a run: those that it found, where it ended for want of turns
@@ -81,7 +72,7 @@ behind state.Lacking found last = found
 pub record RunsTo (code : RawCode) (n : ℕ) (args : List Datum) (found : List Contents) (turns : ℕ) (f : Finished) (now : List Contents) : Type 0 where
   pub last : state.Machine
   pub ran : Ran code n args found turns (end_of f.ending) last
-  pub left : LeavesTurns code (started code n args found turns) ran.count f.turns
+  pub left : f.turns ≡ last.turns
   pub tables : now ≡ behind (end_of f.ending) found last.tables
 
 -- whether what a run did to the tables stays

@@ -1,13 +1,13 @@
 //! INSERT (ISO/IEC 9075:1992, 13.8).
-ghost use Rattle.std.specs.Prelude.{◌≡◌, ◌<◌, ◌*◌, [], IfOk, IfSome, drop, map, reverse, slice_get, take};
+ghost use Rattle.std.specs.Prelude.{◌≡◌, ◌<◌, ◌*◌, [], IfOk, IfSome, IsSome, drop, map, reverse, slice_get, take};
 ghost use Rattle.psm_store.specs.Marks.{AnyMark, Keeps, most_marks};
 ghost use Rattle.psm_tablecode.specs.NewRows.{new_row, value_for};
 ghost use Rattle.psm_code.specs.Plans.{in_rows, put_in};
 ghost use Rattle.psm_code.specs.Steps.{pops};
 ghost use Rattle.psm_unwind.specs.Marks.{SameFrames};
-ghost use Rattle.psm_machine.specs.Allowed.{MayAsk, MayPut};
+ghost use Rattle.psm_machine.specs.Allowed.{HasTable, MayAsk, MayPut};
 ghost use Rattle.psm_machine.specs.Coming.{Does};
-ghost use Rattle.psm_machine.specs.Inserting.{put_operands, put_query};
+ghost use Rattle.psm_machine.specs.Inserting.{PutsInto, PutsRows, put_operands, put_query};
 ghost use Rattle.psm_machine.specs.Over.{DoesOver};
 
 use crate::operands::pop;
@@ -15,7 +15,8 @@ use crate::parting::part_of;
 use crate::plans::table_at;
 use crate::queries::{answer_of, query_at};
 use crate::stop::{Stop, stop_at};
-use psm_code::{RawCode, RawRoutine};
+use psm_code::{CodeTable, RawCode, RawRoutine};
+use psm_cond::DataFault;
 use psm_dml::insert;
 use psm_list::List;
 use psm_sqlstate::SqlState;
@@ -97,10 +98,51 @@ fn put_in<S: Store>(
     let Some(declared) = table_at(code, table) else {
         return Err(Stop::Lacking);
     };
-    let new = new_rows(alloc, &declared.definition, columns, rows)?;
-    let count = part_of(insert(alloc, store, table, declared.checks.items(), new))?;
+    let count = part_of(put_into(alloc, declared, store, table, columns, rows))?;
     run.area.set_rows(count);
     Ok(())
+}
+
+/// Puts rows of values for some columns into a table of the code, where the other columns have their DEFAULTs, and gives how many rows
+/// these are. Where that raises a condition, or memory runs out, the tables are as before.
+///
+/// The table has to be there and as the code declares it. Marks stay as they are.
+pub fn put_rows<S: Store>(
+    alloc: Global,
+    code: &RawCode,
+    store: &mut S,
+    table: u32,
+    columns: &[u32],
+    rows: &[Row],
+) -> Result<u32, DataFault>
+    requires there { IsSome (slice_get code.now.tables table) }
+    requires may { MayPut code.now (S.tables store.old) table }
+    requires room { S.marks store.old < most_marks }
+    ensures puts { PutsRows code.now table columns.now rows.now (S.tables store.old) (S.tables store.new) result }
+    ensures marks { S.marks store.new ≡ S.marks store.old }
+    ensures keeps { Keeps AnyMark (S.holds store.old) (S.at store.old) (S.holds store.new) (S.at store.new) }
+{
+    let tables = code.tables.items();
+    put_into(alloc, &tables[table as usize], store, table, columns, rows)
+}
+
+// Puts rows into the table that is declared so.
+fn put_into<S: Store>(
+    alloc: Global,
+    declared: &CodeTable,
+    store: &mut S,
+    table: u32,
+    columns: &[u32],
+    rows: &[Row],
+) -> Result<u32, DataFault>
+    requires has { HasTable declared.now (S.tables store.old) table }
+    requires room { S.marks store.old < most_marks }
+    ensures puts { PutsInto declared.now table columns.now rows.now (S.tables store.old) (S.tables store.new) result }
+    ensures marks { S.marks store.new ≡ S.marks store.old }
+    ensures keeps { Keeps AnyMark (S.holds store.old) (S.at store.old) (S.holds store.new) (S.at store.new) }
+{
+    let new = new_rows(alloc, &declared.definition, columns, rows)?;
+    insert(alloc, store, table, declared.checks.items(), new)
 }
 
 // Takes so many rows of so many values off the operands, the first of all the lowest.

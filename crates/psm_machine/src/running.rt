@@ -132,7 +132,7 @@ pub fn run<S: Store>(
     if leaves_tables(&finished) {
         store.release(mark);
     } else {
-        put_back::<S, Brand>(store, mark, Blank::new(1));
+        put_back(store, mark);
     }
     finished
 }
@@ -156,8 +156,18 @@ fn leaves_tables(finished: &Result<Finished, AllocError>) -> bool
     }
 }
 
-// Puts the tables back to what a mark stands for, and closes it. The steps aren't counted.
-fn put_back<S: Store, L: Ledger>(store: &mut S, mark: Mark, blank: Blank)
+/// Puts the tables back to what a mark stands for, and closes it. Marks outside it stay.
+pub fn put_back<S: Store>(store: &mut S, mark: Mark)
+    requires held { S.holds store.old mark }
+    ensures tables { S.tables store.new ≡ S.at store.old mark }
+    ensures marks { S.marks store.new ≡ mark.depth }
+    ensures keeps { Keeps (IsOutside mark) (S.holds store.old) (S.at store.old) (S.holds store.new) (S.at store.new) }
+{
+    put_back_in::<S, Brand>(store, mark, Blank::new(1));
+}
+
+// The same, where the steps aren't counted.
+fn put_back_in<S: Store, L: Ledger>(store: &mut S, mark: Mark, blank: Blank)
     requires name { blank.name ≡ L.name }
     requires parts { blank.parts ≡ L.parts }
     requires some { 0 < blank.parts }
