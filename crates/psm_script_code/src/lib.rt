@@ -1,0 +1,6 @@
+//! Makes the commands of an accepted script into those that are run over the code of a module file.
+#![tactic(auto)]
+
+mod laws;
+
+pub use laws::accepted_scripts_name_what_files_have;
