@@ -1,2 +1,4 @@
 pub mod Heads
 pub mod There
+pub mod Tables
+pub mod Selects
