@@ -1,1 +1,3 @@
 pub mod FileKnown
+pub mod Made
+pub mod Proper
