@@ -3,3 +3,5 @@ pub mod There
 pub mod Tables
 pub mod Selects
 pub mod Sound
+pub mod Suits
+pub mod Fits

@@ -1,0 +1,164 @@
+-- The commands that are made of sound and proper ones ask of code what it has.
+use Rattle.std.proofs.Common.{◌≡◌, ℕ, zero, suc, Bool, true, List, [], ◌∷◌, length, map, Option, Some, None, is_some, refl, ap, sym, ◌∙◌, subst, cond}
+use Rattle.std.specs.Prelude.{slice_get, if◌then◌else◌}
+use Rattle.std.specs.List.{All, AllByRecursion}
+use Rattle.std.proofs.lemmas.List.Elements.{All-from_recursion}
+use Rattle.psm_value.specs.declared.datum.Datum.{Datum}
+use Rattle.psm_exprcode.specs.declared.op.Letter.{Letter}
+use Rattle.psm_exprcode.specs.declared.query.Query.{Query}
+use Rattle.psm_exprcode.specs.Kinds.{letter_of}
+use Rattle.psm_table.specs.Definition.{kinds_of}
+use Rattle.psm_table.specs.declared.definition.TableDef.{TableDef}
+use Rattle.psm_tablecode.specs.Suits.{SuitsTable, fits_query, letters_of}
+use Rattle.psm_code.specs.declared.code.CodeTable.{CodeTable}
+use Rattle.psm_code.specs.declared.code.Parameter.{Parameter}
+use Rattle.psm_code.specs.declared.code.ParameterMode.{ParameterMode}
+use Rattle.psm_code.specs.declared.code.ParameterMode.TheVariants as modes
+use Rattle.psm_code.specs.declared.code.RawCode.{RawCode}
+use Rattle.psm_code.specs.Instructions as code_of
+use Rattle.psm_code.specs.Parts as parts
+use Rattle.psm_resolved.specs.declared.expr.ResolvedQuery.{ResolvedQuery, out-ResolvedQuery}
+use Rattle.psm_resolved.specs.declared.file.ResolvedFile.{ResolvedFile}
+use Rattle.psm_resolved.specs.declared.file.ResolvedTable.{ResolvedTable}
+use Rattle.psm_tree.specs.declared.script.ScriptTree.{ScriptTree}
+use Rattle.psm_meaning.specs.Session.{Command, Call, Insert, Select, Commit, Rollback}
+use Rattle.psm_machine.specs.Running.{Takes}
+use Rattle.psm_emit.specs.declared.known.Known.{Known}
+use Rattle.psm_emit.specs.Files.{FileWritten, known_of}
+use Rattle.psm_emit.specs.Queries.{QueryMade, column_letters, is_query}
+use Rattle.psm_emit.specs.Written.{letters_at, letters_or}
+use Rattle.psm_sound.specs.Scene.{Each}
+use Rattle.psm_sound.specs.Scripts.{IsCommand, no_routine, outside}
+use Rattle.psm_sound.specs.Queries.{IsQuery}
+use Rattle.psm_proper.specs.Files.{ProperFile}
+use Rattle.psm_proper.specs.Queries.{ProperQuery, are_proper, items_of}
+use Rattle.psm_accept.specs.ScriptsStand.{ScriptStands}
+use Rattle.psm_check_script.proofs.Named.{commands_there}
+use Rattle.psm_check_script.specs.Checked.{script_of}
+use Rattle.psm_check_script.specs.Known as checked_known
+use Rattle.psm_check_script.specs.ScriptFaults.{script_fault}
+use Rattle.psm_check_script.specs.There as checked
+use Rattle.psm_session.specs.declared.command.ScriptCommand.{ScriptCommand}
+use Rattle.psm_session.specs.declared.command.ScriptCommand.TheVariants as made
+use Rattle.psm_session.specs.Ends.{FitsCommand, FitsQuery}
+use Rattle.psm_script_code.specs.Made.{CommandMade, CommandsMade, known_of_tables}
+use Rattle.psm_script_code.specs.Proper.{ProperCommand}
+use Rattle.psm_script_code.proofs.Heads.{HasHeads, SameTables, written_heads, written_known}
+use Rattle.psm_script_code.proofs.Sound.{commands_proper, commands_sound}
+use Rattle.psm_script_code.proofs.Suits.{query_fits}
+
+-- ---- CALL
+
+taking_more : (m : ParameterMode) (p : Parameter) (ps qs : List Parameter) → length ps ≡ length qs → length (if checked.takes m then p ∷ ps else ps) ≡ length (cond (parts.takes m) (p ∷ qs) qs)
+taking_more modes.In p ps qs e = ap suc e
+taking_more modes.Out p ps qs e = e
+taking_more modes.InOut p ps qs e = ap suc e
+
+same_taking : (ps : List Parameter) → length (checked.taking ps) ≡ length (parts.taking ps)
+same_taking [] = refl
+same_taking (p ∷ ps) = taking_more p.mode p (checked.taking ps) (parts.taking ps) (same_taking ps)
+
+call_fits : (code : RawCode) (procedure routine : ℕ) (values args : List Datum) → checked.IsCall code procedure values → CommandMade code (Call procedure values) (made.Call routine args) → Takes code routine args
+call_fits code procedure routine values args is h = record {
+  routine = is.routine;
+  there = h.0 ∙ is.there;
+  many = ap length h.1 ∙ is.counted ∙ same_taking is.routine.parameters;
+}
+
+-- ---- SELECT
+
+same_letters : (ts : List ResolvedTable) (us : List CodeTable) → SameTables ts us → map column_letters ts ≡ map code_of.column_letters us
+same_letters [] [] h = refl
+same_letters [] (u ∷ us) h = absurd h
+same_letters (t ∷ ts) [] h = absurd h
+same_letters (t ∷ ts) (u ∷ us) h =
+    ap (λ (d : TableDef). map letter_of (kinds_of d.columns) ∷ map column_letters ts) (sym h.0) ∙ ap (λ ls. code_of.column_letters u ∷ ls) (same_letters ts us h.1)
+
+-- proper over the tables of a file is proper over those of its code
+pub proper_over_tables : (file : ResolvedFile) (code : RawCode) → HasHeads file code → (query : ResolvedQuery) → ProperQuery (known_of file no_routine) query → ProperQuery (known_of_tables code) query
+proper_over_tables file code h query proper =
+    let columns = same_letters file.tables code.tables h.tables in
+    record {
+      is = subst (λ ls. is_query (record (known_of_tables code) { columns = ls }) query ≡ true) columns proper.is;
+      items = subst (λ ls. are_proper (letters_at ls (out-ResolvedQuery query).table) [] (items_of query) ≡ true) columns proper.items;
+    }
+
+table_there : (ts : List ResolvedTable) (us : List CodeTable) → SameTables ts us → (n : ℕ) (t : ResolvedTable) → slice_get ts n ≡ Some t → (u : CodeTable) × (slice_get us n ≡ Some u)
+table_there [] [] h n t is = absurd cc
+table_there [] (u ∷ us) h n t is = absurd h
+table_there (x ∷ ts) [] h n t is = absurd h
+table_there (x ∷ ts) (u ∷ us) h zero t is = (u, refl)
+table_there (x ∷ ts) (u ∷ us) h (suc n) t is = table_there ts us h.1 n t is
+
+letters_there : (us : List CodeTable) (n : ℕ) (u : CodeTable) → slice_get us n ≡ Some u → letters_at (map code_of.column_letters us) n ≡ letters_of u.definition
+letters_there [] n u is = absurd cc
+letters_there (x ∷ us) zero u is = ap (λ (y : CodeTable). letters_of y.definition) some_inside
+  where
+    some_inside : x ≡ u
+    some_inside = cc
+letters_there (x ∷ us) (suc n) u is = letters_there us n u is
+
+pub select_fits : (file : ResolvedFile) (code : RawCode) → HasHeads file code → (query : ResolvedQuery) (ks : List Letter) → IsQuery (outside file) query ks → ProperQuery (known_of file no_routine) query
+    → (lines : Query) → QueryMade (known_of_tables code) query lines → FitsQuery code lines
+select_fits file code h query ks sound proper lines q =
+    let n = (out-ResolvedQuery query).table in
+    let t = table_there file.tables code.tables h.tables n sound.table sound.there in
+    record {
+      table = t.0;
+      there = ap (slice_get code.tables) q.table ∙ t.1;
+      suits = record {
+        variables = [];
+        kinds = refl;
+        fits = subst (λ ls. fits_query ls [] lines ≡ true) (letters_there code.tables n t.0 t.1) (query_fits (known_of_tables code) query lines (proper_over_tables file code h query proper) q);
+      };
+    }
+
+-- ---- commands
+
+pub command_fits : (file : ResolvedFile) (code : RawCode) → HasHeads file code → (c : Command) → IsCommand file c → ProperCommand file c → checked.IsThere code c → (m : ScriptCommand) → CommandMade code c m → FitsCommand code m
+command_fits file code h (Call procedure values) sound proper there (made.Call routine args) is = call_fits code procedure routine values args there is
+command_fits file code h (Call procedure values) sound proper there (made.Insert table columns rows) is = absurd is
+command_fits file code h (Call procedure values) sound proper there (made.Select lines) is = absurd is
+command_fits file code h (Call procedure values) sound proper there made.Commit is = absurd is
+command_fits file code h (Call procedure values) sound proper there made.Rollback is = absurd is
+command_fits file code h (Insert table columns rows) sound proper there (made.Insert at places values) is = ap (λ n. is_some (slice_get code.tables n)) is.0 ∙ there
+command_fits file code h (Insert table columns rows) sound proper there (made.Call routine args) is = absurd is
+command_fits file code h (Insert table columns rows) sound proper there (made.Select lines) is = absurd is
+command_fits file code h (Insert table columns rows) sound proper there made.Commit is = absurd is
+command_fits file code h (Insert table columns rows) sound proper there made.Rollback is = absurd is
+command_fits file code h (Select query) sound proper there (made.Select lines) is = select_fits file code h query sound.0 sound.1 proper lines is
+command_fits file code h (Select query) sound proper there (made.Call routine args) is = absurd is
+command_fits file code h (Select query) sound proper there (made.Insert table columns rows) is = absurd is
+command_fits file code h (Select query) sound proper there made.Commit is = absurd is
+command_fits file code h (Select query) sound proper there made.Rollback is = absurd is
+command_fits file code h Commit sound proper there made.Commit is = tt
+command_fits file code h Commit sound proper there (made.Call routine args) is = absurd is
+command_fits file code h Commit sound proper there (made.Insert table columns rows) is = absurd is
+command_fits file code h Commit sound proper there (made.Select lines) is = absurd is
+command_fits file code h Commit sound proper there made.Rollback is = absurd is
+command_fits file code h Rollback sound proper there made.Rollback is = tt
+command_fits file code h Rollback sound proper there (made.Call routine args) is = absurd is
+command_fits file code h Rollback sound proper there (made.Insert table columns rows) is = absurd is
+command_fits file code h Rollback sound proper there (made.Select lines) is = absurd is
+command_fits file code h Rollback sound proper there made.Commit is = absurd is
+
+all_fit : (file : ResolvedFile) (code : RawCode) → HasHeads file code → (cs : List Command) → Each (IsCommand file) cs → Each (ProperCommand file) cs → AllByRecursion (checked.IsThere code) cs
+    → (ms : List ScriptCommand) → CommandsMade code cs ms → AllByRecursion (FitsCommand code) ms
+all_fit file code h [] sound proper there [] made = tt
+all_fit file code h [] sound proper there (m ∷ ms) made = absurd made
+all_fit file code h (c ∷ cs) sound proper there [] made = absurd made
+all_fit file code h (c ∷ cs) sound proper there (m ∷ ms) made =
+    (command_fits file code h c sound.0 proper.0 there.0 m made.0, all_fit file code h cs sound.1 proper.1 there.1 ms made.1)
+
+-- ---- scripts
+
+-- an accepted script over the code of a proper file
+pub commands_fit : (file : ResolvedFile) (code : RawCode) → ProperFile file → FileWritten file code → (s : ScriptTree) → ScriptStands s → script_fault (checked_known.known_of code) s ≡ None
+    → (ms : List ScriptCommand) → CommandsMade code (script_of (checked_known.known_of code) s) ms → All (FitsCommand code) ms
+commands_fit file code h written s well none ms made =
+    let known = written_known file code written in
+    let fault = subst (λ k. script_fault k s ≡ None) known none in
+    All-from_recursion (FitsCommand code) ms (all_fit file code (written_heads file code written) (script_of (checked_known.known_of code) s)
+      (subst (λ k. Each (IsCommand file) (script_of k s)) (sym known) (commands_sound file h s well fault))
+      (subst (λ k. Each (ProperCommand file) (script_of k s)) (sym known) (commands_proper file h s well fault))
+      (commands_there code s.commands none) ms made)
