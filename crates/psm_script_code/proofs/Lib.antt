@@ -5,3 +5,4 @@ pub mod Selects
 pub mod Sound
 pub mod Suits
 pub mod Fits
+pub mod Making

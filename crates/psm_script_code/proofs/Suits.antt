@@ -22,7 +22,7 @@ use Rattle.psm_resolved.specs.declared.expr.ResolvedQuery.{ResolvedQuery, out-Re
 use Rattle.psm_resolved.specs.Sort.{Sort, Wrong, Untyped, Of, is_of, sort_of}
 use Rattle.psm_code.specs.PlanRules.{is_due}
 use Rattle.psm_emit.specs.declared.known.Known.{Known}
-use Rattle.psm_emit.specs.Queries.{AggregatesFit, ExprsFit, ItemsFit, Layer, OperandFits, QueryMade, TestFits, are_items, is_query, is_test_perhaps, is_value_of, letter_of_sort}
+use Rattle.psm_emit.specs.Queries.{AggregatesFit, ExprsFit, ItemsFit, Layer, OperandFits, QueryMade, RowTestFits, are_items, is_query, is_test_perhaps, is_value_of, letter_of_sort}
 use Rattle.psm_emit.specs.Written.{letters_at}
 use Rattle.psm_proper.specs.Queries.{ProperQuery, are_proper, is_operand, is_set_function, items_of}
 
@@ -114,7 +114,7 @@ module _ (columns variables : List Letter) where
   items_given (layers.Sets items) (coded.Rows codes) is proper fit = absurd fit
   items_given (layers.Sets items) (coded.Sets codes) is proper fit = sets_given items codes (some_sets items proper) fit
 
-  test_given : (x : Option ResolvedExpr) (code : Option (List Line)) → TestFits columns variables x code → option_map_or (gives_truth columns variables) code true ≡ true
+  test_given : (x : Option ResolvedExpr) (code : Option (List Line)) → RowTestFits columns variables x code → option_map_or (gives_truth columns variables) code true ≡ true
   test_given None None fits = refl
   test_given None (Some c) fits = absurd fits
   test_given (Some x) None fits = absurd fits
