@@ -1,5 +1,5 @@
 -- The commands that are made of sound and proper ones ask of code what it has.
-use Rattle.std.proofs.Common.{◌≡◌, ℕ, zero, suc, Bool, true, List, [], ◌∷◌, length, map, Option, Some, None, is_some, refl, ap, sym, ◌∙◌, subst, cond}
+use Rattle.std.proofs.Common.{◌≡◌, ℕ, zero, suc, true, List, [], ◌∷◌, length, map, Some, None, is_some, refl, ap, sym, ◌∙◌, subst, cond}
 use Rattle.std.specs.Prelude.{slice_get, if◌then◌else◌}
 use Rattle.std.specs.List.{All, AllByRecursion}
 use Rattle.std.proofs.lemmas.List.Elements.{All-from_recursion}
@@ -9,7 +9,7 @@ use Rattle.psm_exprcode.specs.declared.query.Query.{Query}
 use Rattle.psm_exprcode.specs.Kinds.{letter_of}
 use Rattle.psm_table.specs.Definition.{kinds_of}
 use Rattle.psm_table.specs.declared.definition.TableDef.{TableDef}
-use Rattle.psm_tablecode.specs.Suits.{SuitsTable, fits_query, letters_of}
+use Rattle.psm_tablecode.specs.Suits.{fits_query, letters_of}
 use Rattle.psm_code.specs.declared.code.CodeTable.{CodeTable}
 use Rattle.psm_code.specs.declared.code.Parameter.{Parameter}
 use Rattle.psm_code.specs.declared.code.ParameterMode.{ParameterMode}
@@ -23,10 +23,9 @@ use Rattle.psm_resolved.specs.declared.file.ResolvedTable.{ResolvedTable}
 use Rattle.psm_tree.specs.declared.script.ScriptTree.{ScriptTree}
 use Rattle.psm_meaning.specs.Session.{Command, Call, Insert, Select, Commit, Rollback}
 use Rattle.psm_machine.specs.Running.{Takes}
-use Rattle.psm_emit.specs.declared.known.Known.{Known}
 use Rattle.psm_emit.specs.Files.{FileWritten, known_of}
 use Rattle.psm_emit.specs.Queries.{QueryMade, column_letters, is_query}
-use Rattle.psm_emit.specs.Written.{letters_at, letters_or}
+use Rattle.psm_emit.specs.Written.{letters_at}
 use Rattle.psm_sound.specs.Scene.{Each}
 use Rattle.psm_sound.specs.Scripts.{IsCommand, no_routine, outside}
 use Rattle.psm_sound.specs.Queries.{IsQuery}
@@ -42,7 +41,7 @@ use Rattle.psm_session.specs.declared.command.ScriptCommand.{ScriptCommand}
 use Rattle.psm_session.specs.declared.command.ScriptCommand.TheVariants as made
 use Rattle.psm_session.specs.Ends.{FitsCommand, FitsQuery}
 use Rattle.psm_script_code.specs.Made.{CommandMade, CommandsMade, known_of_tables}
-use Rattle.psm_script_code.specs.Proper.{ProperCommand}
+use Rattle.psm_script_code.specs.Proper.{AsksTables, ProperCommand}
 use Rattle.psm_script_code.proofs.Heads.{HasHeads, SameTables, written_heads, written_known}
 use Rattle.psm_script_code.proofs.Sound.{commands_proper, commands_sound}
 use Rattle.psm_script_code.proofs.Suits.{query_fits}
@@ -117,30 +116,11 @@ select_fits file code h query ks sound proper lines q =
 
 pub command_fits : (file : ResolvedFile) (code : RawCode) → HasHeads file code → (c : Command) → IsCommand file c → ProperCommand file c → checked.IsThere code c → (m : ScriptCommand) → CommandMade code c m → FitsCommand code m
 command_fits file code h (Call procedure values) sound proper there (made.Call routine args) is = call_fits code procedure routine values args there is
-command_fits file code h (Call procedure values) sound proper there (made.Insert table columns rows) is = absurd is
-command_fits file code h (Call procedure values) sound proper there (made.Select lines) is = absurd is
-command_fits file code h (Call procedure values) sound proper there made.Commit is = absurd is
-command_fits file code h (Call procedure values) sound proper there made.Rollback is = absurd is
 command_fits file code h (Insert table columns rows) sound proper there (made.Insert at places values) is = ap (λ n. is_some (slice_get code.tables n)) is.0 ∙ there
-command_fits file code h (Insert table columns rows) sound proper there (made.Call routine args) is = absurd is
-command_fits file code h (Insert table columns rows) sound proper there (made.Select lines) is = absurd is
-command_fits file code h (Insert table columns rows) sound proper there made.Commit is = absurd is
-command_fits file code h (Insert table columns rows) sound proper there made.Rollback is = absurd is
 command_fits file code h (Select query) sound proper there (made.Select lines) is = select_fits file code h query sound.0 sound.1 proper lines is
-command_fits file code h (Select query) sound proper there (made.Call routine args) is = absurd is
-command_fits file code h (Select query) sound proper there (made.Insert table columns rows) is = absurd is
-command_fits file code h (Select query) sound proper there made.Commit is = absurd is
-command_fits file code h (Select query) sound proper there made.Rollback is = absurd is
 command_fits file code h Commit sound proper there made.Commit is = tt
-command_fits file code h Commit sound proper there (made.Call routine args) is = absurd is
-command_fits file code h Commit sound proper there (made.Insert table columns rows) is = absurd is
-command_fits file code h Commit sound proper there (made.Select lines) is = absurd is
-command_fits file code h Commit sound proper there made.Rollback is = absurd is
 command_fits file code h Rollback sound proper there made.Rollback is = tt
-command_fits file code h Rollback sound proper there (made.Call routine args) is = absurd is
-command_fits file code h Rollback sound proper there (made.Insert table columns rows) is = absurd is
-command_fits file code h Rollback sound proper there (made.Select lines) is = absurd is
-command_fits file code h Rollback sound proper there made.Commit is = absurd is
+command_fits file code h command sound proper there other is = absurd is
 
 all_fit : (file : ResolvedFile) (code : RawCode) → HasHeads file code → (cs : List Command) → Each (IsCommand file) cs → Each (ProperCommand file) cs → AllByRecursion (checked.IsThere code) cs
     → (ms : List ScriptCommand) → CommandsMade code cs ms → AllByRecursion (FitsCommand code) ms
@@ -159,6 +139,25 @@ commands_fit file code h written s well none ms made =
     let known = written_known file code written in
     let fault = subst (λ k. script_fault k s ≡ None) known none in
     All-from_recursion (FitsCommand code) ms (all_fit file code (written_heads file code written) (script_of (checked_known.known_of code) s)
-      (subst (λ k. Each (IsCommand file) (script_of k s)) (sym known) (commands_sound file h s well fault))
-      (subst (λ k. Each (ProperCommand file) (script_of k s)) (sym known) (commands_proper file h s well fault))
-      (commands_there code s.commands none) ms made)
+    (subst (λ k. Each (IsCommand file) (script_of k s)) (sym known) (commands_sound file h s well fault))
+    (subst (λ k. Each (ProperCommand file) (script_of k s)) (sym known) (commands_proper file h s well fault))
+    (commands_there code s.commands none) ms made)
+
+command_asks : (file : ResolvedFile) (code : RawCode) → HasHeads file code → (c : Command) → ProperCommand file c → AsksTables code c
+command_asks file code h (Call procedure values) proper = tt
+command_asks file code h (Insert table columns rows) proper = tt
+command_asks file code h (Select query) proper = (proper_over_tables file code h query proper).is
+command_asks file code h Commit proper = tt
+command_asks file code h Rollback proper = tt
+
+all_ask : (file : ResolvedFile) (code : RawCode) → HasHeads file code → (cs : List Command) → Each (ProperCommand file) cs → Each (AsksTables code) cs
+all_ask file code h [] proper = tt
+all_ask file code h (c ∷ cs) proper = (command_asks file code h c proper.0, all_ask file code h cs proper.1)
+
+pub commands_ask : (file : ResolvedFile) (code : RawCode) → ProperFile file → FileWritten file code → (s : ScriptTree) → ScriptStands s → script_fault (checked_known.known_of code) s ≡ None
+    → Each (AsksTables code) (script_of (checked_known.known_of code) s)
+commands_ask file code h written s well none =
+    let known = written_known file code written in
+    let fault = subst (λ k. script_fault k s ≡ None) known none in
+    all_ask file code (written_heads file code written) (script_of (checked_known.known_of code) s)
+    (subst (λ k. Each (ProperCommand file) (script_of k s)) (sym known) (commands_proper file h s well fault))

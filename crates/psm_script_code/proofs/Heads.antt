@@ -20,7 +20,7 @@ use Rattle.psm_emit.specs.Files.{FileWritten, RoutinesWritten, is_function}
 use Rattle.psm_emit.specs.Queries.{TablesMade}
 use Rattle.psm_check_script.specs.Known as checked
 use Rattle.psm_check_script.specs.Known.{Keys, Procedures, Tables, key_names, known_of, with_columns}
-use Rattle.psm_script_code.specs.FileKnown.{known_of_file, mode_of, next_procedure, parameter_of, with_key, with_keys, with_procedure, with_routine, with_routines, with_table, with_tables}
+use Rattle.psm_script_code.specs.FileKnown.{known_of_file, mode_of, next_procedure, parameter_of, with_key, with_keys, with_routine, with_routines, with_table, with_tables}
 
 -- ---- the same tables, and routines with the same heads, one for one
 

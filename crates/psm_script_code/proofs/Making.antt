@@ -1,5 +1,5 @@
 -- The commands that are made where the numbers of the procedures and the letters of the columns are at hand are those of the code.
-use Rattle.std.proofs.Common.{◌≡◌, ℕ, zero, suc, ◌+◌, Bool, true, false, List, [], ◌∷◌, ◌++◌, Option, Some, None, refl, ap, sym, ◌∙◌, subst, arith}
+use Rattle.std.proofs.Common.{◌≡◌, ℕ, zero, suc, ◌+◌, Bool, true, false, List, [], ◌∷◌, ◌++◌, Option, Some, ap, sym, ◌∙◌, subst, arith}
 use Rattle.std.specs.Prelude.{slice_get, if◌then◌else◌}
 use Rattle.std.specs.List.{All, AllByRecursion}
 use Rattle.std.proofs.lemmas.List.{map_push}
@@ -11,7 +11,7 @@ use Rattle.psm_emit.specs.declared.known.Known.{Known}
 use Rattle.psm_emit.specs.Written.{number_at}
 use Rattle.psm_check_script.specs.Seen.{command_seen, commands_seen}
 use Rattle.psm_check_script.specs.declared.command.ResolvedCommand.{ResolvedCommand}
-use Rattle.psm_check_script.specs.There.{IsCall, IsThere, procedures_in}
+use Rattle.psm_check_script.specs.There.{IsThere, procedures_in}
 use Rattle.psm_session.specs.declared.command.ScriptCommand.{ScriptCommand}
 use Rattle.psm_session.specs.declared.command.ScriptCommand.TheVariants as made
 use Rattle.psm_script_code.specs.Lowered.{AllLowered, Lowered, procedure_numbers, routine_of}

@@ -3,7 +3,6 @@ use Rattle.std.proofs.Common.{◌≡◌, Bool, true, ◌&&◌, List, None, refl,
 use Rattle.std.specs.Prelude.{IsTrue, slice_get, Some}
 use Rattle.psm_exprcode.specs.declared.op.Letter.{Letter}
 use Rattle.psm_rules.specs.ExprFaults.{query_fault, query_found}
-use Rattle.psm_tree.specs.declared.expr.Select.{Select}
 use Rattle.psm_tree.specs.declared.statement.OrderedQuery.{OrderedQuery}
 use Rattle.psm_resolved.specs.declared.expr.ResolvedItems.{out-ResolvedItems}
 use Rattle.psm_resolved.specs.declared.expr.ResolvedQuery.{ResolvedQuery, out-ResolvedQuery, out-roll-ResolvedQuery}
@@ -12,7 +11,7 @@ use Rattle.psm_resolve_expr.specs.Exprs.{query_made}
 use Rattle.psm_meaning.specs.Rows as rows
 use Rattle.psm_emit.specs.declared.known.Known as emitted
 use Rattle.psm_emit.specs.Files.{known_of}
-use Rattle.psm_emit.specs.Queries.{are_items, is_query, is_test_perhaps, item_letters}
+use Rattle.psm_emit.specs.Queries.{are_items, is_test_perhaps, item_letters}
 use Rattle.psm_emit.specs.Written.{letters_at}
 use Rattle.psm_sound.specs.Queries.{AreItems, IsQuery, IsRowTest}
 use Rattle.psm_sound.specs.Scene.{Scene, columns_of, variables_of}

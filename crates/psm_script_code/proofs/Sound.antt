@@ -1,12 +1,11 @@
 -- The commands of an accepted script over a proper file are sound and proper.
-use Rattle.std.proofs.Common.{◌≡◌, List, [], ◌∷◌, Option, Some, None, map, refl, sym, ◌∙◌, subst}
+use Rattle.std.proofs.Common.{◌≡◌, List, [], ◌∷◌, None, map, sym, ◌∙◌, subst}
 use Rattle.psm_meaning.specs.Session as made
 use Rattle.psm_tree.specs.declared.script.Command.{Command}
 use Rattle.psm_tree.specs.declared.script.Command.TheVariants as commands
 use Rattle.psm_tree.specs.declared.script.ScriptTree.{ScriptTree}
 use Rattle.psm_rules.specs.Faults.{first_of}
 use Rattle.psm_rules.proofs.Earliest.{first_of_cons}
-use Rattle.psm_code.specs.declared.code.RawCode.{RawCode}
 use Rattle.psm_resolved.specs.declared.file.ResolvedFile.{ResolvedFile}
 use Rattle.psm_sound.specs.Scene.{Each}
 use Rattle.psm_sound.specs.Scripts.{IsCommand}
@@ -21,7 +20,7 @@ use Rattle.psm_check_script.specs.ScriptFaults.{command_fault, script_fault}
 use Rattle.psm_check_script.specs.There.{IsThere}
 use Rattle.psm_script_code.specs.FileKnown.{known_of_file}
 use Rattle.psm_script_code.specs.Proper.{ProperCommand}
-use Rattle.psm_script_code.proofs.Heads.{HasHeads, heads_alone, own_heads, same_known}
+use Rattle.psm_script_code.proofs.Heads.{heads_alone, own_heads, same_known}
 use Rattle.psm_script_code.proofs.Selects.{select_is}
 use Rattle.psm_script_code.proofs.There.{call_is, table_is}
 

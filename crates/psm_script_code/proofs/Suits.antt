@@ -1,6 +1,6 @@
 -- The code of a proper query may be asked over its table: its items end with values, SUM and AVG are of numbers, and its test ends with
 -- a truth value.
-use Rattle.std.proofs.Common.{◌≡◌, Bool, true, false, ◌&&◌, ◌||◌, List, [], ◌∷◌, Option, Some, None, refl, ap, sym, ◌∙◌, subst}
+use Rattle.std.proofs.Common.{◌≡◌, Bool, true, false, ◌&&◌, ◌||◌, List, [], ◌∷◌, Option, Some, None, refl, ap, sym, subst}
 use Rattle.std.specs.List.{list_all}
 use Rattle.std.specs.Option.{option_map_or}
 use Rattle.psm_exprcode.specs.declared.aggregate.Aggregate.{Aggregate}
@@ -22,7 +22,7 @@ use Rattle.psm_resolved.specs.declared.expr.ResolvedQuery.{ResolvedQuery, out-Re
 use Rattle.psm_resolved.specs.Sort.{Sort, Wrong, Untyped, Of, is_of, sort_of}
 use Rattle.psm_code.specs.PlanRules.{is_due}
 use Rattle.psm_emit.specs.declared.known.Known.{Known}
-use Rattle.psm_emit.specs.Queries.{AggregatesFit, ExprsFit, ItemsFit, Layer, OperandFits, QueryMade, RowTestFits, are_items, is_query, is_test_perhaps, is_value_of, letter_of_sort}
+use Rattle.psm_emit.specs.Queries.{AggregatesFit, ExprsFit, ItemsFit, Layer, OperandFits, QueryMade, RowTestFits, are_items, is_test_perhaps, is_value_of, letter_of_sort}
 use Rattle.psm_emit.specs.Written.{letters_at}
 use Rattle.psm_proper.specs.Queries.{ProperQuery, are_proper, is_operand, is_set_function, items_of}
 

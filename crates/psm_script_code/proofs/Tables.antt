@@ -17,15 +17,15 @@ use Rattle.psm_table.specs.declared.definition.TableDef.{TableDef}
 use Rattle.psm_code.proofs.Faults.{two_hold}
 use Rattle.psm_code.specs.Rules as rules
 use Rattle.psm_code.specs.Rules.{each_after, is_same}
-use Rattle.psm_code.specs.TableRules.{are_there, column_fault, is_as_stored, is_column_list, key_fault, refuses_null}
+use Rattle.psm_code.specs.TableRules.{are_there, column_fault, is_as_stored, is_column_list, refuses_null}
 use Rattle.psm_code.specs.declared.rule.CodeRule.TheVariants.{Range, Definition}
 use Rattle.psm_resolved.specs.declared.file.ResolvedTable.{ResolvedTable}
 use Rattle.psm_sound.specs.Scene.{Each}
 use Rattle.psm_proper.specs.Files.{NoFault, ProperTable, are_new_names, is_name_among}
 use Rattle.psm_accept.specs.Agreement.{AreTables, HaveTypes}
-use Rattle.psm_check_script.specs.Known.{Tables, with_column, with_columns}
+use Rattle.psm_check_script.specs.Known.{Tables, with_columns}
 use Rattle.psm_check_script.proofs.NamesBefore.{sees_more}
-use Rattle.psm_script_code.specs.FileKnown.{with_table, with_tables}
+use Rattle.psm_script_code.specs.FileKnown.{with_tables}
 
 both_true : (a b : Bool) → (a && b) ≡ true → (a ≡ true) × (b ≡ true)
 both_true true b h = (refl, h)
@@ -85,7 +85,7 @@ columns_typed before known types (c ∷ cs) k h none =
     subst (λ l. HaveTypes (with_columns l cs) (types ++ c.kind ∷ kinds_of cs)) (sym last)
     (subst (HaveTypes (with_columns (known ++ (c.name, Some c.kind) ∷ []) cs)) (append_assoc types (c.kind ∷ []) (kinds_of cs))
     (columns_typed (before ++ c ∷ []) (known ++ (c.name, Some c.kind) ∷ []) (types ++ c.kind ∷ []) cs
-      (λ m. knows_more (is_column before) known c.name (Some c.kind) k is_new m ∙ column_more before c m) (typed_last known types c.name c.kind h two.0) none.1))
+    (λ m. knows_more (is_column before) known c.name (Some c.kind) k is_new m ∙ column_more before c m) (typed_last known types c.name c.kind h two.0) none.1))
 
 -- ---- tables
 
@@ -108,8 +108,8 @@ tables_known names known before (t ∷ ts) k h new proper =
     subst (λ l. AreTables (with_tables l ts) (before ++ t ∷ ts)) (sym last)
     (subst (AreTables (with_tables (known ++ (n, columns) ∷ []) ts)) (append_assoc before (t ∷ []) ts)
     (tables_known (n ∷ names) (known ++ (n, columns) ∷ []) (before ++ t ∷ []) ts
-      (λ m. knows_more (λ n. is_name_among n names) known n columns k is_new m ∙ ap (λ b. b || is_name_among m names) (spelled_back m n))
-      (table_last known before n columns t h (columns_typed [] [] [] t.definition.columns (λ m. refl) tt proper.0.columns)) two.1 proper.1))
+    (λ m. knows_more (λ n. is_name_among n names) known n columns k is_new m ∙ ap (λ b. b || is_name_among m names) (spelled_back m n))
+    (table_last known before n columns t h (columns_typed [] [] [] t.definition.columns (λ m. refl) tt proper.0.columns)) two.1 proper.1))
 
 pub known_tables : (ts : List ResolvedTable) → are_new_names [] (map (λ t. t.definition.name) ts) ≡ true → Each ProperTable ts → AreTables (with_tables [] ts) ts
 known_tables ts new proper = tables_known [] [] [] ts (λ n. refl) tt new proper

@@ -1,5 +1,5 @@
 -- The procedures and the tables that a command names in code that has the tables and heads of a file are there in the file.
-use Rattle.std.proofs.Common.{◌≡◌, ℕ, zero, suc, Bool, true, false, List, [], ◌∷◌, map, length, Option, Some, None, is_some, refl, ap, sym, ◌∙◌, subst, cond}
+use Rattle.std.proofs.Common.{◌≡◌, ℕ, zero, suc, Bool, true, false, List, [], ◌∷◌, map, length, Option, Some, is_some, refl, ap, ◌∙◌, subst, cond}
 use Rattle.std.specs.Prelude.{filter, not, slice_get, if◌then◌else◌}
 use Rattle.psm_resolved.specs.declared.file.ParameterMode.{ParameterMode}
 use Rattle.psm_resolved.specs.declared.file.ParameterMode.TheVariants as modes

@@ -1,6 +1,6 @@
 -- The commands that are run for those of an accepted script over code, one for one: a procedure has its number among all routines, a
 -- query is code over the columns of its table, and all else is the same.
-use Rattle.std.specs.Prelude.{◌≡◌, ℕ, List, [], ◌∷◌, map, slice_get}
+use Rattle.std.specs.Prelude.{◌≡◌, List, [], ◌∷◌, map, slice_get}
 use Rattle.psm_exprcode.specs.declared.op.Letter.TheVariants.{N}
 use Rattle.psm_code.specs.declared.code.RawCode.{RawCode}
 use Rattle.psm_code.specs.Instructions.{column_letters}

@@ -39,10 +39,7 @@ fn columns_of(alloc: Global, tables: &[CodeTable]) -> Result<List<List<Letter>>,
 }
 
 /// The numbers of the procedures among routines, in order.
-pub(crate) fn procedures_of(
-    alloc: Global,
-    routines: &[RawRoutine],
-) -> Result<Vec<u32>, AllocError>
+pub(crate) fn procedures_of(alloc: Global, routines: &[RawRoutine]) -> Result<Vec<u32>, AllocError>
     ensures { IfOk result (λ numbers. numbers.items ≡ procedure_numbers 0 routines.now) }
 {
     let mut numbers = Vec::new(alloc);

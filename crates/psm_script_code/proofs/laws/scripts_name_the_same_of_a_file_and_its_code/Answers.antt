@@ -1,5 +1,5 @@
 use Rattle.psm_script_code.proofs.Heads.{written_known}
-use Rattle.psm_script_code.proofs.laws.accepted_scripts_name_what_files_have.Goals as goal
+use Rattle.psm_script_code.proofs.laws.scripts_name_the_same_of_a_file_and_its_code.Goals as goal
 
 pub returns : goal.returns
 returns c = written_known
