@@ -161,3 +161,13 @@ commands_ask file code h written s well none =
     let fault = subst (λ k. script_fault k s ≡ None) known none in
     all_ask file code (written_heads file code written) (script_of (checked_known.known_of code) s)
     (subst (λ k. Each (ProperCommand file) (script_of k s)) (sym known) (commands_proper file h s well fault))
+
+-- ---- as the checker answers
+
+-- what is asked of the commands that the checker answers where they are made into others
+pub checked_there : (code : RawCode) (s : ScriptTree) (cs : List Command) → script_fault (checked_known.known_of code) s ≡ None → cs ≡ script_of (checked_known.known_of code) s → All (checked.IsThere code) cs
+checked_there code s cs none is = subst (All (checked.IsThere code)) (sym is) (All-from_recursion (checked.IsThere code) (script_of (checked_known.known_of code) s) (commands_there code s.commands none))
+
+pub checked_fit : (file : ResolvedFile) (code : RawCode) → ProperFile file → FileWritten file code → (s : ScriptTree) → ScriptStands s → script_fault (checked_known.known_of code) s ≡ None
+    → (cs : List Command) → cs ≡ script_of (checked_known.known_of code) s → (ms : List ScriptCommand) → CommandsMade code cs ms → All (FitsCommand code) ms
+checked_fit file code h written s well none cs is ms made = commands_fit file code h written s well none ms (subst (λ l. CommandsMade code l ms) is made)
