@@ -1,0 +1,42 @@
+-- The parts of pieces of text, as they are written.
+use Rattle.std.specs.Prelude.{ℕ, List, [], ◌∷◌, ◌++◌, codes, encode_utf8_all, Option, Some, None}
+use Rattle.psm_value.specs.declared.datum.Datum.{Datum}
+use Rattle.psm_value.specs.Printed.{printed}
+use Rattle.psm_cond.specs.Condition.{Entries}
+use Rattle.psm_code.specs.declared.code.Parameter.{Parameter}
+use Rattle.psm_code.specs.declared.code.ParameterMode.{ParameterMode}
+use Rattle.psm_code.specs.declared.code.ParameterMode.TheVariants.{In, Out, InOut}
+use Rattle.psm_code.specs.State.{End, Ended, Raised, NoTurns, Lacking}
+use Rattle.psm_meaning.specs.Lines.{condition_lines, line, ok_line, turns_used_line}
+
+-- ---- CALL
+
+-- `NAME = value`
+abbrev pub named_value : List ℕ → Datum → List ℕ
+named_value name d = line (encode_utf8_all name ++ codes " = " ++ printed d)
+
+-- the line of a parameter, if it gives a value back, in front of those that others have
+abbrev pub next_value : ParameterMode → List ℕ → List Datum → (List Datum → List ℕ) → List ℕ
+next_value In name ds others = others ds
+next_value Out name [] others = others []
+next_value InOut name [] others = others []
+next_value Out name (d ∷ ds) others = named_value name d ++ others ds
+next_value InOut name (d ∷ ds) others = named_value name d ++ others ds
+
+abbrev pub value_lines : List Parameter → List Datum → List ℕ
+value_lines [] ds = []
+value_lines (p ∷ ps) ds = next_value p.mode p.name ds (value_lines ps)
+
+-- the lines behind the first one, as the run of a procedure with these parameters ended
+abbrev pub end_lines : List Parameter → End → List ℕ
+end_lines parameters (Ended ds) = value_lines parameters ds ++ ok_line
+end_lines parameters (Raised c) = condition_lines c
+end_lines parameters NoTurns = turns_used_line
+end_lines parameters Lacking = []
+
+-- ---- other commands
+
+-- the lines behind the first one, where a condition is raised or none
+abbrev pub raised_lines : Option Entries → List ℕ
+raised_lines None = ok_line
+raised_lines (Some c) = condition_lines c
