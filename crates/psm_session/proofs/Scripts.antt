@@ -1,0 +1,130 @@
+-- A script, command by command, and its ends.
+use Rattle.std.proofs.Common.{◌≡◌, ℕ, zero, suc, ◌+◌, ◌<◌, ◌≤◌, Bool, true, false, List, [], ◌∷◌, ◌++◌, ◌⊎◌, inl, inr, length, take, drop, get_or, Option, refl, sym, ap, ◌∙◌, subst, append_assoc, append-nil, add-one, drop-cons, take-append-drop, length-take-le, take_all, arith}
+use Rattle.std.proofs.lemmas.List.{take_more}
+use Rattle.psm_code.specs.declared.code.RawCode.{RawCode}
+use Rattle.psm_meaning.specs.Session.{Standing}
+use Rattle.psm_session.specs.Ends.{Ends, Played, RunsOut, IsDone, IsCut, IsBroken, IsBrokenCut, IsShort}
+use Rattle.psm_session.specs.Going.{Plays, none}
+use Rattle.psm_session.specs.Put.{Sunk, PutAll, PutSome}
+use Rattle.psm_session.specs.Steps.{ComesTo, IsIdle, Makes}
+use Rattle.psm_session.specs.declared.command.ScriptCommand.{ScriptCommand}
+use Rattle.psm_session.specs.declared.script.ScriptEnd.TheVariants as ends
+use Rattle.psm_session.specs.declared.step.Step.TheVariants as steps
+use Rattle.psm_session.proofs.Commands.{plays_further}
+use Rattle.psm_session.proofs.Puts.{sunk, PutAll-nothing, PutAll-still, PutAll-then, PutSome-then}
+
+-- so many commands were played, and their pieces are put
+pub record SoFar (code : RawCode) (cs : List ScriptCommand) (i : ℕ) (s : Standing) (sink : Sunk) (t : Standing) : Type 0 where
+  pub pieces : List (List ℕ)
+  pub played : Plays code 1 s (take i cs) pieces t
+  pub put : PutAll sink pieces
+
+pub so_far_none : (code : RawCode) (cs : List ScriptCommand) (s : Standing) (w : Option (List ℕ)) (f : ℕ) → SoFar code cs 0 s (sunk w f w f) s
+so_far_none code cs s w f = record { pieces = []; played = none; put = PutAll-nothing w f }
+
+-- before the first command
+pub short_at_once : (code : RawCode) (cs : List ScriptCommand) (s t : Standing) (w : Option (List ℕ)) (f : ℕ) → t.tables ≡ s.tables → Ends code cs s (sunk w f w f) t.tables t.turns ends.Memory
+short_at_once code cs s t w f same = record {
+  pieces = [];
+  end = s;
+  played = record { first = []; later = cs; are = refl; played = none };
+  put = PutAll-nothing w f;
+  tables_are = same;
+}
+
+-- behind the last command
+pub done : (code : RawCode) (cs : List ScriptCommand) (i : ℕ) (s t : Standing) (sink : Sunk) → length cs ≤ i → SoFar code cs i s sink t → Ends code cs s sink t.tables t.turns ends.Done
+done code cs i s t sink le so_far = record {
+  pieces = so_far.pieces;
+  end = t;
+  played = subst (λ ds. Plays code 1 s ds so_far.pieces t) (take_all i cs le) so_far.played;
+  put = so_far.put;
+  tables_are = refl;
+  left = refl;
+}
+
+module _ (code : RawCode) (cs : List ScriptCommand) (i : ℕ) (c : ScriptCommand) (lt : i < length cs) (e : c ≡ get_or cs i c)
+    (s t u : Standing) (w w' w'' : Option (List ℕ)) (f f' f'' : ℕ) (so_far : SoFar code cs i s (sunk w f w' f') t) where
+  abbrev before : List ScriptCommand
+  before = take i cs
+
+  abbrev later : List ScriptCommand
+  later = drop (i + 1) cs
+
+  drop_here : drop i cs ≡ c ∷ later
+  drop_here = rw add-one (drop-cons cs i c lt ∙ ap (λ d. d ∷ drop (suc i) cs) (sym e))
+
+  take_here : take (i + 1) cs ≡ before ++ c ∷ []
+  take_here = take_more cs i c lt ∙ ap (λ d. take i cs ++ d ∷ []) (sym e)
+
+  split : cs ≡ before ++ c ∷ later
+  split = sym (take-append-drop i cs) ∙ ap (λ ds. take i cs ++ ds) drop_here
+
+  split_behind : cs ≡ (before ++ c ∷ []) ++ later
+  split_behind = split ∙ sym (append_assoc before (c ∷ []) later)
+
+  number : i + 1 ≡ length before + 1
+  number = ap (λ n. n + 1) (sym (length-take-le i cs (omega (arith, lt))))
+
+  pub so_far_next : ComesTo code (i + 1) t c (sunk w' f' w'' f'') u steps.Next → SoFar code cs (i + 1) s (sunk w f w'' f'') u
+  so_far_next step = record {
+    pieces = so_far.pieces ++ step.piece ∷ [];
+    played = subst (λ ds. Plays code 1 s ds (so_far.pieces ++ step.piece ∷ []) u) (sym take_here) (plays_further code 1 (i + 1) s t u before c so_far.pieces step.piece number so_far.played step.makes);
+    put = PutAll-then w w' w'' f f' f'' so_far.pieces (step.piece ∷ []) so_far.put step.put;
+  }
+
+  runs_out : (piece : List ℕ) (v : Standing) → Makes code (i + 1) t c false piece v → RunsOut code cs s so_far.pieces t piece
+  runs_out piece v makes = record {
+    first = before;
+    command = c;
+    later = later;
+    are = split;
+    played = so_far.played;
+    stops = (subst (λ n. Makes code n t c false piece v) number makes).0;
+  }
+
+  pub ends_turns_used : ComesTo code (i + 1) t c (sunk w' f' w'' f'') u steps.TurnsUsed → Ends code cs s (sunk w f w'' f'') u.tables u.turns ends.TurnsUsed
+  ends_turns_used step = record {
+    pieces = so_far.pieces;
+    before = t;
+    piece = step.piece;
+    runs_out = runs_out step.piece u step.makes;
+    put = PutAll-then w w' w'' f f' f'' so_far.pieces (step.piece ∷ []) so_far.put step.put;
+    tables_are = step.makes.1;
+    left = step.makes.2;
+  }
+
+  torn : (goes : Bool) (piece : List ℕ) (due : Standing) → Makes code (i + 1) t c goes piece due → PutSome (sunk w' f' w'' f'') (piece ∷ []) → u.tables ≡ due.tables
+      → IsBroken code cs s (sunk w f w'' f'') u.tables ⊎ IsBrokenCut code cs s (sunk w f w'' f'') u.tables
+  torn true piece due makes put same = inl (record {
+    pieces = so_far.pieces ++ piece ∷ [];
+    end = due;
+    played = record {
+      first = before ++ c ∷ [];
+      later = later;
+      are = split_behind;
+      played = plays_further code 1 (i + 1) s t due before c so_far.pieces piece number so_far.played makes;
+    };
+    put = PutSome-then w w' w'' f f' f'' so_far.pieces (piece ∷ []) so_far.put put;
+    tables_are = same;
+  })
+  torn false piece due makes put same = inr (record {
+    pieces = so_far.pieces;
+    before = t;
+    piece = piece;
+    runs_out = runs_out piece due makes;
+    put = PutSome-then w w' w'' f f' f'' so_far.pieces (piece ∷ []) so_far.put put;
+    tables_are = same ∙ makes.1;
+  })
+
+  pub ends_write_fault : ComesTo code (i + 1) t c (sunk w' f' w'' f'') u steps.WriteFault → Ends code cs s (sunk w f w'' f'') u.tables u.turns ends.WriteFault
+  ends_write_fault step = torn step.goes step.piece step.due step.makes step.put step.same
+
+  pub ends_memory : IsIdle t (sunk w' f' w'' f'') u → Ends code cs s (sunk w f w'' f'') u.tables u.turns ends.Memory
+  ends_memory idle = record {
+    pieces = so_far.pieces;
+    end = t;
+    played = record { first = before; later = drop i cs; are = sym (take-append-drop i cs); played = so_far.played };
+    put = PutAll-still w w' w'' f f' f'' so_far.pieces so_far.put idle.put;
+    tables_are = idle.same;
+  }

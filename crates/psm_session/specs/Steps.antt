@@ -1,0 +1,87 @@
+-- What one command of a script comes to.
+use Rattle.std.specs.Prelude.{◌≡◌, ℕ, ◌+◌, Bool, true, false, List, [], ◌∷◌, Result, Ok, Err}
+use Rattle.std.specs.declared.alloc.AllocError.{AllocError}
+use Rattle.psm_table.specs.Table.{Contents}
+use Rattle.psm_store.specs.declared.store.Mark.{Mark}
+use Rattle.psm_store.specs.Marks.{IsOutside}
+use Rattle.psm_code.specs.declared.code.RawCode.{RawCode}
+use Rattle.psm_meaning.specs.Acts.{NoTurns}
+use Rattle.psm_meaning.specs.Session.{Standing, Stopped, Went}
+use Rattle.psm_session.specs.Going.{CommandGoes}
+use Rattle.psm_session.specs.Put.{Sunk, PutAll, PutSome}
+use Rattle.psm_session.specs.declared.command.ScriptCommand.{ScriptCommand}
+use Rattle.psm_session.specs.declared.step.Step.{Step}
+use Rattle.psm_session.specs.declared.step.Step.TheVariants as steps
+
+-- the tables, the turns, and the tables to which ROLLBACK goes
+abbrev pub standing : List Contents → ℕ → List Contents → Standing
+standing tables turns committed = record { tables = tables; turns = turns; committed = committed }
+
+-- ---- pieces
+
+-- a command comes to that piece, and leaves that; where no other is due behind it, a turn was due and none was left
+abbrev pub Makes : RawCode → ℕ → Standing → ScriptCommand → Bool → List ℕ → Standing → Type 0
+Makes code k s c true piece t = CommandGoes code k s c (Went piece t)
+Makes code k s c false piece t = CommandGoes code k s c (Stopped NoTurns (piece ∷ [])) × (t.tables ≡ s.tables) × (t.turns ≡ 0)
+
+-- a piece is put; whether another command is due behind it decides between the two steps where it is put whole
+abbrev pub Puts : Bool → List ℕ → Sunk → Step → Type 0
+Puts goes piece sunk steps.Next = (goes ≡ true) × PutAll sunk (piece ∷ [])
+Puts goes piece sunk steps.TurnsUsed = (goes ≡ false) × PutAll sunk (piece ∷ [])
+Puts goes piece sunk steps.WriteFault = PutSome sunk (piece ∷ [])
+Puts goes piece sunk steps.Memory = PutAll sunk []
+
+-- the tables behind a step: those that a command found, where memory ran out
+abbrev pub tables_after : Step → List Contents → List Contents → List Contents
+tables_after steps.Next made found = made
+tables_after steps.TurnsUsed made found = made
+tables_after steps.WriteFault made found = made
+tables_after steps.Memory made found = found
+
+-- ---- steps
+
+-- nothing is put, and the tables are as before
+pub record IsIdle (s : Standing) (sunk : Sunk) (t : Standing) : Type 0 where
+  pub put : PutAll sunk []
+  pub same : t.tables ≡ s.tables
+
+-- a command comes to a piece, which is put
+pub record IsPut (code : RawCode) (k : ℕ) (s : Standing) (c : ScriptCommand) (sunk : Sunk) (goes : Bool) (t : Standing) : Type 0 where
+  pub piece : List ℕ
+  pub makes : Makes code k s c goes piece t
+  pub put : PutAll sunk (piece ∷ [])
+
+-- the piece isn't put whole, and the tables are those behind the command
+pub record IsTorn (code : RawCode) (k : ℕ) (s : Standing) (c : ScriptCommand) (sunk : Sunk) (t : Standing) : Type 0 where
+  pub goes : Bool
+  pub piece : List ℕ
+  pub due : Standing
+  pub makes : Makes code k s c goes piece due
+  pub put : PutSome sunk (piece ∷ [])
+  pub same : t.tables ≡ due.tables
+
+-- what command k comes to, and what is left then
+abbrev pub ComesTo : RawCode → ℕ → Standing → ScriptCommand → Sunk → Standing → Step → Type 0
+ComesTo code k s c sunk t steps.Next = IsPut code k s c sunk true t
+ComesTo code k s c sunk t steps.TurnsUsed = IsPut code k s c sunk false t
+ComesTo code k s c sunk t steps.WriteFault = IsTorn code k s c sunk t
+ComesTo code k s c sunk t steps.Memory = IsIdle s sunk t
+
+-- the same, where the transaction may lose its mark for want of memory
+abbrev pub Comes : RawCode → ℕ → Standing → ScriptCommand → Sunk → Standing → Result Step AllocError → Type 0
+Comes code k s c sunk t (Ok step) = ComesTo code k s c sunk t step
+Comes code k s c sunk t (Err e) = IsIdle s sunk t
+
+-- ---- the mark of the transaction
+
+-- the transaction, which had a mark, has one of the same depth. It is the deepest one, and what was outside the old one is outside it
+pub record StaysMarked (holds : Mark → Type 0) (mark : Mark) (holds_new : Mark → Type 0) (count_new : ℕ) (new : Mark) : Type 0 where
+  pub held : holds_new new
+  pub depth : new.depth ≡ mark.depth
+  pub count : count_new ≡ mark.depth + 1
+  pub inside : (outer : Mark) → holds outer → IsOutside mark outer → IsOutside new outer
+
+-- the same, or it has lost its mark
+abbrev pub Marked : {A : Type 0} → (Mark → Type 0) → Mark → (Mark → Type 0) → ℕ → Mark → Result A AllocError → Type 0
+Marked holds mark holds_new count_new new (Ok step) = StaysMarked holds mark holds_new count_new new
+Marked holds mark holds_new count_new new (Err e) = count_new ≡ mark.depth
