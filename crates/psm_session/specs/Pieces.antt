@@ -1,13 +1,17 @@
 -- The parts of pieces of text, as they are written.
-use Rattle.std.specs.Prelude.{ℕ, List, [], ◌∷◌, ◌++◌, codes, encode_utf8_all, Option, Some, None}
+use Rattle.std.specs.Prelude.{ℕ, List, [], ◌∷◌, ◌++◌, codes, encode_utf8_all, Option, Some, None, Result, Ok, Err}
 use Rattle.psm_value.specs.declared.datum.Datum.{Datum}
 use Rattle.psm_value.specs.Printed.{printed}
 use Rattle.psm_cond.specs.Condition.{Entries}
+use Rattle.psm_sqlstate.specs.declared.state.SqlState.{SqlState}
+use Rattle.psm_table.specs.Queries.{Answer}
 use Rattle.psm_code.specs.declared.code.Parameter.{Parameter}
 use Rattle.psm_code.specs.declared.code.ParameterMode.{ParameterMode}
 use Rattle.psm_code.specs.declared.code.ParameterMode.TheVariants.{In, Out, InOut}
 use Rattle.psm_code.specs.State.{End, Ended, Raised, NoTurns, Lacking}
+use Rattle.psm_meaning.specs.Acts.{of_state}
 use Rattle.psm_meaning.specs.Lines.{condition_lines, line, ok_line, turns_used_line}
+use Rattle.psm_session.specs.Going.{rows_shown}
 
 -- ---- CALL
 
@@ -33,6 +37,13 @@ end_lines parameters (Ended ds) = value_lines parameters ds ++ ok_line
 end_lines parameters (Raised c) = condition_lines c
 end_lines parameters NoTurns = turns_used_line
 end_lines parameters Lacking = []
+
+-- ---- SELECT
+
+-- the lines behind the first one, where a query has an answer or raises a condition
+abbrev pub selected_lines : Result Answer SqlState → List ℕ
+selected_lines (Ok a) = rows_shown a.skipped a.rows
+selected_lines (Err state) = condition_lines (of_state state)
 
 -- ---- other commands
 

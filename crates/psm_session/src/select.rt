@@ -1,0 +1,64 @@
+//! SELECT (ISO/IEC 9075:1992, 14.3 and 20.1).
+ghost use Rattle.std.specs.Prelude.{◌≡◌, ◌<◌, ◌++◌, ℕ, [], List, IfOk, IfSome, codes, length, slice_get};
+ghost use Rattle.psm_table.specs.Queries.{answer};
+ghost use Rattle.psm_table.specs.Table.{Contents};
+ghost use Rattle.psm_tablecode.specs.Codes.{over, query_of};
+ghost use Rattle.psm_tablecode.specs.Suits.{SuitsTable};
+ghost use Rattle.psm_code.specs.declared.code.RawCode.{RawCode};
+ghost use Rattle.psm_meaning.specs.Lines.{first_line};
+ghost use Rattle.psm_session.specs.Pieces.{selected_lines};
+ghost use Rattle.psm_session.specs.Put.{sunk_of};
+ghost use Rattle.psm_session.specs.Steps.{ComesTo, standing};
+ghost use Rattle.psm_session.specs.declared.command.ScriptCommand.TheVariants as commands;
+
+use crate::piece::{piece_of, piece_of_answer};
+use crate::step::{Made, Step, put};
+use psm_cond::DataFault;
+use psm_exprcode::Query;
+use psm_io::Sink;
+use psm_query::rows;
+use psm_store::Store;
+use std::alloc::{AllocError, Global};
+
+/// Asks a query over the tables of a store, and puts the lines of its rows.
+pub(crate) fn select<S: Store, K: Sink>(
+    alloc: Global,
+    number: u64,
+    query: &Query,
+    store: &S,
+    out: &mut K,
+) -> Step
+    requires exists { query.now.table < length (S.tables store.now) }
+    requires suits { IfSome (slice_get (S.tables store.now) query.now.table) (λ c. SuitsTable query.now [] c.def) }
+    ensures { (code : RawCode) (turns : ℕ) (committed : List Contents) → ComesTo code number (standing (S.tables store.now) turns committed) (commands.Select query.now) (sunk_of K.written K.faults out.old out.new) (standing (S.tables store.now) turns committed) result }
+{
+    match piece_of_query(alloc, number, query, store) {
+        Ok(piece) => put(
+            &Made {
+                piece,
+                goes_on: true,
+            },
+            out,
+        ),
+        Err(_) => Step::Memory,
+    }
+}
+
+fn piece_of_query<S: Store>(
+    alloc: Global,
+    number: u64,
+    query: &Query,
+    store: &S,
+) -> Result<Vec<u8>, AllocError>
+    requires exists { query.now.table < length (S.tables store.now) }
+    requires suits { IfSome (slice_get (S.tables store.now) query.now.table) (λ c. SuitsTable query.now [] c.def) }
+    ensures { IfOk result (λ piece. IfSome (slice_get (S.tables store.now) query.now.table) (λ c. piece.items ≡ first_line number (codes "SELECT") ++ selected_lines (answer (over []) (query_of query.now) c.rows))) }
+{
+    match rows(alloc, store, query, &[]) {
+        Ok(answer) => piece_of_answer(alloc, number, &answer),
+        Err(DataFault::Raised(condition)) => {
+            piece_of(alloc, number, "SELECT", "", Some(&condition))
+        }
+        Err(DataFault::Memory) => Err(AllocError),
+    }
+}
