@@ -6,13 +6,15 @@ use Rattle.psm_exprcode.specs.declared.query.Query.{Query}
 use Rattle.psm_table.specs.Queries.{Answer, answer}
 use Rattle.psm_tablecode.specs.Codes.{over, query_of}
 use Rattle.psm_table.specs.Table.{Contents}
+use Rattle.psm_code.specs.declared.code.CodeTable.{CodeTable}
 use Rattle.psm_code.specs.declared.code.RawCode.{RawCode}
+use Rattle.psm_code.specs.Sits.{AreKept}
 use Rattle.psm_meaning.specs.Lines.{first_line, ok_line}
 use Rattle.psm_meaning.specs.Session.{Standing, Went}
 use Rattle.psm_session.specs.Going.{Goes, commit, rollback, select, selected}
 use Rattle.psm_session.specs.Pieces.{selected_lines}
 use Rattle.psm_session.specs.Put.{Sunk}
-use Rattle.psm_session.specs.Steps.{ComesTo, Makes, Puts, standing, tables_after}
+use Rattle.psm_session.specs.Steps.{ComesTo, Does, IsPut, IsTorn, Makes, Puts, standing, tables_after}
 use Rattle.psm_session.specs.declared.command.ScriptCommand.{ScriptCommand}
 use Rattle.psm_session.specs.declared.command.ScriptCommand.TheVariants as commands
 use Rattle.psm_session.specs.declared.step.Step.{Step}
@@ -31,16 +33,45 @@ there [] i h = absurd (omega (arith, h))
 there (x ∷ xs) zero h = refl
 there (x ∷ xs) (suc i) h = there xs i (omega (arith, h))
 
-module _ (code : RawCode) (k : ℕ) (s : Standing) (c : ScriptCommand) (sunk : Sunk) (piece : List ℕ) (made now : List Contents) (turns : ℕ) (committed : List Contents) where
-  at_now : (goes : Bool) → now ≡ made → Makes code k s c goes piece (standing made turns committed) → Makes code k s c goes piece (standing now turns committed)
-  at_now goes e h = subst (λ tables. Makes code k s c goes piece (standing tables turns committed)) (sym e) h
+-- the mark of the command is closed
+pub closed : (code : RawCode) (k : ℕ) (s : Standing) (c : ScriptCommand) (sunk : Sunk) (made now : List Contents) (turns : ℕ) (committed : List Contents) (step : Step)
+    → Does code k s c sunk (standing made turns committed) step → now ≡ tables_after step made s.tables → ComesTo code k s c sunk (standing now turns committed) step
+closed code k s c sunk made now turns committed steps.Next h e = subst (λ tables. IsPut code k s c sunk true (standing tables turns committed)) (sym e) h
+closed code k s c sunk made now turns committed steps.TurnsUsed h e = subst (λ tables. IsPut code k s c sunk false (standing tables turns committed)) (sym e) h
+closed code k s c sunk made now turns committed steps.WriteFault h e = subst (λ tables. IsTorn code k s c sunk (standing tables turns committed)) (sym e) h
+closed code k s c sunk made now turns committed steps.Memory h e = record { put = h; same = e }
 
-  pub comes : (goes : Bool) (step : Step) → Puts goes piece sunk step → Makes code k s c goes piece (standing made turns committed) → now ≡ tables_after step made s.tables
-      → ComesTo code k s c sunk (standing now turns committed) step
-  comes goes steps.Next p h e = record { piece = piece; makes = at_now true e (subst (λ b. Makes code k s c b piece (standing made turns committed)) p.0 h); put = p.1 }
-  comes goes steps.TurnsUsed p h e = record { piece = piece; makes = at_now false e (subst (λ b. Makes code k s c b piece (standing made turns committed)) p.0 h); put = p.1 }
-  comes goes steps.WriteFault p h e = record { goes = goes; piece = piece; due = standing made turns committed; makes = h; put = p; same = e }
-  comes goes steps.Memory p h e = record { put = p; same = e }
+-- its piece is put
+pub does : (code : RawCode) (k : ℕ) (s : Standing) (c : ScriptCommand) (sunk : Sunk) (piece : List ℕ) (goes : Bool) (t : Standing) (step : Step) → Puts goes piece sunk step → Makes code k s c goes piece t → Does code k s c sunk t step
+does code k s c sunk piece goes t steps.Next p h = record { piece = piece; makes = subst (λ b. Makes code k s c b piece t) p.0 h; put = p.1 }
+does code k s c sunk piece goes t steps.TurnsUsed p h = record { piece = piece; makes = subst (λ b. Makes code k s c b piece t) p.0 h; put = p.1 }
+does code k s c sunk piece goes t steps.WriteFault p h = record { goes = goes; piece = piece; due = t; makes = h; put = p; same = refl }
+does code k s c sunk piece goes t steps.Memory p h = p
+
+-- the same where a mark was taken for the command: what it stands for is what the command found
+pub closed_at : (code : RawCode) (k : ℕ) (c : ScriptCommand) (sunk : Sunk) (old found at_found at_made made now : List Contents) (turns left : ℕ) (committed : List Contents) (step : Step)
+    → found ≡ old → at_found ≡ old → at_made ≡ at_found → Does code k (standing found turns committed) c sunk (standing made left committed) step → now ≡ tables_after step made at_made
+    → ComesTo code k (standing old turns committed) c sunk (standing now left committed) step
+closed_at code k c sunk old found at_found at_made made now turns left committed step e f g h n =
+    closed code k (standing old turns committed) c sunk made now left committed step
+    (subst (λ tables. Does code k (standing tables turns committed) c sunk (standing made left committed) step) e h) (n ∙ ap (tables_after step made) (g ∙ f))
+
+-- the same command, where what ROLLBACK goes to is the same
+pub comes_as : (code : RawCode) (k : ℕ) (s : Standing) (c d : ScriptCommand) (sunk : Sunk) (now : List Contents) (left : ℕ) (committed new : List Contents) (step : Step)
+    → d ≡ c → new ≡ committed → ComesTo code k s c sunk (standing now left committed) step → ComesTo code k s d sunk (standing now left new) step
+comes_as code k s c d sunk now left committed new step e f h =
+    subst (λ x. ComesTo code k s x sunk (standing now left new) step) (sym e) (subst (λ x. ComesTo code k s c sunk (standing now left x) step) (sym f) h)
+
+-- the tables are those of the code behind it
+pub kept_after : (ts : List CodeTable) (step : Step) (made found now : List Contents) → AreKept ts made → AreKept ts found → now ≡ tables_after step made found → AreKept ts now
+kept_after ts steps.Next made found now h k e = subst (AreKept ts) (sym e) h
+kept_after ts steps.TurnsUsed made found now h k e = subst (AreKept ts) (sym e) h
+kept_after ts steps.WriteFault made found now h k e = subst (AreKept ts) (sym e) h
+kept_after ts steps.Memory made found now h k e = subst (AreKept ts) (sym e) k
+
+pub comes : (code : RawCode) (k : ℕ) (s : Standing) (c : ScriptCommand) (sunk : Sunk) (piece : List ℕ) (made now : List Contents) (turns : ℕ) (committed : List Contents) (goes : Bool) (step : Step)
+    → Puts goes piece sunk step → Makes code k s c goes piece (standing made turns committed) → now ≡ tables_after step made s.tables → ComesTo code k s c sunk (standing now turns committed) step
+comes code k s c sunk piece made now turns committed goes step p h e = closed code k s c sunk made now turns committed step (does code k s c sunk piece goes (standing made turns committed) step p h) e
 
 -- ---- COMMIT and ROLLBACK
 

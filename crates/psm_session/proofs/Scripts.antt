@@ -9,6 +9,7 @@ use Rattle.psm_session.specs.Put.{Sunk, PutAll, PutSome}
 use Rattle.psm_session.specs.Steps.{ComesTo, IsIdle, Makes}
 use Rattle.psm_session.specs.declared.command.ScriptCommand.{ScriptCommand}
 use Rattle.psm_session.specs.declared.script.ScriptEnd.TheVariants as ends
+use Rattle.psm_session.specs.declared.step.Step.{Step}
 use Rattle.psm_session.specs.declared.step.Step.TheVariants as steps
 use Rattle.psm_session.proofs.Commands.{plays_further}
 use Rattle.psm_session.proofs.Puts.{sunk, PutAll-nothing, PutAll-still, PutAll-then, PutSome-then}
@@ -66,12 +67,18 @@ module _ (code : RawCode) (cs : List ScriptCommand) (i : ℕ) (c : ScriptCommand
   number : i + 1 ≡ length before + 1
   number = ap (λ n. n + 1) (sym (length-take-le i cs (omega (arith, lt))))
 
-  pub so_far_next : ComesTo code (i + 1) t c (sunk w' f' w'' f'') u steps.Next → SoFar code cs (i + 1) s (sunk w f w'' f'') u
-  so_far_next step = record {
-    pieces = so_far.pieces ++ step.piece ∷ [];
-    played = subst (λ ds. Plays code 1 s ds (so_far.pieces ++ step.piece ∷ []) u) (sym take_here) (plays_further code 1 (i + 1) s t u before c so_far.pieces step.piece number so_far.played step.makes);
-    put = PutAll-then w w' w'' f f' f'' so_far.pieces (step.piece ∷ []) so_far.put step.put;
-  }
+  -- what the command comes to
+  abbrev Comes : Step → Type 0
+  Comes step = ComesTo code (i + 1) t c (sunk w' f' w'' f'') u step
+
+  pub so_far_next : (step : Step) → step ≡ steps.Next → Comes step → SoFar code cs (i + 1) s (sunk w f w'' f'') u
+  so_far_next step is comes =
+      let next = subst Comes is comes in
+      record {
+        pieces = so_far.pieces ++ next.piece ∷ [];
+        played = subst (λ ds. Plays code 1 s ds (so_far.pieces ++ next.piece ∷ []) u) (sym take_here) (plays_further code 1 (i + 1) s t u before c so_far.pieces next.piece number so_far.played next.makes);
+        put = PutAll-then w w' w'' f f' f'' so_far.pieces (next.piece ∷ []) so_far.put next.put;
+      }
 
   runs_out : (piece : List ℕ) (v : Standing) → Makes code (i + 1) t c false piece v → RunsOut code cs s so_far.pieces t piece
   runs_out piece v makes = record {
@@ -83,16 +90,18 @@ module _ (code : RawCode) (cs : List ScriptCommand) (i : ℕ) (c : ScriptCommand
     stops = (subst (λ n. Makes code n t c false piece v) number makes).0;
   }
 
-  pub ends_turns_used : ComesTo code (i + 1) t c (sunk w' f' w'' f'') u steps.TurnsUsed → Ends code cs s (sunk w f w'' f'') u.tables u.turns ends.TurnsUsed
-  ends_turns_used step = record {
-    pieces = so_far.pieces;
-    before = t;
-    piece = step.piece;
-    runs_out = runs_out step.piece u step.makes;
-    put = PutAll-then w w' w'' f f' f'' so_far.pieces (step.piece ∷ []) so_far.put step.put;
-    tables_are = step.makes.1;
-    left = step.makes.2;
-  }
+  pub ends_turns_used : (step : Step) → step ≡ steps.TurnsUsed → Comes step → Ends code cs s (sunk w f w'' f'') u.tables u.turns ends.TurnsUsed
+  ends_turns_used step is comes =
+      let last = subst Comes is comes in
+      record {
+        pieces = so_far.pieces;
+        before = t;
+        piece = last.piece;
+        runs_out = runs_out last.piece u last.makes;
+        put = PutAll-then w w' w'' f f' f'' so_far.pieces (last.piece ∷ []) so_far.put last.put;
+        tables_are = last.makes.1;
+        left = last.makes.2;
+      }
 
   torn : (goes : Bool) (piece : List ℕ) (due : Standing) → Makes code (i + 1) t c goes piece due → PutSome (sunk w' f' w'' f'') (piece ∷ []) → u.tables ≡ due.tables
       → IsBroken code cs s (sunk w f w'' f'') u.tables ⊎ IsBrokenCut code cs s (sunk w f w'' f'') u.tables
@@ -117,14 +126,17 @@ module _ (code : RawCode) (cs : List ScriptCommand) (i : ℕ) (c : ScriptCommand
     tables_are = same ∙ makes.1;
   })
 
-  pub ends_write_fault : ComesTo code (i + 1) t c (sunk w' f' w'' f'') u steps.WriteFault → Ends code cs s (sunk w f w'' f'') u.tables u.turns ends.WriteFault
-  ends_write_fault step = torn step.goes step.piece step.due step.makes step.put step.same
+  pub ends_write_fault : (step : Step) → step ≡ steps.WriteFault → Comes step → Ends code cs s (sunk w f w'' f'') u.tables u.turns ends.WriteFault
+  ends_write_fault step is comes = let last = subst Comes is comes in torn last.goes last.piece last.due last.makes last.put last.same
 
-  pub ends_memory : IsIdle t (sunk w' f' w'' f'') u → Ends code cs s (sunk w f w'' f'') u.tables u.turns ends.Memory
-  ends_memory idle = record {
+  pub ends_unmarked : IsIdle t (sunk w' f' w'' f'') u → Ends code cs s (sunk w f w'' f'') u.tables u.turns ends.Memory
+  ends_unmarked idle = record {
     pieces = so_far.pieces;
     end = t;
     played = record { first = before; later = drop i cs; are = sym (take-append-drop i cs); played = so_far.played };
     put = PutAll-still w w' w'' f f' f'' so_far.pieces so_far.put idle.put;
     tables_are = idle.same;
   }
+
+  pub ends_memory : (step : Step) → step ≡ steps.Memory → Comes step → Ends code cs s (sunk w f w'' f'') u.tables u.turns ends.Memory
+  ends_memory step is comes = ends_unmarked (subst Comes is comes)

@@ -1,3 +1,5 @@
 pub mod Put
 pub mod Going
+pub mod Pieces
+pub mod Steps
 pub mod Ends

@@ -1,10 +1,12 @@
 -- What one command of a script comes to.
-use Rattle.std.specs.Prelude.{◌≡◌, ℕ, ◌+◌, Bool, true, false, List, [], ◌∷◌, Result, Ok, Err}
+use Rattle.std.specs.Prelude.{◌≡◌, ℕ, ◌+◌, Bool, true, false, List, [], ◌∷◌, Option, Some, None, Result, Ok, Err}
 use Rattle.std.specs.declared.alloc.AllocError.{AllocError}
 use Rattle.psm_table.specs.Table.{Contents}
 use Rattle.psm_store.specs.declared.store.Mark.{Mark}
 use Rattle.psm_store.specs.Marks.{IsOutside}
 use Rattle.psm_code.specs.declared.code.RawCode.{RawCode}
+use Rattle.psm_code.specs.State as state
+use Rattle.psm_code.specs.State.{End, Ended, Raised, Lacking}
 use Rattle.psm_meaning.specs.Acts.{NoTurns}
 use Rattle.psm_meaning.specs.Session.{Standing, Stopped, Went}
 use Rattle.psm_session.specs.Going.{CommandGoes}
@@ -23,6 +25,17 @@ standing tables turns committed = record { tables = tables; turns = turns; commi
 abbrev pub Makes : RawCode → ℕ → Standing → ScriptCommand → Bool → List ℕ → Standing → Type 0
 Makes code k s c true piece t = CommandGoes code k s c (Went piece t)
 Makes code k s c false piece t = CommandGoes code k s c (Stopped NoTurns (piece ∷ [])) × (t.tables ≡ s.tables) × (t.turns ≡ 0)
+
+-- whether another command is due behind a run that ended so, and how many turns it leaves
+abbrev pub goes_behind : End → Bool
+goes_behind (Ended ds) = true
+goes_behind (Raised c) = true
+goes_behind state.NoTurns = false
+goes_behind Lacking = false
+
+abbrev pub turns_left : Bool → ℕ → ℕ
+turns_left true left = left
+turns_left false left = 0
 
 -- a piece is put; whether another command is due behind it decides between the two steps where it is put whole
 abbrev pub Puts : Bool → List ℕ → Sunk → Step → Type 0
@@ -67,6 +80,13 @@ ComesTo code k s c sunk t steps.TurnsUsed = IsPut code k s c sunk false t
 ComesTo code k s c sunk t steps.WriteFault = IsTorn code k s c sunk t
 ComesTo code k s c sunk t steps.Memory = IsIdle s sunk t
 
+-- the same before the mark of the command is closed: where memory ran out the tables may be any, since they are put back yet
+abbrev pub Does : RawCode → ℕ → Standing → ScriptCommand → Sunk → Standing → Step → Type 0
+Does code k s c sunk t steps.Next = IsPut code k s c sunk true t
+Does code k s c sunk t steps.TurnsUsed = IsPut code k s c sunk false t
+Does code k s c sunk t steps.WriteFault = IsTorn code k s c sunk t
+Does code k s c sunk t steps.Memory = PutAll sunk []
+
 -- the same, where the transaction may lose its mark for want of memory
 abbrev pub Comes : RawCode → ℕ → Standing → ScriptCommand → Sunk → Standing → Result Step AllocError → Type 0
 Comes code k s c sunk t (Ok step) = ComesTo code k s c sunk t step
@@ -85,3 +105,17 @@ pub record StaysMarked (holds : Mark → Type 0) (mark : Mark) (holds_new : Mark
 abbrev pub Marked : {A : Type 0} → (Mark → Type 0) → Mark → (Mark → Type 0) → ℕ → Mark → Result A AllocError → Type 0
 Marked holds mark holds_new count_new new (Ok step) = StaysMarked holds mark holds_new count_new new
 Marked holds mark holds_new count_new new (Err e) = count_new ≡ mark.depth
+
+-- the same of the mark that is left to a transaction, if it has one
+abbrev pub MarkedOr : (Mark → Type 0) → Mark → (Mark → Type 0) → ℕ → Option Mark → Type 0
+MarkedOr holds mark holds_new count_new (Some new) = StaysMarked holds mark holds_new count_new new
+MarkedOr holds mark holds_new count_new None = count_new ≡ mark.depth
+
+-- so many marks without that of the transaction, and what is outside that
+abbrev pub marks_without : ℕ → Option Mark → ℕ
+marks_without count None = count
+marks_without count (Some mark) = mark.depth
+
+abbrev pub IsOutsideOr : Option Mark → Mark → Type 0
+IsOutsideOr None outer = Unit {0}
+IsOutsideOr (Some mark) outer = IsOutside mark outer

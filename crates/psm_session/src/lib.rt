@@ -1,8 +1,15 @@
 //! Runs a script over code and the tables of a store, command after command, and puts the piece of text of each into a sink.
 #![tactic(auto)]
 
+mod call;
 mod command;
+mod insert;
+mod lines;
+mod piece;
 mod script;
+mod select;
+mod step;
+mod transaction;
 
 pub use command::{ScriptCode, ScriptCommand};
 pub use script::{ScriptEnd, run_script};

@@ -1,18 +1,24 @@
 //! The run of a script.
-ghost use Rattle.std.specs.Prelude.{◌≡◌, ◌+◌, ◌<◌, None, All, IsTrue};
+ghost use Rattle.std.specs.Prelude.{◌≡◌, ◌+◌, ◌<◌, None, All, IfOk, IfSome, IsTrue};
 ghost use Rattle.psm_cond.specs.Sound.{is_numbered};
-ghost use Rattle.psm_store.specs.Marks.{AnyMark, Keeps};
+ghost use Rattle.psm_store.specs.Marks.{AnyMark, IsOutside, Keeps};
 ghost use Rattle.psm_code.specs.RoutineRules.{first_fault};
 ghost use Rattle.psm_code.specs.Sits.{AreKept};
 ghost use Rattle.psm_unwind.specs.Marks.{most_open};
 ghost use Rattle.psm_session.specs.Ends.{Ends, FitsCommand, beginning};
 ghost use Rattle.psm_session.specs.Put.{sunk_of};
+ghost use Rattle.psm_session.specs.Steps.{Comes, IsOutsideOr, Marked, MarkedOr, marks_without, standing};
 
-use crate::command::ScriptCode;
+use crate::call::call;
+use crate::command::{ScriptCode, ScriptCommand};
+use crate::insert::insert;
+use crate::select::select;
+use crate::step::Step;
+use crate::transaction::{commit, roll_back};
 use psm_code::RawCode;
 use psm_io::Sink;
-use psm_store::Store;
-use std::alloc::Global;
+use psm_store::{Mark, Store};
+use std::alloc::{AllocError, Global};
 
 /// How the run of a script ends.
 #[derive(Clone, Copy, Debug, PartialEq, Eq)]
@@ -54,5 +60,133 @@ pub fn run_script<S: Store, K: Sink>(
     ensures marks { S.marks store.new ≡ S.marks store.old }
     ensures keeps { Keeps AnyMark (S.holds store.old) (S.at store.old) (S.holds store.new) (S.at store.new) }
 {
-    todo
+    let Ok(mark) = store.mark(alloc) else {
+        return ScriptEnd::Memory;
+    };
+    let (end, left) = run_commands(
+        alloc,
+        code,
+        script.commands.items(),
+        mark,
+        store,
+        out,
+        turns,
+    );
+    close_left(left, store);
+    end
+}
+
+// Closes the mark of the transaction, if it has one.
+fn close_left<S: Store>(left: Option<Mark>, store: &mut S)
+    requires { IfSome left (S.holds store.old) }
+    ensures tables { S.tables store.new ≡ S.tables store.old }
+    ensures marks { S.marks store.new ≡ marks_without (S.marks store.old) left }
+    ensures keeps { Keeps (IsOutsideOr left) (S.holds store.old) (S.at store.old) (S.holds store.new) (S.at store.new) }
+{
+    match left {
+        Some(mark) => store.release(mark),
+        None => {}
+    }
+}
+
+// Runs the commands in a transaction that has a mark. It has a mark of the same depth behind them, unless there was no memory for it.
+fn run_commands<S: Store, K: Sink>(
+    alloc: Global,
+    code: &RawCode,
+    commands: &[ScriptCommand],
+    mark: Mark,
+    store: &mut S,
+    out: &mut K,
+    turns: &mut u64,
+) -> (ScriptEnd, Option<Mark>)
+    requires right { first_fault code.now ≡ None }
+    requires numbered { All (λ r. IsTrue (is_numbered r.handlers)) code.now.routines }
+    requires fits { All (FitsCommand code.now) commands.now }
+    requires kept { AreKept code.now.tables (S.tables store.old) }
+    requires few { S.marks store.old + 1 < most_open }
+    requires held { S.holds store.old mark }
+    requires counted { S.marks store.old ≡ mark.depth + 1 }
+    requires stands { S.at store.old mark ≡ S.tables store.old }
+    ensures ends { Ends code.now commands.now (beginning (S.tables store.old) turns.old) (sunk_of K.written K.faults out.old out.new) (S.tables store.new) turns.new result.0 }
+    ensures kept { AreKept code.now.tables (S.tables store.new) }
+    ensures marked { MarkedOr (S.holds store.old) mark (S.holds store.new) (S.marks store.new) result.1 }
+    ensures keeps { Keeps (IsOutside mark) (S.holds store.old) (S.at store.old) (S.holds store.new) (S.at store.new) }
+{
+    let mut transaction = mark;
+    for (index, command) in commands.iter().enumerate() {
+        let number = index as u64 + 1;
+        match run_command(
+            alloc,
+            code,
+            number,
+            command,
+            &mut transaction,
+            store,
+            out,
+            turns,
+        ) {
+            Ok(Step::Next) => {}
+            Ok(Step::TurnsUsed) => return (ScriptEnd::TurnsUsed, Some(transaction)),
+            Ok(Step::WriteFault) => return (ScriptEnd::WriteFault, Some(transaction)),
+            Ok(Step::Memory) => return (ScriptEnd::Memory, Some(transaction)),
+            Err(_) => return (ScriptEnd::Memory, None),
+        }
+    }
+    (ScriptEnd::Done, Some(transaction))
+}
+
+// Runs one command. Want of memory for a new mark of the transaction is an error.
+fn run_command<S: Store, K: Sink>(
+    alloc: Global,
+    code: &RawCode,
+    number: u64,
+    command: &ScriptCommand,
+    mark: &mut Mark,
+    store: &mut S,
+    out: &mut K,
+    turns: &mut u64,
+) -> Result<Step, AllocError>
+    requires right { first_fault code.now ≡ None }
+    requires numbered { All (λ r. IsTrue (is_numbered r.handlers)) code.now.routines }
+    requires fits { FitsCommand code.now command.now }
+    requires kept { AreKept code.now.tables (S.tables store.old) }
+    requires few { S.marks store.old + 1 < most_open }
+    requires held { S.holds store.old mark.old }
+    requires counted { S.marks store.old ≡ mark.old.depth + 1 }
+    requires committed { AreKept code.now.tables (S.at store.old mark.old) }
+    ensures comes { Comes code.now number (standing (S.tables store.old) turns.old (S.at store.old mark.old)) command.now (sunk_of K.written K.faults out.old out.new) (standing (S.tables store.new) turns.new (S.at store.new mark.new)) result }
+    ensures kept { AreKept code.now.tables (S.tables store.new) }
+    ensures committed { IfOk result (λ step. AreKept code.now.tables (S.at store.new mark.new)) }
+    ensures marked { Marked (S.holds store.old) mark.old (S.holds store.new) (S.marks store.new) mark.new result }
+    ensures keeps { Keeps (IsOutside mark.old) (S.holds store.old) (S.at store.old) (S.holds store.new) (S.at store.new) }
+{
+    match command {
+        ScriptCommand::Call { routine, values } => Ok(call(
+            alloc,
+            code,
+            number,
+            *routine,
+            values.items(),
+            store,
+            out,
+            turns,
+        )),
+        ScriptCommand::Insert {
+            table,
+            columns,
+            rows,
+        } => Ok(insert(
+            alloc,
+            code,
+            number,
+            *table,
+            columns.items(),
+            rows.items(),
+            store,
+            out,
+        )),
+        ScriptCommand::Select(query) => Ok(select(alloc, number, query, store, out)),
+        ScriptCommand::Commit => commit(alloc, number, mark, store, out),
+        ScriptCommand::Rollback => Ok(roll_back(alloc, number, *mark, store, out)),
+    }
 }
