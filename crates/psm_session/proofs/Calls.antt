@@ -1,5 +1,5 @@
 -- CALL: the piece that a run of the procedure comes to.
-use Rattle.std.proofs.Common.{◌≡◌, ℕ, Bool, true, false, List, [], ◌∷◌, ◌++◌, Option, Some, IsSome, if◌then◌else◌, refl, ap, sym, subst, ◌∙◌, append_assoc}
+use Rattle.std.proofs.Common.{◌≡◌, ℕ, Bool, true, List, [], ◌∷◌, ◌++◌, Some, if◌then◌else◌, refl, ap, sym, subst, ◌∙◌, append_assoc}
 use Rattle.std.specs.Prelude.{codes}
 use Rattle.psm_value.specs.declared.datum.Datum.{Datum}
 use Rattle.psm_table.specs.Table.{Contents}
@@ -13,7 +13,7 @@ use Rattle.psm_code.specs.Rows.{Ran}
 use Rattle.psm_code.specs.Sits.{is_due}
 use Rattle.psm_code.specs.State.{End, Ended, Raised, NoTurns, Lacking, Machine}
 use Rattle.psm_unwind.specs.View.{end_of}
-use Rattle.psm_machine.specs.Running.{RunsTo, Takes, behind}
+use Rattle.psm_machine.specs.Running.{RunsTo, behind}
 use Rattle.psm_machine.specs.declared.running.Finished.{Finished}
 use Rattle.psm_meaning.specs.Lines.{first_line, naming, ok_line}
 use Rattle.psm_meaning.specs.Session.{Went}
@@ -43,9 +43,6 @@ given [] = λ ds. refl
 given (p ∷ ps) = given_next p p.mode ps (given ps)
 
 -- ---- the end of the run
-
-pub is_there : (code : RawCode) (n : ℕ) (values : List Datum) → Takes code n values → IsSome (routine_at code n)
-is_there code n values t = rw t.there refl
 
 module _ (code : RawCode) (k n : ℕ) (values : List Datum) (tables : List Contents) (turns : ℕ) (committed : List Contents) (r : RawRoutine) (there : routine_at code n ≡ Some r) where
   abbrev First : List ℕ

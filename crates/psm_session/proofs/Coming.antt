@@ -6,9 +6,7 @@ use Rattle.psm_exprcode.specs.declared.query.Query.{Query}
 use Rattle.psm_table.specs.Queries.{Answer, answer}
 use Rattle.psm_tablecode.specs.Codes.{over, query_of}
 use Rattle.psm_table.specs.Table.{Contents}
-use Rattle.psm_code.specs.declared.code.CodeTable.{CodeTable}
 use Rattle.psm_code.specs.declared.code.RawCode.{RawCode}
-use Rattle.psm_code.specs.Sits.{AreKept}
 use Rattle.psm_meaning.specs.Lines.{first_line, ok_line}
 use Rattle.psm_meaning.specs.Session.{Standing, Went}
 use Rattle.psm_session.specs.Going.{Goes, commit, rollback, select, selected}
@@ -32,6 +30,8 @@ pub there : {A : Type 0} (xs : List A) (i : ℕ) → i < length xs → IsSome (s
 there [] i h = absurd (omega (arith, h))
 there (x ∷ xs) zero h = refl
 there (x ∷ xs) (suc i) h = there xs i (omega (arith, h))
+
+-- ---- every command
 
 -- the mark of the command is closed
 pub closed : (code : RawCode) (k : ℕ) (s : Standing) (c : ScriptCommand) (sunk : Sunk) (made now : List Contents) (turns : ℕ) (committed : List Contents) (step : Step)
@@ -62,13 +62,7 @@ pub comes_as : (code : RawCode) (k : ℕ) (s : Standing) (c d : ScriptCommand) (
 comes_as code k s c d sunk now left committed new step e f h =
     subst (λ x. ComesTo code k s x sunk (standing now left new) step) (sym e) (subst (λ x. ComesTo code k s c sunk (standing now left x) step) (sym f) h)
 
--- the tables are those of the code behind it
-pub kept_after : (ts : List CodeTable) (step : Step) (made found now : List Contents) → AreKept ts made → AreKept ts found → now ≡ tables_after step made found → AreKept ts now
-kept_after ts steps.Next made found now h k e = subst (AreKept ts) (sym e) h
-kept_after ts steps.TurnsUsed made found now h k e = subst (AreKept ts) (sym e) h
-kept_after ts steps.WriteFault made found now h k e = subst (AreKept ts) (sym e) h
-kept_after ts steps.Memory made found now h k e = subst (AreKept ts) (sym e) k
-
+-- a command that has no mark of its own
 pub comes : (code : RawCode) (k : ℕ) (s : Standing) (c : ScriptCommand) (sunk : Sunk) (piece : List ℕ) (made now : List Contents) (turns : ℕ) (committed : List Contents) (goes : Bool) (step : Step)
     → Puts goes piece sunk step → Makes code k s c goes piece (standing made turns committed) → now ≡ tables_after step made s.tables → ComesTo code k s c sunk (standing now turns committed) step
 comes code k s c sunk piece made now turns committed goes step p h e = closed code k s c sunk made now turns committed step (does code k s c sunk piece goes (standing made turns committed) step p h) e

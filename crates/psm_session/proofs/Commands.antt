@@ -1,5 +1,5 @@
 -- Commands one after another, and a further one.
-use Rattle.std.proofs.Common.{◌≡◌, ℕ, suc, ◌+◌, List, [], ◌∷◌, ◌++◌, length, ap, sym, subst, ◌∙◌, arith}
+use Rattle.std.proofs.Common.{◌≡◌, ℕ, suc, ◌+◌, List, [], ◌∷◌, ◌++◌, length, subst, arith}
 use Rattle.psm_code.specs.declared.code.RawCode.{RawCode}
 use Rattle.psm_meaning.specs.Session.{Standing, Went}
 use Rattle.psm_session.specs.Going.{CommandGoes, Plays, none, next}

@@ -1,5 +1,5 @@
 -- INSERT: the piece that rows put into a table come to.
-use Rattle.std.proofs.Common.{◌≡◌, ℕ, true, List, ◌++◌, slice_get, slice_set, Some, None, Option, IfSome, IsSome, IfOk, Result, Ok, Err, refl, ap, sym, subst, ◌∙◌}
+use Rattle.std.proofs.Common.{◌≡◌, ℕ, true, List, ◌++◌, slice_get, Some, None, IfOk, Result, Ok, Err, ap, sym, subst}
 use Rattle.std.specs.Prelude.{codes}
 use Rattle.std.specs.declared.alloc.AllocError.{AllocError}
 use Rattle.psm_value.specs.declared.datum.Datum.{Datum}

@@ -1,9 +1,9 @@
 -- A script, command by command, and its ends.
-use Rattle.std.proofs.Common.{◌≡◌, ℕ, zero, suc, ◌+◌, ◌<◌, ◌≤◌, Bool, true, false, List, [], ◌∷◌, ◌++◌, ◌⊎◌, inl, inr, length, take, drop, get_or, Option, refl, sym, ap, ◌∙◌, subst, append_assoc, append-nil, add-one, drop-cons, take-append-drop, length-take-le, take_all, arith}
+use Rattle.std.proofs.Common.{◌≡◌, ℕ, suc, ◌+◌, ◌<◌, ◌≤◌, Bool, true, false, List, [], ◌∷◌, ◌++◌, ◌⊎◌, inl, inr, length, take, drop, get_or, Option, refl, sym, ap, ◌∙◌, subst, append_assoc, add-one, drop-cons, take-append-drop, length-take-le, take_all, arith}
 use Rattle.std.proofs.lemmas.List.{take_more}
 use Rattle.psm_code.specs.declared.code.RawCode.{RawCode}
 use Rattle.psm_meaning.specs.Session.{Standing}
-use Rattle.psm_session.specs.Ends.{Ends, Played, RunsOut, IsDone, IsCut, IsBroken, IsBrokenCut, IsShort}
+use Rattle.psm_session.specs.Ends.{Ends, RunsOut, IsBroken, IsBrokenCut}
 use Rattle.psm_session.specs.Going.{Plays, none}
 use Rattle.psm_session.specs.Put.{Sunk, PutAll, PutSome}
 use Rattle.psm_session.specs.Steps.{ComesTo, IsIdle, Makes}

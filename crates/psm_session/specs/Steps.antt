@@ -80,7 +80,7 @@ ComesTo code k s c sunk t steps.TurnsUsed = IsPut code k s c sunk false t
 ComesTo code k s c sunk t steps.WriteFault = IsTorn code k s c sunk t
 ComesTo code k s c sunk t steps.Memory = IsIdle s sunk t
 
--- the same before the mark of the command is closed: where memory ran out the tables may be any, since they are put back yet
+-- the same while the command has a mark of its own: where memory ran out, the tables are put back to that yet
 abbrev pub Does : RawCode → ℕ → Standing → ScriptCommand → Sunk → Standing → Step → Type 0
 Does code k s c sunk t steps.Next = IsPut code k s c sunk true t
 Does code k s c sunk t steps.TurnsUsed = IsPut code k s c sunk false t

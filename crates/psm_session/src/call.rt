@@ -1,5 +1,5 @@
 //! CALL (ISO/IEC 9075-4:1996, call statement).
-ghost use Rattle.std.specs.Prelude.{◌≡◌, ◌<◌, ◌+◌, ℕ, All, IfOk, IsSome, IsTrue, List, None, Some};
+ghost use Rattle.std.specs.Prelude.{◌≡◌, ◌<◌, ◌+◌, All, IfOk, IsSome, IsTrue, List, None, Some};
 ghost use Rattle.psm_cond.specs.Sound.{is_numbered};
 ghost use Rattle.psm_table.specs.Table.{Contents};
 ghost use Rattle.psm_store.specs.Marks.{AnyMark, Keeps};

@@ -1,6 +1,5 @@
 //! COMMIT and ROLLBACK (ISO/IEC 9075:1992, 14.3 and 14.4).
-ghost use Rattle.std.specs.Prelude.{◌≡◌, ◌<◌, ◌+◌, ◌++◌, ℕ, true, List, IfOk};
-ghost use Rattle.psm_table.specs.Table.{Contents};
+ghost use Rattle.std.specs.Prelude.{◌≡◌, ◌<◌, ◌+◌, ◌++◌, ℕ, true, IfOk};
 ghost use Rattle.psm_store.specs.Marks.{IsOutside, Keeps, most_marks};
 ghost use Rattle.psm_code.specs.declared.code.RawCode.{RawCode};
 ghost use Rattle.psm_meaning.specs.Lines.{first_line, ok_line};

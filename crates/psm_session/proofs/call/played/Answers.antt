@@ -1,4 +1,4 @@
-use Rattle.std.proofs.Common.{List, subst, sym, ◌∙◌}
+use Rattle.std.proofs.Common.{List, subst}
 use Rattle.psm_value.specs.declared.datum.Datum.{Datum}
 use Rattle.psm_machine.specs.Running.{RunsTo}
 use Rattle.psm_session.proofs.Calls.{call_makes}
