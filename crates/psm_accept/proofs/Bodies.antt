@@ -35,7 +35,7 @@ use Rattle.psm_accept.specs.Meant.{IsProcedureMeant}
 use Rattle.psm_accept.specs.Numbered.{AreBelow}
 use Rattle.psm_accept.specs.Places.{StandsAt}
 use Rattle.psm_accept.proofs.Columns.{type-is}
-use Rattle.psm_accept.proofs.Declarations.{last_there}
+use Rattle.psm_emit.proofs.There.{there_at}
 use Rattle.psm_accept.proofs.DeclaredOnce.{each_once}
 use Rattle.psm_accept.proofs.Declaring.{kinds, kinds_once}
 use Rattle.psm_accept.proofs.Heads.{type_in_slot}
@@ -84,7 +84,7 @@ parameters-here slots more us vs n [] known is h = h
 parameters-here slots more us vs n (p ∷ ps) known is h =
     let m : Numbering = with_slot (type_in_slot p) n in
     let next : slots ≡ m.slots ++ (map type_in_slot ps ++ more) = is ∙ sym (append_assoc n.slots (type_in_slot p ∷ []) (map type_in_slot ps ++ more)) in
-    let slot : HasSlot slots (numbered n p) = record { type = type_in_slot p; declared = refl; bounded = type-is p.kind; there = last_there n.slots (type_in_slot p) slots (record { more = map type_in_slot ps ++ more; is = next }) } in
+    let slot : HasSlot slots (numbered n p) = record { type = type_in_slot p; declared = refl; bounded = type-is p.kind; there = there_at n.slots (record { more = map type_in_slot ps ++ more; is = next }) } in
     parameters-here slots more (declared_once us p.name.name (parameter_variable p)) (declared_once vs p.name.name (numbered n p)) m ps known.1 next
     (record { alike = kinds_once us vs p.name.name (parameter_variable p) (numbered n p) h.alike known.0; there = each_once (λ p. HasSlot slots p.1) vs p.name.name (numbered n p) h.there slot })
 
