@@ -2,8 +2,8 @@
 use Rattle.std.specs.Prelude.{◌≡◌, ℕ, ◌⊎◌, String, List, [], map, Some, None, string_bytes}
 use Rattle.std.specs.Global.{Global}
 use Rattle.psm_io.specs.Count.{Rose}
-use Rattle.psm_script.specs.Put.{Sunk, PutAll, PutSome, PutFirst}
-use Rattle.psm_script.specs.Session.{Session}
+use Rattle.psm_session.specs.Put.{Sunk, PutAll, PutSome, PutFirst}
+use Rattle.psm_meaning.specs.Session.{Session}
 use Rattle.psm.specs.Fetches.{Fetches, NoneFailed, Finds}
 use Rattle.psm.specs.Found.{Found, FilesAre}
 use Rattle.psm.specs.Message.{usage}

@@ -2,7 +2,7 @@
 use Rattle.std.specs.Prelude.{◌≡◌, ◌≢◌, ℕ, ◌≤◌, List, length, Option, IfSome}
 use Rattle.psm_io.specs.Count.{Rose}
 use Rattle.psm_build.specs.Program.{IsModuleFile}
-use Rattle.psm_script.specs.Session.{Session}
+use Rattle.psm_meaning.specs.Session.{Session}
 use Rattle.psm.specs.Found.{most_bytes, Found, Unread, Accepted, FilesAre}
 use Rattle.psm.specs.Words.{Files}
 

@@ -1,8 +1,8 @@
 -- What two files are found to be, by their bytes.
 use Rattle.std.specs.Prelude.{ℕ, ◌<◌, ◌≤◌, List, length}
-use Rattle.psm_build.specs.Program.{IsModuleFile, IsModuleFault, IsModuleNotBuilt, IsScriptFault, IsScriptNotBuilt, ComesTo}
+use Rattle.psm_build.specs.Program.{IsModuleFile, IsModuleFault, IsScriptFault, ComesTo}
 use Rattle.psm_build.specs.declared.fault.Fault.{Fault}
-use Rattle.psm_script.specs.Session.{Session}
+use Rattle.psm_meaning.specs.Session.{Session}
 
 -- the most bytes of a file
 abbrev pub most_bytes : ℕ
@@ -12,27 +12,25 @@ most_bytes = 16777216
 abbrev pub turns_bound : ℕ
 turns_bound = 1000000
 
--- A file could not be read; is longer than the most bytes; has that first fault, at that line and column; is
--- not of the forms that run; or is accepted, and goes on so.
+-- A file could not be read; is longer than the most bytes; has that first fault, at that line and column; or
+-- is accepted, and goes on so.
 pub data Found (A : Type 0) : Type 0 where
   Unread : Found A
   Long : Found A
   Refused : ℕ → ℕ → Fault → Found A
-  NotBuilt : Found A
   Accepted : A → Found A
 
 -- what the bytes of a file are found to be, by what is said of bytes within the bound
-abbrev pub FileIs : {A : Type 0} → (ℕ → ℕ → Fault → Type 0) → Type 0 → (A → Type 0) → List ℕ → Found A → Type 0
-FileIs IsFault IsNotBuilt Is bytes Unread = ⊥
-FileIs IsFault IsNotBuilt Is bytes Long = most_bytes < length bytes
-FileIs IsFault IsNotBuilt Is bytes (Refused line column fault) = (length bytes ≤ most_bytes) × IsFault line column fault
-FileIs IsFault IsNotBuilt Is bytes NotBuilt = (length bytes ≤ most_bytes) × IsNotBuilt
-FileIs IsFault IsNotBuilt Is bytes (Accepted a) = (length bytes ≤ most_bytes) × Is a
+abbrev pub FileIs : {A : Type 0} → (ℕ → ℕ → Fault → Type 0) → (A → Type 0) → List ℕ → Found A → Type 0
+FileIs IsFault Is bytes Unread = ⊥
+FileIs IsFault Is bytes Long = most_bytes < length bytes
+FileIs IsFault Is bytes (Refused line column fault) = (length bytes ≤ most_bytes) × IsFault line column fault
+FileIs IsFault Is bytes (Accepted a) = (length bytes ≤ most_bytes) × Is a
 
 -- what the script ss is found to be, over the module file ms
 abbrev pub ScriptIs : List ℕ → List ℕ → Found Session → Type 0
-ScriptIs ms ss found = FileIs (IsScriptFault ms ss) (IsScriptNotBuilt ms ss) (ComesTo ms ss turns_bound) ss found
+ScriptIs ms ss found = FileIs (IsScriptFault ms ss) (ComesTo ms ss turns_bound) ss found
 
 -- what the module file is found to be, and then the script
 abbrev pub FilesAre : List ℕ → List ℕ → Found (Found Session) → Type 0
-FilesAre ms ss found = FileIs (IsModuleFault ms) (IsModuleNotBuilt ms) (λ script. IsModuleFile ms × ScriptIs ms ss script) ms found
+FilesAre ms ss found = FileIs (IsModuleFault ms) (λ script. IsModuleFile ms × ScriptIs ms ss script) ms found

@@ -22,6 +22,3 @@ noun_of which.Script = codes "script"
 -- a file that is refused for a fault, with its line and column
 abbrev pub refusal_line : Which → ℕ → ℕ → Fault → List ℕ
 refusal_line w line column fault = noun_of w ++ codes " " ++ decimal line ++ codes ":" ++ decimal column ++ codes " " ++ text_of fault ++ codes "\n"
-
-abbrev pub not_built_line : Which → List ℕ
-not_built_line w = noun_of w ++ codes " not built\n"

@@ -1,11 +1,13 @@
 -- What is known of the two files, step by step.
 use Rattle.std.specs.Prelude.{◌≡◌, ℕ, ◌<◌, ◌≤◌, List, length, Option, Some, None, IfSome, Result, Ok, Err}
 use Rattle.std.specs.Global.{Vec}
-use Rattle.psm_build.specs.Program.{IsModuleFault, IsModuleNotBuilt, IsScriptFault, IsScriptNotBuilt, ComesTo, StandsFor, Code, ScriptCode}
+use Rattle.psm_build.specs.Program.{IsModuleFault, IsScriptFault, IsScriptOf, StandsFor}
 use Rattle.psm_build.specs.declared.fault.BuildFault.{BuildFault}
 use Rattle.psm_build.specs.declared.fault.BuildFault.TheVariants as builds
-use Rattle.psm_script.specs.Session.{Session}
-use Rattle.psm_script.specs.Played.{played}
+use Rattle.psm_build.specs.Played.{CanRun, PlaysAs}
+use Rattle.psm_code.specs.declared.code.RawCode.{RawCode}
+use Rattle.psm_meaning.specs.Session.{Session}
+use Rattle.psm_session.specs.declared.command.ScriptCode.{ScriptCode}
 use Rattle.psm.specs.Fetches.{Fetches, Tells, NoneFailed, IsUnread, Finds}
 use Rattle.psm.specs.Found.{most_bytes, turns_bound, Found}
 use Rattle.psm.specs.Found as found
@@ -13,7 +15,7 @@ use Rattle.psm.specs.Words.{Files}
 use Rattle.psm.specs.declared.prepare.Which.{Which}
 use Rattle.psm.specs.declared.prepare.Which.TheVariants as which
 use Rattle.psm.specs.declared.prepare.Refusal.{Refusal}
-use Rattle.psm.specs.declared.prepare.Refusal.TheVariants.{Unread, TooLong, Refused, NotBuilt, Memory}
+use Rattle.psm.specs.declared.prepare.Refusal.TheVariants.{Unread, TooLong, Refused, Memory}
 
 -- ---- a file's bytes
 
@@ -35,31 +37,27 @@ Gets fetches name w (Ok bytes) = IsRead fetches name bytes.items
 Gets fetches name w (Err (Unread x)) = (x ≡ w) × IsUnread fetches name
 Gets fetches name w (Err (TooLong x)) = (x ≡ w) × IsTooLong fetches name
 Gets fetches name w (Err (Refused x line column fault)) = ⊥
-Gets fetches name w (Err (NotBuilt x)) = ⊥
 Gets fetches name w (Err Memory) = Unit {0}
 
 -- why nothing is run, where one of the files is not built
 abbrev pub refusal_of : Which → BuildFault → Refusal
 refusal_of w (builds.Refused line column fault) = Refused w line column fault
-refusal_of w builds.NotBuilt = NotBuilt w
 refusal_of w builds.Memory = Memory
 
 -- ---- the module
 
-abbrev pub GetsCode : List ℕ → Result Code Refusal → Type 0
+abbrev pub GetsCode : List ℕ → Result RawCode Refusal → Type 0
 GetsCode ms (Ok code) = StandsFor ms code
 GetsCode ms (Err (Refused x line column fault)) = (x ≡ which.Module) × IsModuleFault ms line column fault
-GetsCode ms (Err (NotBuilt x)) = (x ≡ which.Module) × IsModuleNotBuilt ms
 GetsCode ms (Err Memory) = Unit {0}
 GetsCode ms (Err (Unread x)) = ⊥
 GetsCode ms (Err (TooLong x)) = ⊥
 
 -- ---- the script
 
-abbrev pub GetsScript : List ℕ → Code → List ℕ → Result ScriptCode Refusal → Type 0
-GetsScript ms code ss (Ok commands) = (turns : ℕ) → ComesTo ms ss turns (played code commands turns)
+abbrev pub GetsScript : List ℕ → RawCode → List ℕ → Result ScriptCode Refusal → Type 0
+GetsScript ms code ss (Ok script) = IsScriptOf code ss script.commands
 GetsScript ms code ss (Err (Refused x line column fault)) = (x ≡ which.Script) × IsScriptFault ms ss line column fault
-GetsScript ms code ss (Err (NotBuilt x)) = (x ≡ which.Script) × IsScriptNotBuilt ms ss
 GetsScript ms code ss (Err Memory) = Unit {0}
 GetsScript ms code ss (Err (Unread x)) = ⊥
 GetsScript ms code ss (Err (TooLong x)) = ⊥
@@ -74,11 +72,16 @@ found_of (TooLong which.Module) = Some found.Long
 found_of (TooLong which.Script) = Some (found.Accepted found.Long)
 found_of (Refused which.Module line column fault) = Some (found.Refused line column fault)
 found_of (Refused which.Script line column fault) = Some (found.Accepted (found.Refused line column fault))
-found_of (NotBuilt which.Module) = Some found.NotBuilt
-found_of (NotBuilt which.Script) = Some (found.Accepted found.NotBuilt)
 found_of Memory = None
 
--- both files are accepted, and come to what the code and the commands play; or a refusal tells what was found
-abbrev pub Prepares : Fetches → Files → Result (Code × ScriptCode) Refusal → Type 0
-Prepares fetches f (Ok r) = Finds fetches f (found.Accepted (found.Accepted (played r.0 r.1 turns_bound)))
+-- both files are accepted, and the commands that are given can be run over the code and play as the session that they come to
+pub record IsReady (fetches : Fetches) (f : Files) (code : RawCode) (script : ScriptCode) : Type 0 where
+  pub session : Session
+  pub finds : Finds fetches f (found.Accepted (found.Accepted session))
+  pub runs : CanRun code script.commands
+  pub plays : PlaysAs code script.commands turns_bound session
+
+-- they are ready, or a refusal tells what was found
+abbrev pub Prepares : Fetches → Files → Result (RawCode × ScriptCode) Refusal → Type 0
+Prepares fetches f (Ok r) = IsReady fetches f r.0 r.1
 Prepares fetches f (Err refusal) = IfSome (found_of refusal) (Finds fetches f)

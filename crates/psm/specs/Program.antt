@@ -1,8 +1,8 @@
 -- What is due for two files: a status and pieces of text.
 use Rattle.std.specs.Prelude.{ℕ, List, [], ◌∷◌}
-use Rattle.psm_script.specs.Session.{Session, End, Done, Stopped}
-use Rattle.psm.specs.Found.{Found, Unread, Long, Refused, NotBuilt, Accepted}
-use Rattle.psm.specs.Message.{cannot_read, too_long, refusal_line, not_built_line}
+use Rattle.psm_meaning.specs.Session.{Session, End, Cut, Done}
+use Rattle.psm.specs.Found.{Found, Unread, Long, Refused, Accepted}
+use Rattle.psm.specs.Message.{cannot_read, too_long, refusal_line}
 use Rattle.psm.specs.Words.{Files}
 use Rattle.psm.specs.declared.prepare.Which.{Which}
 use Rattle.psm.specs.declared.prepare.Which.TheVariants as which
@@ -25,12 +25,11 @@ abbrev pub due_for : {A : Type 0} → Which → List ℕ → (A → Owed) → Fo
 due_for w name next Unread = with_line status.ReadFault (cannot_read name)
 due_for w name next Long = with_line status.TooLong (too_long name)
 due_for w name next (Refused line column fault) = with_line (status_of_refused w) (refusal_line w line column fault)
-due_for w name next NotBuilt = with_line (status_of_refused w) (not_built_line w)
 due_for w name next (Accepted a) = next a
 
 abbrev pub status_at : End → Status
 status_at Done = status.Done
-status_at Stopped = status.TurnsUsed
+status_at (Cut stop) = status.TurnsUsed
 
 -- for what the two files come to
 abbrev pub due_for_session : Session → Owed

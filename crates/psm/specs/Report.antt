@@ -1,15 +1,16 @@
 -- What is put for a refusal, and for a session.
 use Rattle.std.specs.Prelude.{◌≡◌, ℕ, ◌⊎◌, List}
-use Rattle.psm_script.specs.Put.{Sunk, PutAll, PutSome, PutFirst}
-use Rattle.psm_script.specs.Session.{Session, Done, Stopped}
+use Rattle.psm_meaning.specs.Acts.{NoTurns}
+use Rattle.psm_meaning.specs.Session.{Session, Cut, Done}
+use Rattle.psm_session.specs.Put.{Sunk, PutAll, PutSome, PutFirst}
 use Rattle.psm.specs.Contract.{IsPut, IsBroken, RunsOut}
-use Rattle.psm.specs.Message.{cannot_read, too_long, refusal_line, not_built_line}
+use Rattle.psm.specs.Message.{cannot_read, too_long, refusal_line}
 use Rattle.psm.specs.Program.{Owed, with_line, status_of_refused}
 use Rattle.psm.specs.Words.{Files}
 use Rattle.psm.specs.declared.prepare.Which.{Which}
 use Rattle.psm.specs.declared.prepare.Which.TheVariants as which
 use Rattle.psm.specs.declared.prepare.Refusal.{Refusal}
-use Rattle.psm.specs.declared.prepare.Refusal.TheVariants.{Unread, TooLong, Refused, NotBuilt, Memory}
+use Rattle.psm.specs.declared.prepare.Refusal.TheVariants.{Unread, TooLong, Refused, Memory}
 use Rattle.psm.specs.declared.status.Status.{Status}
 use Rattle.psm.specs.declared.status.Status.TheVariants as status
 
@@ -25,13 +26,12 @@ abbrev pub Reports : Refusal → Files → Sunk → Status → Type 0
 Reports (Unread w) f sunk answer = PutsLine (with_line status.ReadFault (cannot_read (name_of f w))) sunk answer
 Reports (TooLong w) f sunk answer = PutsLine (with_line status.TooLong (too_long (name_of f w))) sunk answer
 Reports (Refused w line column fault) f sunk answer = PutsLine (with_line (status_of_refused w) (refusal_line w line column fault)) sunk answer
-Reports (NotBuilt w) f sunk answer = PutsLine (with_line (status_of_refused w) (not_built_line w)) sunk answer
 Reports Memory f sunk answer = RunsOut sunk answer
 
 -- the status of a session's end, with what is written
 abbrev pub Runs : Session → Sunk → Status → Type 0
 Runs s sunk status.Done = (s.end ≡ Done) × PutAll sunk s.pieces
-Runs s sunk status.TurnsUsed = (s.end ≡ Stopped) × PutAll sunk s.pieces
+Runs s sunk status.TurnsUsed = (s.end ≡ Cut NoTurns) × PutAll sunk s.pieces
 Runs s sunk status.WriteFault = PutSome sunk s.pieces
 Runs s sunk status.Memory = PutFirst sunk s.pieces
 Runs s sunk status.Usage = ⊥

@@ -1,6 +1,6 @@
 //! The lines of a file that is refused.
 ghost use Rattle.std.specs.Prelude.{◌≡◌, IfOk};
-ghost use Rattle.psm.specs.Message.{noun_of, refusal_line, not_built_line};
+ghost use Rattle.psm.specs.Message.{noun_of, refusal_line};
 
 use crate::prepare::Which;
 use itoa::Buffer;
@@ -26,16 +26,6 @@ pub(crate) fn fault_line(
     text.extend_from_slice(fault.text().as_bytes())?;
     text.extend_from_slice(b"\n")?;
     Ok(text)
-}
-
-/// The line that says which file isn't of the forms that run.
-pub(crate) fn unbuilt_line(which: Which) -> &'static str
-    ensures { result.now ≡ not_built_line which }
-{
-    match which {
-        Which::Module => "module not built\n",
-        Which::Script => "script not built\n",
-    }
 }
 
 fn noun(which: Which) -> &'static str

@@ -35,8 +35,6 @@ pub enum Refusal {
         column: u32,
         fault: Fault,
     },
-    /// The file is not of the forms that run.
-    NotBuilt(Which),
     Memory,
 }
 
@@ -111,7 +109,6 @@ fn refused_by(which: Which, fault: BuildFault) -> Refusal
             column,
             fault,
         },
-        BuildFault::NotBuilt => Refusal::NotBuilt(which),
         BuildFault::Memory => Refusal::Memory,
     }
 }

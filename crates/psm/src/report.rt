@@ -1,7 +1,8 @@
 //! What is put for a refusal, and for a script that is run.
 ghost use Rattle.std.specs.Prelude.{◌≡◌, ◌++◌, IfOk};
-ghost use Rattle.psm_script.specs.Played.{played};
-ghost use Rattle.psm_script.specs.Put.{sunk_of};
+ghost use Rattle.psm_build.specs.Played.{CanRun, PlaysAs};
+ghost use Rattle.psm_meaning.specs.Session.{Session};
+ghost use Rattle.psm_session.specs.Put.{sunk_of};
 ghost use Rattle.psm.specs.Found.{turns_bound};
 ghost use Rattle.psm.specs.Message.{refusal_line, usage};
 ghost use Rattle.psm.specs.Program.{with_line, status_of_refused};
@@ -9,29 +10,48 @@ ghost use Rattle.psm.specs.Report.{PutsLine, Reports, Runs, name_of};
 ghost use Rattle.psm.specs.Words.{named};
 ghost use Rattle.psm.specs.declared.status.Status.TheVariants as status;
 
-use crate::line::{fault_line, unbuilt_line};
+use crate::line::fault_line;
 use crate::prepare::{Refusal, Which};
 use crate::status::Status;
 use crate::words::Files;
 use psm_build::{Code, Fault, ScriptCode};
 use psm_io::{Sink, SinkFault};
-use psm_script::{ScriptEnd, run_script};
+use psm_session::{ScriptEnd, run_script};
+use psm_table::TableDef;
+use psm_undostore::UndoStore;
 use std::alloc::{AllocError, Global};
 
 /// The turns of a session.
 const TURNS: u64 = 1_000_000;
 
-/// Runs the script over the code, and puts the piece of each command.
+/// Runs the script over the code and empty tables, and puts the piece of each command.
 pub fn play<K: Sink>(alloc: Global, code: &Code, script: &ScriptCode, out: &mut K) -> Status
-    ensures { Runs (played code.now script.now turns_bound) (sunk_of K.written K.faults out.old out.new) result }
+    requires { CanRun code.now script.now.commands }
+    ensures { (s : Session) → PlaysAs code.now script.now.commands turns_bound s → Runs s (sunk_of K.written K.faults out.old out.new) result }
 {
+    let Ok(mut store) = empty_store(alloc, code) else {
+        return Status::Memory;
+    };
     let mut turns = TURNS;
-    match run_script(alloc, code, script, out, &mut turns) {
+    match run_script(alloc, code, script, &mut store, out, &mut turns) {
         ScriptEnd::Done => Status::Done,
         ScriptEnd::TurnsUsed => Status::TurnsUsed,
         ScriptEnd::WriteFault => Status::WriteFault,
         ScriptEnd::Memory => Status::Memory,
     }
+}
+
+// The tables of the code, all empty.
+fn empty_store(alloc: Global, code: &Code) -> Result<UndoStore, AllocError>
+    requires { All IsDefinition (definitions code.now) }
+    ensures tables { IfOk result (λ s. tables_of s ≡ empty_tables code.now) }
+    ensures marks { IfOk result (λ s. s.marks ≡ 0) }
+{
+    let mut defs = Vec::new(alloc);
+    for table in code.tables.items() {
+        defs.push(table.definition.copy(alloc)?)?;
+    }
+    UndoStore::new(alloc, defs)
 }
 
 /// Puts the line that shows the form of the words.
@@ -65,9 +85,6 @@ pub fn report<K: Sink>(alloc: Global, files: &Files<'_>, refusal: Refusal, out: 
             column,
             fault,
         } => report_fault(alloc, which, line, column, fault, out),
-        Refusal::NotBuilt(which) => {
-            put_line(unbuilt_line(which).as_bytes(), refused_status(which), out)
-        }
         Refusal::Memory => Status::Memory,
     }
 }

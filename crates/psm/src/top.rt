@@ -1,5 +1,5 @@
 //! The program's one call.
-ghost use Rattle.psm_script.specs.Put.{sunk_of};
+ghost use Rattle.psm_session.specs.Put.{sunk_of};
 ghost use Rattle.psm.specs.Fetches.{fetches_of};
 ghost use Rattle.psm.specs.Contract.{asked_of, Says, Completes};
 

@@ -4,7 +4,7 @@ use Rattle.psm_rules.specs.Texts as rules
 use Rattle.psm_build.specs.declared.fault.Fault.{Fault}
 use Rattle.psm_build.specs.declared.fault.Fault.TheVariants.{BadUtf8, BadChar, OpenText, OpenName, LongText, LongNumber, LongName, ManyTokens, Syntax, Deep, Broken}
 use Rattle.psm_build.specs.declared.fault.BuildFault.{BuildFault}
-use Rattle.psm_build.specs.declared.fault.BuildFault.TheVariants.{Refused, NotBuilt, Memory}
+use Rattle.psm_build.specs.declared.fault.BuildFault.TheVariants.{Refused, Memory}
 
 -- what its fault is
 abbrev pub text_of : Fault → List ℕ
@@ -23,5 +23,4 @@ text_of (Broken rule) = rules.text_of rule
 -- the same of a refusal for a fault
 abbrev pub refusal_text : BuildFault → List ℕ
 refusal_text (Refused line column fault) = text_of fault
-refusal_text NotBuilt = []
 refusal_text Memory = []

@@ -3,3 +3,4 @@ pub mod FaultTexts
 pub mod Source
 pub mod Program
 pub mod Building
+pub mod Played

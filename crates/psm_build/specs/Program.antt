@@ -1,69 +1,83 @@
 -- What the bytes of files are, and what two files come to. Above this crate nothing else is said of them.
-use Rattle.std.specs.Prelude.{◌≡◌, ℕ, ◌⊎◌, List}
-use Rattle.psm_built.specs.Session.{Session, session}
-use Rattle.psm_built.specs.declared.tree.Module.{Module}
-use Rattle.psm_built.specs.declared.tree.Script.{Script}
-pub use Rattle.psm_built.specs.declared.tree.Script.{Script as ScriptCode}
-use Rattle.psm_straight.specs.Played.{played}
-pub use Rattle.psm_straight.specs.declared.code.Code.{Code}
-use Rattle.psm_build.specs.Source.{module_files, scripts, IsFaultAt, IsRuleFault, IsUnbuilt, IsAccepted, IsModule, HasModule, IsScript, HasScript}
+use Rattle.std.specs.Prelude.{◌≡◌, ℕ, ◌⊎◌, List, None, All, IsTrue}
+use Rattle.psm_cond.specs.Sound.{is_numbered}
+use Rattle.psm_tree.specs.declared.file.FileTree.{FileTree}
+use Rattle.psm_tree.specs.declared.script.ScriptTree.{ScriptTree}
+use Rattle.psm_resolved.specs.declared.file.ResolvedFile.{ResolvedFile}
+use Rattle.psm_resolve.specs.Files.{file_made}
+use Rattle.psm_meaning.specs.Heights.{session}
+use Rattle.psm_meaning.specs.Session.{Command, Session}
+use Rattle.psm_code.specs.declared.code.RawCode.{RawCode}
+use Rattle.psm_code.specs.RoutineRules.{first_fault}
+use Rattle.psm_lower.specs.Simulation.{FileStands}
+use Rattle.psm_emit.specs.Files.{FileWritten}
+use Rattle.psm_proper.specs.Files.{ProperFile}
+use Rattle.psm_check_script.specs.Checked.{script_of}
+use Rattle.psm_check_script.specs.Known.{Known, known_of}
+use Rattle.psm_session.specs.declared.command.ScriptCommand.{ScriptCommand}
+use Rattle.psm_script_code.specs.FileKnown.{known_of_file}
+use Rattle.psm_script_code.specs.Made.{CommandsMade}
+use Rattle.psm_build.specs.Source.{module_files, scripts, IsTreeOf, IsFaultAt, IsRuleFault, IsAccepted, IsAcceptedScript, IsScriptRuleFault}
 use Rattle.psm_build.specs.declared.fault.Fault.{Fault}
 use Rattle.psm_build.specs.declared.fault.BuildFault.TheVariants.{Refused}
 
 -- ---- a module file
 
--- the bytes are a module file
+-- the bytes are a module file: they spell that tree, no part of which has a fault
 pub record IsModuleFile (bytes : List ℕ) : Type 0 where
-  pub tree : Module
-  pub file : IsModule bytes tree
+  pub tree : FileTree
+  pub tree_is : IsTreeOf module_files bytes tree
+  pub accepted : IsAccepted tree
+
+-- the module file without names
+abbrev pub file_of : {bytes : List ℕ} → IsModuleFile bytes → ResolvedFile
+file_of m = file_made m.tree
 
 -- their first fault as a module file is that one, at that line and column
 abbrev pub IsModuleFault : List ℕ → ℕ → ℕ → Fault → Type 0
 IsModuleFault bytes line column fault = IsFaultAt module_files bytes line column fault ⊎ IsRuleFault bytes (Refused line column fault)
 
--- they are read as a module file without a fault, which isn't of the forms that run
-pub record IsModuleNotBuilt (bytes : List ℕ) : Type 0 where
-  pub unbuilt : IsUnbuilt module_files HasModule bytes
-  pub accepted : IsAccepted unbuilt.tree
-
 -- ---- a script over the module file ms
 
--- the bytes ss are a script over it
+-- what a script may name over a module file
+abbrev pub known_over : {bytes : List ℕ} → IsModuleFile bytes → Known
+known_over m = known_of_file (file_of m)
+
+-- the bytes ss are a script over it: they spell that tree, no command of which has a fault
 pub record IsScriptFile (ms ss : List ℕ) : Type 0 where
-  pub tree : Module
-  pub file : IsModule ms tree
-  pub script : Script
-  pub over : IsScript tree.procedure.signature ss script
+  pub over : IsModuleFile ms
+  pub tree : ScriptTree
+  pub tree_is : IsTreeOf scripts ss tree
+  pub accepted : IsAcceptedScript (known_over over) tree
+
+-- its commands without names
+abbrev pub commands_of : {ms ss : List ℕ} → IsScriptFile ms ss → List Command
+commands_of s = script_of (known_over s.over) s.tree
 
 -- their first fault as a script over it is that one, at that line and column
 pub record IsScriptFault (ms ss : List ℕ) (line column : ℕ) (fault : Fault) : Type 0 where
-  pub tree : Module
-  pub file : IsModule ms tree
-  pub fault_is : IsFaultAt scripts ss line column fault
+  pub over : IsModuleFile ms
+  pub fault_is : IsFaultAt scripts ss line column fault ⊎ IsScriptRuleFault (known_over over) ss (Refused line column fault)
 
--- they are read as a script, which isn't of the forms that run over it
-pub record IsScriptNotBuilt (ms ss : List ℕ) : Type 0 where
-  pub tree : Module
-  pub file : IsModule ms tree
-  pub unbuilt : IsUnbuilt scripts (HasScript tree.procedure.signature) ss
-
--- the script ss over the module file ms, with so many turns, comes to these pieces, this end and the turns left
+-- the script ss over the module file ms, with so many turns, comes to these pieces, this end, these tables and turns left
 pub record ComesTo (ms ss : List ℕ) (turns : ℕ) (comes_to : Session) : Type 0 where
-  pub tree : Module
-  pub file : IsModule ms tree
-  pub script : Script
-  pub over : IsScript tree.procedure.signature ss script
-  pub session_is : comes_to ≡ session tree script turns
+  pub script : IsScriptFile ms ss
+  pub session_is : comes_to ≡ session (file_of script.over) (commands_of script) turns
 
 -- ---- code and commands
 
--- the code stands for the module file: every script plays on it as the session over the file's module
-pub record StandsFor (bytes : List ℕ) (code : Code) : Type 0 where
-  pub tree : Module
-  pub file : IsModule bytes tree
-  pub signature : code.signature ≡ tree.procedure.signature
-  pub plays : (s : Script) (turns : ℕ) → played code s turns ≡ session tree s turns
+-- the code stands for the module file, and breaks no rule
+pub record StandsFor (bytes : List ℕ) (code : RawCode) : Type 0 where
+  pub file : IsModuleFile bytes
+  pub proper : ProperFile (file_of file)
+  pub written : FileWritten (file_of file) code
+  pub stands : FileStands (file_of file) code
+  pub right : first_fault code ≡ None
+  pub numbered : All (λ r. IsTrue (is_numbered r.handlers)) code.routines
 
--- the commands are the script of the bytes, over the procedure of the code
-abbrev pub IsScriptOf : Code → List ℕ → ScriptCode → Type 0
-IsScriptOf code bytes commands = IsScript code.signature bytes commands
+-- the commands are the script of the bytes, over what the code lets it name
+pub record IsScriptOf (code : RawCode) (bytes : List ℕ) (commands : List ScriptCommand) : Type 0 where
+  pub tree : ScriptTree
+  pub tree_is : IsTreeOf scripts bytes tree
+  pub accepted : IsAcceptedScript (known_of code) tree
+  pub made : CommandsMade code (script_of (known_of code) tree) commands

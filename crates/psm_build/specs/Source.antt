@@ -14,10 +14,8 @@ use Rattle.psm_tree.specs.declared.file.FileTree.{FileTree}
 use Rattle.psm_tree.specs.declared.script.ScriptTree.{ScriptTree}
 use Rattle.psm_rules.specs.FileFaults.{file_fault}
 use Rattle.psm_rules.specs.declared.fault.Fault.{Fault as RuleFault}
-use Rattle.psm_built.specs.Built.{IsBuiltModule, IsBuiltScript}
-use Rattle.psm_built.specs.declared.tree.Module.{Module}
-use Rattle.psm_built.specs.declared.tree.Signature.{Signature}
-use Rattle.psm_built.specs.declared.tree.Script.{Script}
+use Rattle.psm_check_script.specs.Known.{Known}
+use Rattle.psm_check_script.specs.ScriptFaults.{script_fault}
 use Rattle.psm_build.specs.Told.{told_of_rule, told_of_tokens, told_of_tree}
 use Rattle.psm_build.specs.declared.fault.Fault.{Fault}
 use Rattle.psm_build.specs.declared.fault.BuildFault.{BuildFault}
@@ -54,12 +52,6 @@ pub record IsTreeFault {Y : Type 0} (L : Lang Placed Y) (bytes : List ℕ) (told
 abbrev pub IsFaultAt : {Y : Type 0} → Lang Placed Y → List ℕ → ℕ → ℕ → Fault → Type 0
 IsFaultAt L bytes line column fault = IsTokenFault bytes (Refused line column fault) ⊎ IsTreeFault L bytes (Refused line column fault)
 
--- the bytes have a tree that isn't of the forms that run
-pub record IsUnbuilt {Y : Type 0} (L : Lang Placed Y) (IsBuilt : Y → Type 0) (bytes : List ℕ) : Type 0 where
-  pub tree : Y
-  pub tree_is : IsTreeOf L bytes tree
-  pub none : IsBuilt tree → ⊥
-
 -- ---- the rules of a module file
 
 -- the first fault of the tree is told so
@@ -78,23 +70,19 @@ pub record IsRuleFault (bytes : List ℕ) (told : BuildFault) : Type 0 where
 abbrev pub IsAccepted : FileTree → Type 0
 IsAccepted tree = file_fault tree ≡ None
 
--- ---- the forms that run
+-- ---- the rules of a script, over what it may name
 
--- the bytes are the file of that module
-pub record IsModule (bytes : List ℕ) (m : Module) : Type 0 where
-  pub tree : FileTree
-  pub tree_is : IsTreeOf module_files bytes tree
-  pub accepted : IsAccepted tree
-  pub built : IsBuiltModule tree m
+abbrev pub IsAcceptedScript : Known → ScriptTree → Type 0
+IsAcceptedScript known tree = script_fault known tree ≡ None
 
-abbrev pub HasModule : FileTree → Type 0
-HasModule tree = (m : Module) × IsBuiltModule tree m
+-- the first fault of the tree is told so
+pub record BreaksScriptRule (known : Known) (tree : ScriptTree) (told : BuildFault) : Type 0 where
+  pub fault : RuleFault
+  pub first : script_fault known tree ≡ Some fault
+  pub told_is : told_of_rule fault ≡ told
 
--- the bytes are that script, over the procedure with that signature
-pub record IsScript (signature : Signature) (bytes : List ℕ) (s : Script) : Type 0 where
+-- the bytes have a tree, whose first fault is told so
+pub record IsScriptRuleFault (known : Known) (bytes : List ℕ) (told : BuildFault) : Type 0 where
   pub tree : ScriptTree
   pub tree_is : IsTreeOf scripts bytes tree
-  pub built : IsBuiltScript signature tree s
-
-abbrev pub HasScript : Signature → ScriptTree → Type 0
-HasScript signature tree = (s : Script) × IsBuiltScript signature tree s
+  pub breaks : BreaksScriptRule known tree told

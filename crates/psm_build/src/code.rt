@@ -1,27 +1,29 @@
 //! Code of a module file, and scripts over it.
 ghost use Rattle.std.specs.Prelude.{◌<◌, ℕ, List as Seq, length, IsOkUnless};
-ghost use Rattle.psm_built.specs.declared.tree.Script.{Script as TheScript};
-ghost use Rattle.psm_build.specs.Program.{IsModuleFile, StandsFor, IsScriptOf};
-ghost use Rattle.psm_build.specs.Building.{Accepts, Builds, BuildsScript, BuildsOver, GivesScript};
+ghost use Rattle.psm_build.specs.Program.{IsModuleFile, StandsFor};
+ghost use Rattle.psm_build.specs.Building.{Accepts, Builds, BuildsScript, BuildsOver, Compiles};
 
 use crate::fault::{BuildFault, refused_rule};
 use crate::read::{module_tree, script_tree};
-use psm_built::{Script, Signature, built_module, built_script};
+use psm_check_script::{CheckFault, check_script};
 use psm_check_stmt::file_fault;
-use psm_straight::{Code, lower};
+use psm_code::RawCode;
+use psm_emit::lower;
+use psm_resolve::resolve_file;
+use psm_rules::Fault;
+use psm_script_code::lower_script;
+use psm_session::ScriptCode;
 use psm_tree::FileTree;
 use std::alloc::Global;
 
-/// The code of a module file (ISO/IEC 9075-4:1996, module definitions), on which every script plays as the
-/// session over the file's module.
+/// The code of a module file (ISO/IEC 9075-4:1996, module definitions), which breaks no rule of code, and on which every script
+/// plays as the session over the file's module.
 ///
 /// # Errors
 /// `Refused` exactly where the bytes are no tokens, spell no module file or one with a fault, with the first fault: that
 /// of the tokens, the place where they stop to spell a module file, the token that opens level 101 of nesting, or the
-/// earliest part that breaks a rule. `NotBuilt` exactly where they spell a module file without a fault that isn't of the
-/// forms that run. `Memory`.
-#[tactic(auto, using(crate::proofs::Building::module_given))]
-pub fn build(alloc: Global, bytes: &[u8]) -> Result<Code, BuildFault>
+/// earliest part that breaks a rule. `Memory`.
+pub fn build(alloc: Global, bytes: &[u8]) -> Result<RawCode, BuildFault>
     requires { length bytes.now < 4294967295 }
     // What is given stands for the module file, and a fault is the file's.
     ensures builds { Builds bytes.now result }
@@ -32,21 +34,13 @@ pub fn build(alloc: Global, bytes: &[u8]) -> Result<Code, BuildFault>
 }
 
 /// The code of a module file.
-fn code_of(alloc: Global, bytes: &[u8]) -> Result<Code, BuildFault>
+fn code_of(alloc: Global, bytes: &[u8]) -> Result<RawCode, BuildFault>
     requires { length bytes.now < 4294967295 }
     ensures { Builds bytes.now result }
 {
     let tree = module_tree(alloc, bytes)?;
     accept(alloc, &tree)?;
-    let built = match built_module(alloc, &tree) {
-        Ok(Some(built)) => built,
-        Ok(None) => return Err(BuildFault::NotBuilt),
-        Err(_) => return Err(BuildFault::Memory),
-    };
-    match lower(alloc, built) {
-        Ok(code) => Ok(code),
-        Err(_) => Err(BuildFault::Memory),
-    }
+    compiled(alloc, &tree)
 }
 
 /// The first fault of a module file, if it has one.
@@ -60,33 +54,46 @@ fn accept(alloc: Global, tree: &FileTree) -> Result<(), BuildFault>
     }
 }
 
-/// The script over the procedure of that code.
-///
-/// # Errors
-/// `Refused` exactly where the bytes are no tokens or spell no script, with the first fault, as of a module
-/// file. `NotBuilt` exactly where they spell a script that isn't of the forms that run over the code. `Memory`.
-#[tactic(auto, using(crate::proofs::Building::script_given, crate::proofs::Building::built_over))]
-pub fn build_script(alloc: Global, code: &Code, bytes: &[u8]) -> Result<Script, BuildFault>
-    requires { length bytes.now < 4294967295 }
-    // What is given is the file's script, and a fault is the file's.
-    ensures builds { BuildsScript code.now.signature bytes.now result }
-    // A script is built, unless memory runs out.
-    ensures only { (s : TheScript) → IsScriptOf code.now bytes.now s → GivesScript s result }
-    // Over code that stands for a module file, what is given plays what the two files come to.
-    ensures over { (ms : Seq ℕ) → StandsFor ms code.now → BuildsOver ms code.now bytes.now result }
+/// The code that is written for a tree whose names are put away.
+fn compiled(alloc: Global, tree: &FileTree) -> Result<RawCode, BuildFault>
+    ensures { Compiles tree.now result }
 {
-    script_over(alloc, &code.signature, bytes)
+    let Ok(file) = resolve_file(alloc, tree) else {
+        return Err(BuildFault::Memory);
+    };
+    match lower(alloc, &file) {
+        Ok(code) => Ok(code),
+        Err(_) => Err(BuildFault::Memory),
+    }
 }
 
-/// The script over the procedure with that signature.
-fn script_over(alloc: Global, signature: &Signature, bytes: &[u8]) -> Result<Script, BuildFault>
+/// The commands of a script over code (ISO/IEC 9075-4:1996, call statement, and ISO/IEC 9075:1992, 13.8, 7.9, 14.3 and 14.4).
+///
+/// # Errors
+/// `Refused` exactly where the bytes are no tokens, spell no script or one with a fault over the tables and procedures of the code,
+/// with the first fault, as of a module file. `Memory`.
+pub fn build_script(alloc: Global, code: &RawCode, bytes: &[u8]) -> Result<ScriptCode, BuildFault>
     requires { length bytes.now < 4294967295 }
-    ensures { BuildsScript signature.now bytes.now result }
+    // What is given is the file's script, and a fault is the file's.
+    ensures builds { BuildsScript code.now bytes.now result }
+    // Over code that stands for a module file, it is a script over that file, or has that fault over it.
+    ensures over { (ms : Seq ℕ) → StandsFor ms code.now → BuildsOver ms bytes.now result }
+{
+    script_over(alloc, code, bytes)
+}
+
+/// The commands of a script over code.
+fn script_over(alloc: Global, code: &RawCode, bytes: &[u8]) -> Result<ScriptCode, BuildFault>
+    requires { length bytes.now < 4294967295 }
+    ensures { BuildsScript code.now bytes.now result }
 {
     let tree = script_tree(alloc, bytes)?;
-    match built_script(alloc, &tree, signature) {
-        Ok(Some(script)) => Ok(script),
-        Ok(None) => Err(BuildFault::NotBuilt),
-        Err(_) => Err(BuildFault::Memory),
+    match check_script(alloc, code, &tree) {
+        Ok(script) => match lower_script(alloc, code, script) {
+            Ok(commands) => Ok(commands),
+            Err(_) => Err(BuildFault::Memory),
+        },
+        Err(CheckFault::Rule { place, rule }) => Err(refused_rule(Fault { place, rule })),
+        Err(CheckFault::Memory) => Err(BuildFault::Memory),
     }
 }

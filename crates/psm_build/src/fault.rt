@@ -9,8 +9,8 @@ use psm_rules::{Fault as RuleFault, Rule};
 use psm_token::{LexFault, Place};
 use psm_tree::ParseFault;
 
-/// What is wrong with a file at a place: the first fault of its tokens, that of the tree that they spell, or of a
-/// module file the first rule that a part of the tree breaks (ISO/IEC 9075:1992, 5.2 and 11.3, and
+/// What is wrong with a file at a place: the first fault of its tokens, that of the tree that they spell, or the first
+/// rule that a part of the tree breaks (ISO/IEC 9075:1992, 5.2 and 11.3, and
 /// ISO/IEC 9075-4:1996, module definitions).
 #[derive(Clone, Copy, Debug, PartialEq, Eq)]
 pub enum Fault {
@@ -47,8 +47,6 @@ pub enum BuildFault {
         column: u32,
         fault: Fault,
     },
-    /// The file is read, but is not of the forms that run.
-    NotBuilt,
     /// There is not enough memory.
     Memory,
 }
@@ -115,7 +113,7 @@ pub(crate) fn refused_tree(fault: ParseFault) -> BuildFault
     }
 }
 
-/// The refusal of a module file with a part that breaks a rule.
+/// The refusal of a file with a part that breaks a rule.
 pub(crate) fn refused_rule(fault: RuleFault) -> BuildFault
     ensures { result ≡ told_of_rule fault }
 {
