@@ -1,4 +1,11 @@
 pub mod Reading
 pub mod Sources
 pub mod Files
+pub mod Compiled
+pub mod EmptyTables
+pub mod Shown
+pub mod Procedures
+pub mod CommandsStand
+pub mod Runs
+pub mod Scripts
 pub mod Building

@@ -13,7 +13,7 @@ use Rattle.psm_tree.specs.declared.fault.ParseFault.TheVariants as parse
 use Rattle.psm_build.specs.Told.{told_of_tokens, told_of_tree}
 use Rattle.psm_build.specs.Building.{ReadsTokens, ReadsTree}
 use Rattle.psm_build.specs.declared.fault.BuildFault.{BuildFault}
-use Rattle.psm_build.specs.declared.fault.BuildFault.TheVariants.{Refused, NotBuilt, Memory}
+use Rattle.psm_build.specs.declared.fault.BuildFault.TheVariants.{Refused, Memory}
 
 pub tokens_refused : (bytes : List ℕ) (fault : LexFault) → OrMemory fault (IsFirstFault bytes fault) → ReadsTokens bytes (Err (told_of_tokens fault))
 tokens_refused bytes (lex.BadUtf8 p) h = record { fault = lex.BadUtf8 p; first = h; told_is = refl }
@@ -35,5 +35,4 @@ module _ {Y : Type 0} (L : Lang Placed Y) (bytes : List ℕ) where
   -- a file without tokens has no tree
   pub tree_without_tokens : (e : BuildFault) → ReadsTokens bytes (Err e) → ReadsTree L bytes (Err e)
   tree_without_tokens (Refused line column fault) h = inl h
-  tree_without_tokens NotBuilt h = absurd h
   tree_without_tokens Memory h = tt

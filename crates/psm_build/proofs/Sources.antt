@@ -18,7 +18,7 @@ use Rattle.psm_tree.specs.declared.fault.ParseFault.TheVariants as parse
 use Rattle.psm_tree.proofs.ExprFits.{after}
 use Rattle.psm_tree.proofs.Readable.{height, readable}
 use Rattle.psm_build.specs.Told.{told_of_tokens, told_of_tree}
-use Rattle.psm_build.specs.Source.{IsTreeOf, IsTokenFault, IsTreeFault, IsFaultAt, IsUnbuilt}
+use Rattle.psm_build.specs.Source.{IsTreeOf, IsTokenFault, IsTreeFault, IsFaultAt}
 use Rattle.psm_build.specs.declared.fault.Fault.{Fault}
 use Rattle.psm_build.specs.declared.fault.BuildFault.{BuildFault}
 use Rattle.psm_build.specs.declared.fault.BuildFault.TheVariants.{Refused, Memory}
@@ -114,7 +114,3 @@ module _ {Y : Type 0} {g : Gram Y} {follow : List ℕ} (fit : Fit after follow g
   fault_once l c l' c' f f' (inl h) (inr k) = absurd (fault_excludes bytes h.fault k.tokens h.first k.spelled)
   fault_once l c l' c' f f' (inr h) (inl k) = absurd (fault_excludes bytes k.fault h.tokens k.first h.spelled)
   fault_once l c l' c' f f' (inr h) (inr k) = tree_faults_once l c l' c' f f' h k
-
-  -- a file whose tree is built is not one whose tree isn't
-  pub built_excludes : (IsBuilt : Y → Type 0) (y : Y) → IsTreeOf (Derives productions 0 g) bytes y → IsBuilt y → IsUnbuilt (Derives productions 0 g) IsBuilt bytes → ⊥
-  built_excludes IsBuilt y p b h = h.none (subst IsBuilt (tree_once y h.tree p h.tree_is) b)

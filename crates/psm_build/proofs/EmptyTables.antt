@@ -1,0 +1,47 @@
+-- The tables with which a session over code begins: one without rows for each of the code, which are those of the module file.
+use Rattle.std.proofs.Common.{◌≡◌, List, [], ◌∷◌, map, refl, sym, ap, ◌∙◌, subst}
+use Rattle.std.specs.Prelude.{All}
+use Rattle.std.proofs.lemmas.List.Elements.{All-nil}
+use Rattle.psm_table.specs.declared.definition.TableDef.{TableDef}
+use Rattle.psm_table.specs.Definition.{IsDefinition, IsRow}
+use Rattle.psm_table.specs.Table.{Contents, empty_table}
+use Rattle.psm_resolved.specs.declared.file.ResolvedFile.{ResolvedFile}
+use Rattle.psm_resolved.specs.declared.file.ResolvedTable.{ResolvedTable}
+use Rattle.psm_meaning.specs.Session as meaning
+use Rattle.psm_code.specs.declared.code.CodeTable.{CodeTable}
+use Rattle.psm_code.specs.declared.code.RawCode.{RawCode}
+use Rattle.psm_code.specs.Sits.{AreKept}
+use Rattle.psm_emit.specs.Files.{FileWritten}
+use Rattle.psm_emit.specs.Queries.{TablesMade}
+use Rattle.psm_proper.proofs.Definitions.{file-definitions}
+use Rattle.psm_proper.specs.Files.{ProperFile}
+use Rattle.psm_build.specs.Played.{definitions, empty_tables}
+
+-- no row breaks a rule
+tables_kept : (ts : List CodeTable) → AreKept ts (map empty_table (map (λ t. t.definition) ts))
+tables_kept [] = tt
+tables_kept (t ∷ ts) = (record { same = refl; rows = All-nil (IsRow t.definition); legal = record { pass = refl; rules = refl } }, tables_kept ts)
+
+pub empty_tables_kept : (code : RawCode) → AreKept code.tables (empty_tables code)
+empty_tables_kept code = tables_kept code.tables
+
+-- ---- those of the file
+
+same_definitions : (ts : List ResolvedTable) (us : List CodeTable) → TablesMade ts us → map (λ u. u.definition) us ≡ map (λ t. t.definition) ts
+same_definitions [] [] h = refl
+same_definitions [] (u ∷ us) h = absurd h
+same_definitions (t ∷ ts) [] h = absurd h
+same_definitions (t ∷ ts) (u ∷ us) h = ap (λ (d : TableDef). d ∷ map (λ u. u.definition) us) h.0.definition ∙ ap (λ (ds : List TableDef). t.definition ∷ ds) (same_definitions ts us h.1)
+
+pub written_definitions : (file : ResolvedFile) (code : RawCode) → FileWritten file code → definitions code ≡ map (λ t. t.definition) file.tables
+written_definitions file code h = same_definitions file.tables code.tables h.tables
+
+pub code_definitions : (file : ResolvedFile) (code : RawCode) → FileWritten file code → ProperFile file → All IsDefinition (definitions code)
+code_definitions file code written proper = subst (All IsDefinition) (sym (written_definitions file code written)) (file-definitions file proper)
+
+empty_each : (ts : List ResolvedTable) → map empty_table (map (λ t. t.definition) ts) ≡ map (λ t. empty_table t.definition) ts
+empty_each [] = refl
+empty_each (t ∷ ts) = ap (λ (cs : List Contents). empty_table t.definition ∷ cs) (empty_each ts)
+
+pub same_empty_tables : (file : ResolvedFile) (code : RawCode) → FileWritten file code → empty_tables code ≡ meaning.empty_tables file
+same_empty_tables file code written = ap (map empty_table) (written_definitions file code written) ∙ empty_each file.tables
