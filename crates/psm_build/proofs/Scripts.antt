@@ -1,5 +1,5 @@
 -- A script over code that stands for a module file can be run over it, and each run of it shows the session that the two files come to.
-use Rattle.std.proofs.Common.{◌≡◌, ℕ, List, refl, sym, ap, ◌∙◌, subst}
+use Rattle.std.proofs.Common.{ℕ, List, refl, sym, subst}
 use Rattle.std.specs.Prelude.{All}
 use Rattle.psm_tree.specs.declared.script.ScriptTree.{ScriptTree}
 use Rattle.psm_accept.proofs.SmallTokens.{read-scripts-stand}
@@ -61,7 +61,7 @@ module _ (ms ss : List ℕ) (code : RawCode) (commands : List ScriptCommand) (st
   comes_to : (turns : ℕ) → ComesToRuns code commands (beginning (empty_tables code) turns) (session (file_of stands.file) (commands_of script) turns)
   comes_to turns = subst (λ (cs : List Contents). ComesToRuns code commands (beginning cs turns) (session (file_of stands.file) (commands_of script) turns))
       (sym (same_empty_tables (file_of stands.file) code stands.written))
-      (comes_to_runs (file_of stands.file) code stands.stands (sound-file (file_of stands.file) stands.proper) (commands_of script) commands all_sound all_stand turns)
+      (comes_to_runs (file_of stands.file) code stands.stands (sound-file (file_of stands.file) stands.proper) (commands_of script) commands all_stand turns)
 
   pub plays : (turns : ℕ) → (s : Session) × ComesTo ms ss turns s × PlaysAs code commands turns s
   plays turns =
