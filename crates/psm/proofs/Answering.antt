@@ -1,8 +1,8 @@
 -- The causes of the answer, from what was found of the files and what was put.
 use Rattle.std.proofs.Common.{◌≡◌, Option, Some, None, refl, sym, ap, subst, inl, inr}
 use Rattle.std.specs.Prelude.{◌⊎◌, List, ℕ, IfSome, MatchOption}
-use Rattle.psm_script.specs.Put.{Sunk}
-use Rattle.psm_script.specs.Session.{Session}
+use Rattle.psm_meaning.specs.Session.{Session}
+use Rattle.psm_session.specs.Put.{Sunk}
 use Rattle.psm.specs.Contract.{Asked, IsMisused, IsDue, IsPut, IsBroken, IsCut, RunsOut, Says}
 use Rattle.psm.specs.Fetches.{NoneFailed, Finds}
 use Rattle.psm.specs.Found.{Found, Accepted}
@@ -13,7 +13,7 @@ use Rattle.psm.specs.Report.{PutsLine, Reports, Runs}
 use Rattle.psm.specs.Words.{Files, files_of}
 use Rattle.psm.specs.declared.prepare.Which.TheVariants as which
 use Rattle.psm.specs.declared.prepare.Refusal.{Refusal}
-use Rattle.psm.specs.declared.prepare.Refusal.TheVariants.{Unread, TooLong, Refused, NotBuilt, Memory}
+use Rattle.psm.specs.declared.prepare.Refusal.TheVariants.{Unread, TooLong, Refused, Memory}
 use Rattle.psm.specs.declared.status.Status.{Status}
 use Rattle.psm.specs.declared.status.Status.TheVariants as status
 
@@ -25,8 +25,6 @@ reported f sunk answer (TooLong which.Module) h = h
 reported f sunk answer (TooLong which.Script) h = h
 reported f sunk answer (Refused which.Module line column fault) h = h
 reported f sunk answer (Refused which.Script line column fault) h = h
-reported f sunk answer (NotBuilt which.Module) h = h
-reported f sunk answer (NotBuilt which.Script) h = h
 reported f sunk answer Memory h = h
 
 -- the same line

@@ -5,11 +5,11 @@ use Rattle.psm_build.proofs.Files.{Exclusive, module_exclusive, script_exclusive
 use Rattle.psm_build.specs.declared.fault.Fault.{Fault}
 use Rattle.psm_build.specs.declared.fault.BuildFault.{BuildFault}
 use Rattle.psm_build.specs.declared.fault.BuildFault.TheVariants as builds
-use Rattle.psm_script.specs.Put.{Sunk}
-use Rattle.psm_script.specs.Session.{Session}
+use Rattle.psm_meaning.specs.Session.{Session}
+use Rattle.psm_session.specs.Put.{Sunk}
 use Rattle.psm.specs.Contract.{Asked, IsPut, IsBroken, IsCut, RunsOut, Stayed, Answers, Completes}
 use Rattle.psm.specs.Fetches.{Fetches, AreRead, Finds}
-use Rattle.psm.specs.Found.{most_bytes, turns_bound, Found, Unread, Long, Refused, NotBuilt, Accepted, FileIs, ScriptIs, FilesAre}
+use Rattle.psm.specs.Found.{most_bytes, Found, Unread, Long, Refused, Accepted, FileIs, ScriptIs, FilesAre}
 use Rattle.psm.specs.Message.{usage}
 use Rattle.psm.specs.Prepared.{found_of}
 use Rattle.psm.specs.Program.{Owed, with_line, due_for_session, due}
@@ -26,62 +26,51 @@ use Rattle.psm.proofs.Fetched.{told_same}
 -- a fault of a file as what is found of it
 abbrev pub found_by : {A : Type 0} → BuildFault → Found A
 found_by (builds.Refused line column fault) = Refused line column fault
-found_by builds.NotBuilt = NotBuilt
 found_by builds.Memory = Unread
 
 not_both : (n : ℕ) → n ≤ most_bytes → most_bytes < n → ⊥
 not_both n h k = omega arith
 
-module _ {A : Type 0} (IsFile : Type 0) (IsFault : ℕ → ℕ → Fault → Type 0) (IsNotBuilt : Type 0) (Is : A → Type 0)
-    (one : Exclusive IsFile IsFault IsNotBuilt) (is_file : (a : A) → Is a → IsFile) (is_once : (a b : A) → Is a → Is b → a ≡ b) (bytes : List ℕ) where
-  file_once : (x y : Found A) → FileIs IsFault IsNotBuilt Is bytes x → FileIs IsFault IsNotBuilt Is bytes y → x ≡ y
+module _ {A : Type 0} (IsFile : Type 0) (IsFault : ℕ → ℕ → Fault → Type 0) (Is : A → Type 0)
+    (one : Exclusive IsFile IsFault) (is_file : (a : A) → Is a → IsFile) (is_once : (a b : A) → Is a → Is b → a ≡ b) (bytes : List ℕ) where
+  file_once : (x y : Found A) → FileIs IsFault Is bytes x → FileIs IsFault Is bytes y → x ≡ y
   file_once Unread y h k = absurd h
   file_once Long Unread h k = absurd k
   file_once Long Long h k = refl
   file_once Long (Refused l c f) h k = absurd (not_both (length bytes) k.0 h)
-  file_once Long NotBuilt h k = absurd (not_both (length bytes) k.0 h)
   file_once Long (Accepted a) h k = absurd (not_both (length bytes) k.0 h)
   file_once (Refused l c f) Unread h k = absurd k
   file_once (Refused l c f) Long h k = absurd (not_both (length bytes) h.0 k)
   file_once (Refused l c f) (Refused l' c' f') h k = ap found_by (one.one_fault l c l' c' f f' h.1 k.1)
-  file_once (Refused l c f) NotBuilt h k = absurd (one.fault_or_not_built l c f h.1 k.1)
   file_once (Refused l c f) (Accepted a) h k = absurd (one.file_or_fault l c f (is_file a k.1) h.1)
-  file_once NotBuilt Unread h k = absurd k
-  file_once NotBuilt Long h k = absurd (not_both (length bytes) h.0 k)
-  file_once NotBuilt (Refused l c f) h k = absurd (one.fault_or_not_built l c f k.1 h.1)
-  file_once NotBuilt NotBuilt h k = refl
-  file_once NotBuilt (Accepted a) h k = absurd (one.file_or_not_built (is_file a k.1) h.1)
   file_once (Accepted a) Unread h k = absurd k
   file_once (Accepted a) Long h k = absurd (not_both (length bytes) h.0 k)
   file_once (Accepted a) (Refused l c f) h k = absurd (one.file_or_fault l c f (is_file a h.1) k.1)
-  file_once (Accepted a) NotBuilt h k = absurd (one.file_or_not_built (is_file a h.1) k.1)
   file_once (Accepted a) (Accepted b) h k = ap Accepted (is_once a b h.1 k.1)
 
-script_once : (ms ss : List ℕ) (x y : Found Session) → ScriptIs ms ss x → ScriptIs ms ss y → x ≡ y
-script_once ms ss = file_once _ _ _ _ (script_exclusive ms ss) (comes_to_script ms ss turns_bound) (comes_to_once ms ss turns_bound) ss
+script_once : (ms ss : List ℕ) (turns : ℕ) (x y : Found Session) → ScriptIs ms ss turns x → ScriptIs ms ss turns y → x ≡ y
+script_once ms ss turns = file_once _ _ _ (script_exclusive ms ss) (comes_to_script ms ss turns) (comes_to_once ms ss turns) ss
 
-files_once : (ms ss : List ℕ) (x y : Found (Found Session)) → FilesAre ms ss x → FilesAre ms ss y → x ≡ y
-files_once ms ss = file_once _ _ _ _ (module_exclusive ms) (λ a h. h.0) (λ a b h k. script_once ms ss a b h.1 k.1) ms
+files_once : (ms ss : List ℕ) (turns : ℕ) (x y : Found (Found Session)) → FilesAre ms ss turns x → FilesAre ms ss turns y → x ≡ y
+files_once ms ss turns = file_once _ _ _ (module_exclusive ms) (λ a h. h.0) (λ a b h k. script_once ms ss turns a b h.1 k.1) ms
 
 -- ---- what was found is what the files are
 
 module _ (fetches : Fetches) (f : Files) (ms ss : List ℕ) (hm : fetches.held f.for_module ≡ Some ms) (hs : fetches.held f.for_script ≡ Some ss) where
-  read_same : (x y : Found (Found Session)) → AreRead fetches f x → FilesAre ms ss y → x ≡ y
+  read_same : (x y : Found (Found Session)) → AreRead fetches f x → FilesAre ms ss f.turns y → x ≡ y
   read_same x y h k =
       let m : ms ≡ h.ms = told_same (fetches.held f.for_module) h.ms ms hm h.told_module in
       let n : ss ≡ h.ss = told_same (fetches.held f.for_script) h.ss ss hs h.told_script in
-      files_once h.ms h.ss x y h.files_are (subst (λ (b : List ℕ). FilesAre h.ms b y) n (subst (λ (b : List ℕ). FilesAre b ss y) m k))
+      files_once h.ms h.ss f.turns x y h.files_are (subst (λ (b : List ℕ). FilesAre h.ms b f.turns y) n (subst (λ (b : List ℕ). FilesAre b ss f.turns y) m k))
 
   found_same : Stayed (fetches.before f.for_module) (fetches.after f.for_module) → Stayed (fetches.before f.for_script) (fetches.after f.for_script)
-      → (x y : Found (Found Session)) → Finds fetches f x → FilesAre ms ss y → x ≡ y
+      → (x y : Found (Found Session)) → Finds fetches f x → FilesAre ms ss f.turns y → x ≡ y
   found_same s t Unread y h k = absurd (s h.rose)
   found_same s t Long y h k = read_same Long y h k
   found_same s t (Refused l c e) y h k = read_same (Refused l c e) y h k
-  found_same s t NotBuilt y h k = read_same NotBuilt y h k
   found_same s t (Accepted Unread) y h k = absurd (t h.unread.rose)
   found_same s t (Accepted Long) y h k = read_same (Accepted Long) y h k
   found_same s t (Accepted (Refused l c e)) y h k = read_same (Accepted (Refused l c e)) y h k
-  found_same s t (Accepted NotBuilt) y h k = read_same (Accepted NotBuilt) y h k
   found_same s t (Accepted (Accepted session)) y h k = read_same (Accepted (Accepted session)) y h k
 
 -- ---- answers

@@ -2,17 +2,20 @@
 use Rattle.std.proofs.Common.{◌≡◌, ℕ, List, [], Option, Ok, Err, refl, ◌∙◌, subst}
 use Rattle.std.specs.Prelude.{unwrap_or}
 use Rattle.psm_io.specs.Count.{Rose}
-use Rattle.psm_build.specs.Program.{StandsFor, Code, ScriptCode}
-use Rattle.psm_build.specs.Building.{Builds}
+use Rattle.psm_code.specs.declared.code.RawCode.{RawCode}
+use Rattle.psm_session.specs.declared.command.ScriptCode.{ScriptCode}
+use Rattle.psm_build.specs.Program.{StandsFor}
+use Rattle.psm_build.specs.Building.{Builds, BuildsOver}
 use Rattle.psm_build.specs.declared.fault.BuildFault.{BuildFault}
 use Rattle.psm_build.specs.declared.fault.BuildFault.TheVariants as builds
-use Rattle.psm_build.proofs.Files.{is_module_file}
+use Rattle.psm_build.proofs.Compiled.{is_module_file}
+use Rattle.psm_build.proofs.Scripts.{can-run, plays}
 use Rattle.psm.specs.Fetches.{Fetches, Tells, NoneFailed, IsUnread}
 use Rattle.psm.specs.Prepared.{IsRead, Gets, GetsCode, GetsScript, Prepares, refusal_of}
 use Rattle.psm.specs.Words.{Files}
 use Rattle.psm.specs.declared.prepare.Which.TheVariants as which
 use Rattle.psm.specs.declared.prepare.Refusal.{Refusal}
-use Rattle.psm.specs.declared.prepare.Refusal.TheVariants.{Unread, TooLong, Refused, NotBuilt, Memory}
+use Rattle.psm.specs.declared.prepare.Refusal.TheVariants.{Unread, TooLong, Refused, Memory}
 use Rattle.psm.proofs.Fetched.{told_or}
 
 -- the fetches of one step
@@ -24,7 +27,6 @@ between held before after = record { held = held; before = before; after = after
 -- what the build refuses is refused so
 pub module_told : (ms : List ℕ) (fault : BuildFault) → Builds ms (Err fault) → GetsCode ms (Err (refusal_of which.Module fault))
 module_told ms (builds.Refused line column fault) h = (refl, h)
-module_told ms builds.NotBuilt h = (refl, h)
 module_told ms builds.Memory h = tt
 
 pub module_unread : (fetches : Fetches) (f : Files) (e : Refusal) → Gets fetches f.for_module which.Module (Err e) → Prepares fetches f (Err e)
@@ -40,7 +42,6 @@ module_unread fetches f (TooLong which.Module) h = record {
 }
 module_unread fetches f (TooLong which.Script) h = absurd cc
 module_unread fetches f (Refused w line column fault) h = absurd h
-module_unread fetches f (NotBuilt w) h = absurd h
 module_unread fetches f Memory h = tt
 
 pub module_refused : (fetches : Fetches) (f : Files) (ms : List ℕ) (e : Refusal) → IsRead fetches f.for_module ms → GetsCode ms (Err e) → Prepares fetches f (Err e)
@@ -55,18 +56,13 @@ module_refused fetches f ms (Refused which.Module line column fault) read h = re
   none_failed = read.none_failed;
 }
 module_refused fetches f ms (Refused which.Script line column fault) read h = absurd cc
-module_refused fetches f ms (NotBuilt which.Module) read h = record {
-  ms = ms;
-  ss = unwrap_or (fetches.held f.for_script) [];
-  told_module = read.told;
-  told_script = told_or (fetches.held f.for_script) [];
-  files_are = (read.short, h.1);
-  none_failed = read.none_failed;
-}
-module_refused fetches f ms (NotBuilt which.Script) read h = absurd cc
 module_refused fetches f ms Memory read h = tt
 
 -- ---- the script
+
+pub script_told : (ms ss : List ℕ) (code : RawCode) (fault : BuildFault) → BuildsOver ms ss (Err fault) → GetsScript ms code ss (Err (refusal_of which.Script fault))
+script_told ms ss code (builds.Refused line column fault) h = (refl, h)
+script_told ms ss code builds.Memory h = tt
 
 both_stay : (before mid after : List ℕ → ℕ) → ((n : List ℕ) → mid n ≡ before n) → ((n : List ℕ) → after n ≡ mid n) → (n : List ℕ) → after n ≡ before n
 both_stay before mid after first second n = second n ∙ first n
@@ -81,7 +77,7 @@ unread_from held held' before mid after name first h = record {
 told_from : (held held' : List ℕ → Option (List ℕ)) (name bytes : List ℕ) → ((n : List ℕ) → held' n ≡ held n) → Tells (held' name) bytes → Tells (held name) bytes
 told_from held held' name bytes same h = subst (λ (o : Option (List ℕ)). Tells o bytes) (same name) h
 
-module _ (held held' : List ℕ → Option (List ℕ)) (before mid after : List ℕ → ℕ) (f : Files) (ms : List ℕ) (code : Code)
+module _ (held held' : List ℕ → Option (List ℕ)) (before mid after : List ℕ → ℕ) (f : Files) (ms : List ℕ) (code : RawCode)
     (read : IsRead (between held before mid) f.for_module ms) (is : StandsFor ms code) (same : (n : List ℕ) → held' n ≡ held n) where
   pub script_unread : (e : Refusal) → Gets (between held' mid after) f.for_script which.Script (Err e) → Prepares (between held before after) f (Err e)
   script_unread (Unread which.Script) h = record {
@@ -102,7 +98,6 @@ module _ (held held' : List ℕ → Option (List ℕ)) (before mid after : List 
   }
   script_unread (TooLong which.Module) h = absurd cc
   script_unread (Refused w line column fault) h = absurd h
-  script_unread (NotBuilt w) h = absurd h
   script_unread Memory h = tt
 
   pub script_refused : (ss : List ℕ) (e : Refusal) → IsRead (between held' mid after) f.for_script ss → GetsScript ms code ss (Err e) → Prepares (between held before after) f (Err e)
@@ -117,23 +112,21 @@ module _ (held held' : List ℕ → Option (List ℕ)) (before mid after : List 
     files_are = (read.short, (is_module_file ms code is, (second.short, h.1)));
     none_failed = both_stay before mid after read.none_failed second.none_failed;
   }
-  script_refused ss (NotBuilt which.Module) second h = absurd cc
-  script_refused ss (NotBuilt which.Script) second h = record {
-    ms = ms;
-    ss = ss;
-    told_module = read.told;
-    told_script = told_from held held' f.for_script ss same second.told;
-    files_are = (read.short, (is_module_file ms code is, (second.short, h.1)));
-    none_failed = both_stay before mid after read.none_failed second.none_failed;
-  }
   script_refused ss Memory second h = tt
 
   pub script_ready : (ss : List ℕ) (s : ScriptCode) → IsRead (between held' mid after) f.for_script ss → GetsScript ms code ss (Ok s) → Prepares (between held before after) f (Ok (code, s))
-  script_ready ss s second h = record {
-    ms = ms;
-    ss = ss;
-    told_module = read.told;
-    told_script = told_from held held' f.for_script ss same second.told;
-    files_are = (read.short, (is_module_file ms code is, (second.short, h 1000000)));
-    none_failed = both_stay before mid after read.none_failed second.none_failed;
-  }
+  script_ready ss s second h =
+      let played = plays ms ss code s.commands is h f.turns in
+      record {
+        session = played.0;
+        finds = record {
+          ms = ms;
+          ss = ss;
+          told_module = read.told;
+          told_script = told_from held held' f.for_script ss same second.told;
+          files_are = (read.short, (is_module_file ms code is, (second.short, played.1)));
+          none_failed = both_stay before mid after read.none_failed second.none_failed;
+        };
+        runs = can-run ms ss code s.commands is h;
+        plays = played.2;
+      }

@@ -88,4 +88,4 @@ pub record Completes (asked : Asked) (sunk : Sunk) (answer : Status) : Type 0 wh
       → Stayed (asked.fetches.before f.for_module) (asked.fetches.after f.for_module)
       → Stayed (asked.fetches.before f.for_script) (asked.fetches.after f.for_script)
       → files_of asked.words ≡ Some f → asked.fetches.held f.for_module ≡ Some ms → asked.fetches.held f.for_script ≡ Some ss
-      → FilesAre ms ss found → Answers (due f found).status answer
+      → FilesAre ms ss f.turns found → Answers (due f found).status answer

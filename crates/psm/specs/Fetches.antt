@@ -43,7 +43,7 @@ pub record AreRead (fetches : Fetches) (f : Files) (found : Found (Found Session
   pub ss : List ℕ
   pub told_module : Tells (fetches.held f.for_module) ms
   pub told_script : Tells (fetches.held f.for_script) ss
-  pub files_are : FilesAre ms ss found
+  pub files_are : FilesAre ms ss f.turns found
   pub none_failed : NoneFailed fetches
 
 -- what was found of the two files

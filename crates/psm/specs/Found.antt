@@ -8,10 +8,6 @@ use Rattle.psm_meaning.specs.Session.{Session}
 abbrev pub most_bytes : ℕ
 most_bytes = 16777216
 
--- the turns of a session
-abbrev pub turns_bound : ℕ
-turns_bound = 1000000
-
 -- A file could not be read; is longer than the most bytes; has that first fault, at that line and column; or
 -- is accepted, and goes on so.
 pub data Found (A : Type 0) : Type 0 where
@@ -27,10 +23,10 @@ FileIs IsFault Is bytes Long = most_bytes < length bytes
 FileIs IsFault Is bytes (Refused line column fault) = (length bytes ≤ most_bytes) × IsFault line column fault
 FileIs IsFault Is bytes (Accepted a) = (length bytes ≤ most_bytes) × Is a
 
--- what the script ss is found to be, over the module file ms
-abbrev pub ScriptIs : List ℕ → List ℕ → Found Session → Type 0
-ScriptIs ms ss found = FileIs (IsScriptFault ms ss) (ComesTo ms ss turns_bound) ss found
+-- what the script ss is found to be, over the module file ms and with so many turns
+abbrev pub ScriptIs : List ℕ → List ℕ → ℕ → Found Session → Type 0
+ScriptIs ms ss turns found = FileIs (IsScriptFault ms ss) (ComesTo ms ss turns) ss found
 
 -- what the module file is found to be, and then the script
-abbrev pub FilesAre : List ℕ → List ℕ → Found (Found Session) → Type 0
-FilesAre ms ss found = FileIs (IsModuleFault ms) (λ script. IsModuleFile ms × ScriptIs ms ss script) ms found
+abbrev pub FilesAre : List ℕ → List ℕ → ℕ → Found (Found Session) → Type 0
+FilesAre ms ss turns found = FileIs (IsModuleFault ms) (λ script. IsModuleFile ms × ScriptIs ms ss turns script) ms found

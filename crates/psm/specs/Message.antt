@@ -6,7 +6,7 @@ use Rattle.psm.specs.declared.prepare.Which.{Which}
 use Rattle.psm.specs.declared.prepare.Which.TheVariants as which
 
 abbrev pub usage : List ℕ
-usage = codes "usage: psm run M S\n"
+usage = codes "usage: psm run M S [--turns N]\n"
 
 abbrev pub cannot_read : List ℕ → List ℕ
 cannot_read name = codes "cannot read " ++ name ++ codes "\n"

@@ -9,7 +9,7 @@ use Rattle.psm_code.specs.declared.code.RawCode.{RawCode}
 use Rattle.psm_meaning.specs.Session.{Session}
 use Rattle.psm_session.specs.declared.command.ScriptCode.{ScriptCode}
 use Rattle.psm.specs.Fetches.{Fetches, Tells, NoneFailed, IsUnread, Finds}
-use Rattle.psm.specs.Found.{most_bytes, turns_bound, Found}
+use Rattle.psm.specs.Found.{most_bytes, Found}
 use Rattle.psm.specs.Found as found
 use Rattle.psm.specs.Words.{Files}
 use Rattle.psm.specs.declared.prepare.Which.{Which}
@@ -79,7 +79,7 @@ pub record IsReady (fetches : Fetches) (f : Files) (code : RawCode) (script : Sc
   pub session : Session
   pub finds : Finds fetches f (found.Accepted (found.Accepted session))
   pub runs : CanRun code script.commands
-  pub plays : PlaysAs code script.commands turns_bound session
+  pub plays : PlaysAs code script.commands f.turns session
 
 -- they are ready, or a refusal tells what was found
 abbrev pub Prepares : Fetches → Files → Result (RawCode × ScriptCode) Refusal → Type 0

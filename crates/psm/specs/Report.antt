@@ -3,6 +3,8 @@ use Rattle.std.specs.Prelude.{◌≡◌, ℕ, ◌⊎◌, List}
 use Rattle.psm_meaning.specs.Acts.{NoTurns}
 use Rattle.psm_meaning.specs.Session.{Session, Cut, Done}
 use Rattle.psm_session.specs.Put.{Sunk, PutAll, PutSome, PutFirst}
+use Rattle.psm_session.specs.declared.script.ScriptEnd.{ScriptEnd}
+use Rattle.psm_session.specs.declared.script.ScriptEnd.TheVariants as ends
 use Rattle.psm.specs.Contract.{IsPut, IsBroken, RunsOut}
 use Rattle.psm.specs.Message.{cannot_read, too_long, refusal_line}
 use Rattle.psm.specs.Program.{Owed, with_line, status_of_refused}
@@ -27,6 +29,13 @@ Reports (Unread w) f sunk answer = PutsLine (with_line status.ReadFault (cannot_
 Reports (TooLong w) f sunk answer = PutsLine (with_line status.TooLong (too_long (name_of f w))) sunk answer
 Reports (Refused w line column fault) f sunk answer = PutsLine (with_line (status_of_refused w) (refusal_line w line column fault)) sunk answer
 Reports Memory f sunk answer = RunsOut sunk answer
+
+-- the status of a run that ended so
+abbrev pub status_of_end : ScriptEnd → Status
+status_of_end ends.Done = status.Done
+status_of_end ends.TurnsUsed = status.TurnsUsed
+status_of_end ends.WriteFault = status.WriteFault
+status_of_end ends.Memory = status.Memory
 
 -- the status of a session's end, with what is written
 abbrev pub Runs : Session → Sunk → Status → Type 0

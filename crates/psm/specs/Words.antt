@@ -1,19 +1,51 @@
 -- The words after the program's name.
-use Rattle.std.specs.Prelude.{ℕ, List, [], ◌∷◌, Option, Some, None, nat_eq, codes, if◌then◌else◌}
+use Rattle.std.specs.Prelude.{ℕ, List, [], ◌∷◌, Option, Some, None, Bool, true, false, ◌&&◌, not, length, nat_eq, nat_le, nat_lt, codes, if◌then◌else◌}
+use Rattle.std.specs.Char.{is_ascii_digit}
 use Rattle.std.specs.Cmp.Lexicographic.{pointwise}
+use Rattle.std.specs.List.{list_all}
+use Rattle.std.specs.Str.Parse.{digits_value}
 
--- the names of the two files of `run`
+-- the names of the two files of `run`, and the turns of the session
 pub record Files : Type 0 where
   pub for_module : List ℕ
   pub for_script : List ℕ
+  pub turns : ℕ
 
-abbrev pub named : List ℕ → List ℕ → Files
-named m s = record { for_module = m; for_script = s }
+abbrev pub named : List ℕ → List ℕ → ℕ → Files
+named m s n = record { for_module = m; for_script = s; turns = n }
 
--- the files that the words name, where the words have the form `run M S`
+-- the turns where the words tell none
+abbrev pub default_turns : ℕ
+default_turns = 1000000
+
+abbrev pub is_word : List ℕ → List ℕ → Bool
+is_word word text = pointwise nat_eq word text
+
+-- ---- a number is 1 to 18 decimal digits without a leading zero
+
+abbrev pub begins_with_zero : List ℕ → Bool
+begins_with_zero [] = false
+begins_with_zero (digit ∷ []) = false
+begins_with_zero (digit ∷ next ∷ others) = nat_eq digit 48
+
+abbrev pub is_number : List ℕ → Bool
+is_number word = list_all is_ascii_digit word && nat_lt 0 (length word) && nat_le (length word) 18 && not (begins_with_zero word)
+
+abbrev pub number_of : List ℕ → Option ℕ
+number_of word = if is_number word then Some (digits_value 10 word) else None
+
+-- ---- the form `run M S`, with `--turns N` behind it or not
+
+abbrev pub with_turns : List ℕ → List ℕ → Option ℕ → Option Files
+with_turns m s None = None
+with_turns m s (Some n) = Some (named m s n)
+
+-- the files that the words name, where the words have the form
 abbrev pub files_of : List (List ℕ) → Option Files
-files_of (word ∷ m ∷ s ∷ []) = if pointwise nat_eq word (codes "run") then Some (named m s) else None
+files_of (word ∷ m ∷ s ∷ []) = if is_word word (codes "run") then Some (named m s default_turns) else None
+files_of (word ∷ m ∷ s ∷ option ∷ n ∷ []) = if is_word word (codes "run") && is_word option (codes "--turns") then with_turns m s (number_of n) else None
 files_of [] = None
 files_of (word ∷ []) = None
 files_of (word ∷ m ∷ []) = None
-files_of (word ∷ m ∷ s ∷ other ∷ others) = None
+files_of (word ∷ m ∷ s ∷ option ∷ []) = None
+files_of (word ∷ m ∷ s ∷ option ∷ n ∷ other ∷ others) = None

@@ -45,7 +45,7 @@ pub fn prepare<F: Shelf>(
     files: &Files<'_>,
     shelf: &mut F,
 ) -> Result<(Code, ScriptCode), Refusal>
-    ensures { Prepares (fetches_of F.held F.faults shelf.old shelf.new) (named files.now.for_module.now files.now.for_script.now) result }
+    ensures { Prepares (fetches_of F.held F.faults shelf.old shelf.new) (named files.now.for_module.now files.now.for_script.now files.now.turns) result }
 {
     let bytes = fetch(alloc, files.for_module, Which::Module, shelf)?;
     let code = code_of(alloc, &bytes)?;

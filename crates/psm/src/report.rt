@@ -1,12 +1,13 @@
 //! What is put for a refusal, and for a script that is run.
-ghost use Rattle.std.specs.Prelude.{◌≡◌, ◌++◌, IfOk};
-ghost use Rattle.psm_build.specs.Played.{CanRun, PlaysAs};
+ghost use Rattle.std.specs.Prelude.{◌≡◌, ◌++◌, All, IfOk};
+ghost use Rattle.psm_table.specs.Definition.{IsDefinition};
+ghost use Rattle.psm_undostore.specs.Undo.{tables_of};
+ghost use Rattle.psm_build.specs.Played.{CanRun, PlaysAs, definitions, empty_tables};
 ghost use Rattle.psm_meaning.specs.Session.{Session};
 ghost use Rattle.psm_session.specs.Put.{sunk_of};
-ghost use Rattle.psm.specs.Found.{turns_bound};
 ghost use Rattle.psm.specs.Message.{refusal_line, usage};
 ghost use Rattle.psm.specs.Program.{with_line, status_of_refused};
-ghost use Rattle.psm.specs.Report.{PutsLine, Reports, Runs, name_of};
+ghost use Rattle.psm.specs.Report.{PutsLine, Reports, Runs, name_of, status_of_end};
 ghost use Rattle.psm.specs.Words.{named};
 ghost use Rattle.psm.specs.declared.status.Status.TheVariants as status;
 
@@ -17,23 +18,32 @@ use crate::words::Files;
 use psm_build::{Code, Fault, ScriptCode};
 use psm_io::{Sink, SinkFault};
 use psm_session::{ScriptEnd, run_script};
-use psm_table::TableDef;
 use psm_undostore::UndoStore;
 use std::alloc::{AllocError, Global};
 
-/// The turns of a session.
-const TURNS: u64 = 1_000_000;
-
-/// Runs the script over the code and empty tables, and puts the piece of each command.
-pub fn play<K: Sink>(alloc: Global, code: &Code, script: &ScriptCode, out: &mut K) -> Status
+/// Runs the script over the code and empty tables, with so many turns, and puts the piece of each command.
+pub fn play<K: Sink>(
+    alloc: Global,
+    code: &Code,
+    script: &ScriptCode,
+    turns: u64,
+    out: &mut K,
+) -> Status
     requires { CanRun code.now script.now.commands }
-    ensures { (s : Session) → PlaysAs code.now script.now.commands turns_bound s → Runs s (sunk_of K.written K.faults out.old out.new) result }
+    ensures { (s : Session) → PlaysAs code.now script.now.commands turns s → Runs s (sunk_of K.written K.faults out.old out.new) result }
 {
     let Ok(mut store) = empty_store(alloc, code) else {
         return Status::Memory;
     };
-    let mut turns = TURNS;
-    match run_script(alloc, code, script, &mut store, out, &mut turns) {
+    let mut left = turns;
+    status_of(run_script(alloc, code, script, &mut store, out, &mut left))
+}
+
+// The status of a run that ended so.
+fn status_of(end: ScriptEnd) -> Status
+    ensures { result ≡ status_of_end end }
+{
+    match end {
         ScriptEnd::Done => Status::Done,
         ScriptEnd::TurnsUsed => Status::TurnsUsed,
         ScriptEnd::WriteFault => Status::WriteFault,
@@ -58,12 +68,12 @@ fn empty_store(alloc: Global, code: &Code) -> Result<UndoStore, AllocError>
 pub fn report_usage<K: Sink>(out: &mut K) -> Status
     ensures { PutsLine (with_line status.Usage usage) (sunk_of K.written K.faults out.old out.new) result }
 {
-    put_line(b"usage: psm run M S\n", Status::Usage, out)
+    put_line(b"usage: psm run M S [--turns N]\n", Status::Usage, out)
 }
 
 /// Puts the line of a refusal.
 pub fn report<K: Sink>(alloc: Global, files: &Files<'_>, refusal: Refusal, out: &mut K) -> Status
-    ensures { Reports refusal (named files.now.for_module.now files.now.for_script.now) (sunk_of K.written K.faults out.old out.new) result }
+    ensures { Reports refusal (named files.now.for_module.now files.now.for_script.now files.now.turns) (sunk_of K.written K.faults out.old out.new) result }
 {
     match refusal {
         Refusal::Unread(which) => {
@@ -117,7 +127,7 @@ fn refused_status(which: Which) -> Status
 
 // The name of one of the files.
 fn name<'a>(files: &Files<'a>, which: Which) -> &'a str
-    ensures { result.now ≡ name_of (named files.now.for_module.now files.now.for_script.now) which }
+    ensures { result.now ≡ name_of (named files.now.for_module.now files.now.for_script.now files.now.turns) which }
 {
     match which {
         Which::Module => files.for_module,

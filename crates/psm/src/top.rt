@@ -22,7 +22,7 @@ pub fn psm<F: Shelf, K: Sink>(alloc: Global, words: &[String], shelf: &mut F, ou
     match files_in(words) {
         None => report_usage(out),
         Some(files) => match prepare(alloc, &files, shelf) {
-            Ok(ready) => play(alloc, &ready.0, &ready.1, out),
+            Ok(ready) => play(alloc, &ready.0, &ready.1, files.turns, out),
             Err(refusal) => report(alloc, &files, refusal, out),
         },
     }

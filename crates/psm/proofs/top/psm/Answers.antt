@@ -10,10 +10,10 @@ pub returns-in-None-clause-completes : goal.returns-in-None-clause-completes
 returns-in-None-clause-completes g c = completes_usage _ _ _ c.in-None.ensures c.report_usage.ensures
 
 pub returns-in-Ok-clause-says : goal.returns-in-Ok-clause-says
-returns-in-Ok-clause-says g c = says_run _ _ _ _ _ c.in-Some.ensures c.in-Ok.ensures c.play.ensures
+returns-in-Ok-clause-says g c = says_run _ _ _ _ _ c.in-Some.ensures c.in-Ok.ensures.finds (c.play.ensures c.in-Ok.ensures.session c.in-Ok.ensures.plays)
 
 pub returns-in-Ok-clause-completes : goal.returns-in-Ok-clause-completes
-returns-in-Ok-clause-completes g c = completes_run _ _ _ _ _ c.in-Some.ensures c.in-Ok.ensures c.play.ensures
+returns-in-Ok-clause-completes g c = completes_run _ _ _ _ _ c.in-Some.ensures c.in-Ok.ensures.finds (c.play.ensures c.in-Ok.ensures.session c.in-Ok.ensures.plays)
 
 pub returns-in-Err-clause-says : goal.returns-in-Err-clause-says
 returns-in-Err-clause-says g c = says_refusal _ _ _ _ c.in-Err.refusal c.in-Some.ensures c.in-Err.ensures c.report.ensures
