@@ -23,6 +23,7 @@ use std::alloc::Global;
 /// `Refused` exactly where the bytes are no tokens, spell no module file or one with a fault, with the first fault: that
 /// of the tokens, the place where they stop to spell a module file, the token that opens level 101 of nesting, or the
 /// earliest part that breaks a rule. `Memory`.
+#[tactic(auto, using(crate::proofs::Building::module_given))]
 pub fn build(alloc: Global, bytes: &[u8]) -> Result<RawCode, BuildFault>
     requires { length bytes.now < 4294967295 }
     // What is given stands for the module file, and a fault is the file's.
@@ -72,6 +73,7 @@ fn compiled(alloc: Global, tree: &FileTree) -> Result<RawCode, BuildFault>
 /// # Errors
 /// `Refused` exactly where the bytes are no tokens, spell no script or one with a fault over the tables and procedures of the code,
 /// with the first fault, as of a module file. `Memory`.
+#[tactic(auto, using(crate::proofs::Building::built_over))]
 pub fn build_script(alloc: Global, code: &RawCode, bytes: &[u8]) -> Result<ScriptCode, BuildFault>
     requires { length bytes.now < 4294967295 }
     // What is given is the file's script, and a fault is the file's.

@@ -1,5 +1,5 @@
 use Rattle.std.proofs.lemmas.Result.{err_from_is_err_and}
-use Rattle.psm_build.proofs.Building.{module_without_tree, module_with_fault, module_not_built}
+use Rattle.psm_build.proofs.Building.{module_without_tree, module_with_fault, module_compiled}
 use Rattle.psm_build.proofs.code.code_of.Goals as goal
 
 pub returns-in_err-tree : goal.returns-in_err-tree
@@ -12,7 +12,5 @@ returns-in_err-accept c =
     let p = err_from_is_err_and c.from_residual-in_err-accept.result c.from_residual-in_err-accept.ensures.1 in
     rw (p.1, p.2) (module_with_fault _ _ _ c.in_ok-tree.ensures c.in_err-accept.ensures)
 
-pub returns-in-Ok-None : goal.returns-in-Ok-None
-returns-in-Ok-None c =
-    let none = rw c.in-Ok-None.field-0-is at c.in-Ok-None.ensures.none in
-    module_not_built _ _ c.in_ok-tree.ensures c.in_ok-accept.ensures none
+pub returns : goal.returns
+returns c = module_compiled _ _ _ c.in_ok-tree.ensures c.in_ok-accept.ensures c.compiled.ensures
