@@ -29,7 +29,7 @@ begins_with_zero (digit ∷ []) = false
 begins_with_zero (digit ∷ next ∷ others) = nat_eq digit 48
 
 abbrev pub is_number : List ℕ → Bool
-is_number word = list_all is_ascii_digit word && nat_lt 0 (length word) && nat_le (length word) 18 && not (begins_with_zero word)
+is_number word = list_all is_ascii_digit word && (nat_lt 0 (length word) && (nat_le (length word) 18 && not (begins_with_zero word)))
 
 abbrev pub number_of : List ℕ → Option ℕ
 number_of word = if is_number word then Some (digits_value 10 word) else None
@@ -40,12 +40,19 @@ abbrev pub with_turns : List ℕ → List ℕ → Option ℕ → Option Files
 with_turns m s None = None
 with_turns m s (Some n) = Some (named m s n)
 
+abbrev pub run_with : List ℕ → List ℕ → List ℕ → Option ℕ → Option Files
+run_with word m s turns = if is_word word (codes "run") then with_turns m s turns else None
+
+-- the turns that the words behind the names tell
+abbrev pub turns_of : List (List ℕ) → Option ℕ
+turns_of [] = Some default_turns
+turns_of (option ∷ []) = None
+turns_of (option ∷ n ∷ []) = if is_word option (codes "--turns") then number_of n else None
+turns_of (option ∷ n ∷ other ∷ others) = None
+
 -- the files that the words name, where the words have the form
 abbrev pub files_of : List (List ℕ) → Option Files
-files_of (word ∷ m ∷ s ∷ []) = if is_word word (codes "run") then Some (named m s default_turns) else None
-files_of (word ∷ m ∷ s ∷ option ∷ n ∷ []) = if is_word word (codes "run") && is_word option (codes "--turns") then with_turns m s (number_of n) else None
+files_of (word ∷ m ∷ s ∷ options) = run_with word m s (turns_of options)
 files_of [] = None
 files_of (word ∷ []) = None
 files_of (word ∷ m ∷ []) = None
-files_of (word ∷ m ∷ s ∷ option ∷ []) = None
-files_of (word ∷ m ∷ s ∷ option ∷ n ∷ other ∷ others) = None

@@ -1,6 +1,8 @@
 //! The words after the program's name.
+ghost use Rattle.std.specs.Char.{is_ascii_digit};
+ghost use Rattle.std.specs.List.{list_all};
 ghost use Rattle.std.specs.Prelude.{◌≡◌, None, Some, MatchOption, map, string_bytes};
-ghost use Rattle.psm.specs.Words.{begins_with_zero, files_of, is_number, named, number_of, with_turns};
+ghost use Rattle.psm.specs.Words.{begins_with_zero, files_of, is_number, named, number_of, run_with, turns_of};
 
 /// The turns of a session where the words tell none.
 const DEFAULT_TURNS: u64 = 1_000_000;
@@ -19,40 +21,58 @@ pub fn files_in(words: &[String]) -> Option<Files<'_>>
         (λ f. files_of (map string_bytes words.now) ≡ Some (named f.for_module.now f.for_script.now f.turns)) }
 {
     match words {
-        [word, for_module, for_script] if word.as_str() == "run" => Some(Files {
-            for_module: for_module.as_str(),
-            for_script: for_script.as_str(),
-            turns: DEFAULT_TURNS,
-        }),
-        [word, for_module, for_script, option, number]
-            if word.as_str() == "run" && option.as_str() == "--turns" =>
-        {
-            files_with(for_module.as_str(), for_script.as_str(), number.as_str())
-        }
+        [word, for_module, for_script, options @ ..] => files_for(
+            word.as_str(),
+            for_module.as_str(),
+            for_script.as_str(),
+            turns_in(options),
+        ),
         _ => None,
     }
 }
 
-// The files with as many turns as the word tells, if it is a number.
-fn files_with<'a>(for_module: &'a str, for_script: &'a str, turns: &str) -> Option<Files<'a>>
-    ensures { MatchOption result (with_turns for_module.now for_script.now (number_of turns.now) ≡ None)
-        (λ f. with_turns for_module.now for_script.now (number_of turns.now) ≡ Some (named f.for_module.now f.for_script.now f.turns)) }
+// The files, where the first word is `run` and there are turns.
+fn files_for<'a>(
+    word: &str,
+    for_module: &'a str,
+    for_script: &'a str,
+    turns: Option<u64>,
+) -> Option<Files<'a>>
+    ensures { MatchOption result (run_with word.now for_module.now for_script.now turns ≡ None)
+        (λ f. run_with word.now for_module.now for_script.now turns ≡ Some (named f.for_module.now f.for_script.now f.turns)) }
 {
-    let turns = number_in(turns)?;
-    Some(Files {
-        for_module,
-        for_script,
-        turns,
-    })
+    match turns {
+        Some(turns) if word == "run" => Some(Files {
+            for_module,
+            for_script,
+            turns,
+        }),
+        _ => None,
+    }
+}
+
+// The turns that the words behind the names tell.
+fn turns_in(options: &[String]) -> Option<u64>
+    ensures { result ≡ turns_of (map string_bytes options.now) }
+{
+    if options.is_empty() {
+        return Some(DEFAULT_TURNS);
+    }
+    match options {
+        [option, number] if option.as_str() == "--turns" => number_in(number.as_str()),
+        _ => None,
+    }
 }
 
 // The number that a word is.
-#[tactic(auto, using(crate::proofs::Numbers::parsed))]
 fn number_in(word: &str) -> Option<u64>
     ensures { result ≡ number_of word.now }
 {
     if is_number(word.as_bytes()) {
-        word.parse::<u64>().ok()
+        match word.parse::<u64>() {
+            Ok(number) => Some(number),
+            Err(_) => None,
+        }
     } else {
         None
     }
@@ -61,10 +81,13 @@ fn number_in(word: &str) -> Option<u64>
 fn is_number(word: &[u8]) -> bool
     ensures { result ≡ is_number word.now }
 {
+    all_digits(word) && !word.is_empty() && word.len() <= 18 && !begins_with_zero(word)
+}
+
+fn all_digits(word: &[u8]) -> bool
+    ensures { result ≡ list_all is_ascii_digit word.now }
+{
     word.iter().all(|byte| byte.is_ascii_digit())
-        && !word.is_empty()
-        && word.len() <= 18
-        && !begins_with_zero(word)
 }
 
 // Whether a zero stands before another byte.

@@ -1,21 +1,21 @@
 -- What is answered for a file, from the answers of its steps.
-use Rattle.std.proofs.Common.{◌≡◌, ℕ, List, Option, Some, Result, Ok, Err, refl, sym, subst, inl, inr}
+use Rattle.std.proofs.Common.{◌≡◌, ℕ, List, Result, Ok, Err, refl, sym, subst, inl, inr}
 use Rattle.std.specs.Prelude.{All, IsOkUnless}
 use Rattle.std.proofs.lemmas.List.Elements.{All-from_recursion}
 use Rattle.psm_tree.specs.declared.file.FileTree.{FileTree}
 use Rattle.psm_tree.specs.declared.script.ScriptTree.{ScriptTree}
-use Rattle.psm_rules.specs.declared.fault.Fault.{Fault as RuleFault}
 use Rattle.psm_meaning.specs.Session.{Command}
 use Rattle.psm_check_script.proofs.Named.{commands_there}
-use Rattle.psm_check_script.specs.Checked.{script_of}
+use Rattle.psm_check_script.specs.Checked.{Checks, script_of}
 use Rattle.psm_check_script.specs.Known.{known_of}
-use Rattle.psm_check_script.specs.ScriptFaults.{script_fault}
 use Rattle.psm_check_script.specs.There.{IsThere}
+use Rattle.psm_check_script.specs.declared.check.CheckFault.{CheckFault}
+use Rattle.psm_check_script.specs.declared.check.CheckFault.TheVariants as checks
 use Rattle.psm_script_code.specs.Made.{CommandsMade}
 use Rattle.psm_code.specs.declared.code.RawCode.{RawCode}
 use Rattle.psm_session.specs.declared.command.ScriptCode.{ScriptCode}
 use Rattle.psm_build.specs.Source.{module_files, scripts, IsTreeOf, IsAccepted, IsAcceptedScript}
-use Rattle.psm_build.specs.Told.{told_of_rule}
+use Rattle.psm_build.specs.Told.{told_of_script}
 use Rattle.psm_build.specs.Program.{IsModuleFile, StandsFor}
 use Rattle.psm_build.specs.Building.{ReadsTree, Accepts, Compiles, Builds, BuildsScript, BuildsOver}
 use Rattle.psm_build.specs.declared.fault.BuildFault.{BuildFault}
@@ -48,15 +48,11 @@ pub script_there : (code : RawCode) (tree : ScriptTree) (commands : List Command
 script_there code tree commands accepted e =
     subst (All (IsThere code)) (sym e) (All-from_recursion (IsThere code) (script_of (known_of code) tree) (commands_there code tree.commands accepted))
 
--- the commands that are made of an accepted script
-pub script_made : (code : RawCode) (bytes : List ℕ) (tree : ScriptTree) (commands : List Command) (made : ScriptCode) → IsTreeOf scripts bytes tree → IsAcceptedScript (known_of code) tree
-    → commands ≡ script_of (known_of code) tree → CommandsMade code commands made.commands → BuildsScript code bytes (Ok made)
-script_made code bytes tree commands made is accepted e h =
-    record { tree = tree; tree_is = is; accepted = accepted; made = subst (λ (cs : List Command). CommandsMade code cs made.commands) e h }
-
--- a script whose tree has a fault
-pub script_with_fault : (code : RawCode) (bytes : List ℕ) (tree : ScriptTree) (fault : RuleFault) → IsTreeOf scripts bytes tree → script_fault (known_of code) tree ≡ Some fault → BuildsScript code bytes (Err (told_of_rule fault))
-script_with_fault code bytes tree fault is first = inr (record { tree = tree; tree_is = is; breaks = record { fault = fault; first = first; told_is = refl } })
+-- a script that isn't accepted
+pub script_refused : (code : RawCode) (bytes : List ℕ) (tree : ScriptTree) (fault : CheckFault) → IsTreeOf scripts bytes tree → Checks (known_of code) tree (Err fault) → BuildsScript code bytes (Err (told_of_script fault))
+script_refused code bytes tree (checks.Rule place rule) is first =
+    inr (record { tree = tree; tree_is = is; breaks = record { fault = record { place = place; rule = rule }; first = first; told_is = refl } })
+script_refused code bytes tree checks.Memory is h = tt
 
 -- the answer for a module file
 pub module_given : (bytes : List ℕ) (answer : Result RawCode BuildFault) → Builds bytes answer → IsModuleFile bytes → IsOkUnless answer Memory

@@ -19,7 +19,7 @@ use Rattle.psm_proper.specs.Files.{ProperFile, AreApart, are_told_apart, is_apar
 use Rattle.psm_check_script.specs.There.{procedures_in}
 use Rattle.psm_script_code.proofs.Heads.{SameHead, SameHeads, written_heads}
 use Rattle.psm_script_code.proofs.There.{procedures_there}
-use Rattle.psm_plays.specs.Standing.{SameRoutine}
+use Rattle.psm_plays.specs.Standing.{CallStands}
 
 -- ---- two procedures of one name, with as many parameters
 
@@ -134,7 +134,7 @@ not_true false h = refl
 
 -- the routine with the number n is the procedure with that number, where their code is one
 pub procedure_stands : (file : ResolvedFile) (code : RawCode) → FileWritten file code → ProperFile file → (procedure n : ℕ) (r : RawRoutine) → routine_at code n ≡ Some r → slice_get (procedures_in code.routines) procedure ≡ Some r
-    → SameRoutine file code procedure n
+    → CallStands file code procedure n
 procedure_stands file code written proper procedure n r at is =
     let heads = (written_heads file code written).routines in
     let p = procedures_there file.routines code.routines heads procedure r is in

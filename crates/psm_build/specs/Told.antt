@@ -5,6 +5,8 @@ use Rattle.psm_token.specs.declared.place.Place.{Place}
 use Rattle.psm_tree.specs.declared.fault.ParseFault.{ParseFault}
 use Rattle.psm_tree.specs.declared.fault.ParseFault.TheVariants as parse
 use Rattle.psm_rules.specs.declared.fault.Fault.{Fault as RuleFault}
+use Rattle.psm_check_script.specs.declared.check.CheckFault.{CheckFault}
+use Rattle.psm_check_script.specs.declared.check.CheckFault.TheVariants as checks
 use Rattle.psm_build.specs.declared.fault.Fault.{Fault}
 use Rattle.psm_build.specs.declared.fault.Fault.TheVariants as faults
 use Rattle.psm_build.specs.declared.fault.BuildFault.{BuildFault}
@@ -32,3 +34,7 @@ told_of_tree parse.Memory = Memory
 
 abbrev pub told_of_rule : RuleFault → BuildFault
 told_of_rule fault = told_at fault.place (faults.Broken fault.rule)
+
+abbrev pub told_of_script : CheckFault → BuildFault
+told_of_script (checks.Rule place rule) = told_at place (faults.Broken rule)
+told_of_script checks.Memory = Memory

@@ -3,14 +3,13 @@ ghost use Rattle.std.specs.Prelude.{◌<◌, ℕ, List as Seq, length, IsOkUnles
 ghost use Rattle.psm_build.specs.Program.{IsModuleFile, StandsFor};
 ghost use Rattle.psm_build.specs.Building.{Accepts, Builds, BuildsScript, BuildsOver, Compiles};
 
-use crate::fault::{BuildFault, refused_rule};
+use crate::fault::{BuildFault, refused_rule, refused_script};
 use crate::read::{module_tree, script_tree};
-use psm_check_script::{CheckFault, check_script};
+use psm_check_script::check_script;
 use psm_check_stmt::file_fault;
 use psm_code::RawCode;
 use psm_emit::lower;
 use psm_resolve::resolve_file;
-use psm_rules::Fault;
 use psm_script_code::lower_script;
 use psm_session::ScriptCode;
 use psm_tree::FileTree;
@@ -95,7 +94,6 @@ fn script_over(alloc: Global, code: &RawCode, bytes: &[u8]) -> Result<ScriptCode
             Ok(commands) => Ok(commands),
             Err(_) => Err(BuildFault::Memory),
         },
-        Err(CheckFault::Rule { place, rule }) => Err(refused_rule(Fault { place, rule })),
-        Err(CheckFault::Memory) => Err(BuildFault::Memory),
+        Err(fault) => Err(refused_script(fault)),
     }
 }

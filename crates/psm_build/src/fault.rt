@@ -3,8 +3,9 @@ ghost use Rattle.std.specs.Prelude.{◌≡◌};
 ghost use Rattle.psm_token.specs.FaultTexts as tokens;
 ghost use Rattle.psm_tree.specs.FaultTexts as trees;
 ghost use Rattle.psm_build.specs.FaultTexts.{text_of, refusal_text};
-ghost use Rattle.psm_build.specs.Told.{told_at, told_of_rule, told_of_tokens, told_of_tree};
+ghost use Rattle.psm_build.specs.Told.{told_at, told_of_rule, told_of_script, told_of_tokens, told_of_tree};
 
+use psm_check_script::CheckFault;
 use psm_rules::{Fault as RuleFault, Rule};
 use psm_token::{LexFault, Place};
 use psm_tree::ParseFault;
@@ -118,4 +119,14 @@ pub(crate) fn refused_rule(fault: RuleFault) -> BuildFault
     ensures { result ≡ told_of_rule fault }
 {
     Fault::Broken(fault.rule).at(fault.place)
+}
+
+/// The refusal of a script that isn't accepted for that reason.
+pub(crate) fn refused_script(fault: CheckFault) -> BuildFault
+    ensures { result ≡ told_of_script fault }
+{
+    match fault {
+        CheckFault::Rule { place, rule } => Fault::Broken(rule).at(place),
+        CheckFault::Memory => BuildFault::Memory,
+    }
 }
