@@ -1,5 +1,5 @@
 //! What is put for a refusal, and for a script that is run.
-ghost use Rattle.std.specs.Prelude.{◌≡◌, ◌++◌, All, IfOk};
+ghost use Rattle.std.specs.Prelude.{◌≡◌, ◌++◌, All, IfOk, map};
 ghost use Rattle.psm_table.specs.Definition.{IsDefinition};
 ghost use Rattle.psm_undostore.specs.Undo.{tables_of};
 ghost use Rattle.psm_build.specs.Played.{CanRun, PlaysAs, definitions, empty_tables};
@@ -16,8 +16,10 @@ use crate::prepare::{Refusal, Which};
 use crate::status::Status;
 use crate::words::Files;
 use psm_build::{Code, Fault, ScriptCode};
+use psm_code::CodeTable;
 use psm_io::{Sink, SinkFault};
 use psm_session::{ScriptEnd, run_script};
+use psm_table::TableDef;
 use psm_undostore::UndoStore;
 use std::alloc::{AllocError, Global};
 
@@ -57,11 +59,18 @@ fn empty_store(alloc: Global, code: &Code) -> Result<UndoStore, AllocError>
     ensures tables { IfOk result (λ s. tables_of s ≡ empty_tables code.now) }
     ensures marks { IfOk result (λ s. s.marks ≡ 0) }
 {
+    let defs = definitions_of(alloc, code.tables.items())?;
+    UndoStore::new(alloc, defs)
+}
+
+fn definitions_of(alloc: Global, tables: &[CodeTable]) -> Result<Vec<TableDef>, AllocError>
+    ensures { IfOk result (λ defs. defs.items ≡ map (λ t. t.definition) tables.now) }
+{
     let mut defs = Vec::new(alloc);
-    for table in code.tables.items() {
+    for table in tables {
         defs.push(table.definition.copy(alloc)?)?;
     }
-    UndoStore::new(alloc, defs)
+    Ok(defs)
 }
 
 /// Puts the line that shows the form of the words.
