@@ -11,7 +11,7 @@ pub fn answer(alloc: Global, text: &str) -> Result<String> {
         bail!("too long");
     }
     match build(alloc, bytes.as_slice()) {
-        Ok(_) | Err(BuildFault::NotBuilt) => Ok(String::from_str(alloc, "accepted")?),
+        Ok(_) => Ok(String::from_str(alloc, "accepted")?),
         Err(
             BuildFault::Refused {
                 line,

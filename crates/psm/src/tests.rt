@@ -185,8 +185,7 @@ fn nested(alloc: Global, levels: usize) -> Result<String, Fail> {
 }
 
 #[test]
-fn a_module_file_without_a_built_tree_is_refused(rt: HostRuntime) -> Result<(), Fail> {
-    let deepest = nested(rt.alloc(), 100)?;
+fn a_module_file_with_a_fault_is_refused(rt: HostRuntime) -> Result<(), Fail> {
     let too_deep = nested(rt.alloc(), 101)?;
     for (module_file, written) in [
         ("", "module 1:1 syntax fault\n"),
@@ -212,24 +211,6 @@ fn a_module_file_without_a_built_tree_is_refused(rt: HostRuntime) -> Result<(), 
             "CREATE TABLE t (a INTEGER); CREATE MODULE m PROCEDURE p (n INTEGER) SET n = 'x'; END MODULE",
             "module 1:14 K04 not one primary key\n",
         ),
-        (&deepest, "module not built\n"),
-        (
-            "CREATE MODULE m\r\nPROCEDURE p (OUT n INTEGER) SET n = NULL; END MODULE",
-            "module not built\n",
-        ),
-        (
-            "CREATE MODULE m PROCEDURE p (OUT n INTEGER) SET n = 2 * 3 + 1; END MODULE",
-            "module not built\n",
-        ),
-        (
-            "CREATE MODULE m PROCEDURE p (OUT n INTEGER) SET n = 2147483648; END MODULE",
-            "module not built\n",
-        ),
-        (
-            "CREATE MODULE m PROCEDURE p (OUT n INTEGER) SET n = 1.0; END MODULE",
-            "module not built\n",
-        ),
-        ("CREATE MODULE m END MODULE", "module not built\n"),
     ] {
         let (status, text) = call(rt.alloc(), "run M S", &files(module_file, "CALL p(?);"))?;
         assert_eq!(rt; status, Status::ModuleRefused, "at {module_file}");
@@ -239,23 +220,102 @@ fn a_module_file_without_a_built_tree_is_refused(rt: HostRuntime) -> Result<(), 
 }
 
 #[test]
-fn a_script_that_is_not_built_is_refused(rt: HostRuntime) -> Result<(), Fail> {
-    for (script, written) in [
-        ("", "script not built\n"),
-        ("CALL Q ( 1 ) ;\n", "script not built\n"),
-        ("CALL P(1)", "script 1:10 syntax fault\n"),
-        ("CALL P(1);\nCALL P(-);", "script 2:9 syntax fault\n"),
-        ("CALL P(-1);", "script not built\n"),
-        ("CALL P(?);", "script not built\n"),
+fn each_accepted_module_file_runs(rt: HostRuntime) -> Result<(), Fail> {
+    let deepest = nested(rt.alloc(), 100)?;
+    for (module_file, written) in [
+        (deepest.as_str(), "1 CALL P\nA = 1\nOK\n"),
         (
-            "COMMIT WORK; SELECT a FROM t ORDER BY a;",
-            "script not built\n",
+            "CREATE MODULE m\r\nPROCEDURE p (OUT n INTEGER) SET n = NULL; END MODULE",
+            "1 CALL P\nN = NULL\nOK\n",
         ),
-        ("SELECT '", "script 1:8 text without end\n"),
+        (
+            "CREATE MODULE m PROCEDURE p (OUT n INTEGER) SET n = 2 * 3 + 1; END MODULE",
+            "1 CALL P\nN = 7\nOK\n",
+        ),
+        (
+            "CREATE MODULE m PROCEDURE p (OUT n INTEGER) SET n = 2147483648; END MODULE",
+            "1 CALL P\nSQLSTATE 22003 numeric value out of range\n",
+        ),
+        (
+            "CREATE MODULE m PROCEDURE p (OUT n INTEGER) SET n = 1.0; END MODULE",
+            "1 CALL P\nN = 1\nOK\n",
+        ),
     ] {
-        let (status, text) = call(rt.alloc(), "run M S", &files(TRIPLE, script))?;
+        let (status, text) = call(rt.alloc(), "run M S", &files(module_file, "CALL p(?);"))?;
+        assert_eq!(rt; status, Status::Done, "at {module_file}");
+        assert_eq!(rt; text.as_str(), written, "at {module_file}");
+    }
+    Ok(())
+}
+
+#[test]
+fn a_script_with_a_fault_is_refused(rt: HostRuntime) -> Result<(), Fail> {
+    for (module_file, script, written) in [
+        (TRIPLE, "CALL P(1)", "script 1:10 syntax fault\n"),
+        (
+            TRIPLE,
+            "CALL P(1);\nCALL P(-);",
+            "script 2:9 syntax fault\n",
+        ),
+        (TRIPLE, "SELECT '", "script 1:8 text without end\n"),
+        (
+            TRIPLE,
+            "CALL Q ( 1 ) ;\n",
+            "script 1:6 K25 unknown procedure\n",
+        ),
+        (
+            TRIPLE,
+            "CALL P(?);",
+            "script 1:8 K43 argument does not fit its mode\n",
+        ),
+        (
+            TRIPLE,
+            "COMMIT WORK; SELECT COUNT(*) FROM t;",
+            "script 1:35 K22 unknown table\n",
+        ),
+        (
+            "CREATE MODULE m END MODULE",
+            "CALL p(?);",
+            "script 1:6 K25 unknown procedure\n",
+        ),
+    ] {
+        let (status, text) = call(rt.alloc(), "run M S", &files(module_file, script))?;
         assert_eq!(rt; status, Status::ScriptRefused, "at {script}");
         assert_eq!(rt; text.as_str(), written, "at {script}");
+    }
+    Ok(())
+}
+
+#[test]
+fn each_accepted_script_runs(rt: HostRuntime) -> Result<(), Fail> {
+    for (script, written) in [
+        ("", ""),
+        ("CALL P(-1);", "1 CALL P\nX = -3\nOK\n"),
+        ("COMMIT WORK; ROLLBACK;", "1 COMMIT\nOK\n2 ROLLBACK\nOK\n"),
+    ] {
+        let (status, text) = call(rt.alloc(), "run M S", &files(TRIPLE, script))?;
+        assert_eq!(rt; status, Status::Done, "at {script}");
+        assert_eq!(rt; text.as_str(), written, "at {script}");
+    }
+    Ok(())
+}
+
+#[test]
+fn the_words_tell_how_many_turns_there_are(rt: HostRuntime) -> Result<(), Fail> {
+    let turning =
+        "CREATE MODULE M PROCEDURE p (OUT s INTEGER) BEGIN DECLARE i INTEGER DEFAULT 0; SET s = 0; l: LOOP SET i = i + 1; IF i > 5 THEN LEAVE l; END IF; IF i = 3 THEN ITERATE l; END IF; SET s = s + i; END LOOP l; END; END MODULE";
+    let done = "1 CALL P\nS = 12\nOK\n";
+    let used = "1 CALL P\nTURNS USED\n";
+    for (given, status, written) in [
+        ("run M S", Status::Done, done),
+        ("run M S --turns 7", Status::Done, done),
+        ("run M S --turns 6", Status::TurnsUsed, used),
+        ("run M S --turns 0", Status::TurnsUsed, used),
+        ("run M S --turns 999999999999999999", Status::Done, done),
+    ] {
+        let (answer, text) = call(rt.alloc(), given, &files(turning, "CALL p(?);"))?;
+        assert_eq!(rt; answer, status, "at {given}");
+        assert_eq!(rt; text.as_str(), written, "at {given}");
     }
     Ok(())
 }
@@ -271,11 +331,23 @@ fn other_words_show_the_usage(rt: HostRuntime) -> Result<(), Fail> {
         "compile M",
         "--help",
         "--version",
-        "run M S --turns 5",
+        "run M S --turns",
+        "run M S --turn 5",
+        "run M S --turns 05",
+        "run M S --turns +5",
+        "run M S --turns -5",
+        "run M S --turns 5x",
+        "run M S --turns 1000000000000000000",
+        "run M S --turns 5 6",
+        "run --turns 5 M S",
     ] {
         let (answer, text) = call(rt.alloc(), given, &files(TRIPLE, FIVE_SEVEN))?;
         assert_eq!(rt; answer, Status::Usage, "at {given}");
-        assert_eq!(rt; text.as_str(), "usage: psm run M S\n", "at {given}");
+        assert_eq!(rt;
+            text.as_str(),
+            "usage: psm run M S [--turns N]\n",
+            "at {given}"
+        );
     }
     Ok(())
 }
