@@ -11,7 +11,6 @@ use Rattle.psm_check_script.specs.Known.{known_of}
 use Rattle.psm_check_script.specs.There.{IsThere}
 use Rattle.psm_check_script.specs.declared.check.CheckFault.{CheckFault}
 use Rattle.psm_check_script.specs.declared.check.CheckFault.TheVariants as checks
-use Rattle.psm_script_code.specs.Made.{CommandsMade}
 use Rattle.psm_code.specs.declared.code.RawCode.{RawCode}
 use Rattle.psm_session.specs.declared.command.ScriptCode.{ScriptCode}
 use Rattle.psm_build.specs.Source.{module_files, scripts, IsTreeOf, IsAccepted, IsAcceptedScript}

@@ -1,5 +1,5 @@
 -- What is known of code that is written for an accepted module file, and of a script over it.
-use Rattle.std.proofs.Common.{◌≡◌, ℕ, List, Ok, None, sym, ap, subst, inl, inr}
+use Rattle.std.proofs.Common.{◌≡◌, ℕ, List, Ok, subst}
 use Rattle.psm_tree.specs.declared.file.FileTree.{FileTree}
 use Rattle.psm_resolve.specs.Files.{file_made}
 use Rattle.psm_accept.proofs.Files.{file-proper}

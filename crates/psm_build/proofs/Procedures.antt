@@ -1,5 +1,5 @@
 -- A procedure of code is that of the file with its number, since no two procedures of one name have as many parameters.
-use Rattle.std.proofs.Common.{◌≡◌, ◌≢◌, ℕ, zero, suc, Bool, true, false, not, ◌&&◌, List, [], ◌∷◌, ◌++◌, map, length, Option, Some, refl, sym, ap, ◌∙◌, subst, eq-eqb, cond}
+use Rattle.std.proofs.Common.{◌≡◌, ◌≢◌, ℕ, zero, suc, Bool, true, false, not, ◌&&◌, List, [], ◌∷◌, ◌++◌, map, length, Some, refl, sym, ap, ◌∙◌, subst, eq-eqb, cond}
 use Rattle.std.specs.Cmp.Lexicographic.{pointwise, told_text}
 use Rattle.std.specs.List.{list_all}
 use Rattle.std.specs.Prelude.{MatchBool, filter, nat_eq, slice_get}
@@ -12,7 +12,7 @@ use Rattle.psm_code.specs.Parts.{routine_at}
 use Rattle.psm_resolved.specs.declared.file.ResolvedFile.{ResolvedFile}
 use Rattle.psm_resolved.specs.declared.file.ResolvedParameter.{ResolvedParameter}
 use Rattle.psm_resolved.specs.declared.file.ResolvedRoutine.{ResolvedRoutine}
-use Rattle.psm_meaning.specs.Calls.{procedure_at, returns}
+use Rattle.psm_meaning.specs.Calls.{returns}
 use Rattle.psm_lower.specs.Simulation.{parameter_of}
 use Rattle.psm_emit.specs.Files.{FileWritten, is_function}
 use Rattle.psm_proper.specs.Files.{ProperFile, AreApart, are_told_apart, is_apart_from}

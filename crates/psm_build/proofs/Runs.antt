@@ -1,5 +1,5 @@
 -- A session over a sound module file comes to what a run of commands of its code comes to.
-use Rattle.std.proofs.Common.{◌≡◌, ℕ, List, ap}
+use Rattle.std.proofs.Common.{ℕ, List, ap}
 use Rattle.psm_resolved.specs.declared.file.ResolvedFile.{ResolvedFile}
 use Rattle.psm_meaning.specs.Heights.{session}
 use Rattle.psm_meaning.specs.Session.{Command, Session, at_start}

@@ -12,16 +12,15 @@ use Rattle.psm_proper.proofs.Sound.{sound-file}
 use Rattle.psm_sound.specs.Scene.{Each}
 use Rattle.psm_sound.specs.Scripts.{IsCommand}
 use Rattle.psm_check_script.specs.Checked.{script_of}
-use Rattle.psm_check_script.specs.Known.{Known, known_of}
+use Rattle.psm_check_script.specs.Known.{Known}
 use Rattle.psm_session.specs.Ends.{FitsCommand, beginning}
 use Rattle.psm_session.specs.declared.command.ScriptCommand.{ScriptCommand}
 use Rattle.psm_script_code.specs.Made.{CommandsMade}
-use Rattle.psm_script_code.specs.Proper.{ProperCommand}
 use Rattle.psm_script_code.proofs.Fits.{commands_fit}
 use Rattle.psm_script_code.proofs.Sound.{commands_proper, commands_sound}
 use Rattle.psm_plays.specs.Standing.{CommandsStand}
 use Rattle.psm_build.specs.Source.{scripts, IsTreeOf}
-use Rattle.psm_build.specs.Program.{ComesTo, IsScriptFile, IsScriptOf, StandsFor, commands_of, file_of, known_over}
+use Rattle.psm_build.specs.Program.{ComesTo, IsScriptFile, IsScriptOf, StandsFor, commands_of, file_of}
 use Rattle.psm_build.specs.Played.{CanRun, PlaysAs, empty_tables}
 use Rattle.psm_build.proofs.CommandsStand.{commands_stand}
 use Rattle.psm_build.proofs.Compiled.{known_over_code, script_file_over}

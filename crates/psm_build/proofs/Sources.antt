@@ -18,9 +18,8 @@ use Rattle.psm_tree.specs.declared.fault.ParseFault.TheVariants as parse
 use Rattle.psm_tree.proofs.ExprFits.{after}
 use Rattle.psm_tree.proofs.Readable.{height, readable}
 use Rattle.psm_build.specs.Told.{told_of_tokens, told_of_tree}
-use Rattle.psm_build.specs.Source.{IsTreeOf, IsTokenFault, IsTreeFault, IsFaultAt}
+use Rattle.psm_build.specs.Source.{IsTreeOf, IsTreeFault, IsFaultAt}
 use Rattle.psm_build.specs.declared.fault.Fault.{Fault}
-use Rattle.psm_build.specs.declared.fault.BuildFault.{BuildFault}
 use Rattle.psm_build.specs.declared.fault.BuildFault.TheVariants.{Refused, Memory}
 
 value_or : {T Y : Type 0} → Y → Out T Y → Y

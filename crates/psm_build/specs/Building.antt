@@ -5,13 +5,12 @@ use Rattle.psm_token.specs.Listed.{Tokens}
 use Rattle.psm_token.specs.Spells.{Spells}
 use Rattle.psm_grammar.specs.Language.{Lang}
 use Rattle.psm_tree.specs.declared.file.FileTree.{FileTree}
-use Rattle.psm_tree.specs.declared.script.ScriptTree.{ScriptTree}
 use Rattle.psm_cond.specs.Sound.{is_numbered}
 use Rattle.psm_resolve.specs.Files.{file_made}
 use Rattle.psm_lower.specs.Simulation.{FileStands}
 use Rattle.psm_emit.specs.Files.{FileWritten}
 use Rattle.psm_emit.specs.Standing.{CanStand}
-use Rattle.psm_check_script.specs.Known.{Known, known_of}
+use Rattle.psm_check_script.specs.Known.{known_of}
 use Rattle.psm_code.specs.declared.code.RawCode.{RawCode}
 use Rattle.psm_session.specs.declared.command.ScriptCode.{ScriptCode}
 use Rattle.psm_build.specs.Source.{scripts, IsTreeOf, IsTokenFault, IsFaultAt, IsAccepted, BreaksRule, IsScriptRuleFault}
