@@ -1,4 +1,0 @@
-pub mod NamePlaces
-pub mod Distinct
-pub mod Checks
-pub mod Once
