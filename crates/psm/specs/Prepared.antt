@@ -39,7 +39,7 @@ Gets fetches name w (Err (TooLong x)) = (x ≡ w) × IsTooLong fetches name
 Gets fetches name w (Err (Refused x line column fault)) = ⊥
 Gets fetches name w (Err Memory) = Unit {0}
 
--- why nothing is run, where one of the files is not built
+-- why nothing is run, where one of the files is refused or memory ran out
 abbrev pub refusal_of : Which → BuildFault → Refusal
 refusal_of w (builds.Refused line column fault) = Refused w line column fault
 refusal_of w builds.Memory = Memory

@@ -94,7 +94,7 @@ fn script_over(alloc: Global, code: &Code, bytes: &[u8]) -> Result<ScriptCode, R
     }
 }
 
-// Why nothing is run, where one of the files is not built.
+// Why nothing is run, where one of the files is refused or memory ran out.
 fn refused_by(which: Which, fault: BuildFault) -> Refusal
     ensures { result ≡ refusal_of which fault }
 {
