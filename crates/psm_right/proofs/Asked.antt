@@ -32,7 +32,7 @@ use Rattle.psm_right.proofs.Faultless.{Faultless}
 use Rattle.psm_right.proofs.Propers.{of_call, of_case, of_chain, of_coalesce, of_first, of_junction, of_just, of_link, of_rest, of_straight, of_when, proper-layer}
 use Rattle.psm_right.proofs.QueriesRight.{Holds, query-faultless}
 use Rattle.psm_right.proofs.Sounds.{IsSound, all-sound, exprs-sound, operands-sound}
-use Rattle.psm_right.proofs.Typing.{sound-layer}
+use Rattle.psm_proper.proofs.Typing.{sound-layer}
 
 -- operations leave the queries as they are
 pub queries-applied : (context resume count : ℕ) (k : Letter) (os : List Op) (w : Written) → (all_applied context resume count k os w).queries ≡ w.queries

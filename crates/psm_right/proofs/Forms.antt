@@ -45,7 +45,7 @@ use Rattle.psm_right.specs.Kept.{Keeps}
 use Rattle.psm_proper.specs.Expressions.{AllProper, allows, is_within, takes_null}
 use Rattle.psm_right.proofs.Propers.{letter_put, letters_put, put-value, puts-typed}
 use Rattle.psm_right.proofs.Putting.{AllMake, AllStay, Makes}
-use Rattle.psm_right.proofs.Typing.{IsLayer, are-same}
+use Rattle.psm_proper.proofs.Typing.{IsLayer, are-same}
 
 -- ---- letters, the last one first
 

@@ -44,7 +44,7 @@ use Rattle.psm_right.proofs.Propers.{letters_put, of_call, of_case, of_chain, of
 use Rattle.psm_right.proofs.Putting.{AllMake, all_applied-free, all_applied-starts, applied-free, calm-operation, follows-as, grows-after, jump-free, line-starts, puts-free, test-free, unless_null-free, written-free}
 use Rattle.psm_right.proofs.Stacks.{all-first, all-rest, all-stack, arguments-stack, compares-stack, exprs-length, firsts-stack, last-is, letter-first, letter-rest, operator-same, otherwise-stack, typed-put, wanted-put, whens-stack, writes-stack}
 use Rattle.psm_right.proofs.Starts.{all-starts, arguments-starts, compares-starts, firsts-starts, joins-starts, links-starts, otherwise-starts, whens-starts, writes-starts}
-use Rattle.psm_right.proofs.Typing.{sound-layer}
+use Rattle.psm_proper.proofs.Typing.{sound-layer}
 
 -- ---- the letter of NULL is a value's
 

@@ -8,7 +8,7 @@ use Rattle.psm_lower.specs.Expressions.{Layer, is_straight, operands_of}
 use Rattle.psm_sound.specs.Expressions.{AreAll, AreExprs, IsExpr}
 use Rattle.psm_sound.specs.Expressions as sound
 use Rattle.psm_sound.specs.Scene.{Each, Scene}
-use Rattle.psm_right.proofs.Typing.{IsLayer}
+use Rattle.psm_proper.proofs.Typing.{IsLayer}
 
 -- an expression of some letter
 abbrev pub IsSound : Scene → ResolvedExpr → Type 0

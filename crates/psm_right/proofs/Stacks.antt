@@ -29,7 +29,7 @@ use Rattle.psm_proper.specs.Expressions.{AllProper, LinksProper, PerhapsProper, 
 use Rattle.psm_right.proofs.Forms.{Form, form, turned}
 use Rattle.psm_right.proofs.Propers.{letter_put, letters_put, of_call, of_case, of_chain, of_coalesce, of_first, of_junction, of_just, of_link, of_rest, of_scalar, of_straight, of_when, proper-layer, proper-within, put-at, put-typed, put-wanted, puts-length}
 use Rattle.psm_right.proofs.Putting.{all_applied-stack, dropped}
-use Rattle.psm_right.proofs.Typing.{sound-layer}
+use Rattle.psm_proper.proofs.Typing.{sound-layer}
 
 -- ---- letters
 
