@@ -6,6 +6,7 @@ ghost use Rattle.psm_cond.specs.Item.{GivesItem, entries_of, statement_item};
 use crate::condition::Condition;
 use crate::fault::AreaFault;
 use crate::item::{ConditionItem, StatementItem};
+use psm_list::Boxed;
 use psm_sqlstate::SqlState;
 use psm_value::Datum;
 use std::alloc::{AllocError, Global};
@@ -19,11 +20,12 @@ pub struct Area {
     rows: u32,
 }
 
-/// What an area holds. The texts of success are made where they are read, so it takes no memory.
+/// What an area holds. The texts of success are made where they are read, so it takes no memory. A condition is boxed, so that an
+/// area is small, and clearing it writes a word or two.
 #[derive(Debug, Drop)]
 enum Held {
     Success,
-    Raised(Condition),
+    Raised(Boxed<Condition>),
 }
 
 impl Model for Area {
@@ -73,7 +75,7 @@ impl Area {
         ensures ok { OnOk result (self.new ≡ record self.old { entries = condition.now }) }
         ensures err { OnErr result (self.new ≡ self.old) }
     {
-        self.held = Held::Raised(condition.copy(alloc)?);
+        self.held = Held::Raised(Boxed::new(alloc, condition.copy(alloc)?)?);
         Ok(())
     }
 
@@ -83,7 +85,7 @@ impl Area {
     {
         match &self.held {
             Held::Success => item.of(alloc, 1, false, self.rows),
-            Held::Raised(condition) => condition.statement_item(alloc, item, self.rows),
+            Held::Raised(condition) => condition.get().statement_item(alloc, item, self.rows),
         }
     }
 
@@ -101,7 +103,7 @@ impl Area {
             Held::Success => {
                 Condition::raised(alloc, SqlState::SUCCESS)?.condition_item(alloc, number, item)
             }
-            Held::Raised(condition) => condition.condition_item(alloc, number, item),
+            Held::Raised(condition) => condition.get().condition_item(alloc, number, item),
         }
     }
 }
