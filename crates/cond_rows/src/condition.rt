@@ -3,7 +3,7 @@
 use crate::fault::Fault;
 use crate::row::{Row, name, number, state};
 use psm_cond::{Condition, DataFault, Entry};
-use psm_list::List;
+use psm_list::{Boxed, List};
 use psm_sqlstate::{Kind, SqlState};
 use psm_text::Text;
 use std::alloc::Global;
@@ -43,12 +43,12 @@ fn alike(alloc: Global, count: u32) -> Result<Vec<Entry>, DataFault> {
 /// What a data statement is refused with that raises a condition.
 pub fn raised(alloc: Global, row: &mut Row<'_>) -> Result<String, Fault> {
     let condition = condition(alloc, row.word()?)?;
-    refused(alloc, DataFault::from(condition))
+    refused(alloc, DataFault::Raised(Boxed::new(alloc, condition)?))
 }
 
 fn refused(alloc: Global, fault: DataFault) -> Result<String, Fault> {
     match fault {
-        DataFault::Raised(condition) => shown(alloc, &condition),
+        DataFault::Raised(condition) => shown(alloc, condition.get()),
         DataFault::Memory => Err(Fault::Memory),
     }
 }
@@ -82,16 +82,16 @@ fn with_part(alloc: Global, kept: Option<Condition>, part: &str) -> Result<Condi
 fn of_part(alloc: Global, part: &str) -> Result<Condition, Fault> {
     if let Some((written, table)) = part.split_once('@') {
         let table = name(alloc, table)?;
-        return Ok(Condition::at_table(alloc, state(written)?, &table)?);
+        return Ok(Condition::at_table(alloc, state(written)?, &table)?.into_inner());
     }
     if let Some((written, cursor)) = part.split_once('#') {
         let cursor = name(alloc, cursor)?;
-        return Ok(Condition::at_cursor(alloc, state(written)?, &cursor)?);
+        return Ok(Condition::at_cursor(alloc, state(written)?, &cursor)?.into_inner());
     }
     if part.contains('~') {
         return Ok(Condition::of(alloc, entry(alloc, part)?));
     }
-    Ok(Condition::raised(alloc, state(part)?)?)
+    Ok(Condition::raised(alloc, state(part)?)?.into_inner())
 }
 
 // An entry without a table or a cursor.

@@ -38,7 +38,7 @@ pub fn gone(alloc: Global, answer: Result<(), DataFault>) -> Result<String, Faul
 /// The SQLSTATE of a condition, and the name of the table that it bears.
 pub fn raised(alloc: Global, fault: &DataFault) -> Result<String, Fault> {
     match fault {
-        DataFault::Raised(condition) => condition_of(alloc, condition),
+        DataFault::Raised(condition) => condition_of(alloc, condition.get()),
         DataFault::Memory => Err(Fault::Memory),
     }
 }

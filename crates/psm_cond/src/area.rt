@@ -101,7 +101,8 @@ impl Area {
     {
         match &self.held {
             Held::Success => {
-                Condition::raised(alloc, SqlState::SUCCESS)?.condition_item(alloc, number, item)
+                let success = Condition::raised(alloc, SqlState::SUCCESS)?;
+                success.get().condition_item(alloc, number, item)
             }
             Held::Raised(condition) => condition.get().condition_item(alloc, number, item),
         }

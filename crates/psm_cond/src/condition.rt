@@ -8,7 +8,7 @@ ghost use Rattle.psm_cond.specs.Item.{GivesItem, IsNumber, entries_of, statement
 use crate::entry::{Entry, text_of};
 use crate::fault::AreaFault;
 use crate::item::{ConditionItem, StatementItem, whole};
-use psm_list::List;
+use psm_list::{Boxed, List};
 use psm_sqlstate::{Kind, SqlState};
 use psm_text::Name;
 use psm_value::{Datum, compare};
@@ -67,28 +67,36 @@ impl Condition {
     }
 
     /// The condition of an SQLSTATE alone, with the state's message.
-    pub fn raised(alloc: Global, state: SqlState) -> Result<Condition, AllocError>
+    pub fn raised(alloc: Global, state: SqlState) -> Result<Boxed<Condition>, AllocError>
         ensures { IfOk result (λ c. c ≡ alone (entry_of state)) }
     {
-        Ok(Condition::of(alloc, Entry::of_state(alloc, state)?))
+        Boxed::new(alloc, Condition::of(alloc, Entry::of_state(alloc, state)?))
     }
 
     /// The same, with the name of the table on which it is raised.
-    pub fn at_table(alloc: Global, state: SqlState, table: &Name) -> Result<Condition, AllocError>
+    pub fn at_table(
+        alloc: Global,
+        state: SqlState,
+        table: &Name,
+    ) -> Result<Boxed<Condition>, AllocError>
         ensures { IfOk result (λ c. c ≡ alone (record (entry_of state) { table = name_text table.now })) }
     {
         let mut entry = Entry::of_state(alloc, state)?;
         entry.table = text_of(alloc, table)?;
-        Ok(Condition::of(alloc, entry))
+        Boxed::new(alloc, Condition::of(alloc, entry))
     }
 
     /// The same, with the name of the cursor on which it is raised.
-    pub fn at_cursor(alloc: Global, state: SqlState, cursor: &Name) -> Result<Condition, AllocError>
+    pub fn at_cursor(
+        alloc: Global,
+        state: SqlState,
+        cursor: &Name,
+    ) -> Result<Boxed<Condition>, AllocError>
         ensures { IfOk result (λ c. c ≡ alone (record (entry_of state) { cursor = name_text cursor.now })) }
     {
         let mut entry = Entry::of_state(alloc, state)?;
         entry.cursor = text_of(alloc, cursor)?;
-        Ok(Condition::of(alloc, entry))
+        Boxed::new(alloc, Condition::of(alloc, entry))
     }
 
     /// The first entry.

@@ -1,6 +1,7 @@
 //! Why a diagnostics item or a data statement gives nothing.
 
 use crate::condition::Condition;
+use psm_list::Boxed;
 use std::alloc::{AllocError, AllocFailed};
 
 /// Why an item of an entry isn't given.
@@ -26,8 +27,8 @@ impl From<AllocError> for AreaFault {
 /// Why a data statement isn't done.
 #[derive(Debug, Drop)]
 pub enum DataFault {
-    /// The condition that it raises.
-    Raised(Condition),
+    /// The condition that it raises. It is boxed, so that an answer is small.
+    Raised(Boxed<Condition>),
     /// Memory ran out.
     Memory,
 }
@@ -51,16 +52,5 @@ impl<T: Drop> From<AllocFailed<T>> for DataFault {
 
     fn from(_e: AllocFailed<T>) -> DataFault {
         DataFault::Memory
-    }
-}
-
-impl From<Condition> for DataFault {
-    ghost use Rattle.std.specs.Prelude.{◌≡◌};
-    ghost use Rattle.psm_cond.specs.declared.fault.DataFault.TheVariants.{Raised};
-
-    ghost from_gives = { λ condition e. e ≡ Raised condition };
-
-    fn from(condition: Condition) -> DataFault {
-        DataFault::Raised(condition)
     }
 }
