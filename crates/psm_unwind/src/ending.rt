@@ -1,16 +1,16 @@
 //! How an instruction leaves a run, and how a run ends.
 
 use psm_cond::Condition;
-use psm_list::List;
+use psm_list::{Boxed, List};
 use psm_value::Datum;
 
-/// How a run ends.
+/// How a run ends. What it gives is boxed, so that what each instruction comes to is two or three words.
 #[derive(Debug, Drop)]
 pub enum Ending {
     /// With the values of the OUT and INOUT parameters, or with the value of a function.
-    Ended(List<Datum>),
+    Ended(Boxed<List<Datum>>),
     /// With an exception that no handler takes.
-    Raised(Condition),
+    Raised(Boxed<Condition>),
     /// Where a turn is due and none is left.
     NoTurns,
     /// Where something isn't there that an instruction names. Code that keeps its rules never comes to it.

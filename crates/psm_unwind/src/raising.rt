@@ -20,6 +20,7 @@ use crate::parts::{Place, handler_at, is_exception, place_of, routine_at};
 use crate::run::{Frame, Run};
 use psm_code::{RawCode, RawRoutine};
 use psm_cond::{Condition, Handler, HandlerKind, choose};
+use psm_list::Boxed;
 use psm_store::{Steps, Store};
 use std::alloc::{AllocError, Global};
 use std::marker::Brand;
@@ -58,7 +59,10 @@ pub fn raise<S: Store>(
         match ask(alloc, code, run, store, &condition)? {
             Met::Here(outcome) => return Ok(outcome),
             Met::Outside => match run.callers.pop() {
-                None => return Ok(Outcome::Over(Ending::Raised(condition.by_state()))),
+                None => {
+                    let last = Boxed::new(alloc, condition.by_state())?;
+                    return Ok(Outcome::Over(Ending::Raised(last)));
+                }
                 Some(caller) => {
                     condition = condition.by_state();
                     run.running = caller;
@@ -327,7 +331,7 @@ fn act(
     ensures callers { run.new.callers ≡ run.old.callers }
     ensures bound { run.new.marks ≡ run.old.marks }
 {
-    let activating = condition.copy(alloc)?;
+    let activating = Boxed::new(alloc, condition.copy(alloc)?)?;
     let rows = run.area.rows();
     run.running.frames.push(Frame::Action {
         handler: number,

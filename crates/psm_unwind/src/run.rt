@@ -3,11 +3,12 @@
 use psm_cond::{Area, Condition};
 use psm_cursor::Cursor;
 use psm_exprcode::Operand;
+use psm_list::Boxed;
 use psm_sqlstate::SqlState;
 use psm_store::Mark;
 use psm_value::Datum;
 
-/// A block that has been entered, or the action of a handler that runs.
+/// A block that has been entered, or the action of a handler that runs. A condition is boxed, so that the frame of a block is small.
 #[derive(Debug, Drop)]
 pub enum Frame {
     /// A block by its context, with a mark of the tables that it found where it is ATOMIC.
@@ -20,7 +21,7 @@ pub enum Frame {
     Action {
         handler: u32,
         resume: Option<u32>,
-        condition: Condition,
+        condition: Boxed<Condition>,
         rows: u32,
     },
 }

@@ -46,11 +46,20 @@ returns-in-None-clause-unwinds g c =
 pub returns-in-None-clause-stand : goal.returns-in-None-clause-stand
 returns-in-None-clause-stand g c = stand_unwound (g.S.Store.holds c.args.store.now) (g.S.Store.at c.args.store.now) (g.S.Store.marks c.args.store.now) (g.S.Store.tables c.args.store.now) c.args.run.now (g.S.Store.holds c.ask.new.store) (g.S.Store.at c.ask.new.store) (g.S.Store.marks c.ask.new.store) (g.S.Store.tables c.ask.new.store) (record c.ask.new.run { callers = c.pop.new.self }) c.requires.stand (returns-in-None-clause-unwinds g c)
 
+pub returns-in_err-last-in-None-clause-unwinds : goal.returns-in_err-last-in-None-clause-unwinds
+returns-in_err-last-in-None-clause-unwinds g c =
+    unwinds_then (g.S.Store.holds c.args.store.now) (g.S.Store.at c.args.store.now) (g.S.Store.marks c.args.store.now) (g.S.Store.tables c.args.store.now) c.args.run.now (g.S.Store.holds c.loop-condition.store) (g.S.Store.at c.loop-condition.store) (g.S.Store.marks c.loop-condition.store) (g.S.Store.tables c.loop-condition.store) c.loop-condition.run (g.S.Store.holds c.ask.new.store) (g.S.Store.at c.ask.new.store) (g.S.Store.marks c.ask.new.store) (g.S.Store.tables c.ask.new.store) (record c.ask.new.run { callers = c.pop.new.self }) c.loop-condition.invariant.unwinds
+    (unwinds_then (g.S.Store.holds c.loop-condition.store) (g.S.Store.at c.loop-condition.store) (g.S.Store.marks c.loop-condition.store) (g.S.Store.tables c.loop-condition.store) c.loop-condition.run (g.S.Store.holds c.ask.new.store) (g.S.Store.at c.ask.new.store) (g.S.Store.marks c.ask.new.store) (g.S.Store.tables c.ask.new.store) c.ask.new.run (g.S.Store.holds c.ask.new.store) (g.S.Store.at c.ask.new.store) (g.S.Store.marks c.ask.new.store) (g.S.Store.tables c.ask.new.store) (record c.ask.new.run { callers = c.pop.new.self }) c.ask.ensures.unwinds
+    (unwinds_items (g.S.Store.holds c.ask.new.store) (g.S.Store.at c.ask.new.store) (g.S.Store.marks c.ask.new.store) (g.S.Store.tables c.ask.new.store) c.ask.new.run c.pop.new.self (nested_unwound (g.S.Store.holds c.args.store.now) (g.S.Store.at c.args.store.now) (g.S.Store.marks c.args.store.now) (g.S.Store.tables c.args.store.now) c.args.run.now (g.S.Store.holds c.ask.new.store) (g.S.Store.at c.ask.new.store) (g.S.Store.marks c.ask.new.store) (g.S.Store.tables c.ask.new.store) c.ask.new.run c.requires.stand.nested (unwinds_then (g.S.Store.holds c.args.store.now) (g.S.Store.at c.args.store.now) (g.S.Store.marks c.args.store.now) (g.S.Store.tables c.args.store.now) c.args.run.now (g.S.Store.holds c.loop-condition.store) (g.S.Store.at c.loop-condition.store) (g.S.Store.marks c.loop-condition.store) (g.S.Store.tables c.loop-condition.store) c.loop-condition.run (g.S.Store.holds c.ask.new.store) (g.S.Store.at c.ask.new.store) (g.S.Store.marks c.ask.new.store) (g.S.Store.tables c.ask.new.store) c.ask.new.run c.loop-condition.invariant.unwinds c.ask.ensures.unwinds)) c.in-None.ensures.items))
+
+pub returns-in_err-last-in-None-clause-stand : goal.returns-in_err-last-in-None-clause-stand
+returns-in_err-last-in-None-clause-stand g c = stand_unwound (g.S.Store.holds c.args.store.now) (g.S.Store.at c.args.store.now) (g.S.Store.marks c.args.store.now) (g.S.Store.tables c.args.store.now) c.args.run.now (g.S.Store.holds c.ask.new.store) (g.S.Store.at c.ask.new.store) (g.S.Store.marks c.ask.new.store) (g.S.Store.tables c.ask.new.store) (record c.ask.new.run { callers = c.pop.new.self }) c.requires.stand (returns-in_err-last-in-None-clause-unwinds g c)
+
 pub returns-in-None-clause-due : goal.returns-in-None-clause-due
 returns-in-None-clause-due g c =
     let none : c.pop.new.self.items ≡ [] = c.in-None.ensures.rest ∙ ap (λ n. take (n - 1) c.ask.new.run.callers.items) c.in-None.ensures.cases.0 in
     let callers : c.loop-condition.run.callers.items ≡ [] = ap (λ (v : Vec Activation Global). v.items) (sym c.ask.ensures.callers) ∙ c.in-None.ensures.items ∙ ap (λ xs. xs ++ []) none in
-    subst (λ e. LeadsTo (raised c.args.code.now c.args.condition (machine_of (g.S.Store.tables c.args.store.now) (g.S.Store.at c.args.store.now) c.args.run.now)) (Over (Raised e)) (machine_of (g.S.Store.tables c.ask.new.store) (g.S.Store.at c.ask.new.store) (record c.ask.new.run { callers = c.pop.new.self }))) (sym c.by_state.ensures)
+    subst (λ e. LeadsTo (raised c.args.code.now c.args.condition (machine_of (g.S.Store.tables c.args.store.now) (g.S.Store.at c.args.store.now) c.args.run.now)) (Over (Raised e)) (machine_of (g.S.Store.tables c.ask.new.store) (g.S.Store.at c.ask.new.store) (record c.ask.new.run { callers = c.pop.new.self }))) (sym (c.in_ok-last-in-None.ensures ∙ c.by_state.ensures))
     (subst (λ t. LeadsTo t (Over (Raised (by_state c.loop-condition.condition))) (machine_of (g.S.Store.tables c.ask.new.store) (g.S.Store.at c.ask.new.store) (record c.ask.new.run { callers = c.pop.new.self }))) (sym c.loop-condition.invariant.due)
     (raised_out c.args.code.now c.loop-condition.condition (machine_of (g.S.Store.tables c.loop-condition.store) (g.S.Store.at c.loop-condition.store) c.loop-condition.run) (machine_of (g.S.Store.tables c.ask.new.store) (g.S.Store.at c.ask.new.store) c.ask.new.run) (machine_of (g.S.Store.tables c.ask.new.store) (g.S.Store.at c.ask.new.store) (record c.ask.new.run { callers = c.pop.new.self })) (ap (λ xs. map (activation_of (g.S.Store.at c.loop-condition.store)) (reverse xs)) callers)
     (subst (λ x. Meets (λ outside. asked (routine_at c.args.code.now c.loop-condition.run.running.routine) c.loop-condition.condition outside (machine_of (g.S.Store.tables c.loop-condition.store) (g.S.Store.at c.loop-condition.store) c.loop-condition.run)) x (machine_of (g.S.Store.tables c.ask.new.store) (g.S.Store.at c.ask.new.store) c.ask.new.run)) c.in-Outside.is c.in_ok-outcome.ensures.due) refl))
