@@ -31,12 +31,16 @@ Comes came (Err stop.Memory) now = Unit {0}
 abbrev pub Does : {A : Type 0} → Act A → Run → Result A Stop → Run → Type 0
 Does act r result new = (tables : List Contents) (at : Mark → List Contents) → Comes (act (machine_of tables at r)) result (machine_of tables at new)
 
+-- that condition is to be raised; want of memory may always come
+abbrev pub StopsWith : Entries → Stop → Type 0
+StopsWith due (stop.Raises c) = c ≡ due
+StopsWith due stop.NoTurns = ⊥
+StopsWith due stop.Lacking = ⊥
+StopsWith due stop.Memory = Unit {0}
+
 -- the condition of an SQLSTATE alone
 abbrev pub StopsAt : SqlState → Stop → Type 0
-StopsAt s (stop.Raises c) = c ≡ of_state s
-StopsAt s stop.NoTurns = ⊥
-StopsAt s stop.Lacking = ⊥
-StopsAt s stop.Memory = Unit {0}
+StopsAt s = StopsWith (of_state s)
 
 -- the condition of the SQLSTATE that an operation on values raises
 abbrev pub Fails : ValueFault → Stop → Type 0

@@ -16,7 +16,7 @@ use crate::stop::Stop;
 use crate::turns::clear;
 use psm_code::{Parameter, ParameterMode, RawCode, RawRoutine};
 use psm_exprcode::Operand;
-use psm_list::List;
+use psm_list::{Boxed, List};
 use psm_store::Store;
 use psm_unwind::{Ending, Outcome, Run, leave_until, routine_at};
 use psm_value::Datum;
@@ -42,7 +42,7 @@ pub fn end_procedure<S: Store>(
         Some(routine) => {
             let variables = run.running.variables.as_slice();
             let values = given_back(alloc, routine.parameters.items(), variables)?;
-            leave(routine, values, run, store)
+            leave(alloc, routine, values, run, store)
         }
     }
 }
@@ -69,13 +69,14 @@ pub fn return_value<S: Store>(
             let value = returned(alloc, code, run)?;
             let mut values = Vec::new(alloc);
             values.push(value)?;
-            Ok(leave(routine, values, run, store)?)
+            Ok(leave(alloc, routine, values, run, store)?)
         }
     }
 }
 
 // Leaves the activation that runs, with values for the one that called it.
 fn leave<S: Store>(
+    alloc: Global,
     routine: &RawRoutine,
     values: Vec<Datum>,
     run: &mut Run,
@@ -94,7 +95,10 @@ fn leave<S: Store>(
         store,
     );
     match run.callers.pop() {
-        None => Ok(Outcome::Over(Ending::Ended(List::of(values)))),
+        None => {
+            let values = Boxed::new(alloc, List::of(values))?;
+            Ok(Outcome::Over(Ending::Ended(values)))
+        }
         Some(caller) => {
             run.running = caller;
             resume(run, values)?;

@@ -20,6 +20,7 @@ use crate::stepping::step;
 use crate::stop::Stop;
 use psm_code::RawCode;
 use psm_cond::Area;
+use psm_list::Boxed;
 use psm_store::{Mark, Steps, Store};
 use psm_unwind::{Activation, Ending, Outcome, Run, routine_at};
 use psm_value::Datum;
@@ -72,7 +73,10 @@ pub fn start(
                 marks,
             }))
         }
-        Err(Stop::Raises(condition)) => Ok(Beginning::Over(Ending::Raised(condition.by_state()))),
+        Err(Stop::Raises(condition)) => {
+            let condition = Boxed::new(alloc, condition.into_inner().by_state())?;
+            Ok(Beginning::Over(Ending::Raised(condition)))
+        }
         Err(Stop::NoTurns) => Ok(Beginning::Over(Ending::NoTurns)),
         Err(Stop::Lacking) => Ok(Beginning::Over(Ending::Lacking)),
         Err(Stop::Memory) => Err(AllocError),

@@ -31,7 +31,7 @@ pub fn settle<S: Store>(
 {
     match done {
         Ok(outcome) => Ok(outcome),
-        Err(Stop::Raises(condition)) => raise(alloc, code, run, store, condition),
+        Err(Stop::Raises(condition)) => raise(alloc, code, run, store, condition.into_inner()),
         Err(Stop::NoTurns) => Ok(Outcome::Over(Ending::NoTurns)),
         Err(Stop::Lacking) => Ok(Outcome::Over(Ending::Lacking)),
         Err(Stop::Memory) => Err(AllocError),

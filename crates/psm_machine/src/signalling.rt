@@ -8,7 +8,7 @@ ghost use Rattle.psm_unwind.specs.Marks.{SameFrames};
 ghost use Rattle.psm_machine.specs.Coming.{Does, Finds, activating_by, activating_of};
 
 use crate::operands::pop;
-use crate::stop::{Stop, stop_at};
+use crate::stop::{Stop, stop_at, stop_with};
 use psm_code::RawRoutine;
 use psm_cond::{Condition, Declared, Entry};
 use psm_sqlstate::SqlState;
@@ -22,7 +22,7 @@ pub fn signal(alloc: Global, routine: &RawRoutine, run: &Run, number: u32) -> Re
     ensures { Does (signal routine.now number) run.now result run.now }
 {
     let entry = declared(alloc, routine, number)?;
-    Err(Stop::Raises(Condition::of(alloc, entry)))
+    Err(stop_with(alloc, Condition::of(alloc, entry)))
 }
 
 /// Raises a declared condition with a message, which is the last operand.
@@ -37,7 +37,7 @@ pub fn signal_message(
 {
     let entry = declared(alloc, routine, number)?;
     let entry = with_message(alloc, run, entry)?;
-    Err(Stop::Raises(Condition::of(alloc, entry)))
+    Err(stop_with(alloc, Condition::of(alloc, entry)))
 }
 
 /// Raises again the condition that activated the innermost handler whose action runs.
@@ -45,7 +45,7 @@ pub fn resignal(alloc: Global, run: &Run) -> Result<(), Stop>
     ensures { Does resignal run.now result run.now }
 {
     let condition = handling(alloc, run)?;
-    Err(Stop::Raises(condition))
+    Err(stop_with(alloc, condition))
 }
 
 /// Puts a declared condition in front of it, and raises that.
@@ -80,7 +80,7 @@ fn resignal_with(alloc: Global, run: &Run, entry: Entry) -> Result<(), Stop>
     ensures { Does (resignal_with entry) run.now result run.now }
 {
     let condition = handling(alloc, run)?;
-    Err(Stop::Raises(condition.behind(entry)?))
+    Err(stop_with(alloc, condition.behind(entry)?))
 }
 
 // The condition that activated the innermost running action.
@@ -108,7 +108,7 @@ fn activating_by<'a>(frame: &'a Frame, other: Option<&'a Condition>) -> Option<&
     ensures { option_copied result ≡ activating_by frame.now (option_copied other.entry) }
 {
     match frame {
-        Frame::Action { condition, .. } => Some(condition),
+        Frame::Action { condition, .. } => Some(condition.get()),
         Frame::Block { .. } => other,
     }
 }

@@ -1,16 +1,18 @@
 //! Why a part of an instruction gives nothing.
-ghost use Rattle.psm_machine.specs.Coming.{Fails, StopsAt};
+ghost use Rattle.psm_machine.specs.Coming.{Fails, StopsAt, StopsWith};
 
 use psm_cond::Condition;
+use psm_list::Boxed;
 use psm_sqlstate::SqlState;
 use psm_value::ValueFault;
 use std::alloc::{AllocError, AllocFailed, Global};
 
-/// Why a part of an instruction gives nothing.
+/// Why a part of an instruction gives nothing. A condition is boxed: what each part comes to is returned through several calls, so it
+/// has to be two or three words.
 #[derive(Debug, Drop)]
 pub enum Stop {
     /// A condition is to be raised at the line.
-    Raises(Condition),
+    Raises(Boxed<Condition>),
     /// A turn is due and none is left.
     NoTurns,
     /// Something isn't there that the instruction names.
@@ -46,6 +48,16 @@ pub(crate) fn stop_at(alloc: Global, state: SqlState) -> Stop
     ensures { StopsAt state result }
 {
     match Condition::raised(alloc, state) {
+        Ok(condition) => Stop::Raises(condition),
+        Err(_) => Stop::Memory,
+    }
+}
+
+/// That a condition is to be raised at the line, or want of memory.
+pub(crate) fn stop_with(alloc: Global, condition: Condition) -> Stop
+    ensures { StopsWith condition result }
+{
+    match Boxed::new(alloc, condition) {
         Ok(condition) => Stop::Raises(condition),
         Err(_) => Stop::Memory,
     }

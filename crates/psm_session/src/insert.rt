@@ -103,7 +103,7 @@ fn filled<S: Store>(
     match put_rows(alloc, code, store, table, columns, rows) {
         Ok(_) => piece_of(alloc, number, "INSERT ", name, None),
         Err(DataFault::Raised(condition)) => {
-            piece_of(alloc, number, "INSERT ", name, Some(&condition))
+            piece_of(alloc, number, "INSERT ", name, Some(condition.get()))
         }
         Err(DataFault::Memory) => Err(AllocError),
     }

@@ -40,10 +40,10 @@ fn put_end_lines(
 {
     match ending {
         Ending::Ended(values) => {
-            put_value_lines(out, parameters, values.items())?;
+            put_value_lines(out, parameters, values.get().items())?;
             put_ok(out)
         }
-        Ending::Raised(condition) => put_condition(out, condition),
+        Ending::Raised(condition) => put_condition(out, condition.get()),
         Ending::NoTurns => {
             out.extend_from_slice(b"TURNS USED\n")?;
             Ok(())
@@ -92,7 +92,7 @@ fn put_state(alloc: Global, out: &mut Vec<u8>, state: SqlState) -> Result<(), Al
     ensures { OnOk result (out.new.items ≡ out.old.items ++ condition_lines (of_state state)) }
 {
     let condition = Condition::raised(alloc, state)?;
-    put_condition(out, &condition)
+    put_condition(out, condition.get())
 }
 
 /// The piece of another command: what it is, the name that it names, if any, and the condition that it raises, or OK.

@@ -57,7 +57,7 @@ fn piece_of_query<S: Store>(
     match rows(alloc, store, query, &[]) {
         Ok(answer) => piece_of_answer(alloc, number, &answer),
         Err(DataFault::Raised(condition)) => {
-            piece_of(alloc, number, "SELECT", "", Some(&condition))
+            piece_of(alloc, number, "SELECT", "", Some(condition.get()))
         }
         Err(DataFault::Memory) => Err(AllocError),
     }

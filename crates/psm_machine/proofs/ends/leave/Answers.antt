@@ -10,13 +10,13 @@ use Rattle.psm_machine.proofs.ends.leave.Goals as goal
 pub leave_until-requires : goal.leave_until-requires
 leave_until-requires g c = running_nested (g.S.Store.holds c.args.store.now) c.args.run.now c.requires
 
-pub returns-in-None-clause-due : goal.returns-in-None-clause-due
-returns-in-None-clause-due g c =
+pub returns-in_ok-values-in-None-clause-due : goal.returns-in_ok-values-in-None-clause-due
+returns-in_ok-values-in-None-clause-due g c =
     let none : c.pop.new.self.items ≡ [] = c.in-None.ensures.rest ∙ ap (λ n. take (n - 1) c.args.run.now.callers.items) c.in-None.ensures.cases.0 in
     let callers : c.args.run.now.callers.items ≡ [] = c.in-None.ensures.items ∙ ap (λ xs. xs ++ []) none in
     left_over (machine_of (g.S.Store.tables c.args.store.now) (g.S.Store.at c.args.store.now) c.args.run.now)
     (machine_of (g.S.Store.tables c.leave_until.new.store) (g.S.Store.at c.leave_until.new.store) (record c.args.run.now { running = record c.args.run.now.running { cursors = c.leave_until.new.cursors; frames = c.leave_until.new.frames }; callers = c.pop.new.self }))
-    c.args.values.items c.of.result (ap (λ xs. map (activation_of (g.S.Store.at c.args.store.now)) (reverse xs)) callers) c.of.ensures
+    c.args.values.items c.in_ok-values-in-None.values (ap (λ xs. map (activation_of (g.S.Store.at c.args.store.now)) (reverse xs)) callers) (c.in_ok-values-in-None.ensures ∙ c.of.ensures)
     (c.leave_until.ensures.tables ∙ tables_kept (inside None (frames_of (g.S.Store.at c.args.store.now) (reverse c.args.run.now.running.frames.items))) (g.S.Store.tables c.args.store.now))
 
 pub returns-in_ok-resume-in-Some-clause-due : goal.returns-in_ok-resume-in-Some-clause-due

@@ -23,14 +23,15 @@ returns-else-turns-eq0-clause-due c = λ tables at.
     begins c.args.code.now c.args.number c.args.arguments.items tables c.args.turns (activation_of at c.in-Ok.running) (map (activation_of at) (reverse c.new.result.items)) (c.args.turns - 1) c.new-in-Ok.result
     (ap (λ (x : Came Activation). x.given) (c.in-Ok.ensures.due at (before_start c.args.turns tables))) (ap (λ xs. map (activation_of at) (reverse xs)) c.new.ensures.items) (omega (arith, c.if-turns-eq0.false)) c.new-in-Ok.ensures
 
-pub returns-in-Err-Raises-clause-due : goal.returns-in-Err-Raises-clause-due
-returns-in-Err-Raises-clause-due c = λ tables.
+pub returns-in_ok-condition-in-Err-Raises-clause-due : goal.returns-in_ok-condition-in-Err-Raises-clause-due
+returns-in_ok-condition-in-Err-Raises-clause-due c = λ tables.
     let m = before_start c.args.turns tables in
     let due : Comes (first_activation c.args.code.now c.args.number c.args.arguments.items m) (Err (stop.Raises c.in-Err-Raises.condition)) m =
     subst (λ (s : Stop). Comes (first_activation c.args.code.now c.args.number c.args.arguments.items m) (Err s) m) c.in-Err-Raises.field-0-is (c.in-Err-Raises.ensures.due (λ m. []) m) in
     begins_raising c.args.code.now c.args.number c.args.arguments.items tables c.args.turns c.in-Err-Raises.condition (ap (λ (x : Came Activation). x.given) due)
     ∙ ap (λ x. Over (Raised (by_state x)) m) (sym c.in-Err-Raises.condition-is)
-    ∙ ap (λ x. Over (Raised x) m) (sym c.by_state.ensures)
+    ∙ ap (λ x. Over (Raised (by_state x)) m) (sym c.into_inner.ensures)
+    ∙ ap (λ x. Over (Raised x) m) (sym (c.in_ok-condition-in-Err-Raises.ensures ∙ c.by_state.ensures))
 
 pub returns-in-Err-NoTurns-clause-due : goal.returns-in-Err-NoTurns-clause-due
 returns-in-Err-NoTurns-clause-due c = λ tables.

@@ -1,5 +1,6 @@
-use Rattle.std.proofs.Common.{Err, ap, subst, ◌∙◌}
+use Rattle.std.proofs.Common.{Err, ap, subst, sym, ◌∙◌}
 use Rattle.psm_unwind.specs.View.{machine_of}
+use Rattle.psm_machine.specs.declared.stop.Stop.TheVariants.{Raises}
 use Rattle.psm_machine.specs.Going.{Turns}
 use Rattle.psm_machine.proofs.Dropping.{settled_ok, settled_raises}
 use Rattle.psm_machine.proofs.Standing.{still_unwound}
@@ -13,8 +14,8 @@ returns-in-Ok-clause-due g c = λ came h.
 pub returns-in-Err-Raises-clause-due : goal.returns-in-Err-Raises-clause-due
 returns-in-Err-Raises-clause-due g c = λ came h.
     let m = machine_of (g.S.Store.tables c.args.store.now) (g.S.Store.at c.args.store.now) c.args.run.now in
-    settled_raises c.args.code.now came c.in-Err-Raises.condition m (machine_of (g.S.Store.tables c.raise.new.store) (g.S.Store.at c.raise.new.store) c.raise.new.run) c.raise.result
-    (subst (λ r. Turns came r m) (c.in-Err-Raises.is ∙ ap Err c.in-Err-Raises.field-0-is) h) c.raise.ensures.due
+    settled_raises c.args.code.now came c.into_inner.result m (machine_of (g.S.Store.tables c.raise.new.store) (g.S.Store.at c.raise.new.store) c.raise.new.run) c.raise.result
+    (subst (λ r. Turns came r m) (c.in-Err-Raises.is ∙ ap Err c.in-Err-Raises.field-0-is ∙ ap (λ x. Err (Raises x)) (sym c.into_inner.ensures)) h) c.raise.ensures.due
 
 pub returns-in-Err-Raises-clause-still : goal.returns-in-Err-Raises-clause-still
 returns-in-Err-Raises-clause-still g c =

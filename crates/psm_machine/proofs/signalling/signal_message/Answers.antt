@@ -1,6 +1,8 @@
-use Rattle.std.proofs.Common.{ap, sym}
+use Rattle.std.proofs.Common.{◌≡◌, ap, sym}
 use Rattle.psm_unwind.specs.View.{machine_of}
+use Rattle.psm_code.specs.Signalling.{signal_message}
 use Rattle.psm_code.specs.Steps.{raises}
+use Rattle.psm_machine.proofs.Acting.{raising_comes}
 use Rattle.psm_machine.proofs.Comings.{stopped}
 use Rattle.psm_machine.proofs.signalling.signal_message.Goals as goal
 
@@ -13,4 +15,8 @@ returns-in_err-entry-2-clause-due c = λ tables at.
     (stopped _ _ _ c.in_err-entry-2.field-0.0 c.from_residual-in_err-entry-2.result c.from_residual-in_err-entry-2.ensures.1 (c.in_err-entry-2.ensures.due tables at))
 
 pub returns-clause-due : goal.returns-clause-due
-returns-clause-due c = λ tables at. rw (c.in_ok-entry.ensures (machine_of tables at c.args.run.now), c.in_ok-entry-2.ensures.due tables at) (ap (λ e. raises e (machine_of tables at c.with_message.new.run)) (sym c.of.ensures))
+returns-clause-due c = λ tables at.
+    let now = machine_of tables at c.with_message.new.run in
+    let is : signal_message c.args.routine.now c.args.number (machine_of tables at c.args.run.now) ≡ raises c.of.result now =
+    rw (c.in_ok-entry.ensures (machine_of tables at c.args.run.now), c.in_ok-entry-2.ensures.due tables at) (ap (λ e. raises e now) (sym c.of.ensures)) in
+    raising_comes _ _ c.of.result now c.stop_with.result is c.stop_with.ensures
