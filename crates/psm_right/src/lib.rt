@@ -3,7 +3,4 @@
 
 mod laws;
 
-pub use laws::{
-    expressions_break_no_rule, lines_break_no_rule, written_code_breaks_no_rule,
-    written_code_keeps_letters,
-};
+pub use laws::{expressions_break_no_rule, written_code_breaks_no_rule};
