@@ -1,0 +1,65 @@
+//! The answer to a case.
+ghost use Rattle.std.specs.Prelude.{◌≡◌, IfOk, IfSome, map};
+ghost use Rattle.psm_build.specs.Played.{CanRun};
+
+use crate::case::Case;
+use crate::play::play;
+use crate::program::{Program, Refusal, prepare};
+use anyhow::{Result, bail};
+use psm_code::CodeTable;
+use psm_store::CopyStore;
+use psm_table::TableDef;
+use psm_undostore::UndoStore;
+use std::alloc::{AllocError, Global};
+
+/// What a case comes to over both stores.
+pub fn answer(alloc: Global, case: &Case) -> Result<String> {
+    match prepare(alloc, case) {
+        Ok(program) => over_both(alloc, case, &program),
+        Err(Refusal::Told(line)) => Ok(line),
+        Err(Refusal::Long) => bail!("a file is too long"),
+        Err(Refusal::Memory) => bail!("no memory"),
+    }
+}
+
+// The answer over both stores, or both answers.
+fn over_both(alloc: Global, case: &Case, program: &Program) -> Result<String>
+    requires first { CanRun program.now.code program.now.script.commands }
+    requires second { IfSome program.now.behind (λ s. CanRun program.now.code s.commands) }
+{
+    let undoing = over_undoing(alloc, case, program)?;
+    let copying = over_copying(alloc, case, program)?;
+    if undoing == copying {
+        return Ok(undoing);
+    }
+    Ok(format!(in alloc; "stores differ\n{undoing}{copying}")?)
+}
+
+fn over_undoing(alloc: Global, case: &Case, program: &Program) -> Result<String>
+    requires first { CanRun program.now.code program.now.script.commands }
+    requires second { IfSome program.now.behind (λ s. CanRun program.now.code s.commands) }
+{
+    let definitions = definitions_of(alloc, program.code.tables.items())?;
+    let mut store = UndoStore::new(alloc, definitions)?;
+    play(alloc, case, program, &mut store)
+}
+
+fn over_copying(alloc: Global, case: &Case, program: &Program) -> Result<String>
+    requires first { CanRun program.now.code program.now.script.commands }
+    requires second { IfSome program.now.behind (λ s. CanRun program.now.code s.commands) }
+{
+    let definitions = definitions_of(alloc, program.code.tables.items())?;
+    let mut store = CopyStore::new(alloc, definitions)?;
+    play(alloc, case, program, &mut store)
+}
+
+// The definitions of tables.
+fn definitions_of(alloc: Global, tables: &[CodeTable]) -> Result<Vec<TableDef>, AllocError>
+    ensures { IfOk result (λ ds. ds.items ≡ map (λ t. t.definition) tables.now) }
+{
+    let mut definitions = Vec::new(alloc);
+    for table in tables {
+        definitions.push(table.definition.copy(alloc)?)?;
+    }
+    Ok(definitions)
+}
