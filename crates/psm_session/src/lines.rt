@@ -147,10 +147,10 @@ fn put_row(out: &mut Vec<u8>, row: &Row) -> Result<(), AllocError>
     Ok(())
 }
 
-fn put_values(out: &mut Vec<u8>, data: &[Datum]) -> Result<(), AllocError>
-    ensures { OnOk result (out.new.items ≡ out.old.items ++ values data.now) }
+fn put_values(out: &mut Vec<u8>, row: &[Datum]) -> Result<(), AllocError>
+    ensures { OnOk result (out.new.items ≡ out.old.items ++ values row.now) }
 {
-    match data.split_first() {
+    match row.split_first() {
         None => Ok(()),
         Some((first, others)) => {
             first.print(out)?;
@@ -159,10 +159,10 @@ fn put_values(out: &mut Vec<u8>, data: &[Datum]) -> Result<(), AllocError>
     }
 }
 
-fn put_further_values(out: &mut Vec<u8>, data: &[Datum]) -> Result<(), AllocError>
-    ensures { OnOk result (out.new.items ≡ out.old.items ++ further_values data.now) }
+fn put_further_values(out: &mut Vec<u8>, row: &[Datum]) -> Result<(), AllocError>
+    ensures { OnOk result (out.new.items ≡ out.old.items ++ further_values row.now) }
 {
-    for value in data {
+    for value in row {
         out.extend_from_slice(b", ")?;
         value.print(out)?;
     }
