@@ -48,7 +48,10 @@ fn variables_of(alloc: Global) -> Result<Vec<Datum>, Fault> {
 fn told(alloc: Global, answer: Result<Answer, DataFault>) -> Result<String, Fault> {
     match answer {
         Ok(answer) => told::answer(alloc, answer),
-        Err(DataFault::Raised(condition)) => told::word(alloc, condition.get().first().state.text()),
+        Err(DataFault::Raised(condition)) => told::word(
+            alloc,
+            condition.get().first().state.text(),
+        ),
         Err(DataFault::Memory) => Err(Fault::Memory),
     }
 }
