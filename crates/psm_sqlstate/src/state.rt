@@ -13,84 +13,149 @@ use std::str;
 #[derive(Clone, Copy, Debug, PartialEq, Eq)]
 pub struct SqlState {
     bytes: [u8; 5],
+    // So that a state lies and is copied in whole words.
+    align: [u32; 0],
 }
 
 impl Model for SqlState {
-    ghost use Rattle.std.specs.Prelude.{ℕ, List};
+    ghost use Rattle.std.specs.Prelude.{◌≡◌, ℕ, List, []};
     ghost use Rattle.psm_sqlstate.specs.State.{IsState};
 
     ghost Value = { List ℕ };
 
     ghost view = { λ s. s.bytes };
 
-    ghost invariant = { λ s. IsState s.bytes };
+    ghost invariant = { λ s. IsState s.bytes × (s.align ≡ []) };
 
-    ghost inverse = { λ text. record { bytes = text } };
+    ghost inverse = { λ text. record { bytes = text; align = [] } };
 }
 
 impl SqlState {
     /// Successful completion.
-    pub const SUCCESS: SqlState = SqlState { bytes: *b"00000" };
+    pub const SUCCESS: SqlState = SqlState {
+        bytes: *b"00000",
+        align: [],
+    };
 
     /// Null value eliminated in set function.
-    pub const NULL_ELIMINATED: SqlState = SqlState { bytes: *b"01003" };
+    pub const NULL_ELIMINATED: SqlState = SqlState {
+        bytes: *b"01003",
+        align: [],
+    };
 
     /// String data, right truncation.
-    pub const TRUNCATION_WARNING: SqlState = SqlState { bytes: *b"01004" };
+    pub const TRUNCATION_WARNING: SqlState = SqlState {
+        bytes: *b"01004",
+        align: [],
+    };
 
     /// No data.
-    pub const NO_DATA: SqlState = SqlState { bytes: *b"02000" };
+    pub const NO_DATA: SqlState = SqlState {
+        bytes: *b"02000",
+        align: [],
+    };
 
     /// Resignal when handler not active.
-    pub const HANDLER_NOT_ACTIVE: SqlState = SqlState { bytes: *b"0K000" };
+    pub const HANDLER_NOT_ACTIVE: SqlState = SqlState {
+        bytes: *b"0K000",
+        align: [],
+    };
 
     /// Case not found for case statement.
-    pub const CASE_NOT_FOUND: SqlState = SqlState { bytes: *b"20000" };
+    pub const CASE_NOT_FOUND: SqlState = SqlState {
+        bytes: *b"20000",
+        align: [],
+    };
 
     /// Cardinality violation.
-    pub const CARDINALITY_VIOLATION: SqlState = SqlState { bytes: *b"21000" };
+    pub const CARDINALITY_VIOLATION: SqlState = SqlState {
+        bytes: *b"21000",
+        align: [],
+    };
 
     /// String data, right truncation.
-    pub const RIGHT_TRUNCATION: SqlState = SqlState { bytes: *b"22001" };
+    pub const RIGHT_TRUNCATION: SqlState = SqlState {
+        bytes: *b"22001",
+        align: [],
+    };
 
     /// Numeric value out of range.
-    pub const OUT_OF_RANGE: SqlState = SqlState { bytes: *b"22003" };
+    pub const OUT_OF_RANGE: SqlState = SqlState {
+        bytes: *b"22003",
+        align: [],
+    };
 
     /// Substring error.
-    pub const SUBSTRING_ERROR: SqlState = SqlState { bytes: *b"22011" };
+    pub const SUBSTRING_ERROR: SqlState = SqlState {
+        bytes: *b"22011",
+        align: [],
+    };
 
     /// Division by zero.
-    pub const DIVISION_BY_ZERO: SqlState = SqlState { bytes: *b"22012" };
+    pub const DIVISION_BY_ZERO: SqlState = SqlState {
+        bytes: *b"22012",
+        align: [],
+    };
 
     /// Invalid character value for cast.
-    pub const INVALID_CAST: SqlState = SqlState { bytes: *b"22018" };
+    pub const INVALID_CAST: SqlState = SqlState {
+        bytes: *b"22018",
+        align: [],
+    };
 
     /// Invalid escape character.
-    pub const INVALID_ESCAPE_CHARACTER: SqlState = SqlState { bytes: *b"22019" };
+    pub const INVALID_ESCAPE_CHARACTER: SqlState = SqlState {
+        bytes: *b"22019",
+        align: [],
+    };
 
     /// Invalid escape sequence.
-    pub const INVALID_ESCAPE_SEQUENCE: SqlState = SqlState { bytes: *b"22025" };
+    pub const INVALID_ESCAPE_SEQUENCE: SqlState = SqlState {
+        bytes: *b"22025",
+        align: [],
+    };
 
     /// Integrity constraint violation.
-    pub const INTEGRITY_VIOLATION: SqlState = SqlState { bytes: *b"23000" };
+    pub const INTEGRITY_VIOLATION: SqlState = SqlState {
+        bytes: *b"23000",
+        align: [],
+    };
 
     /// Invalid cursor state.
-    pub const INVALID_CURSOR_STATE: SqlState = SqlState { bytes: *b"24000" };
+    pub const INVALID_CURSOR_STATE: SqlState = SqlState {
+        bytes: *b"24000",
+        align: [],
+    };
 
     /// Function executed no return statement.
-    pub const NO_RETURN: SqlState = SqlState { bytes: *b"2F005" };
+    pub const NO_RETURN: SqlState = SqlState {
+        bytes: *b"2F005",
+        align: [],
+    };
 
     /// Invalid condition number.
-    pub const INVALID_CONDITION_NUMBER: SqlState = SqlState { bytes: *b"35000" };
+    pub const INVALID_CONDITION_NUMBER: SqlState = SqlState {
+        bytes: *b"35000",
+        align: [],
+    };
 
     /// Unhandled user-defined exception.
-    pub const UNHANDLED_EXCEPTION: SqlState = SqlState { bytes: *b"45000" };
+    pub const UNHANDLED_EXCEPTION: SqlState = SqlState {
+        bytes: *b"45000",
+        align: [],
+    };
 
     /// Routine nesting too deep.
-    pub const NESTING_TOO_DEEP: SqlState = SqlState { bytes: *b"X0001" };
+    pub const NESTING_TOO_DEEP: SqlState = SqlState {
+        bytes: *b"X0001",
+        align: [],
+    };
 
     /// Table full.
-    pub const TABLE_FULL: SqlState = SqlState { bytes: *b"X0002" };
+    pub const TABLE_FULL: SqlState = SqlState {
+        bytes: *b"X0002",
+        align: [],
+    };
 
     /// The state that the text is, if it is five digits or capital letters.
     pub fn read(text: &str) -> Option<SqlState>
@@ -98,7 +163,7 @@ impl SqlState {
     {
         let bytes = five_of(text.as_bytes())?;
         if are_state_characters(&bytes) {
-            Some(SqlState { bytes })
+            Some(SqlState { bytes, align: [] })
         } else {
             None
         }
