@@ -6,6 +6,7 @@ use Rattle.psm_cond.specs.declared.handlers.Handler.{Handler}
 use Rattle.psm_cond.specs.declared.item.ConditionItem.{ConditionItem}
 use Rattle.psm_cond.specs.Condition.{Entries}
 use Rattle.psm_cond.specs.Item.{entries_of, entry_item}
+use Rattle.psm_exprcode.specs.declared.op.Op.{Op}
 use Rattle.psm_exprcode.specs.declared.operand.Next.{Next}
 use Rattle.psm_exprcode.specs.declared.operand.Operand.{Operand}
 use Rattle.psm_exprcode.specs.Fits.{Fits}
@@ -113,6 +114,9 @@ plain_act r i = within_act r i
 abbrev pub FindsNeeds : Instruction → List Operand → List Datum → Type 0
 FindsNeeds (instruction.Operation o) os vars = Fits o os [] vars
 FindsNeeds i os vars = Unit {0}
+
+abbrev pub IsNoOperation : Instruction → Type 0
+IsNoOperation i = (o : Op) → i ≡ instruction.Operation o → ⊥
 
 -- ---- what is seen as something else
 

@@ -99,7 +99,7 @@ fn passed(alloc: Global, parameter: &Parameter, arguments: &mut Vec<Datum>) -> R
         ParameterMode::Out => Ok(Datum::Null),
         ParameterMode::In | ParameterMode::InOut => match arguments.pop() {
             None => Err(Stop::Lacking),
-            Some(value) => stored(alloc, parameter.kind, &value),
+            Some(value) => stored(alloc, parameter.kind, value),
         },
     }
 }

@@ -1,13 +1,12 @@
-//! Instructions but for those about queries, plans and cursors.
-ghost use Rattle.std.specs.Prelude.{◌≡◌, [], false, reverse, All, IfSome};
+//! Instructions but for operations and those about queries, plans and cursors.
+ghost use Rattle.std.specs.Prelude.{◌≡◌, false, All, IfSome};
 ghost use Rattle.psm_value.specs.SqlType.{IsType};
-ghost use Rattle.psm_exprcode.specs.Fits.{Fits};
 ghost use Rattle.psm_code.specs.Parts.{slots_of};
-ghost use Rattle.psm_code.specs.Rows.{call_from, done, end_action as action_end, operation as operated};
+ghost use Rattle.psm_code.specs.Rows.{call_from, done, end_action as action_end};
 ghost use Rattle.psm_unwind.specs.Marks.{MarksStand, SameFrames};
 ghost use Rattle.psm_unwind.specs.View.{machine_of};
 ghost use Rattle.psm_machine.specs.Coming.{Comes, Does};
-ghost use Rattle.psm_machine.specs.Going.{FindsNeeds, SameMarks, StandStill, Turns, TurnsOn, is_of_data, plain_act, signal_act, within_act};
+ghost use Rattle.psm_machine.specs.Going.{IsNoOperation, SameMarks, StandStill, Turns, TurnsOn, is_of_data, plain_act, signal_act, within_act};
 
 use crate::actions::end_action;
 use crate::blocks::{enter, exit};
@@ -16,21 +15,19 @@ use crate::diagnostics::item_of_statement;
 use crate::ends::{end_procedure, return_value};
 use crate::entries::item_of_condition;
 use crate::going::{behind, go};
-use crate::operations::operation;
 use crate::returning::{no_case, no_return};
 use crate::signalling::{resignal, resignal_condition, resignal_message, signal, signal_message};
 use crate::stop::Stop;
 use crate::turns::{clear, turn};
 use crate::variables::{retrieve, store as store_in, warn};
 use psm_code::{Instruction, RawCode, RawRoutine};
-use psm_exprcode::Op;
 use psm_store::Store;
 use psm_unwind::{Outcome, Run};
 use std::alloc::Global;
 
-/// Does an instruction that is about no query, plan or cursor, and goes on where the table of instructions says.
+/// Does an instruction that is no operation and about no query, plan or cursor, and goes on where the table of instructions says.
 ///
-/// The types of slots and results have to be types, an operation has to find what it needs, and the marks of the run have to stand.
+/// The types of slots and results have to be types, and the marks of the run have to stand.
 /// They stand afterwards too, also where memory runs out.
 pub fn perform<S: Store>(
     alloc: Global,
@@ -44,13 +41,12 @@ pub fn perform<S: Store>(
     requires own { All IsType (slots_of routine.now) }
     requires slots { All (λ r. All IsType (slots_of r)) code.now.routines }
     requires results { All (λ r. IfSome r.returns IsType) code.now.routines }
-    requires needs { FindsNeeds instruction.now (reverse run.old.running.operands.items) run.old.running.variables.items }
+    requires other { IsNoOperation instruction.now }
     requires stand { MarksStand (S.holds store.old) (S.marks store.old) run.old }
     ensures due { Turns (done code.now routine.now instruction.now (machine_of (S.tables store.old) (S.at store.old) run.old)) result (machine_of (S.tables store.new) (S.at store.new) run.new) }
     ensures still { StandStill (S.holds store.old) (S.at store.old) (S.marks store.old) run.old (S.holds store.new) (S.at store.new) (S.marks store.new) run.new }
 {
     match instruction {
-        Instruction::Operation(op) => operate(alloc, run, op),
         Instruction::EndAction(number) => finish_action(routine, run, *number),
         Instruction::Call(number) => call_on(alloc, code, run, *number),
         Instruction::CallFunction(number) => call_on(alloc, code, run, *number),
@@ -61,15 +57,6 @@ pub fn perform<S: Store>(
             behind(run, done)
         }
     }
-}
-
-fn operate(alloc: Global, run: &mut Run, op: &Op) -> Result<Outcome, Stop>
-    requires { Fits op.now (reverse run.old.running.operands.items) [] run.old.running.variables.items }
-    ensures due { TurnsOn (operated op.now) run.old result run.new }
-    ensures same { SameFrames run.old run.new }
-{
-    let next = operation(alloc, run, op)?;
-    go(run, next)
 }
 
 fn finish_action(routine: &RawRoutine, run: &mut Run, number: u32) -> Result<Outcome, Stop>

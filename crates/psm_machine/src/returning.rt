@@ -28,7 +28,7 @@ pub fn returned(alloc: Global, code: &RawCode, run: &mut Run) -> Result<Datum, S
     let Some(kind) = routine.returns else {
         return Err(Stop::Lacking);
     };
-    stored(alloc, kind, &value)
+    stored(alloc, kind, value)
 }
 
 /// The end of a function without a RETURN statement.

@@ -1,26 +1,28 @@
 //! One instruction of a run after another.
-ghost use Rattle.std.specs.Prelude.{◌≡◌, None, reverse, All, IfOk, IsTrue};
+ghost use Rattle.std.specs.Prelude.{◌≡◌, [], None, reverse, All, IfOk, IsTrue};
 ghost use Rattle.psm_cond.specs.Sound.{is_numbered};
+ghost use Rattle.psm_exprcode.specs.Fits.{Fits};
 ghost use Rattle.psm_code.specs.RoutineRules.{first_fault};
-ghost use Rattle.psm_code.specs.Rows.{done, next_or_end, row, way_of};
+ghost use Rattle.psm_code.specs.Rows.{done, next_or_end, operation as operated, row, way_of};
 ghost use Rattle.psm_code.specs.Sits.{Sits};
 ghost use Rattle.psm_unwind.specs.Marks.{MarksStand, SameFrames};
 ghost use Rattle.psm_unwind.specs.View.{LeadsTo, machine_of};
 ghost use Rattle.psm_machine.specs.Allowed.{MayMove, OfCursor, RunsRight};
 ghost use Rattle.psm_machine.specs.Coming.{Comes};
-ghost use Rattle.psm_machine.specs.Going.{FindsNeeds, StandStill, Turns, is_of_data};
+ghost use Rattle.psm_machine.specs.Going.{FindsNeeds, StandStill, Turns, TurnsOn, is_of_data};
 ghost use Rattle.psm_machine.specs.Over.{way_for};
 ghost use Rattle.psm_machine.specs.Stepping.{data_act};
 
 use crate::cursors::{close, fetch, next, open};
 use crate::going::{behind, go};
+use crate::operations::operation;
 use crate::performing::perform;
 use crate::plans::change;
 use crate::queries::{exists, scalar, select_row};
 use crate::settling::settle;
 use crate::stop::Stop;
 use psm_code::{Instruction, RawCode, RawRoutine};
-use psm_exprcode::Next;
+use psm_exprcode::{Next, Op};
 use psm_store::Store;
 use psm_unwind::{Ending, Outcome, Run, routine_at};
 use std::alloc::{AllocError, Global};
@@ -71,6 +73,7 @@ pub fn obey<S: Store>(
     ensures still { StandStill (S.holds store.old) (S.at store.old) (S.marks store.old) run.old (S.holds store.new) (S.at store.new) (S.marks store.new) run.new }
 {
     match instruction {
+        Instruction::Operation(op) => operate(alloc, run, op),
         Instruction::Next { cursor, end } => take_next(alloc, routine, run, store, *cursor, *end),
         _ => {
             if is_of_data(instruction) {
@@ -81,6 +84,16 @@ pub fn obey<S: Store>(
             }
         }
     }
+}
+
+// Most lines of a routine are operations of expressions.
+fn operate(alloc: Global, run: &mut Run, op: &Op) -> Result<Outcome, Stop>
+    requires { Fits op.now (reverse run.old.running.operands.items) [] run.old.running.variables.items }
+    ensures due { TurnsOn (operated op.now) run.old result run.new }
+    ensures same { SameFrames run.old run.new }
+{
+    let next = operation(alloc, run, op)?;
+    go(run, next)
 }
 
 // The next row of FOR.

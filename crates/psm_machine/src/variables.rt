@@ -15,7 +15,7 @@ use crate::stop::{Stop, failed, stop_at};
 use psm_code::RawRoutine;
 use psm_sqlstate::SqlState;
 use psm_unwind::Run;
-use psm_value::{Datum, SqlType, fetch_into, store_into};
+use psm_value::{Datum, SqlType, fetch_into, is_stored, store_into, storing_is_stable};
 use std::alloc::Global;
 
 /// Stores the last operand in a variable, as the variable's type stores it.
@@ -28,7 +28,7 @@ pub fn store(alloc: Global, routine: &RawRoutine, run: &mut Run, slot: u32) -> R
         return Err(Stop::Lacking);
     };
     let value = pop(run)?;
-    let stored = stored(alloc, kind, &value)?;
+    let stored = stored(alloc, kind, value)?;
     set_variable(run, slot, stored);
     Ok(())
 }
@@ -49,12 +49,16 @@ pub fn retrieve(alloc: Global, routine: &RawRoutine, run: &mut Run, slot: u32) -
     Ok(())
 }
 
-// The value as a type stores it.
-pub(crate) fn stored(alloc: Global, kind: SqlType, value: &Datum) -> Result<Datum, Stop>
+// The value as a type stores it. One that the type stores as it is isn't copied.
+pub(crate) fn stored(alloc: Global, kind: SqlType, value: Datum) -> Result<Datum, Stop>
     requires { IsType kind }
-    ensures { Tries (stored kind value.now) result }
+    ensures { Tries (stored kind value) result }
 {
-    match store_into(alloc, kind, value) {
+    if is_stored(kind, &value) {
+        storing_is_stable();
+        return Ok(value);
+    }
+    match store_into(alloc, kind, &value) {
         Ok(stored) => Ok(stored),
         Err(fault) => Err(failed(alloc, fault)),
     }

@@ -9,12 +9,6 @@ use Rattle.psm_machine.proofs.Doing.{other_done}
 use Rattle.psm_machine.proofs.Standing.{still_same, still_then}
 use Rattle.psm_machine.proofs.performing.perform.Goals as goal
 
-pub returns-in-Operation-clause-due : goal.returns-in-Operation-clause-due
-returns-in-Operation-clause-due g c =
-    let tables = g.S.Store.tables c.args.store.now in
-    let at = g.S.Store.at c.args.store.now in
-    subst (λ (i : Instruction). Turns (done c.args.code.now c.args.routine.now i (machine_of tables at c.args.run.now)) c.operate.result (machine_of tables at c.operate.new.run)) (sym c.in-Operation.is) (c.operate.ensures.due tables at)
-
 pub returns-in-EndAction-clause-due : goal.returns-in-EndAction-clause-due
 returns-in-EndAction-clause-due g c =
     let tables = g.S.Store.tables c.args.store.now in
@@ -51,7 +45,7 @@ returns-in_default g c =
     record {
       due =
           subst (λ (x : Came Way). Turns x c.behind.result (machine_of tables1 at1 c.behind.new.run))
-          (sym (other_done c.args.code.now c.args.routine.now c.args.instruction.now m c.requires.kind c.in_default.not-Operation c.in_default.not-EndAction c.in_default.not-Call c.in_default.not-CallFunction c.in_default.not-Return c.in_default.not-End))
+          (sym (other_done c.args.code.now c.args.routine.now c.args.instruction.now m c.requires.kind c.requires.other c.in_default.not-EndAction c.in_default.not-Call c.in_default.not-CallFunction c.in_default.not-Return c.in_default.not-End))
           (c.behind.ensures.due tables1 at1 (plain_act c.args.routine.now c.args.instruction.now m) c.plain-done.ensures.due);
       still = still_then h0 at0 count0 c.args.run.now h1 at1 count1 c.plain-done.new.run h1 at1 count1 c.behind.new.run c.plain-done.ensures.still (still_same h1 at1 count1 c.plain-done.new.run c.behind.new.run c.behind.ensures.same);
     }

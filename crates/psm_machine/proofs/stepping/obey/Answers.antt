@@ -1,8 +1,9 @@
 use Rattle.std.proofs.Common.{All, sym, subst, ◌∙◌}
 use Rattle.psm_value.specs.SqlType.{IsType}
 use Rattle.psm_code.specs.declared.code.RawRoutine.{RawRoutine}
+use Rattle.psm_code.specs.declared.instruction.Instruction.{Instruction}
 use Rattle.psm_code.specs.Parts.{slots_of}
-use Rattle.psm_code.specs.Rows.{Way}
+use Rattle.psm_code.specs.Rows.{Way, done}
 use Rattle.psm_code.specs.Steps.{Came}
 use Rattle.psm_unwind.specs.View.{machine_of}
 use Rattle.psm_machine.specs.Going.{Turns}
@@ -14,6 +15,12 @@ use Rattle.psm_machine.proofs.Rights.{may_move}
 use Rattle.psm_machine.proofs.Standing.{still_same, still_then}
 use Rattle.psm_machine.proofs.stepping.obey.Goals as goal
 
+pub returns-in-Operation-clause-due : goal.returns-in-Operation-clause-due
+returns-in-Operation-clause-due g c =
+    let tables = g.S.Store.tables c.args.store.now in
+    let at = g.S.Store.at c.args.store.now in
+    subst (λ (i : Instruction). Turns (done c.args.code.now c.args.routine.now i (machine_of tables at c.args.run.now)) c.operate.result (machine_of tables at c.operate.new.run)) (sym c.in-Operation.is) (c.operate.ensures.due tables at)
+
 pub take_next-requires : goal.take_next-requires
 take_next-requires g c = may_move c.args.code.now c.args.routine.now (g.S.Store.tables c.args.store.now) c.args.run.now.running.variables.items c.args.run.now.running.cursors.items c.requires.runs _
 
@@ -23,7 +30,7 @@ perform-requires g c = record {
   own = one_of (λ (r : RawRoutine). All IsType (slots_of r)) c.args.code.now.routines c.requires.runs.routine c.args.routine.now (slots_right c.args.code.now c.requires.runs.right) c.requires.runs.there;
   slots = slots_right c.args.code.now c.requires.runs.right;
   results = results_right c.args.code.now c.requires.runs.right;
-  needs = c.requires.needs;
+  other = c.in_default.not-Operation;
   stand = c.requires.stand;
 }
 

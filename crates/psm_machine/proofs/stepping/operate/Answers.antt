@@ -1,7 +1,7 @@
 use Rattle.psm_code.specs.Rows.{operation}
 use Rattle.psm_unwind.specs.View.{machine_of}
 use Rattle.psm_machine.proofs.Doing.{goes_to, stopped_way}
-use Rattle.psm_machine.proofs.performing.operate.Goals as goal
+use Rattle.psm_machine.proofs.stepping.operate.Goals as goal
 
 pub returns-in_err-next-clause-due : goal.returns-in_err-next-clause-due
 returns-in_err-next-clause-due c = λ tables at.
