@@ -50,7 +50,7 @@ module _ (file : ResolvedFile) (code : RawCode) (routine : ResolvedRoutine) (r :
   abbrev scene : Scene
   scene = scene_of file routine proper.shapes
 
-  keeps-all : KeepsAll scene (known_of file routine) code r
+  pub keeps-all : KeepsAll scene (known_of file routine) code r
   keeps-all =
       let three = all-kept scene code r made w proper.begin (λ n q at. function-takes file q (each-at (ProperRoutine file) file.routines n q accepted.routines at)) queries in
       record {

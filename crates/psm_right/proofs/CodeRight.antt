@@ -1,11 +1,14 @@
 -- Code that is written for an accepted file breaks no rule.
-use Rattle.std.proofs.Common.{◌≡◌, None}
+use Rattle.std.proofs.Common.{◌≡◌, ℕ, None, Some, slice_get}
 use Rattle.psm_resolved.specs.declared.file.ResolvedFile.{ResolvedFile}
+use Rattle.psm_resolved.specs.declared.file.ResolvedRoutine.{ResolvedRoutine}
 use Rattle.psm_code.specs.declared.code.RawCode.{RawCode}
+use Rattle.psm_code.specs.declared.code.RawRoutine.{RawRoutine}
 use Rattle.psm_code.specs.RoutineRules.{first_fault, line_faults}
-use Rattle.psm_emit.specs.Files.{FileWritten}
-use Rattle.psm_proper.specs.Files.{ProperFile, ProperRoutine}
-use Rattle.psm_right.proofs.AllLines.{lines-right}
+use Rattle.psm_emit.specs.Files.{FileWritten, RoutineWritten, known_of}
+use Rattle.psm_proper.specs.Files.{ProperFile, ProperRoutine, scene_of}
+use Rattle.psm_right.specs.Kept.{Keeps}
+use Rattle.psm_right.proofs.AllLines.{keeps-all, lines-right}
 use Rattle.psm_right.proofs.ContextsRight.{bare-lines, contexts-right}
 use Rattle.psm_right.proofs.DataRight.{queries-right}
 use Rattle.psm_right.proofs.Faultless.{Faultless, each-at}
@@ -17,3 +20,8 @@ code-right file code made accepted =
     λ n routine r at there w. lines-right file code routine r n made accepted at there w (queries-right file code routine r n made accepted at w) in
     none-broken file code made accepted lines (λ n routine r at there w.
     contexts-right file routine r (each-at (ProperRoutine file) file.routines n routine accepted.routines at) w (bare-lines code r (lines n routine r at there w)))
+
+-- such code keeps the letters of the file
+pub letters-kept : (file : ResolvedFile) (code : RawCode) (n : ℕ) (routine : ResolvedRoutine) (r : RawRoutine) → FileWritten file code → ProperFile file → (proper : ProperRoutine file routine) → slice_get file.routines n ≡ Some routine
+    → RoutineWritten (known_of file routine) routine r → Keeps (scene_of file routine proper.shapes) (known_of file routine) code r
+letters-kept file code n routine r made accepted proper at w = (keeps-all file code routine r made accepted proper w (queries-right file code routine r n made accepted at w)).keeps

@@ -1,14 +1,15 @@
 //! The law of code that is written.
-ghost use Rattle.std.specs.Prelude.{◌≡◌, ◌≤◌, ℕ, false, true, ◌∷◌, [], None};
+ghost use Rattle.std.specs.Prelude.{◌≡◌, ◌≤◌, ℕ, false, true, ◌∷◌, [], None, Some, slice_get};
 ghost use Rattle.psm_exprcode.specs.declared.op.Letter.{Letter};
 ghost use Rattle.psm_resolved.specs.declared.expr.ResolvedExpr.{ResolvedExpr};
 ghost use Rattle.psm_resolved.specs.declared.file.ResolvedFile.{ResolvedFile};
+ghost use Rattle.psm_resolved.specs.declared.file.ResolvedRoutine.{ResolvedRoutine};
 ghost use Rattle.psm_code.specs.declared.code.RawCode.{RawCode};
 ghost use Rattle.psm_code.specs.declared.code.RawRoutine.{RawRoutine};
 ghost use Rattle.psm_code.specs.RoutineRules.{context_there, first_fault};
 ghost use Rattle.psm_emit.specs.declared.known.Known.{Known};
 ghost use Rattle.psm_emit.specs.Exprs.{Writes};
-ghost use Rattle.psm_emit.specs.Files.{FileWritten};
+ghost use Rattle.psm_emit.specs.Files.{FileWritten, RoutineWritten, known_of};
 ghost use Rattle.psm_emit.specs.Written.{Written, here};
 ghost use Rattle.psm_emit.specs.Writing.{Begins};
 ghost use Rattle.psm_sound.specs.Expressions.{IsExpr};
@@ -16,7 +17,7 @@ ghost use Rattle.psm_sound.specs.Scene.{Scene};
 ghost use Rattle.psm_right.specs.Frame.{Ends, Follows, Free};
 ghost use Rattle.psm_right.specs.Kept.{Keeps};
 ghost use Rattle.psm_proper.specs.Expressions.{Proper};
-ghost use Rattle.psm_proper.specs.Files.{ProperFile};
+ghost use Rattle.psm_proper.specs.Files.{ProperFile, ProperRoutine, scene_of};
 
 /// The lines that are written for a sound expression break no rule, in code that keeps the letters of its file: they stand in the
 /// context of their statement, in a routine whose first line is the routine's own, before a line at which a run goes on behind a
@@ -25,6 +26,12 @@ ghost use Rattle.psm_proper.specs.Files.{ProperFile};
 pub fn expressions_break_no_rule()
     ensures sources { (e : Scene) (known : Known) (code : RawCode) (r : RawRoutine) (context resume : ℕ) → Keeps e known code r → Follows r 0 0 [] → context_there r context ≡ true → Ends r resume context → (k : Letter) (x : ResolvedExpr) (w v : Written) → IsExpr e x k → Proper known true x → Writes known context resume k x w v → Begins v r → here v ≤ resume → Follows r (here v) context v.stack → (v.stack ≡ k ∷ w.stack) × Follows r (here w) context w.stack × Free code r (here w) (here v) }
     ensures operands { (e : Scene) (known : Known) (code : RawCode) (r : RawRoutine) (context resume : ℕ) → Keeps e known code r → Follows r 0 0 [] → context_there r context ≡ true → Ends r resume context → (k j : Letter) (x : ResolvedExpr) (w v : Written) → IsExpr e x k → Proper known false x → Writes known context resume j x w v → Begins v r → here v ≤ resume → Follows r (here v) context v.stack → (v.stack ≡ k ∷ w.stack) × Follows r (here w) context w.stack × Free code r (here w) (here v) }
+{}
+
+/// Code that is written for a proper file keeps the letters of the file: in each routine those of its variables, of the functions of
+/// the file and of the items of its queries are the letters that are known where its lines are written.
+pub fn written_code_keeps_letters()
+    ensures routines { (file : ResolvedFile) (code : RawCode) (n : ℕ) (routine : ResolvedRoutine) (r : RawRoutine) → FileWritten file code → ProperFile file → (proper : ProperRoutine file routine) → slice_get file.routines n ≡ Some routine → RoutineWritten (known_of file routine) routine r → Keeps (scene_of file routine proper.shapes) (known_of file routine) code r }
 {}
 
 /// Code that is written for a proper file breaks no rule: neither its tables nor its routines, with all their parts, do.

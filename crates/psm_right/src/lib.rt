@@ -3,4 +3,6 @@
 
 mod laws;
 
-pub use laws::{expressions_break_no_rule, written_code_breaks_no_rule};
+pub use laws::{
+    expressions_break_no_rule, written_code_breaks_no_rule, written_code_keeps_letters,
+};

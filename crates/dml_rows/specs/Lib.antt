@@ -1,2 +1,0 @@
-pub mod Bench
-pub mod Whole
