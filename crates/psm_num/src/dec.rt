@@ -6,7 +6,7 @@ ghost use Rattle.psm_num.specs.Arithmetic.{total, difference, product, divided, 
 ghost use Rattle.psm_num.specs.Order.{order};
 
 use crate::fault::NumFault;
-use crate::power::{cut, minus, plus, power, raised};
+use crate::power::{cut, minus, plus, power, raised, times};
 use std::cmp::Ordering;
 use std::marker::Model;
 
@@ -17,7 +17,8 @@ use std::marker::Model;
 #[derive(Clone, Copy, Debug, PartialEq, Eq)]
 pub struct Dec {
     coef: i64,
-    scale: u8,
+    // A whole word, so that a number is copied as two.
+    scale: u64,
 }
 
 impl Model for Dec {
@@ -47,7 +48,10 @@ impl Dec {
         requires bound { scale ≤ 18 }
         ensures { result ≡ record { coef = coef; scale = scale } }
     {
-        Dec { coef, scale }
+        Dec {
+            coef,
+            scale: scale as u64,
+        }
     }
 
     /// The digits as one whole number, with the sign.
@@ -63,7 +67,7 @@ impl Dec {
         ensures value { result ≡ self.scale }
         ensures bound { result ≤ 18 }
     {
-        self.scale
+        self.scale as u8
     }
 
     /// The sum, at the larger scale; more than 18 digits are `Range`.
@@ -71,9 +75,9 @@ impl Dec {
     pub fn add(self, other: Dec) -> Result<Dec, NumFault>
         ensures { result ≡ checked (total self other) }
     {
-        let scale = self.scale.max(other.scale);
-        let left = raised(self.coef, scale - self.scale);
-        let right = raised(other.coef, scale - other.scale);
+        let scale = self.scale().max(other.scale());
+        let left = raised(self.coef, scale - self.scale());
+        let right = raised(other.coef, scale - other.scale());
         bounded(plus(left, right), scale)
     }
 
@@ -82,9 +86,9 @@ impl Dec {
     pub fn sub(self, other: Dec) -> Result<Dec, NumFault>
         ensures { result ≡ checked (difference self other) }
     {
-        let scale = self.scale.max(other.scale);
-        let left = raised(self.coef, scale - self.scale);
-        let right = raised(other.coef, scale - other.scale);
+        let scale = self.scale().max(other.scale());
+        let left = raised(self.coef, scale - self.scale());
+        let right = raised(other.coef, scale - other.scale());
         bounded(minus(left, right), scale)
     }
 
@@ -92,10 +96,7 @@ impl Dec {
     pub fn mul(self, other: Dec) -> Result<Dec, NumFault>
         ensures { result ≡ checked (product self other) }
     {
-        bounded(
-            self.coef as i128 * other.coef as i128,
-            self.scale + other.scale,
-        )
+        bounded(times(self.coef, other.coef), self.scale() + other.scale())
     }
 
     /// The quotient at the larger scale, cut toward zero. A zero divisor is `Zero`, and then more than
@@ -107,8 +108,8 @@ impl Dec {
         if other.coef == 0 {
             return Err(NumFault::Zero);
         }
-        let scale = self.scale.max(other.scale);
-        let shift = scale + other.scale - self.scale;
+        let scale = self.scale().max(other.scale());
+        let shift = scale + other.scale() - self.scale();
         // A dividend of 10^36 or more over less than 10^18 is a quotient of more than 18 digits.
         if self.coef.unsigned_abs() as i128 >= power(36 - shift) {
             return Err(NumFault::Range);
@@ -133,10 +134,10 @@ impl Dec {
         requires { scale ≤ 18 }
         ensures { result ≡ checked (at_scale self scale) }
     {
-        if self.scale <= scale {
-            bounded(raised(self.coef, scale - self.scale), scale)
+        if self.scale() <= scale {
+            bounded(raised(self.coef, scale - self.scale()), scale)
         } else {
-            bounded(cut(self.coef as i128, power(self.scale - scale)), scale)
+            bounded(cut(self.coef as i128, power(self.scale() - scale)), scale)
         }
     }
 
@@ -145,7 +146,7 @@ impl Dec {
     pub fn cmp(self, other: Dec) -> Ordering
         ensures { result ≡ order self other }
     {
-        raised(self.coef, other.scale).cmp(&raised(other.coef, self.scale))
+        raised(self.coef, other.scale()).cmp(&raised(other.coef, self.scale()))
     }
 }
 
@@ -155,7 +156,7 @@ fn bounded(coef: i128, scale: u8) -> Result<Dec, NumFault>
     if scale <= 18 && -1_000_000_000_000_000_000 < coef && coef < 1_000_000_000_000_000_000 {
         Ok(Dec {
             coef: coef as i64,
-            scale,
+            scale: scale as u64,
         })
     } else {
         Err(NumFault::Range)

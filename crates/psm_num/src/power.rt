@@ -1,4 +1,4 @@
-//! Powers of ten, and the sums, differences and quotients of whole numbers of up to 36 digits.
+//! Powers of ten, and the sums, differences, products and quotients of whole numbers of up to 36 digits.
 ghost use Rattle.std.specs.Prelude.{◌≡◌, pos, ◌*◌, ◌^◌, ◌<◌, ◌≤◌, ◌*ℤ◌, ◌+ℤ◌, ◌-ℤ◌, unsigned_abs, int_div};
 
 /// The `n`th power of ten.
@@ -36,6 +36,15 @@ pub fn minus(left: i128, right: i128) -> i128
     ensures { result ≡ left -ℤ right }
 {
     left - right
+}
+
+/// The product of two numbers of at most 18 digits.
+pub fn times(left: i64, right: i64) -> i128
+    requires left_small { unsigned_abs left < 10 ^ 18 }
+    requires right_small { unsigned_abs right < 10 ^ 18 }
+    ensures { result ≡ left *ℤ right }
+{
+    left as i128 * right as i128
 }
 
 /// The quotient, cut toward zero.
