@@ -1,5 +1,6 @@
 pub mod Among
 pub mod Likes
+pub mod OnTop
 pub mod Positions
 pub mod Replacing
 pub mod Results

@@ -6,7 +6,7 @@ ghost use Rattle.psm_exprcode.specs.Comparison.{truth_of, holds, judged, tested,
 ghost use Rattle.psm_exprcode.specs.Fits.{are_values, Carries};
 
 use crate::operand::{Next, Operand};
-use crate::stack::{pop_three, pop_two, pop_value, put_truth, put_value};
+use crate::stack::{last_two, pop_three, pop_two, pop_value, put_for_two, put_truth, put_value};
 use psm_value::{Datum, Truth, ValueFault, compare};
 use std::cmp::Ordering;
 
@@ -55,8 +55,9 @@ pub(crate) fn compare_two(operands: &mut Vec<Operand>, test: Test) -> Result<Nex
     requires { IsTrue (are_values 2 (reverse operands.old.items)) }
     ensures { Carries 2 (compares test) operands.old result operands.new }
 {
-    let (first, second) = pop_two(operands);
-    put_truth(operands, test.judge(&first, &second))?;
+    let (first, second) = last_two(operands.as_slice());
+    let truth = test.judge(first, second);
+    put_for_two(operands, Operand::Truth(truth));
     Ok(Next::Ahead)
 }
 

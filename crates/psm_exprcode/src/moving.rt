@@ -10,7 +10,7 @@ ghost use Rattle.psm_exprcode.specs.Fits.{are_values, are_truths, is_over_value,
 
 use crate::comparing::is_null_value;
 use crate::operand::{Next, Operand};
-use crate::stack::{pop, pop_truth, pop_value, put, put_value};
+use crate::stack::{last_value, pop, pop_truth, pop_value, put, put_value};
 use psm_value::{Datum, SqlType, ValueFault, cast};
 use std::alloc::{AllocError, Global};
 
@@ -21,7 +21,10 @@ pub(crate) fn put_copy(
 ) -> Result<Next, ValueFault>
     ensures { Carries 0 (λ os. Went Ahead (Operand.Value value.now ∷ os)) operands.old result operands.new }
 {
-    put_value(operands, value.copy(alloc)?)?;
+    match value {
+        Datum::Num(number) => put_value(operands, Datum::Num(*number))?,
+        _ => put_value(operands, value.copy(alloc)?)?,
+    }
     Ok(Next::Ahead)
 }
 
@@ -35,35 +38,17 @@ pub(crate) fn put_named(
     requires { place < length values.now }
     ensures { Carries 0 (λ os. with_named os (slice_get values.now place)) operands.old result operands.new }
 {
-    put_value(operands, copy_at(alloc, values, place)?)?;
-    Ok(Next::Ahead)
-}
-
-fn copy_at(alloc: Global, values: &[Datum], place: u32) -> Result<Datum, AllocError>
-    requires { place < length values.now }
-    ensures { IfOk result (λ d. slice_get values.now place ≡ Some d) }
-{
-    values[place as usize].copy(alloc)
+    put_copy(alloc, operands, &values[place as usize])
 }
 
 pub(crate) fn duplicate(alloc: Global, operands: &mut Vec<Operand>) -> Result<Next, ValueFault>
     requires { IsTrue (are_values 1 (reverse operands.old.items)) }
     ensures { Carries 0 (on_value (λ a below. Went Ahead (Operand.Value a ∷ Operand.Value a ∷ below))) operands.old result operands.new }
 {
-    let copy = copy_last(alloc, operands.as_slice())?;
+    let (last, _) = last_value(operands.as_slice());
+    let copy = last.copy(alloc)?;
     put_value(operands, copy)?;
     Ok(Next::Ahead)
-}
-
-// A copy of the last operand, which is a value.
-fn copy_last(alloc: Global, operands: &[Operand]) -> Result<Datum, AllocError>
-    requires { IsTrue (are_values 1 (reverse operands.now)) }
-    ensures { IfOk result (λ d. (below : Seq Operand) × (reverse operands.now ≡ Operand.Value d ∷ below)) }
-{
-    match operands {
-        [.., Operand::Value(value)] => value.copy(alloc),
-        _ => unreachable!(),
-    }
 }
 
 pub(crate) fn drop_last(operands: &mut Vec<Operand>) -> Next

@@ -1,12 +1,12 @@
 //! Operations on numbers (ISO/IEC 9075:1992, 6.12).
-ghost use Rattle.std.specs.Prelude.{◌≡◌, ◌≤◌, reverse, IsTrue, Ok};
+ghost use Rattle.std.specs.Prelude.{◌≡◌, ◌<◌, ◌≤◌, drop, reverse, vec_len, IsTrue, Ok};
 ghost use Rattle.psm_value.specs.Arithmetic.{sum_of, difference_of, product_of, quotient_of, negated_of};
 ghost use Rattle.psm_exprcode.specs.Applied.{value_of_one, value_of_two, on_value, with_value};
-ghost use Rattle.psm_exprcode.specs.Fits.{are_values, Carries};
+ghost use Rattle.psm_exprcode.specs.Fits.{are_values, Applies, Carries};
 ghost use Rattle.psm_exprcode.specs.Values.{rescaled};
 
 use crate::operand::{Next, Operand};
-use crate::stack::{pop_two, pop_value, put_value};
+use crate::stack::{drop_two, last_two, pop_value, put_for_two, put_value};
 use psm_num::NumFault;
 use psm_value::{Datum, SqlState, ValueFault, add, div, mul, neg, sub};
 
@@ -23,36 +23,53 @@ pub(crate) fn add_two(operands: &mut Vec<Operand>) -> Result<Next, ValueFault>
     requires { IsTrue (are_values 2 (reverse operands.old.items)) }
     ensures { Carries 2 (value_of_two sum_of) operands.old result operands.new }
 {
-    let (first, second) = pop_two(operands);
-    put_value(operands, add(&first, &second)?)?;
-    Ok(Next::Ahead)
+    let (first, second) = last_two(operands.as_slice());
+    let due = add(first, second);
+    give(operands, due)
 }
 
 pub(crate) fn sub_two(operands: &mut Vec<Operand>) -> Result<Next, ValueFault>
     requires { IsTrue (are_values 2 (reverse operands.old.items)) }
     ensures { Carries 2 (value_of_two difference_of) operands.old result operands.new }
 {
-    let (first, second) = pop_two(operands);
-    put_value(operands, sub(&first, &second)?)?;
-    Ok(Next::Ahead)
+    let (first, second) = last_two(operands.as_slice());
+    let due = sub(first, second);
+    give(operands, due)
 }
 
 pub(crate) fn mul_two(operands: &mut Vec<Operand>) -> Result<Next, ValueFault>
     requires { IsTrue (are_values 2 (reverse operands.old.items)) }
     ensures { Carries 2 (value_of_two product_of) operands.old result operands.new }
 {
-    let (first, second) = pop_two(operands);
-    put_value(operands, mul(&first, &second)?)?;
-    Ok(Next::Ahead)
+    let (first, second) = last_two(operands.as_slice());
+    let due = mul(first, second);
+    give(operands, due)
 }
 
 pub(crate) fn div_two(operands: &mut Vec<Operand>) -> Result<Next, ValueFault>
     requires { IsTrue (are_values 2 (reverse operands.old.items)) }
     ensures { Carries 2 (value_of_two quotient_of) operands.old result operands.new }
 {
-    let (first, second) = pop_two(operands);
-    put_value(operands, div(&first, &second)?)?;
-    Ok(Next::Ahead)
+    let (first, second) = last_two(operands.as_slice());
+    let due = div(first, second);
+    give(operands, due)
+}
+
+// The value that an operation on the last two operands gives stands in their place; where it gives a condition they are gone.
+fn give(operands: &mut Vec<Operand>, due: Result<Datum, SqlState>) -> Result<Next, ValueFault>
+    requires { 1 < vec_len operands.old }
+    ensures { Applies 2 (reverse operands.old.items) (with_value (drop 2 (reverse operands.old.items)) due) result (reverse operands.new.items) }
+{
+    match due {
+        Ok(value) => {
+            put_for_two(operands, Operand::Value(value));
+            Ok(Next::Ahead)
+        }
+        Err(state) => {
+            drop_two(operands);
+            Err(ValueFault::Condition(state))
+        }
+    }
 }
 
 pub(crate) fn rescale(operands: &mut Vec<Operand>, scale: u8) -> Result<Next, ValueFault>

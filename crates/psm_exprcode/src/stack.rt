@@ -1,5 +1,5 @@
 //! The operand stack. Operands stand in a vector with the last one at its end.
-ghost use Rattle.std.specs.Prelude.{◌≡◌, ◌<◌, ◌∷◌, vec_len, reverse, IsTrue, OnOk, OnErr};
+ghost use Rattle.std.specs.Prelude.{◌≡◌, ◌<◌, ◌∷◌, List as Seq, vec_len, drop, reverse, IsTrue, OnOk, OnErr};
 ghost use Rattle.psm_exprcode.specs.Fits.{are_values, are_truths};
 
 use crate::operand::Operand;
@@ -43,6 +43,46 @@ pub(crate) fn pop_three(operands: &mut Vec<Operand>) -> (Datum, Datum, Datum)
     let third = pop_value(operands);
     let (first, second) = pop_two(operands);
     (first, second, third)
+}
+
+// The last operand, which is a value, and those below it, lent.
+pub(crate) fn last_value(operands: &[Operand]) -> (&Datum, &[Operand])
+    requires { IsTrue (are_values 1 (reverse operands.now)) }
+    ensures { reverse operands.now ≡ Operand.Value result.0.now ∷ reverse result.1.now }
+{
+    match operands.split_last() {
+        Some((Operand::Value(value), below)) => (value, below),
+        _ => unreachable!(),
+    }
+}
+
+// The last two operands, which are values, lent; the lower one first.
+pub(crate) fn last_two(operands: &[Operand]) -> (&Datum, &Datum)
+    requires { IsTrue (are_values 2 (reverse operands.now)) }
+    ensures { (below : Seq Operand) × (reverse operands.now ≡ Operand.Value result.1.now ∷ Operand.Value result.0.now ∷ below) }
+{
+    let (second, below) = last_value(operands);
+    let (first, _) = last_value(below);
+    (first, second)
+}
+
+// The last two operands, taken off.
+pub(crate) fn drop_two(operands: &mut Vec<Operand>)
+    requires { 1 < vec_len operands.old }
+    ensures { reverse operands.new.items ≡ drop 2 (reverse operands.old.items) }
+{
+    let _ = pop(operands);
+    let _ = pop(operands);
+}
+
+// One operand where the last two stood. It takes no memory.
+pub(crate) fn put_for_two(operands: &mut Vec<Operand>, operand: Operand)
+    requires { 1 < vec_len operands.old }
+    ensures { reverse operands.new.items ≡ operand ∷ drop 2 (reverse operands.old.items) }
+{
+    let _ = pop(operands);
+    let at = operands.len() - 1;
+    operands[at] = operand;
 }
 
 // The last operand, which is a truth value, taken off.
