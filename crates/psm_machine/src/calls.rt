@@ -139,7 +139,7 @@ pub(crate) fn activation(
     parameters: Vec<Datum>,
 ) -> Result<Activation, AllocError>
     requires { length parameters.items ≡ length routine.now.parameters }
-    ensures due { IfOk result (λ a. (at : MarkValue → List Contents) → activation_of at a ≡ activation number routine.now parameters.items) }
+    ensures due { IfOk result (λ a. (at : MarkValue → List Contents) → activation_of at [] a ≡ activation number routine.now parameters.items) }
     ensures frames { IfOk result (λ a. a.frames.items ≡ []) }
 {
     let variables = filled(routine, parameters)?;
@@ -149,7 +149,6 @@ pub(crate) fn activation(
         line: 0,
         variables,
         cursors,
-        operands: Vec::new(alloc),
         frames: Vec::new(alloc),
     })
 }
@@ -179,14 +178,16 @@ fn closed(alloc: Global, routine: &RawRoutine) -> Result<Vec<Cursor>, AllocError
 
 // An activation runs, and the one that ran waits for it.
 fn go_into(run: &mut Run, activation: Activation) -> Result<(), Stop>
-    ensures due { (tables : List Contents) (at : MarkValue → List Contents) → Comes (change (calling (activation_of at activation)) (machine_of tables at run.old)) result (machine_of tables at run.new) }
+    ensures due { (tables : List Contents) (at : MarkValue → List Contents) → Comes (change (calling (activation_of at [] activation)) (machine_of tables at run.old)) result (machine_of tables at run.new) }
     ensures marks { activation.frames.items ≡ [] → SameMarks run.old run.new }
 {
+    run.operands.begin()?;
     let caller = replace(&mut run.running, activation);
     match run.callers.push(caller) {
         Ok(()) => Ok(()),
         Err(refused) => {
             run.running = refused.value;
+            run.operands.end();
             Err(Stop::Memory)
         }
     }

@@ -17,6 +17,7 @@ use crate::turns::clear;
 use psm_code::{Parameter, ParameterMode, RawCode, RawRoutine};
 use psm_exprcode::Operand;
 use psm_list::{Boxed, List};
+use psm_operands::OperandStack;
 use psm_store::Store;
 use psm_unwind::{Ending, Outcome, Run, leave_until, routine_at};
 use psm_value::Datum;
@@ -101,6 +102,7 @@ fn leave<S: Store>(
         }
         Some(caller) => {
             run.running = caller;
+            run.operands.end();
             resume(run, values)?;
             Ok(Outcome::More)
         }
@@ -115,15 +117,16 @@ fn resume(run: &mut Run, values: Vec<Datum>) -> Result<(), AllocError>
     let Some(line) = run.running.line.checked_add(1) else {
         return Err(AllocError);
     };
-    put_on_top(values, &mut run.running.operands)?;
+    put_on_top(values, &mut run.operands)?;
     run.running.line = line;
     clear(run);
     Ok(())
 }
 
 // Puts values on the operands, the first one on top.
-fn put_on_top(values: Vec<Datum>, operands: &mut Vec<Operand>) -> Result<(), AllocError>
-    ensures { OnOk result (on_top values.items (reverse operands.old.items) ≡ reverse operands.new.items) }
+fn put_on_top(values: Vec<Datum>, operands: &mut OperandStack) -> Result<(), AllocError>
+    ensures own { OnOk result (on_top values.items operands.old.own ≡ operands.new.own) }
+    ensures callers { operands.new.callers ≡ operands.old.callers }
 {
     let mut values = values;
     while let Some(value) = values.pop() {

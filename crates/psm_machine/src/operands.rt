@@ -13,7 +13,7 @@ pub fn pop(run: &mut Run) -> Result<Datum, Stop>
     ensures due { Does pop run.old result run.new }
     ensures same { SameFrames run.old run.new }
 {
-    match run.running.operands.pop() {
+    match run.operands.pop() {
         Some(Operand::Value(value)) => Ok(value),
         Some(Operand::Truth(_)) | None => Err(Stop::Lacking),
     }
@@ -24,6 +24,6 @@ pub fn put(run: &mut Run, operand: Operand) -> Result<(), Stop>
     ensures due { Does (put operand) run.old result run.new }
     ensures same { SameFrames run.old run.new }
 {
-    run.running.operands.push(operand)?;
+    run.operands.push(operand)?;
     Ok(())
 }

@@ -1,12 +1,12 @@
 //! Operations of expressions among the instructions (ISO/IEC 9075:1992, clauses 6 and 8).
-ghost use Rattle.std.specs.Prelude.{[], reverse};
+ghost use Rattle.std.specs.Prelude.{[]};
 ghost use Rattle.psm_exprcode.specs.Fits.{Fits};
 ghost use Rattle.psm_code.specs.Rows.{operation};
 ghost use Rattle.psm_unwind.specs.Marks.{SameFrames};
 ghost use Rattle.psm_machine.specs.Going.{GoesOn};
 
 use crate::stop::{Stop, failed};
-use psm_exprcode::{Next, Op, apply};
+use psm_exprcode::{Next, Op};
 use psm_unwind::Run;
 use std::alloc::Global;
 
@@ -15,12 +15,12 @@ use std::alloc::Global;
 /// The operands that it takes have to be there, and so has the variable that it names; its type or scale is within bounds. Where it
 /// raises a condition, those that it takes are gone.
 pub fn operation(alloc: Global, run: &mut Run, op: &Op) -> Result<Next, Stop>
-    requires { Fits op.now (reverse run.old.running.operands.items) [] run.old.running.variables.items }
+    requires { Fits op.now run.old.operands.own [] run.old.running.variables.items }
     ensures due { GoesOn (operation op.now) run.old result run.new }
     ensures same { SameFrames run.old run.new }
 {
     let variables = run.running.variables.as_slice();
-    match apply(alloc, op, &mut run.running.operands, &[], variables) {
+    match run.operands.apply(alloc, op, &[], variables) {
         Ok(next) => Ok(next),
         Err(fault) => Err(failed(alloc, fault)),
     }

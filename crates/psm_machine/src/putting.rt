@@ -151,7 +151,7 @@ fn take_values(alloc: Global, run: &mut Run, rows: u32, width: usize) -> Result<
     ensures same { SameFrames run.old run.new }
 {
     let count = u128::from(rows) * width as u128;
-    if count > run.running.operands.len() as u128 {
+    if count > run.operands.len() as u128 {
         return Err(Stop::Lacking);
     }
     pops(alloc, run, count)

@@ -21,6 +21,7 @@ use crate::stop::Stop;
 use psm_code::RawCode;
 use psm_cond::Area;
 use psm_list::Boxed;
+use psm_operands::OperandStack;
 use psm_store::{Mark, Steps, Store};
 use psm_unwind::{Activation, Ending, Outcome, Run, routine_at};
 use psm_value::Datum;
@@ -67,6 +68,7 @@ pub fn start(
             Ok(Beginning::Runs(Run {
                 running,
                 callers: Vec::new(alloc),
+                operands: OperandStack::new(alloc),
                 area: Area::new(),
                 pending: None,
                 turns: turns - 1,
@@ -91,7 +93,7 @@ fn first(
     arguments: Vec<Datum>,
 ) -> Result<Activation, Stop>
     requires { All (λ r. All IsType (slots_of r)) code.now.routines }
-    ensures due { (at : MarkValue → List Contents) → Shows (activation_of at) (first_activation code.now number arguments.items) result }
+    ensures due { (at : MarkValue → List Contents) → Shows (activation_of at []) (first_activation code.now number arguments.items) result }
     ensures frames { IfOk result (λ a. a.frames.items ≡ []) }
 {
     let Some(routine) = routine_at(code, number) else {

@@ -1,5 +1,5 @@
 //! One instruction of a run after another.
-ghost use Rattle.std.specs.Prelude.{◌≡◌, [], None, reverse, All, IfOk, IsTrue};
+ghost use Rattle.std.specs.Prelude.{◌≡◌, [], None, All, IfOk, IsTrue};
 ghost use Rattle.psm_cond.specs.Sound.{is_numbered};
 ghost use Rattle.psm_exprcode.specs.Fits.{Fits};
 ghost use Rattle.psm_code.specs.RoutineRules.{first_fault};
@@ -67,7 +67,7 @@ pub fn obey<S: Store>(
     store: &mut S,
 ) -> Result<Outcome, Stop>
     requires runs { RunsRight code.now routine.now (S.tables store.old) run.old.running.variables.items run.old.running.cursors.items }
-    requires needs { FindsNeeds instruction.now (reverse run.old.running.operands.items) run.old.running.variables.items }
+    requires needs { FindsNeeds instruction.now run.old.operands.own run.old.running.variables.items }
     requires stand { MarksStand (S.holds store.old) (S.marks store.old) run.old }
     ensures due { Turns (done code.now routine.now instruction.now (machine_of (S.tables store.old) (S.at store.old) run.old)) result (machine_of (S.tables store.new) (S.at store.new) run.new) }
     ensures still { StandStill (S.holds store.old) (S.at store.old) (S.marks store.old) run.old (S.holds store.new) (S.at store.new) (S.marks store.new) run.new }
@@ -88,7 +88,7 @@ pub fn obey<S: Store>(
 
 // Most lines of a routine are operations of expressions.
 fn operate(alloc: Global, run: &mut Run, op: &Op) -> Result<Outcome, Stop>
-    requires { Fits op.now (reverse run.old.running.operands.items) [] run.old.running.variables.items }
+    requires { Fits op.now run.old.operands.own [] run.old.running.variables.items }
     ensures due { TurnsOn (operated op.now) run.old result run.new }
     ensures same { SameFrames run.old run.new }
 {

@@ -1,15 +1,16 @@
 -- Frames of a run that are left, one step after another.
-use Rattle.std.proofs.Common.{◌≡◌, ℕ, ◌≤◌, List, [], ◌∷◌, ◌++◌, map, reverse, refl, ap, sym, subst, ◌∙◌, arith, append_assoc, append-nil}
+use Rattle.std.proofs.Common.{◌≡◌, ℕ, ◌≤◌, List, [], ◌∷◌, ◌++◌, drop, reverse, refl, ap, sym, subst, ◌∙◌, arith, append_assoc, append-nil}
 use Rattle.std.proofs.lemmas.List.{reverse-append}
 use Rattle.std.specs.declared.alloc.Global.{Global}
 use Rattle.std.specs.declared.vec.Vec.{Vec}
 use Rattle.psm_table.specs.Table.{Contents}
+use Rattle.psm_operands.specs.Stacked.{Stacked, first_of}
 use Rattle.psm_store.specs.declared.store.Mark.{Mark}
 use Rattle.psm_store.specs.Marks.{defs_of}
 use Rattle.psm_unwind.specs.declared.run.Activation.{Activation}
 use Rattle.psm_unwind.specs.declared.run.Run.{Run}
 use Rattle.psm_unwind.specs.Marks.{Each, Leaves, MarksStand, Nested, SameFrames, Stays, Unwinds, marks_in, marks_of, open_marks}
-use Rattle.psm_unwind.specs.View.{activation_of}
+use Rattle.psm_unwind.specs.View.{activation_of, callers_of}
 use Rattle.psm_unwind.proofs.Views.{callers_stay}
 use Rattle.psm_unwind.proofs.Nestings.{each_right, leaves_in, leaves_none, leaves_then, nested_after, nested_left}
 
@@ -94,10 +95,10 @@ outer_stay h0 at0 r h1 at1 left n l =
     each_right (Stays at0 h1 at1) left outer whole.stay
 
 -- a caller goes on where the activation that ran has no frame left
-pub unwinds_returned : (holds : Mark → Type 0) (at : Mark → List Contents) (count : ℕ) (tables : List Contents) (r : Run) (caller : Activation) (rest : Vec Activation Global) →
+pub unwinds_returned : (holds : Mark → Type 0) (at : Mark → List Contents) (count : ℕ) (tables : List Contents) (r : Run) (caller : Activation) (rest : Vec Activation Global) (operands : Stacked) →
     Nested holds (open_marks r) → r.running.frames.items ≡ [] → r.callers.items ≡ rest.items ++ caller ∷ [] →
-    Unwinds holds at count tables r holds at count tables (record r { running = caller; callers = rest })
-unwinds_returned holds at count tables r caller rest n e f = record {
+    Unwinds holds at count tables r holds at count tables (record r { running = caller; callers = rest; operands = operands })
+unwinds_returned holds at count tables r caller rest operands n e f = record {
   leaves = subst (λ (x : List Mark). Leaves holds at (open_marks r) holds at x) (returned_marks r.running caller r.callers.items rest.items e f) (leaves_none holds at (open_marks r) n);
   fewer = omega arith;
   defs = refl;
@@ -118,10 +119,11 @@ unwinds_items holds at count tables r rest n e = record {
 -- the callers as they were seen before frames were left, the innermost of which goes on
 pub callers_now : (h0 : Mark → Type 0) (at0 : Mark → List Contents) (count0 : ℕ) (tables0 : List Contents) (r : Run)
     (h1 : Mark → Type 0) (at1 : Mark → List Contents) (count1 : ℕ) (tables1 : List Contents) (new : Run) (rest : List Activation) (caller : Activation) →
-    Unwinds h0 at0 count0 tables0 r h1 at1 count1 tables1 new → new.callers ≡ r.callers → new.callers.items ≡ rest ++ caller ∷ [] →
-    map (activation_of at0) (reverse r.callers.items) ≡ activation_of at1 caller ∷ map (activation_of at1) (reverse rest)
-callers_now h0 at0 count0 tables0 r h1 at1 count1 tables1 new rest caller u c e =
-    ap (λ v. map (activation_of at0) (reverse v.items)) (sym c)
-    ∙ sym (callers_stay at0 h1 at1 (reverse new.callers.items) (each_right (Stays at0 h1 at1) (marks_in (reverse new.running.frames.items)) (marks_of (reverse new.callers.items)) u.leaves.stay))
-    ∙ ap (λ xs. map (activation_of at1) (reverse xs)) e
-    ∙ ap (map (activation_of at1)) (reverse-append rest (caller ∷ []))
+    Unwinds h0 at0 count0 tables0 r h1 at1 count1 tables1 new → new.callers ≡ r.callers → new.operands.callers ≡ r.operands.callers → new.callers.items ≡ rest ++ caller ∷ [] →
+    callers_of at0 r.operands.callers (reverse r.callers.items) ≡ activation_of at1 (first_of new.operands.callers) caller ∷ callers_of at1 (drop 1 new.operands.callers) (reverse rest)
+callers_now h0 at0 count0 tables0 r h1 at1 count1 tables1 new rest caller u c o e =
+    ap (λ v. callers_of at0 r.operands.callers (reverse v.items)) (sym c)
+    ∙ ap (λ stacks. callers_of at0 stacks (reverse new.callers.items)) (sym o)
+    ∙ sym (callers_stay at0 h1 at1 new.operands.callers (reverse new.callers.items) (each_right (Stays at0 h1 at1) (marks_in (reverse new.running.frames.items)) (marks_of (reverse new.callers.items)) u.leaves.stay))
+    ∙ ap (λ xs. callers_of at1 new.operands.callers (reverse xs)) e
+    ∙ ap (callers_of at1 new.operands.callers) (reverse-append rest (caller ∷ []))

@@ -1,5 +1,7 @@
 -- A run over a store as a machine.
-use Rattle.std.specs.Prelude.{◌≡◌, List, map, reverse, option_map}
+use Rattle.std.specs.Prelude.{◌≡◌, List, [], ◌∷◌, drop, map, reverse, option_map}
+use Rattle.psm_exprcode.specs.declared.operand.Operand.{Operand}
+use Rattle.psm_operands.specs.Stacked.{first_of}
 use Rattle.psm_table.specs.Table.{Contents}
 use Rattle.psm_store.specs.declared.store.Mark.{Mark}
 use Rattle.psm_code.specs.State as code
@@ -21,21 +23,27 @@ frame_of at (Action h resume c rows) = code.InAction h resume (record { entries 
 abbrev pub frames_of : (Mark → List Contents) → List Frame → List code.Frame
 frames_of at frames = map (frame_of at) frames
 
-abbrev pub activation_of : (Mark → List Contents) → Activation → code.Activation
-activation_of at a = record {
+-- an activation with these operands
+abbrev pub activation_of : (Mark → List Contents) → List Operand → Activation → code.Activation
+activation_of at os a = record {
   routine = a.routine;
   line = a.line;
   variables = a.variables.items;
   cursors = a.cursors.items;
-  operands = reverse a.operands.items;
+  operands = os;
   frames = frames_of at (reverse a.frames.items);
 }
+
+-- callers, the innermost first, with the operands of each
+abbrev pub callers_of : (Mark → List Contents) → List (List Operand) → List Activation → List code.Activation
+callers_of at stacks [] = []
+callers_of at stacks (a ∷ callers) = activation_of at (first_of stacks) a ∷ callers_of at (drop 1 stacks) callers
 
 -- the machine of a run, with these tables
 abbrev pub machine_of : List Contents → (Mark → List Contents) → Run → code.Machine
 machine_of tables at r = record {
-  running = activation_of at r.running;
-  callers = map (activation_of at) (reverse r.callers.items);
+  running = activation_of at r.operands.own r.running;
+  callers = callers_of at r.operands.callers (reverse r.callers.items);
   area = r.area;
   pending = r.pending;
   turns = r.turns;

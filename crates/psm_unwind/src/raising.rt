@@ -66,6 +66,7 @@ pub fn raise<S: Store>(
                 Some(caller) => {
                     condition = condition.by_state();
                     run.running = caller;
+                    run.operands.end();
                 }
             },
         }
@@ -85,6 +86,7 @@ fn ask<S: Store>(
     ensures due { IfOk result (λ met. Meets (λ outside. asked (routine_at code.now run.old.running.routine) condition.now outside (machine_of (S.tables store.old) (S.at store.old) run.old)) met (machine_of (S.tables store.new) (S.at store.new) run.new)) }
     ensures left { IfOk result (λ met. HasLeft met run.new) }
     ensures callers { run.new.callers ≡ run.old.callers }
+    ensures below { run.new.operands.callers ≡ run.old.operands.callers }
     ensures unwinds { Unwinds (S.holds store.old) (S.at store.old) (S.marks store.old) (S.tables store.old) run.old (S.holds store.new) (S.at store.new) (S.marks store.new) (S.tables store.new) run.new }
 {
     match routine_at(code, run.running.routine) {
@@ -105,6 +107,7 @@ fn ask_in<S: Store>(
     ensures due { IfOk result (λ met. Meets (λ outside. asked (Some routine.now) condition.now outside (machine_of (S.tables store.old) (S.at store.old) run.old)) met (machine_of (S.tables store.new) (S.at store.new) run.new)) }
     ensures left { IfOk result (λ met. HasLeft met run.new) }
     ensures callers { run.new.callers ≡ run.old.callers }
+    ensures below { run.new.operands.callers ≡ run.old.operands.callers }
     ensures unwinds { Unwinds (S.holds store.old) (S.at store.old) (S.marks store.old) (S.tables store.old) run.old (S.holds store.new) (S.at store.new) (S.marks store.new) (S.tables store.new) run.new }
 {
     match place_of(routine, run.running.line) {
@@ -122,6 +125,7 @@ fn hold(alloc: Global, run: &mut Run, condition: &Condition) -> Result<(), Alloc
     ensures entries { OnOk result (run.new.area.entries ≡ condition.now) }
     ensures same { SameFrames run.old run.new }
     ensures running { run.new.running ≡ run.old.running }
+    ensures operands { run.new.operands ≡ run.old.operands }
 {
     run.area.set(alloc, condition)?;
     run.pending = None;
@@ -142,6 +146,7 @@ fn meet<S: Store>(
     ensures due { IfOk result (λ met. Meets (λ outside. met_at routine.now place.resume condition.now (choice routine.now.handlers place.context condition.now.first) outside (machine_of (S.tables store.old) (S.at store.old) run.old)) met (machine_of (S.tables store.new) (S.at store.new) run.new)) }
     ensures left { IfOk result (λ met. HasLeft met run.new) }
     ensures callers { run.new.callers ≡ run.old.callers }
+    ensures below { run.new.operands.callers ≡ run.old.operands.callers }
     ensures unwinds { Unwinds (S.holds store.old) (S.at store.old) (S.marks store.old) (S.tables store.old) run.old (S.holds store.new) (S.at store.new) (S.marks store.new) (S.tables store.new) run.new }
 {
     match choose(&routine.handlers, place.context, condition) {
@@ -165,6 +170,7 @@ fn meet_none<S: Store>(
     ensures due { Meets (λ outside. met_at routine.now resume condition.now None outside (machine_of (S.tables store.old) (S.at store.old) run.old)) result (machine_of (S.tables store.new) (S.at store.new) run.new) }
     ensures left { HasLeft result run.new }
     ensures callers { run.new.callers ≡ run.old.callers }
+    ensures below { run.new.operands.callers ≡ run.old.operands.callers }
     ensures unwinds { Unwinds (S.holds store.old) (S.at store.old) (S.marks store.old) (S.tables store.old) run.old (S.holds store.new) (S.at store.new) (S.marks store.new) (S.tables store.new) run.new }
 {
     if is_exception(condition.kind()) {
@@ -186,12 +192,13 @@ fn meet_none<S: Store>(
 fn pass_over(resume: Option<u32>, run: &mut Run) -> Outcome
     ensures due { (tables : List Contents) (at : MarkValue → List Contents) → LeadsTo (passed_over resume (machine_of tables at run.old)) result (machine_of tables at run.new) }
     ensures same { SameFrames run.old run.new }
+    ensures below { run.new.operands.callers ≡ run.old.operands.callers }
 {
     match resume {
         None => Outcome::Over(Ending::Lacking),
         Some(line) => {
             run.running.line = line as usize;
-            run.running.operands.clear();
+            run.operands.clear();
             Outcome::More
         }
     }
@@ -211,6 +218,7 @@ fn handle<S: Store>(
     requires entries { run.old.area.entries ≡ condition.now }
     ensures due { IfOk result (λ o. LeadsTo (chosen routine.now (is_exception (kind_of condition.now.first.state)) resume number (handler_at routine.now number) (machine_of (S.tables store.old) (S.at store.old) run.old)) o (machine_of (S.tables store.new) (S.at store.new) run.new)) }
     ensures callers { run.new.callers ≡ run.old.callers }
+    ensures below { run.new.operands.callers ≡ run.old.operands.callers }
     ensures unwinds { Unwinds (S.holds store.old) (S.at store.old) (S.marks store.old) (S.tables store.old) run.old (S.holds store.new) (S.at store.new) (S.marks store.new) (S.tables store.new) run.new }
 {
     match handler_at(routine, number) {
@@ -243,6 +251,7 @@ fn begin<S: Store>(
     requires entries { run.old.area.entries ≡ condition.now }
     ensures due { OnOk result (handled routine.now (is_exception (kind_of condition.now.first.state)) resume number handler.now handler.now.kind (machine_of (S.tables store.old) (S.at store.old) run.old) ≡ machine_of (S.tables store.new) (S.at store.new) run.new) }
     ensures callers { run.new.callers ≡ run.old.callers }
+    ensures below { run.new.operands.callers ≡ run.old.operands.callers }
     ensures unwinds { Unwinds (S.holds store.old) (S.at store.old) (S.marks store.old) (S.tables store.old) run.old (S.holds store.new) (S.at store.new) (S.marks store.new) (S.tables store.new) run.new }
 {
     let undo = is_exception(condition.kind());
@@ -271,6 +280,7 @@ fn arrive<S: Store>(
     requires nested { Nested (S.holds store.old) (open_marks run.old) }
     ensures due { arrived routine.now undo handler.now (machine_of (S.tables store.old) (S.at store.old) run.old) ≡ machine_of (S.tables store.new) (S.at store.new) run.new }
     ensures callers { run.new.callers ≡ run.old.callers }
+    ensures below { run.new.operands.callers ≡ run.old.operands.callers }
     ensures area { run.new.area ≡ run.old.area }
     ensures unwinds { Unwinds (S.holds store.old) (S.at store.old) (S.marks store.old) (S.tables store.old) run.old (S.holds store.new) (S.at store.new) (S.marks store.new) (S.tables store.new) run.new }
 {
@@ -329,6 +339,7 @@ fn act(
     ensures due { OnOk result ((tables : List Contents) (at : MarkValue → List Contents) → acting number resume handler.now (machine_of tables at run.old) ≡ machine_of tables at run.new) }
     ensures marks { open_marks run.new ≡ open_marks run.old }
     ensures callers { run.new.callers ≡ run.old.callers }
+    ensures below { run.new.operands.callers ≡ run.old.operands.callers }
     ensures bound { run.new.marks ≡ run.old.marks }
 {
     let activating = Boxed::new(alloc, condition.copy(alloc)?)?;
@@ -340,6 +351,6 @@ fn act(
         rows,
     })?;
     run.running.line = handler.pc as usize;
-    run.running.operands.clear();
+    run.operands.clear();
     Ok(())
 }

@@ -2,8 +2,8 @@
 
 use psm_cond::{Area, Condition};
 use psm_cursor::Cursor;
-use psm_exprcode::Operand;
 use psm_list::Boxed;
+use psm_operands::OperandStack;
 use psm_sqlstate::SqlState;
 use psm_store::Mark;
 use psm_value::Datum;
@@ -37,8 +37,6 @@ pub struct Activation {
     pub variables: Vec<Datum>,
     /// By their numbers.
     pub cursors: Vec<Cursor>,
-    /// The last one at the end.
-    pub operands: Vec<Operand>,
     /// The innermost one at the end.
     pub frames: Vec<Frame>,
 }
@@ -50,6 +48,8 @@ pub struct Run {
     pub running: Activation,
     /// Those that called it, the innermost one at the end.
     pub callers: Vec<Activation>,
+    /// Those of the activation that runs, and below them those that each caller keeps.
+    pub operands: OperandStack,
     pub area: Area,
     /// The warning that is pending.
     pub pending: Option<SqlState>,

@@ -30,7 +30,7 @@ returns-clause-due g c =
     let inner = marks_in (reverse c.args.run.now.running.frames.items) in
     let outer = marks_of (reverse c.args.run.now.callers.items) in
     entered (machine_of (g.S.Store.tables c.args.store.now) (g.S.Store.at c.args.store.now) c.args.run.now) (InBlock c.args.context (Some (g.S.Store.tables c.args.store.now)) ∷ frames_of (g.S.Store.at c.args.store.now) (reverse c.args.run.now.running.frames.items))
-    (frames_of (g.S.Store.at c.mark.new.self) (reverse c.push.new.self.items)) (map (activation_of (g.S.Store.at c.mark.new.self)) (reverse c.args.run.now.callers.items)) (g.S.Store.tables c.mark.new.self)
+    (frames_of (g.S.Store.at c.mark.new.self) (reverse c.push.new.self.items)) (callers_of (g.S.Store.at c.mark.new.self) c.args.run.now.operands.callers (reverse c.args.run.now.callers.items)) (g.S.Store.tables c.mark.new.self)
     (frames_pushed c.args.context (g.S.Store.tables c.args.store.now) (g.S.Store.at c.args.store.now) (g.S.Store.holds c.mark.new.self) (g.S.Store.at c.mark.new.self) c.args.run.now.running.frames.items c.push.new.self.items c.in_ok-mark.mark c.in_ok-push.ensures.items
     c.in_ok-mark.ensures.mark.stands (each_left (Stays (g.S.Store.at c.args.store.now) (g.S.Store.holds c.mark.new.self) (g.S.Store.at c.mark.new.self)) inner outer stay))
     (callers_stay (g.S.Store.at c.args.store.now) (g.S.Store.holds c.mark.new.self) (g.S.Store.at c.mark.new.self) (reverse c.args.run.now.callers.items) (each_right (Stays (g.S.Store.at c.args.store.now) (g.S.Store.holds c.mark.new.self) (g.S.Store.at c.mark.new.self)) inner outer stay))

@@ -26,7 +26,7 @@ pub returns-in-Some-clause-due : goal.returns-in-Some-clause-due
 returns-in-Some-clause-due g c =
     let left : Leaves (g.S.Store.holds c.args.store.now) (g.S.Store.at c.args.store.now) (marks_in (reverse c.args.run.now.running.frames.items)) (g.S.Store.holds c.leave_frame.new.store) (g.S.Store.at c.leave_frame.new.store) (marks_in (reverse c.pop_block.new.frames.items)) = (leaves_next (g.S.Store.holds c.args.store.now) (g.S.Store.at c.args.store.now) (marks_in (reverse c.args.run.now.running.frames.items)) (g.S.Store.holds c.args.store.now) (g.S.Store.at c.args.store.now) c.args.run.now.running.frames.items c.pop_block.new.frames.items c.in-Some.frame (running_nested (g.S.Store.holds c.args.store.now) c.args.run.now c.requires) c.in-Some.ensures.some (leaves_none (g.S.Store.holds c.args.store.now) (g.S.Store.at c.args.store.now) (marks_in (reverse c.args.run.now.running.frames.items)) (running_nested (g.S.Store.holds c.args.store.now) c.args.run.now c.requires)) (g.S.Store.holds c.leave_frame.new.store) (g.S.Store.at c.leave_frame.new.store) c.leave_frame.ensures.leaves) in
     exit_came c.args.routine.now c.args.context c.in-Some.frame (g.S.Store.at c.args.store.now) (frames_of (g.S.Store.at c.args.store.now) (reverse c.pop_block.new.frames.items)) (frames_of (g.S.Store.at c.leave_frame.new.store) (reverse c.pop_block.new.frames.items))
-    (machine_of (g.S.Store.tables c.args.store.now) (g.S.Store.at c.args.store.now) c.args.run.now) c.leave_frame.new.cursors.items (map (activation_of (g.S.Store.at c.leave_frame.new.store)) (reverse c.args.run.now.callers.items)) (g.S.Store.tables c.leave_frame.new.store)
+    (machine_of (g.S.Store.tables c.args.store.now) (g.S.Store.at c.args.store.now) c.args.run.now) c.leave_frame.new.cursors.items (callers_of (g.S.Store.at c.leave_frame.new.store) c.args.run.now.operands.callers (reverse c.args.run.now.callers.items)) (g.S.Store.tables c.leave_frame.new.store)
     (c.in-Some.ensures.block (g.S.Store.at c.args.store.now))
     (ap (frames_of (g.S.Store.at c.args.store.now)) (reverse_pop c.args.run.now.running.frames.items c.pop_block.new.frames.items c.in-Some.frame c.in-Some.ensures.some))
     c.leave_frame.ensures.cursors

@@ -1,7 +1,7 @@
-use Rattle.std.proofs.Common.{map, reverse, refl, ap, sym, ◌∙◌}
+use Rattle.std.proofs.Common.{reverse, refl, ap, sym, ◌∙◌}
 use Rattle.psm_cond.specs.Choice.{is_exception}
 use Rattle.psm_unwind.specs.Marks.{marks_in}
-use Rattle.psm_unwind.specs.View.{activation_of, frames_of, machine_of}
+use Rattle.psm_unwind.specs.View.{activation_of, callers_of, frames_of, machine_of}
 use Rattle.psm_unwind.proofs.Arriving.{all_left, goes_on, goes_outside}
 use Rattle.psm_unwind.proofs.Unwinding.{outer_stay, running_nested, unwinds_frames, unwinds_same}
 use Rattle.psm_unwind.proofs.Views.{callers_stay}
@@ -13,10 +13,10 @@ leave_until-requires g c = running_nested (g.S.Store.holds c.args.store.now) c.a
 pub returns-then-is_exception-clause-due : goal.returns-then-is_exception-clause-due
 returns-then-is_exception-clause-due g c =
     goes_outside c.args.routine.now c.args.resume c.args.condition.now (machine_of (g.S.Store.tables c.args.store.now) (g.S.Store.at c.args.store.now) c.args.run.now)
-    (activation_of (g.S.Store.at c.leave_until.new.store) (record c.args.run.now.running { cursors = c.leave_until.new.cursors; frames = c.leave_until.new.frames }))
-    (map (activation_of (g.S.Store.at c.leave_until.new.store)) (reverse c.args.run.now.callers.items)) (g.S.Store.tables c.leave_until.new.store)
+    (activation_of (g.S.Store.at c.leave_until.new.store) c.args.run.now.operands.own (record c.args.run.now.running { cursors = c.leave_until.new.cursors; frames = c.leave_until.new.frames }))
+    (callers_of (g.S.Store.at c.leave_until.new.store) c.args.run.now.operands.callers (reverse c.args.run.now.callers.items)) (g.S.Store.tables c.leave_until.new.store)
     (ap is_exception (sym c.kind.ensures) ∙ sym c.is_exception.ensures ∙ c.if-is_exception.true)
-    (callers_stay (g.S.Store.at c.args.store.now) (g.S.Store.holds c.leave_until.new.store) (g.S.Store.at c.leave_until.new.store) (reverse c.args.run.now.callers.items)
+    (callers_stay (g.S.Store.at c.args.store.now) (g.S.Store.holds c.leave_until.new.store) (g.S.Store.at c.leave_until.new.store) c.args.run.now.operands.callers (reverse c.args.run.now.callers.items)
     (outer_stay (g.S.Store.holds c.args.store.now) (g.S.Store.at c.args.store.now) c.args.run.now (g.S.Store.holds c.leave_until.new.store) (g.S.Store.at c.leave_until.new.store) (marks_in (reverse c.leave_until.new.frames.items)) c.requires.nested c.leave_until.ensures.leaves))
     c.leave_until.ensures.tables
 
