@@ -1,10 +1,15 @@
 -- Activations that begin.
-use Rattle.std.proofs.Common.{◌≡◌, ℕ, zero, suc, List, [], ◌∷◌, ◌++◌, length, map, All, Some, refl, ap, arith}
+use Rattle.std.proofs.Common.{◌≡◌, ℕ, zero, suc, List, [], ◌∷◌, ◌++◌, length, drop, map, All, Some, refl, ap, arith}
 use Rattle.std.specs.Prelude.{replicate}
 use Rattle.psm_value.specs.declared.datum.Datum.{Datum}
 use Rattle.psm_value.specs.declared.datum.Datum.TheVariants.{Null}
 use Rattle.psm_value.specs.declared.sqltype.SqlType.{SqlType}
 use Rattle.psm_value.specs.SqlType.{IsType}
+use Rattle.psm_exprcode.specs.declared.operand.Operand.{Operand}
+use Rattle.psm_table.specs.Table.{Contents}
+use Rattle.psm_store.specs.declared.store.Mark.{Mark}
+use Rattle.psm_unwind.specs.declared.run.Activation.{Activation as RunActivation}
+use Rattle.psm_unwind.specs.View.{callers_of}
 use Rattle.psm_code.specs.declared.code.Parameter.{Parameter}
 use Rattle.psm_code.specs.declared.code.RawRoutine.{RawRoutine}
 use Rattle.psm_code.specs.declared.code.RawCode.{RawCode}
@@ -68,3 +73,9 @@ module _ (n : ℕ) (r : RawRoutine) where
 
   pub with_turn : (ds : List Datum) (m k : Machine) → turn m ≡ record { given = Got tt; machine = k } → behind_bound ds m ≡ behind_turn ds k
   with_turn ds m k e = ap (λ (came : Came (Unit {0})). go_on came.given (λ x. behind_turn ds) came.machine) e
+
+-- ---- how many routines run
+
+pub callers_many : (at : Mark → List Contents) (stacks : List (List Operand)) (callers : List RunActivation) → length (callers_of at stacks callers) ≡ length callers
+callers_many at stacks [] = refl
+callers_many at stacks (a ∷ callers) = ap suc (callers_many at (drop 1 stacks) callers)

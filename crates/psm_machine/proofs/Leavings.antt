@@ -1,8 +1,8 @@
 -- Activations that are left, with values for those that called them.
-use Rattle.std.proofs.Common.{◌≡◌, ℕ, ◌+◌, ◌<◌, ◌≤◌, false, List, [], ◌∷◌, ◌++◌, length, reverse, drop, get_or, None, Result, Ok, Err, IsErrAnd, refl, ap, sym, subst, ◌∙◌, append_assoc, append-nil}
+use Rattle.std.proofs.Common.{◌≡◌, ℕ, ◌+◌, ◌<◌, ◌≤◌, false, List, [], ◌∷◌, ◌++◌, length, drop, get_or, None, Result, Ok, Err, IsErrAnd, refl, ap, sym, subst, ◌∙◌, append_assoc, append-nil}
 use Rattle.std.specs.declared.alloc.Global.{Global}
 use Rattle.std.specs.declared.vec.Vec.{Vec}
-use Rattle.std.proofs.lemmas.List.{drop_all, reverse-append}
+use Rattle.std.proofs.lemmas.List.{drop_all}
 use Rattle.psm_value.specs.declared.datum.Datum.{Datum}
 use Rattle.psm_exprcode.specs.declared.operand.Operand.{Operand}
 use Rattle.psm_exprcode.specs.declared.operand.Operand.TheVariants.{Value, Truth}
@@ -18,6 +18,7 @@ use Rattle.psm_code.specs.Rows.{Way, return}
 use Rattle.psm_code.specs.State as code
 use Rattle.psm_code.specs.State.{Machine, Lacking, cleared}
 use Rattle.psm_code.specs.Steps.{Act, Came, Got, ends, go_on, got}
+use Rattle.psm_operands.specs.Stacked.{Stacked}
 use Rattle.psm_unwind.specs.declared.ending.Ending.TheVariants as ending
 use Rattle.psm_unwind.specs.declared.ending.Outcome.{Outcome}
 use Rattle.psm_unwind.specs.declared.ending.Outcome.TheVariants as outcome
@@ -40,9 +41,8 @@ top_behind : (ys : List Datum) (d : Datum) (os : List Operand) → on_top (ys ++
 top_behind [] d os = refl
 top_behind (y ∷ ys) d os = ap (λ xs. Value y ∷ xs) (top_behind ys d os)
 
-pub top_next : (xs ys : List Datum) (d : Datum) (os ps : List Operand) (before : List Operand) → xs ≡ ys ++ d ∷ [] → ps ≡ os ++ Value d ∷ [] → before ≡ on_top xs (reverse os) → before ≡ on_top ys (reverse ps)
-top_next xs ys d os ps before e f b =
-    b ∙ ap (λ zs. on_top zs (reverse os)) e ∙ top_behind ys d (reverse os) ∙ ap (on_top ys) (sym (ap reverse f ∙ reverse-append os (Value d ∷ [])))
+pub top_next : (xs ys : List Datum) (d : Datum) (os ps : List Operand) (before : List Operand) → xs ≡ ys ++ d ∷ [] → ps ≡ Value d ∷ os → before ≡ on_top xs os → before ≡ on_top ys ps
+top_next xs ys d os ps before e f b = b ∙ ap (λ zs. on_top zs os) e ∙ top_behind ys d os ∙ ap (on_top ys) (sym f)
 
 -- ---- values that are given back
 
@@ -91,12 +91,12 @@ left_to m back now ds a callers ts e t b h =
 -- ---- the marks
 
 pub unwinds_back : (h0 : Mark → Type 0) (at0 : Mark → List Contents) (count0 : ℕ) (tables0 : List Contents) (r : Run) (h1 : Mark → Type 0) (at1 : Mark → List Contents) (count1 : ℕ) (tables1 : List Contents) (left : Run)
-    (caller : Activation) (rest : Vec Activation Global) (new : Run) → Nested h0 (open_marks r) → Unwinds h0 at0 count0 tables0 r h1 at1 count1 tables1 left → left.running.frames.items ≡ [] → left.callers.items ≡ rest.items ++ caller ∷ [] →
-    SameFrames (record left { running = caller; callers = rest }) new → Unwinds h0 at0 count0 tables0 r h1 at1 count1 tables1 new
-unwinds_back h0 at0 count0 tables0 r h1 at1 count1 tables1 left caller rest new n u f e s =
-    let back : Run = record left { running = caller; callers = rest } in
+    (caller : Activation) (rest : Vec Activation Global) (operands : Stacked) (new : Run) → Nested h0 (open_marks r) → Unwinds h0 at0 count0 tables0 r h1 at1 count1 tables1 left → left.running.frames.items ≡ [] → left.callers.items ≡ rest.items ++ caller ∷ [] →
+    SameFrames (record left { running = caller; callers = rest; operands = operands }) new → Unwinds h0 at0 count0 tables0 r h1 at1 count1 tables1 new
+unwinds_back h0 at0 count0 tables0 r h1 at1 count1 tables1 left caller rest operands new n u f e s =
+    let back : Run = record left { running = caller; callers = rest; operands = operands } in
     let nested_left = nested_unwound h0 at0 count0 tables0 r h1 at1 count1 tables1 left n u in
-    let over : Unwinds h1 at1 count1 tables1 left h1 at1 count1 tables1 back = unwinds_returned h1 at1 count1 tables1 left caller rest nested_left f e in
+    let over : Unwinds h1 at1 count1 tables1 left h1 at1 count1 tables1 back = unwinds_returned h1 at1 count1 tables1 left caller rest operands nested_left f e in
     unwinds_then h0 at0 count0 tables0 r h1 at1 count1 tables1 left h1 at1 count1 tables1 new u
     (unwinds_then h1 at1 count1 tables1 left h1 at1 count1 tables1 back h1 at1 count1 tables1 new over
     (unwinds_same h1 at1 count1 tables1 back new (nested_unwound h1 at1 count1 tables1 left h1 at1 count1 tables1 back nested_left over) s))

@@ -1,8 +1,8 @@
-use Rattle.std.proofs.Common.{◌+◌, Some, ◌∷◌, ◌++◌, List, map, reverse, refl, ap, sym, subst, arith}
+use Rattle.std.proofs.Common.{◌+◌, Some, ◌∷◌, ◌++◌, List, reverse, refl, ap, sym, subst, arith}
 use Rattle.psm_code.specs.State.{InBlock}
 use Rattle.psm_store.specs.declared.store.Mark.{Mark}
 use Rattle.psm_unwind.specs.Marks.{Around, Stays, marks_in, marks_of, open_marks}
-use Rattle.psm_unwind.specs.View.{activation_of, frames_of, machine_of}
+use Rattle.psm_unwind.specs.View.{callers_of, frames_of, machine_of}
 use Rattle.psm_unwind.proofs.Nestings.{each_left, each_right}
 use Rattle.psm_unwind.proofs.Views.{callers_stay}
 use Rattle.psm_machine.proofs.Marking.{all_stay, entered, frames_pushed, marks_pushed, stand_more, stand_new}
@@ -33,7 +33,7 @@ returns-clause-due g c =
     (frames_of (g.S.Store.at c.mark.new.self) (reverse c.push.new.self.items)) (callers_of (g.S.Store.at c.mark.new.self) c.args.run.now.operands.callers (reverse c.args.run.now.callers.items)) (g.S.Store.tables c.mark.new.self)
     (frames_pushed c.args.context (g.S.Store.tables c.args.store.now) (g.S.Store.at c.args.store.now) (g.S.Store.holds c.mark.new.self) (g.S.Store.at c.mark.new.self) c.args.run.now.running.frames.items c.push.new.self.items c.in_ok-mark.mark c.in_ok-push.ensures.items
     c.in_ok-mark.ensures.mark.stands (each_left (Stays (g.S.Store.at c.args.store.now) (g.S.Store.holds c.mark.new.self) (g.S.Store.at c.mark.new.self)) inner outer stay))
-    (callers_stay (g.S.Store.at c.args.store.now) (g.S.Store.holds c.mark.new.self) (g.S.Store.at c.mark.new.self) (reverse c.args.run.now.callers.items) (each_right (Stays (g.S.Store.at c.args.store.now) (g.S.Store.holds c.mark.new.self) (g.S.Store.at c.mark.new.self)) inner outer stay))
+    (callers_stay (g.S.Store.at c.args.store.now) (g.S.Store.holds c.mark.new.self) (g.S.Store.at c.mark.new.self) c.args.run.now.operands.callers (reverse c.args.run.now.callers.items) (each_right (Stays (g.S.Store.at c.args.store.now) (g.S.Store.holds c.mark.new.self) (g.S.Store.at c.mark.new.self)) inner outer stay))
     c.mark.ensures.tables
 
 pub returns-clause-outer : goal.returns-clause-outer

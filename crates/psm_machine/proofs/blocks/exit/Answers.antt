@@ -1,6 +1,6 @@
-use Rattle.std.proofs.Common.{◌++◌, map, reverse, refl, ap}
+use Rattle.std.proofs.Common.{◌++◌, reverse, refl, ap}
 use Rattle.psm_unwind.specs.Marks.{Leaves, marks_in, marks_of}
-use Rattle.psm_unwind.specs.View.{activation_of, frames_of, machine_of}
+use Rattle.psm_unwind.specs.View.{callers_of, frames_of, machine_of}
 use Rattle.psm_unwind.proofs.Leavings.{frame_nested, leaves_next, reverse_pop}
 use Rattle.psm_unwind.proofs.Nestings.{leaves_none}
 use Rattle.psm_unwind.proofs.Unwinding.{outer_stay, running_nested, unwinds_frames, unwinds_none}
@@ -31,7 +31,7 @@ returns-in-Some-clause-due g c =
     (ap (frames_of (g.S.Store.at c.args.store.now)) (reverse_pop c.args.run.now.running.frames.items c.pop_block.new.frames.items c.in-Some.frame c.in-Some.ensures.some))
     c.leave_frame.ensures.cursors
     (frames_stay (g.S.Store.at c.args.store.now) (g.S.Store.holds c.leave_frame.new.store) (g.S.Store.at c.leave_frame.new.store) (reverse c.pop_block.new.frames.items) left.stay)
-    (callers_stay (g.S.Store.at c.args.store.now) (g.S.Store.holds c.leave_frame.new.store) (g.S.Store.at c.leave_frame.new.store) (reverse c.args.run.now.callers.items)
+    (callers_stay (g.S.Store.at c.args.store.now) (g.S.Store.holds c.leave_frame.new.store) (g.S.Store.at c.leave_frame.new.store) c.args.run.now.operands.callers (reverse c.args.run.now.callers.items)
     (outer_stay (g.S.Store.holds c.args.store.now) (g.S.Store.at c.args.store.now) c.args.run.now (g.S.Store.holds c.leave_frame.new.store) (g.S.Store.at c.leave_frame.new.store) (marks_in (reverse c.pop_block.new.frames.items)) c.requires left))
     c.leave_frame.ensures.tables
 

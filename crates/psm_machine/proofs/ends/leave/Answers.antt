@@ -1,7 +1,8 @@
-use Rattle.std.proofs.Common.{◌≡◌, [], ◌++◌, ◌-◌, None, map, reverse, take, refl, ap, ◌∙◌}
+use Rattle.std.proofs.Common.{◌≡◌, [], ◌++◌, ◌-◌, None, drop, reverse, take, refl, ap, sym, ◌∙◌}
+use Rattle.psm_operands.specs.Stacked.{first_of}
 use Rattle.psm_unwind.specs.Leaving.{inside}
 use Rattle.psm_unwind.specs.Marks.{Unwinds}
-use Rattle.psm_unwind.specs.View.{activation_of, frames_of, machine_of}
+use Rattle.psm_unwind.specs.View.{activation_of, callers_of, frames_of, machine_of}
 use Rattle.psm_unwind.proofs.Arriving.{all_left}
 use Rattle.psm_unwind.proofs.Unwinding.{callers_now, running_nested, unwinds_frames}
 use Rattle.psm_machine.proofs.Leavings.{left_over, left_to, tables_kept, unwinds_back}
@@ -16,7 +17,7 @@ returns-in_ok-values-in-None-clause-due g c =
     let callers : c.args.run.now.callers.items ≡ [] = c.in-None.ensures.items ∙ ap (λ xs. xs ++ []) none in
     left_over (machine_of (g.S.Store.tables c.args.store.now) (g.S.Store.at c.args.store.now) c.args.run.now)
     (machine_of (g.S.Store.tables c.leave_until.new.store) (g.S.Store.at c.leave_until.new.store) (record c.args.run.now { running = record c.args.run.now.running { cursors = c.leave_until.new.cursors; frames = c.leave_until.new.frames }; callers = c.pop.new.self }))
-    c.args.values.items c.in_ok-values-in-None.values (ap (λ xs. map (activation_of (g.S.Store.at c.args.store.now)) (reverse xs)) callers) (c.in_ok-values-in-None.ensures ∙ c.of.ensures)
+    c.args.values.items c.in_ok-values-in-None.values (ap (λ xs. callers_of (g.S.Store.at c.args.store.now) c.args.run.now.operands.callers (reverse xs)) callers) (c.in_ok-values-in-None.ensures ∙ c.of.ensures)
     (c.leave_until.ensures.tables ∙ tables_kept (inside None (frames_of (g.S.Store.at c.args.store.now) (reverse c.args.run.now.running.frames.items))) (g.S.Store.tables c.args.store.now))
 
 pub returns-in_ok-resume-in-Some-clause-due : goal.returns-in_ok-resume-in-Some-clause-due
@@ -32,10 +33,11 @@ returns-in_ok-resume-in-Some-clause-due g c =
     let r = c.args.run.now in
     let left = record r { running = record r.running { cursors = c.leave_until.new.cursors; frames = c.leave_until.new.frames } } in
     let u : Unwinds h0 at0 count0 tables0 r h1 at1 count1 tables1 left = unwinds_frames h0 at0 count0 tables0 r h1 at1 count1 tables1 left c.requires c.leave_until.ensures.leaves c.leave_until.ensures.marks c.leave_until.ensures.defs refl refl in
-    left_to (machine_of tables0 at0 r) (machine_of tables1 at1 (record r { running = c.in-Some.caller; callers = c.pop.new.self })) (machine_of tables1 at1 c.resume.new.run) c.args.values.items
-    (activation_of at1 c.in-Some.caller) (map (activation_of at1) (reverse c.pop.new.self.items)) tables1
-    (callers_now h0 at0 count0 tables0 r h1 at1 count1 tables1 left c.pop.new.self.items c.in-Some.caller u refl c.in-Some.ensures.items)
-    (c.leave_until.ensures.tables ∙ tables_kept (inside None (frames_of at0 (reverse r.running.frames.items))) tables0) refl (c.in_ok-resume-in-Some.ensures.due tables1 at1)
+    left_to (machine_of tables0 at0 r) (machine_of tables1 at1 (record r { running = c.in-Some.caller; callers = c.pop.new.self; operands = c.end.new.self })) (machine_of tables1 at1 c.resume.new.run) c.args.values.items
+    (activation_of at1 (first_of r.operands.callers) c.in-Some.caller) (callers_of at1 (drop 1 r.operands.callers) (reverse c.pop.new.self.items)) tables1
+    (callers_now h0 at0 count0 tables0 r h1 at1 count1 tables1 left c.pop.new.self.items c.in-Some.caller u refl refl c.in-Some.ensures.items)
+    (c.leave_until.ensures.tables ∙ tables_kept (inside None (frames_of at0 (reverse r.running.frames.items))) tables0)
+    (ap (λ operands. machine_of tables1 at1 (record r { running = c.in-Some.caller; callers = c.pop.new.self; operands = operands })) (sym c.end.ensures)) (c.in_ok-resume-in-Some.ensures.due tables1 at1)
 
 pub returns-in_ok-resume-in-Some-clause-unwinds : goal.returns-in_ok-resume-in-Some-clause-unwinds
 returns-in_ok-resume-in-Some-clause-unwinds g c =
@@ -50,7 +52,7 @@ returns-in_ok-resume-in-Some-clause-unwinds g c =
     let r = c.args.run.now in
     let left = record r { running = record r.running { cursors = c.leave_until.new.cursors; frames = c.leave_until.new.frames } } in
     let u : Unwinds h0 at0 count0 tables0 r h1 at1 count1 tables1 left = unwinds_frames h0 at0 count0 tables0 r h1 at1 count1 tables1 left c.requires c.leave_until.ensures.leaves c.leave_until.ensures.marks c.leave_until.ensures.defs refl refl in
-    unwinds_back h0 at0 count0 tables0 r h1 at1 count1 tables1 left c.in-Some.caller c.pop.new.self c.resume.new.run c.requires u
+    unwinds_back h0 at0 count0 tables0 r h1 at1 count1 tables1 left c.in-Some.caller c.pop.new.self c.end.new.self c.resume.new.run c.requires u
     (all_left at1 c.leave_until.new.frames.items (frames_of at0 (reverse r.running.frames.items)) c.leave_until.ensures.frames) c.in-Some.ensures.items c.resume.ensures.same
 
 pub returns-in_err-resume-in-Some-clause-unwinds : goal.returns-in_err-resume-in-Some-clause-unwinds
@@ -66,5 +68,5 @@ returns-in_err-resume-in-Some-clause-unwinds g c =
     let r = c.args.run.now in
     let left = record r { running = record r.running { cursors = c.leave_until.new.cursors; frames = c.leave_until.new.frames } } in
     let u : Unwinds h0 at0 count0 tables0 r h1 at1 count1 tables1 left = unwinds_frames h0 at0 count0 tables0 r h1 at1 count1 tables1 left c.requires c.leave_until.ensures.leaves c.leave_until.ensures.marks c.leave_until.ensures.defs refl refl in
-    unwinds_back h0 at0 count0 tables0 r h1 at1 count1 tables1 left c.in-Some.caller c.pop.new.self c.resume.new.run c.requires u
+    unwinds_back h0 at0 count0 tables0 r h1 at1 count1 tables1 left c.in-Some.caller c.pop.new.self c.end.new.self c.resume.new.run c.requires u
     (all_left at1 c.leave_until.new.frames.items (frames_of at0 (reverse r.running.frames.items)) c.leave_until.ensures.frames) c.in-Some.ensures.items c.resume.ensures.same

@@ -1,4 +1,4 @@
-use Rattle.std.proofs.Common.{All, Err, reverse, ap, sym, subst, ◌∙◌}
+use Rattle.std.proofs.Common.{[], All, Err, reverse, ap, sym, subst, ◌∙◌}
 use Rattle.std.proofs.lemmas.List.{reverse-reverse}
 use Rattle.std.specs.Option.{option_copied}
 use Rattle.std.specs.Result.{result_map_both}
@@ -27,8 +27,8 @@ returns-in_err-parameters-clause-due c = λ at m.
     let r = c.in-Some.routine.now in
     let args = c.args.arguments.items in
     let s = c.in_err-parameters.field-0.0 in
-    subst (λ (x : Came Activation). Comes x (result_map_both (activation_of at) (λ x. x) c.from_residual.result) m) (sym (with_first c.args.code.now n args r m (sym c.routine_at.ensures ∙ ap option_copied c.in-Some.is)))
-    (shown_stopped (activation_of at) (entered r.parameters args m) (λ ps. got (activation n r ps)) m s c.from_residual.result c.from_residual.ensures.1
+    subst (λ (x : Came Activation). Comes x (result_map_both (activation_of at []) (λ x. x) c.from_residual.result) m) (sym (with_first c.args.code.now n args r m (sym c.routine_at.ensures ∙ ap option_copied c.in-Some.is)))
+    (shown_stopped (activation_of at []) (entered r.parameters args m) (λ ps. got (activation n r ps)) m s c.from_residual.result c.from_residual.ensures.1
     (subst (λ xs. Comes (entered r.parameters xs m) (Err s) m) (ap reverse c.reverse.ensures.items ∙ reverse-reverse args)
     (subst (λ ps. Comes (entered ps (reverse c.reverse.new.self.items) m) (Err s) m) c.items.ensures (c.in_err-parameters.ensures.due m))))
 

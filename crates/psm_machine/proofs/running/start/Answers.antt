@@ -1,11 +1,11 @@
-use Rattle.std.proofs.Common.{[], ◌-◌, Err, map, reverse, ap, sym, subst, ◌∙◌, arith}
+use Rattle.std.proofs.Common.{[], ◌-◌, Err, reverse, ap, sym, subst, ◌∙◌, arith}
 use Rattle.psm_cond.specs.Condition.{by_state}
 use Rattle.psm_code.specs.Calling.{before_start}
 use Rattle.psm_code.specs.Sits.{StaysRight}
 use Rattle.psm_code.specs.State.{Activation, Lacking, NoTurns, Over, Raised}
-use Rattle.psm_code.specs.Steps.{Came}
+use Rattle.psm_code.specs.Steps.{Came, Got}
 use Rattle.psm_code.proofs.Sound.{starts}
-use Rattle.psm_unwind.specs.View.{activation_of}
+use Rattle.psm_unwind.specs.View.{activation_of, callers_of}
 use Rattle.psm_machine.specs.declared.stop.Stop.{Stop}
 use Rattle.psm_machine.specs.declared.stop.Stop.TheVariants as stop
 use Rattle.psm_machine.specs.Coming.{Comes}
@@ -15,13 +15,14 @@ use Rattle.psm_machine.proofs.running.start.Goals as goal
 
 pub returns-then-turns-eq0-clause-due : goal.returns-then-turns-eq0-clause-due
 returns-then-turns-eq0-clause-due c = λ tables.
-    begins_late c.args.code.now c.args.number c.args.arguments.items tables c.args.turns (activation_of (λ m. []) c.in-Ok.running)
+    begins_late c.args.code.now c.args.number c.args.arguments.items tables c.args.turns (activation_of (λ m. []) [] c.in-Ok.running)
     (ap (λ (x : Came Activation). x.given) (c.in-Ok.ensures.due (λ m. []) (before_start c.args.turns tables))) (omega (arith, c.if-turns-eq0.true))
 
 pub returns-else-turns-eq0-clause-due : goal.returns-else-turns-eq0-clause-due
 returns-else-turns-eq0-clause-due c = λ tables at.
-    begins c.args.code.now c.args.number c.args.arguments.items tables c.args.turns (activation_of at c.in-Ok.running) (map (activation_of at) (reverse c.new.result.items)) (c.args.turns - 1) c.new-in-Ok.result
-    (ap (λ (x : Came Activation). x.given) (c.in-Ok.ensures.due at (before_start c.args.turns tables))) (ap (λ xs. map (activation_of at) (reverse xs)) c.new.ensures.items) (omega (arith, c.if-turns-eq0.false)) c.new-in-Ok.ensures
+    begins c.args.code.now c.args.number c.args.arguments.items tables c.args.turns (activation_of at c.new-in-Ok.result.own c.in-Ok.running) (callers_of at c.new-in-Ok.result.callers (reverse c.new.result.items)) (c.args.turns - 1) c.new-in-Ok-2.result
+    (ap (λ (x : Came Activation). x.given) (c.in-Ok.ensures.due at (before_start c.args.turns tables)) ∙ ap (λ s. Got (activation_of at s.own c.in-Ok.running)) (sym c.new-in-Ok.ensures))
+    (ap (λ xs. callers_of at c.new-in-Ok.result.callers (reverse xs)) c.new.ensures.items) (omega (arith, c.if-turns-eq0.false)) c.new-in-Ok-2.ensures
 
 pub returns-in_ok-condition-in-Err-Raises-clause-due : goal.returns-in_ok-condition-in-Err-Raises-clause-due
 returns-in_ok-condition-in-Err-Raises-clause-due c = λ tables.
