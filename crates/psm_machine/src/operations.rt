@@ -21,7 +21,9 @@ pub fn operation(alloc: Global, run: &mut Run, op: &Op) -> Result<Next, Stop>
 {
     let variables = run.running.variables.as_slice();
     match run.operands.apply(alloc, op, &[], variables) {
-        Ok(next) => Ok(next),
+        // Each by itself, so that the answer isn't copied.
+        Ok(Next::Ahead) => Ok(Next::Ahead),
+        Ok(Next::Jump(line)) => Ok(Next::Jump(line)),
         Err(fault) => Err(failed(alloc, fault)),
     }
 }
