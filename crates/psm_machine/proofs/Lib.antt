@@ -15,6 +15,7 @@ pub mod Leavings
 pub mod Marking
 pub mod Numbering
 pub mod OneRow
+pub mod Onward
 pub mod Positions
 pub mod RightCode
 pub mod Rights

@@ -156,6 +156,11 @@ item_at c d i = do
 abbrev pub resumed : List Datum → code.Machine → code.Machine
 resumed ds m = cleared (with_running (λ a. record (with_values ds a) { line = suc a.line }) m)
 
+-- the same routine runs, with as many turns
+pub record StaysIn (r new : Run) : Type 0 where
+  pub routine : new.running.routine ≡ r.running.routine
+  pub turns : new.turns ≡ r.turns
+
 -- ---- marks
 
 -- no mark of a run is opened or closed

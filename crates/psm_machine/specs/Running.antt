@@ -8,15 +8,16 @@ use Rattle.psm_code.specs.declared.code.RawCode.{RawCode}
 use Rattle.psm_code.specs.declared.code.RawRoutine.{RawRoutine}
 use Rattle.psm_code.specs.Calling.{activation, before_start, entered}
 use Rattle.psm_code.specs.Parts.{routine_at, taking}
-use Rattle.psm_code.specs.Rows.{Ran, rows}
+use Rattle.psm_code.specs.Rows.{Ran, row, rows}
 use Rattle.psm_code.specs.Sits.{AreKept, Sits}
 use Rattle.psm_code.specs.State as state
 use Rattle.psm_code.specs.Steps.{Act, got, present, ◌>>=◌}
 use Rattle.psm_unwind.specs.declared.ending.Ending.{Ending}
 use Rattle.psm_unwind.specs.declared.ending.Ending.TheVariants as ending
+use Rattle.psm_unwind.specs.declared.ending.Outcome.{Outcome}
 use Rattle.psm_unwind.specs.declared.run.Run.{Run}
 use Rattle.psm_unwind.specs.Marks.{Around, Stays, open_marks}
-use Rattle.psm_unwind.specs.View.{end_of, machine_of}
+use Rattle.psm_unwind.specs.View.{LeadsTo, end_of, machine_of}
 use Rattle.psm_machine.specs.declared.running.Beginning.{Beginning}
 use Rattle.psm_machine.specs.declared.running.Beginning.TheVariants.{Runs, Over}
 use Rattle.psm_machine.specs.declared.running.Finished.{Finished}
@@ -60,6 +61,14 @@ pub record Finishes (code : RawCode) (from : state.Turned) (f : Finished) (table
   pub leads : rows code count from ≡ state.Over (end_of f.ending) last
   pub left : f.turns ≡ last.turns
   pub tables_left : last.tables ≡ tables
+
+-- a run goes on by some rows, with as many turns, and then by one more
+pub record Advances (code : RawCode) (m : state.Machine) (o : Outcome) (now : state.Machine) : Type 0 where
+  pub count : ℕ
+  pub last : state.Machine
+  pub leads : rows code count (state.More m) ≡ state.More last
+  pub turns : last.turns ≡ m.turns
+  pub next : LeadsTo (row code last) o now
 
 -- the tables behind a run: those that it found, where it ended for want of turns
 abbrev pub behind : state.End → List Contents → List Contents → List Contents

@@ -7,7 +7,7 @@ ghost use Rattle.psm_code.specs.Steps.{Came, go_on, got};
 ghost use Rattle.psm_unwind.specs.Marks.{SameFrames};
 ghost use Rattle.psm_unwind.specs.View.{machine_of};
 ghost use Rattle.psm_machine.specs.Coming.{Comes};
-ghost use Rattle.psm_machine.specs.Going.{LeadsOn, Turns};
+ghost use Rattle.psm_machine.specs.Going.{LeadsOn, StaysIn, Turns};
 
 use crate::stop::Stop;
 use psm_exprcode::Next;
@@ -17,6 +17,7 @@ use psm_unwind::{Outcome, Run};
 pub fn go(run: &mut Run, next: Next) -> Result<Outcome, Stop>
     ensures due { LeadsOn (way_of next) run.old result run.new }
     ensures same { SameFrames run.old run.new }
+    ensures stays { StaysIn run.old run.new }
 {
     match next {
         Next::Ahead => ahead(run),
@@ -31,6 +32,7 @@ pub fn go(run: &mut Run, next: Next) -> Result<Outcome, Stop>
 pub fn ahead(run: &mut Run) -> Result<Outcome, Stop>
     ensures due { LeadsOn is_ahead run.old result run.new }
     ensures same { SameFrames run.old run.new }
+    ensures stays { StaysIn run.old run.new }
 {
     let Some(line) = run.running.line.checked_add(1) else {
         return Err(Stop::Memory);

@@ -2,6 +2,7 @@
 #![tactic(auto)]
 
 mod actions;
+mod advancing;
 mod blocks;
 mod calls;
 mod cursors;
@@ -29,6 +30,7 @@ mod turns;
 mod variables;
 
 pub use actions::end_action;
+pub use advancing::advance;
 pub use blocks::{enter, exit};
 pub use calls::call;
 pub use cursors::{close, fetch, next, open};

@@ -15,8 +15,8 @@ ghost use Rattle.psm_unwind.specs.View.{activation_of, end_of, machine_of};
 ghost use Rattle.psm_machine.specs.Going.{Shows};
 ghost use Rattle.psm_machine.specs.Running.{Begins, BeginsRight, Finishes, HasNoMarks, RunsTo, StayAround, Takes, first_activation, leaves_tables};
 
+use crate::advancing::advance;
 use crate::calls::{activation, entered};
-use crate::stepping::step;
 use crate::stop::Stop;
 use psm_code::RawCode;
 use psm_cond::Area;
@@ -112,7 +112,7 @@ fn first(
 /// that the store held stay. The code has to break no rule, with handlers that 32 bits are enough to number, and the tables have to be
 /// those of the code.
 ///
-/// Memory counts as run out where a run isn't over after 2 ^ 64 - 1 instructions.
+/// Memory may count as run out where a run isn't over after 2 ^ 64 - 1 instructions.
 pub fn run<S: Store>(
     alloc: Global,
     code: &RawCode,
@@ -229,7 +229,7 @@ fn go_through<S: Store>(
     let mut run = run;
     'rows: for _ in 0..u64::MAX {
         let turns = run.turns;
-        match step(alloc, code, &mut run, store)? {
+        match advance(alloc, code, &mut run, store)? {
             Outcome::More => {}
             Outcome::Over(ending) => return Ok(Finished { ending, turns }),
         }

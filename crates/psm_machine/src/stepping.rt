@@ -9,7 +9,7 @@ ghost use Rattle.psm_unwind.specs.Marks.{MarksStand, SameFrames};
 ghost use Rattle.psm_unwind.specs.View.{LeadsTo, machine_of};
 ghost use Rattle.psm_machine.specs.Allowed.{MayMove, OfCursor, RunsRight};
 ghost use Rattle.psm_machine.specs.Coming.{Comes};
-ghost use Rattle.psm_machine.specs.Going.{FindsNeeds, StandStill, Turns, TurnsOn, is_of_data};
+ghost use Rattle.psm_machine.specs.Going.{FindsNeeds, StandStill, StaysIn, Turns, TurnsOn, is_of_data};
 ghost use Rattle.psm_machine.specs.Over.{way_for};
 ghost use Rattle.psm_machine.specs.Stepping.{data_act};
 
@@ -86,11 +86,14 @@ pub fn obey<S: Store>(
     }
 }
 
-// Most lines of a routine are operations of expressions.
-fn operate(alloc: Global, run: &mut Run, op: &Op) -> Result<Outcome, Stop>
+/// An operation of an expression, as most lines are.
+///
+/// It has to find what it needs.
+pub(crate) fn operate(alloc: Global, run: &mut Run, op: &Op) -> Result<Outcome, Stop>
     requires { Fits op.now run.old.operands.own [] run.old.running.variables.items }
     ensures due { TurnsOn (operated op.now) run.old result run.new }
     ensures same { SameFrames run.old run.new }
+    ensures stays { StaysIn run.old run.new }
 {
     let next = operation(alloc, run, op)?;
     go(run, next)
