@@ -1,4 +1,4 @@
--- A run that goes on by operations, and then by one more row.
+-- Rows by their instructions, and a run that goes on by some of them.
 use Rattle.std.proofs.Common.{◌≡◌, ℕ, ◌+◌, refl, ap, sym, subst, ◌∙◌, None, Some, Option, option_map, Result, Ok, Err, IfOk}
 use Rattle.std.specs.declared.alloc.AllocError.{AllocError}
 use Rattle.psm_exprcode.specs.declared.op.Op.{Op}
@@ -25,21 +25,24 @@ use Rattle.psm_code.specs.Sits.{StaysRight}
 use Rattle.psm_machine.proofs.Dropping.{settled_ok}
 use Rattle.psm_machine.proofs.Finishing.{leads_more}
 
-line_row : (code : RawCode) (r : RawRoutine) (m : Machine) (l : Option CodeLine) (i : Instruction) (o : Op) → Some i ≡ option_map (λ (l : CodeLine). l.instruction) l → i ≡ instruction.Operation o
-    → line_done code r l m ≡ settled code (operation o m).given (operation o m).machine
-line_row code r m None i o e f = absurd cc
-line_row code r m (Some l) i o e f =
-    let same : l.instruction ≡ instruction.Operation o = cc in
+line_row : (code : RawCode) (r : RawRoutine) (m : Machine) (l : Option CodeLine) (i : Instruction) → Some i ≡ option_map (λ (l : CodeLine). l.instruction) l → line_done code r l m ≡ settled code (done code r i m).given (done code r i m).machine
+line_row code r m None i e = absurd cc
+line_row code r m (Some l) i e =
+    let same : l.instruction ≡ i = cc in
     ap (λ j. let came = done code r j m in settled code came.given came.machine) same
 
--- a row whose line is an operation
+-- a row is what its instruction comes to
+pub done_row : (code : RawCode) (m : Machine) (r : RawRoutine) (i : Instruction) → routine_at code m.running.routine ≡ Some r → Some i ≡ option_map (λ (l : CodeLine). l.instruction) (line_at r m.running.line)
+    → row code m ≡ settled code (done code r i m).given (done code r i m).machine
+done_row code m r i e f = ap (λ x. routine_done code x m) e ∙ line_row code r m (line_at r m.running.line) i f
+
 pub operation_row : (code : RawCode) (m : Machine) (r : RawRoutine) (i : Instruction) (o : Op) → routine_at code m.running.routine ≡ Some r → Some i ≡ option_map (λ (l : CodeLine). l.instruction) (line_at r m.running.line) → i ≡ instruction.Operation o
     → row code m ≡ settled code (operation o m).given (operation o m).machine
-operation_row code m r i o e f g = ap (λ x. routine_done code x m) e ∙ line_row code r m (line_at r m.running.line) i o f g
+operation_row code m r i o e f g = done_row code m r i e f ∙ ap (λ j. let came = done code r j m in settled code came.given came.machine) g
 
--- an operation that is done
-pub operation_more : (code : RawCode) (m now : Machine) (came : Came Way) (res : Result Outcome Stop) → row code m ≡ settled code came.given came.machine → res ≡ Ok outcome.More → Turns came res now → row code m ≡ More now
-operation_more code m now came res e f h =
+-- an instruction that is done, behind which another one comes
+pub done_more : (code : RawCode) (m now : Machine) (came : Came Way) (res : Result Outcome Stop) → row code m ≡ settled code came.given came.machine → res ≡ Ok outcome.More → Turns came res now → row code m ≡ More now
+done_more code m now came res e f h =
     leads_more (row code m) outcome.More now refl
     (subst (λ t. LeadsTo t outcome.More now) (sym e) (settled_ok code came outcome.More now (subst (λ r. Turns came r now) f h)))
 

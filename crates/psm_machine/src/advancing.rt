@@ -1,6 +1,5 @@
 //! A run that goes on by several lines.
-ghost use Rattle.std.specs.Prelude.{◌≡◌, None, All, IfOk, IsTrue, Ok};
-ghost use Rattle.std.specs.Bool.{OnTrue};
+ghost use Rattle.std.specs.Prelude.{◌≡◌, None, All, IfOk, IsTrue};
 ghost use Rattle.psm_cond.specs.Sound.{is_numbered};
 ghost use Rattle.psm_code.specs.RoutineRules.{first_fault};
 ghost use Rattle.psm_code.specs.Sits.{Sits};
@@ -9,9 +8,9 @@ ghost use Rattle.psm_unwind.specs.View.{machine_of};
 ghost use Rattle.psm_machine.specs.Going.{StandStill};
 ghost use Rattle.psm_machine.specs.Running.{Advances};
 
+use crate::going::goes_on;
 use crate::settling::settle;
 use crate::stepping::{operate, step};
-use crate::stop::Stop;
 use psm_code::{Instruction, RawCode};
 use psm_store::Store;
 use psm_unwind::{Outcome, Run, routine_at};
@@ -47,11 +46,4 @@ pub fn advance<S: Store>(
         }
     }
     step(alloc, code, run, store)
-}
-
-// Whether an instruction is done, and another one comes.
-fn goes_on(done: &Result<Outcome, Stop>) -> bool
-    ensures { OnTrue result (done.now ≡ Ok Outcome.More) }
-{
-    matches!(done, Ok(Outcome::More))
 }

@@ -1,5 +1,6 @@
 //! Where a run goes on behind an instruction.
-ghost use Rattle.std.specs.Prelude.{List};
+ghost use Rattle.std.specs.Prelude.{◌≡◌, List, Ok};
+ghost use Rattle.std.specs.Bool.{OnTrue};
 ghost use Rattle.psm_table.specs.Table.{Contents};
 ghost use Rattle.psm_store.specs.declared.store.Mark.{Mark as MarkValue};
 ghost use Rattle.psm_code.specs.Rows.{ahead as is_ahead, way_of};
@@ -39,6 +40,15 @@ pub fn ahead(run: &mut Run) -> Result<Outcome, Stop>
     };
     run.running.line = line;
     Ok(Outcome::More)
+}
+
+/// Whether an instruction is done, and another one comes. A look at that copies nothing, as what is handed on to [`settle`] is.
+///
+/// [`settle`]: crate::settle
+pub(crate) fn goes_on(done: &Result<Outcome, Stop>) -> bool
+    ensures { OnTrue result (done.now ≡ Ok Outcome.More) }
+{
+    matches!(done, Ok(Outcome::More))
 }
 
 /// Goes on behind a part of an instruction, if that wasn't stopped.

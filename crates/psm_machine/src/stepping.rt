@@ -14,7 +14,7 @@ ghost use Rattle.psm_machine.specs.Over.{way_for};
 ghost use Rattle.psm_machine.specs.Stepping.{data_act};
 
 use crate::cursors::{close, fetch, next, open};
-use crate::going::{behind, go};
+use crate::going::{behind, go, goes_on};
 use crate::operations::operation;
 use crate::performing::perform;
 use crate::plans::change;
@@ -51,6 +51,9 @@ pub fn step<S: Store>(
         return Ok(Outcome::Over(Ending::Lacking));
     };
     let done = obey(alloc, code, routine, instruction, run, store);
+    if goes_on(&done) {
+        return Ok(Outcome::More);
+    }
     settle(alloc, code, run, store, done)
 }
 

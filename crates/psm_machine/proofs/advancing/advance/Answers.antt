@@ -7,7 +7,7 @@ use Rattle.psm_unwind.specs.Marks.{MarksStand}
 use Rattle.psm_unwind.specs.View.{machine_of}
 use Rattle.psm_machine.specs.Going.{FindsNeeds, StandStill}
 use Rattle.psm_machine.specs.Running.{Advances}
-use Rattle.psm_machine.proofs.Onward.{advances, advances_by, operation_more, operation_row}
+use Rattle.psm_machine.proofs.Onward.{advances, advances_by, done_more, operation_row}
 use Rattle.psm_machine.proofs.Comings.{same_then}
 use Rattle.psm_machine.proofs.Finishing.{goes_further, sits_further}
 use Rattle.psm_machine.proofs.OneRow.{needs_right}
@@ -77,7 +77,7 @@ operations-preserved g c =
     let there : routine_at code c.operations.run.running.routine ≡ Some c.in-Some.routine.now = ap (routine_at code) c.operations.invariant.stays.routine ∙ sym c.routine_at.ensures ∙ ap option_copied c.in-Some.is in
     let op = c.in-Some-Operation.op in
     let is = operation_row code m c.in-Some.routine.now c.in-Some-Operation.field-0.now op there (sym (ap option_copied c.in-Some-Operation.is) ∙ c.instruction.ensures.instruction) c.in-Some-Operation.field-0-is in
-    let more : row code m ≡ More now = operation_more code m now (operation op m) c.operate-done.result is c.if-not-goes_on.ensures (c.operate-done.ensures.due tables at) in
+    let more : row code m ≡ More now = done_more code m now (operation op m) c.operate-done.result is c.if-not-goes_on.ensures (c.operate-done.ensures.due tables at) in
     record {
       before = (c.operations.invariant.before.0 + 1, goes_further code (More (machine_of tables at c.args.run.now)) c.operations.invariant.before.0 m now c.operations.invariant.before.1 more);
       sits = sits_further code c.requires.right m now c.operations.invariant.sits more;
