@@ -1,5 +1,5 @@
 -- Rows by their instructions, and a run that goes on by some of them.
-use Rattle.std.proofs.Common.{◌≡◌, ℕ, ◌+◌, refl, ap, sym, subst, ◌∙◌, None, Some, Option, option_map, Result, Ok, Err, IfOk}
+use Rattle.std.proofs.Common.{◌≡◌, ℕ, ◌+◌, refl, ap, sym, subst, ◌∙◌, None, Some, Option, option_map, Result, Ok, Err, IfOk, IsErrAnd, true}
 use Rattle.std.specs.declared.alloc.AllocError.{AllocError}
 use Rattle.psm_exprcode.specs.declared.op.Op.{Op}
 use Rattle.psm_code.specs.declared.code.RawCode.{RawCode}
@@ -8,7 +8,7 @@ use Rattle.psm_code.specs.declared.instruction.Instruction.{Instruction}
 use Rattle.psm_code.specs.declared.instruction.Instruction.TheVariants as instruction
 use Rattle.psm_code.specs.declared.lines.CodeLine.{CodeLine}
 use Rattle.psm_code.specs.Parts.{line_at, routine_at}
-use Rattle.psm_code.specs.Rows.{Way, done, line_done, operation, routine_done, row, rows, settled}
+use Rattle.psm_code.specs.Rows.{Way, done, line_done, routine_done, row, rows, settled}
 use Rattle.psm_code.specs.RoutineRules.{first_fault}
 use Rattle.psm_code.specs.Sits.{Sits}
 use Rattle.psm_code.specs.State.{Machine, More, Turned}
@@ -17,8 +17,9 @@ use Rattle.psm_unwind.specs.declared.ending.Outcome.{Outcome}
 use Rattle.psm_unwind.specs.declared.ending.Outcome.TheVariants as outcome
 use Rattle.psm_unwind.specs.View.{LeadsTo}
 use Rattle.psm_machine.specs.declared.stop.Stop.{Stop}
-use Rattle.psm_machine.specs.Going.{Turns}
-use Rattle.psm_machine.specs.Running.{Advances}
+use Rattle.psm_machine.specs.Going.{Turns, goes_more, is_common}
+use Rattle.psm_machine.specs.declared.running.Finished.{Finished}
+use Rattle.psm_machine.specs.Running.{Advances, AfterRow, ended_by}
 use Rattle.psm_code.proofs.Ending.{rows-more}
 use Rattle.psm_code.proofs.Sound.{rows_right}
 use Rattle.psm_code.specs.Sits.{StaysRight}
@@ -36,27 +37,34 @@ pub done_row : (code : RawCode) (m : Machine) (r : RawRoutine) (i : Instruction)
     → row code m ≡ settled code (done code r i m).given (done code r i m).machine
 done_row code m r i e f = ap (λ x. routine_done code x m) e ∙ line_row code r m (line_at r m.running.line) i f
 
-pub operation_row : (code : RawCode) (m : Machine) (r : RawRoutine) (i : Instruction) (o : Op) → routine_at code m.running.routine ≡ Some r → Some i ≡ option_map (λ (l : CodeLine). l.instruction) (line_at r m.running.line) → i ≡ instruction.Operation o
-    → row code m ≡ settled code (operation o m).given (operation o m).machine
-operation_row code m r i o e f g = done_row code m r i e f ∙ ap (λ j. let came = done code r j m in settled code came.given came.machine) g
-
 -- an instruction that is done, behind which another one comes
 pub done_more : (code : RawCode) (m now : Machine) (came : Came Way) (res : Result Outcome Stop) → row code m ≡ settled code came.given came.machine → res ≡ Ok outcome.More → Turns came res now → row code m ≡ More now
 done_more code m now came res e f h =
     leads_more (row code m) outcome.More now refl
     (subst (λ t. LeadsTo t outcome.More now) (sym e) (settled_ok code came outcome.More now (subst (λ r. Turns came r now) f h)))
 
+-- ---- an answer that says only whether it is done
+
+pub errs_alike : (r : Result (Unit {0}) Stop) (s : Stop) → IsErrAnd r (λ e. e ≡ s) → IsErrAnd (goes_more r) (λ e. e ≡ s)
+errs_alike (Ok u) s h = absurd h
+errs_alike (Err e) s h = h
+
+pub common_only : (i : Instruction) → is_common i ≡ true → ((o : Op) → i ≡ instruction.Operation o → ⊥) → (i ≡ instruction.Clear → ⊥) → ((n : ℕ) → i ≡ instruction.Store n → ⊥) → (i ≡ instruction.Turn → ⊥) → ⊥
+common_only (instruction.Operation o) h n0 n1 n2 n3 = n0 o refl
+common_only instruction.Clear h n0 n1 n2 n3 = n1 refl
+common_only (instruction.Store n) h n0 n1 n2 n3 = n2 n refl
+common_only instruction.Turn h n0 n1 n2 n3 = n3 refl
+common_only i h n0 n1 n2 n3 = cc
+
 -- ---- some rows, and one more
 
-pub advances : (code : RawCode) (m last now : Machine) (k : ℕ) (r : Result Outcome AllocError) → rows code k (More m) ≡ More last → last.turns ≡ m.turns → IfOk r (λ o. LeadsTo (row code last) o now) → IfOk r (λ o. Advances code m o now)
-advances code m last now k (Ok o) e t h = record { count = k; last = last; leads = e; turns = t; next = h }
-advances code m last now k (Err x) e t h = tt
+pub after_row : (t : Turned) (o : Outcome) (last now : Machine) (n : ℕ) → n ≡ last.turns → LeadsTo t o now → AfterRow t (ended_by n o) last now
+after_row t outcome.More last now n e h = h
+after_row t (outcome.Over x) last now n e h = (h, e)
 
--- the same of what an operation leads to
-pub advances_by : (code : RawCode) (m last now : Machine) (k : ℕ) (came : Came Way) (r : Result Outcome AllocError) → rows code k (More m) ≡ More last → last.turns ≡ m.turns → row code last ≡ settled code came.given came.machine
-    → IfOk r (λ o. LeadsTo (settled code came.given came.machine) o now) → IfOk r (λ o. Advances code m o now)
-advances_by code m last now k came (Ok o) e t q h = record { count = k; last = last; leads = e; turns = t; next = subst (λ x. LeadsTo x o now) (sym q) h }
-advances_by code m last now k came (Err x) e t q h = tt
+pub advances : (code : RawCode) (m last now : Machine) (k : ℕ) (r : Result (Option Finished) AllocError) → rows code k (More m) ≡ More last → IfOk r (λ f. AfterRow (row code last) f last now) → IfOk r (λ f. Advances code m f now)
+advances code m last now k (Ok f) e h = record { count = k; last = last; leads = e; next = h }
+advances code m last now k (Err x) e h = tt
 
 -- ---- where a run is then
 

@@ -23,6 +23,7 @@ use Rattle.psm_code.specs.Calling.{with_values}
 use Rattle.psm_code.specs.Parts.{block_at}
 use Rattle.psm_code.specs.Steps.{Act, Came, Got, Raises, change, ends, got, of_state, present, raises, turn, ◌>>=◌}
 use Rattle.psm_unwind.specs.declared.ending.Outcome.{Outcome}
+use Rattle.psm_unwind.specs.declared.ending.Outcome.TheVariants as outcome
 use Rattle.psm_unwind.specs.declared.run.Run.{Run}
 use Rattle.psm_unwind.specs.Marks.{Around, MarksStand, Stays, open_marks}
 use Rattle.psm_unwind.specs.View.{LeadsTo, machine_of}
@@ -118,7 +119,20 @@ FindsNeeds i os vars = Unit {0}
 abbrev pub IsNoOperation : Instruction → Type 0
 IsNoOperation i = (o : Op) → i ≡ instruction.Operation o → ⊥
 
+-- those that most lines are, but for others that open, close, call or ask: they touch neither a table nor a block
+abbrev pub is_common : Instruction → Bool
+is_common (instruction.Operation o) = true
+is_common instruction.Clear = true
+is_common (instruction.Store slot) = true
+is_common instruction.Turn = true
+is_common i = false
+
 -- ---- what is seen as something else
+
+-- an answer that says only whether it is done says that another instruction comes
+abbrev pub goes_more : Result (Unit {0}) Stop → Result Outcome Stop
+goes_more (Ok u) = Ok outcome.More
+goes_more (Err s) = Err s
 
 -- an act comes to what is due, as it is seen
 abbrev pub Gives : {A B : Type 0} → (B → A) → Act A → Run → Result B Stop → Run → Type 0
@@ -155,11 +169,6 @@ item_at c d i = do
 -- an activation that called another one goes on behind the call with values, and the area is success
 abbrev pub resumed : List Datum → code.Machine → code.Machine
 resumed ds m = cleared (with_running (λ a. record (with_values ds a) { line = suc a.line }) m)
-
--- the same routine runs, with as many turns
-pub record StaysIn (r new : Run) : Type 0 where
-  pub routine : new.running.routine ≡ r.running.routine
-  pub turns : new.turns ≡ r.turns
 
 -- ---- marks
 

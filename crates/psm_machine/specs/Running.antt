@@ -1,5 +1,5 @@
 -- How a run begins and how it ends.
-use Rattle.std.specs.Prelude.{◌≡◌, ℕ, Bool, true, false, List, [], length, Some, Result, Ok, Err}
+use Rattle.std.specs.Prelude.{◌≡◌, ℕ, Bool, true, false, List, [], length, Option, Some, None, Result, Ok, Err}
 use Rattle.std.specs.declared.alloc.AllocError.{AllocError}
 use Rattle.psm_value.specs.declared.datum.Datum.{Datum}
 use Rattle.psm_table.specs.Table.{Contents}
@@ -15,6 +15,7 @@ use Rattle.psm_code.specs.Steps.{Act, got, present, ◌>>=◌}
 use Rattle.psm_unwind.specs.declared.ending.Ending.{Ending}
 use Rattle.psm_unwind.specs.declared.ending.Ending.TheVariants as ending
 use Rattle.psm_unwind.specs.declared.ending.Outcome.{Outcome}
+use Rattle.psm_unwind.specs.declared.ending.Outcome.TheVariants as outcome
 use Rattle.psm_unwind.specs.declared.run.Run.{Run}
 use Rattle.psm_unwind.specs.Marks.{Around, Stays, open_marks}
 use Rattle.psm_unwind.specs.View.{LeadsTo, end_of, machine_of}
@@ -62,13 +63,22 @@ pub record Finishes (code : RawCode) (from : state.Turned) (f : Finished) (table
   pub left : f.turns ≡ last.turns
   pub tables_left : last.tables ≡ tables
 
--- a run goes on by some rows, with as many turns, and then by one more
-pub record Advances (code : RawCode) (m : state.Machine) (o : Outcome) (now : state.Machine) : Type 0 where
+-- how a run has ended that had so many turns before its last row, if it has
+abbrev pub ended_by : ℕ → Outcome → Option Finished
+ended_by turns outcome.More = None
+ended_by turns (outcome.Over e) = Some (record { ending = e; turns = turns })
+
+-- a row leads on, or to an end, with the turns that there were before it
+abbrev pub AfterRow : state.Turned → Option Finished → state.Machine → state.Machine → Type 0
+AfterRow t None last now = LeadsTo t outcome.More now
+AfterRow t (Some f) last now = LeadsTo t (outcome.Over f.ending) now × (f.turns ≡ last.turns)
+
+-- a run goes on by some rows, and then by one more
+pub record Advances (code : RawCode) (m : state.Machine) (f : Option Finished) (now : state.Machine) : Type 0 where
   pub count : ℕ
   pub last : state.Machine
   pub leads : rows code count (state.More m) ≡ state.More last
-  pub turns : last.turns ≡ m.turns
-  pub next : LeadsTo (row code last) o now
+  pub next : AfterRow (row code last) f last now
 
 -- the tables behind a run: those that it found, where it ended for want of turns
 abbrev pub behind : state.End → List Contents → List Contents → List Contents

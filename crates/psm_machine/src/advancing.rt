@@ -1,49 +1,139 @@
 //! A run that goes on by several lines.
-ghost use Rattle.std.specs.Prelude.{◌≡◌, None, All, IfOk, IsTrue};
+ghost use Rattle.std.specs.Prelude.{◌≡◌, true, None, All, IfOk, IsTrue};
+ghost use Rattle.psm_value.specs.SqlType.{IsType};
 ghost use Rattle.psm_cond.specs.Sound.{is_numbered};
+ghost use Rattle.psm_code.specs.declared.code.RawCode.{RawCode as CodeValue};
+ghost use Rattle.psm_code.specs.Parts.{slots_of};
 ghost use Rattle.psm_code.specs.RoutineRules.{first_fault};
+ghost use Rattle.psm_code.specs.Rows.{done, row};
 ghost use Rattle.psm_code.specs.Sits.{Sits};
-ghost use Rattle.psm_unwind.specs.Marks.{MarksStand};
+ghost use Rattle.psm_unwind.specs.Marks.{MarksStand, SameFrames};
 ghost use Rattle.psm_unwind.specs.View.{machine_of};
-ghost use Rattle.psm_machine.specs.Going.{StandStill};
-ghost use Rattle.psm_machine.specs.Running.{Advances};
+ghost use Rattle.psm_machine.specs.Going.{FindsNeeds, StandStill, TurnsOn, goes_more, is_common};
+ghost use Rattle.psm_machine.specs.Running.{Advances, AfterRow, ended_by};
 
-use crate::going::goes_on;
+use crate::going::go_to;
+use crate::operations::operation;
+use crate::running::Finished;
 use crate::settling::settle;
-use crate::stepping::{operate, step};
-use psm_code::{Instruction, RawCode};
+use crate::stepping::step;
+use crate::stop::Stop;
+use crate::turns::{clear, turn};
+use crate::variables::store as store_in;
+use psm_code::{Instruction, RawCode, RawRoutine};
+use psm_exprcode::Next;
 use psm_store::Store;
 use psm_unwind::{Outcome, Run, routine_at};
 use std::alloc::{AllocError, Global};
 
-/// The operations of expressions that come next, and the instruction behind them. Most lines are operations, which touch neither a
-/// table nor a block, so the run goes from one to the other without a look at what it might have ended in.
+/// Does the instructions that come next up to the first that isn't a common one, and that one too; tells how the run has ended, if it
+/// has, with the turns that there were before its last instruction.
 ///
-/// What a step needs has to be there. The marks stand afterwards too, also where memory runs out.
+/// Most lines are common ones, which touch neither a table nor a block. The run goes from one to the other without a look at what it
+/// may have ended in. What a step needs has to be there; the marks stand afterwards too, also where memory runs out.
 pub fn advance<S: Store>(
     alloc: Global,
     code: &RawCode,
     run: &mut Run,
     store: &mut S,
-) -> Result<Outcome, AllocError>
+) -> Result<Option<Finished>, AllocError>
     requires right { first_fault code.now ≡ None }
     requires numbered { All (λ r. IsTrue (is_numbered r.handlers)) code.now.routines }
     requires sits { Sits code.now (machine_of (S.tables store.old) (S.at store.old) run.old) }
     requires stand { MarksStand (S.holds store.old) (S.marks store.old) run.old }
-    ensures due { IfOk result (λ o. Advances code.now (machine_of (S.tables store.old) (S.at store.old) run.old) o (machine_of (S.tables store.new) (S.at store.new) run.new)) }
+    ensures due { IfOk result (λ f. Advances code.now (machine_of (S.tables store.old) (S.at store.old) run.old) f (machine_of (S.tables store.new) (S.at store.new) run.new)) }
     ensures still { StandStill (S.holds store.old) (S.at store.old) (S.marks store.old) run.old (S.holds store.new) (S.at store.new) (S.marks store.new) run.new }
 {
     let Some(routine) = routine_at(code, run.running.routine) else {
-        return step(alloc, code, run, store);
+        return one_more(alloc, code, run, store);
     };
-    'operations: for _ in 0..u32::MAX {
-        let Some(Instruction::Operation(op)) = routine.lines.instruction(run.running.line) else {
+    'common: for _ in 0..u32::MAX {
+        let Some(instruction) = routine.lines.instruction(run.running.line) else {
             break;
         };
-        let done = operate(alloc, run, op);
-        if !goes_on(&done) {
-            return settle(alloc, code, run, store, done);
+        if !is_common(instruction) {
+            break;
+        }
+        let turns = run.turns;
+        if let Err(stop) = follow(alloc, routine, instruction, run) {
+            let outcome = settle(alloc, code, run, store, Err(stop))?;
+            return Ok(ended_by(turns, outcome));
         }
     }
-    step(alloc, code, run, store)
+    one_more(alloc, code, run, store)
+}
+
+// One instruction of any kind.
+fn one_more<S: Store>(
+    alloc: Global,
+    code: &RawCode,
+    run: &mut Run,
+    store: &mut S,
+) -> Result<Option<Finished>, AllocError>
+    requires right { first_fault code.now ≡ None }
+    requires numbered { All (λ r. IsTrue (is_numbered r.handlers)) code.now.routines }
+    requires sits { Sits code.now (machine_of (S.tables store.old) (S.at store.old) run.old) }
+    requires stand { MarksStand (S.holds store.old) (S.marks store.old) run.old }
+    ensures due { IfOk result (λ f. AfterRow (row code.now (machine_of (S.tables store.old) (S.at store.old) run.old)) f (machine_of (S.tables store.old) (S.at store.old) run.old) (machine_of (S.tables store.new) (S.at store.new) run.new)) }
+    ensures still { StandStill (S.holds store.old) (S.at store.old) (S.marks store.old) run.old (S.holds store.new) (S.at store.new) (S.marks store.new) run.new }
+{
+    let turns = run.turns;
+    let outcome = step(alloc, code, run, store)?;
+    Ok(ended_by(turns, outcome))
+}
+
+fn ended_by(turns: u64, outcome: Outcome) -> Option<Finished>
+    ensures { result ≡ ended_by turns outcome }
+{
+    match outcome {
+        Outcome::More => None,
+        Outcome::Over(ending) => Some(Finished { ending, turns }),
+    }
+}
+
+fn is_common(instruction: &Instruction) -> bool
+    ensures { result ≡ is_common instruction.now }
+{
+    match instruction {
+        Instruction::Operation(_)
+        | Instruction::Clear
+        | Instruction::Store(_)
+        | Instruction::Turn => true,
+        _ => false,
+    }
+}
+
+// A common instruction. What it comes to is small, since it is looked at behind each of them.
+fn follow(
+    alloc: Global,
+    routine: &RawRoutine,
+    instruction: &Instruction,
+    run: &mut Run,
+) -> Result<(), Stop>
+    requires common { is_common instruction.now ≡ true }
+    requires types { All IsType (slots_of routine.now) }
+    requires needs { FindsNeeds instruction.now run.old.operands.own run.old.running.variables.items }
+    ensures due { (code : CodeValue) → TurnsOn (done code routine.now instruction.now) run.old (goes_more result) run.new }
+    ensures same { SameFrames run.old run.new }
+    ensures routine { run.new.running.routine ≡ run.old.running.routine }
+{
+    match instruction {
+        Instruction::Operation(op) => {
+            let next = operation(alloc, run, op)?;
+            go_to(run, next)
+        }
+        Instruction::Clear => {
+            clear(run);
+            go_to(run, Next::Ahead)
+        }
+        Instruction::Store(slot) => {
+            store_in(alloc, routine, run, *slot)?;
+            go_to(run, Next::Ahead)
+        }
+        Instruction::Turn => {
+            turn(run)?;
+            go_to(run, Next::Ahead)
+        }
+        _ => Err(Stop::Lacking),
+    }
 }

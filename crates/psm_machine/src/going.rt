@@ -1,6 +1,5 @@
 //! Where a run goes on behind an instruction.
-ghost use Rattle.std.specs.Prelude.{◌≡◌, List, Ok};
-ghost use Rattle.std.specs.Bool.{OnTrue};
+ghost use Rattle.std.specs.Prelude.{◌≡◌, List};
 ghost use Rattle.psm_table.specs.Table.{Contents};
 ghost use Rattle.psm_store.specs.declared.store.Mark.{Mark as MarkValue};
 ghost use Rattle.psm_code.specs.Rows.{ahead as is_ahead, way_of};
@@ -8,17 +7,34 @@ ghost use Rattle.psm_code.specs.Steps.{Came, go_on, got};
 ghost use Rattle.psm_unwind.specs.Marks.{SameFrames};
 ghost use Rattle.psm_unwind.specs.View.{machine_of};
 ghost use Rattle.psm_machine.specs.Coming.{Comes};
-ghost use Rattle.psm_machine.specs.Going.{LeadsOn, StaysIn, Turns};
+ghost use Rattle.psm_machine.specs.Going.{LeadsOn, Turns, goes_more};
 
 use crate::stop::Stop;
 use psm_exprcode::Next;
 use psm_unwind::{Outcome, Run};
 
+/// Goes on at the line that follows, or at another one. The answer says only whether there was one.
+pub(crate) fn go_to(run: &mut Run, next: Next) -> Result<(), Stop>
+    ensures due { LeadsOn (way_of next) run.old (goes_more result) run.new }
+    ensures same { SameFrames run.old run.new }
+    ensures routine { run.new.running.routine ≡ run.old.running.routine }
+{
+    match next {
+        Next::Ahead => {
+            let Some(line) = run.running.line.checked_add(1) else {
+                return Err(Stop::Memory);
+            };
+            run.running.line = line;
+        }
+        Next::Jump(line) => run.running.line = line as usize,
+    }
+    Ok(())
+}
+
 /// Goes on at the line that follows, or at another one.
 pub fn go(run: &mut Run, next: Next) -> Result<Outcome, Stop>
     ensures due { LeadsOn (way_of next) run.old result run.new }
     ensures same { SameFrames run.old run.new }
-    ensures stays { StaysIn run.old run.new }
 {
     match next {
         Next::Ahead => ahead(run),
@@ -33,22 +49,12 @@ pub fn go(run: &mut Run, next: Next) -> Result<Outcome, Stop>
 pub fn ahead(run: &mut Run) -> Result<Outcome, Stop>
     ensures due { LeadsOn is_ahead run.old result run.new }
     ensures same { SameFrames run.old run.new }
-    ensures stays { StaysIn run.old run.new }
 {
     let Some(line) = run.running.line.checked_add(1) else {
         return Err(Stop::Memory);
     };
     run.running.line = line;
     Ok(Outcome::More)
-}
-
-/// Whether an instruction is done, and another one comes. A look at that copies nothing, as what is handed on to [`settle`] is.
-///
-/// [`settle`]: crate::settle
-pub(crate) fn goes_on(done: &Result<Outcome, Stop>) -> bool
-    ensures { OnTrue result (done.now ≡ Ok Outcome.More) }
-{
-    matches!(done, Ok(Outcome::More))
 }
 
 /// Goes on behind a part of an instruction, if that wasn't stopped.

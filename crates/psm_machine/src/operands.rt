@@ -1,4 +1,5 @@
 //! The operands of the activation that runs.
+ghost use Rattle.std.specs.Prelude.{◌≡◌};
 ghost use Rattle.psm_code.specs.Steps.{pop, put, put_value};
 ghost use Rattle.psm_unwind.specs.Marks.{SameFrames};
 ghost use Rattle.psm_machine.specs.Coming.{Does};
@@ -12,6 +13,7 @@ use psm_value::Datum;
 pub fn pop(run: &mut Run) -> Result<Datum, Stop>
     ensures due { Does pop run.old result run.new }
     ensures same { SameFrames run.old run.new }
+    ensures routine { run.new.running.routine ≡ run.old.running.routine }
 {
     match run.operands.pop() {
         Some(Operand::Value(value)) => Ok(value),

@@ -1,9 +1,9 @@
 //! Operations of expressions among the instructions (ISO/IEC 9075:1992, clauses 6 and 8).
-ghost use Rattle.std.specs.Prelude.{[]};
+ghost use Rattle.std.specs.Prelude.{◌≡◌, []};
 ghost use Rattle.psm_exprcode.specs.Fits.{Fits};
 ghost use Rattle.psm_code.specs.Rows.{operation};
 ghost use Rattle.psm_unwind.specs.Marks.{SameFrames};
-ghost use Rattle.psm_machine.specs.Going.{GoesOn, StaysIn};
+ghost use Rattle.psm_machine.specs.Going.{GoesOn};
 
 use crate::stop::{Stop, failed};
 use psm_exprcode::{Next, Op};
@@ -18,7 +18,7 @@ pub fn operation(alloc: Global, run: &mut Run, op: &Op) -> Result<Next, Stop>
     requires { Fits op.now run.old.operands.own [] run.old.running.variables.items }
     ensures due { GoesOn (operation op.now) run.old result run.new }
     ensures same { SameFrames run.old run.new }
-    ensures stays { StaysIn run.old run.new }
+    ensures routine { run.new.running.routine ≡ run.old.running.routine }
 {
     let variables = run.running.variables.as_slice();
     match run.operands.apply(alloc, op, &[], variables) {

@@ -23,7 +23,7 @@ use psm_cond::Area;
 use psm_list::Boxed;
 use psm_operands::OperandStack;
 use psm_store::{Mark, Steps, Store};
-use psm_unwind::{Activation, Ending, Outcome, Run, routine_at};
+use psm_unwind::{Activation, Ending, Run, routine_at};
 use psm_value::Datum;
 use std::alloc::{AllocError, Global};
 use std::marker::Brand;
@@ -228,10 +228,8 @@ fn go_through<S: Store>(
 {
     let mut run = run;
     'rows: for _ in 0..u64::MAX {
-        let turns = run.turns;
-        match advance(alloc, code, &mut run, store)? {
-            Outcome::More => {}
-            Outcome::Over(ending) => return Ok(Finished { ending, turns }),
+        if let Some(finished) = advance(alloc, code, &mut run, store)? {
+            return Ok(finished);
         }
     }
     Err(AllocError)

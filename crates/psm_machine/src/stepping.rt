@@ -9,12 +9,12 @@ ghost use Rattle.psm_unwind.specs.Marks.{MarksStand, SameFrames};
 ghost use Rattle.psm_unwind.specs.View.{LeadsTo, machine_of};
 ghost use Rattle.psm_machine.specs.Allowed.{MayMove, OfCursor, RunsRight};
 ghost use Rattle.psm_machine.specs.Coming.{Comes};
-ghost use Rattle.psm_machine.specs.Going.{FindsNeeds, StandStill, StaysIn, Turns, TurnsOn, is_of_data};
+ghost use Rattle.psm_machine.specs.Going.{FindsNeeds, StandStill, Turns, TurnsOn, is_of_data};
 ghost use Rattle.psm_machine.specs.Over.{way_for};
 ghost use Rattle.psm_machine.specs.Stepping.{data_act};
 
 use crate::cursors::{close, fetch, next, open};
-use crate::going::{behind, go, goes_on};
+use crate::going::{behind, go};
 use crate::operations::operation;
 use crate::performing::perform;
 use crate::plans::change;
@@ -51,9 +51,6 @@ pub fn step<S: Store>(
         return Ok(Outcome::Over(Ending::Lacking));
     };
     let done = obey(alloc, code, routine, instruction, run, store);
-    if goes_on(&done) {
-        return Ok(Outcome::More);
-    }
     settle(alloc, code, run, store, done)
 }
 
@@ -89,14 +86,11 @@ pub fn obey<S: Store>(
     }
 }
 
-/// An operation of an expression, as most lines are.
-///
-/// It has to find what it needs.
-pub(crate) fn operate(alloc: Global, run: &mut Run, op: &Op) -> Result<Outcome, Stop>
+// Most lines of a routine are operations of expressions.
+fn operate(alloc: Global, run: &mut Run, op: &Op) -> Result<Outcome, Stop>
     requires { Fits op.now run.old.operands.own [] run.old.running.variables.items }
     ensures due { TurnsOn (operated op.now) run.old result run.new }
     ensures same { SameFrames run.old run.new }
-    ensures stays { StaysIn run.old run.new }
 {
     let next = operation(alloc, run, op)?;
     go(run, next)

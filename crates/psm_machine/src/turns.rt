@@ -1,5 +1,5 @@
 //! Turns, and the diagnostics area of a statement that begins.
-ghost use Rattle.std.specs.Prelude.{Ok};
+ghost use Rattle.std.specs.Prelude.{◌≡◌, Ok};
 ghost use Rattle.psm_code.specs.State.{cleared};
 ghost use Rattle.psm_code.specs.Steps.{change, turn};
 ghost use Rattle.psm_unwind.specs.Marks.{SameFrames};
@@ -13,6 +13,7 @@ use psm_unwind::Run;
 pub fn turn(run: &mut Run) -> Result<(), Stop>
     ensures due { Does turn run.old result run.new }
     ensures same { SameFrames run.old run.new }
+    ensures routine { run.new.running.routine ≡ run.old.running.routine }
 {
     if run.turns == 0 {
         return Err(Stop::NoTurns);
@@ -25,6 +26,7 @@ pub fn turn(run: &mut Run) -> Result<(), Stop>
 pub fn clear(run: &mut Run)
     ensures due { Does (change cleared) run.old (Ok tt) run.new }
     ensures same { SameFrames run.old run.new }
+    ensures routine { run.new.running.routine ≡ run.old.running.routine }
 {
     run.area.clear();
     run.pending = None;

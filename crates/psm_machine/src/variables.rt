@@ -23,6 +23,7 @@ pub fn store(alloc: Global, routine: &RawRoutine, run: &mut Run, slot: u32) -> R
     requires { All IsType (slots_of routine.now) }
     ensures due { Does (store routine.now slot) run.old result run.new }
     ensures same { SameFrames run.old run.new }
+    ensures routine { run.new.running.routine ≡ run.old.running.routine }
 {
     let Some(kind) = slot_type(routine, slot) else {
         return Err(Stop::Lacking);
@@ -93,6 +94,7 @@ fn slot_type(routine: &RawRoutine, slot: u32) -> Option<SqlType>
 fn set_variable(run: &mut Run, slot: u32, value: Datum)
     ensures due { Does (change (with_variable slot value)) run.old (Ok tt) run.new }
     ensures same { SameFrames run.old run.new }
+    ensures routine { run.new.running.routine ≡ run.old.running.routine }
 {
     let at = slot as usize;
     if at < run.running.variables.len() {

@@ -1,7 +1,9 @@
-use Rattle.std.proofs.Common.{refl, ◌+◌}
+use Rattle.std.proofs.Common.{refl, subst, sym, ◌+◌}
 use Rattle.psm_code.specs.Rows.{row}
 use Rattle.psm_code.specs.State.{Machine, More}
+use Rattle.psm_unwind.specs.declared.ending.Outcome.TheVariants as outcome
 use Rattle.psm_unwind.specs.View.{machine_of}
+use Rattle.psm_machine.specs.Running.{AfterRow}
 use Rattle.psm_machine.proofs.Finishing.{finishes_over, goes_further, leads_more, sits_further}
 use Rattle.psm_machine.proofs.Onward.{onward, sits_there}
 use Rattle.psm_machine.proofs.Standing.{still_same, still_then}
@@ -21,8 +23,8 @@ rows-preserved g c =
     let from = More (machine_of (g.S.Store.tables c.args.store.now) (g.S.Store.at c.args.store.now) c.args.run) in
     let m : Machine = machine_of (g.S.Store.tables c.rows.store) (g.S.Store.at c.rows.store) c.rows.run in
     let now : Machine = machine_of (g.S.Store.tables c.advance.new.store) (g.S.Store.at c.advance.new.store) c.advance.new.run in
-    let a = c.in_ok-advance.ensures.due in
-    let more = leads_more (row code a.last) c.in_ok-advance.field-0 now c.in-More.is a.next in
+    let a = c.in_ok-finished.ensures.due in
+    let more = leads_more (row code a.last) outcome.More now refl (subst (λ f. AfterRow (row code a.last) f a.last now) c.in_default.is a.next) in
     record {
       before = (c.rows.invariant.before.0 + a.count + 1, goes_further code from (c.rows.invariant.before.0 + a.count) a.last now (onward code from m a.last c.rows.invariant.before.0 a.count c.rows.invariant.before.1 a.leads) more);
       sits = sits_further code c.requires.right a.last now (sits_there code c.requires.right m a.last a.count c.rows.invariant.sits a.leads) more;
@@ -34,12 +36,13 @@ rows-preserved g c =
           c.rows.invariant.still c.advance.ensures.still;
     }
 
-pub returns-in-Over-clause-due : goal.returns-in-Over-clause-due
-returns-in-Over-clause-due g c =
+pub returns-in-Some-clause-due : goal.returns-in-Some-clause-due
+returns-in-Some-clause-due g c =
     let code = c.args.code.now in
     let from = More (machine_of (g.S.Store.tables c.args.store.now) (g.S.Store.at c.args.store.now) c.args.run) in
     let m : Machine = machine_of (g.S.Store.tables c.rows.store) (g.S.Store.at c.rows.store) c.rows.run in
     let now : Machine = machine_of (g.S.Store.tables c.advance.new.store) (g.S.Store.at c.advance.new.store) c.advance.new.run in
-    let a = c.in_ok-advance.ensures.due in
-    finishes_over code from (record { ending = c.in-Over.ending; turns = c.rows.run.turns }) (g.S.Store.tables c.advance.new.store) (c.rows.invariant.before.0 + a.count) a.last now c.in_ok-advance.field-0
-    (onward code from m a.last c.rows.invariant.before.0 a.count c.rows.invariant.before.1 a.leads) c.in-Over.is a.turns refl a.next
+    let a = c.in_ok-finished.ensures.due in
+    let last = subst (λ f. AfterRow (row code a.last) f a.last now) c.in-Some.is a.next in
+    finishes_over code from c.in-Some.finished (g.S.Store.tables c.advance.new.store) (c.rows.invariant.before.0 + a.count) a.last now (outcome.Over c.in-Some.finished.ending)
+    (onward code from m a.last c.rows.invariant.before.0 a.count c.rows.invariant.before.1 a.leads) refl (sym last.1) refl last.0
