@@ -29,6 +29,12 @@ pub fn store(alloc: Global, routine: &RawRoutine, run: &mut Run, slot: u32) -> R
         return Err(Stop::Lacking);
     };
     let value = pop(run)?;
+    // Most values are stored as they are, and go to the variable from where they stand.
+    if is_stored(kind, &value) {
+        storing_is_stable();
+        set_variable(run, slot, value);
+        return Ok(());
+    }
     let stored = stored(alloc, kind, value)?;
     set_variable(run, slot, stored);
     Ok(())

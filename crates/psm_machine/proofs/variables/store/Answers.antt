@@ -19,4 +19,8 @@ returns-in_err-stored-clause-due c = λ tables at.
 
 pub returns-clause-due : goal.returns-clause-due
 returns-clause-due c = λ tables at.
-    rw (sym c.slot_type.ensures ∙ c.in-Some.is, c.in_ok-value.ensures.due tables at, c.in_ok-stored.ensures (machine_of tables at c.pop.new.run)) (c.set_variable.ensures.due tables at)
+    rw (sym c.slot_type.ensures ∙ c.in-Some.is, c.in_ok-value.ensures.due tables at, c.in_ok-stored.ensures (machine_of tables at c.pop.new.run)) (c.set_variable-2.ensures.due tables at)
+
+pub returns-then-is_stored-clause-due : goal.returns-then-is_stored-clause-due
+returns-then-is_stored-clause-due c = λ tables at.
+    rw (sym c.slot_type.ensures ∙ c.in-Some.is, c.in_ok-value.ensures.due tables at, (c.storing_is_stable.ensures.exactly c.in-Some.kind c.in_ok-value.value).0 (sym c.is_stored.ensures ∙ c.if-is_stored.true)) (c.set_variable.ensures.due tables at)
