@@ -1,0 +1,4 @@
+pub mod Falling
+pub mod Jumps
+pub mod Rows
+pub mod Shapes

@@ -1,0 +1,19 @@
+//! That a run of code which breaks no rule comes to an end.
+ghost use Rattle.std.specs.Prelude.{◌≡◌, ℕ, List, length, None, Some};
+ghost use Rattle.psm_value.specs.declared.datum.Datum.{Datum};
+ghost use Rattle.psm_table.specs.Table.{Contents};
+ghost use Rattle.psm_code.specs.declared.code.RawCode.{RawCode};
+ghost use Rattle.psm_code.specs.declared.code.RawRoutine.{RawRoutine};
+ghost use Rattle.psm_code.specs.Parts.{routine_at, taking};
+ghost use Rattle.psm_code.specs.RoutineRules.{first_fault};
+ghost use Rattle.psm_code.specs.Rows.{row, Ran};
+ghost use Rattle.psm_code.specs.Sits.{AreKept, Sits};
+ghost use Rattle.psm_code.specs.State.{End, Machine, More};
+ghost use Rattle.psm_ends.specs.Measure.{Falls, shape};
+
+/// A run of code that breaks no rule ends. At each row that goes on, the turns that are left fall; or else the number of running
+/// activations and actions; or else the number of lines to the end of the routine, where a line that uses a turn counts as none.
+pub fn right_code_ends()
+    ensures falls { (code : RawCode) → first_fault code ≡ None → (m n : Machine) → Sits code m → row code m ≡ More n → Falls code (shape m) (shape n) }
+    ensures ends { (code : RawCode) → first_fault code ≡ None → (routine : ℕ) (r : RawRoutine) → routine_at code routine ≡ Some r → (args : List Datum) (tables : List Contents) (turns : ℕ) → length args ≡ length (taking r.parameters) → AreKept code.tables tables → (e : End) × (last : Machine) × Ran code routine args tables turns e last }
+{}
