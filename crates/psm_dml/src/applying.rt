@@ -6,16 +6,14 @@ ghost use Rattle.psm_table.specs.Table.{most_rows, namesake, with_row, without_r
 ghost use Rattle.psm_table.specs.Key.{row_order};
 ghost use Rattle.std.specs.declared.cmp.Ordering.TheVariants.{Equal};
 ghost use Rattle.psm_table.specs.Unique.{clashes};
-ghost use Rattle.psm_store.specs.Marks.{AnyMark, IsOutside, Keeps, defs_of, most_marks};
+ghost use Rattle.psm_store.specs.Marks.{AnyMark, Keeps, defs_of, most_marks};
 ghost use Rattle.psm_store.specs.RowCalls.{changed_at};
 ghost use Rattle.psm_dml.specs.Rows.{changed_if, done_of, fit_in, fits_in, with_rows, without_keys, IsWhole};
 
 use crate::filling::is_filled;
-use psm_store::{Key, Mark, Row, RowFault, Steps, Store, Table};
+use psm_store::{Key, Row, RowFault, Store, Table, put_back};
 use std::alloc::{AllocError, Global};
 use std::cmp::Ordering;
-use std::marker::Brand;
-use std::sync::ledger::{Blank, Ledger};
 
 /// Takes the rows of these keys out of a table. A key without a row is passed over. Where memory runs out, the
 /// tables are as before. It opens a mark where there are two keys or more.
@@ -43,7 +41,7 @@ pub(crate) fn erase_rows<S: Store>(
             Ok(())
         }
         Err(error) => {
-            undo::<S, Brand>(store, mark, Blank::new(1));
+            put_back(store, mark);
             Err(error)
         }
     }
@@ -97,21 +95,6 @@ fn ascends(table: &Table)
     ensures { IsTable table.now.contents }
 {
     let _rows = table.len();
-}
-
-/// Puts the tables back to the mark and closes it. The steps aren't counted.
-pub(crate) fn undo<S: Store, L: Ledger>(store: &mut S, mark: Mark, blank: Blank)
-    requires name { blank.name ≡ L.name }
-    requires parts { blank.parts ≡ L.parts }
-    requires some { 0 < blank.parts }
-    requires held { S.holds store.old mark }
-    ensures tables { S.tables store.new ≡ S.at store.old mark }
-    ensures marks { S.marks store.new ≡ mark.depth }
-    ensures keeps { Keeps (IsOutside mark) (S.holds store.old) (S.at store.old) (S.holds store.new) (S.at store.new) }
-{
-    let mut steps: Steps<L> = Steps::open(blank);
-    store.rollback(mark, &mut steps);
-    store.release(mark);
 }
 
 /// Takes the rows of some keys out of a table and puts rows in, if these keep the rules there. `false` comes exactly
@@ -195,7 +178,7 @@ fn replace_all<S: Store>(
     let done = replace_each(alloc, store, t, keys, rows);
     match done {
         Ok(true) => store.release(mark),
-        _ => undo::<S, Brand>(store, mark, Blank::new(1)),
+        _ => put_back(store, mark),
     }
     done
 }

@@ -5,8 +5,7 @@ ghost use Rattle.psm_session.specs.Put.{sunk_of};
 ghost use Rattle.psm_session.specs.Steps.{Puts, tables_after};
 
 use psm_io::{Sink, SinkFault};
-use psm_machine::put_back;
-use psm_store::{Mark, Store};
+use psm_store::{Mark, Store, put_back};
 
 /// What a command comes to.
 #[derive(Clone, Copy, Debug, PartialEq, Eq)]

@@ -10,10 +10,8 @@ ghost use Rattle.psm_session.specs.declared.command.ScriptCommand.TheVariants as
 use crate::piece::piece_of;
 use crate::step::{Made, Step, put};
 use psm_io::Sink;
-use psm_store::{Mark, Steps, Store};
+use psm_store::{Mark, Store, go_back};
 use std::alloc::{AllocError, Global};
-use std::marker::Brand;
-use std::sync::ledger::{Blank, Ledger};
 
 /// COMMIT: the transaction has a new mark, which stands for the tables of now. Where there is no memory for it, it has none.
 pub(crate) fn commit<S: Store, K: Sink>(
@@ -70,26 +68,8 @@ fn go_back_behind<S: Store>(step: Step, mark: Mark, store: &mut S)
 {
     match step {
         Step::Memory => {}
-        Step::Next | Step::TurnsUsed | Step::WriteFault => {
-            go_back::<S, Brand>(store, mark, Blank::new(1))
-        }
+        Step::Next | Step::TurnsUsed | Step::WriteFault => go_back(store, mark),
     }
-}
-
-// Puts the tables back to what a mark stands for, which stays held. The steps aren't counted.
-fn go_back<S: Store, L: Ledger>(store: &mut S, mark: Mark, blank: Blank)
-    requires name { blank.name ≡ L.name }
-    requires parts { blank.parts ≡ L.parts }
-    requires some { 0 < blank.parts }
-    requires held { S.holds store.old mark }
-    ensures tables { S.tables store.new ≡ S.at store.old mark }
-    ensures marks { S.marks store.new ≡ mark.depth + 1 }
-    ensures held { S.holds store.new mark }
-    ensures stands { S.at store.new mark ≡ S.at store.old mark }
-    ensures keeps { Keeps (IsOutside mark) (S.holds store.old) (S.at store.old) (S.holds store.new) (S.at store.new) }
-{
-    let mut steps: Steps<L> = Steps::open(blank);
-    store.rollback(mark, &mut steps);
 }
 
 // Puts the piece of a command that ends well.

@@ -14,9 +14,7 @@ use crate::parts::block_at;
 use crate::run::Frame;
 use psm_code::RawRoutine;
 use psm_cursor::Cursor;
-use psm_store::{Mark, Steps, Store};
-use std::marker::Brand;
-use std::sync::ledger::{Blank, Ledger};
+use psm_store::{Mark, Store, put_back};
 
 /// Leaves the frames of an activation up to that of the block of a context, or all of them: the cursors of their blocks are
 /// closed, and where `undo` says so, what an ATOMIC block changed is taken back.
@@ -101,27 +99,24 @@ pub fn leave_frame<S: Store>(
     if let Frame::Block { context, found } = frame {
         close_cursors(routine, context, cursors);
         if let Some(mark) = found {
-            let_go::<S, Brand>(undo, mark, store, Blank::new(1));
+            let_go(undo, mark, store);
         }
     }
 }
 
-// Closes a mark, and where `undo` says so, puts the tables back to it first. The steps aren't counted.
-fn let_go<S: Store, L: Ledger>(undo: bool, mark: Mark, store: &mut S, blank: Blank)
-    requires name { blank.name ≡ L.name }
-    requires parts { blank.parts ≡ L.parts }
-    requires some { 0 < blank.parts }
-    requires held { S.holds store.old mark }
+// Closes a mark, and where `undo` says so, puts the tables back to it first.
+fn let_go<S: Store>(undo: bool, mark: Mark, store: &mut S)
+    requires { S.holds store.old mark }
     ensures tables { S.tables store.new ≡ put_back undo (Some (S.at store.old mark)) (S.tables store.old) }
     ensures defs { defs_of (S.tables store.new) ≡ defs_of (S.tables store.old) }
     ensures marks { S.marks store.new ≤ S.marks store.old }
     ensures keeps { Keeps (IsOutside mark) (S.holds store.old) (S.at store.old) (S.holds store.new) (S.at store.new) }
 {
     if undo {
-        let mut steps: Steps<L> = Steps::open(blank);
-        store.rollback(mark, &mut steps);
+        put_back(store, mark);
+    } else {
+        store.release(mark);
     }
-    store.release(mark);
 }
 
 // Closes the cursors of the block of a context.

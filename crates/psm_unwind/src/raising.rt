@@ -21,10 +21,8 @@ use crate::run::{Frame, Run};
 use psm_code::{RawCode, RawRoutine};
 use psm_cond::{Condition, Handler, HandlerKind, choose};
 use psm_list::Boxed;
-use psm_store::{Steps, Store};
+use psm_store::{Store, go_back};
 use std::alloc::{AllocError, Global};
-use std::marker::Brand;
-use std::sync::ledger::{Blank, Ledger};
 
 /// What a condition meets in an activation.
 #[derive(Drop)]
@@ -300,15 +298,12 @@ fn take_back<S: Store>(run: &Run, store: &mut S)
     ensures due { undone (machine_of (S.tables store.old) (S.at store.old) run.now) ≡ machine_of (S.tables store.new) (S.at store.new) run.now }
     ensures unwinds { Unwinds (S.holds store.old) (S.at store.old) (S.marks store.old) (S.tables store.old) run.now (S.holds store.new) (S.at store.new) (S.marks store.new) (S.tables store.new) run.now }
 {
-    restore::<S, Brand>(run.running.frames.as_slice(), store, Blank::new(1));
+    restore(run.running.frames.as_slice(), store);
 }
 
-// Puts the tables back to what the innermost block found, if it is ATOMIC. The steps aren't counted.
-fn restore<S: Store, L: Ledger>(frames: &[Frame], store: &mut S, blank: Blank)
-    requires name { blank.name ≡ L.name }
-    requires parts { blank.parts ≡ L.parts }
-    requires some { 0 < blank.parts }
-    requires nested { Nested (S.holds store.old) (marks_in (reverse frames.now)) }
+// Puts the tables back to what the innermost block found, if it is ATOMIC.
+fn restore<S: Store>(frames: &[Frame], store: &mut S)
+    requires { Nested (S.holds store.old) (marks_in (reverse frames.now)) }
     ensures tables { S.tables store.new ≡ put_back true (found_first (frames_of (S.at store.old) (reverse frames.now))) (S.tables store.old) }
     ensures defs { defs_of (S.tables store.new) ≡ defs_of (S.tables store.old) }
     ensures fewer { S.marks store.new ≤ S.marks store.old }
@@ -321,8 +316,7 @@ fn restore<S: Store, L: Ledger>(frames: &[Frame], store: &mut S, blank: Blank)
         },
     ) = frames.last()
     {
-        let mut steps: Steps<L> = Steps::open(blank);
-        store.rollback(*mark, &mut steps);
+        go_back(store, *mark);
     }
 }
 

@@ -7,12 +7,15 @@ use Rattle.psm_unwind.proofs.raising.restore.Goals as goal
 
 pub returns-in-Some-Block-default-Some-clause-leaves : goal.returns-in-Some-Block-default-Some-clause-leaves
 returns-in-Some-Block-default-Some-clause-leaves g c =
-    leaves_back (g.S.Store.holds c.args.store.now) (g.S.Store.at c.args.store.now) (g.S.Store.holds c.rollback.new.self) (g.S.Store.at c.rollback.new.self)
+    leaves_back (g.S.Store.holds c.args.store.now) (g.S.Store.at c.args.store.now) (g.S.Store.holds c.go_back.new.store) (g.S.Store.at c.go_back.new.store)
     (marks_in (reverse c.args.frames.now)) c.in-Some-Block-default-Some.mark (marks_in (rest_of (reverse c.args.frames.now)))
     (last_marks c.args.frames.now c.in-Some-Block-default-Some.field-0.now c.in-Some-Block-default-Some.mark
     (ap mark_in c.in-Some-Block-default-Some.field-0-is ∙ c.in-Some-Block-default-Some.field-0-1-is)
     (sym (ap option_copied c.in-Some-Block-default-Some.is) ∙ c.last.ensures.value))
-    c.requires.nested c.rollback.ensures.held c.rollback.ensures.stands c.rollback.ensures.keeps
+    c.requires c.go_back.ensures.held c.go_back.ensures.stands c.go_back.ensures.keeps
 
-pub returns-in_default-clause-leaves : goal.returns-in_default-clause-leaves
-returns-in_default-clause-leaves g c = leaves_none (g.S.Store.holds c.args.store.now) (g.S.Store.at c.args.store.now) (marks_in (reverse c.args.frames.now)) c.requires.nested
+pub returns-clause-leaves : goal.returns-clause-leaves
+returns-clause-leaves g c = leaves_none (g.S.Store.holds c.args.store.now) (g.S.Store.at c.args.store.now) (marks_in (reverse c.args.frames.now)) c.requires
+
+pub returns-2-clause-leaves : goal.returns-2-clause-leaves
+returns-2-clause-leaves g c = leaves_none (g.S.Store.holds c.args.store.now) (g.S.Store.at c.args.store.now) (marks_in (reverse c.args.frames.now)) c.requires

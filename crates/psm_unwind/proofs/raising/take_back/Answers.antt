@@ -7,8 +7,8 @@ use Rattle.psm_unwind.proofs.Unwinding.{running_nested, unwinds_frames}
 use Rattle.psm_unwind.proofs.Views.{machine_stays}
 use Rattle.psm_unwind.proofs.raising.take_back.Goals as goal
 
-pub restore-requires-clause-nested : goal.restore-requires-clause-nested
-restore-requires-clause-nested g c =
+pub restore-requires : goal.restore-requires
+restore-requires g c =
     subst (λ (fs : List Frame). Nested (g.S.Store.holds c.args.store.now) (marks_in (reverse fs))) (sym c.as_slice.ensures.value) (running_nested (g.S.Store.holds c.args.store.now) c.args.run.now c.requires)
 
 pub returns-clause-unwinds : goal.returns-clause-unwinds

@@ -1,4 +1,0 @@
-use Rattle.psm_dml.proofs.applying.erase_rows.Given as goal
-
-abbrev pub ghosts-undo : goal.ghosts-undo
-ghosts-undo g a = record { name = a.blank.name; parts = a.blank.parts }
