@@ -14,7 +14,7 @@ use Rattle.psm_code.specs.declared.code.RawCode.{RawCode}
 use Rattle.psm_code.specs.declared.code.RawRoutine.{RawRoutine}
 use Rattle.psm_code.specs.declared.lines.CodeLine.{CodeLine}
 use Rattle.psm_code.specs.Parts.{handler_at, line_at, routine_at}
-use Rattle.psm_code.specs.Raising.{asked, asked_at, at_turn, chosen, frame_left, frames_inside, frames_left, handled, met, passed_over, raised, raised_in}
+use Rattle.psm_code.specs.Raising.{acting, arrived, asked, asked_at, at_turn, chosen, frame_left, frames_from, frames_inside, frames_left, handled, is_block, met, passed_over, raised, raised_in, undone}
 use Rattle.psm_code.specs.RoutineRules.{is_resume, is_turn, uses_turn}
 use Rattle.psm_code.specs.Rules.{where_there}
 use Rattle.psm_code.specs.Rows.{Way, ahead, at, settled, then_ahead}
@@ -24,14 +24,14 @@ use Rattle.psm_ends.specs.Measure.{Falls, Shape, actions, by_depth, by_lines, by
 use Rattle.psm_ends.proofs.Shapes.{KeepsShape}
 use Rattle.psm_num.proofs.Literals.{and_first}
 
--- where the run goes on, less is before it
+-- where the run goes on, less is before it; where it is over, it has the turns that there were
 abbrev pub FallsTo : RawCode → Shape → Turned → Type 0
 FallsTo code s (More n) = Falls code s (shape n)
-FallsTo code s (Over e n) = Unit {0}
+FallsTo code s (Over e n) = n.turns ≡ s.turns
 
 -- ---- lines
 
-from_most : (r : RawRoutine) (at : ℕ) (o : Option CodeLine) → lines_from r at o ≤ length r.lines - at
+pub from_most : (r : RawRoutine) (at : ℕ) (o : Option CodeLine) → lines_from r at o ≤ length r.lines - at
 from_most r at None = omega arith
 from_most r at (Some l) = by (is_turn l.instruction) where
   by : (b : Bool) → (if b then 0 else length r.lines - at) ≤ length r.lines - at
@@ -48,23 +48,63 @@ from_turn r at (Some l) e = ap (λ b. if b then 0 else length r.lines - at) e
 
 -- ---- a condition that leaves activations
 
-turn_used : (code : RawCode) (s : Shape) (n : ℕ) (go : Machine → Machine) (m : Machine) → n ≡ s.turns → ((k : Machine) → (go k).turns ≡ k.turns) → FallsTo code s (at_turn n go m)
-turn_used code s zero go m e h = tt
-turn_used code s (suc n) go m e h = by_turns (let t = h (record m { turns = n }) in omega (arith, e, t))
+-- the turns stay, and one action more runs at most
+record OneMore (m n : Machine) : Type 0 where
+  turns : n.turns ≡ m.turns
+  most : depth (shape n) ≤ suc (depth (shape m))
+
+turn_used : (code : RawCode) (s : Shape) (n : ℕ) (go : Machine → Machine) (m : Machine) → n ≡ s.turns → m.turns ≡ s.turns → depth (shape m) ≤ depth s → ((k : Machine) → OneMore k (go k)) → FallsTo code s (at_turn n go m)
+turn_used code s zero go m e t d h = t
+turn_used code s (suc n) go m e t d h =
+    let one = h (record m { turns = n }) in
+    let turns = one.turns in
+    let most = one.most in
+    by_turns (omega (arith, e, turns)) (omega (arith, most, d))
 
 frames_turns : (r : RawRoutine) (undo : Bool) (frames : List Frame) (m : Machine) → shape (frames_left r undo frames m) ≡ shape m
 frames_turns r undo [] m = refl
 frames_turns r undo (InBlock k found ∷ frames) m = frames_turns r undo frames (frame_left r undo (InBlock k found) m)
 frames_turns r undo (InAction n resume area ∷ frames) m = frames_turns r undo frames m
 
-handled_turns : (r : RawRoutine) (undo : Bool) (resume : Option ℕ) (n : ℕ) (h : Handler) (k : HandlerKind) (m : Machine) → (handled r undo resume n h k m).turns ≡ m.turns
-handled_turns r undo resume n h kinds.Continue m = refl
-handled_turns r undo resume n h kinds.Exit m = ap (λ (t : Shape). t.turns) (frames_turns r undo (frames_inside h.context m.running.frames) m)
-handled_turns r undo resume n h kinds.Undo m = ap (λ (t : Shape). t.turns) (frames_turns r undo (frames_inside h.context m.running.frames) m)
+-- the frames from that of a block on are no more than all
+outside_fewer : (f : Frame) (frames : List Frame) → actions frames ≤ actions (f ∷ frames)
+outside_fewer (InBlock j found) frames = omega arith
+outside_fewer (InAction n resume area) frames = omega arith
 
-chosen_falls : (code : RawCode) (s : Shape) (r : RawRoutine) (undo : Bool) (resume : Option ℕ) (n : ℕ) (o : Option Handler) (m : Machine) → m.turns ≡ s.turns → FallsTo code s (chosen r undo resume n o m)
-chosen_falls code s r undo resume n None m e = tt
-chosen_falls code s r undo resume n (Some h) m e = turn_used code s m.turns (handled r undo resume n h h.kind) m e (λ k. handled_turns r undo resume n h h.kind k)
+from_fewer : (k : ℕ) (frames : List Frame) → actions (frames_from k frames) ≤ actions frames
+from_fewer k [] = omega arith
+from_fewer k (f ∷ frames) = by (is_block k f) (from_fewer k frames) where
+  by : (b : Bool) → actions (frames_from k frames) ≤ actions frames → actions (if b then f ∷ frames else frames_from k frames) ≤ actions (f ∷ frames)
+  by true fewer = omega arith
+  by false fewer = let outside = outside_fewer f frames in omega (arith, fewer, outside)
+
+-- the turns and the callers stay, and no more actions run
+record NoMore (m l : Machine) : Type 0 where
+  turns : l.turns ≡ m.turns
+  frames : actions l.running.frames ≤ actions m.running.frames
+  callers : running l.callers ≡ running m.callers
+
+arrived_fewer : (r : RawRoutine) (undo : Bool) (h : Handler) (m : Machine) → NoMore m (arrived r undo h m)
+arrived_fewer r undo h m =
+    let l = frames_left r undo (frames_inside h.context m.running.frames) m in
+    let same = frames_turns r undo (frames_inside h.context m.running.frames) m in
+    let as_many : actions l.running.frames ≡ actions m.running.frames = ap (λ (t : Shape). actions t.frames) same in
+    let fewer = from_fewer h.context l.running.frames in
+    record { turns = ap (λ (t : Shape). t.turns) same; frames = omega (arith, fewer, as_many); callers = ap (λ (t : Shape). running t.callers) same }
+
+acting_more : (n : ℕ) (resume : Option ℕ) (h : Handler) (m l : Machine) → NoMore m l → OneMore m (acting n resume h l)
+acting_more n resume h m l f = record { turns = f.turns; most = let frames = f.frames in let callers = f.callers in omega (arith, frames, callers) }
+
+handled_more : (r : RawRoutine) (undo : Bool) (resume : Option ℕ) (n : ℕ) (h : Handler) (k : HandlerKind) (m : Machine) → OneMore m (handled r undo resume n h k m)
+handled_more r undo resume n h kinds.Continue m = acting_more n resume h m m (record { turns = refl; frames = omega arith; callers = refl })
+handled_more r undo resume n h kinds.Exit m = acting_more n None h m (arrived r undo h m) (arrived_fewer r undo h m)
+handled_more r undo resume n h kinds.Undo m =
+    let f = arrived_fewer r undo h m in
+    acting_more n None h m (undone (arrived r undo h m)) (record { turns = f.turns; frames = f.frames; callers = f.callers })
+
+chosen_falls : (code : RawCode) (s : Shape) (r : RawRoutine) (undo : Bool) (resume : Option ℕ) (n : ℕ) (o : Option Handler) (m : Machine) → m.turns ≡ s.turns → depth (shape m) ≤ depth s → FallsTo code s (chosen r undo resume n o m)
+chosen_falls code s r undo resume n None m e d = e
+chosen_falls code s r undo resume n (Some h) m e d = turn_used code s m.turns (handled r undo resume n h h.kind) m e e d (λ k. handled_more r undo resume n h h.kind k)
 
 -- a machine that is less deep
 pub record Deeper (s : Shape) (m : Machine) : Type 0 where
@@ -74,7 +114,7 @@ pub record Deeper (s : Shape) (m : Machine) : Type 0 where
 -- a condition meets what has less before it, if what is outside has
 module _ (code : RawCode) (s : Shape) (outside : Machine → Turned) (r : RawRoutine) (c : Entries) where
   passed_deeper : (o : Option ℕ) (m : Machine) → Deeper s m → FallsTo code s (passed_over o m)
-  passed_deeper None m d = tt
+  passed_deeper None m d = d.turns
   passed_deeper (Some line) m d = by_depth d.turns d.less
 
   left_deeper : (b : Bool) (o : Option ℕ) (m : Machine) → Deeper s m → ((n : Machine) → shape n ≡ shape m → FallsTo code s (outside n)) → FallsTo code s (if b then outside (frames_left r true m.running.frames m) else passed_over o m)
@@ -82,15 +122,15 @@ module _ (code : RawCode) (s : Shape) (outside : Machine → Turned) (r : RawRou
   left_deeper false o m d h = passed_deeper o m d
 
   met_deeper : (l : CodeLine) (o : Option ℕ) (m : Machine) → Deeper s m → ((n : Machine) → shape n ≡ shape m → FallsTo code s (outside n)) → FallsTo code s (met r l c o outside m)
-  met_deeper l (Some n) m d h = chosen_falls code s r (is_exception (kind_of c.first.state)) l.resume n (handler_at r n) m d.turns
+  met_deeper l (Some n) m d h = chosen_falls code s r (is_exception (kind_of c.first.state)) l.resume n (handler_at r n) m d.turns (let less = d.less in omega (arith, less))
   met_deeper l None m d h = left_deeper (is_exception (kind_of c.first.state)) l.resume m d h
 
   asked_at_deeper : (o : Option CodeLine) (m : Machine) → Deeper s m → ((n : Machine) → shape n ≡ shape m → FallsTo code s (outside n)) → FallsTo code s (asked_at r o c outside m)
-  asked_at_deeper None m d h = tt
+  asked_at_deeper None m d h = d.turns
   asked_at_deeper (Some l) m d h = met_deeper l (choice r.handlers l.context c.first) (holding c m) (record { turns = d.turns; less = d.less }) h
 
 asked_deeper : (code : RawCode) (s : Shape) (outside : Machine → Turned) (o : Option RawRoutine) (c : Entries) (m : Machine) → Deeper s m → ((n : Machine) → shape n ≡ shape m → FallsTo code s (outside n)) → FallsTo code s (asked o c outside m)
-asked_deeper code s outside None c m d h = tt
+asked_deeper code s outside None c m d h = d.turns
 asked_deeper code s outside (Some r) c m d h = asked_at_deeper code s outside r c (line_at r m.running.line) m d h
 
 -- a caller is less deep than what it called
@@ -100,7 +140,7 @@ caller_less s n a callers t e h =
     record { turns = t; less = omega (arith, h, same) }
 
 raised_deeper : (code : RawCode) (s : Shape) (c : Entries) (callers : List Activation) (m : Machine) → m.callers ≡ callers → Deeper s m → FallsTo code s (raised_in code c callers m)
-raised_deeper code s c [] m e d = asked_deeper code s (λ n. Over (Raised (by_state c)) n) (routine_at code m.running.routine) c m d (λ n q. tt)
+raised_deeper code s c [] m e d = asked_deeper code s (λ n. Over (Raised (by_state c)) n) (routine_at code m.running.routine) c m d (λ n q. ap (λ (t : Shape). t.turns) q ∙ d.turns)
 raised_deeper code s c (a ∷ callers) m e d =
     asked_deeper code s (λ n. raised_in code (by_state c) callers (record n { running = a; callers = callers })) (routine_at code m.running.routine) c m d
     (λ n q. raised_deeper code s (by_state c) callers (record n { running = a; callers = callers }) refl
@@ -148,7 +188,7 @@ module _ (code : RawCode) (s : Shape) (r : RawRoutine) (l : CodeLine) (there : r
 
   module _ (resumes : where_there l.resume (is_resume r s.line l) ≡ true) where
     passed_here : (o : Option ℕ) → where_there o (is_resume r s.line l) ≡ true → (m : Machine) → shape m ≡ s → FallsTo code s (passed_over o m)
-    passed_here None q m e = tt
+    passed_here None q m e = ap (λ (t : Shape). t.turns) e
     passed_here (Some p) q m e =
         let far : nat_lt s.line p ≡ true = and_first (nat_lt s.line p) _ q in
         goes_to p m (like e) (ap (λ b. b || where_there (line_at r p) (λ l. is_turn l.instruction)) far)
@@ -159,7 +199,7 @@ module _ (code : RawCode) (s : Shape) (r : RawRoutine) (l : CodeLine) (there : r
       left_here false m e = passed_here l.resume resumes m e
 
       met_here : (o : Option ℕ) (m : Machine) → shape m ≡ s → FallsTo code s (met r l c o outside m)
-      met_here (Some n) m e = chosen_falls code s r (is_exception (kind_of c.first.state)) l.resume n (handler_at r n) m (ap (λ (t : Shape). t.turns) e)
+      met_here (Some n) m e = chosen_falls code s r (is_exception (kind_of c.first.state)) l.resume n (handler_at r n) m (ap (λ (t : Shape). t.turns) e) (let same : depth (shape m) ≡ depth s = ap depth e in omega (arith, same))
       met_here None m e = left_here (is_exception (kind_of c.first.state)) m e
 
       asked_here : (m : Machine) → shape m ≡ s → FallsTo code s (asked (routine_at code m.running.routine) c outside m)
@@ -170,7 +210,7 @@ module _ (code : RawCode) (s : Shape) (r : RawRoutine) (l : CodeLine) (there : r
           (subst (λ o. FallsTo code s (asked_at r o c outside m)) (sym line) (met_here (choice r.handlers l.context c.first) (holding c m) e))
 
     raised_in_here : (c : Entries) (callers : List Activation) (m : Machine) → m.callers ≡ callers → shape m ≡ s → FallsTo code s (raised_in code c callers m)
-    raised_in_here c [] m q e = asked_here c (λ n. Over (Raised (by_state c)) n) (λ n f. tt) m e
+    raised_in_here c [] m q e = asked_here c (λ n. Over (Raised (by_state c)) n) (λ n f. ap (λ (t : Shape). t.turns) f) m e
     raised_in_here c (a ∷ callers) m q e =
         asked_here c (λ n. raised_in code (by_state c) callers (record n { running = a; callers = callers }))
         (λ n f. raised_deeper code s (by_state c) callers (record n { running = a; callers = callers }) refl
@@ -187,7 +227,7 @@ module _ (code : RawCode) (s : Shape) (r : RawRoutine) (l : CodeLine) (there : r
     by_given : {A : Type 0} (g : Given A) (go : A → Act Way) (m : Machine) → shape m ≡ s → ((a : A) → DoneFalls (go a)) → FallsTo code s (settled code (go_on g go m).given (go_on g go m).machine)
     by_given (Got a) go m e h = (h a).falls m e
     by_given (Raises c) go m e h = raised_here c m e
-    by_given (Ends x) go m e h = tt
+    by_given (Ends x) go m e h = ap (λ (t : Shape). t.turns) e
 
     pub then_falls : {A : Type 0} {act : Act A} {go : A → Act Way} → KeepsShape act → ((a : A) → DoneFalls (go a)) → DoneFalls (◌>>=◌ act go)
     then_falls {A} {act} {go} k h = record { falls = λ m e. by_given (act m).given go (act m).machine (k.keeps m ∙ e) h }
@@ -199,7 +239,7 @@ module _ (code : RawCode) (s : Shape) (r : RawRoutine) (l : CodeLine) (there : r
     raises_falls c = record { falls = λ m e. raised_here c m e }
 
     pub ends_falls : (e : End) → DoneFalls (ends e)
-    ends_falls x = record { falls = λ m e. tt }
+    ends_falls x = record { falls = λ m e. ap (λ (t : Shape). t.turns) e }
 
     pub ahead_falls : (act : Act (Unit {0})) → KeepsShape act → DoneFalls (then_ahead act)
     ahead_falls act k = then_falls k (λ u. got_falls ahead (λ m e. goes_ahead m (like e)))

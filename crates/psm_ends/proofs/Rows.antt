@@ -1,5 +1,5 @@
--- Each row has less behind it, and so a run ends.
-use Rattle.std.proofs.Common.{◌≡◌, ℕ, zero, suc, ◌+◌, ◌<◌, Bool, true, false, List, [], ◌∷◌, length, refl, ap, sym, subst, ◌∙◌, arith, Option, Some, None}
+-- Each row that goes on leaves less, and so a run ends.
+use Rattle.std.proofs.Common.{◌≡◌, ℕ, zero, suc, ◌+◌, ◌<◌, ◌≤◌, Bool, true, false, List, [], ◌∷◌, length, refl, ap, sym, subst, ◌∙◌, arith, Option, Some, None}
 use Rattle.std.specs.Prelude.{codes, nat_eq, nat_lt, slice_get, ◌&&◌, if◌then◌else◌}
 use Rattle.psm_num.proofs.Literals.{and_second}
 use Rattle.psm_sqlstate.specs.declared.state.SqlState.{SqlState}
@@ -41,8 +41,10 @@ use Rattle.psm_code.specs.Sits.{AreKept, Sits, StaysRight}
 use Rattle.psm_code.specs.State.{Activation, End, Frame, InAction, InBlock, Machine, More, Over, Lacking, Turned, cleared, with_running, with_variable}
 use Rattle.psm_code.specs.Steps.{Act, Given, Got, Raises, Ends, change, ends, go_on, got, of_state, present, put_values, raises, spent, tried, turn, ◌>>=◌}
 use Rattle.psm_code.proofs.Faults.{Clean, RightRoutine, clean_head, clean_tail, line_right, routine_right}
+use Rattle.psm_code.proofs.Ending.{over_stays}
 use Rattle.psm_code.proofs.Sound.{row_right, starts}
-use Rattle.psm_ends.specs.Measure.{Falls, Shape, actions, by_depth, by_lines, by_turns, depth, lines, running, shape}
+use Rattle.psm_ends.specs.Measure.{Falls, Shape, actions, by_depth, by_lines, by_turns, depth, left, lines, running, shape}
+use Rattle.psm_ends.proofs.Left.{less_left}
 use Rattle.psm_ends.proofs.Falling.{DoneFalls, FallsTo, ahead_falls, ends_falls, goes_ahead, goes_to, got_falls, like, raised_here, raises_falls, then_falls}
 use Rattle.psm_ends.proofs.Jumps.{GoesWithin, goes_within}
 use Rattle.psm_ends.proofs.Shapes.{KeepsShape, change_keeps, close_keeps, condition_item_keeps, ends_keeps, exists_keeps, fetch_keeps, got_keeps, next_keeps, open_keeps, plan_keeps, pop_keeps, pops_keep, present_keeps, raises_keeps, read_keeps, resignal_condition_keeps, resignal_keeps, resignal_message_keeps, scalar_keeps, select_keeps, signal_keeps, signal_message_keeps, statement_item_keeps, then_keeps, tried_keeps, values_keep}
@@ -100,12 +102,16 @@ bounded_keeps = then_keeps (read_keeps (λ m. length m.callers)) (λ others. by 
   by true = got_keeps
   by false = raises_keeps
 
--- ---- a call uses a turn, or keeps the shape
+-- ---- a call uses a turn and runs one activation more, or keeps the shape
+
+record Begins (m : Machine) (s : Shape) : Type 0 where
+  turns : m.turns < s.turns
+  deep : depth (shape m) ≤ suc (depth s)
 
 abbrev SpentWith : {A : Type 0} → Given A → Machine → Shape → Type 0
-SpentWith (Got a) m s = m.turns < s.turns
+SpentWith (Got a) m s = Begins m s
 SpentWith (Raises c) m s = shape m ≡ s
-SpentWith (Ends e) m s = Unit {0}
+SpentWith (Ends e) m s = m.turns ≡ s.turns
 
 record Spends {A : Type 0} (act : Act A) : Type 0 where
   spends : (m : Machine) (s : Shape) → shape m ≡ s → SpentWith (act m).given (act m).machine s
@@ -113,25 +119,29 @@ record Spends {A : Type 0} (act : Act A) : Type 0 where
 spends_on : {A B : Type 0} (g : Given A) (go : A → Act B) (m : Machine) (s : Shape) → shape m ≡ s → ((a : A) → Spends (go a)) → SpentWith (go_on g go m).given (go_on g go m).machine s
 spends_on (Got a) go m s e h = (h a).spends m s e
 spends_on (Raises c) go m s e h = e
-spends_on (Ends x) go m s e h = tt
+spends_on (Ends x) go m s e h = ap (λ (t : Shape). t.turns) e
 
 then_spends : {A B : Type 0} {act : Act A} {go : A → Act B} → KeepsShape act → ((a : A) → Spends (go a)) → Spends (◌>>=◌ act go)
 then_spends {A} {B} {act} {go} k h = record { spends = λ m s e. spends_on (act m).given go (act m).machine s (k.keeps m ∙ e) h }
 
-spent_first : (f : Machine → Machine) → ((m : Machine) → (f m).turns ≡ m.turns) → (n : ℕ) (m : Machine) (s : Shape) → n ≡ s.turns
-    → SpentWith (go_on (spent n m).given (λ u. change f) (spent n m).machine).given (go_on (spent n m).given (λ u. change f) (spent n m).machine).machine s
-spent_first f h zero m s e = tt
-spent_first f h (suc n) m s e = let t = h (record m { turns = n }) in omega (arith, t, e)
+-- an activation whose frames are none
+spent_first : (a : Activation) → a.frames ≡ [] → (n : ℕ) (m : Machine) (s : Shape) → n ≡ s.turns → shape m ≡ s
+    → (let came = go_on (spent n m).given (λ u. change (calling a)) (spent n m).machine in SpentWith came.given came.machine s)
+spent_first a h zero m s e same = ap (λ (t : Shape). t.turns) same
+spent_first a h (suc n) m s e same =
+    let none : actions a.frames ≡ 0 = ap actions h in
+    let deep : depth (shape m) ≡ depth s = ap depth same in
+    record { turns = omega (arith, e); deep = omega (arith, none, deep) }
 
-turn_first : (f : Machine → Machine) → ((m : Machine) → (f m).turns ≡ m.turns) → Spends (◌>>=◌ turn (λ u. change f))
-turn_first f h = record { spends = λ m s e. spent_first f h m.turns m s (ap (λ (t : Shape). t.turns) e) }
+turn_first : (a : Activation) → a.frames ≡ [] → Spends (◌>>=◌ turn (λ u. change (calling a)))
+turn_first a h = record { spends = λ m s e. spent_first a h m.turns m s (ap (λ (t : Shape). t.turns) e) e }
 
 call_spends : (code : RawCode) (n : ℕ) → Spends (call code n)
 call_spends code n =
     then_spends (present_keeps (routine_at code n)) (λ r.
     then_spends (pops_keep (length (taking r.parameters)) []) (λ args.
     then_spends (entered_keeps r.parameters args) (λ parameters.
-    then_spends bounded_keeps (λ u. turn_first (calling (activation n r parameters)) (λ m. refl)))))
+    then_spends bounded_keeps (λ u. turn_first (activation n r parameters) refl))))
 
 result_keeps : (code : RawCode) → KeepsShape (result code)
 result_keeps code =
@@ -143,21 +153,21 @@ result_keeps code =
 -- ---- activations that are left
 
 left_falls : (code : RawCode) (s : Shape) (ds : List Datum) (callers : List Activation) (m : Machine) → m.callers ≡ callers → shape m ≡ s → FallsTo code s (left_values ds callers m)
-left_falls code s ds [] m q e = tt
+left_falls code s ds [] m q e = ap (λ (t : Shape). t.turns) e
 left_falls code s ds (a ∷ callers) m q e =
     let same : running m.callers ≡ suc (actions a.frames + running callers) = ap running q in
     let all : depth (shape m) ≡ depth s = ap depth e in
     by_depth (ap (λ (t : Shape). t.turns) e) (omega (arith, same, all))
 
 end_falls : (code : RawCode) (s : Shape) (o : Option RawRoutine) (m : Machine) → shape m ≡ s → FallsTo code s (end_of o m)
-end_falls code s None m e = tt
+end_falls code s None m e = ap (λ (t : Shape). t.turns) e
 end_falls code s (Some r) m e = left_falls code s (given_back r.parameters m.running.variables) m.callers (cleared m) refl e
 
 -- ---- a turn
 
-turn_falls : (code : RawCode) (s : Shape) (n : ℕ) (m : Machine) → n ≡ s.turns → (let came = go_on (spent n m).given (λ u. got ahead) (spent n m).machine in FallsTo code s (settled code came.given came.machine))
-turn_falls code s zero m e = tt
-turn_falls code s (suc n) m e = by_turns (omega (arith, e))
+turn_falls : (code : RawCode) (s : Shape) (n : ℕ) (m : Machine) → n ≡ s.turns → shape m ≡ s → (let came = go_on (spent n m).given (λ u. got ahead) (spent n m).machine in FallsTo code s (settled code came.given came.machine))
+turn_falls code s zero m e same = ap (λ (t : Shape). t.turns) same
+turn_falls code s (suc n) m e same = by_turns (omega (arith, e)) (let deep : depth (shape m) ≡ depth s = ap depth same in omega (arith, deep))
 
 -- ---- instructions
 
@@ -186,21 +196,21 @@ module _ (code : RawCode) (s : Shape) (r : RawRoutine) (l : CodeLine) (there : r
   -- blocks
   entered_falls : (k : ℕ) (o : Option Block) (m : Machine) → shape m ≡ s
       → (let came = then_ahead (◌>>=◌ (present o) (λ b. change (λ m. with_frames (InBlock k (finding b.atomic m.tables) ∷ m.running.frames) m))) m in FallsTo code s (settled code came.given came.machine))
-  entered_falls k None m e = tt
+  entered_falls k None m e = ap (λ (t : Shape). t.turns) e
   entered_falls k (Some b) m e =
       goes_ahead code s r l there line_there calm (with_frames (InBlock k (finding b.atomic m.tables) ∷ m.running.frames) m)
       (let same = like {m = m} e in record { turns = same.turns; routine = same.routine; line = same.line; deep = same.deep })
 
   exited_falls : (k : ℕ) (frames : List Frame) (m : Machine) → m.running.frames ≡ frames → shape m ≡ s
       → (let came = then_ahead (exited r k frames) m in FallsTo code s (settled code came.given came.machine))
-  exited_falls k [] m q e = tt
-  exited_falls k (InAction n resume area ∷ frames) m q e = tt
+  exited_falls k [] m q e = ap (λ (t : Shape). t.turns) e
+  exited_falls k (InAction n resume area ∷ frames) m q e = ap (λ (t : Shape). t.turns) e
   exited_falls k (InBlock j found ∷ frames) m q e = by (nat_eq k j) where
     by : (b : Bool) → (let came = then_ahead (if b then change (λ m. with_frames frames (block_left r false k found m)) else ends Lacking) m in FallsTo code s (settled code came.given came.machine))
     by true =
         goes_ahead code s r l there line_there calm (with_frames frames (block_left r false k found m))
         (let same = like {m = m} e in record { turns = same.turns; routine = same.routine; line = same.line; deep = sym (ap (λ fs. suc (actions fs + running m.callers)) q) ∙ same.deep })
-    by false = tt
+    by false = ap (λ (t : Shape). t.turns) e
 
   -- an action that ends
   ended_falls : (n : ℕ) (resume : Option ℕ) (frames : List Frame) → suc (actions frames) ≡ actions s.frames → Done (act_ended r n resume frames)
@@ -210,18 +220,18 @@ module _ (code : RawCode) (s : Shape) (r : RawRoutine) (l : CodeLine) (there : r
       record { falls = λ m e. by_depth (ap (λ (t : Shape). t.turns) e) (let callers : running m.callers ≡ running s.callers = ap (λ (t : Shape). running t.callers) e in omega (arith, q, callers)) }))
 
   action_falls : (n : ℕ) (frames : List Frame) (m : Machine) → m.running.frames ≡ frames → shape m ≡ s → (let came = action_ended r n frames m in FallsTo code s (settled code came.given came.machine))
-  action_falls n [] m q e = tt
-  action_falls n (InBlock k found ∷ frames) m q e = tt
+  action_falls n [] m q e = ap (λ (t : Shape). t.turns) e
+  action_falls n (InBlock k found ∷ frames) m q e = ap (λ (t : Shape). t.turns) e
   action_falls n (InAction j resume area ∷ frames) m q e = by (nat_eq n j) where
     by : (b : Bool) → (let came = (if b then act_ended r n resume frames else ends Lacking) m in FallsTo code s (settled code came.given came.machine))
     by true = (ended_falls n resume frames (sym (ap actions q) ∙ ap (λ (t : Shape). actions t.frames) e)).falls m e
-    by false = tt
+    by false = ap (λ (t : Shape). t.turns) e
 
   -- calls
   called : (g : Given (Unit {0})) (m : Machine) → SpentWith g m s → (let came = go_on g (λ u. got here) m in FallsTo code s (settled code came.given came.machine))
-  called (Got u) m h = by_turns h
+  called (Got u) m h = by_turns h.turns h.deep
   called (Raises c) m h = raised_here code s r l there line_there calm resumes c m h
-  called (Ends x) m h = tt
+  called (Ends x) m h = h
 
   call_falls : (n : ℕ) → Done (call_from code n)
   call_falls n = record { falls = λ m e. called (call code n m).given (call code n m).machine ((call_spends code n).spends m s e) }
@@ -305,7 +315,7 @@ module _ (code : RawCode) (right : first_fault code ≡ None) where
   line_falls : (m : Machine) (r : RawRoutine) (l : CodeLine) → routine_at code m.running.routine ≡ Some r → line_at r m.running.line ≡ Some l → (b : Bool) → is_turn l.instruction ≡ b
       → FallsTo code (shape m) (settled code (done code r l.instruction m).given (done code r l.instruction m).machine)
   line_falls m r l e f true t =
-      subst (λ i. FallsTo code (shape m) (settled code (done code r i m).given (done code r i m).machine)) (sym (turn_only l.instruction t)) (turn_falls code (shape m) m.turns m refl)
+      subst (λ i. FallsTo code (shape m) (settled code (done code r i m).given (done code r i m).machine)) (sym (turn_only l.instruction t)) (turn_falls code (shape m) m.turns m refl refl)
   line_falls m r l e f false t =
       let g = routine_right code m.running.routine r right e in
       let rule = line_right code r m.running.line l g f in
@@ -320,6 +330,20 @@ module _ (code : RawCode) (right : first_fault code ≡ None) where
 
   -- ---- runs
 
+  -- there are fewer rows still than there were
+  pub row_less : (m n : Machine) → Sits code m → row code m ≡ More n → left code (shape n) < left code (shape m)
+  row_less m n h e = less_left code (shape m) (shape n) (subst (FallsTo code (shape m)) e (row_falls m h))
+
+  pub rows_less : (k : ℕ) (m n : Machine) → Sits code m → rows code k (More m) ≡ More n → left code (shape n) ≤ left code (shape m)
+  rows_less zero m n h e = let same : m ≡ n = cc in let left_same : left code (shape m) ≡ left code (shape n) = ap (λ (x : Machine). left code (shape x)) same in omega (arith, left_same)
+  rows_less (suc k) m n h e = next (row code m) (rows_less k) refl e where
+    next : (t : Turned) → ((p n : Machine) → Sits code p → rows code k (More p) ≡ More n → left code (shape n) ≤ left code (shape p)) → row code m ≡ t → rows code k t ≡ More n → left code (shape n) ≤ left code (shape m)
+    next (More p) on r f =
+        let less = row_less m p h r in
+        let more = on p n (subst (StaysRight code) r (row_right code right m h)) f in
+        omega (arith, less, more)
+    next (Over x p) on r f = let no : Over x p ≡ More n = sym (over_stays code k x p) ∙ f in absurd cc
+
   record EndsFrom (t : Turned) : Type 0 where
     count : ℕ
     end : End
@@ -330,32 +354,15 @@ module _ (code : RawCode) (right : first_fault code ≡ None) where
   one_row m (Over e last) q h = record { count = 1; end = e; last = last; leads = q }
   one_row m (More n) q h = let x = h n refl in record { count = suc x.count; end = x.end; last = x.last; leads = ap (rows code x.count) q ∙ x.leads }
 
-  -- from a machine that has less, whichever it is
-  less_end : (turns deep : ℕ) (m : Machine) → m.turns ≡ turns → depth (shape m) ≡ deep → ((n : Machine) → Sits code n → n.turns < turns → EndsFrom (More n)) → ((n : Machine) → Sits code n → n.turns ≡ turns → depth (shape n) < deep → EndsFrom (More n))
-      → ((n : Machine) → Sits code n → n.turns ≡ turns → depth (shape n) ≡ deep → lines code (shape n) < lines code (shape m) → EndsFrom (More n)) → (n : Machine) → Sits code n → Falls code (shape m) (shape n) → EndsFrom (More n)
-  less_end turns deep m t d f g h n s (by_turns a) = f n s (omega (arith, a, t))
-  less_end turns deep m t d f g h n s (by_depth a b) = g n s (a ∙ t) (omega (arith, b, d))
-  less_end turns deep m t d f g h n s (by_lines a b c) = h n s (a ∙ t) (b ∙ d) c
-
-  lines_end : (turns deep : ℕ) → ((n : Machine) → Sits code n → n.turns < turns → EndsFrom (More n)) → ((n : Machine) → Sits code n → n.turns ≡ turns → depth (shape n) < deep → EndsFrom (More n))
-      → (k : ℕ) (m : Machine) → Sits code m → m.turns ≡ turns → depth (shape m) ≡ deep → lines code (shape m) < k → EndsFrom (More m)
-  lines_end turns deep f g zero m h t d q = absurd (omega (arith, q))
-  lines_end turns deep f g (suc k) m h t d q =
+  ends_in : (k : ℕ) (m : Machine) → Sits code m → left code (shape m) < k → EndsFrom (More m)
+  ends_in zero m h q = absurd (omega (arith, q))
+  ends_in (suc k) m h q =
       one_row m (row code m) refl (λ n e.
-      less_end turns deep m t d f g (λ n s a b c. lines_end turns deep f g k n s a b (omega (arith, c, q))) n
-      (subst (StaysRight code) e (row_right code right m h)) (subst (FallsTo code (shape m)) e (row_falls m h)))
-
-  depth_end : (turns : ℕ) → ((n : Machine) → Sits code n → n.turns < turns → EndsFrom (More n)) → (deep : ℕ) (m : Machine) → Sits code m → m.turns ≡ turns → depth (shape m) < deep → EndsFrom (More m)
-  depth_end turns f zero m h t q = absurd (omega (arith, q))
-  depth_end turns f (suc deep) m h t q =
-      lines_end turns (depth (shape m)) f (λ n s a b. depth_end turns f deep n s a (omega (arith, b, q))) (suc (lines code (shape m))) m h t refl (omega arith)
-
-  turns_end : (turns : ℕ) (m : Machine) → Sits code m → m.turns < turns → EndsFrom (More m)
-  turns_end zero m h q = absurd (omega (arith, q))
-  turns_end (suc turns) m h q = depth_end m.turns (λ n s a. turns_end turns n s (omega (arith, a, q))) (suc (depth (shape m))) m h refl (omega arith)
+      let less = row_less m n h e in
+      ends_in k n (subst (StaysRight code) e (row_right code right m h)) (omega (arith, less, q)))
 
   right_ends : (t : Turned) → StaysRight code t → EndsFrom t
-  right_ends (More m) h = turns_end (suc m.turns) m h (omega arith)
+  right_ends (More m) h = ends_in (suc (left code (shape m))) m h (omega arith)
   right_ends (Over e last) h = record { count = 0; end = e; last = last; leads = refl }
 
   pub run_ends : (n : ℕ) (r : RawRoutine) → routine_at code n ≡ Some r → (args : List Datum) (tables : List Contents) (turns : ℕ) → length args ≡ length (taking r.parameters) → AreKept code.tables tables

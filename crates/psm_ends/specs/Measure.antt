@@ -1,5 +1,5 @@
 -- What falls from row to row of a run.
-use Rattle.std.specs.Prelude.{◌≡◌, ℕ, suc, ◌+◌, ◌-◌, ◌<◌, List, [], ◌∷◌, length, Option, Some, None, if◌then◌else◌}
+use Rattle.std.specs.Prelude.{◌≡◌, ℕ, suc, ◌+◌, ◌-◌, ◌*◌, ◌<◌, ◌≤◌, List, [], ◌∷◌, length, Option, Some, None, if◌then◌else◌}
 use Rattle.psm_code.specs.declared.code.RawCode.{RawCode}
 use Rattle.psm_code.specs.declared.code.RawRoutine.{RawRoutine}
 use Rattle.psm_code.specs.declared.lines.CodeLine.{CodeLine}
@@ -45,9 +45,20 @@ lines_in (Some r) at = lines_from r at (line_at r at)
 abbrev pub lines : RawCode → Shape → ℕ
 lines code s = lines_in (routine_at code s.routine) s.line
 
--- ---- the turns fall; or they stay and the depth falls; or both stay and the lines fall
+-- ---- the turns fall, and one activation or action more may run; or the turns stay and the depth falls; or both stay and the lines fall
 
 pub data Falls (code : RawCode) (s t : Shape) : Type 0 where
-  by_turns : t.turns < s.turns → Falls code s t
+  by_turns : t.turns < s.turns → depth t ≤ suc (depth s) → Falls code s t
   by_depth : t.turns ≡ s.turns → depth t < depth s → Falls code s t
   by_lines : t.turns ≡ s.turns → depth t ≡ depth s → lines code t < lines code s → Falls code s t
+
+-- ---- how many rows there may still be at most
+
+abbrev pub all_lines : List RawRoutine → ℕ
+all_lines [] = 0
+all_lines (r ∷ routines) = length r.lines + all_lines routines
+
+-- each activation and each action that runs goes over no more lines than the code has, and each turn that is left begins one more of them
+-- at most, or goes on in the same one
+abbrev pub left : RawCode → Shape → ℕ
+left code s = (s.turns + s.turns + depth s) * suc (all_lines code.routines) + lines code s
