@@ -11,6 +11,9 @@ use Rattle.psm_code.specs.Sits.{AreKept, Sits, StaysRight, is_due}
 use Rattle.psm_code.specs.State.{Machine, Turned, More, Over}
 use Rattle.psm_code.proofs.Ending.{rows-more}
 use Rattle.psm_code.proofs.Sound.{row_right, run_right}
+use Rattle.psm_ends.specs.Measure.{shape}
+use Rattle.psm_ends.proofs.Falling.{FallsTo}
+use Rattle.psm_ends.proofs.Rows.{row_falls}
 use Rattle.psm_unwind.specs.declared.ending.Ending.{Ending}
 use Rattle.psm_unwind.specs.declared.ending.Ending.TheVariants as ending
 use Rattle.psm_unwind.specs.declared.ending.Outcome.{Outcome}
@@ -18,7 +21,6 @@ use Rattle.psm_unwind.specs.declared.ending.Outcome.TheVariants as outcome
 use Rattle.psm_unwind.specs.View.{LeadsTo, end_of}
 use Rattle.psm_machine.specs.declared.running.Finished.{Finished}
 use Rattle.psm_machine.specs.Running.{Finishes, RunsTo, Takes, behind, leaves_tables, stays_behind}
-use Rattle.psm_machine.proofs.TurnsKept.{OverWith, row_over}
 
 more_of : (t : Turned) (now : Machine) → LeadsTo t outcome.More now → t ≡ More now
 more_of (More m) now h = ap More h
@@ -28,24 +30,25 @@ more_of (Over e m) now h = absurd h
 pub leads_more : (t : Turned) (o : Outcome) (now : Machine) → o ≡ outcome.More → LeadsTo t o now → t ≡ More now
 leads_more t o now e h = more_of t now (subst (λ (x : Outcome). LeadsTo t x now) e h)
 
-module _ (code : RawCode) (from : Turned) (f : Finished) (tables : List Contents) where
-  over_of : (k : ℕ) (m now : Machine) (t : Turned) → row code m ≡ t → rows code k from ≡ More m → m.turns ≡ f.turns → now.tables ≡ tables → LeadsTo t (outcome.Over f.ending) now → Finishes code from f tables
-  over_of k m now (More n) e r l q h = absurd h
-  over_of k m now (Over x n) e r l q h =
+module _ (code : RawCode) (right : first_fault code ≡ None) (from : Turned) (f : Finished) (tables : List Contents) where
+  over_of : (k : ℕ) (m now : Machine) (t : Turned) → Sits code m → row code m ≡ t → rows code k from ≡ More m → m.turns ≡ f.turns → now.tables ≡ tables → LeadsTo t (outcome.Over f.ending) now → Finishes code from f tables
+  over_of k m now (More n) s e r l q h = absurd h
+  over_of k m now (Over x n) s e r l q h =
       let one : suc k ≡ k + 1 = omega arith in
       record {
         count = suc k;
         last = n;
         leads = ap (λ j. rows code j from) one ∙ rows-more code k 1 from ∙ ap (row_on code) r ∙ e ∙ ap (λ y. Over y n) h.0;
-        left = sym (subst (λ y. OverWith y m.turns) e (row_over code m) ∙ l);
+        left = sym (subst (FallsTo code (shape m)) e (row_falls code right m s) ∙ l);
         tables_left = h.1 ∙ q;
       }
 
   -- a row that is the last one
-  pub finishes_over : (k : ℕ) (m now : Machine) (o : Outcome) → rows code k from ≡ More m → o ≡ outcome.Over f.ending → m.turns ≡ f.turns → now.tables ≡ tables → LeadsTo (row code m) o now → Finishes code from f tables
-  finishes_over k m now o r e l q h = over_of k m now (row code m) refl r l q (subst (λ (x : Outcome). LeadsTo (row code m) x now) e h)
+  pub finishes_over : (k : ℕ) (m now : Machine) (o : Outcome) → Sits code m → rows code k from ≡ More m → o ≡ outcome.Over f.ending → m.turns ≡ f.turns → now.tables ≡ tables → LeadsTo (row code m) o now → Finishes code from f tables
+  finishes_over k m now o s r e l q h = over_of k m now (row code m) s refl r l q (subst (λ (x : Outcome). LeadsTo (row code m) x now) e h)
 
-  -- a run that is over before its first row
+-- a run that is over before its first row
+module _ (code : RawCode) (from : Turned) (f : Finished) (tables : List Contents) where
   pub finishes_at_once : (last : Machine) → from ≡ Over (end_of f.ending) last → last.turns ≡ f.turns → last.tables ≡ tables → Finishes code from f tables
   finishes_at_once last e l q = record {
     count = 1;

@@ -23,5 +23,3 @@ pub mod Spending
 pub mod Standing
 pub mod Starting
 pub mod Staying
-pub mod TurnsKept
-pub mod TurnsSpared

@@ -1,5 +1,5 @@
 -- Rows by their instructions, and a run that goes on by some of them.
-use Rattle.std.proofs.Common.{◌≡◌, ℕ, ◌+◌, refl, ap, sym, subst, ◌∙◌, None, Some, Option, option_map, Result, Ok, Err, IfOk, IsErrAnd, true}
+use Rattle.std.proofs.Common.{◌≡◌, ℕ, ◌+◌, ◌<◌, refl, ap, sym, subst, ◌∙◌, None, Some, Option, option_map, Result, Ok, Err, IfOk, IsErrAnd, true, arith}
 use Rattle.std.specs.declared.alloc.AllocError.{AllocError}
 use Rattle.psm_exprcode.specs.declared.op.Op.{Op}
 use Rattle.psm_code.specs.declared.code.RawCode.{RawCode}
@@ -13,6 +13,8 @@ use Rattle.psm_code.specs.RoutineRules.{first_fault}
 use Rattle.psm_code.specs.Sits.{Sits}
 use Rattle.psm_code.specs.State.{Machine, More, Turned}
 use Rattle.psm_code.specs.Steps.{Came}
+use Rattle.psm_ends.specs.Measure.{left, shape}
+use Rattle.psm_ends.proofs.Rows.{row_less, rows_less}
 use Rattle.psm_unwind.specs.declared.ending.Outcome.{Outcome}
 use Rattle.psm_unwind.specs.declared.ending.Outcome.TheVariants as outcome
 use Rattle.psm_unwind.specs.View.{LeadsTo}
@@ -24,7 +26,7 @@ use Rattle.psm_code.proofs.Ending.{rows-more}
 use Rattle.psm_code.proofs.Sound.{rows_right}
 use Rattle.psm_code.specs.Sits.{StaysRight}
 use Rattle.psm_machine.proofs.Dropping.{settled_ok}
-use Rattle.psm_machine.proofs.Finishing.{leads_more}
+use Rattle.psm_machine.proofs.Finishing.{goes_further, leads_more}
 
 line_row : (code : RawCode) (r : RawRoutine) (m : Machine) (l : Option CodeLine) (i : Instruction) → Some i ≡ option_map (λ (l : CodeLine). l.instruction) l → line_done code r l m ≡ settled code (done code r i m).given (done code r i m).machine
 line_row code r m None i e = absurd cc
@@ -38,10 +40,12 @@ pub done_row : (code : RawCode) (m : Machine) (r : RawRoutine) (i : Instruction)
 done_row code m r i e f = ap (λ x. routine_done code x m) e ∙ line_row code r m (line_at r m.running.line) i f
 
 -- an instruction that is done, behind which another one comes
-pub done_more : (code : RawCode) (m now : Machine) (came : Came Way) (res : Result Outcome Stop) → row code m ≡ settled code came.given came.machine → res ≡ Ok outcome.More → Turns came res now → row code m ≡ More now
-done_more code m now came res e f h =
+pub done_more : (code : RawCode) (m now : Machine) (r : RawRoutine) (i : Instruction) (res : Result (Unit {0}) Stop) (u : Unit {0}) → routine_at code m.running.routine ≡ Some r → Some i ≡ option_map (λ (l : CodeLine). l.instruction) (line_at r m.running.line)
+    → res ≡ Ok u → Turns (done code r i m) (goes_more res) now → row code m ≡ More now
+done_more code m now r i res u e f o h =
+    let came = done code r i m in
     leads_more (row code m) outcome.More now refl
-    (subst (λ t. LeadsTo t outcome.More now) (sym e) (settled_ok code came outcome.More now (subst (λ r. Turns came r now) f h)))
+    (subst (λ t. LeadsTo t outcome.More now) (sym (done_row code m r i e f)) (settled_ok code came outcome.More now (subst (λ r. Turns came (goes_more r) now) o h)))
 
 -- ---- an answer that says only whether it is done
 
@@ -73,3 +77,14 @@ onward code from m last k n e f = rows-more code k n from ∙ ap (rows code n) e
 
 pub sits_there : (code : RawCode) → first_fault code ≡ None → (m last : Machine) (n : ℕ) → Sits code m → rows code n (More m) ≡ More last → Sits code last
 sits_there code right m last n h e = subst (StaysRight code) e (rows_right code right n (More m) h)
+
+-- ---- some rows, and one more that goes on
+
+pub advance_leads : (code : RawCode) (m now : Machine) (a : Advances code m None now) → rows code (a.count + 1) (More m) ≡ More now
+advance_leads code m now a = goes_further code (More m) a.count a.last now a.leads (leads_more (row code a.last) outcome.More now refl a.next)
+
+pub advance_less : (code : RawCode) → first_fault code ≡ None → (m now : Machine) → Sits code m → Advances code m None now → left code (shape now) < left code (shape m)
+advance_less code right m now h a =
+    let most = rows_less code right a.count m a.last h a.leads in
+    let less = row_less code right a.last now (sits_there code right m a.last a.count h a.leads) (leads_more (row code a.last) outcome.More now refl a.next) in
+    omega (arith, most, less)

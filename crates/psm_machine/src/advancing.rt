@@ -47,10 +47,7 @@ pub fn advance<S: Store>(
     let Some(routine) = routine_at(code, run.running.routine) else {
         return one_more(alloc, code, run, store);
     };
-    'common: for _ in 0..u32::MAX {
-        let Some(instruction) = routine.lines.instruction(run.running.line) else {
-            break;
-        };
+    'common: while let Some(instruction) = routine.lines.instruction(run.running.line) {
         if !is_common(instruction) {
             break;
         }

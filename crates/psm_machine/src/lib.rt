@@ -46,7 +46,7 @@ pub use plans::change;
 pub use putting::put_rows;
 pub use queries::{exists, scalar, select_row};
 pub use returning::{no_case, no_return, returned};
-pub use running::{Beginning, Finished, put_back, run, start};
+pub use running::{Beginning, Finished, run, start};
 pub use settling::settle;
 pub use signalling::{resignal, resignal_condition, resignal_message, signal, signal_message};
 pub use soundness::right_code_is_sound;

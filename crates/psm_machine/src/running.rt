@@ -4,7 +4,7 @@ ghost use Rattle.psm_value.specs.SqlType.{IsType};
 ghost use Rattle.psm_cond.specs.Sound.{is_numbered};
 ghost use Rattle.psm_table.specs.Table.{Contents};
 ghost use Rattle.psm_store.specs.declared.store.Mark.{Mark as MarkValue};
-ghost use Rattle.psm_store.specs.Marks.{AnyMark, IsOutside, Keeps};
+ghost use Rattle.psm_store.specs.Marks.{AnyMark, Keeps};
 ghost use Rattle.psm_code.specs.Calling.{started};
 ghost use Rattle.psm_code.specs.Parts.{slots_of};
 ghost use Rattle.psm_code.specs.RoutineRules.{first_fault};
@@ -22,12 +22,10 @@ use psm_code::RawCode;
 use psm_cond::Area;
 use psm_list::Boxed;
 use psm_operands::OperandStack;
-use psm_store::{Mark, Steps, Store};
+use psm_store::{Store, put_back};
 use psm_unwind::{Activation, Ending, Run, routine_at};
 use psm_value::Datum;
 use std::alloc::{AllocError, Global};
-use std::marker::Brand;
-use std::sync::ledger::{Blank, Ledger};
 
 /// How a run begins.
 #[derive(Debug, Drop)]
@@ -112,7 +110,8 @@ fn first(
 /// that the store held stay. The code has to break no rule, with handlers that 32 bits are enough to number, and the tables have to be
 /// those of the code.
 ///
-/// Memory may count as run out where a run isn't over after 2 ^ 64 - 1 instructions.
+/// It ends, whatever the code does: at each instruction that goes on, the turns that are left fall; or else the number of running
+/// activations and actions; or else the number of lines to the end of the routine.
 pub fn run<S: Store>(
     alloc: Global,
     code: &RawCode,
@@ -162,31 +161,6 @@ fn leaves_tables(finished: &Result<Finished, AllocError>) -> bool
     }
 }
 
-/// Puts the tables back to what a mark stands for, and closes it. Marks outside it stay.
-pub fn put_back<S: Store>(store: &mut S, mark: Mark)
-    requires held { S.holds store.old mark }
-    ensures tables { S.tables store.new ≡ S.at store.old mark }
-    ensures marks { S.marks store.new ≡ mark.depth }
-    ensures keeps { Keeps (IsOutside mark) (S.holds store.old) (S.at store.old) (S.holds store.new) (S.at store.new) }
-{
-    put_back_in::<S, Brand>(store, mark, Blank::new(1));
-}
-
-// The same, where the steps aren't counted.
-fn put_back_in<S: Store, L: Ledger>(store: &mut S, mark: Mark, blank: Blank)
-    requires name { blank.name ≡ L.name }
-    requires parts { blank.parts ≡ L.parts }
-    requires some { 0 < blank.parts }
-    requires held { S.holds store.old mark }
-    ensures tables { S.tables store.new ≡ S.at store.old mark }
-    ensures marks { S.marks store.new ≡ mark.depth }
-    ensures keeps { Keeps (IsOutside mark) (S.holds store.old) (S.at store.old) (S.holds store.new) (S.at store.new) }
-{
-    let mut steps: Steps<L> = Steps::open(blank);
-    store.rollback(mark, &mut steps);
-    store.release(mark);
-}
-
 // Runs a routine in a store that has no more than so many marks.
 fn run_behind<S: Store>(
     alloc: Global,
@@ -212,7 +186,7 @@ fn run_behind<S: Store>(
     }
 }
 
-// One instruction after another, to the end.
+// One instruction after another, to the end. Each that goes on leaves fewer that there may still be.
 fn go_through<S: Store>(
     alloc: Global,
     code: &RawCode,
@@ -227,10 +201,9 @@ fn go_through<S: Store>(
     ensures around { StayAround (S.holds store.old) (S.at store.old) run (S.holds store.new) (S.at store.new) }
 {
     let mut run = run;
-    'rows: for _ in 0..u64::MAX {
+    'rows: loop {
         if let Some(finished) = advance(alloc, code, &mut run, store)? {
             return Ok(finished);
         }
     }
-    Err(AllocError)
 }

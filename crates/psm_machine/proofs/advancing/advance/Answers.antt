@@ -5,8 +5,8 @@ use Rattle.psm_code.specs.declared.code.RawRoutine.{RawRoutine}
 use Rattle.psm_code.specs.Parts.{routine_at, slots_of}
 use Rattle.psm_code.specs.Rows.{done, row}
 use Rattle.psm_code.specs.State.{More}
+use Rattle.psm_ends.proofs.Rows.{row_less}
 use Rattle.psm_unwind.specs.View.{LeadsTo, machine_of}
-use Rattle.psm_machine.specs.Going.{goes_more}
 use Rattle.psm_machine.specs.Running.{Advances}
 use Rattle.psm_machine.proofs.Comings.{one_of, same_then}
 use Rattle.psm_machine.proofs.Finishing.{goes_further, sits_further}
@@ -15,15 +15,23 @@ use Rattle.psm_machine.proofs.Onward.{advances, after_row, done_more, done_row}
 use Rattle.psm_machine.proofs.RightCode.{handlers_right, slots_right}
 use Rattle.psm_machine.proofs.advancing.advance.Goals as goal
 
+pub common-init : goal.common-init
+common-init g c = record {
+  before = (0, refl);
+  sits = c.requires.sits;
+  same = record { frames = refl; callers = refl; bound = refl };
+  routine = sym c.routine_at.ensures ∙ ap option_copied c.in-Some.is;
+  store = refl;
+}
+
 pub follow-requires-clause-types : goal.follow-requires-clause-types
 follow-requires-clause-types g c =
-    one_of (λ (r : RawRoutine). All IsType (slots_of r)) c.args.code.now.routines c.args.run.now.running.routine c.in-Some.routine.now (slots_right c.args.code.now c.requires.right) (sym c.routine_at.ensures ∙ ap option_copied c.in-Some.is)
+    one_of (λ (r : RawRoutine). All IsType (slots_of r)) c.args.code.now.routines c.common.run.running.routine c.in-Some.routine.now (slots_right c.args.code.now c.requires.right) c.common.invariant.routine
 
 pub follow-requires-clause-needs : goal.follow-requires-clause-needs
 follow-requires-clause-needs g c =
     let m = machine_of (g.S.Store.tables c.common.store) (g.S.Store.at c.common.store) c.common.run in
-    let there : routine_at c.args.code.now c.common.run.running.routine ≡ Some c.in-Some.routine.now = ap (routine_at c.args.code.now) c.common.invariant.routine ∙ sym c.routine_at.ensures ∙ ap option_copied c.in-Some.is in
-    needs_right c.args.code.now c.requires.right m c.common.invariant.sits c.in-Some.routine.now c.in-Some-instruction.instruction.now there (sym (ap option_copied c.in-Some-instruction.is) ∙ c.instruction.ensures.instruction)
+    needs_right c.args.code.now c.requires.right m c.common.invariant.sits c.in-Some.routine.now c.in-Some-instruction.instruction.now c.common.invariant.routine (sym (ap option_copied c.in-Some-instruction.is) ∙ c.instruction.ensures.instruction)
 
 pub settle-requires-clause-sound : goal.settle-requires-clause-sound
 settle-requires-clause-sound g c = handlers_right c.args.code.now c.requires.right c.requires.numbered
@@ -35,13 +43,21 @@ returns-in-Err-clause-due g c =
     let at = g.S.Store.at c.common.store in
     let m = machine_of tables at c.common.run in
     let now = machine_of (g.S.Store.tables c.settle.new.store) (g.S.Store.at c.settle.new.store) c.settle.new.run in
-    let there : routine_at code c.common.run.running.routine ≡ Some c.in-Some.routine.now = ap (routine_at code) c.common.invariant.routine ∙ sym c.routine_at.ensures ∙ ap option_copied c.in-Some.is in
-    let is = done_row code m c.in-Some.routine.now c.in-Some-instruction.instruction.now there (sym (ap option_copied c.in-Some-instruction.is) ∙ c.instruction.ensures.instruction) in
+    let is = done_row code m c.in-Some.routine.now c.in-Some-instruction.instruction.now c.common.invariant.routine (sym (ap option_copied c.in-Some-instruction.is) ∙ c.instruction.ensures.instruction) in
     let came = done code c.in-Some.routine.now c.in-Some-instruction.instruction.now m in
     let leads : LeadsTo (row code m) c.in_ok-outcome.outcome now = subst (λ t. LeadsTo t c.in_ok-outcome.outcome now) (sym is) (c.in_ok-outcome.ensures.due came (c.in-Err.ensures.due code tables at)) in
     subst (λ s. Advances code (machine_of (g.S.Store.tables s) (g.S.Store.at s) c.args.run.now) c.ended_by.result now) c.common.invariant.store
     (subst (λ f. Advances code (machine_of tables at c.args.run.now) f now) (sym c.ended_by.ensures)
     (advances code (machine_of tables at c.args.run.now) m now c.common.invariant.before.0 (Ok _) c.common.invariant.before.1 (after_row (row code m) c.in_ok-outcome.outcome m now c.common.run.turns refl leads)))
+
+pub common-smaller : goal.common-smaller
+common-smaller g c =
+    let code = c.args.code.now in
+    let tables = g.S.Store.tables c.common.store in
+    let at = g.S.Store.at c.common.store in
+    row_less code c.requires.right (machine_of tables at c.common.run) (machine_of tables at c.follow.new.run) c.common.invariant.sits
+    (done_more code (machine_of tables at c.common.run) (machine_of tables at c.follow.new.run) c.in-Some.routine.now c.in-Some-instruction.instruction.now c.follow.result _ c.common.invariant.routine
+    (sym (ap option_copied c.in-Some-instruction.is) ∙ c.instruction.ensures.instruction) c.in_default-follow.is (c.follow.ensures.due code tables at))
 
 pub common-preserved : goal.common-preserved
 common-preserved g c =
@@ -50,14 +66,14 @@ common-preserved g c =
     let at = g.S.Store.at c.common.store in
     let m = machine_of tables at c.common.run in
     let now = machine_of tables at c.follow.new.run in
-    let there : routine_at code c.common.run.running.routine ≡ Some c.in-Some.routine.now = ap (routine_at code) c.common.invariant.routine ∙ sym c.routine_at.ensures ∙ ap option_copied c.in-Some.is in
-    let is = done_row code m c.in-Some.routine.now c.in-Some-instruction.instruction.now there (sym (ap option_copied c.in-Some-instruction.is) ∙ c.instruction.ensures.instruction) in
-    let more : row code m ≡ More now = done_more code m now (done code c.in-Some.routine.now c.in-Some-instruction.instruction.now m) (goes_more c.follow.result) is (ap goes_more c.in_default-follow.is) (c.follow.ensures.due code tables at) in
+    let more : row code m ≡ More now =
+    done_more code m now c.in-Some.routine.now c.in-Some-instruction.instruction.now c.follow.result _ c.common.invariant.routine
+    (sym (ap option_copied c.in-Some-instruction.is) ∙ c.instruction.ensures.instruction) c.in_default-follow.is (c.follow.ensures.due code tables at) in
     record {
       before = (c.common.invariant.before.0 + 1, goes_further code (More (machine_of tables at c.args.run.now)) c.common.invariant.before.0 m now c.common.invariant.before.1 more);
       sits = sits_further code c.requires.right m now c.common.invariant.sits more;
       same = same_then c.args.run.now c.common.run c.follow.new.run c.common.invariant.same c.follow.ensures.same;
-      routine = c.follow.ensures.routine ∙ c.common.invariant.routine;
+      routine = ap (routine_at code) c.follow.ensures.routine ∙ c.common.invariant.routine;
       store = c.common.invariant.store;
     }
 

@@ -1,7 +1,9 @@
-use Rattle.std.proofs.Common.{◌≡◌, ℕ}
+use Rattle.std.proofs.Common.{◌≡◌, ℕ, Some}
+use Rattle.psm_code.specs.Parts.{routine_at}
 use Rattle.psm_code.specs.Rows.{rows}
 use Rattle.psm_code.specs.Sits.{Sits}
 use Rattle.psm_code.specs.State.{More}
+use Rattle.psm_ends.specs.Measure.{left, shape}
 use Rattle.psm_unwind.specs.Marks.{SameFrames}
 use Rattle.psm_unwind.specs.View.{machine_of}
 use Rattle.psm_machine.proofs.advancing.advance.Given as goal
@@ -11,6 +13,9 @@ invariant-common g l = record {
   before : (k : ℕ) × (rows l.code k (More (machine_of (g.S.Store.tables l.store) (g.S.Store.at l.store) l.initial.run)) ≡ More (machine_of (g.S.Store.tables l.store) (g.S.Store.at l.store) l.run));
   sits : Sits l.code (machine_of (g.S.Store.tables l.store) (g.S.Store.at l.store) l.run);
   same : SameFrames l.initial.run l.run;
-  routine : l.run.running.routine ≡ l.initial.run.running.routine;
+  routine : routine_at l.code l.run.running.routine ≡ Some l.routine;
   store : l.store ≡ l.initial.store;
 }
+
+abbrev pub decreases-common : goal.decreases-common
+decreases-common g l = left l.code (shape (machine_of (g.S.Store.tables l.store) (g.S.Store.at l.store) l.run))

@@ -1,11 +1,11 @@
-use Rattle.std.proofs.Common.{refl, subst, sym, ◌+◌}
+use Rattle.std.proofs.Common.{None, refl, subst, sym, ◌+◌}
 use Rattle.psm_code.specs.Rows.{row}
 use Rattle.psm_code.specs.State.{Machine, More}
 use Rattle.psm_unwind.specs.declared.ending.Outcome.TheVariants as outcome
 use Rattle.psm_unwind.specs.View.{machine_of}
-use Rattle.psm_machine.specs.Running.{AfterRow}
-use Rattle.psm_machine.proofs.Finishing.{finishes_over, goes_further, leads_more, sits_further}
-use Rattle.psm_machine.proofs.Onward.{onward, sits_there}
+use Rattle.psm_machine.specs.Running.{Advances, AfterRow}
+use Rattle.psm_machine.proofs.Finishing.{finishes_over}
+use Rattle.psm_machine.proofs.Onward.{advance_leads, advance_less, onward, sits_there}
 use Rattle.psm_machine.proofs.Standing.{still_same, still_then}
 use Rattle.psm_machine.proofs.running.go_through.Goals as goal
 
@@ -17,17 +17,24 @@ rows-init g c = record {
   still = still_same (g.S.Store.holds c.args.store.now) (g.S.Store.at c.args.store.now) (g.S.Store.marks c.args.store.now) c.args.run c.args.run (record { frames = refl; callers = refl; bound = refl });
 }
 
+pub rows-smaller : goal.rows-smaller
+rows-smaller g c =
+    let code = c.args.code.now in
+    let m : Machine = machine_of (g.S.Store.tables c.rows.store) (g.S.Store.at c.rows.store) c.rows.run in
+    let now : Machine = machine_of (g.S.Store.tables c.advance.new.store) (g.S.Store.at c.advance.new.store) c.advance.new.run in
+    advance_less code c.requires.right m now c.rows.invariant.sits (subst (λ f. Advances code m f now) c.in_default.is c.in_ok-finished.ensures.due)
+
 pub rows-preserved : goal.rows-preserved
 rows-preserved g c =
     let code = c.args.code.now in
     let from = More (machine_of (g.S.Store.tables c.args.store.now) (g.S.Store.at c.args.store.now) c.args.run) in
     let m : Machine = machine_of (g.S.Store.tables c.rows.store) (g.S.Store.at c.rows.store) c.rows.run in
     let now : Machine = machine_of (g.S.Store.tables c.advance.new.store) (g.S.Store.at c.advance.new.store) c.advance.new.run in
-    let a = c.in_ok-finished.ensures.due in
-    let more = leads_more (row code a.last) outcome.More now refl (subst (λ f. AfterRow (row code a.last) f a.last now) c.in_default.is a.next) in
+    let a : Advances code m None now = subst (λ f. Advances code m f now) c.in_default.is c.in_ok-finished.ensures.due in
+    let leads = advance_leads code m now a in
     record {
-      before = (c.rows.invariant.before.0 + a.count + 1, goes_further code from (c.rows.invariant.before.0 + a.count) a.last now (onward code from m a.last c.rows.invariant.before.0 a.count c.rows.invariant.before.1 a.leads) more);
-      sits = sits_further code c.requires.right a.last now (sits_there code c.requires.right m a.last a.count c.rows.invariant.sits a.leads) more;
+      before = (c.rows.invariant.before.0 + (a.count + 1), onward code from m now c.rows.invariant.before.0 (a.count + 1) c.rows.invariant.before.1 leads);
+      sits = sits_there code c.requires.right m now (a.count + 1) c.rows.invariant.sits leads;
       stand = c.advance.ensures.still.stand c.rows.invariant.stand;
       still =
           still_then (g.S.Store.holds c.args.store.now) (g.S.Store.at c.args.store.now) (g.S.Store.marks c.args.store.now) c.args.run
@@ -44,5 +51,6 @@ returns-in-Some-clause-due g c =
     let now : Machine = machine_of (g.S.Store.tables c.advance.new.store) (g.S.Store.at c.advance.new.store) c.advance.new.run in
     let a = c.in_ok-finished.ensures.due in
     let last = subst (λ f. AfterRow (row code a.last) f a.last now) c.in-Some.is a.next in
-    finishes_over code from c.in-Some.finished (g.S.Store.tables c.advance.new.store) (c.rows.invariant.before.0 + a.count) a.last now (outcome.Over c.in-Some.finished.ending)
+    finishes_over code c.requires.right from c.in-Some.finished (g.S.Store.tables c.advance.new.store) (c.rows.invariant.before.0 + a.count) a.last now (outcome.Over c.in-Some.finished.ending)
+    (sits_there code c.requires.right m a.last a.count c.rows.invariant.sits a.leads)
     (onward code from m a.last c.rows.invariant.before.0 a.count c.rows.invariant.before.1 a.leads) refl (sym last.1) refl last.0

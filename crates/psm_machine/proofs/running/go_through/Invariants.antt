@@ -2,6 +2,7 @@ use Rattle.std.proofs.Common.{◌≡◌, ℕ}
 use Rattle.psm_code.specs.Rows.{rows}
 use Rattle.psm_code.specs.Sits.{Sits}
 use Rattle.psm_code.specs.State.{More}
+use Rattle.psm_ends.specs.Measure.{left, shape}
 use Rattle.psm_unwind.specs.Marks.{MarksStand}
 use Rattle.psm_unwind.specs.View.{machine_of}
 use Rattle.psm_machine.specs.Going.{StandStill}
@@ -14,3 +15,6 @@ invariant-rows g l = record {
   stand : MarksStand (g.S.Store.holds l.store) (g.S.Store.marks l.store) l.run;
   still : StandStill (g.S.Store.holds l.initial.store) (g.S.Store.at l.initial.store) (g.S.Store.marks l.initial.store) l.initial.run (g.S.Store.holds l.store) (g.S.Store.at l.store) (g.S.Store.marks l.store) l.run;
 }
+
+abbrev pub decreases-rows : goal.decreases-rows
+decreases-rows g l = left l.code (shape (machine_of (g.S.Store.tables l.store) (g.S.Store.at l.store) l.run))
