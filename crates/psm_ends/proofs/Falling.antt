@@ -29,6 +29,10 @@ abbrev pub FallsTo : RawCode → Shape → Turned → Type 0
 FallsTo code s (More n) = Falls code s (shape n)
 FallsTo code s (Over e n) = n.turns ≡ s.turns
 
+-- where the shape stays, so do the turns
+pub turns_of : {s t : Shape} → s ≡ t → s.turns ≡ t.turns
+turns_of e = ap (λ (x : Shape). x.turns) e
+
 -- ---- lines
 
 pub from_most : (r : RawRoutine) (at : ℕ) (o : Option CodeLine) → lines_from r at o ≤ length r.lines - at
@@ -61,16 +65,18 @@ turn_used code s (suc n) go m e t d h =
     let most = one.most in
     by_turns (omega (arith, e, turns)) (omega (arith, most, d))
 
-frames_turns : (r : RawRoutine) (undo : Bool) (frames : List Frame) (m : Machine) → shape (frames_left r undo frames m) ≡ shape m
-frames_turns r undo [] m = refl
-frames_turns r undo (InBlock k found ∷ frames) m = frames_turns r undo frames (frame_left r undo (InBlock k found) m)
-frames_turns r undo (InAction n resume area ∷ frames) m = frames_turns r undo frames m
+-- frames that are left change cursors and tables, which are no part of the shape
+frames_keep_shape : (r : RawRoutine) (undo : Bool) (frames : List Frame) (m : Machine) → shape (frames_left r undo frames m) ≡ shape m
+frames_keep_shape r undo [] m = refl
+frames_keep_shape r undo (InBlock k found ∷ frames) m = frames_keep_shape r undo frames (frame_left r undo (InBlock k found) m)
+frames_keep_shape r undo (InAction n resume area ∷ frames) m = frames_keep_shape r undo frames m
 
--- the frames from that of a block on are no more than all
+-- outside of a frame there are no more than with it
 outside_fewer : (f : Frame) (frames : List Frame) → actions frames ≤ actions (f ∷ frames)
 outside_fewer (InBlock j found) frames = omega arith
 outside_fewer (InAction n resume area) frames = omega arith
 
+-- the frames from that of a block on are no more than all
 from_fewer : (k : ℕ) (frames : List Frame) → actions (frames_from k frames) ≤ actions frames
 from_fewer k [] = omega arith
 from_fewer k (f ∷ frames) = by (is_block k f) (from_fewer k frames) where
@@ -87,10 +93,10 @@ record NoMore (m l : Machine) : Type 0 where
 arrived_fewer : (r : RawRoutine) (undo : Bool) (h : Handler) (m : Machine) → NoMore m (arrived r undo h m)
 arrived_fewer r undo h m =
     let l = frames_left r undo (frames_inside h.context m.running.frames) m in
-    let same = frames_turns r undo (frames_inside h.context m.running.frames) m in
+    let same = frames_keep_shape r undo (frames_inside h.context m.running.frames) m in
     let as_many : actions l.running.frames ≡ actions m.running.frames = ap (λ (t : Shape). actions t.frames) same in
     let fewer = from_fewer h.context l.running.frames in
-    record { turns = ap (λ (t : Shape). t.turns) same; frames = omega (arith, fewer, as_many); callers = ap (λ (t : Shape). running t.callers) same }
+    record { turns = turns_of same; frames = omega (arith, fewer, as_many); callers = ap (λ (t : Shape). running t.callers) same }
 
 acting_more : (n : ℕ) (resume : Option ℕ) (h : Handler) (m l : Machine) → NoMore m l → OneMore m (acting n resume h l)
 acting_more n resume h m l f = record { turns = f.turns; most = let frames = f.frames in let callers = f.callers in omega (arith, frames, callers) }
@@ -118,7 +124,7 @@ module _ (code : RawCode) (s : Shape) (outside : Machine → Turned) (r : RawRou
   passed_deeper (Some line) m d = by_depth d.turns d.less
 
   left_deeper : (b : Bool) (o : Option ℕ) (m : Machine) → Deeper s m → ((n : Machine) → shape n ≡ shape m → FallsTo code s (outside n)) → FallsTo code s (if b then outside (frames_left r true m.running.frames m) else passed_over o m)
-  left_deeper true o m d h = h (frames_left r true m.running.frames m) (frames_turns r true m.running.frames m)
+  left_deeper true o m d h = h (frames_left r true m.running.frames m) (frames_keep_shape r true m.running.frames m)
   left_deeper false o m d h = passed_deeper o m d
 
   met_deeper : (l : CodeLine) (o : Option ℕ) (m : Machine) → Deeper s m → ((n : Machine) → shape n ≡ shape m → FallsTo code s (outside n)) → FallsTo code s (met r l c o outside m)
@@ -140,11 +146,11 @@ caller_less s n a callers t e h =
     record { turns = t; less = omega (arith, h, same) }
 
 raised_deeper : (code : RawCode) (s : Shape) (c : Entries) (callers : List Activation) (m : Machine) → m.callers ≡ callers → Deeper s m → FallsTo code s (raised_in code c callers m)
-raised_deeper code s c [] m e d = asked_deeper code s (λ n. Over (Raised (by_state c)) n) (routine_at code m.running.routine) c m d (λ n q. ap (λ (t : Shape). t.turns) q ∙ d.turns)
+raised_deeper code s c [] m e d = asked_deeper code s (λ n. Over (Raised (by_state c)) n) (routine_at code m.running.routine) c m d (λ n q. turns_of q ∙ d.turns)
 raised_deeper code s c (a ∷ callers) m e d =
     asked_deeper code s (λ n. raised_in code (by_state c) callers (record n { running = a; callers = callers })) (routine_at code m.running.routine) c m d
     (λ n q. raised_deeper code s (by_state c) callers (record n { running = a; callers = callers }) refl
-    (caller_less s n a callers (ap (λ (t : Shape). t.turns) q ∙ d.turns) (ap (λ (t : Shape). t.callers) q ∙ e) (let less = d.less in let same : depth (shape n) ≡ depth (shape m) = ap depth q in omega (arith, less, same))))
+    (caller_less s n a callers (turns_of q ∙ d.turns) (ap (λ (t : Shape). t.callers) q ∙ e) (let less = d.less in let same : depth (shape n) ≡ depth (shape m) = ap depth q in omega (arith, less, same))))
 
 -- ---- at a line of the activation that runs
 
@@ -156,7 +162,7 @@ pub record Like (s : Shape) (m : Machine) : Type 0 where
   pub deep : depth (shape m) ≡ depth s
 
 pub like : {s : Shape} {m : Machine} → shape m ≡ s → Like s m
-like e = record { turns = ap (λ (t : Shape). t.turns) e; routine = ap (λ (t : Shape). t.routine) e; line = ap (λ (t : Shape). t.line) e; deep = ap depth e }
+like e = record { turns = turns_of e; routine = ap (λ (t : Shape). t.routine) e; line = ap (λ (t : Shape). t.line) e; deep = ap depth e }
 
 module _ (code : RawCode) (s : Shape) (r : RawRoutine) (l : CodeLine) (there : routine_at code s.routine ≡ Some r) (here : line_at r s.line ≡ Some l) (calm : is_turn l.instruction ≡ false) where
   -- so many lines are left
@@ -188,18 +194,18 @@ module _ (code : RawCode) (s : Shape) (r : RawRoutine) (l : CodeLine) (there : r
 
   module _ (resumes : where_there l.resume (is_resume r s.line l) ≡ true) where
     passed_here : (o : Option ℕ) → where_there o (is_resume r s.line l) ≡ true → (m : Machine) → shape m ≡ s → FallsTo code s (passed_over o m)
-    passed_here None q m e = ap (λ (t : Shape). t.turns) e
+    passed_here None q m e = turns_of e
     passed_here (Some p) q m e =
         let far : nat_lt s.line p ≡ true = and_first (nat_lt s.line p) _ q in
         goes_to p m (like e) (ap (λ b. b || where_there (line_at r p) (λ l. is_turn l.instruction)) far)
 
     module _ (c : Entries) (outside : Machine → Turned) (h : (n : Machine) → shape n ≡ s → FallsTo code s (outside n)) where
       left_here : (b : Bool) (m : Machine) → shape m ≡ s → FallsTo code s (if b then outside (frames_left r true m.running.frames m) else passed_over l.resume m)
-      left_here true m e = h (frames_left r true m.running.frames m) (frames_turns r true m.running.frames m ∙ e)
+      left_here true m e = h (frames_left r true m.running.frames m) (frames_keep_shape r true m.running.frames m ∙ e)
       left_here false m e = passed_here l.resume resumes m e
 
       met_here : (o : Option ℕ) (m : Machine) → shape m ≡ s → FallsTo code s (met r l c o outside m)
-      met_here (Some n) m e = chosen_falls code s r (is_exception (kind_of c.first.state)) l.resume n (handler_at r n) m (ap (λ (t : Shape). t.turns) e) (let same : depth (shape m) ≡ depth s = ap depth e in omega (arith, same))
+      met_here (Some n) m e = chosen_falls code s r (is_exception (kind_of c.first.state)) l.resume n (handler_at r n) m (turns_of e) (let same : depth (shape m) ≡ depth s = ap depth e in omega (arith, same))
       met_here None m e = left_here (is_exception (kind_of c.first.state)) m e
 
       asked_here : (m : Machine) → shape m ≡ s → FallsTo code s (asked (routine_at code m.running.routine) c outside m)
@@ -210,11 +216,11 @@ module _ (code : RawCode) (s : Shape) (r : RawRoutine) (l : CodeLine) (there : r
           (subst (λ o. FallsTo code s (asked_at r o c outside m)) (sym line) (met_here (choice r.handlers l.context c.first) (holding c m) e))
 
     raised_in_here : (c : Entries) (callers : List Activation) (m : Machine) → m.callers ≡ callers → shape m ≡ s → FallsTo code s (raised_in code c callers m)
-    raised_in_here c [] m q e = asked_here c (λ n. Over (Raised (by_state c)) n) (λ n f. ap (λ (t : Shape). t.turns) f) m e
+    raised_in_here c [] m q e = asked_here c (λ n. Over (Raised (by_state c)) n) (λ n f. turns_of f) m e
     raised_in_here c (a ∷ callers) m q e =
         asked_here c (λ n. raised_in code (by_state c) callers (record n { running = a; callers = callers }))
         (λ n f. raised_deeper code s (by_state c) callers (record n { running = a; callers = callers }) refl
-        (caller_less s n a callers (ap (λ (t : Shape). t.turns) f) (ap (λ (t : Shape). t.callers) f ∙ sym (ap (λ (t : Shape). t.callers) e) ∙ q) (let same : depth (shape n) ≡ depth s = ap depth f in omega (arith, same)))) m e
+        (caller_less s n a callers (turns_of f) (ap (λ (t : Shape). t.callers) f ∙ sym (ap (λ (t : Shape). t.callers) e) ∙ q) (let same : depth (shape n) ≡ depth s = ap depth f in omega (arith, same)))) m e
 
     pub raised_here : (c : Entries) (m : Machine) → shape m ≡ s → FallsTo code s (raised code c m)
     raised_here c m e = raised_in_here c m.callers m refl e
@@ -227,7 +233,7 @@ module _ (code : RawCode) (s : Shape) (r : RawRoutine) (l : CodeLine) (there : r
     by_given : {A : Type 0} (g : Given A) (go : A → Act Way) (m : Machine) → shape m ≡ s → ((a : A) → DoneFalls (go a)) → FallsTo code s (settled code (go_on g go m).given (go_on g go m).machine)
     by_given (Got a) go m e h = (h a).falls m e
     by_given (Raises c) go m e h = raised_here c m e
-    by_given (Ends x) go m e h = ap (λ (t : Shape). t.turns) e
+    by_given (Ends x) go m e h = turns_of e
 
     pub then_falls : {A : Type 0} {act : Act A} {go : A → Act Way} → KeepsShape act → ((a : A) → DoneFalls (go a)) → DoneFalls (◌>>=◌ act go)
     then_falls {A} {act} {go} k h = record { falls = λ m e. by_given (act m).given go (act m).machine (k.keeps m ∙ e) h }
@@ -239,7 +245,7 @@ module _ (code : RawCode) (s : Shape) (r : RawRoutine) (l : CodeLine) (there : r
     raises_falls c = record { falls = λ m e. raised_here c m e }
 
     pub ends_falls : (e : End) → DoneFalls (ends e)
-    ends_falls x = record { falls = λ m e. ap (λ (t : Shape). t.turns) e }
+    ends_falls x = record { falls = λ m e. turns_of e }
 
     pub ahead_falls : (act : Act (Unit {0})) → KeepsShape act → DoneFalls (then_ahead act)
     ahead_falls act k = then_falls k (λ u. got_falls ahead (λ m e. goes_ahead m (like e)))

@@ -1,5 +1,5 @@
 pub mod Falling
+pub mod Fewer
 pub mod Jumps
-pub mod Left
 pub mod Rows
 pub mod Shapes

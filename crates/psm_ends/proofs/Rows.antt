@@ -43,9 +43,9 @@ use Rattle.psm_code.specs.Steps.{Act, Given, Got, Raises, Ends, change, ends, go
 use Rattle.psm_code.proofs.Faults.{Clean, RightRoutine, clean_head, clean_tail, line_right, routine_right}
 use Rattle.psm_code.proofs.Ending.{over_stays}
 use Rattle.psm_code.proofs.Sound.{row_right, starts}
-use Rattle.psm_ends.specs.Measure.{Falls, Shape, actions, by_depth, by_lines, by_turns, depth, left, lines, running, shape}
-use Rattle.psm_ends.proofs.Left.{less_left}
-use Rattle.psm_ends.proofs.Falling.{DoneFalls, FallsTo, ahead_falls, ends_falls, goes_ahead, goes_to, got_falls, like, raised_here, raises_falls, then_falls}
+use Rattle.psm_ends.specs.Measure.{Falls, Shape, actions, by_depth, by_lines, by_turns, depth, lines, rows_at_most, running, shape}
+use Rattle.psm_ends.proofs.Fewer.{fewer_rows}
+use Rattle.psm_ends.proofs.Falling.{DoneFalls, FallsTo, ahead_falls, ends_falls, goes_ahead, goes_to, got_falls, like, raised_here, raises_falls, then_falls, turns_of}
 use Rattle.psm_ends.proofs.Jumps.{GoesWithin, goes_within}
 use Rattle.psm_ends.proofs.Shapes.{KeepsShape, change_keeps, close_keeps, condition_item_keeps, ends_keeps, exists_keeps, fetch_keeps, got_keeps, next_keeps, open_keeps, plan_keeps, pop_keeps, pops_keep, present_keeps, raises_keeps, read_keeps, resignal_condition_keeps, resignal_keeps, resignal_message_keeps, scalar_keeps, select_keeps, signal_keeps, signal_message_keeps, statement_item_keeps, then_keeps, tried_keeps, values_keep}
 
@@ -119,7 +119,7 @@ record Spends {A : Type 0} (act : Act A) : Type 0 where
 spends_on : {A B : Type 0} (g : Given A) (go : A → Act B) (m : Machine) (s : Shape) → shape m ≡ s → ((a : A) → Spends (go a)) → SpentWith (go_on g go m).given (go_on g go m).machine s
 spends_on (Got a) go m s e h = (h a).spends m s e
 spends_on (Raises c) go m s e h = e
-spends_on (Ends x) go m s e h = ap (λ (t : Shape). t.turns) e
+spends_on (Ends x) go m s e h = turns_of e
 
 then_spends : {A B : Type 0} {act : Act A} {go : A → Act B} → KeepsShape act → ((a : A) → Spends (go a)) → Spends (◌>>=◌ act go)
 then_spends {A} {B} {act} {go} k h = record { spends = λ m s e. spends_on (act m).given go (act m).machine s (k.keeps m ∙ e) h }
@@ -127,14 +127,14 @@ then_spends {A} {B} {act} {go} k h = record { spends = λ m s e. spends_on (act 
 -- an activation whose frames are none
 spent_first : (a : Activation) → a.frames ≡ [] → (n : ℕ) (m : Machine) (s : Shape) → n ≡ s.turns → shape m ≡ s
     → (let came = go_on (spent n m).given (λ u. change (calling a)) (spent n m).machine in SpentWith came.given came.machine s)
-spent_first a h zero m s e same = ap (λ (t : Shape). t.turns) same
+spent_first a h zero m s e same = turns_of same
 spent_first a h (suc n) m s e same =
     let none : actions a.frames ≡ 0 = ap actions h in
     let deep : depth (shape m) ≡ depth s = ap depth same in
     record { turns = omega (arith, e); deep = omega (arith, none, deep) }
 
 turn_first : (a : Activation) → a.frames ≡ [] → Spends (◌>>=◌ turn (λ u. change (calling a)))
-turn_first a h = record { spends = λ m s e. spent_first a h m.turns m s (ap (λ (t : Shape). t.turns) e) e }
+turn_first a h = record { spends = λ m s e. spent_first a h m.turns m s (turns_of e) e }
 
 call_spends : (code : RawCode) (n : ℕ) → Spends (call code n)
 call_spends code n =
@@ -153,20 +153,20 @@ result_keeps code =
 -- ---- activations that are left
 
 left_falls : (code : RawCode) (s : Shape) (ds : List Datum) (callers : List Activation) (m : Machine) → m.callers ≡ callers → shape m ≡ s → FallsTo code s (left_values ds callers m)
-left_falls code s ds [] m q e = ap (λ (t : Shape). t.turns) e
+left_falls code s ds [] m q e = turns_of e
 left_falls code s ds (a ∷ callers) m q e =
     let same : running m.callers ≡ suc (actions a.frames + running callers) = ap running q in
     let all : depth (shape m) ≡ depth s = ap depth e in
-    by_depth (ap (λ (t : Shape). t.turns) e) (omega (arith, same, all))
+    by_depth (turns_of e) (omega (arith, same, all))
 
 end_falls : (code : RawCode) (s : Shape) (o : Option RawRoutine) (m : Machine) → shape m ≡ s → FallsTo code s (end_of o m)
-end_falls code s None m e = ap (λ (t : Shape). t.turns) e
+end_falls code s None m e = turns_of e
 end_falls code s (Some r) m e = left_falls code s (given_back r.parameters m.running.variables) m.callers (cleared m) refl e
 
 -- ---- a turn
 
 turn_falls : (code : RawCode) (s : Shape) (n : ℕ) (m : Machine) → n ≡ s.turns → shape m ≡ s → (let came = go_on (spent n m).given (λ u. got ahead) (spent n m).machine in FallsTo code s (settled code came.given came.machine))
-turn_falls code s zero m e same = ap (λ (t : Shape). t.turns) same
+turn_falls code s zero m e same = turns_of same
 turn_falls code s (suc n) m e same = by_turns (omega (arith, e)) (let deep : depth (shape m) ≡ depth s = ap depth same in omega (arith, deep))
 
 -- ---- instructions
@@ -196,36 +196,36 @@ module _ (code : RawCode) (s : Shape) (r : RawRoutine) (l : CodeLine) (there : r
   -- blocks
   entered_falls : (k : ℕ) (o : Option Block) (m : Machine) → shape m ≡ s
       → (let came = then_ahead (◌>>=◌ (present o) (λ b. change (λ m. with_frames (InBlock k (finding b.atomic m.tables) ∷ m.running.frames) m))) m in FallsTo code s (settled code came.given came.machine))
-  entered_falls k None m e = ap (λ (t : Shape). t.turns) e
+  entered_falls k None m e = turns_of e
   entered_falls k (Some b) m e =
       goes_ahead code s r l there line_there calm (with_frames (InBlock k (finding b.atomic m.tables) ∷ m.running.frames) m)
       (let same = like {m = m} e in record { turns = same.turns; routine = same.routine; line = same.line; deep = same.deep })
 
   exited_falls : (k : ℕ) (frames : List Frame) (m : Machine) → m.running.frames ≡ frames → shape m ≡ s
       → (let came = then_ahead (exited r k frames) m in FallsTo code s (settled code came.given came.machine))
-  exited_falls k [] m q e = ap (λ (t : Shape). t.turns) e
-  exited_falls k (InAction n resume area ∷ frames) m q e = ap (λ (t : Shape). t.turns) e
+  exited_falls k [] m q e = turns_of e
+  exited_falls k (InAction n resume area ∷ frames) m q e = turns_of e
   exited_falls k (InBlock j found ∷ frames) m q e = by (nat_eq k j) where
     by : (b : Bool) → (let came = then_ahead (if b then change (λ m. with_frames frames (block_left r false k found m)) else ends Lacking) m in FallsTo code s (settled code came.given came.machine))
     by true =
         goes_ahead code s r l there line_there calm (with_frames frames (block_left r false k found m))
         (let same = like {m = m} e in record { turns = same.turns; routine = same.routine; line = same.line; deep = sym (ap (λ fs. suc (actions fs + running m.callers)) q) ∙ same.deep })
-    by false = ap (λ (t : Shape). t.turns) e
+    by false = turns_of e
 
   -- an action that ends
   ended_falls : (n : ℕ) (resume : Option ℕ) (frames : List Frame) → suc (actions frames) ≡ actions s.frames → Done (act_ended r n resume frames)
   ended_falls n resume frames q =
       then_falls code s r l there line_there calm resumes (present_keeps (handler_at r n)) (λ h.
       then_falls code s r l there line_there calm resumes (behind_keeps r h h.kind resume) (λ line.
-      record { falls = λ m e. by_depth (ap (λ (t : Shape). t.turns) e) (let callers : running m.callers ≡ running s.callers = ap (λ (t : Shape). running t.callers) e in omega (arith, q, callers)) }))
+      record { falls = λ m e. by_depth (turns_of e) (let callers : running m.callers ≡ running s.callers = ap (λ (t : Shape). running t.callers) e in omega (arith, q, callers)) }))
 
   action_falls : (n : ℕ) (frames : List Frame) (m : Machine) → m.running.frames ≡ frames → shape m ≡ s → (let came = action_ended r n frames m in FallsTo code s (settled code came.given came.machine))
-  action_falls n [] m q e = ap (λ (t : Shape). t.turns) e
-  action_falls n (InBlock k found ∷ frames) m q e = ap (λ (t : Shape). t.turns) e
+  action_falls n [] m q e = turns_of e
+  action_falls n (InBlock k found ∷ frames) m q e = turns_of e
   action_falls n (InAction j resume area ∷ frames) m q e = by (nat_eq n j) where
     by : (b : Bool) → (let came = (if b then act_ended r n resume frames else ends Lacking) m in FallsTo code s (settled code came.given came.machine))
     by true = (ended_falls n resume frames (sym (ap actions q) ∙ ap (λ (t : Shape). actions t.frames) e)).falls m e
-    by false = ap (λ (t : Shape). t.turns) e
+    by false = turns_of e
 
   -- calls
   called : (g : Given (Unit {0})) (m : Machine) → SpentWith g m s → (let came = go_on g (λ u. got here) m in FallsTo code s (settled code came.given came.machine))
@@ -331,13 +331,13 @@ module _ (code : RawCode) (right : first_fault code ≡ None) where
   -- ---- runs
 
   -- there are fewer rows still than there were
-  pub row_less : (m n : Machine) → Sits code m → row code m ≡ More n → left code (shape n) < left code (shape m)
-  row_less m n h e = less_left code (shape m) (shape n) (subst (FallsTo code (shape m)) e (row_falls m h))
+  pub row_less : (m n : Machine) → Sits code m → row code m ≡ More n → rows_at_most code (shape n) < rows_at_most code (shape m)
+  row_less m n h e = fewer_rows code (shape m) (shape n) (subst (FallsTo code (shape m)) e (row_falls m h))
 
-  pub rows_less : (k : ℕ) (m n : Machine) → Sits code m → rows code k (More m) ≡ More n → left code (shape n) ≤ left code (shape m)
-  rows_less zero m n h e = let same : m ≡ n = cc in let left_same : left code (shape m) ≡ left code (shape n) = ap (λ (x : Machine). left code (shape x)) same in omega (arith, left_same)
+  pub rows_less : (k : ℕ) (m n : Machine) → Sits code m → rows code k (More m) ≡ More n → rows_at_most code (shape n) ≤ rows_at_most code (shape m)
+  rows_less zero m n h e = let same : m ≡ n = cc in let same_rows : rows_at_most code (shape m) ≡ rows_at_most code (shape n) = ap (λ (x : Machine). rows_at_most code (shape x)) same in omega (arith, same_rows)
   rows_less (suc k) m n h e = next (row code m) (rows_less k) refl e where
-    next : (t : Turned) → ((p n : Machine) → Sits code p → rows code k (More p) ≡ More n → left code (shape n) ≤ left code (shape p)) → row code m ≡ t → rows code k t ≡ More n → left code (shape n) ≤ left code (shape m)
+    next : (t : Turned) → ((p n : Machine) → Sits code p → rows code k (More p) ≡ More n → rows_at_most code (shape n) ≤ rows_at_most code (shape p)) → row code m ≡ t → rows code k t ≡ More n → rows_at_most code (shape n) ≤ rows_at_most code (shape m)
     next (More p) on r f =
         let less = row_less m p h r in
         let more = on p n (subst (StaysRight code) r (row_right code right m h)) f in
@@ -354,7 +354,7 @@ module _ (code : RawCode) (right : first_fault code ≡ None) where
   one_row m (Over e last) q h = record { count = 1; end = e; last = last; leads = q }
   one_row m (More n) q h = let x = h n refl in record { count = suc x.count; end = x.end; last = x.last; leads = ap (rows code x.count) q ∙ x.leads }
 
-  ends_in : (k : ℕ) (m : Machine) → Sits code m → left code (shape m) < k → EndsFrom (More m)
+  ends_in : (k : ℕ) (m : Machine) → Sits code m → rows_at_most code (shape m) < k → EndsFrom (More m)
   ends_in zero m h q = absurd (omega (arith, q))
   ends_in (suc k) m h q =
       one_row m (row code m) refl (λ n e.
@@ -362,7 +362,7 @@ module _ (code : RawCode) (right : first_fault code ≡ None) where
       ends_in k n (subst (StaysRight code) e (row_right code right m h)) (omega (arith, less, q)))
 
   right_ends : (t : Turned) → StaysRight code t → EndsFrom t
-  right_ends (More m) h = ends_in (suc (left code (shape m))) m h (omega arith)
+  right_ends (More m) h = ends_in (suc (rows_at_most code (shape m))) m h (omega arith)
   right_ends (Over e last) h = record { count = 0; end = e; last = last; leads = refl }
 
   pub run_ends : (n : ℕ) (r : RawRoutine) → routine_at code n ≡ Some r → (args : List Datum) (tables : List Contents) (turns : ℕ) → length args ≡ length (taking r.parameters) → AreKept code.tables tables

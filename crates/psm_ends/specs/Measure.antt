@@ -60,5 +60,5 @@ all_lines (r ∷ routines) = length r.lines + all_lines routines
 
 -- each activation and each action that runs goes over no more lines than the code has, and each turn that is left begins one more of them
 -- at most, or goes on in the same one
-abbrev pub left : RawCode → Shape → ℕ
-left code s = (s.turns + s.turns + depth s) * suc (all_lines code.routines) + lines code s
+abbrev pub rows_at_most : RawCode → Shape → ℕ
+rows_at_most code s = (s.turns + s.turns + depth s) * suc (all_lines code.routines) + lines code s

@@ -9,14 +9,14 @@ ghost use Rattle.psm_code.specs.RoutineRules.{first_fault};
 ghost use Rattle.psm_code.specs.Rows.{row, Ran};
 ghost use Rattle.psm_code.specs.Sits.{AreKept, Sits};
 ghost use Rattle.psm_code.specs.State.{End, Machine, More, Over};
-ghost use Rattle.psm_ends.specs.Measure.{Falls, Shape, left, shape};
+ghost use Rattle.psm_ends.specs.Measure.{Falls, Shape, rows_at_most, shape};
 
 /// A run of code that breaks no rule ends. At each row that goes on, the turns that are left fall; or else the number of running
 /// activations and actions; or else the number of lines to the end of the routine, where a line that uses a turn counts as none. So
 /// the number of rows that there may still be at most falls too. A row that ends the run uses no turn.
 pub fn right_code_ends()
     ensures falls { (code : RawCode) → first_fault code ≡ None → (m n : Machine) → Sits code m → row code m ≡ More n → Falls code (shape m) (shape n) }
-    ensures fewer { (code : RawCode) (s t : Shape) → Falls code s t → left code t < left code s }
+    ensures fewer { (code : RawCode) (s t : Shape) → Falls code s t → rows_at_most code t < rows_at_most code s }
     ensures stays { (code : RawCode) → first_fault code ≡ None → (m last : Machine) (e : End) → Sits code m → row code m ≡ Over e last → last.turns ≡ m.turns }
     ensures ends { (code : RawCode) → first_fault code ≡ None → (routine : ℕ) (r : RawRoutine) → routine_at code routine ≡ Some r → (args : List Datum) (tables : List Contents) (turns : ℕ) → length args ≡ length (taking r.parameters) → AreKept code.tables tables → (e : End) × (last : Machine) × Ran code routine args tables turns e last }
 {}

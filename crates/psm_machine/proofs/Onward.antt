@@ -13,7 +13,7 @@ use Rattle.psm_code.specs.RoutineRules.{first_fault}
 use Rattle.psm_code.specs.Sits.{Sits}
 use Rattle.psm_code.specs.State.{Machine, More, Turned}
 use Rattle.psm_code.specs.Steps.{Came}
-use Rattle.psm_ends.specs.Measure.{left, shape}
+use Rattle.psm_ends.specs.Measure.{rows_at_most, shape}
 use Rattle.psm_ends.proofs.Rows.{row_less, rows_less}
 use Rattle.psm_unwind.specs.declared.ending.Outcome.{Outcome}
 use Rattle.psm_unwind.specs.declared.ending.Outcome.TheVariants as outcome
@@ -83,7 +83,7 @@ sits_there code right m last n h e = subst (StaysRight code) e (rows_right code 
 pub advance_leads : (code : RawCode) (m now : Machine) (a : Advances code m None now) → rows code (a.count + 1) (More m) ≡ More now
 advance_leads code m now a = goes_further code (More m) a.count a.last now a.leads (leads_more (row code a.last) outcome.More now refl a.next)
 
-pub advance_less : (code : RawCode) → first_fault code ≡ None → (m now : Machine) → Sits code m → Advances code m None now → left code (shape now) < left code (shape m)
+pub advance_less : (code : RawCode) → first_fault code ≡ None → (m now : Machine) → Sits code m → Advances code m None now → rows_at_most code (shape now) < rows_at_most code (shape m)
 advance_less code right m now h a =
     let most = rows_less code right a.count m a.last h a.leads in
     let less = row_less code right a.last now (sits_there code right m a.last a.count h a.leads) (leads_more (row code a.last) outcome.More now refl a.next) in

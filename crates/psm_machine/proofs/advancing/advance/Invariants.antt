@@ -3,7 +3,7 @@ use Rattle.psm_code.specs.Parts.{routine_at}
 use Rattle.psm_code.specs.Rows.{rows}
 use Rattle.psm_code.specs.Sits.{Sits}
 use Rattle.psm_code.specs.State.{More}
-use Rattle.psm_ends.specs.Measure.{left, shape}
+use Rattle.psm_ends.specs.Measure.{rows_at_most, shape}
 use Rattle.psm_unwind.specs.Marks.{SameFrames}
 use Rattle.psm_unwind.specs.View.{machine_of}
 use Rattle.psm_machine.proofs.advancing.advance.Given as goal
@@ -18,4 +18,4 @@ invariant-common g l = record {
 }
 
 abbrev pub decreases-common : goal.decreases-common
-decreases-common g l = left l.code (shape (machine_of (g.S.Store.tables l.store) (g.S.Store.at l.store) l.run))
+decreases-common g l = rows_at_most l.code (shape (machine_of (g.S.Store.tables l.store) (g.S.Store.at l.store) l.run))

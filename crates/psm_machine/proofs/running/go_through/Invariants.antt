@@ -2,7 +2,7 @@ use Rattle.std.proofs.Common.{◌≡◌, ℕ}
 use Rattle.psm_code.specs.Rows.{rows}
 use Rattle.psm_code.specs.Sits.{Sits}
 use Rattle.psm_code.specs.State.{More}
-use Rattle.psm_ends.specs.Measure.{left, shape}
+use Rattle.psm_ends.specs.Measure.{rows_at_most, shape}
 use Rattle.psm_unwind.specs.Marks.{MarksStand}
 use Rattle.psm_unwind.specs.View.{machine_of}
 use Rattle.psm_machine.specs.Going.{StandStill}
@@ -17,4 +17,4 @@ invariant-rows g l = record {
 }
 
 abbrev pub decreases-rows : goal.decreases-rows
-decreases-rows g l = left l.code (shape (machine_of (g.S.Store.tables l.store) (g.S.Store.at l.store) l.run))
+decreases-rows g l = rows_at_most l.code (shape (machine_of (g.S.Store.tables l.store) (g.S.Store.at l.store) l.run))

@@ -1,9 +1,9 @@
--- Where less falls, fewer rows are left.
+-- From row to row there may still be fewer rows.
 use Rattle.std.proofs.Common.{◌≡◌, ℕ, zero, suc, ◌+◌, ◌*◌, ◌<◌, ◌≤◌, List, [], ◌∷◌, length, slice_get, refl, ap, ◌∙◌, arith, Option, Some, None, mul-le-mul_right, suc-mul}
 use Rattle.psm_code.specs.declared.code.RawCode.{RawCode}
 use Rattle.psm_code.specs.declared.code.RawRoutine.{RawRoutine}
 use Rattle.psm_code.specs.Parts.{line_at, routine_at}
-use Rattle.psm_ends.specs.Measure.{Falls, Shape, all_lines, by_depth, by_lines, by_turns, depth, left, lines, lines_from, lines_in}
+use Rattle.psm_ends.specs.Measure.{Falls, Shape, all_lines, by_depth, by_lines, by_turns, depth, lines, lines_from, lines_in, rows_at_most}
 use Rattle.psm_ends.proofs.Falling.{from_most}
 
 -- a digit before others
@@ -21,13 +21,13 @@ lines_most code s = by (routine_at code s.routine) refl where
   by None e = omega arith
   by (Some r) e = let here = from_most r s.line (line_at r s.line) in let most = one_of_all code.routines s.routine r e in omega (arith, here, most)
 
-pub less_left : (code : RawCode) (s t : Shape) → Falls code s t → left code t < left code s
-less_left code s t (by_turns a b) =
+pub fewer_rows : (code : RawCode) (s t : Shape) → Falls code s t → rows_at_most code t < rows_at_most code s
+fewer_rows code s t (by_turns a b) =
     let most = lines_most code t in
     higher (t.turns + t.turns + depth t) (s.turns + s.turns + depth s) (suc (all_lines code.routines)) (lines code t) (lines code s) (omega (arith, a, b)) (omega (arith, most))
-less_left code s t (by_depth a b) =
+fewer_rows code s t (by_depth a b) =
     let most = lines_most code t in
     higher (t.turns + t.turns + depth t) (s.turns + s.turns + depth s) (suc (all_lines code.routines)) (lines code t) (lines code s) (omega (arith, a, b)) (omega (arith, most))
-less_left code s t (by_lines a b c) =
+fewer_rows code s t (by_lines a b c) =
     let same : (t.turns + t.turns + depth t) * suc (all_lines code.routines) ≡ (s.turns + s.turns + depth s) * suc (all_lines code.routines) = ap (λ n. n * suc (all_lines code.routines)) (ap (λ n. n + n + depth t) a ∙ ap (λ d. s.turns + s.turns + d) b) in
     omega (arith, same, c)
