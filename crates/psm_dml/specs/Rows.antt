@@ -1,15 +1,15 @@
 -- Rows that are taken out of a table by their keys, and rows that are put in.
-use Rattle.std.specs.Prelude.{ℕ, Bool, true, false, ◌&&◌, List, [], ◌∷◌, ◌++◌, alloc_error, Option, Some, None, Result, Ok, Err}
+use Rattle.std.specs.Prelude.{ℕ, ◌+◌, ◌<◌, ◌≤◌, Bool, true, false, ◌&&◌, List, [], ◌∷◌, ◌++◌, All, IfSome, length, slice_get, alloc_error, Option, Some, None, Result, Ok, Err}
 use Rattle.std.specs.List.{list_all}
 use Rattle.std.specs.declared.alloc.AllocError.{AllocError}
 use Rattle.psm_sqlstate.specs.declared.state.SqlState.{SqlState}
 use Rattle.psm_store.specs.RowCalls.{changed_at}
 use Rattle.psm_value.specs.declared.datum.Datum.{Datum}
 use Rattle.psm_table.specs.Changing.{are_apart, is_filled}
-use Rattle.psm_table.specs.Definition.{kinds_of, AreOfFamilies, HasColumns}
+use Rattle.psm_table.specs.Definition.{kinds_of, AreOfFamilies, HasColumns, IsKey}
 use Rattle.psm_table.specs.Key.{values_at}
 use Rattle.psm_table.specs.Rows.{without}
-use Rattle.psm_table.specs.Table.{with_row, Contents}
+use Rattle.psm_table.specs.Table.{most_rows, with_row, Contents}
 use Rattle.psm_table.specs.declared.definition.TableDef.{TableDef}
 use Rattle.psm_table.specs.declared.fault.RowFault.{RowFault}
 use Rattle.psm_table.specs.declared.fault.RowFault.TheVariants.{Duplicate, Absent, Full, Memory}
@@ -36,6 +36,13 @@ without_keys keys c = record c { rows = without_all c.def.key keys c.rows }
 pub record IsWhole (def : TableDef) (row : List Datum) : Type 0 where
   pub long : HasColumns def row
   pub families : AreOfFamilies (kinds_of def.columns) row
+
+-- table t is there, the keys and the rows are of it, and it has room for the rows once those of the keys are out
+pub record TakesRows (tables : List Contents) (t : ℕ) (keys rows : List (List Datum)) : Type 0 where
+  pub exists : t < length tables
+  pub fit : IfSome (slice_get tables t) (λ c. All (IsKey c.def) keys)
+  pub whole : IfSome (slice_get tables t) (λ c. All (IsWhole c.def) rows)
+  pub few : IfSome (slice_get tables t) (λ c. length (without_keys keys c).rows + length rows ≤ most_rows)
 
 -- the table with some rows put in, one after another
 abbrev pub with_rows : List (List Datum) → Contents → Contents

@@ -1,5 +1,5 @@
 //! Changes of several rows of one table of a store, all of them or none.
-ghost use Rattle.std.specs.Prelude.{◌≡◌, ◌+◌, ◌<◌, ◌≤◌, ◌&&◌, not, true, IfOk, IfSome, IsSome, OnErr, OnOk, All, length, slice_get};
+ghost use Rattle.std.specs.Prelude.{◌≡◌, [], ◌∷◌, ◌+◌, ◌<◌, ◌≤◌, ◌&&◌, not, true, IfOk, IfSome, IsSome, OnErr, OnOk, All, length, slice_get};
 ghost use Rattle.psm_table.specs.Changing.{is_filled as is_row_filled};
 ghost use Rattle.psm_table.specs.Definition.{HasColumns, IsKey};
 ghost use Rattle.psm_table.specs.Table.{most_rows, namesake, with_row, without_row, IsTable};
@@ -8,7 +8,7 @@ ghost use Rattle.std.specs.declared.cmp.Ordering.TheVariants.{Equal};
 ghost use Rattle.psm_table.specs.Unique.{clashes};
 ghost use Rattle.psm_store.specs.Marks.{AnyMark, Keeps, defs_of, most_marks};
 ghost use Rattle.psm_store.specs.RowCalls.{changed_at};
-ghost use Rattle.psm_dml.specs.Rows.{changed_if, done_of, fit_in, fits_in, with_rows, without_keys, IsWhole};
+ghost use Rattle.psm_dml.specs.Rows.{changed_if, done_of, fit_in, fits_in, with_rows, without_keys, IsWhole, TakesRows};
 
 use crate::filling::is_filled;
 use psm_store::{Key, Row, RowFault, Store, Table, put_back};
@@ -107,10 +107,7 @@ pub(crate) fn replace_rows<S: Store>(
     keys: &[Key],
     rows: Vec<Row>,
 ) -> Result<bool, AllocError>
-    requires exists { t < length (S.tables store.old) }
-    requires fit { IfSome (slice_get (S.tables store.old) t) (λ c. All (IsKey c.def) keys.now) }
-    requires rows { IfSome (slice_get (S.tables store.old) t) (λ c. All (IsWhole c.def) rows.items) }
-    requires few { IfSome (slice_get (S.tables store.old) t) (λ c. length (without_keys keys.now c).rows + length rows.items ≤ most_rows) }
+    requires takes { TakesRows (S.tables store.old) t keys.now rows.items }
     requires room { S.marks store.old < most_marks }
     ensures answer { IfSome (slice_get (S.tables store.old) t) (λ c. IfOk result (λ b. b ≡ fit_in rows.items (without_keys keys.now c))) }
     ensures tables { S.tables store.new ≡ changed_if result (λ c. with_rows rows.items (without_keys keys.now c)) (S.tables store.old) t }
@@ -134,10 +131,7 @@ fn replace_by_one<S: Store>(
     keys: &[Key],
     row: Row,
 ) -> Result<bool, AllocError>
-    requires exists { t < length (S.tables store.old) }
-    requires fit { IfSome (slice_get (S.tables store.old) t) (λ c. All (IsKey c.def) keys.now) }
-    requires row { IfSome (slice_get (S.tables store.old) t) (λ c. IsWhole c.def row) }
-    requires few { IfSome (slice_get (S.tables store.old) t) (λ c. length (without_keys keys.now c).rows < most_rows) }
+    requires takes { TakesRows (S.tables store.old) t keys.now (row ∷ []) }
     requires room { S.marks store.old < most_marks }
     ensures answer { IfSome (slice_get (S.tables store.old) t) (λ c. IfOk result (λ b. b ≡ fits_in row (without_keys keys.now c))) }
     ensures tables { S.tables store.new ≡ changed_if result (λ c. with_row (without_keys keys.now c) row) (S.tables store.old) t }
@@ -164,10 +158,7 @@ fn replace_all<S: Store>(
     keys: &[Key],
     rows: Vec<Row>,
 ) -> Result<bool, AllocError>
-    requires exists { t < length (S.tables store.old) }
-    requires fit { IfSome (slice_get (S.tables store.old) t) (λ c. All (IsKey c.def) keys.now) }
-    requires rows { IfSome (slice_get (S.tables store.old) t) (λ c. All (IsWhole c.def) rows.items) }
-    requires few { IfSome (slice_get (S.tables store.old) t) (λ c. length (without_keys keys.now c).rows + length rows.items ≤ most_rows) }
+    requires takes { TakesRows (S.tables store.old) t keys.now rows.items }
     requires room { S.marks store.old < most_marks }
     ensures answer { IfSome (slice_get (S.tables store.old) t) (λ c. IfOk result (λ b. b ≡ fit_in rows.items (without_keys keys.now c))) }
     ensures tables { S.tables store.new ≡ changed_if result (λ c. with_rows rows.items (without_keys keys.now c)) (S.tables store.old) t }
@@ -191,10 +182,7 @@ fn replace_each<S: Store>(
     keys: &[Key],
     rows: Vec<Row>,
 ) -> Result<bool, AllocError>
-    requires exists { t < length (S.tables store.old) }
-    requires fit { IfSome (slice_get (S.tables store.old) t) (λ c. All (IsKey c.def) keys.now) }
-    requires rows { IfSome (slice_get (S.tables store.old) t) (λ c. All (IsWhole c.def) rows.items) }
-    requires few { IfSome (slice_get (S.tables store.old) t) (λ c. length (without_keys keys.now c).rows + length rows.items ≤ most_rows) }
+    requires takes { TakesRows (S.tables store.old) t keys.now rows.items }
     ensures answer { IfSome (slice_get (S.tables store.old) t) (λ c. IfOk result (λ b. b ≡ fit_in rows.items (without_keys keys.now c))) }
     ensures tables { IfOk result (λ b. b ≡ true → S.tables store.new ≡ changed_at (λ c. with_rows rows.items (without_keys keys.now c)) (S.tables store.old) t) }
     ensures marks { S.marks store.new ≡ S.marks store.old }

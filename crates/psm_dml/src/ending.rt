@@ -1,12 +1,11 @@
 //! The end of a statement that has new rows (ISO/IEC 9075:1992, 11.7 to 11.9).
-ghost use Rattle.std.specs.Prelude.{◌≡◌, ◌+◌, ◌<◌, ◌≤◌, ◌++◌, [], All, IfSome, codes, length, slice_get};
+ghost use Rattle.std.specs.Prelude.{◌≡◌, ◌<◌, ◌++◌, [], All, IfSome, codes, length, slice_get};
 ghost use Rattle.psm_table.specs.Changing.{counting, ended, in_order, rows_pass, IsLegal};
-ghost use Rattle.psm_table.specs.Definition.{IsKey};
-ghost use Rattle.psm_table.specs.Table.{most_rows, IsTable};
+ghost use Rattle.psm_table.specs.Table.{IsTable};
 ghost use Rattle.psm_store.specs.Marks.{AnyMark, Keeps, most_marks};
 ghost use Rattle.psm_tablecode.specs.Codes.{over};
 ghost use Rattle.psm_dml.specs.Ends.{schema_of, Bears, Ends, Passes};
-ghost use Rattle.psm_dml.specs.Rows.{without_keys, IsWhole};
+ghost use Rattle.psm_dml.specs.Rows.{without_keys, IsWhole, TakesRows};
 ghost use Rattle.psm_dml.specs.Suits.{SuitChecks};
 
 use crate::applying::replace_rows;
@@ -28,10 +27,7 @@ pub(crate) fn finish<S: Store>(
     keys: &[Key],
     rows: Vec<Row>,
 ) -> Result<u32, DataFault>
-    requires exists { t < length (S.tables store.old) }
-    requires fit { IfSome (slice_get (S.tables store.old) t) (λ c. All (IsKey c.def) keys.now) }
-    requires rows { IfSome (slice_get (S.tables store.old) t) (λ c. All (IsWhole c.def) rows.items) }
-    requires few { IfSome (slice_get (S.tables store.old) t) (λ c. length (without_keys keys.now c).rows + length rows.items ≤ most_rows) }
+    requires takes { TakesRows (S.tables store.old) t keys.now rows.items }
     requires suits { IfSome (slice_get (S.tables store.old) t) (λ c. SuitChecks checks.now c.def) }
     requires legal { IfSome (slice_get (S.tables store.old) t) (λ c. IsLegal (over []) (schema_of c.def checks.now) (without_keys keys.now c).rows) }
     requires room { S.marks store.old < most_marks }

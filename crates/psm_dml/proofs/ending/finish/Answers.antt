@@ -17,7 +17,7 @@ returns-in-Err-clause-answer g c =
     let keys : List (List Datum) = c.args.keys.now in
     let rows : List (List Datum) = c.args.rows.items in
     let legal = there (λ x. IsLegal (over []) (schema_of x.def c.args.checks.now) (without_keys keys x).rows) (slice_get old c.args.t) t c.table.ensures c.requires.legal in
-    let few = there (λ x. length (without_keys keys x).rows + length rows ≤ most_rows) (slice_get old c.args.t) t c.table.ensures c.requires.few in
+    let few = there (λ x. length (without_keys keys x).rows + length rows ≤ most_rows) (slice_get old c.args.t) t c.table.ensures c.requires.takes.few in
     finished_fault c.args.checks.now t keys rows legal few old _ c.args.t c.table.ensures c.in-Err.fault
     (subst (λ (l : List (List Datum)). Passes t.def (rows_pass (over []) c.args.checks.now (in_order t.def.key l)) (Err c.in-Err.fault)) c.as_slice.ensures.value c.in-Err.ensures.passes) refl
 
@@ -28,7 +28,7 @@ returns-then-branch-clause-answer g c =
     let keys : List (List Datum) = c.args.keys.now in
     let rows : List (List Datum) = c.args.rows.items in
     let legal = there (λ x. IsLegal (over []) (schema_of x.def c.args.checks.now) (without_keys keys x).rows) (slice_get old c.args.t) t c.table.ensures c.requires.legal in
-    let few = there (λ x. length (without_keys keys x).rows + length rows ≤ most_rows) (slice_get old c.args.t) t c.table.ensures c.requires.few in
+    let few = there (λ x. length (without_keys keys x).rows + length rows ≤ most_rows) (slice_get old c.args.t) t c.table.ensures c.requires.takes.few in
     let pass = ap (λ (l : List (List Datum)). rows_pass (over []) c.args.checks.now (in_order t.def.key l)) (sym c.as_slice.ensures.value) ∙ c.in-Ok.ensures.passes in
     let up = ascending-all t.def.key keys t.rows c.in-Ok.ensures.table.ascend in
     let fit = there (λ x. c.in_ok-replace_rows.field-0 ≡ fit_in rows (without_keys keys x)) (slice_get old c.args.t) t c.table.ensures c.in_ok-replace_rows.ensures.answer in
@@ -43,7 +43,7 @@ returns-else-branch-clause-answer g c =
     let keys : List (List Datum) = c.args.keys.now in
     let rows : List (List Datum) = c.args.rows.items in
     let legal = there (λ x. IsLegal (over []) (schema_of x.def c.args.checks.now) (without_keys keys x).rows) (slice_get old c.args.t) t c.table.ensures c.requires.legal in
-    let few = there (λ x. length (without_keys keys x).rows + length rows ≤ most_rows) (slice_get old c.args.t) t c.table.ensures c.requires.few in
+    let few = there (λ x. length (without_keys keys x).rows + length rows ≤ most_rows) (slice_get old c.args.t) t c.table.ensures c.requires.takes.few in
     let pass = ap (λ (l : List (List Datum)). rows_pass (over []) c.args.checks.now (in_order t.def.key l)) (sym c.as_slice.ensures.value) ∙ c.in-Ok.ensures.passes in
     let up = ascending-all t.def.key keys t.rows c.in-Ok.ensures.table.ascend in
     let fit = there (λ x. c.in_ok-replace_rows.field-0 ≡ fit_in rows (without_keys keys x)) (slice_get old c.args.t) t c.table.ensures c.in_ok-replace_rows.ensures.answer in

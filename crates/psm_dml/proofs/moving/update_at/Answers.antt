@@ -23,31 +23,24 @@ has_moved-moved-requires-clause-new g c =
     (move_whole c.args.checks.now c.args.sets.now c.args.vars.now t c.args.key.now c.in-Some.row.now (sym c.in-Some.ensures.row) c.in-Ok.ensures.table c.in-Ok.change c.in-Ok.ensures.change) in
     subst (λ (ks : List ℕ). All (λ i. i < length c.in-Ok.change.made) ks) (sym key) (λ k d l. omega (arith, c.in-Ok.ensures.table.defined.exist k d l, whole.long))
 
-pub finish-requires-clause-fit : goal.finish-requires-clause-fit
-finish-requires-clause-fit g c =
-    let t : Contents = c.table-table.result.now.contents in
-    let keys : c.as_slice.result.now ≡ c.in-Ok.change.key ∷ [] = c.as_slice.ensures.value ∙ c.in_ok-keys.ensures.keys ∙ ap keys_of_changes c.in_ok-vec.ensures.items in
-    said (λ x. All (IsKey x.def) c.as_slice.result.now) (slice_get (g.S.Store.tables c.args.store.now) c.args.t) t c.table-table.ensures
-    (subst (λ (ks : List (List Datum)). All (IsKey t.def) ks) (sym keys)
-    (move_keys c.args.checks.now c.args.sets.now c.args.vars.now t c.args.key.now c.in-Some.row.now (sym c.in-Some.ensures.row) c.in-Ok.ensures.table c.in-Ok.change c.in-Ok.ensures.change))
-
-pub finish-requires-clause-rows : goal.finish-requires-clause-rows
-finish-requires-clause-rows g c =
-    let t : Contents = c.table-table.result.now.contents in
-    let rows : c.in_ok-keys.field-0.rows.items ≡ c.in-Ok.change.made ∷ [] = c.in_ok-keys.ensures.rows ∙ ap rows_of_changes c.in_ok-vec.ensures.items in
-    said (λ x. All (IsWhole x.def) c.in_ok-keys.field-0.rows.items) (slice_get (g.S.Store.tables c.args.store.now) c.args.t) t c.table-table.ensures
-    (subst (λ (rs : List (List Datum)). All (IsWhole t.def) rs) (sym rows)
-    (move_whole c.args.checks.now c.args.sets.now c.args.vars.now t c.args.key.now c.in-Some.row.now (sym c.in-Some.ensures.row) c.in-Ok.ensures.table c.in-Ok.change c.in-Ok.ensures.change))
-
-pub finish-requires-clause-few : goal.finish-requires-clause-few
-finish-requires-clause-few g c =
+pub finish-requires-clause-takes : goal.finish-requires-clause-takes
+finish-requires-clause-takes g c =
     let t : Contents = c.table-table.result.now.contents in
     let keys : c.as_slice.result.now ≡ c.in-Ok.change.key ∷ [] = c.as_slice.ensures.value ∙ c.in_ok-keys.ensures.keys ∙ ap keys_of_changes c.in_ok-vec.ensures.items in
     let rows : c.in_ok-keys.field-0.rows.items ≡ c.in-Ok.change.made ∷ [] = c.in_ok-keys.ensures.rows ∙ ap rows_of_changes c.in_ok-vec.ensures.items in
-    said (λ x. length (without_keys c.as_slice.result.now x).rows + length c.in_ok-keys.field-0.rows.items ≤ most_rows) (slice_get (g.S.Store.tables c.args.store.now) c.args.t) t c.table-table.ensures
-    (subst (λ (ks : List (List Datum)). length (without_keys ks t).rows + length c.in_ok-keys.field-0.rows.items ≤ most_rows) (sym keys)
-    (subst (λ (rs : List (List Datum)). length (without_keys (c.in-Ok.change.key ∷ []) t).rows + length rs ≤ most_rows) (sym rows)
-    (move_few c.args.checks.now c.args.sets.now c.args.vars.now t c.args.key.now c.in-Some.row.now (sym c.in-Some.ensures.row) c.in-Ok.ensures.table c.in-Ok.change c.in-Ok.ensures.change)))
+    record {
+      exists = c.requires.exists;
+      fit = said (λ x. All (IsKey x.def) c.as_slice.result.now) (slice_get (g.S.Store.tables c.args.store.now) c.args.t) t c.table-table.ensures
+          (subst (λ (ks : List (List Datum)). All (IsKey t.def) ks) (sym keys)
+          (move_keys c.args.checks.now c.args.sets.now c.args.vars.now t c.args.key.now c.in-Some.row.now (sym c.in-Some.ensures.row) c.in-Ok.ensures.table c.in-Ok.change c.in-Ok.ensures.change));
+      whole = said (λ x. All (IsWhole x.def) c.in_ok-keys.field-0.rows.items) (slice_get (g.S.Store.tables c.args.store.now) c.args.t) t c.table-table.ensures
+          (subst (λ (rs : List (List Datum)). All (IsWhole t.def) rs) (sym rows)
+          (move_whole c.args.checks.now c.args.sets.now c.args.vars.now t c.args.key.now c.in-Some.row.now (sym c.in-Some.ensures.row) c.in-Ok.ensures.table c.in-Ok.change c.in-Ok.ensures.change));
+      few = said (λ x. length (without_keys c.as_slice.result.now x).rows + length c.in_ok-keys.field-0.rows.items ≤ most_rows) (slice_get (g.S.Store.tables c.args.store.now) c.args.t) t c.table-table.ensures
+          (subst (λ (ks : List (List Datum)). length (without_keys ks t).rows + length c.in_ok-keys.field-0.rows.items ≤ most_rows) (sym keys)
+          (subst (λ (rs : List (List Datum)). length (without_keys (c.in-Ok.change.key ∷ []) t).rows + length rs ≤ most_rows) (sym rows)
+          (move_few c.args.checks.now c.args.sets.now c.args.vars.now t c.args.key.now c.in-Some.row.now (sym c.in-Some.ensures.row) c.in-Ok.ensures.table c.in-Ok.change c.in-Ok.ensures.change)));
+    }
 
 pub finish-requires-clause-legal : goal.finish-requires-clause-legal
 finish-requires-clause-legal g c =

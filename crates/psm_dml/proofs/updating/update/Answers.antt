@@ -25,32 +25,25 @@ returns-in-Err-clause-answer g c =
     (gives_err (walked (test_of (over c.args.vars.now) (option_copied c.args.test)) (changing t.def.key (row_set c.args.vars.now t.def c.args.sets.now)) t.rows) c.in-Err.fault s e c.in-Err.ensures.changes))
     c.raised.ensures refl
 
-pub finish-requires-clause-fit : goal.finish-requires-clause-fit
-finish-requires-clause-fit g c =
-    let t : Contents = c.table.result.now.contents in
-    let keys : c.as_slice.result.now ≡ keys_of_changes c.in-Ok.changes = c.as_slice.ensures.value ∙ c.in_ok-keys-in-Ok.ensures.keys ∙ ap keys_of_changes c.into_vec.ensures in
-    said (λ x. All (IsKey x.def) c.as_slice.result.now) (slice_get (g.S.Store.tables c.args.store.now) c.args.t) t c.table.ensures
-    (subst (λ (ks : List (List Datum)). All (IsKey t.def) ks) (sym keys)
-    (changed_keys c.args.checks.now t (over c.args.vars.now) (option_copied c.args.test) (row_set c.args.vars.now t.def c.args.sets.now) c.in-Ok.ensures.table.ascend c.in-Ok.changes c.in-Ok.ensures.changes c.in-Ok.ensures.table.fit))
-
-pub finish-requires-clause-rows : goal.finish-requires-clause-rows
-finish-requires-clause-rows g c =
-    let t : Contents = c.table.result.now.contents in
-    let rows : c.in_ok-keys-in-Ok.field-0.rows.items ≡ rows_of_changes c.in-Ok.changes = c.in_ok-keys-in-Ok.ensures.rows ∙ ap rows_of_changes c.into_vec.ensures in
-    said (λ x. All (IsWhole x.def) c.in_ok-keys-in-Ok.field-0.rows.items) (slice_get (g.S.Store.tables c.args.store.now) c.args.t) t c.table.ensures
-    (subst (λ (rs : List (List Datum)). All (IsWhole t.def) rs) (sym rows)
-    (changed_whole c.args.checks.now t (over c.args.vars.now) (option_copied c.args.test) (row_set c.args.vars.now t.def c.args.sets.now) c.in-Ok.ensures.table.ascend c.in-Ok.changes c.in-Ok.ensures.changes
-    (λ row new p e. row_set_whole t.def c.args.vars.now c.args.sets.now row new p e) c.in-Ok.ensures.table.fit))
-
-pub finish-requires-clause-few : goal.finish-requires-clause-few
-finish-requires-clause-few g c =
+pub finish-requires-clause-takes : goal.finish-requires-clause-takes
+finish-requires-clause-takes g c =
     let t : Contents = c.table.result.now.contents in
     let keys : c.as_slice.result.now ≡ keys_of_changes c.in-Ok.changes = c.as_slice.ensures.value ∙ c.in_ok-keys-in-Ok.ensures.keys ∙ ap keys_of_changes c.into_vec.ensures in
     let rows : c.in_ok-keys-in-Ok.field-0.rows.items ≡ rows_of_changes c.in-Ok.changes = c.in_ok-keys-in-Ok.ensures.rows ∙ ap rows_of_changes c.into_vec.ensures in
-    said (λ x. length (without_keys c.as_slice.result.now x).rows + length c.in_ok-keys-in-Ok.field-0.rows.items ≤ most_rows) (slice_get (g.S.Store.tables c.args.store.now) c.args.t) t c.table.ensures
-    (subst (λ (ks : List (List Datum)). length (without_keys ks t).rows + length c.in_ok-keys-in-Ok.field-0.rows.items ≤ most_rows) (sym keys)
-    (subst (λ (rs : List (List Datum)). length (without_keys (keys_of_changes c.in-Ok.changes) t).rows + length rs ≤ most_rows) (sym rows)
-    (changed_few c.args.checks.now t (over c.args.vars.now) (option_copied c.args.test) (row_set c.args.vars.now t.def c.args.sets.now) c.in-Ok.ensures.table.ascend c.in-Ok.changes c.in-Ok.ensures.changes c.in-Ok.ensures.table.bound)))
+    record {
+      exists = c.requires.exists;
+      fit = said (λ x. All (IsKey x.def) c.as_slice.result.now) (slice_get (g.S.Store.tables c.args.store.now) c.args.t) t c.table.ensures
+          (subst (λ (ks : List (List Datum)). All (IsKey t.def) ks) (sym keys)
+          (changed_keys c.args.checks.now t (over c.args.vars.now) (option_copied c.args.test) (row_set c.args.vars.now t.def c.args.sets.now) c.in-Ok.ensures.table.ascend c.in-Ok.changes c.in-Ok.ensures.changes c.in-Ok.ensures.table.fit));
+      whole = said (λ x. All (IsWhole x.def) c.in_ok-keys-in-Ok.field-0.rows.items) (slice_get (g.S.Store.tables c.args.store.now) c.args.t) t c.table.ensures
+          (subst (λ (rs : List (List Datum)). All (IsWhole t.def) rs) (sym rows)
+          (changed_whole c.args.checks.now t (over c.args.vars.now) (option_copied c.args.test) (row_set c.args.vars.now t.def c.args.sets.now) c.in-Ok.ensures.table.ascend c.in-Ok.changes c.in-Ok.ensures.changes
+          (λ row new p e. row_set_whole t.def c.args.vars.now c.args.sets.now row new p e) c.in-Ok.ensures.table.fit));
+      few = said (λ x. length (without_keys c.as_slice.result.now x).rows + length c.in_ok-keys-in-Ok.field-0.rows.items ≤ most_rows) (slice_get (g.S.Store.tables c.args.store.now) c.args.t) t c.table.ensures
+          (subst (λ (ks : List (List Datum)). length (without_keys ks t).rows + length c.in_ok-keys-in-Ok.field-0.rows.items ≤ most_rows) (sym keys)
+          (subst (λ (rs : List (List Datum)). length (without_keys (keys_of_changes c.in-Ok.changes) t).rows + length rs ≤ most_rows) (sym rows)
+          (changed_few c.args.checks.now t (over c.args.vars.now) (option_copied c.args.test) (row_set c.args.vars.now t.def c.args.sets.now) c.in-Ok.ensures.table.ascend c.in-Ok.changes c.in-Ok.ensures.changes c.in-Ok.ensures.table.bound)));
+    }
 
 pub finish-requires-clause-legal : goal.finish-requires-clause-legal
 finish-requires-clause-legal g c =
