@@ -302,6 +302,7 @@ fn take_back<S: Store>(run: &Run, store: &mut S)
 }
 
 // Puts the tables back to what the innermost block found, if it is ATOMIC.
+#[tactic(auto, using(crate::proofs::Nestings::leaves_none))]
 fn restore<S: Store>(frames: &[Frame], store: &mut S)
     requires { Nested (S.holds store.old) (marks_in (reverse frames.now)) }
     ensures tables { S.tables store.new ≡ put_back true (found_first (frames_of (S.at store.old) (reverse frames.now))) (S.tables store.old) }

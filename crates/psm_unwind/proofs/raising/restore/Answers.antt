@@ -2,7 +2,7 @@ use Rattle.std.proofs.Common.{reverse, ap, sym, ◌∙◌}
 use Rattle.std.specs.Option.{option_copied}
 use Rattle.psm_unwind.specs.Marks.{mark_in, marks_in}
 use Rattle.psm_unwind.proofs.Lasts.{last_marks, rest_of}
-use Rattle.psm_unwind.proofs.Nestings.{leaves_back, leaves_none}
+use Rattle.psm_unwind.proofs.Nestings.{leaves_back}
 use Rattle.psm_unwind.proofs.raising.restore.Goals as goal
 
 pub returns-in-Some-Block-default-Some-clause-leaves : goal.returns-in-Some-Block-default-Some-clause-leaves
@@ -13,9 +13,3 @@ returns-in-Some-Block-default-Some-clause-leaves g c =
     (ap mark_in c.in-Some-Block-default-Some.field-0-is ∙ c.in-Some-Block-default-Some.field-0-1-is)
     (sym (ap option_copied c.in-Some-Block-default-Some.is) ∙ c.last.ensures.value))
     c.requires c.go_back.ensures.held c.go_back.ensures.stands c.go_back.ensures.keeps
-
-pub returns-clause-leaves : goal.returns-clause-leaves
-returns-clause-leaves g c = leaves_none (g.S.Store.holds c.args.store.now) (g.S.Store.at c.args.store.now) (marks_in (reverse c.args.frames.now)) c.requires
-
-pub returns-2-clause-leaves : goal.returns-2-clause-leaves
-returns-2-clause-leaves g c = leaves_none (g.S.Store.holds c.args.store.now) (g.S.Store.at c.args.store.now) (marks_in (reverse c.args.frames.now)) c.requires
