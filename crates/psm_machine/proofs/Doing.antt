@@ -42,6 +42,10 @@ goes_to came next m now (Err stop.NoTurns) e l = absurd (cc)
 goes_to came next m now (Err stop.Lacking) e l = absurd (cc)
 goes_to came next m now (Err stop.Memory) e l = tt
 
+-- want of memory stops it
+pub leads_stopped : (way : Way) (m now : Machine) (s : Stop) (r : Result Outcome Stop) → IsErrAnd r (λ e. e ≡ s) → s ≡ stop.Memory → Leads way m r now
+leads_stopped way m now s r e h = subst (λ x. Leads way m x now) (sym (err_is r s e)) h
+
 -- behind a part that came
 pub goes_behind : (came : Came (Unit {0})) (u : Unit {0}) (m now : Machine) (r : Result Outcome Stop) → came ≡ record { given = Got u; machine = m } → Leads ahead m r now → Turns (go_on came.given (λ x. got ahead) came.machine) r now
 goes_behind came u m now r e l = goes_to (go_on came.given (λ x. got ahead) came.machine) Ahead m now r (ap (λ (x : Came (Unit {0})). go_on x.given (λ y. got ahead) x.machine) e) l

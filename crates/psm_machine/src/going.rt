@@ -36,13 +36,8 @@ pub fn go(run: &mut Run, next: Next) -> Result<Outcome, Stop>
     ensures due { LeadsOn (way_of next) run.old result run.new }
     ensures same { SameFrames run.old run.new }
 {
-    match next {
-        Next::Ahead => ahead(run),
-        Next::Jump(line) => {
-            run.running.line = line as usize;
-            Ok(Outcome::More)
-        }
-    }
+    go_to(run, next)?;
+    Ok(Outcome::More)
 }
 
 /// Goes on at the line that follows.
@@ -50,11 +45,7 @@ pub fn ahead(run: &mut Run) -> Result<Outcome, Stop>
     ensures due { LeadsOn is_ahead run.old result run.new }
     ensures same { SameFrames run.old run.new }
 {
-    let Some(line) = run.running.line.checked_add(1) else {
-        return Err(Stop::Memory);
-    };
-    run.running.line = line;
-    Ok(Outcome::More)
+    go(run, Next::Ahead)
 }
 
 /// Goes on behind a part of an instruction, if that wasn't stopped.
