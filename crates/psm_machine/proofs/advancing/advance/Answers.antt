@@ -4,7 +4,7 @@ use Rattle.psm_value.specs.SqlType.{IsType}
 use Rattle.psm_code.specs.declared.code.RawRoutine.{RawRoutine}
 use Rattle.psm_code.specs.Parts.{routine_at, slots_of}
 use Rattle.psm_code.specs.Rows.{done, row}
-use Rattle.psm_code.specs.State.{More}
+use Rattle.psm_code.specs.State.{Machine, More}
 use Rattle.psm_ends.proofs.Rows.{row_less}
 use Rattle.psm_unwind.specs.View.{LeadsTo, machine_of}
 use Rattle.psm_machine.specs.Running.{Advances}
@@ -13,7 +13,25 @@ use Rattle.psm_machine.proofs.Finishing.{goes_further, sits_further}
 use Rattle.psm_machine.proofs.OneRow.{needs_right}
 use Rattle.psm_machine.proofs.Onward.{advances, after_row, done_more, done_row}
 use Rattle.psm_machine.proofs.RightCode.{handlers_right, slots_right}
+use Rattle.psm_machine.proofs.advancing.advance.Given.{Over}
+use Rattle.psm_machine.proofs.advancing.advance.Goals.{In_default-follow}
 use Rattle.psm_machine.proofs.advancing.advance.Goals as goal
+
+-- ---- a common instruction behind which another one comes: the machine before it and behind it, and that its row leads there
+
+abbrev before : (g : Over) → In_default-follow g → Machine
+before g c = machine_of (g.S.Store.tables c.common.store) (g.S.Store.at c.common.store) c.common.run
+
+abbrev behind : (g : Over) → In_default-follow g → Machine
+behind g c = machine_of (g.S.Store.tables c.common.store) (g.S.Store.at c.common.store) c.follow.new.run
+
+goes_on : (g : Over) (c : In_default-follow g) → row c.args.code.now (before g c) ≡ More (behind g c)
+goes_on g c =
+    done_more c.args.code.now (before g c) (behind g c) c.in-Some.routine.now c.in-Some-instruction.instruction.now c.follow.result _ c.common.invariant.routine
+    (sym (ap option_copied c.in-Some-instruction.is) ∙ c.instruction.ensures.instruction) c.in_default-follow.is
+    (c.follow.ensures.due c.args.code.now (g.S.Store.tables c.common.store) (g.S.Store.at c.common.store))
+
+-- ---- the goals
 
 pub common-init : goal.common-init
 common-init g c = record {
@@ -52,26 +70,17 @@ returns-in-Err-clause-due g c =
 
 pub common-smaller : goal.common-smaller
 common-smaller g c =
-    let code = c.args.code.now in
-    let tables = g.S.Store.tables c.common.store in
-    let at = g.S.Store.at c.common.store in
-    row_less code c.requires.right (machine_of tables at c.common.run) (machine_of tables at c.follow.new.run) c.common.invariant.sits
-    (done_more code (machine_of tables at c.common.run) (machine_of tables at c.follow.new.run) c.in-Some.routine.now c.in-Some-instruction.instruction.now c.follow.result _ c.common.invariant.routine
-    (sym (ap option_copied c.in-Some-instruction.is) ∙ c.instruction.ensures.instruction) c.in_default-follow.is (c.follow.ensures.due code tables at))
+    let x = (goal.at.common-smaller g c).In_default-follow in
+    row_less c.args.code.now c.requires.right (before g x) (behind g x) c.common.invariant.sits (goes_on g x)
 
 pub common-preserved : goal.common-preserved
 common-preserved g c =
     let code = c.args.code.now in
-    let tables = g.S.Store.tables c.common.store in
-    let at = g.S.Store.at c.common.store in
-    let m = machine_of tables at c.common.run in
-    let now = machine_of tables at c.follow.new.run in
-    let more : row code m ≡ More now =
-    done_more code m now c.in-Some.routine.now c.in-Some-instruction.instruction.now c.follow.result _ c.common.invariant.routine
-    (sym (ap option_copied c.in-Some-instruction.is) ∙ c.instruction.ensures.instruction) c.in_default-follow.is (c.follow.ensures.due code tables at) in
+    let start = More (machine_of (g.S.Store.tables c.common.store) (g.S.Store.at c.common.store) c.args.run.now) in
+    let x = (goal.at.common-preserved g c).In_default-follow in
     record {
-      before = (c.common.invariant.before.0 + 1, goes_further code (More (machine_of tables at c.args.run.now)) c.common.invariant.before.0 m now c.common.invariant.before.1 more);
-      sits = sits_further code c.requires.right m now c.common.invariant.sits more;
+      before = (c.common.invariant.before.0 + 1, goes_further code start c.common.invariant.before.0 (before g x) (behind g x) c.common.invariant.before.1 (goes_on g x));
+      sits = sits_further code c.requires.right (before g x) (behind g x) c.common.invariant.sits (goes_on g x);
       same = same_then c.args.run.now c.common.run c.follow.new.run c.common.invariant.same c.follow.ensures.same;
       routine = ap (routine_at code) c.follow.ensures.routine ∙ c.common.invariant.routine;
       store = c.common.invariant.store;

@@ -7,7 +7,22 @@ use Rattle.psm_machine.specs.Running.{Advances, AfterRow}
 use Rattle.psm_machine.proofs.Finishing.{finishes_over}
 use Rattle.psm_machine.proofs.Onward.{advance_leads, advance_less, onward, sits_there}
 use Rattle.psm_machine.proofs.Standing.{still_same, still_then}
+use Rattle.psm_machine.proofs.running.go_through.Given.{Over}
+use Rattle.psm_machine.proofs.running.go_through.Goals.{In_default}
 use Rattle.psm_machine.proofs.running.go_through.Goals as goal
+
+-- ---- a turn of the loop behind which another one comes: the machine before it and behind it, and that it advances
+
+abbrev before : (g : Over) → In_default g → Machine
+before g c = machine_of (g.S.Store.tables c.rows.store) (g.S.Store.at c.rows.store) c.rows.run
+
+abbrev behind : (g : Over) → In_default g → Machine
+behind g c = machine_of (g.S.Store.tables c.advance.new.store) (g.S.Store.at c.advance.new.store) c.advance.new.run
+
+goes_on : (g : Over) (c : In_default g) → Advances c.args.code.now (before g c) None (behind g c)
+goes_on g c = subst (λ f. Advances c.args.code.now (before g c) f (behind g c)) c.in_default.is c.in_ok-finished.ensures.due
+
+-- ---- the goals
 
 pub rows-init : goal.rows-init
 rows-init g c = record {
@@ -19,22 +34,19 @@ rows-init g c = record {
 
 pub rows-smaller : goal.rows-smaller
 rows-smaller g c =
-    let code = c.args.code.now in
-    let m : Machine = machine_of (g.S.Store.tables c.rows.store) (g.S.Store.at c.rows.store) c.rows.run in
-    let now : Machine = machine_of (g.S.Store.tables c.advance.new.store) (g.S.Store.at c.advance.new.store) c.advance.new.run in
-    advance_less code c.requires.right m now c.rows.invariant.sits (subst (λ f. Advances code m f now) c.in_default.is c.in_ok-finished.ensures.due)
+    let x = (goal.at.rows-smaller g c).In_default in
+    advance_less c.args.code.now c.requires.right (before g x) (behind g x) c.rows.invariant.sits (goes_on g x)
 
 pub rows-preserved : goal.rows-preserved
 rows-preserved g c =
     let code = c.args.code.now in
     let from = More (machine_of (g.S.Store.tables c.args.store.now) (g.S.Store.at c.args.store.now) c.args.run) in
-    let m : Machine = machine_of (g.S.Store.tables c.rows.store) (g.S.Store.at c.rows.store) c.rows.run in
-    let now : Machine = machine_of (g.S.Store.tables c.advance.new.store) (g.S.Store.at c.advance.new.store) c.advance.new.run in
-    let a : Advances code m None now = subst (λ f. Advances code m f now) c.in_default.is c.in_ok-finished.ensures.due in
-    let leads = advance_leads code m now a in
+    let x = (goal.at.rows-preserved g c).In_default in
+    let a = goes_on g x in
+    let leads = advance_leads code (before g x) (behind g x) a in
     record {
-      before = (c.rows.invariant.before.0 + (a.count + 1), onward code from m now c.rows.invariant.before.0 (a.count + 1) c.rows.invariant.before.1 leads);
-      sits = sits_there code c.requires.right m now (a.count + 1) c.rows.invariant.sits leads;
+      before = (c.rows.invariant.before.0 + (a.count + 1), onward code from (before g x) (behind g x) c.rows.invariant.before.0 (a.count + 1) c.rows.invariant.before.1 leads);
+      sits = sits_there code c.requires.right (before g x) (behind g x) (a.count + 1) c.rows.invariant.sits leads;
       stand = c.advance.ensures.still.stand c.rows.invariant.stand;
       still =
           still_then (g.S.Store.holds c.args.store.now) (g.S.Store.at c.args.store.now) (g.S.Store.marks c.args.store.now) c.args.run
