@@ -1,11 +1,14 @@
 use Rattle.std.proofs.Common.{◌≡◌, [], ◌++◌, ◌-◌, None, drop, reverse, take, refl, ap, sym, ◌∙◌}
 use Rattle.psm_operands.specs.Stacked.{first_of}
+use Rattle.psm_unwind.specs.declared.run.Run.{Run}
 use Rattle.psm_unwind.specs.Leaving.{inside}
 use Rattle.psm_unwind.specs.Marks.{Unwinds}
 use Rattle.psm_unwind.specs.View.{activation_of, callers_of, frames_of, machine_of}
 use Rattle.psm_unwind.proofs.Arriving.{all_left}
 use Rattle.psm_unwind.proofs.Unwinding.{callers_now, running_nested, unwinds_frames}
 use Rattle.psm_machine.proofs.Leavings.{left_over, left_to, tables_kept, unwinds_back}
+use Rattle.psm_machine.proofs.ends.leave.Given.{Over}
+use Rattle.psm_machine.proofs.ends.leave.Goals.{After-resume}
 use Rattle.psm_machine.proofs.ends.leave.Goals as goal
 
 pub leave_until-requires : goal.leave_until-requires
@@ -20,53 +23,48 @@ returns-in_ok-values-in-None-clause-due g c =
     c.args.values.items c.in_ok-values-in-None.values (ap (λ xs. callers_of (g.S.Store.at c.args.store.now) c.args.run.now.operands.callers (reverse xs)) callers) (c.in_ok-values-in-None.ensures ∙ c.of.ensures)
     (c.leave_until.ensures.tables ∙ tables_kept (inside None (frames_of (g.S.Store.at c.args.store.now) (reverse c.args.run.now.running.frames.items))) (g.S.Store.tables c.args.store.now))
 
+-- ---- behind an activation that had a caller
+
+-- the run once the frames of the activation are left
+abbrev bare : (g : Over) → After-resume g → Run
+bare g c = let r = c.args.run.now in record r { running = record r.running { cursors = c.leave_until.new.cursors; frames = c.leave_until.new.frames } }
+
+abbrev UnwindsTo : (g : Over) → After-resume g → Run → Type 0
+UnwindsTo g c new =
+    Unwinds (g.S.Store.holds c.args.store.now) (g.S.Store.at c.args.store.now) (g.S.Store.marks c.args.store.now) (g.S.Store.tables c.args.store.now) c.args.run.now
+    (g.S.Store.holds c.leave_until.new.store) (g.S.Store.at c.leave_until.new.store) (g.S.Store.marks c.leave_until.new.store) (g.S.Store.tables c.leave_until.new.store) new
+
+frames_left : (g : Over) (c : After-resume g) → UnwindsTo g c (bare g c)
+frames_left g c =
+    unwinds_frames (g.S.Store.holds c.args.store.now) (g.S.Store.at c.args.store.now) (g.S.Store.marks c.args.store.now) (g.S.Store.tables c.args.store.now) c.args.run.now
+    (g.S.Store.holds c.leave_until.new.store) (g.S.Store.at c.leave_until.new.store) (g.S.Store.marks c.leave_until.new.store) (g.S.Store.tables c.leave_until.new.store) (bare g c)
+    c.requires c.leave_until.ensures.leaves c.leave_until.ensures.marks c.leave_until.ensures.defs refl refl
+
+caller_resumed : (g : Over) (c : After-resume g) → UnwindsTo g c c.resume.new.run
+caller_resumed g c =
+    unwinds_back (g.S.Store.holds c.args.store.now) (g.S.Store.at c.args.store.now) (g.S.Store.marks c.args.store.now) (g.S.Store.tables c.args.store.now) c.args.run.now
+    (g.S.Store.holds c.leave_until.new.store) (g.S.Store.at c.leave_until.new.store) (g.S.Store.marks c.leave_until.new.store) (g.S.Store.tables c.leave_until.new.store) (bare g c)
+    c.in-Some.caller c.pop.new.self c.end.new.self c.resume.new.run c.requires (frames_left g c)
+    (all_left (g.S.Store.at c.leave_until.new.store) c.leave_until.new.frames.items (frames_of (g.S.Store.at c.args.store.now) (reverse c.args.run.now.running.frames.items)) c.leave_until.ensures.frames)
+    c.in-Some.ensures.items c.resume.ensures.same
+
 pub returns-in_ok-resume-in-Some-clause-due : goal.returns-in_ok-resume-in-Some-clause-due
 returns-in_ok-resume-in-Some-clause-due g c =
-    let h0 = g.S.Store.holds c.args.store.now in
     let at0 = g.S.Store.at c.args.store.now in
-    let count0 = g.S.Store.marks c.args.store.now in
     let tables0 = g.S.Store.tables c.args.store.now in
-    let h1 = g.S.Store.holds c.leave_until.new.store in
     let at1 = g.S.Store.at c.leave_until.new.store in
-    let count1 = g.S.Store.marks c.leave_until.new.store in
     let tables1 = g.S.Store.tables c.leave_until.new.store in
     let r = c.args.run.now in
-    let left = record r { running = record r.running { cursors = c.leave_until.new.cursors; frames = c.leave_until.new.frames } } in
-    let u : Unwinds h0 at0 count0 tables0 r h1 at1 count1 tables1 left = unwinds_frames h0 at0 count0 tables0 r h1 at1 count1 tables1 left c.requires c.leave_until.ensures.leaves c.leave_until.ensures.marks c.leave_until.ensures.defs refl refl in
+    let x = (goal.at.returns-in_ok-resume-in-Some-clause-due g c).After-resume in
     left_to (machine_of tables0 at0 r) (machine_of tables1 at1 (record r { running = c.in-Some.caller; callers = c.pop.new.self; operands = c.end.new.self })) (machine_of tables1 at1 c.resume.new.run) c.args.values.items
     (activation_of at1 (first_of r.operands.callers) c.in-Some.caller) (callers_of at1 (drop 1 r.operands.callers) (reverse c.pop.new.self.items)) tables1
-    (callers_now h0 at0 count0 tables0 r h1 at1 count1 tables1 left c.pop.new.self.items c.in-Some.caller u refl refl c.in-Some.ensures.items)
+    (callers_now (g.S.Store.holds c.args.store.now) at0 (g.S.Store.marks c.args.store.now) tables0 r (g.S.Store.holds c.leave_until.new.store) at1 (g.S.Store.marks c.leave_until.new.store) tables1 (bare g x)
+    c.pop.new.self.items c.in-Some.caller (frames_left g x) refl refl c.in-Some.ensures.items)
     (c.leave_until.ensures.tables ∙ tables_kept (inside None (frames_of at0 (reverse r.running.frames.items))) tables0)
     (ap (λ operands. machine_of tables1 at1 (record r { running = c.in-Some.caller; callers = c.pop.new.self; operands = operands })) (sym c.end.ensures)) (c.in_ok-resume-in-Some.ensures.due tables1 at1)
 
 pub returns-in_ok-resume-in-Some-clause-unwinds : goal.returns-in_ok-resume-in-Some-clause-unwinds
-returns-in_ok-resume-in-Some-clause-unwinds g c =
-    let h0 = g.S.Store.holds c.args.store.now in
-    let at0 = g.S.Store.at c.args.store.now in
-    let count0 = g.S.Store.marks c.args.store.now in
-    let tables0 = g.S.Store.tables c.args.store.now in
-    let h1 = g.S.Store.holds c.leave_until.new.store in
-    let at1 = g.S.Store.at c.leave_until.new.store in
-    let count1 = g.S.Store.marks c.leave_until.new.store in
-    let tables1 = g.S.Store.tables c.leave_until.new.store in
-    let r = c.args.run.now in
-    let left = record r { running = record r.running { cursors = c.leave_until.new.cursors; frames = c.leave_until.new.frames } } in
-    let u : Unwinds h0 at0 count0 tables0 r h1 at1 count1 tables1 left = unwinds_frames h0 at0 count0 tables0 r h1 at1 count1 tables1 left c.requires c.leave_until.ensures.leaves c.leave_until.ensures.marks c.leave_until.ensures.defs refl refl in
-    unwinds_back h0 at0 count0 tables0 r h1 at1 count1 tables1 left c.in-Some.caller c.pop.new.self c.end.new.self c.resume.new.run c.requires u
-    (all_left at1 c.leave_until.new.frames.items (frames_of at0 (reverse r.running.frames.items)) c.leave_until.ensures.frames) c.in-Some.ensures.items c.resume.ensures.same
+returns-in_ok-resume-in-Some-clause-unwinds g c = caller_resumed g (goal.at.returns-in_ok-resume-in-Some-clause-unwinds g c).After-resume
 
 pub returns-in_err-resume-in-Some-clause-unwinds : goal.returns-in_err-resume-in-Some-clause-unwinds
-returns-in_err-resume-in-Some-clause-unwinds g c =
-    let h0 = g.S.Store.holds c.args.store.now in
-    let at0 = g.S.Store.at c.args.store.now in
-    let count0 = g.S.Store.marks c.args.store.now in
-    let tables0 = g.S.Store.tables c.args.store.now in
-    let h1 = g.S.Store.holds c.leave_until.new.store in
-    let at1 = g.S.Store.at c.leave_until.new.store in
-    let count1 = g.S.Store.marks c.leave_until.new.store in
-    let tables1 = g.S.Store.tables c.leave_until.new.store in
-    let r = c.args.run.now in
-    let left = record r { running = record r.running { cursors = c.leave_until.new.cursors; frames = c.leave_until.new.frames } } in
-    let u : Unwinds h0 at0 count0 tables0 r h1 at1 count1 tables1 left = unwinds_frames h0 at0 count0 tables0 r h1 at1 count1 tables1 left c.requires c.leave_until.ensures.leaves c.leave_until.ensures.marks c.leave_until.ensures.defs refl refl in
-    unwinds_back h0 at0 count0 tables0 r h1 at1 count1 tables1 left c.in-Some.caller c.pop.new.self c.end.new.self c.resume.new.run c.requires u
-    (all_left at1 c.leave_until.new.frames.items (frames_of at0 (reverse r.running.frames.items)) c.leave_until.ensures.frames) c.in-Some.ensures.items c.resume.ensures.same
+returns-in_err-resume-in-Some-clause-unwinds g c = caller_resumed g (goal.at.returns-in_err-resume-in-Some-clause-unwinds g c).After-resume
