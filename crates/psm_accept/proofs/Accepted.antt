@@ -17,13 +17,13 @@ use Rattle.psm_rules.specs.declared.rule.Rule.TheVariants as rule
 use Rattle.psm_rules.specs.Found.{as_value, broken}
 use Rattle.psm_rules.specs.Shapes.{integer, varying}
 use Rattle.psm_rules.specs.ExprFaults as faults
-use Rattle.psm_rules.specs.ExprFaults.{Of, PickFound, PickPart, LinkPart, QueryFound, WhenPart, columns_known, expr_found, items_fault, link_found, pick_found, query_fault, query_found, seen, seen_in, seen_option, sets_fault, spelling, table_fault, test_fault, when_found}
+use Rattle.psm_rules.specs.ExprFaults.{Of, PickPart, LinkPart, QueryFound, WhenPart, expr_found, link_found, pick_found, query_found, seen, spelling, when_found}
 use Rattle.psm_rules.specs.View.{View}
 use Rattle.psm_tree.specs.declared.name.Identifier.{Identifier}
 use Rattle.psm_tree.specs.declared.name.Target.{Target}
 use Rattle.psm_tree.specs.declared.expr.Operator.{Operator as WrittenOperator}
 use Rattle.psm_tree.specs.declared.expr.Expr.{Expr, roll-Expr}
-use Rattle.psm_tree.specs.declared.expr.Expr.TheOpen.{Expr-F, Pick-F, Link-F, Select-F, When-F}
+use Rattle.psm_tree.specs.declared.expr.Expr.TheOpen.{Expr-F}
 use Rattle.psm_tree.specs.declared.expr.Expr.TheOpen as layers
 use Rattle.psm_tree.specs.declared.expr.Expr.TheFolds.{map-Expr, fold-roll-Expr}
 use Rattle.psm_tree.specs.declared.expr.Link.{Link}
@@ -34,14 +34,13 @@ use Rattle.psm_resolve_expr.specs.declared.made.Made.{Made}
 use Rattle.psm_resolve_expr.specs.declared.made.MadeQuery.{MadeQuery}
 use Rattle.psm_resolve_expr.specs.Sight.{Sight, meant_in}
 use Rattle.psm_resolve_expr.specs.Made as made
-use Rattle.psm_resolve_expr.specs.Made.{MadePick, Values}
+use Rattle.psm_resolve_expr.specs.Made.{MadePick}
 use Rattle.psm_resolve_expr.specs.Exprs as making
-use Rattle.psm_resolve_expr.specs.Exprs.{all_at, any_at, at, columns_in, columns_on, comparison_of, function_of, junction_of, link_made, made_of, number_of, pick_made, query_made, query_of, side_of, when_made}
+use Rattle.psm_resolve_expr.specs.Exprs.{all_at, at, comparison_of, function_of, junction_of, link_made, made_of, pick_made, query_made, side_of, when_made}
 use Rattle.psm_resolved.specs.declared.expr.ResolvedExpr.TheVariants as exprs
-use Rattle.psm_resolve_expr.specs.Exprs.{expr_in}
 use Rattle.psm_sound.specs.Scene.{Scene}
 use Rattle.psm_accept.specs.Agreement as agreement
-use Rattle.psm_accept.specs.Agreement.{Agree, HaveTypes, HasSlot}
+use Rattle.psm_accept.specs.Agreement.{Agree, HaveTypes}
 use Rattle.psm_accept.specs.Stands.{Standing, as_source, link_stands, link_stands_layer, pick_stands, pick_stands_layer, select_stands, select_stands_layer, stands, stands_layer, when_stands, when_stands_layer}
 use Rattle.psm_accept.proofs.Names.{IsColumn, columns_placed, meant_alike, meant_each}
 use Rattle.psm_accept.proofs.Judging.{Where, Control, OnRow, column-judged, like-judged, position-judged, substring-judged, trim-judged}

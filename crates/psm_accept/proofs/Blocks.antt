@@ -6,7 +6,7 @@ use Rattle.psm_exprcode.specs.declared.op.Letter.TheVariants.{B}
 use Rattle.psm_scope.specs.Frames.{Spelling}
 use Rattle.psm_scope.specs.Frames as frame
 use Rattle.psm_rules.specs.BlockFaults as faults
-use Rattle.psm_rules.specs.BlockFaults.{all_values, block_fault, body_fault, branch_part, case_branches, declared_fault, declared_frames, handler_part, handlers_fault, head_fault, head_frame, searched, simple, statement_fault, test_part, values_fault, within_frames}
+use Rattle.psm_rules.specs.BlockFaults.{all_values, block_fault, body_fault, branch_part, declared_fault, declared_frames, handler_part, handlers_fault, head_fault, head_frame, searched, simple, statement_fault, test_part, values_fault, within_frames}
 use Rattle.psm_rules.specs.Faults.{first_of}
 use Rattle.psm_rules.specs.Found.{as_value}
 use Rattle.psm_rules.specs.StatementFaults as checked
@@ -23,10 +23,12 @@ use Rattle.psm_resolved.specs.declared.statement.ResolvedStatement.{ResolvedStat
 use Rattle.psm_resolved.specs.declared.statement.ResolvedStatement.TheOpen as layers
 use Rattle.psm_resolved.specs.declared.statement.ResolvedStatement.TheVariants as made
 use Rattle.psm_resolve_expr.specs.Sight.{Frames, Sight}
+use Rattle.psm_declare.specs.Seen.{expr_at}
+use Rattle.psm_declare.specs.Declarations as declaring
 use Rattle.psm_resolve.specs.Blocks as making
 use Rattle.psm_resolve.specs.Blocks.{block_made, branch_made, handler_made, kind_of, statement_made, value_of}
-use Rattle.psm_resolve.specs.Numbering.{Numbering}
-use Rattle.psm_resolve.specs.Statements.{expr_at, simple_of}
+use Rattle.psm_declare.specs.Numbering.{Numbering}
+use Rattle.psm_resolve.specs.Statements.{simple_of}
 use Rattle.psm_emit.specs.declared.known.Known.{Known}
 use Rattle.psm_sound.specs.Scene.{Each, Scene}
 use Rattle.psm_sound.specs.Statements as places
@@ -199,7 +201,7 @@ module _ (e : Scene) (known : Known) (letters : Letters) (parts : PartsProper e 
         let sight : Sight = at_frames world frames in
         let p = here.stands in
         let level : ℕ = length frames in
-        let told : making.Told = making.told_head sight label head n in
+        let told : declaring.Told = making.told_head sight label head n in
         let x = making.head_of sight head n in
         let inner : Context = checked.inside c (head_frame c.view label head) in
         let two = neither (head_fault c.view head) (faults.all inner (map statement_fault (several statements))) none in
@@ -214,14 +216,14 @@ module _ (e : Scene) (known : Known) (letters : Letters) (parts : PartsProper e 
         }
     block_layer (stand.compound {atomic = atomic} {xs = xs} {cursors = cursors} {handlers = handlers} {statements = statements} ds cs hs h) label s c world frames n none here closed =
         let level : ℕ = length frames in
-        let t : making.Told = told label frames n xs cursors in
+        let t : declaring.Told = told label frames n xs cursors in
         let own = own_cursors world label frames n xs cursors in
         let place : places.Sight = inside level own s in
         let inner : Context = within_frames c (declared_frames label c.view xs cursors) in
         let sight : Sight = at_frames world t.0 in
         let hm = handlers_made handlers sight t.1 in
         let ss = statements_made statements sight hm.1 in
-        let o : BlockParts = record { atomic = atomic; declarations = making.declarations_of world (before label frames n) xs; cursors = own; handlers = hm.0; statements = ss.0 } in
+        let o : BlockParts = record { atomic = atomic; declarations = declaring.declarations_of world (before label frames n) xs; cursors = own; handlers = hm.0; statements = ss.0 } in
         let two = neither (declared_fault label c.view xs cursors) (body_fault inner atomic (map handler_part handlers) (map statement_fault statements)) none in
         let three = three_none (first_of (values_fault inner.view.frames [] (all_values (map handler_part handlers)))) (first_of (handlers_fault inner atomic (map handler_part handlers))) (faults.all inner (map statement_fault statements)) two.1 in
         let numbered = each_split (IsNumbered e known letters) own (cursors_of_handlers hm.0 ++ cursors_of_all ss.0) (subst (Each (IsNumbered e known letters)) (compound_cursors level o) closed.1) in

@@ -3,7 +3,7 @@ use Rattle.std.proofs.Common.{◌≡◌, ℕ, List, [], ◌∷◌, ◌++◌, map
 use Rattle.std.specs.Prelude.{filter, not}
 use Rattle.std.proofs.lemmas.List.{append_assoc}
 use Rattle.psm_value.specs.declared.sqltype.SqlType.{SqlType}
-use Rattle.psm_scope.specs.Frames.{Declared, Frame, Spelling, undeclared}
+use Rattle.psm_scope.specs.Frames.{Declared, Frame, Spelling}
 use Rattle.psm_scope.specs.Frames as frame
 use Rattle.psm_scope.specs.Routines.{procedure}
 use Rattle.psm_scope.specs.declared.known.Variable.{Variable}
@@ -13,7 +13,7 @@ use Rattle.psm_rules.specs.FileFaults.{body_context, is_function, kind_of_routin
 use Rattle.psm_rules.specs.StatementFaults.{Context, InProcedure, Within, repeated}
 use Rattle.psm_rules.specs.Types.{type_of}
 use Rattle.psm_rules.specs.View as views
-use Rattle.psm_rules.specs.View.{Cursor, World}
+use Rattle.psm_rules.specs.View.{World}
 use Rattle.psm_tree.specs.declared.file.FileTree.{FileTree}
 use Rattle.psm_tree.specs.declared.file.Parameter.{Parameter}
 use Rattle.psm_tree.specs.declared.file.Routine.{Routine}
@@ -21,7 +21,7 @@ use Rattle.psm_tree.specs.declared.types.DataType.{DataType}
 use Rattle.psm_resolve_expr.specs.Exprs.{type_known}
 use Rattle.psm_resolve_expr.specs.Sight as sights
 use Rattle.psm_resolve_expr.specs.Sight.{Sight}
-use Rattle.psm_resolve.specs.Numbering.{Numbering, next_slot, with_slot}
+use Rattle.psm_declare.specs.Numbering.{Numbering, next_slot, with_slot}
 use Rattle.psm_resolve.specs.Files.{file_made, nothing_numbered, routine_made, routine_told, told_parameters}
 use Rattle.psm_resolve.specs.Worlds.{known_world}
 use Rattle.psm_meaning.specs.Calls.{returns}

@@ -4,7 +4,7 @@ use Rattle.psm_exprcode.specs.declared.op.Letter.{Letter}
 use Rattle.psm_exprcode.specs.declared.op.Letter.TheVariants.{B}
 use Rattle.psm_rules.specs.declared.found.Found.{Found}
 use Rattle.psm_rules.specs.BlockFaults as faults
-use Rattle.psm_rules.specs.BlockFaults.{BranchPart, branch_part, searched, simple, statement_fault, test_part}
+use Rattle.psm_rules.specs.BlockFaults.{branch_part, searched, simple, statement_fault, test_part}
 use Rattle.psm_rules.specs.ExprFaults.{simple_test}
 use Rattle.psm_rules.specs.Faults.{earlier, first_of}
 use Rattle.psm_rules.specs.Found.{as_condition, as_value}
@@ -13,7 +13,6 @@ use Rattle.psm_rules.proofs.Earliest.{first_of_cons}
 use Rattle.psm_tree.specs.declared.expr.Expr.{Expr}
 use Rattle.psm_tree.specs.declared.statement.Branch.{Branch, out-Branch}
 use Rattle.psm_resolve_expr.specs.Sight.{Sight}
-use Rattle.psm_resolve.specs.Statements.{expr_at}
 use Rattle.psm_emit.specs.declared.known.Known.{Known}
 use Rattle.psm_sound.specs.Scene.{Each, Scene}
 use Rattle.psm_proper.specs.Statements.{IsTest, Letters}
@@ -24,6 +23,7 @@ use Rattle.psm_accept.proofs.Opening.{branch_part-out}
 use Rattle.psm_accept.proofs.Parts.{neither}
 use Rattle.psm_accept.proofs.Premises.{PartsProper}
 use Rattle.psm_accept.proofs.ProperForms.{IsCompared}
+use Rattle.psm_declare.specs.Seen.{expr_at}
 
 -- the test of a branch has that letter, and its statements have no fault
 abbrev pub IsGoodBranch : Scene → Known → Context → Sight → Letter → Branch → Type 0

@@ -1,11 +1,13 @@
 -- INSERT and DELETE without a fault are sound, and so are the searched and the positioned rows of a table.
 use Rattle.std.proofs.Common.{◌≡◌, ℕ, suc, Bool, true, false, List, [], ◌∷◌, map, length, Option, Some, None, option_map, refl, ap, sym, ◌∙◌, subst, arith}
 use Rattle.std.specs.Prelude.{IfSome, IsTrue, if◌then◌else◌, nat_eq, slice_get}
+use Rattle.psm_known.specs.Columns.{all_places, column_of, inserted}
 use Rattle.psm_token.specs.declared.place.Place.{Place}
 use Rattle.psm_value.specs.declared.sqltype.SqlType.{SqlType}
 use Rattle.psm_exprcode.specs.declared.op.Letter.{Letter}
 use Rattle.psm_exprcode.specs.declared.op.Letter.TheVariants.{N, B}
 use Rattle.psm_exprcode.specs.Kinds.{is_value}
+use Rattle.psm_scope.specs.Rows.{columns_known}
 use Rattle.psm_scope.specs.Lookup.{named}
 use Rattle.psm_rules.specs.declared.fault.Fault.{Fault}
 use Rattle.psm_rules.specs.declared.found.Found.{Found}
@@ -16,7 +18,7 @@ use Rattle.psm_rules.specs.Faults.{breaks, earlier, first_of}
 use Rattle.psm_rules.specs.Found.{as_value}
 use Rattle.psm_rules.specs.Shapes.{family_of}
 use Rattle.psm_rules.specs.ExprFaults as faults
-use Rattle.psm_rules.specs.ExprFaults.{QueryFound, columns_known, expr_found, items_of, query_fault, query_found, table_fault}
+use Rattle.psm_rules.specs.ExprFaults.{QueryFound, expr_found, items_of, query_fault, query_found, table_fault}
 use Rattle.psm_rules.specs.StatementFaults.{columns_fault, cursor_of, delete_fault, family_due, found, insert_fault, insert_source_fault, inserted_types, items_into, listed_columns, mixed_at, on_table, positioned_fault, row_fault, several, source_fault, sources_fault, type_of_column, where_fault}
 use Rattle.psm_rules.specs.View.{Columns, Cursor, View, table_named}
 use Rattle.psm_rules.proofs.Earliest.{first_of_cons}
@@ -34,8 +36,9 @@ use Rattle.psm_resolved.specs.declared.file.ResolvedTable.{ResolvedTable}
 use Rattle.psm_resolve_expr.specs.declared.made.Made.{Made}
 use Rattle.psm_resolve_expr.specs.Exprs.{columns_in, made_of, number_of, query_made}
 use Rattle.psm_resolve_expr.specs.Sight.{Sight, table_at}
+use Rattle.psm_declare.specs.Seen.{expr_at}
 use Rattle.psm_resolve.specs.Statements as making
-use Rattle.psm_resolve.specs.Statements.{all_places, column_of, expr_at, inserted, row_of, rows_of, which_in}
+use Rattle.psm_resolve.specs.Statements.{row_of, rows_of, which_in}
 use Rattle.psm_sound.specs.Expressions.{AreExprs, IsExpr}
 use Rattle.psm_sound.specs.Expressions as typed_expr
 use Rattle.psm_sound.specs.Scene.{Each, Scene}

@@ -37,7 +37,7 @@ use Rattle.psm_code.specs.Rules.{each_after, is_same, unless}
 use Rattle.psm_code.specs.TableRules.{column_fault, is_as_stored, same_datum}
 use Rattle.psm_resolve_expr.specs.Exprs.{type_known}
 use Rattle.psm_resolve.specs.Files.{column_with, default_of, defined_from, stored_as}
-use Rattle.psm_resolve.proofs.Bounds.{known_within}
+use Rattle.psm_declare.proofs.Bounds.{known_within}
 use Rattle.psm_sound.specs.Scene.{Each}
 use Rattle.psm_proper.specs.Files.{NoFault}
 use Rattle.psm_accept.specs.Agreement.{HaveTypes}

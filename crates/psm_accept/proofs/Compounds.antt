@@ -13,8 +13,7 @@ use Rattle.psm_tree.specs.declared.statement.CursorDeclaration.{CursorDeclaratio
 use Rattle.psm_tree.specs.declared.statement.Declaration.{Declaration}
 use Rattle.psm_resolved.specs.declared.statement.ResolvedCursor.{ResolvedCursor}
 use Rattle.psm_resolve_expr.specs.Sight.{Frames}
-use Rattle.psm_resolve.specs.Blocks.{Told, cursors_of, declarations_of, opened, told_by, told_cursors}
-use Rattle.psm_resolve.specs.Numbering.{Numbering}
+use Rattle.psm_declare.specs.Numbering.{Numbering}
 use Rattle.psm_emit.specs.declared.known.Known.{Known}
 use Rattle.psm_sound.specs.Scene.{Each, Scene}
 use Rattle.psm_sound.specs.Statements as places
@@ -31,6 +30,7 @@ use Rattle.psm_accept.proofs.EnteringBlocks.{enter_block}
 use Rattle.psm_accept.proofs.Growing.{Grows, cursors-grow, declarations-grow, fills-before}
 use Rattle.psm_accept.proofs.Moving.{IsHere}
 use Rattle.psm_accept.proofs.Premises.{PartsProper}
+use Rattle.psm_declare.specs.Declarations.{Told, cursors_of, declarations_of, opened, told_by, told_cursors}
 
 -- ---- what is told
 

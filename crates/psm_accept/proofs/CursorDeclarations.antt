@@ -17,8 +17,7 @@ use Rattle.psm_tree.specs.declared.statement.Updatability.{Updatability}
 use Rattle.psm_tree.specs.declared.statement.Updatability.TheVariants as updatability
 use Rattle.psm_resolved.specs.declared.statement.ResolvedCursor.{ResolvedCursor}
 use Rattle.psm_resolve_expr.specs.Sight.{Frames, Sight}
-use Rattle.psm_resolve.specs.Blocks.{Told, cursor_of, cursors_of, ordered_query, told_cursor, told_cursors}
-use Rattle.psm_resolve.specs.Numbering.{Numbering, with_cursor}
+use Rattle.psm_declare.specs.Numbering.{Numbering, with_cursor}
 use Rattle.psm_emit.specs.declared.known.Known.{Known}
 use Rattle.psm_emit.specs.Queries.{item_letters}
 use Rattle.psm_exprcode.specs.declared.op.Letter.{Letter}
@@ -39,6 +38,7 @@ use Rattle.psm_accept.proofs.Parts.{neither}
 use Rattle.psm_accept.proofs.Premises.{PartsProper}
 use Rattle.psm_accept.proofs.Simples.{mapped_many, there_is}
 use Rattle.psm_accept.proofs.Whole.{three_none}
+use Rattle.psm_declare.specs.Declarations.{Told, cursor_of, cursors_of, ordered_query, told_cursor, told_cursors}
 
 -- ---- the numbers of cursors that are declared one after another
 

@@ -27,7 +27,6 @@ use Rattle.psm_resolve_expr.specs.Exprs as making
 use Rattle.psm_resolve_expr.specs.Exprs.{number_of, query_made}
 use Rattle.psm_resolve_expr.specs.Made.{MadePick, values_in, sets_in}
 use Rattle.psm_resolve_expr.specs.Sight.{Sight, on_row, table_at}
-use Rattle.psm_resolve.specs.Blocks.{is_downward, ordered, ordered_query}
 use Rattle.psm_meaning.specs.Rows as rows
 use Rattle.psm_meaning.specs.Rows.{query_of}
 use Rattle.psm_emit.specs.declared.known.Known.{Known}
@@ -45,6 +44,7 @@ use Rattle.psm_accept.specs.Places.{IsTyped}
 use Rattle.psm_accept.specs.Stands.{select_stands}
 use Rattle.psm_accept.proofs.Clauses.{queries}
 use Rattle.psm_accept.proofs.Premises.{PartsProper}
+use Rattle.psm_declare.specs.Declarations.{is_downward, ordered, ordered_query}
 
 -- ---- the table of a query
 

@@ -27,10 +27,10 @@ use Rattle.psm_tree.specs.declared.types.State.{State}
 use Rattle.psm_resolved.specs.declared.statement.ResolvedDeclaration.{ResolvedDeclaration}
 use Rattle.psm_resolve_expr.specs.Exprs.{type_known}
 use Rattle.psm_resolve_expr.specs.Sight.{Frames, Sight}
-use Rattle.psm_resolve.specs.Blocks as making
-use Rattle.psm_resolve.specs.Blocks.{Told, declaration_of, declarations_of, slots_from, told_behind, told_by, told_condition, told_variables, variable_in}
-use Rattle.psm_resolve.specs.Numbering.{Numbering, next_condition, next_slot, with_condition, with_slot}
-use Rattle.psm_resolve.specs.Statements.{expr_at}
+use Rattle.psm_declare.specs.Declarations.{Told, declaration_of, declarations_of, slots_from, told_behind, told_by, told_condition, told_variables, variable_in}
+use Rattle.psm_declare.specs.Seen.{expr_at}
+use Rattle.psm_declare.specs.Declarations as declaring
+use Rattle.psm_declare.specs.Numbering.{Numbering, next_condition, next_slot, with_condition, with_slot}
 use Rattle.psm_emit.specs.declared.known.Known.{Known}
 use Rattle.psm_emit.proofs.There.{there_at}
 use Rattle.psm_sound.specs.Scene.{Each, Scene}
@@ -77,7 +77,7 @@ types-slot t n bounded h = all_append is_type n.slots (t ∷ []) h (one (is_type
 
 types-variables : (t : SqlType) (told : Told) (ns : List Identifier) → is_type t ≡ true → AreTypes told.1 → AreTypes (told_variables t told ns).1
 types-variables t told [] bounded h = h
-types-variables t told (n ∷ ns) bounded h = types-variables t (making.told_variable t told n.name) ns bounded (types-slot t told.1 bounded h)
+types-variables t told (n ∷ ns) bounded h = types-variables t (declaring.told_variable t told n.name) ns bounded (types-slot t told.1 bounded h)
 
 -- ---- a default
 

@@ -10,7 +10,7 @@ use Rattle.psm_rules.specs.StatementFaults.{Context}
 use Rattle.psm_rules.specs.View.{Cursor, World}
 use Rattle.psm_resolved.specs.declared.statement.ResolvedCursor.{ResolvedCursor}
 use Rattle.psm_resolve_expr.specs.Sight.{Frames}
-use Rattle.psm_resolve.specs.Numbering.{Numbering}
+use Rattle.psm_declare.specs.Numbering.{Numbering}
 use Rattle.psm_resolve.specs.Statements.{or_zero}
 use Rattle.psm_emit.specs.declared.known.Known.{Known}
 use Rattle.psm_sound.specs.Scene.{Each, Scene}

@@ -2,6 +2,7 @@
 use Rattle.std.proofs.Common.{◌≡◌, inl, inr, ℕ, ◌<◌, ◌≤◌, Bool, true, false, not, cond, List, [], ◌∷◌, map, length, find, nat_eq, Option, Some, None, option_map, refl, ap, sym, ◌∙◌, subst, arith}
 use Rattle.std.specs.Prelude.{if◌then◌else◌}
 use Rattle.psm_value.specs.declared.sqltype.SqlType.{SqlType}
+use Rattle.psm_scope.specs.Rows.{columns_known}
 use Rattle.psm_scope.specs.Frames.{Frame, Spelling, is_spelled, undeclared}
 use Rattle.psm_scope.specs.Frames as frame
 use Rattle.psm_scope.specs.Lookup as lookup
@@ -10,7 +11,6 @@ use Rattle.psm_scope.specs.Scopes.{level}
 use Rattle.psm_scope.specs.declared.known.Variable.{Variable}
 use Rattle.psm_rules.specs.BlockFaults as faults
 use Rattle.psm_rules.specs.BlockFaults.{cursor_on, for_cursors, found_query, head_frame}
-use Rattle.psm_rules.specs.ExprFaults.{columns_known}
 use Rattle.psm_rules.specs.StatementFaults as checked
 use Rattle.psm_rules.specs.StatementFaults.{Context}
 use Rattle.psm_rules.specs.View.{Cursor, View, World}
@@ -18,8 +18,9 @@ use Rattle.psm_tree.specs.declared.statement.ForCursor.{ForCursor}
 use Rattle.psm_tree.specs.declared.statement.ForHead.{ForHead}
 use Rattle.psm_resolved.specs.declared.statement.ResolvedCursor.{ResolvedCursor}
 use Rattle.psm_resolve_expr.specs.Sight.{Frames, Sight}
-use Rattle.psm_resolve.specs.Blocks.{ForItem, Told, for_items, head_of, in_frames, is_insensitive, told_for_cursor, told_head, told_items}
-use Rattle.psm_resolve.specs.Numbering.{Numbering, with_cursor}
+use Rattle.psm_declare.specs.Declarations.{Told}
+use Rattle.psm_resolve.specs.Blocks.{ForItem, for_items, head_of, in_frames, is_insensitive, told_for_cursor, told_head, told_items}
+use Rattle.psm_declare.specs.Numbering.{Numbering, with_cursor}
 use Rattle.psm_resolve.specs.Statements.{or_zero}
 use Rattle.psm_emit.specs.declared.known.Known.{Known}
 use Rattle.psm_emit.specs.Queries.{item_letters}

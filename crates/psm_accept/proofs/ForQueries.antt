@@ -2,6 +2,7 @@
 use Rattle.std.proofs.Common.{◌≡◌, ℕ, Bool, true, not, List, [], ◌∷◌, map, Option, Some, None, option_map, refl, ap, sym, ◌∙◌, subst}
 use Rattle.std.specs.List.{list_all}
 use Rattle.std.specs.Prelude.{IfSome, IsTrue}
+use Rattle.psm_scope.specs.Rows.{columns_known}
 use Rattle.psm_scope.proofs.Calls.{both}
 use Rattle.psm_value.specs.declared.sqltype.SqlType.{SqlType}
 use Rattle.psm_scope.specs.Frames.{Spelling}
@@ -10,7 +11,7 @@ use Rattle.psm_rules.specs.declared.found.Found.{Found}
 use Rattle.psm_rules.specs.BlockFaults as faults
 use Rattle.psm_rules.specs.BlockFaults.{for_item, for_query_fault, found_query, head_fault, order_fault}
 use Rattle.psm_rules.specs.ExprFaults as found
-use Rattle.psm_rules.specs.ExprFaults.{Of, PickFound, PickPart, LinkPart, QueryFound, WhenPart, columns_known, expr_found, first_set, is_set, items_fault, link_found, misplaced_set, other_faults, pick_found, query_fault, query_found, row_of, spelling, table_fault, test_fault, when_found}
+use Rattle.psm_rules.specs.ExprFaults.{Of, PickPart, LinkPart, QueryFound, WhenPart, expr_found, first_set, is_set, items_fault, link_found, misplaced_set, other_faults, pick_found, query_fault, query_found, row_of, spelling, table_fault, test_fault, when_found}
 use Rattle.psm_rules.specs.Faults.{earlier, first_of}
 use Rattle.psm_rules.specs.StatementFaults.{several}
 use Rattle.psm_rules.specs.View as views
@@ -33,8 +34,8 @@ use Rattle.psm_resolve_expr.specs.Exprs.{columns_in, pick_made, query_made, shap
 use Rattle.psm_resolve_expr.specs.Made.{MadePick, sets_in, values_in}
 use Rattle.psm_resolve_expr.specs.Sight as sights
 use Rattle.psm_resolve_expr.specs.Sight.{Sight, table_at}
+use Rattle.psm_declare.specs.Declarations.{is_downward, ordered_query}
 use Rattle.psm_resolve.specs.Blocks as blocks
-use Rattle.psm_resolve.specs.Blocks.{is_downward, ordered_query}
 use Rattle.psm_emit.specs.declared.known.Known.{Known}
 use Rattle.psm_emit.specs.Queries.{item_letters}
 use Rattle.psm_sound.specs.Scene.{Scene}

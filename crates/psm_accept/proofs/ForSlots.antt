@@ -8,8 +8,9 @@ use Rattle.psm_rules.specs.BlockFaults.{declared_once}
 use Rattle.psm_rules.specs.Shapes.{family_of}
 use Rattle.psm_resolve_expr.specs.declared.made.Made.{Made as MadeExpr}
 use Rattle.psm_resolve_expr.specs.Sight.{Frames}
-use Rattle.psm_resolve.specs.Blocks.{ForItem, Told, item_slots, told_items, variable_in}
-use Rattle.psm_resolve.specs.Numbering.{Numbering, next_slot, with_slot}
+use Rattle.psm_declare.specs.Declarations.{Told, variable_in}
+use Rattle.psm_resolve.specs.Blocks.{ForItem, item_slots, told_items}
+use Rattle.psm_declare.specs.Numbering.{Numbering, next_slot, with_slot}
 use Rattle.psm_emit.proofs.There.{there_at}
 use Rattle.psm_sound.specs.Scene.{Each, Scene}
 use Rattle.psm_sound.specs.Statements.{AreForItems, IsSlot}

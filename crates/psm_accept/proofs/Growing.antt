@@ -16,9 +16,10 @@ use Rattle.psm_tree.specs.declared.statement.Handler.{Handler}
 use Rattle.psm_tree.specs.declared.statement.Statement.{Statement}
 use Rattle.psm_resolve_expr.specs.Exprs.{type_known}
 use Rattle.psm_resolve_expr.specs.Sight.{Sight}
+use Rattle.psm_declare.specs.Declarations.{Told, opened, told_behind, told_by, told_condition, told_cursor, told_cursors, told_variable, told_variables}
 use Rattle.psm_resolve.specs.Blocks as making
-use Rattle.psm_resolve.specs.Blocks.{ForItem, Told, block_made, branch_made, for_items, handler_made, in_frames, in_loop, opened, statement_made, told_behind, told_by, told_condition, told_cursor, told_cursors, told_for_cursor, told_head, told_item, told_items, told_variable, told_variables}
-use Rattle.psm_resolve.specs.Numbering.{Numbering, with_condition, with_cursor, with_slot}
+use Rattle.psm_resolve.specs.Blocks.{ForItem, block_made, branch_made, for_items, handler_made, in_frames, in_loop, statement_made, told_for_cursor, told_head, told_item, told_items}
+use Rattle.psm_declare.specs.Numbering.{Numbering, with_condition, with_cursor, with_slot}
 use Rattle.psm_scope.specs.Frames as frame
 use Rattle.psm_emit.specs.Writing.{BeginsWith}
 pub use Rattle.psm_emit.proofs.Growth.{begins-before, begins-here}

@@ -15,7 +15,7 @@ use Rattle.psm_tree.specs.declared.file.Routine.{Routine}
 use Rattle.psm_tree.specs.declared.types.DataType.{DataType}
 use Rattle.psm_code.specs.Rules.{where_there}
 use Rattle.psm_resolve_expr.specs.Exprs.{type_known}
-use Rattle.psm_resolve.specs.Blocks.{Told}
+use Rattle.psm_declare.specs.Declarations.{Told}
 use Rattle.psm_resolve.specs.Files.{mode_of, parameter_made, routine_made, told_parameter, told_parameters}
 use Rattle.psm_emit.specs.Files as emit
 use Rattle.psm_emit.specs.Files.{gives_back}

@@ -5,6 +5,7 @@ use Rattle.std.specs.List.{list_any}
 use Rattle.std.specs.Option.{IfSome}
 use Rattle.std.proofs.lemmas.List.{length-map}
 use Rattle.std.proofs.lemmas.Slice.Eq.{bytes_eq-Decides}
+use Rattle.psm_known.specs.Columns.{column_of, place_in}
 use Rattle.psm_value.specs.declared.sqltype.SqlType.{SqlType}
 use Rattle.psm_scope.specs.Frames.{Spelling, is_spelled}
 use Rattle.psm_scope.specs.Lookup.{named, or_else, place_named}
@@ -20,10 +21,9 @@ use Rattle.psm_tree.specs.declared.file.Element.{Element}
 use Rattle.psm_tree.specs.declared.file.Element.TheVariants as elements
 use Rattle.psm_tree.specs.declared.file.TableRuleForm.{TableRuleForm}
 use Rattle.psm_tree.specs.declared.file.TableRuleForm.TheVariants as table_rules
-use Rattle.psm_code.specs.Rules.{are_distinct, is_among, is_there, there, where_there}
+use Rattle.psm_code.specs.Rules.{are_distinct, is_among, is_there}
 use Rattle.psm_code.specs.Rules as lines
 use Rattle.psm_code.specs.TableRules.{are_there, is_column_list}
-use Rattle.psm_resolve.specs.Statements.{column_of, place_in}
 use Rattle.psm_resolve.specs.Files.{element_key, key_among, own_key, rule_key, says_primary}
 use Rattle.psm_sound.specs.Scene.{Among, Each}
 use Rattle.psm_accept.proofs.Columns.{pairs_of}

@@ -19,7 +19,7 @@ use Rattle.psm_resolved.specs.declared.statement.ResolvedStatement.{ResolvedStat
 use Rattle.psm_resolve_expr.specs.Sight.{Sight}
 use Rattle.psm_resolve.specs.Blocks as making
 use Rattle.psm_resolve.specs.Blocks.{handler_made, kind_of, statement_made, value_of}
-use Rattle.psm_resolve.specs.Numbering.{Numbering}
+use Rattle.psm_declare.specs.Numbering.{Numbering}
 use Rattle.psm_code.specs.RoutineRules.{are_new, is_undo}
 use Rattle.psm_code.specs.Rules.{is_some}
 use Rattle.psm_sound.specs.Scene.{Each, Scene}

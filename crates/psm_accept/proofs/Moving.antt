@@ -11,7 +11,7 @@ use Rattle.psm_rules.specs.View.{Cursor}
 use Rattle.psm_resolve_expr.specs.Sight.{Frames, Sight}
 use Rattle.psm_resolve.specs.Blocks as making
 use Rattle.psm_resolve.specs.Blocks.{in_frames, in_loop, level_at}
-use Rattle.psm_resolve.specs.Numbering.{Numbering}
+use Rattle.psm_declare.specs.Numbering.{Numbering}
 use Rattle.psm_emit.specs.declared.known.Known.{Known}
 use Rattle.psm_emit.proofs.Growing.{begins-length}
 use Rattle.psm_sound.specs.Scene.{Scene}

@@ -32,8 +32,9 @@ use Rattle.psm_tree.specs.declared.statement.Diagnostics.TheVariants as diagnost
 use Rattle.psm_tree.specs.declared.statement.Signalled.{Signalled}
 use Rattle.psm_resolve_expr.specs.Exprs.{made_of}
 use Rattle.psm_resolve_expr.specs.Sight.{Sight}
+use Rattle.psm_declare.specs.Seen.{expr_at}
 use Rattle.psm_resolve.specs.Statements as making
-use Rattle.psm_resolve.specs.Statements.{condition_of, declared_as, diagnostics_of, expr_at, level_of, or_zero, signal_of, slot_in, slot_of, slots_of, state_or_number}
+use Rattle.psm_resolve.specs.Statements.{condition_of, declared_as, diagnostics_of, level_of, signal_of, slot_in, slot_of, slots_of, state_or_number}
 use Rattle.psm_sound.specs.Scene.{Among, Each, Scene}
 use Rattle.psm_sound.specs.Statements as places
 use Rattle.psm_sound.specs.Statements.{AreDiagnostics, AreForItems, IsCondition, IsMessage, IsNumber, IsSeen, IsSignal, IsSlot}

@@ -18,10 +18,10 @@ use Rattle.psm_resolved.specs.declared.statement.ResolvedStatement.{ResolvedStat
 use Rattle.psm_resolved.specs.declared.statement.ResolvedStatement.TheFolds.{fold_out-ResolvedBlock, fold_out-ResolvedBranch, fold_out-ResolvedHandler, fold_out-ResolvedStatement, map-ResolvedStatement}
 use Rattle.psm_resolved.specs.declared.statement.ResolvedStatement.TheOpen.{ResolvedStatement-F}
 use Rattle.psm_resolve_expr.specs.Sight.{Sight}
+use Rattle.psm_declare.specs.Seen.{expr_at}
 use Rattle.psm_resolve.specs.Blocks as making
 use Rattle.psm_resolve.specs.Blocks.{block_made, branch_made, handler_made, kind_of, statement_made, value_of}
-use Rattle.psm_resolve.specs.Numbering.{Numbering, Step, then_as}
-use Rattle.psm_resolve.specs.Statements.{expr_at}
+use Rattle.psm_declare.specs.Numbering.{Numbering, Step, then_as}
 use Rattle.psm_scope.specs.Frames as frame
 use Rattle.psm_accept.specs.Numbered.{Cursors, block_cursors_layer, branch_cursors_layer, cursors_in, cursors_in_block, cursors_in_branch, cursors_in_handler, cursors_layer, handler_cursors_layer, together}
 

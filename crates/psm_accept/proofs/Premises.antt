@@ -12,7 +12,8 @@ use Rattle.psm_tree.specs.declared.expr.Select.{Select}
 use Rattle.psm_tree.specs.declared.statement.Simple.{Simple}
 use Rattle.psm_resolve_expr.specs.Exprs.{query_made}
 use Rattle.psm_resolve_expr.specs.Sight.{Sight}
-use Rattle.psm_resolve.specs.Statements.{expr_at, simple_of}
+use Rattle.psm_declare.specs.Seen.{expr_at}
+use Rattle.psm_resolve.specs.Statements.{simple_of}
 use Rattle.psm_emit.specs.declared.known.Known.{Known}
 use Rattle.psm_emit.specs.Files.{known_of}
 use Rattle.psm_emit.specs.Queries.{item_letters}

@@ -37,8 +37,9 @@ use Rattle.psm_resolved.specs.declared.file.ResolvedParameter.{ResolvedParameter
 use Rattle.psm_resolved.specs.declared.file.ResolvedRoutine.{ResolvedRoutine}
 use Rattle.psm_resolved.specs.declared.statement.ResolvedArgument.{ResolvedArgument}
 use Rattle.psm_resolve_expr.specs.Sight.{Sight}
+use Rattle.psm_declare.specs.Seen.{expr_at}
 use Rattle.psm_resolve.specs.Statements as making
-use Rattle.psm_resolve.specs.Statements.{arguments_of, argument_of, condition_of, declared_as, expr_at, signal_of, slot_in, slot_of, slots_of, state_of, state_or_number, state_or_success, target_in}
+use Rattle.psm_resolve.specs.Statements.{arguments_of, argument_of, condition_of, declared_as, signal_of, slot_in, slot_of, slots_of, state_or_number, state_or_success, target_in}
 use Rattle.psm_meaning.specs.Calls.{procedure_at}
 use Rattle.psm_code.specs.RoutineRules.{is_condition}
 use Rattle.psm_code.specs.RoutineRules as rules

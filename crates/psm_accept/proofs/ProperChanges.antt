@@ -3,6 +3,7 @@ use Rattle.std.proofs.Common.{◌≡◌, ℕ, suc, Bool, true, false, ◌&&◌, 
 use Rattle.std.specs.Prelude.{IsTrue, if◌then◌else◌, nat_eq, slice_get}
 use Rattle.std.specs.List.{list_all}
 use Rattle.std.proofs.lemmas.Slice.Eq.{bytes_eq-Decides}
+use Rattle.psm_known.specs.Columns.{column_of, inserted}
 use Rattle.psm_list.specs.Several.{Several}
 use Rattle.psm_value.specs.declared.sqltype.SqlType.{SqlType}
 use Rattle.psm_exprcode.specs.declared.op.Letter.{Letter}
@@ -38,8 +39,9 @@ use Rattle.psm_resolved.specs.Sort.{goes_as, sort_of}
 use Rattle.psm_resolved.specs.Written.{letter_or}
 use Rattle.psm_resolve_expr.specs.Exprs.{number_of, query_made}
 use Rattle.psm_resolve_expr.specs.Sight.{Sight, table_at}
+use Rattle.psm_declare.specs.Seen.{expr_at}
 use Rattle.psm_resolve.specs.Statements as making
-use Rattle.psm_resolve.specs.Statements.{column_of, expr_at, inserted, row_of, set_of, which_in}
+use Rattle.psm_resolve.specs.Statements.{row_of, set_of, which_in}
 use Rattle.psm_code.specs.Rules.{is_some}
 use Rattle.psm_code.specs.TableRules.{are_there}
 use Rattle.psm_emit.specs.declared.known.Known.{Known}

@@ -5,6 +5,7 @@ use Rattle.std.specs.Prelude.{is_some as some}
 use Rattle.std.specs.List.{list_all, list_any}
 use Rattle.std.proofs.lemmas.Bool.Decides.{nat_tests}
 use Rattle.std.proofs.lemmas.Slice.Eq.{bytes_eq-Decides}
+use Rattle.psm_known.specs.Columns.{all_places, column_of, inserted, place_in}
 use Rattle.psm_token.specs.declared.place.Place.{Place}
 use Rattle.psm_value.specs.declared.sqltype.SqlType.{SqlType}
 use Rattle.psm_exprcode.specs.declared.op.Letter.{Letter}
@@ -21,7 +22,6 @@ use Rattle.psm_tree.specs.Names.{Names}
 use Rattle.psm_tree.specs.declared.name.Identifier.{Identifier}
 use Rattle.psm_table.specs.Definition.{kinds_of}
 use Rattle.psm_table.specs.declared.definition.Column.{Column}
-use Rattle.psm_resolve.specs.Statements.{all_places, column_of, inserted, place_in}
 use Rattle.psm_code.specs.Rules.{are_distinct, is_among, is_some, is_there, there}
 use Rattle.psm_code.specs.TableRules.{are_there, is_column_list}
 use Rattle.psm_sound.specs.Scene.{letters_of}

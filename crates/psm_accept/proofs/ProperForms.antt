@@ -18,7 +18,6 @@ use Rattle.psm_tree.specs.declared.expr.Expr.{Expr}
 use Rattle.psm_resolve_expr.specs.declared.made.Made.{Made}
 use Rattle.psm_resolve_expr.specs.Exprs.{made_of}
 use Rattle.psm_resolve_expr.specs.Sight.{Sight}
-use Rattle.psm_resolve.specs.Statements.{expr_at}
 use Rattle.psm_emit.specs.declared.known.Known.{Known}
 use Rattle.psm_sound.specs.Scene.{Scene}
 use Rattle.psm_proper.specs.Expressions as proper
@@ -35,6 +34,7 @@ use Rattle.psm_accept.proofs.Forms.{shape_some}
 use Rattle.psm_accept.proofs.Choices.{source_fit, test_clean, test_judged}
 use Rattle.psm_accept.proofs.Accepted.{Fits}
 use Rattle.psm_accept.proofs.Whole.{expr_accepted}
+use Rattle.psm_declare.specs.Seen.{expr_at}
 
 -- ---- expressions without a fault
 

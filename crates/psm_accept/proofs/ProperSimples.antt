@@ -3,11 +3,12 @@ use Rattle.std.proofs.Common.{◌≡◌, true, List, ◌∷◌, [], length, map,
 use Rattle.std.specs.Prelude.{IsTrue}
 use Rattle.psm_token.specs.declared.place.Place.{Place}
 use Rattle.psm_exprcode.specs.declared.op.Letter.{Letter}
+use Rattle.psm_scope.specs.Rows.{columns_known}
 use Rattle.psm_scope.specs.Lookup as lookup
 use Rattle.psm_scope.specs.Routines.{procedure}
 use Rattle.psm_scope.specs.declared.procedures.ProcedureScope.{ProcedureScope}
 use Rattle.psm_rules.specs.Faults.{first_of}
-use Rattle.psm_rules.specs.ExprFaults.{columns_known, expr_found, query_fault, query_found, table_fault}
+use Rattle.psm_rules.specs.ExprFaults.{expr_found, query_fault, query_found, table_fault}
 use Rattle.psm_rules.specs.StatementFaults.{Context, Within, InProcedure, InFunction, assignment_fault, call_fault, columns_fault, condition_item_family, cursor_of, delete_fault, diagnostics_fault, fetch_fault, insert_fault, into_fault, item_fault, number_fault, on_table, only_in_procedures, opened_fault, return_fault, select_into_fault, set_fault, several, simple_fault, source_fault, statement_item_family, table_of, target_fault, target_type, targets_fault, update_fault, where_fault}
 use Rattle.psm_rules.specs.View.{View}
 use Rattle.psm_rules.proofs.Earliest.{first_of_cons}
@@ -28,8 +29,10 @@ use Rattle.psm_tree.specs.declared.statement.Where.{Where as Which}
 use Rattle.psm_resolved.specs.declared.statement.ResolvedSimple.TheVariants as made
 use Rattle.psm_resolve_expr.specs.Exprs.{query_made}
 use Rattle.psm_resolve_expr.specs.Sight.{Sight}
+use Rattle.psm_declare.specs.Seen.{expr_at}
+use Rattle.psm_known.specs.Columns as placing
 use Rattle.psm_resolve.specs.Statements as making
-use Rattle.psm_resolve.specs.Statements.{call_of, diagnostics_of, expr_at, rows_of, simple_of, slots_of}
+use Rattle.psm_resolve.specs.Statements.{call_of, diagnostics_of, rows_of, simple_of, slots_of}
 use Rattle.psm_emit.specs.declared.known.Known.{Known}
 use Rattle.psm_emit.specs.Queries.{item_letters}
 use Rattle.psm_code.specs.Instructions.{condition_letter, statement_letter}
@@ -109,7 +112,7 @@ select_into_proper e known h is view sight a q ts well none =
 
 insert_proper : (e : Scene) (known : Known) (letters : List (List Letter)) (s : places.Sight) → HaveColumns e → known ≡ known_in e → IsProcedure e → (view : View) (sight : Sight) → Agree e view sight → sight.row ≡ None → (table : Identifier) (names : Option Names) (source : InsertSource)
     → InsertStands source → insert_fault view table (table_of view table) names source ≡ None
-    → ProperSimple e known letters s (made.Insert (making.table_of sight table) (making.inserted (making.columns_of sight table) names) (rows_of sight source))
+    → ProperSimple e known letters s (made.Insert (making.table_of sight table) (placing.inserted (making.columns_of sight table) names) (rows_of sight source))
 insert_proper e known letters s h is inside view sight a r table names (sources.Values rows) well none = let g = insert_values e h known is view sight a r table names rows well none in (inside, g.0, g.1)
 insert_proper e known letters s h is inside view sight a r table names (sources.Query q) well none = let g = insert_query e h known is view sight a table names q well none in (inside, g.0, g.1, g.2)
 

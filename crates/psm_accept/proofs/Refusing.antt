@@ -3,6 +3,7 @@ use Rattle.std.proofs.Common.{◌≡◌, ℕ, zero, suc, ◌+◌, Bool, true, fa
 use Rattle.std.specs.Prelude.{if◌then◌else◌, slice_get}
 use Rattle.std.specs.List.{list_all, list_any}
 use Rattle.std.specs.Option.{IfSome}
+use Rattle.psm_known.specs.Columns.{column_of}
 use Rattle.psm_scope.specs.Lookup.{or_else}
 use Rattle.psm_rules.specs.FileFaults.{column_rule_keys, element_fault, element_keys, key_fault, keys_of, own_keys, rule_keys, table_rule_fault}
 use Rattle.psm_rules.specs.StatementFaults.{several}
@@ -22,7 +23,6 @@ use Rattle.psm_code.specs.Rules.{is_there, where_there}
 use Rattle.psm_code.specs.TableRules.{are_there, is_column_list, refuses_null, unique_fault}
 use Rattle.psm_code.specs.declared.rule.CodeRule.TheVariants.{Range, Definition}
 use Rattle.psm_resolve_expr.specs.Exprs.{type_known}
-use Rattle.psm_resolve.specs.Statements.{column_of}
 use Rattle.psm_resolve.specs.Files.{column_with, defined_from, element_key, key_among, own_key, own_unique, own_uniques, places_in, rule_key, says_primary, rule_unique, says_not_null, uniques_from}
 use Rattle.psm_sound.specs.Scene.{Each}
 use Rattle.psm_proper.specs.Files.{NoFault}

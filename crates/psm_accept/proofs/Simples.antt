@@ -29,8 +29,9 @@ use Rattle.psm_tree.specs.declared.expr.Select.{Select}
 use Rattle.psm_resolve_expr.specs.declared.made.Made.{Made}
 use Rattle.psm_resolve_expr.specs.Exprs.{made_of, query_made}
 use Rattle.psm_resolve_expr.specs.Sight.{Sight}
+use Rattle.psm_declare.specs.Seen.{expr_at}
 use Rattle.psm_resolve.specs.Statements as making
-use Rattle.psm_resolve.specs.Statements.{expr_at, slot_of, slots_of}
+use Rattle.psm_resolve.specs.Statements.{slot_of, slots_of}
 use Rattle.psm_sound.specs.Expressions.{IsExpr}
 use Rattle.psm_sound.specs.Queries.{IsQuery}
 use Rattle.psm_sound.specs.Scene.{Each, IsThere, Scene}

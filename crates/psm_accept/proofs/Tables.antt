@@ -32,7 +32,7 @@ use Rattle.psm_code.specs.declared.rule.CodeRule.TheVariants.{Range, Definition}
 use Rattle.psm_resolved.specs.Sort.{is_of}
 use Rattle.psm_resolved.specs.declared.expr.ResolvedExpr.{ResolvedExpr}
 use Rattle.psm_resolve_expr.specs.Exprs.{made_of}
-use Rattle.psm_resolve.specs.Statements.{expr_at}
+use Rattle.psm_declare.specs.Seen.{expr_at}
 use Rattle.psm_resolve.specs.Files.{checks_in, checks_of, key_among, key_of, on_columns, own_check, own_checks, rule_check, table_made}
 use Rattle.psm_emit.specs.Queries.{is_test}
 use Rattle.psm_sound.specs.Scene.{Each, Scene, letters_of}

@@ -1,13 +1,15 @@
 -- UPDATE without a fault is sound.
 use Rattle.std.proofs.Common.{◌≡◌, ℕ, List, [], ◌∷◌, map, Option, Some, None, option_map, refl, ap, sym, ◌∙◌, subst, arith}
 use Rattle.std.specs.Prelude.{IfSome, IsTrue, is_some, not, slice_get}
+use Rattle.psm_known.specs.Columns.{column_of, place_in}
 use Rattle.psm_value.specs.declared.sqltype.SqlType.{SqlType}
 use Rattle.psm_exprcode.specs.Kinds.{letter_of}
+use Rattle.psm_scope.specs.Rows.{columns_known}
 use Rattle.psm_scope.specs.Lookup.{named, place_named}
 use Rattle.psm_rules.specs.declared.fault.Fault.{Fault}
 use Rattle.psm_rules.specs.declared.rule.Rule.TheVariants as rule
 use Rattle.psm_rules.specs.Faults.{breaks_if, first_of}
-use Rattle.psm_rules.specs.ExprFaults.{columns_known, expr_found, table_fault}
+use Rattle.psm_rules.specs.ExprFaults.{expr_found, table_fault}
 use Rattle.psm_rules.specs.StatementFaults.{assignment_fault, column_fault, columns_fault, on_table, repeated, several, source_fault, type_of_column, update_fault, where_fault}
 use Rattle.psm_rules.specs.View.{Columns, View, table_named}
 use Rattle.psm_rules.proofs.Earliest.{first_of_cons}
@@ -20,7 +22,7 @@ use Rattle.psm_resolved.specs.declared.file.ResolvedTable.{ResolvedTable}
 use Rattle.psm_resolve_expr.specs.Exprs.{made_of}
 use Rattle.psm_resolve_expr.specs.Sight.{Sight}
 use Rattle.psm_resolve.specs.Statements as making
-use Rattle.psm_resolve.specs.Statements.{column_of, place_in, set_of, which_in}
+use Rattle.psm_resolve.specs.Statements.{set_of, which_in}
 use Rattle.psm_sound.specs.Scene.{Each, Scene, columns_of}
 use Rattle.psm_sound.specs.Statements as places
 use Rattle.psm_sound.specs.Statements.{IsChange, IsWhere}

@@ -5,20 +5,21 @@ use Rattle.std.specs.List.{list_all}
 use Rattle.psm_list.specs.Several.{Several}
 use Rattle.psm_value.specs.declared.sqltype.SqlType.{SqlType}
 use Rattle.psm_exprcode.specs.declared.op.Letter.TheVariants.{B}
+use Rattle.psm_scope.specs.Rows.{columns_known}
 use Rattle.psm_scope.proofs.Calls.{both}
 use Rattle.psm_scope.specs.Lookup.{RowTable, named}
 use Rattle.psm_rules.specs.declared.fault.Fault.{Fault}
 use Rattle.psm_rules.specs.declared.found.Found.{Found}
 use Rattle.psm_rules.specs.Faults.{first_of}
 use Rattle.psm_rules.specs.ExprFaults as faults
-use Rattle.psm_rules.specs.ExprFaults.{Of, PickFound, PickPart, LinkPart, QueryFound, WhenPart, column_item, columns_known, expr_found, items_fault, items_in, link_found, pick_found, query_fault, query_found, seen, seen_in, seen_option, sets_fault, spelling, table_fault, test_fault, when_found}
+use Rattle.psm_rules.specs.ExprFaults.{Of, PickFound, PickPart, LinkPart, QueryFound, WhenPart, column_item, expr_found, items_fault, link_found, pick_found, query_found, seen, seen_option, sets_fault, spelling, table_fault, test_fault, when_found}
 use Rattle.psm_rules.specs.View as views
 use Rattle.psm_rules.specs.View.{View, Columns, table_named}
 use Rattle.psm_rules.proofs.Earliest.{first_of_cons}
 use Rattle.psm_tree.specs.declared.name.Identifier.{Identifier}
 use Rattle.psm_tree.specs.declared.expr.Operator.{Operator as WrittenOperator}
 use Rattle.psm_tree.specs.declared.expr.Expr.{Expr}
-use Rattle.psm_tree.specs.declared.expr.Expr.TheOpen.{Expr-F, Pick-F, Link-F, Select-F, When-F}
+use Rattle.psm_tree.specs.declared.expr.Expr.TheOpen.{Pick-F, Link-F, Select-F, When-F}
 use Rattle.psm_tree.specs.declared.expr.Expr.TheOpen as layers
 use Rattle.psm_tree.specs.declared.expr.Expr.TheFolds.{ind-Expr, ind-Select, map-Pick, map-Link, map-Select, map-When, fold-roll-Pick, fold-roll-Link, fold-roll-Select, fold-roll-When}
 use Rattle.psm_tree.specs.declared.expr.Link.{Link, roll-Link}

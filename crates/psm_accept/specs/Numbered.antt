@@ -13,7 +13,7 @@ use Rattle.psm_resolved.specs.declared.statement.ResolvedStatement.TheFolds.{fol
 use Rattle.psm_resolved.specs.declared.statement.ResolvedStatement.TheOpen.{ResolvedStatement-F, ResolvedBlock-F, ResolvedBranch-F, ResolvedHandler-F}
 use Rattle.psm_resolved.specs.declared.statement.ResolvedStatement.TheOpen as layers
 use Rattle.psm_resolve_expr.specs.Sight.{Frames}
-use Rattle.psm_resolve.specs.Numbering.{Numbering}
+use Rattle.psm_declare.specs.Numbering.{Numbering}
 use Rattle.psm_emit.specs.declared.known.Known.{Known}
 use Rattle.psm_emit.specs.Queries.{item_letters}
 use Rattle.psm_emit.specs.Writing.{BeginsWith}

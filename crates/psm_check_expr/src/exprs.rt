@@ -6,7 +6,6 @@ ghost use Rattle.psm_rules.specs.Found.{as_condition, as_value, shape_of};
 ghost use Rattle.psm_rules.specs.ExprFaults.{call_found, called, case_found, chained, else_of, expr_found, junction_of, kind_of, link_found, linked, name_found, pick_found, query_found, seen, seen_in, seen_option, simple_test, when_found};
 ghost use Rattle.psm_check_expr.specs.Seen.{pick_of, seen_in_view};
 
-use crate::found::{as_condition, as_value, broken, made_of, shape_of, sound};
 use crate::operators::{
     between, cast_found, compares, comparison, found_with, junction_of, like_found, linked,
     negated, null_if_found, null_test, of_type, position_found, signed_found, simple_test,
@@ -16,10 +15,12 @@ use crate::queries::{
     PickFound, QueryFound, exists_found, pick_item, row_of, scalar_found, set_found,
 };
 use crate::results::{case_of, coalesce_found};
-use crate::shapes::{CHARACTER, INTEGER, of_literal};
 use crate::view::{View, name_in, on_row};
 use psm_list::{Boxed, List, OneOrMore};
-use psm_rules::{Found, Picked, Rule, Shape};
+use psm_rules::{
+    CHARACTER, Found, INTEGER, Picked, Rule, Shape, as_condition, as_value, broken, made_of,
+    of_literal, shape_of, sound,
+};
 use psm_scope::{ArgKind, ChoiceFault, Meant};
 use psm_token::Place;
 use psm_tree::{Expr, Identifier, Link, Pick, Select, Target, When};

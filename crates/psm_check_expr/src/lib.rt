@@ -2,27 +2,21 @@
 #![tactic(auto)]
 
 mod exprs;
-mod found;
 mod known;
 mod operators;
 mod queries;
 mod results;
-mod shapes;
 mod types;
 mod view;
 mod world;
 
 pub use exprs::{expr_found, query_found};
-pub use found::{as_condition, as_value, breaks, breaks_if, faults_in, of_family};
 pub use known::{CheckedCursor, Frames};
 pub use operators::{simple_test, text_result};
 pub use queries::{
     PickFound, QueryFound, first_set, may_be, misplaced_set, row_of, set_result, table_fault,
     test_fault,
 };
-pub use shapes::{
-    CHARACTER, INTEGER, VARYING, at_larger_scale, family_of, is_of, joined, of_literal, typed,
-};
 pub use types::{type_fault, type_of};
-pub use view::{RowTable, View, name_in, on_row, same_name, spelling};
+pub use view::{View, name_in, on_row, same_name, spelling};
 pub use world::{Columns, Key, World};

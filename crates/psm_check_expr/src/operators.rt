@@ -5,10 +5,12 @@ ghost use Rattle.psm_rules.specs.Found.{as_condition, as_value, broken};
 ghost use Rattle.psm_rules.specs.Shapes.{integer, number_in, varying};
 ghost use Rattle.psm_rules.specs.declared.rule.Rule.TheVariants.{FamiliesMixed};
 
-use crate::found::{all_of, as_condition, as_value, broken, made_of, of_family, shape_of, sound};
-use crate::shapes::{INTEGER, VARYING, at_larger_scale, family_of, higher, is_of, typed};
 use crate::types::{type_fault, type_of};
-use psm_rules::{Family, Fault, Found, Rule, Shape, Typed, earlier};
+use psm_rules::{
+    Family, Fault, Found, INTEGER, Rule, Shape, Typed, VARYING, all_of, as_condition, as_value,
+    at_larger_scale, broken, earlier, family_of, higher, is_of, made_of, of_family, shape_of,
+    sound, typed,
+};
 use psm_token::Place;
 use psm_tree::{DataType, Operator, TextFunction};
 use psm_value::SqlType;

@@ -1,23 +1,23 @@
 //! The first fault of a query, and its items.
 ghost use Rattle.std.specs.Prelude.{◌≡◌, ◌++◌, IfOk, None, Some, map, option_map, if◌then◌else◌};
 ghost use Rattle.std.specs.Option.{option_copied};
-ghost use Rattle.psm_rules.specs.ExprFaults.{column_item, columns_known, counted_fault, first_set, is_set, item_of, items_fault, items_in, items_of, items_of_pick, joined_items, may_be, miscounted_fault, misplaced_set, only_shape, other_faults, parts_fault, pick_item, query_fault, set_argument, set_found, set_result, set_shape, sets_fault, spelling, table_fault, test_fault, without_fault};
+ghost use Rattle.psm_scope.specs.Rows.{columns_known, row_table};
+ghost use Rattle.psm_rules.specs.ExprFaults.{column_item, counted_fault, first_set, is_set, item_of, items_fault, items_in, items_of, items_of_pick, joined_items, may_be, miscounted_fault, misplaced_set, only_shape, other_faults, parts_fault, pick_item, query_fault, set_argument, set_found, set_result, set_shape, sets_fault, spelling, table_fault, test_fault, without_fault};
 ghost use Rattle.psm_rules.specs.Shapes.{typed};
 ghost use Rattle.psm_rules.specs.declared.shape.Shape.TheVariants.{Condition, Value};
 ghost use Rattle.std.specs.List.{list_all};
 ghost use Rattle.psm_tree.specs.declared.expr.Select.{out-Select};
-ghost use Rattle.psm_check_expr.specs.Seen.{pick_of, row_table};
+ghost use Rattle.psm_check_expr.specs.Seen.{pick_of};
 
-use crate::found::{
-    as_condition, as_value, breaks, breaks_if, made_of, of_family, shape_of, sound,
-};
 use crate::operators::without_fault;
-use crate::shapes::{INTEGER, typed};
-use crate::view::{RowTable, spelling};
+use crate::view::spelling;
 use crate::world::Columns;
 use psm_list::List;
-use psm_rules::{Family, Fault, Found, Item, Picked, Rule, Shape, Typed, earlier};
-use psm_scope::ArgKind;
+use psm_rules::{
+    Family, Fault, Found, INTEGER, Item, Picked, Rule, Shape, Typed, as_condition, as_value,
+    breaks, breaks_if, earlier, made_of, of_family, shape_of, sound, typed,
+};
+use psm_scope::{ArgKind, RowTable};
 use psm_text::Name;
 use psm_token::Place;
 use psm_tree::{Identifier, Select, SetFunction};

@@ -4,9 +4,10 @@ ghost use Rattle.psm_scope.specs.Lookup.{or_else};
 ghost use Rattle.psm_rules.specs.ExprFaults.{case_of, coalesce_found, differing, result_of, results_found, results_of};
 ghost use Rattle.psm_rules.specs.Shapes.{clashes, family_in};
 
-use crate::found::{are_shaped, breaks, broken, faults_in, made_of, shape_of, sound};
-use crate::shapes::{family_of, joined};
-use psm_rules::{Family, Found, Rule, Shape, Typed, earlier};
+use psm_rules::{
+    Family, Found, Rule, Shape, Typed, are_shaped, breaks, broken, earlier, family_of, faults_in,
+    joined, made_of, shape_of, sound,
+};
 use psm_token::Place;
 
 /// COALESCE of values.

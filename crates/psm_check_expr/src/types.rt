@@ -3,9 +3,8 @@ ghost use Rattle.std.specs.Prelude.{◌≡◌, ℕ};
 ghost use Rattle.psm_rules.specs.Types.{decimals, digits_within, length_in, type_of, whole};
 ghost use Rattle.psm_rules.specs.ExprFaults.{type_fault};
 
-use crate::found::breaks_if;
 use psm_num::Dec;
-use psm_rules::{Fault, Rule};
+use psm_rules::{Fault, Rule, breaks_if};
 use psm_tree::{DataType, TypeForm};
 use psm_value::SqlType;
 

@@ -2,26 +2,16 @@
 ghost use Rattle.std.specs.Prelude.{◌≡◌, option_map};
 ghost use Rattle.std.specs.Option.{option_copied};
 ghost use Rattle.psm_scope.specs.Frames.{is_spelled};
-ghost use Rattle.psm_scope.specs.Lookup.{as_variable, column_meant, is_table, meant, place_named};
-ghost use Rattle.psm_scope.specs.Rows.{meaning_of};
-ghost use Rattle.psm_rules.specs.ExprFaults.{columns_known, name_in, spelling};
+ghost use Rattle.psm_scope.specs.Rows.{meaning_of, row_table};
+ghost use Rattle.psm_rules.specs.ExprFaults.{name_in, spelling};
 ghost use Rattle.psm_rules.specs.View.{on_row};
-ghost use Rattle.psm_check_expr.specs.Seen.{row_table, seen_in_view};
+ghost use Rattle.psm_check_expr.specs.Seen.{seen_in_view};
 
 use crate::known::Frames;
-use crate::world::{Columns, World};
-use psm_scope::Meant;
+use crate::world::World;
+use psm_scope::{Meant, RowTable};
 use psm_text::Name;
 use psm_tree::{Identifier, Target};
-use psm_value::SqlType;
-
-/// The table of a row expression. One that isn't known has no columns.
-#[derive(Clone, Copy)]
-pub struct RowTable<'v, 'a> {
-    pub name: &'v Name,
-    pub alias: Option<&'v Name>,
-    pub columns: Option<&'v Columns<'a>>,
-}
 
 /// What is seen at a place: the file, the frames around the statement, and the row in a row expression. In a control expression
 /// there is none.
@@ -49,46 +39,8 @@ pub fn name_in(view: View, target: &Target) -> Option<Meant>
 {
     let second = spelling(&target.second);
     match view.row {
-        None => variable_in(view.frames, &target.first.name, second),
-        Some(row) => match column_in(row, &target.first.name, second) {
-            Some((number, kind)) => Some(Meant::Column(number, kind)),
-            None => variable_in(view.frames, &target.first.name, second),
-        },
-    }
-}
-
-fn variable_in(frames: &Frames, first: &Name, second: Option<&Name>) -> Option<Meant>
-    ensures { option_map meaning_of result ≡ as_variable (meant first.now (option_copied second.entry) frames.now) }
-{
-    match frames.meant(first, second) {
-        None => None,
-        Some(known) => Some(Meant::Variable(known)),
-    }
-}
-
-// The column that a name means.
-fn column_in(row: RowTable, first: &Name, second: Option<&Name>) -> Option<(u32, Option<SqlType>)>
-    ensures { result ≡ column_meant first.now (option_copied second.entry) (row_table row.entry) }
-{
-    match second {
-        None => column_named(row.columns, first),
-        Some(name) => {
-            if is_table(row, first) {
-                column_named(row.columns, name)
-            } else {
-                None
-            }
-        }
-    }
-}
-
-// Whether a qualifier is the table's name or its alias.
-fn is_table(row: RowTable, qualifier: &Name) -> bool
-    ensures { result ≡ is_table qualifier.now (row_table row.entry) }
-{
-    match row.alias {
-        None => same_name(qualifier, row.name),
-        Some(alias) => same_name(qualifier, row.name) || same_name(qualifier, alias),
+        None => view.frames.meant_alone(&target.first.name, second),
+        Some(row) => view.frames.meant_on_row(&target.first.name, second, row),
     }
 }
 
@@ -97,16 +49,6 @@ pub fn same_name(a: &Name, b: &Name) -> bool
     ensures { result ≡ is_spelled a.now b.now }
 {
     a.is(b)
-}
-
-/// The column of that name, with its number.
-pub(crate) fn column_named(columns: Option<&Columns>, name: &Name) -> Option<(u32, Option<SqlType>)>
-    ensures { result ≡ place_named 0 name.now (columns_known (option_copied columns.entry)) }
-{
-    match columns {
-        None => None,
-        Some(columns) => columns.find(name),
-    }
 }
 
 /// The name of an identifier, where there is one.

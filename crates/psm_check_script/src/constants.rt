@@ -6,10 +6,9 @@ ghost use Rattle.psm_rules.specs.StatementFaults.{family_due};
 ghost use Rattle.psm_check_script.specs.Commands.{value_of};
 ghost use Rattle.psm_check_script.specs.ScriptFaults.{constant_fault, is_due};
 
-use psm_check_expr::{breaks_if, family_of, typed};
-use psm_num::Dec;
-use psm_rules::{Family, Fault, Rule};
-use psm_tree::{Constant, ConstantForm, Sign};
+use psm_known::signed;
+use psm_rules::{Family, Fault, Rule, breaks_if, family_of, typed};
+use psm_tree::{Constant, ConstantForm};
 use psm_value::{Datum, SqlType};
 use std::alloc::{AllocError, Global};
 
@@ -58,15 +57,6 @@ fn value_of(alloc: Global, constant: &Constant) -> Result<Datum, AllocError>
         ConstantForm::Null => Ok(Datum::Null),
         ConstantForm::Number { sign, number } => Ok(Datum::Num(signed(*sign, *number))),
         ConstantForm::Text(text) => Ok(Datum::Text(text.copy(alloc)?)),
-    }
-}
-
-fn signed(sign: Option<Sign>, number: Dec) -> Dec
-    ensures { result ≡ signed sign number }
-{
-    match sign {
-        None | Some(Sign::Plus) => number,
-        Some(Sign::Minus) => number.neg(),
     }
 }
 

@@ -1,14 +1,15 @@
 //! INSERT.
 ghost use Rattle.std.specs.Prelude.{◌≡◌, ◌++◌, ◌∷◌, [], map, Some, IfOk};
 ghost use Rattle.std.specs.Option.{option_copied};
+ghost use Rattle.psm_known.specs.Columns.{inserted};
+ghost use Rattle.psm_scope.specs.Rows.{columns_known};
 ghost use Rattle.psm_meaning.specs.Session.{Insert};
 ghost use Rattle.psm_resolve_expr.specs.Exprs.{number_of};
 ghost use Rattle.psm_resolve_expr.specs.Sight.{table_at};
-ghost use Rattle.psm_rules.specs.ExprFaults.{columns_known};
 ghost use Rattle.psm_rules.specs.Faults.{first_of};
-ghost use Rattle.psm_rules.specs.StatementFaults.{column_fault, columns_fault, inserted_types, listed_columns, several, type_of_column};
+ghost use Rattle.psm_rules.specs.StatementFaults.{columns_fault, inserted_types, listed_columns, several};
 ghost use Rattle.psm_scope.specs.Lookup.{named};
-ghost use Rattle.psm_check_script.specs.Commands.{all_places, column_of, inserted, row_of};
+ghost use Rattle.psm_check_script.specs.Commands.{row_of};
 ghost use Rattle.psm_check_script.specs.Known.{sight_of};
 ghost use Rattle.psm_check_script.specs.ScriptFaults.{constants_fault, insert_fault, rows_fault, values_fault};
 ghost use Rattle.psm_check_script.specs.Seen.{command_seen};
@@ -17,10 +18,11 @@ use crate::command::ResolvedCommand;
 use crate::constants::{constant_fault, push_value};
 use crate::known::Known;
 use crate::repeated::repeated_fault;
-use psm_check_expr::{Columns, breaks, breaks_if, table_fault};
+use psm_check_expr::{Columns, table_fault};
+use psm_known::{inserted, inserted_types, unknown_column};
 use psm_list::{Boxed, List, OneOrMore};
 use psm_resolve_expr::{Frames, table_number};
-use psm_rules::{Fault, Rule, earlier};
+use psm_rules::{Fault, Rule, breaks, earlier};
 use psm_tree::{Constant, ConstantRow, Identifier, Names};
 use psm_value::{Datum, SqlType};
 use std::alloc::{AllocError, Global};
@@ -67,81 +69,6 @@ fn columns_fault(
 {
     let repeated = repeated_fault(alloc, names)?;
     Ok(earlier(unknown_column(columns, names), repeated))
-}
-
-fn unknown_column(columns: Option<&Columns>, names: &Names) -> Option<Fault>
-    ensures { result ≡ first_of (map (column_fault (option_copied columns.entry)) (several names.now)) }
-{
-    let mut fault = column_fault(columns, &names.first);
-    for name in names.rest.items() {
-        fault = earlier(fault, column_fault(columns, name));
-    }
-    fault
-}
-
-fn column_fault(columns: Option<&Columns>, name: &Identifier) -> Option<Fault>
-    ensures { result ≡ column_fault (option_copied columns.entry) name.now }
-{
-    match columns {
-        None => None,
-        Some(columns) => {
-            let is_there = columns.get(&name.name).is_some();
-            breaks_if(!is_there, Rule::UnknownColumn, name.place)
-        }
-    }
-}
-
-// The types of the columns; how many there are isn't known of all columns of an unknown table.
-fn inserted_types(
-    alloc: Global,
-    columns: Option<&Columns>,
-    names: &Option<Boxed<Names>>,
-) -> Result<Option<List<Option<SqlType>>>, AllocError>
-    ensures { IfOk result (λ types. types ≡ inserted_types (option_copied columns.entry) names.now) }
-{
-    match names {
-        Some(names) => Ok(Some(types_of_listed(alloc, columns, names.get())?)),
-        None => match columns {
-            None => Ok(None),
-            Some(columns) => Ok(Some(types_of_all(alloc, columns)?)),
-        },
-    }
-}
-
-fn types_of_listed(
-    alloc: Global,
-    columns: Option<&Columns>,
-    names: &Names,
-) -> Result<List<Option<SqlType>>, AllocError>
-    ensures { IfOk result (λ types. types ≡ map (type_of_column (columns_known (option_copied columns.entry))) (several names.now)) }
-{
-    let mut types = vec![in alloc; type_of_column(columns, &names.first)]?;
-    for name in names.rest.items() {
-        types.push(type_of_column(columns, name))?;
-    }
-    Ok(List::of(types))
-}
-
-fn type_of_column(columns: Option<&Columns>, name: &Identifier) -> Option<SqlType>
-    ensures { result ≡ type_of_column (columns_known (option_copied columns.entry)) name.now }
-{
-    match columns {
-        None => None,
-        Some(columns) => match columns.get(&name.name) {
-            None => None,
-            Some(kind) => kind,
-        },
-    }
-}
-
-fn types_of_all(alloc: Global, columns: &Columns) -> Result<List<Option<SqlType>>, AllocError>
-    ensures { IfOk result (λ types. types ≡ map (λ p. p.1) columns.now) }
-{
-    let mut types = Vec::new(alloc);
-    for number in 0..columns.len() {
-        types.push(*columns.at(number))?;
-    }
-    Ok(List::of(types))
 }
 
 fn rows_fault(types: &Option<List<Option<SqlType>>>, rows: &OneOrMore<ConstantRow>) -> Option<Fault>
@@ -215,66 +142,6 @@ pub(crate) fn insert(
         columns,
         rows,
     })
-}
-
-// The columns for which there are values: all, where none is named.
-fn inserted(
-    alloc: Global,
-    columns: Option<&Columns>,
-    names: &Option<Boxed<Names>>,
-) -> Result<List<u32>, AllocError>
-    ensures { IfOk result (λ places. places ≡ inserted (columns_known (option_copied columns.entry)) names.now) }
-{
-    match names {
-        None => all_places(alloc, columns),
-        Some(names) => places_of(alloc, columns, names.get()),
-    }
-}
-
-fn places_of(
-    alloc: Global,
-    columns: Option<&Columns>,
-    names: &Names,
-) -> Result<List<u32>, AllocError>
-    ensures { IfOk result (λ places. places ≡ map (column_of (columns_known (option_copied columns.entry))) (several names.now)) }
-{
-    let mut places = Vec::new(alloc);
-    places.push(column_of(columns, &names.first))?;
-    for name in names.rest.items() {
-        places.push(column_of(columns, name))?;
-    }
-    Ok(List::of(places))
-}
-
-fn column_of(columns: Option<&Columns>, column: &Identifier) -> u32
-    ensures { result ≡ column_of (columns_known (option_copied columns.entry)) column.now }
-{
-    match columns {
-        None => 0,
-        Some(columns) => match columns.find(&column.name) {
-            None => 0,
-            Some((place, _)) => place,
-        },
-    }
-}
-
-fn all_places(alloc: Global, columns: Option<&Columns>) -> Result<List<u32>, AllocError>
-    ensures { IfOk result (λ places. places ≡ all_places 0 (columns_known (option_copied columns.entry))) }
-{
-    match columns {
-        None => Ok(List::of(Vec::new(alloc))),
-        Some(columns) => each_place(alloc, columns),
-    }
-}
-
-fn each_place(alloc: Global, columns: &Columns) -> Result<List<u32>, AllocError>
-    ensures { IfOk result (λ places. places ≡ all_places 0 columns.now) }
-{
-    let mut places = Vec::new(alloc);
-    for place in 0..columns.len() {
-        places.push(place)?;
-    }
-    Ok(List::of(places))
 }
 
 fn rows_of(alloc: Global, rows: &OneOrMore<ConstantRow>) -> Result<List<List<Datum>>, AllocError>

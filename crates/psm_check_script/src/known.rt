@@ -1,5 +1,5 @@
 //! What a script may name: the tables and the procedures of code.
-ghost use Rattle.std.specs.Prelude.{◌≡◌, ◌++◌, [], map, slice_get, suc, IfOk};
+ghost use Rattle.std.specs.Prelude.{◌≡◌, ◌++◌, [], map, slice_get, IfOk};
 ghost use Rattle.std.specs.Option.{option_copied};
 ghost use Rattle.psm_check_expr.specs.Seen.{seen_in_view};
 ghost use Rattle.psm_resolve_expr.specs.Seen.{seen_at};
@@ -9,6 +9,7 @@ ghost use Rattle.psm_check_script.specs.Known.{key_names, known_of, mode_of, nam
 
 use psm_check_expr::{Columns, Frames, View, World};
 use psm_code::{CodeTable, Parameter, ParameterMode as CodeMode, RawCode, RawRoutine};
+use psm_known::next_number;
 use psm_list::List;
 use psm_resolve_expr::{Frames as NumberedFrames, Sight};
 use psm_scope::{Functions, Names, ParameterMode, ParameterScope, ProcedureScope, Procedures};
@@ -256,16 +257,7 @@ fn add_routine<'a>(
         return Ok(number);
     }
     add_procedure(alloc, routine, number, known)?;
-    next(number)
-}
-
-fn next(n: u32) -> Result<u32, AllocError>
-    ensures { IfOk result (λ m. m ≡ suc n) }
-{
-    match n.checked_add(1) {
-        None => Err(AllocError),
-        Some(m) => Ok(m),
-    }
+    next_number(number)
 }
 
 fn add_procedure<'a>(

@@ -6,8 +6,7 @@ ghost use Rattle.psm_rules.specs.StatementFaults.{repeated, several};
 ghost use Rattle.psm_scope.specs.Frames.{Spelling, is_spelled};
 ghost use Rattle.psm_scope.specs.Lookup.{named};
 
-use psm_check_expr::breaks_if;
-use psm_rules::{Fault, Rule, earlier};
+use psm_rules::{Fault, Rule, breaks_if, earlier};
 use psm_scope::Names as Declared;
 use psm_tree::{Identifier, Names};
 use std::alloc::{AllocError, Global};

@@ -1,17 +1,18 @@
 //! SELECT, and the order of its rows.
-ghost use Rattle.std.specs.Prelude.{◌≡◌, ◌||◌, map, not, IfOk};
-ghost use Rattle.std.specs.List.{list_all};
+ghost use Rattle.std.specs.Prelude.{◌≡◌, map, IfOk};
 ghost use Rattle.psm_rules.specs.BlockFaults.{is_key_order, same_names};
 ghost use Rattle.psm_rules.specs.StatementFaults.{several};
-ghost use Rattle.psm_check_script.specs.Commands.{is_downward, ordered, selected};
+ghost use Rattle.psm_check_script.specs.Commands.{selected};
 ghost use Rattle.psm_check_script.specs.ScriptFaults.{order_fault, select_fault};
 
 use crate::known::{Known, TableKey};
-use psm_check_expr::{Frames, breaks_if, query_found, same_name};
+use psm_check_expr::{Frames, query_found, same_name};
+use psm_declare::ordered_query;
+use psm_known::is_one_way;
 use psm_list::{Boxed, OneOrMore};
-use psm_resolve_expr::{Frames as NumberedFrames, query_made};
+use psm_resolve_expr::Frames as NumberedFrames;
 use psm_resolved::ResolvedQuery;
-use psm_rules::{Fault, Rule, earlier};
+use psm_rules::{Fault, Rule, breaks_if, earlier};
 use psm_text::Name;
 use psm_tree::{Identifier, Order, OrderColumn, OrderedQuery};
 use std::alloc::{AllocError, Global};
@@ -52,39 +53,6 @@ fn is_key_order(key: &TableKey, order: &Order) -> bool
     has_columns(key.names.as_slice(), &order.columns) && is_one_way(&order.columns)
 }
 
-#[tactic(auto, using(crate::proofs::Orders::one_way))]
-fn is_one_way(columns: &OneOrMore<OrderColumn>) -> bool
-    ensures { result ≡ (list_all (λ c. c.descending) (several columns.now) || list_all (λ c. not c.descending) (several columns.now)) }
-{
-    if columns.first.descending {
-        are_descending(columns.rest.items())
-    } else {
-        are_ascending(columns.rest.items())
-    }
-}
-
-fn are_descending(columns: &[OrderColumn]) -> bool
-    ensures { result ≡ list_all (λ c. c.descending) columns.now }
-{
-    for c in columns {
-        if !c.descending {
-            return false;
-        }
-    }
-    true
-}
-
-fn are_ascending(columns: &[OrderColumn]) -> bool
-    ensures { result ≡ list_all (λ c. not c.descending) columns.now }
-{
-    for c in columns {
-        if c.descending {
-            return false;
-        }
-    }
-    true
-}
-
 fn has_columns(names: &[&Name], columns: &OneOrMore<OrderColumn>) -> bool
     ensures { result ≡ same_names (map (λ n. n.now) names.now) (map (λ c. c.column.name) (several columns.now)) }
 {
@@ -122,40 +90,5 @@ pub(crate) fn select(
     ensures { IfOk result (λ q. q ≡ selected known.now query.now) }
 {
     let frames = NumberedFrames::new(alloc);
-    let made = query_made(alloc, query.query.get(), known.sight(&frames))?;
-    ordered(alloc, is_downward(&query.order), made.query)
-}
-
-fn is_downward(order: &Option<Order>) -> bool
-    ensures { result ≡ is_downward order.now }
-{
-    match order {
-        None => false,
-        Some(order) => order.columns.first.descending,
-    }
-}
-
-// Queries go upwards as they are made.
-fn ordered(
-    alloc: Global,
-    downward: bool,
-    query: Boxed<ResolvedQuery>,
-) -> Result<Boxed<ResolvedQuery>, AllocError>
-    ensures { IfOk result (λ q. q ≡ ordered downward query) }
-{
-    let ResolvedQuery {
-        table,
-        items,
-        test,
-        ..
-    } = query.into_inner();
-    Boxed::new(
-        alloc,
-        ResolvedQuery {
-            table,
-            downward,
-            items,
-            test,
-        },
-    )
+    ordered_query(alloc, known.sight(&frames), query)
 }

@@ -1,6 +1,7 @@
 -- The layers of items and of names, and frames with the variables of items.
 use Rattle.std.proofs.Common.{◌≡◌, ℕ, ◌<◌, ◌+◌, suc, true, List, [], ◌∷◌, length, get_or, drop, Option, Some, None, map, option_map, refl, ap, sym, ◌∙◌, add-one, zero, arith}
 use Rattle.std.specs.Prelude.{slice_get}
+use Rattle.psm_scope.specs.Rows.{columns_known}
 use Rattle.psm_scope.proofs.Calls.{dropped}
 use Rattle.psm_value.specs.declared.sqltype.SqlType.{SqlType}
 use Rattle.psm_scope.specs.Frames.{Spelling}
@@ -13,7 +14,7 @@ use Rattle.psm_tree.specs.declared.expr.Pick.{Pick}
 use Rattle.psm_tree.specs.declared.expr.Select.{Select, out-Select}
 use Rattle.psm_rules.specs.View.{Columns, Frames, View, on_row}
 use Rattle.psm_rules.specs.StatementFaults.{several}
-use Rattle.psm_rules.specs.ExprFaults.{QueryFound, columns_known, pick_found, query_found, row_of, seen, spelling}
+use Rattle.psm_rules.specs.ExprFaults.{QueryFound, pick_found, query_found, row_of, seen, spelling}
 use Rattle.psm_rules.specs.BlockFaults.{declared_once, local_variable, with_columns, with_variable}
 use Rattle.psm_check_stmt.specs.ForItems.{variables_here, with_variables_here}
 use Rattle.psm_check_expr.proofs.Equations.{found_columns, found_query}

@@ -1,6 +1,5 @@
 pub mod Apart
 pub mod Bounds
-pub mod ColumnTypes
 pub mod ForItems
 pub mod Going
 pub mod Handling

@@ -14,15 +14,13 @@ use crate::declarations::declared_fault;
 use crate::handled::values_fault;
 use crate::loops::for_fault;
 use crate::statements::{Context, simple_fault};
-use psm_check_expr::{
-    Frames, as_condition, as_value, breaks_if, expr_found, same_name, simple_test,
-};
+use psm_check_expr::{Frames, expr_found, same_name, simple_test};
+use psm_known::label_name;
 use psm_list::{Boxed, List, OneOrMore};
-use psm_rules::{Fault, Found, Rule, earlier};
+use psm_rules::{Fault, Found, Rule, as_condition, as_value, breaks_if, earlier, undo_fault};
 use psm_scope::FrameKind;
 use psm_text::Name;
-use psm_token::Place;
-use psm_tree::{Block, Branch, Expr, Handler, HandlerKind, Identifier, Label, Statement};
+use psm_tree::{Block, Branch, Expr, Handler, Identifier, Label, Statement};
 use std::alloc::AllocError;
 
 /// The first fault of a statement.
@@ -124,15 +122,6 @@ fn end_label_fault(start: &Identifier, end: &Option<Identifier>) -> Option<Fault
             let differs = !same_name(&start.name, &end.name);
             breaks_if(differs, Rule::EndLabelDiffers, end.place)
         }
-    }
-}
-
-fn label_name(label: &Option<Label>) -> Option<&Name>
-    ensures { option_copied result ≡ label_name label.now }
-{
-    match label {
-        None => None,
-        Some(label) => Some(&label.start.name),
     }
 }
 
@@ -351,14 +340,4 @@ fn handler_fault<'w, 'a>(
     let fault = statement_fault(handler.action.get(), c, frames)?;
     frames.pop();
     Ok(earlier(own, fault))
-}
-
-// UNDO stands in an ATOMIC block alone.
-fn undo_fault(place: Place, kind: HandlerKind, atomic: bool) -> Option<Fault>
-    ensures { result ≡ undo_fault place kind atomic }
-{
-    match kind {
-        HandlerKind::Continue | HandlerKind::Exit => None,
-        HandlerKind::Undo => breaks_if(!atomic, Rule::UndoNeedsAtomic, place),
-    }
 }

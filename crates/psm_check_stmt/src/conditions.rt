@@ -1,75 +1,21 @@
 //! SQLSTATEs, conditions and the diagnostics area.
-ghost use Rattle.std.specs.Prelude.{◌≡◌, IfOk, true, map, string_bytes};
-ghost use Rattle.std.specs.List.{list_all};
-ghost use Rattle.psm_sqlstate.specs.State.{is_state_character};
+ghost use Rattle.std.specs.Prelude.{◌≡◌, IfOk, true, map};
 ghost use Rattle.psm_rules.specs.Faults.{first_of};
-ghost use Rattle.psm_rules.specs.StatementFaults.{condition_fault, condition_item_family, diagnostics_fault, good_state, is_same_family, is_state, is_success, item_fault, message_fault, name_of_condition_fault, number_fault, number_type_fault, several, signalled_fault, state_fault, statement_item_family};
+ghost use Rattle.psm_rules.specs.StatementFaults.{condition_fault, condition_item_family, diagnostics_fault, good_state, is_same_family, item_fault, message_fault, name_of_condition_fault, number_fault, number_type_fault, several, signalled_fault, state_fault, statement_item_family};
 ghost use Rattle.psm_check_expr.specs.Seen.{seen_in_view};
 
 use crate::sources::{assigned_type, family_due, target_fault, variable_of};
-use psm_check_expr::{Frames, View, as_value, breaks, breaks_if, expr_found, of_family};
+use psm_check_expr::{Frames, View, expr_found};
+use psm_known::good_state;
 use psm_list::{Boxed, OneOrMore};
-use psm_rules::{Family, Fault, Rule, earlier};
+use psm_rules::{Family, Fault, Rule, as_value, breaks, breaks_if, earlier, of_family};
 use psm_scope::Variable;
-use psm_sqlstate::SqlState;
-use psm_text::Text;
 use psm_token::Place;
 use psm_tree::{
     Condition, ConditionInformation, ConditionItem, ConditionNumber, Diagnostics, Expr, Identifier,
     Signalled, State, StatementInformation, StatementItem, Target,
 };
 use std::alloc::{AllocError, Global};
-
-/// The SQLSTATE of a text that is one, and not one of success.
-pub(crate) fn good_state(alloc: Global, text: &Text) -> Result<Option<SqlState>, AllocError>
-    ensures { IfOk result (λ s. s ≡ good_state text.now) }
-{
-    if is_state(text.chars()) && !is_success(text.chars()) {
-        let spelled = spelled(alloc, text.chars())?;
-        Ok(SqlState::read(spelled.as_str()))
-    } else {
-        Ok(None)
-    }
-}
-
-fn is_state(text: &[char]) -> bool
-    ensures { result ≡ is_state text.now }
-{
-    text.len() == 5 && are_state_characters(text)
-}
-
-fn are_state_characters(text: &[char]) -> bool
-    ensures { result ≡ list_all is_state_character text.now }
-{
-    text.iter().all(|c| is_state_character(*c))
-}
-
-fn is_state_character(c: char) -> bool
-    ensures { result ≡ is_state_character c }
-{
-    c.is_ascii_digit() || c.is_ascii_uppercase()
-}
-
-fn is_success(text: &[char]) -> bool
-    ensures { result ≡ is_success text.now }
-{
-    match text {
-        ['0', '0', ..] => true,
-        _ => false,
-    }
-}
-
-// The characters of an SQLSTATE as a string.
-fn spelled(alloc: Global, text: &[char]) -> Result<String, AllocError>
-    requires { list_all is_state_character text.now ≡ true }
-    ensures { IfOk result (λ s. string_bytes s ≡ text.now) }
-{
-    let mut spelled = String::new(alloc);
-    for c in text {
-        spelled.push(*c)?;
-    }
-    Ok(spelled)
-}
 
 /// A text that is no SQLSTATE, or one of success.
 pub(crate) fn state_fault(alloc: Global, state: &State) -> Result<Option<Fault>, AllocError>

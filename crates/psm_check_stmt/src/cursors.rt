@@ -1,6 +1,5 @@
 //! Cursors, and the order of a query.
-ghost use Rattle.std.specs.Prelude.{◌≡◌, ◌||◌, ◌∷◌, [], IfOk, Some, false, map, not, true};
-ghost use Rattle.std.specs.List.{list_all};
+ghost use Rattle.std.specs.Prelude.{◌≡◌, ◌∷◌, [], IfOk, Some, false, map, true};
 ghost use Rattle.std.specs.Option.{option_copied};
 ghost use Rattle.psm_rules.specs.BlockFaults.{cursor_fault, cursor_on, found_query, is_key_order, is_updatable, order_fault, same_names};
 ghost use Rattle.psm_rules.specs.ExprFaults.{first_set, misplaced_set, query_fault};
@@ -11,11 +10,12 @@ ghost use Rattle.psm_check_expr.specs.Seen.{seen_in_view};
 
 use crate::sources::{family_due, mixed_at, target_type};
 use psm_check_expr::{
-    CheckedCursor, Frames, Key, QueryFound, View, World, breaks, breaks_if, first_set,
-    misplaced_set, query_found, same_name,
+    CheckedCursor, Frames, Key, QueryFound, View, World, first_set, misplaced_set, query_found,
+    same_name,
 };
+use psm_known::is_one_way;
 use psm_list::{List, OneOrMore};
-use psm_rules::{Fault, Rule, Shape, earlier};
+use psm_rules::{Fault, Rule, Shape, breaks, breaks_if, earlier};
 use psm_tree::{CursorDeclaration, Identifier, Order, OrderColumn, Target, Targets, Updatability};
 use std::alloc::{AllocError, Global};
 
@@ -38,39 +38,6 @@ fn is_key_order(key: Key, order: &Order) -> bool
     ensures { result ≡ is_key_order (key_names key.entry) (several order.now.columns) }
 {
     has_columns(key, &order.columns) && is_one_way(&order.columns)
-}
-
-#[tactic(auto, using(crate::proofs::Orders::one_way))]
-fn is_one_way(columns: &OneOrMore<OrderColumn>) -> bool
-    ensures { result ≡ (list_all (λ c. c.descending) (several columns.now) || list_all (λ c. not c.descending) (several columns.now)) }
-{
-    if columns.first.descending {
-        are_descending(columns.rest.items())
-    } else {
-        are_ascending(columns.rest.items())
-    }
-}
-
-fn are_descending(columns: &[OrderColumn]) -> bool
-    ensures { result ≡ list_all (λ c. c.descending) columns.now }
-{
-    for c in columns {
-        if !c.descending {
-            return false;
-        }
-    }
-    true
-}
-
-fn are_ascending(columns: &[OrderColumn]) -> bool
-    ensures { result ≡ list_all (λ c. not c.descending) columns.now }
-{
-    for c in columns {
-        if c.descending {
-            return false;
-        }
-    }
-    true
 }
 
 fn has_columns(key: Key, columns: &OneOrMore<OrderColumn>) -> bool

@@ -7,9 +7,10 @@ ghost use Rattle.psm_rules.specs.FileFaults.{file_fault, routines_fault, table_f
 
 use crate::repeated::Repeats;
 use crate::routines::{declare_routines, routine_fault};
-use crate::tables::{columns_of, keys_of, table_fault};
+use crate::tables::{keys_of, table_fault};
 use crate::told::Told;
 use psm_check_expr::World;
+use psm_known::columns_of;
 use psm_rules::{Fault, Rule, earlier};
 use psm_tree::{FileTree, Routine, TableTree};
 use std::alloc::{AllocError, Global};

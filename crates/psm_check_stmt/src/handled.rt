@@ -5,11 +5,12 @@ ghost use Rattle.psm_rules.specs.StatementFaults.{several};
 ghost use Rattle.psm_rules.specs.BlockFaults.{ByName, ByState, Exceptions, NoData, Warnings, all_values, handler_part, handles, named_value, value_fault, value_place, values_fault};
 ghost use Rattle.psm_check_stmt.specs.Handling.{AreHandled, FindsIn, Notes, NotesKnown};
 
-use crate::conditions::{condition_name_fault, good_state, state_fault};
+use crate::conditions::{condition_name_fault, state_fault};
 use indexmap::IndexSet;
-use psm_check_expr::{Frames, breaks_if};
+use psm_check_expr::Frames;
+use psm_known::good_state;
 use psm_list::{Boxed, List, OneOrMore};
-use psm_rules::{Fault, Rule, earlier};
+use psm_rules::{Fault, Rule, breaks_if, earlier};
 use psm_scope::{DeclaredCondition, Names};
 use psm_sqlstate::SqlState;
 use psm_text::Name;

@@ -1,14 +1,14 @@
 //! FOR: its query, and the variables that it declares.
 ghost use Rattle.std.specs.Prelude.{◌≡◌, ◌∷◌, IfOk, IsTrue, map, not, option_map, true};
 ghost use Rattle.std.specs.Option.{option_copied};
-ghost use Rattle.psm_scope.specs.Rows.{meaning_of};
+ghost use Rattle.psm_scope.specs.Rows.{columns_known, meaning_of};
 ghost use Rattle.psm_scope.specs.Scopes.{can_declare_here};
 ghost use Rattle.psm_tree.specs.declared.expr.Expr.{out-Expr};
 ghost use Rattle.psm_tree.specs.declared.expr.Pick.{out-Pick};
 ghost use Rattle.psm_tree.specs.declared.expr.Select.{out-Select};
 ghost use Rattle.psm_rules.specs.declared.rule.Rule.TheVariants as rule;
 ghost use Rattle.psm_rules.specs.Faults.{breaks_if, first_of};
-ghost use Rattle.psm_rules.specs.ExprFaults.{columns_known, pick_found, query_found};
+ghost use Rattle.psm_rules.specs.ExprFaults.{pick_found, query_found};
 ghost use Rattle.psm_rules.specs.StatementFaults.{several};
 ghost use Rattle.psm_rules.specs.BlockFaults.{column_named, cursor_on, for_item, for_items, for_query_fault, for_variables, found_query, head_fault, head_frame, item_column, item_of_for, item_type, items_in, last_name, named_fault, order_fault, own_name, pick_column, unless_broken, wide_type, with_columns, with_item, with_named};
 ghost use Rattle.psm_check_stmt.specs.ForItems.{column_of, item_of, variables_here, with_for_cursor, with_variables_here};
@@ -19,11 +19,12 @@ use crate::cursors::{cursor_on, order_fault};
 use crate::declaring::{declare_cursor, declare_variable};
 use crate::statements::Context;
 use psm_check_expr::{
-    CheckedCursor, Columns, Frames, PickFound, QueryFound, View, as_value, breaks, family_of,
-    first_set, misplaced_set, name_in, on_row, query_found, row_of, table_fault, test_fault,
+    CheckedCursor, Columns, Frames, PickFound, QueryFound, View, first_set, misplaced_set, name_in,
+    on_row, query_found, row_of, table_fault, test_fault,
 };
+use psm_known::last_name;
 use psm_list::List;
-use psm_rules::{Family, Fault, Found, Picked, Rule, Shape, earlier};
+use psm_rules::{Family, Fault, Found, Picked, Rule, Shape, as_value, breaks, earlier, family_of};
 use psm_scope::{FrameKind, Meant};
 use psm_text::Name;
 use psm_tree::{Expr, ForCursor, ForHead, Identifier, Pick, Select, Target};
@@ -221,15 +222,6 @@ fn column_named<'a>(meant: Option<Meant>, target: &'a Target) -> Option<NamedCol
             kind,
         }),
         Some(Meant::Variable(_)) | None => None,
-    }
-}
-
-fn last_name(target: &Target) -> &Name
-    ensures { result.now ≡ last_name target.now.first target.now.second }
-{
-    match &target.second {
-        None => &target.first.name,
-        Some(second) => &second.name,
     }
 }
 

@@ -4,8 +4,7 @@ ghost use Rattle.psm_rules.specs.StatementFaults.{repeated};
 ghost use Rattle.psm_check_stmt.specs.Listed.{with_names};
 
 use crate::logged::NameLog;
-use psm_check_expr::breaks_if;
-use psm_rules::{Fault, Rule, earlier};
+use psm_rules::{Fault, Rule, breaks_if, earlier};
 use psm_scope::Names;
 use psm_tree::Identifier;
 use std::alloc::{AllocError, Global};

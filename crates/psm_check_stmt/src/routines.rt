@@ -5,74 +5,24 @@ ghost use Rattle.psm_rules.specs.declared.rule.Rule.TheVariants as rules_of;
 ghost use Rattle.psm_rules.specs.Faults.{first_of};
 ghost use Rattle.psm_rules.specs.BlockFaults.{statement_fault};
 ghost use Rattle.psm_rules.specs.StatementFaults.{repeated, several};
-ghost use Rattle.psm_rules.specs.FileFaults.{block_returns, body_context, branch_returns, handler_returns, has_return, is_in, kind_of, kind_of_routine, mode_of, note_number, notes_fault, parameter_fault, parameter_of, parameter_variable, result_fault, return_fault, returns, routine_fault, routine_frames, some, with_parameter, with_routine, with_routines};
+ghost use Rattle.psm_rules.specs.FileFaults.{block_returns, body_context, branch_returns, handler_returns, has_return, is_in, kind_of_routine, note_number, notes_fault, parameter_fault, parameter_variable, result_fault, return_fault, returns, routine_fault, routine_frames, some, with_parameter, with_routine, with_routines};
 ghost use Rattle.psm_check_stmt.specs.InRoutine.{within_of};
 
 use crate::blocks::statement_fault;
 use crate::repeated::Repeats;
 use crate::statements::{Context, Within};
 use crate::told::Told;
-use psm_check_expr::{Frames, World, breaks_if, type_fault, type_of};
+use psm_check_expr::{Frames, World, type_fault, type_of};
+use psm_known::{is_in, kinds_of, parameters_of};
 use psm_list::{Boxed, List, OneOrMore};
-use psm_rules::{Fault, Rule, earlier};
-use psm_scope::{ArgKind, FrameKind, ParameterMode, ParameterScope, ProcedureScope, Variable};
+use psm_rules::{Fault, Rule, breaks_if, earlier};
+use psm_scope::{FrameKind, ProcedureScope, Variable};
 use psm_tree::{
-    Block, Branch, DataType, Handler, Mode, Note, NoteForm, Parameter, Routine, Simple, Statement,
-    TypeForm,
+    Block, Branch, DataType, Handler, Note, NoteForm, Parameter, Routine, Simple, Statement,
 };
 use std::alloc::{AllocError, Global};
 
 // ---- what routines declare
-
-// The kind of a type, also of one that is out of range.
-fn kind_of(form: &TypeForm) -> ArgKind
-    ensures { result ≡ kind_of form.now }
-{
-    match form {
-        TypeForm::SmallInt => ArgKind::SmallInt,
-        TypeForm::Integer => ArgKind::Integer,
-        TypeForm::Numeric(_) => ArgKind::Numeric,
-        TypeForm::Char(_) => ArgKind::Char,
-        TypeForm::VarChar(_) => ArgKind::VarChar,
-    }
-}
-
-/// The kinds of the parameters.
-pub(crate) fn kinds_of(alloc: Global, parameters: &[Parameter]) -> Result<Vec<ArgKind>, AllocError>
-    ensures { IfOk result (λ kinds. kinds.items ≡ map (λ p. kind_of p.kind.form) parameters.now) }
-{
-    let mut kinds = Vec::new(alloc);
-    for parameter in parameters {
-        kinds.push(kind_of(&parameter.kind.form))?;
-    }
-    Ok(kinds)
-}
-
-fn mode_of(mode: Mode) -> ParameterMode
-    ensures { result ≡ mode_of mode }
-{
-    match mode {
-        Mode::In => ParameterMode::In,
-        Mode::Out => ParameterMode::Out,
-        Mode::InOut => ParameterMode::InOut,
-    }
-}
-
-fn parameters_of(
-    alloc: Global,
-    parameters: &[Parameter],
-) -> Result<List<ParameterScope>, AllocError>
-    ensures { IfOk result (λ known. known ≡ map parameter_of parameters.now) }
-{
-    let mut known = Vec::new(alloc);
-    for parameter in parameters {
-        known.push(ParameterScope {
-            mode: mode_of(parameter.mode),
-            kind: type_of(&parameter.kind),
-        })?;
-    }
-    Ok(List::of(known))
-}
 
 /// Declares the routines of a file.
 pub(crate) fn declare_routines<'a>(
@@ -282,15 +232,6 @@ fn note_number(form: NoteForm) -> usize
 }
 
 // ---- parameters
-
-fn is_in(mode: Mode) -> bool
-    ensures { result ≡ is_in mode }
-{
-    match mode {
-        Mode::In => true,
-        Mode::Out | Mode::InOut => false,
-    }
-}
 
 fn parameter_fault(of_function: bool, parameter: &Parameter) -> Option<Fault>
     ensures { result ≡ parameter_fault of_function parameter.now }

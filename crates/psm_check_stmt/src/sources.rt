@@ -2,8 +2,11 @@
 ghost use Rattle.std.specs.Prelude.{◌≡◌};
 ghost use Rattle.psm_rules.specs.StatementFaults.{assigned_type, family_due, mixed_at, several, source_fault, target_fault_of, target_type, targets_fault, variable_of};
 
-use psm_check_expr::{Frames, as_value, breaks, breaks_if, family_of, is_of, spelling, typed};
-use psm_rules::{Family, Fault, Found, Rule, Shape, earlier};
+use psm_check_expr::{Frames, spelling};
+use psm_rules::{
+    Family, Fault, Found, Rule, Shape, as_value, breaks, breaks_if, earlier, family_of, is_of,
+    typed,
+};
 use psm_scope::Variable;
 use psm_token::Place;
 use psm_tree::{Target, Targets};

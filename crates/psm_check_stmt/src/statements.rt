@@ -1,8 +1,9 @@
 //! The first fault of a statement without statements in it.
 ghost use Rattle.std.specs.Prelude.{◌≡◌, ◌∷◌, [], IfOk, None, length, map};
 ghost use Rattle.std.specs.Option.{option_copied};
+ghost use Rattle.psm_scope.specs.Rows.{columns_known};
 ghost use Rattle.psm_scope.specs.Routines as routines;
-ghost use Rattle.psm_rules.specs.ExprFaults.{columns_known, query_found};
+ghost use Rattle.psm_rules.specs.ExprFaults.{query_found};
 ghost use Rattle.psm_rules.specs.Faults.{first_of};
 ghost use Rattle.psm_rules.specs.StatementFaults.{argument_fault, arguments_fault, assignment_fault, call_fault, column_fault, columns_fault, cursor_of, delete_fault, family_due, fetch_fault, insert_fault, insert_source_fault, inserted_types, into_fault, is_loop_label, is_passed, is_target, items_into, label_fault, listed_columns, loop_label_fault, mixed_at, on_table, only_in_procedures, opened_fault, pairs_fault, query_for, resignal_fault, return_fault, row_fault, select_into_fault, set_fault, several, simple_fault, source_fault, sources_fault, table_of, target_type, targets_fault, type_of_column, update_fault, values_for, where_fault};
 ghost use Rattle.psm_check_stmt.specs.InRoutine.{context, within_of};
@@ -16,12 +17,12 @@ use crate::sources::{
     variable_of,
 };
 use psm_check_expr::{
-    Columns, Frames, QueryFound, RowTable, View, World, as_condition, breaks, breaks_if,
-    expr_found, faults_in, may_be, on_row, query_found, table_fault,
+    Columns, Frames, QueryFound, View, World, expr_found, may_be, on_row, query_found, table_fault,
 };
+use psm_known::{column_fault, inserted_types, type_of_column, unknown_column};
 use psm_list::{Boxed, List, OneOrMore};
-use psm_rules::{Fault, Found, Item, Rule, earlier};
-use psm_scope::{ParameterMode, ParameterScope};
+use psm_rules::{Fault, Found, Item, Rule, as_condition, breaks, breaks_if, earlier, faults_in};
+use psm_scope::{ParameterMode, ParameterScope, RowTable};
 use psm_token::Place;
 use psm_tree::{
     Assignment, Expr, Identifier, InsertSource, Names, Select, Signalled, Simple, Target, Targets,
@@ -365,19 +366,6 @@ fn item_into(item: Item, kind: Option<SqlType>) -> Option<Fault>
 
 // ---- INSERT, UPDATE and DELETE
 
-// A column of a list.
-fn column_fault(columns: Option<&Columns>, name: &Identifier) -> Option<Fault>
-    ensures { result ≡ column_fault (option_copied columns.entry) name.now }
-{
-    match columns {
-        None => None,
-        Some(columns) => {
-            let is_there = columns.get(&name.name).is_some();
-            breaks_if(!is_there, Rule::UnknownColumn, name.place)
-        }
-    }
-}
-
 /// A list of columns: each is there, and none stands twice.
 pub(crate) fn columns_fault(
     alloc: Global,
@@ -390,69 +378,6 @@ pub(crate) fn columns_fault(
     repeats.add(&names.first)?;
     repeats.add_all(names.rest.items())?;
     Ok(earlier(unknown_column(columns, names), repeats.fault()))
-}
-
-fn unknown_column(columns: Option<&Columns>, names: &Names) -> Option<Fault>
-    ensures { result ≡ first_of (map (column_fault (option_copied columns.entry)) (several names.now)) }
-{
-    let mut fault = column_fault(columns, &names.first);
-    for name in names.rest.items() {
-        fault = earlier(fault, column_fault(columns, name));
-    }
-    fault
-}
-
-fn type_of_column(columns: Option<&Columns>, name: &Identifier) -> Option<SqlType>
-    ensures { result ≡ type_of_column (columns_known (option_copied columns.entry)) name.now }
-{
-    match columns {
-        None => None,
-        Some(columns) => match columns.get(&name.name) {
-            None => None,
-            Some(kind) => kind,
-        },
-    }
-}
-
-// The types of the columns of an INSERT; how many there are isn't known of all columns of an unknown table.
-fn inserted_types(
-    alloc: Global,
-    columns: Option<&Columns>,
-    names: &Option<Boxed<Names>>,
-) -> Result<Option<List<Option<SqlType>>>, AllocError>
-    ensures { IfOk result (λ kinds. kinds ≡ inserted_types (option_copied columns.entry) names.now) }
-{
-    match names {
-        Some(names) => Ok(Some(types_of_listed(alloc, columns, names.get())?)),
-        None => match columns {
-            None => Ok(None),
-            Some(columns) => Ok(Some(types_of_all(alloc, columns)?)),
-        },
-    }
-}
-
-fn types_of_listed(
-    alloc: Global,
-    columns: Option<&Columns>,
-    names: &Names,
-) -> Result<List<Option<SqlType>>, AllocError>
-    ensures { IfOk result (λ kinds. kinds ≡ map (type_of_column (columns_known (option_copied columns.entry))) (several names.now)) }
-{
-    let mut kinds = vec![in alloc; type_of_column(columns, &names.first)]?;
-    for name in names.rest.items() {
-        kinds.push(type_of_column(columns, name))?;
-    }
-    Ok(List::of(kinds))
-}
-
-fn types_of_all(alloc: Global, columns: &Columns) -> Result<List<Option<SqlType>>, AllocError>
-    ensures { IfOk result (λ kinds. kinds ≡ map (λ p. p.1) columns.now) }
-{
-    let mut kinds = Vec::new(alloc);
-    for number in 0..columns.len() {
-        kinds.push(*columns.at(number))?;
-    }
-    Ok(List::of(kinds))
 }
 
 fn insert_fault(

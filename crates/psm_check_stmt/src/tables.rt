@@ -7,7 +7,7 @@ ghost use Rattle.psm_rules.specs.Faults.{earlier, first_from};
 ghost use Rattle.psm_rules.specs.ExprFaults.{type_fault};
 ghost use Rattle.psm_rules.specs.StatementFaults.{repeated, several};
 ghost use Rattle.psm_rules.specs.Types.{type_of};
-ghost use Rattle.psm_rules.specs.FileFaults.{alone, check_fault, column_names, column_rule_fault, column_rule_keys, columns_of, constant_fault, datum_of, default_fits, element_fault, element_keys, first_key, is_stored, key_fault, keys_of, no_world, own_keys, signed, table_elements, table_fault, table_rule_fault, too_many, with_column};
+ghost use Rattle.psm_rules.specs.FileFaults.{alone, check_fault, column_names, column_rule_fault, column_rule_keys, columns_of, constant_fault, datum_of, default_fits, element_fault, element_keys, first_key, is_stored, key_fault, keys_of, no_world, own_keys, signed, table_elements, table_fault, table_rule_fault, too_many};
 ghost use Rattle.psm_check_stmt.specs.Keys.{and_key, and_keys, first_kept, is_one, kept};
 ghost use Rattle.psm_check_stmt.specs.Listed.{with_names};
 ghost use Rattle.psm_check_expr.specs.Keys.{key_names};
@@ -15,44 +15,19 @@ ghost use Rattle.psm_check_expr.specs.Seen.{seen_in_view};
 
 use crate::repeated::Repeats;
 use crate::statements::columns_fault;
-use psm_check_expr::{
-    Columns, Frames, Key, RowTable, View, World, as_condition, breaks, breaks_if, expr_found,
-    family_of, type_fault, type_of, typed,
-};
+use psm_check_expr::{Columns, Frames, Key, View, World, expr_found, type_fault, type_of};
+use psm_known::{columns_of, signed};
 use psm_list::OneOrMore;
-use psm_num::Dec;
-use psm_rules::{Family, Fault, Rule, earlier};
-use psm_scope::Names;
+use psm_rules::{
+    Family, Fault, Rule, as_condition, breaks_if, earlier, family_of, too_many, typed,
+};
+use psm_scope::RowTable;
 use psm_tree::{
-    ColumnRule, ColumnRuleForm, Constant, ConstantForm, DataType, Element, Expr, Identifier, Sign,
+    ColumnRule, ColumnRuleForm, Constant, ConstantForm, DataType, Element, Expr, Identifier,
     TableRuleForm, TableTree,
 };
 use psm_value::{Datum, SqlType, ValueFault, store_into};
 use std::alloc::{AllocError, Global};
-
-/// The columns of a table, each name once.
-pub(crate) fn columns_of<'a>(alloc: Global, table: &'a TableTree) -> Result<Columns<'a>, AllocError>
-    ensures { IfOk result (λ cs. cs ≡ columns_of (table_elements table.now)) }
-{
-    let mut columns = Names::new(alloc);
-    push_column(&mut columns, &table.elements.first)?;
-    for element in table.elements.rest.items() {
-        push_column(&mut columns, element)?;
-    }
-    Ok(columns)
-}
-
-fn push_column<'a>(columns: &mut Columns<'a>, element: &'a Element) -> Result<(), AllocError>
-    ensures { IfOk result (λ _. columns.new ≡ with_column columns.old element.now) }
-{
-    match element {
-        Element::Column { name, kind, .. } => {
-            columns.add(&name.name, type_of(kind))?;
-            Ok(())
-        }
-        Element::Rule(_) => Ok(()),
-    }
-}
 
 // ---- keys
 
@@ -177,15 +152,6 @@ fn default_fits(alloc: Global, kind: SqlType, form: &ConstantForm) -> Result<boo
     }
 }
 
-fn signed(sign: Option<Sign>, number: Dec) -> Dec
-    ensures { result ≡ signed sign number }
-{
-    match sign {
-        None | Some(Sign::Plus) => number,
-        Some(Sign::Minus) => number.neg(),
-    }
-}
-
 fn is_stored(alloc: Global, kind: SqlType, value: &Datum) -> Result<bool, AllocError>
     requires { IsType kind }
     ensures { IfOk result (λ b. b ≡ is_stored (stored kind value.now)) }
@@ -273,32 +239,6 @@ fn add_column<'a>(names: &mut Repeats<'a>, element: &'a Element) -> Result<(), A
         Element::Column { name, .. } => names.add(name),
         Element::Rule(_) => Ok(()),
     }
-}
-
-// Column 101 is one too many.
-fn too_many(elements: &OneOrMore<Element>) -> Option<Fault>
-    ensures { result ≡ too_many (slice_get (column_names (several elements.now)) 100) }
-{
-    match &elements.first {
-        Element::Column { .. } => beyond(99, elements.rest.items()),
-        Element::Rule(_) => beyond(100, elements.rest.items()),
-    }
-}
-
-// The column behind so many.
-fn beyond(columns: u8, elements: &[Element]) -> Option<Fault>
-    ensures { result ≡ too_many (slice_get (column_names elements.now) columns) }
-{
-    let mut left = columns;
-    for element in elements {
-        if let Element::Column { name, .. } = element {
-            if left == 0 {
-                return breaks(Rule::TooManyColumns, name.place);
-            }
-            left -= 1;
-        }
-    }
-    None
 }
 
 fn element_fault(

@@ -4,10 +4,9 @@ ghost use Rattle.psm_rules.specs.FileFaults.{is_function, told_apart};
 ghost use Rattle.psm_check_stmt.specs.Told.{IsFunctionKey};
 
 use crate::routine_log::RoutineLog;
-use crate::routines::kinds_of;
 use indexmap::IndexSet;
-use psm_check_expr::breaks_if;
-use psm_rules::{Fault, Rule};
+use psm_known::kinds_of;
+use psm_rules::{Fault, Rule, breaks_if};
 use psm_scope::{CallKey, FunctionKey, NameKey};
 use psm_tree::Routine;
 use std::alloc::{AllocError, Global};

@@ -15,8 +15,9 @@ use Rattle.psm_tree.specs.declared.statement.Declaration.TheVariants as declarat
 use Rattle.psm_tree.specs.declared.statement.ForHead.{ForHead}
 use Rattle.psm_resolve_expr.specs.Exprs.{type_known}
 use Rattle.psm_resolve_expr.specs.Sight.{Sight}
-use Rattle.psm_resolve.specs.Numbering.{Numbering, next_slot, with_slot}
-use Rattle.psm_resolve.specs.Blocks.{ForItem, Part, Told, all, cursors_of, declarations_of, for_items, head_of, item_slots, slots_from, told_by, told_condition, told_cursor, told_cursors, told_for_cursor, told_head, told_item, told_items, told_variable, told_variables}
+use Rattle.psm_declare.specs.Numbering.{Numbering, next_slot, with_slot}
+use Rattle.psm_declare.specs.Declarations.{Told, cursors_of, declarations_of, slots_from, told_by, told_condition, told_cursor, told_cursors, told_variable, told_variables}
+use Rattle.psm_resolve.specs.Blocks.{ForItem, Part, all, for_items, head_of, item_slots, told_for_cursor, told_head, told_item, told_items}
 use Rattle.psm_resolve.specs.OwnNumbers.{CountsUp, Numbers, all_names, beside, condition_names, cursors_in, no_numbers, numbers_of_head, together, variables_in, with_own_name}
 
 -- these are numbered from one count up to another, and conditions of these names

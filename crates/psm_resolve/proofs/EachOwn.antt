@@ -1,8 +1,7 @@
 -- Each declaration in a statement is numbered once and in order: an induction over statements.
-use Rattle.std.proofs.Common.{◌≡◌, ℕ, suc, Option, None, List, [], ◌∷◌, ◌++◌, length, map, refl, sym, ap, ◌∙◌, subst}
+use Rattle.std.proofs.Common.{◌≡◌, suc, Option, None, List, [], ◌∷◌, ◌++◌, length, map, refl, sym, ap, ◌∙◌, subst}
 use Rattle.std.proofs.lemmas.List.{append_assoc, append-nil}
 use Rattle.psm_list.specs.Several.{Several}
-use Rattle.psm_value.specs.declared.sqltype.SqlType.{SqlType}
 use Rattle.psm_scope.specs.Frames.{Spelling, undeclared}
 use Rattle.psm_scope.specs.Frames as frame
 use Rattle.psm_rules.specs.StatementFaults.{label_name}
@@ -22,8 +21,9 @@ use Rattle.psm_resolved.specs.declared.statement.ResolvedHandler.{ResolvedHandle
 use Rattle.psm_resolved.specs.declared.statement.ResolvedStatement.{ResolvedStatement}
 use Rattle.psm_resolve_expr.specs.Exprs.{type_known}
 use Rattle.psm_resolve_expr.specs.Sight.{Sight}
-use Rattle.psm_resolve.specs.Numbering.{Numbering, next_slot}
-use Rattle.psm_resolve.specs.Blocks.{BlockPart, Part, Told, all, block_layer, block_made, branch_layer, branch_made, handler_layer, handler_made, in_frames, in_loop, inside, opened, statement_layer, statement_made, told_by, told_cursors, told_head}
+use Rattle.psm_declare.specs.Numbering.{Numbering}
+use Rattle.psm_declare.specs.Declarations.{Told, opened, told_by, told_cursors}
+use Rattle.psm_resolve.specs.Blocks.{BlockPart, Part, all, block_layer, block_made, branch_layer, branch_made, handler_layer, handler_made, in_frames, in_loop, inside, statement_layer, statement_made, told_head}
 use Rattle.psm_resolve.specs.Files.{nothing_numbered, parameter_made, routine_made, routine_told, told_parameter, told_parameters}
 use Rattle.psm_resolve.specs.OwnNumbers.{CountsUp, HasNumbersOfItsOwn, block_names_layer, branch_names_layer, handler_names_layer, names_layer, numbers_of, numbers_of_branch, numbers_of_handler, own_conditions, own_conditions_of_block, own_conditions_of_branch, own_conditions_of_handler}
 use Rattle.psm_resolve.proofs.Counted.{Counted, all-counted, counted-as, counted-beside, counted-none, cursors-counted, declarations-counted, head-counted}

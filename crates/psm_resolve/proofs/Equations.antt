@@ -26,9 +26,10 @@ use Rattle.psm_resolved.specs.declared.statement.ResolvedHandler.{ResolvedHandle
 use Rattle.psm_resolved.specs.declared.statement.ResolvedStatement.{ResolvedStatement}
 use Rattle.psm_resolved.specs.declared.statement.ResolvedStatement.TheVariants as made
 use Rattle.psm_resolve_expr.specs.Sight.{Sight}
-use Rattle.psm_resolve.specs.Numbering.{Numbering, then_as}
-use Rattle.psm_resolve.specs.Statements.{expr_at, simple_of}
-use Rattle.psm_resolve.specs.Blocks.{BlockPart, Part, all, block_layer, block_made, branch_layer, branch_made, branches_of, chosen_of, compound_of, for_of, handler_layer, handler_made, in_loop, inside, kind_of, level_at, statement_layer, statement_made, value_of}
+use Rattle.psm_declare.specs.Numbering.{Numbering, then_as}
+use Rattle.psm_declare.specs.Seen.{expr_at}
+use Rattle.psm_resolve.specs.Statements.{simple_of}
+use Rattle.psm_resolve.specs.Blocks.{BlockPart, Part, all, block_layer, block_made, branch_layer, branch_made, chosen_of, compound_of, for_of, handler_layer, handler_made, in_loop, inside, kind_of, level_at, statement_layer, statement_made, value_of}
 
 statement_rolled : (layer : Statement-F Block Statement Branch Handler) → statement_made (roll-Statement layer) ≡ statement_layer (map-Statement Block Statement Branch Handler BlockPart (Part ResolvedStatement) (Part ResolvedBranch) (Part ResolvedHandler) block_made statement_made branch_made handler_made layer)
 statement_rolled layer = fold-roll-Statement BlockPart (Part ResolvedStatement) (Part ResolvedBranch) (Part ResolvedHandler) block_layer statement_layer branch_layer handler_layer layer

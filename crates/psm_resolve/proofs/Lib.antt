@@ -1,4 +1,3 @@
-pub mod Bounds
 pub mod Equations
 pub mod Innermost
 pub mod Layers

@@ -1,26 +1,12 @@
 -- Columns one by one.
-use Rattle.std.proofs.Common.{◌≡◌, ◌<◌, ℕ, zero, suc, ◌+◌, List, [], ◌∷◌, ◌++◌, Option, Some, None, option_map, length, map, drop, refl, ap, sym, ◌∙◌, add-one, arith}
+use Rattle.std.proofs.Common.{◌≡◌, ℕ, zero, suc, ◌+◌, List, [], ◌∷◌, ◌++◌, Option, Some, option_map, drop, ap, sym, ◌∙◌, add-one}
 use Rattle.std.specs.Prelude.{slice_get}
 use Rattle.std.proofs.lemmas.List.{append_assoc}
 use Rattle.psm_value.specs.declared.sqltype.SqlType.{SqlType}
 use Rattle.psm_scope.specs.Frames.{Spelling}
 use Rattle.psm_rules.specs.View.{Columns}
 use Rattle.psm_resolve_expr.specs.Exprs.{type_known}
-use Rattle.psm_resolve.specs.Statements.{all_places}
 use Rattle.psm_resolve.specs.Blocks.{ForItem, column_items}
-
-place_there : (columns : Columns) (i n : ℕ) → n < length columns → all_places i (drop n columns) ≡ i ∷ all_places (suc i) (drop (suc n) columns)
-place_there [] i n lt = absurd (omega (arith, lt))
-place_there (c ∷ cs) i zero lt = refl
-place_there (c ∷ cs) i (suc n) lt = place_there cs i n (omega (arith, lt))
-
-pub places_step : (old new : List ℕ) (columns : Columns) (n : ℕ) → n < length columns → new ≡ old ++ n ∷ []
-    → new ++ all_places (n + 1) (drop (n + 1) columns) ≡ old ++ all_places n (drop n columns)
-places_step old new columns n lt e =
-    ap (λ l. l ++ all_places (n + 1) (drop (n + 1) columns)) e
-    ∙ append_assoc old (n ∷ []) (all_places (n + 1) (drop (n + 1) columns))
-    ∙ ap (λ k. old ++ n ∷ all_places k (drop k columns)) (add-one n)
-    ∙ ap (λ l. old ++ l) (sym (place_there columns n n lt))
 
 item_there : (columns : Columns) (n : ℕ) (name : Spelling) (kind : Option SqlType)
     → option_map (λ p. p.0) (slice_get columns n) ≡ Some name → option_map (λ p. p.1) (slice_get columns n) ≡ Some kind

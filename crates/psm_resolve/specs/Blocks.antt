@@ -1,5 +1,5 @@
 -- The statement without names that stands for one with statements in it, and what is numbered behind it (ISO/IEC 9075-4:1996).
-use Rattle.std.specs.Prelude.{ℕ, suc, Bool, true, false, not, Option, Some, None, List, [], ◌∷◌, ◌++◌, map, length, option_map, if◌then◌else◌}
+use Rattle.std.specs.Prelude.{ℕ, suc, Bool, false, not, Option, Some, None, List, [], ◌∷◌, ◌++◌, map, length, option_map, if◌then◌else◌}
 use Rattle.psm_list.specs.Several.{Several}
 use Rattle.psm_cond.specs.declared.handlers.ConditionValue.{ConditionValue}
 use Rattle.psm_cond.specs.declared.handlers.ConditionValue.TheVariants as values
@@ -10,21 +10,18 @@ use Rattle.psm_value.specs.declared.sqltype.SqlType.TheVariants as types
 use Rattle.psm_scope.specs.Frames.{Spelling, Frame, undeclared}
 use Rattle.psm_scope.specs.Frames as frame
 use Rattle.psm_scope.specs.Lookup as lookup
-use Rattle.psm_scope.specs.Scopes.{declared_here, redeclared}
 use Rattle.psm_scope.specs.declared.known.Variable.{Variable}
 use Rattle.psm_scope.specs.declared.known.DeclaredCondition.{DeclaredCondition}
-use Rattle.psm_rules.specs.View.{World, Columns}
-use Rattle.psm_rules.specs.BlockFaults.{declared_once, is_updatable, last_name, wide}
+use Rattle.psm_rules.specs.View.{Columns}
+use Rattle.psm_rules.specs.BlockFaults.{last_name, wide}
 use Rattle.psm_rules.specs.ExprFaults.{spelling}
 use Rattle.psm_rules.specs.Shapes.{family_of}
-use Rattle.psm_rules.specs.StatementFaults.{several, good_state, label_name}
-use Rattle.psm_rules.specs.Types.{type_of}
+use Rattle.psm_rules.specs.StatementFaults.{several, label_name}
 use Rattle.psm_rules.specs.declared.shape.Shape.{Shape}
 use Rattle.psm_rules.specs.declared.shape.Shape.TheVariants.{Value, Untyped}
 use Rattle.psm_rules.specs.declared.shape.Shape.TheVariants as shape
 use Rattle.psm_tree.specs.declared.name.Identifier.{Identifier}
 use Rattle.psm_tree.specs.declared.name.Target.{Target}
-use Rattle.psm_tree.specs.declared.types.DataType.{DataType}
 use Rattle.psm_tree.specs.declared.types.State.{State}
 use Rattle.psm_tree.specs.declared.expr.Expr.{Expr, out-Expr}
 use Rattle.psm_tree.specs.declared.expr.Expr.TheOpen.{Expr-F, Pick-F}
@@ -45,15 +42,11 @@ use Rattle.psm_tree.specs.declared.statement.HandlerKind.{HandlerKind as Written
 use Rattle.psm_tree.specs.declared.statement.HandlerKind.TheVariants as written_kinds
 use Rattle.psm_tree.specs.declared.statement.HandlerValue.{HandlerValue}
 use Rattle.psm_tree.specs.declared.statement.HandlerValue.TheVariants as handled
-use Rattle.psm_tree.specs.declared.statement.Order.{Order}
-use Rattle.psm_tree.specs.declared.statement.OrderedQuery.{OrderedQuery}
 use Rattle.psm_tree.specs.declared.statement.Statement.{Statement}
 use Rattle.psm_tree.specs.declared.statement.Block.TheOpen.{Statement-F, Block-F, Branch-F, Handler-F}
 use Rattle.psm_tree.specs.declared.statement.Block.TheOpen as layers
 use Rattle.psm_tree.specs.declared.statement.Block.TheFolds.{fold-Statement, fold-Block, fold-Branch, fold-Handler}
-use Rattle.psm_resolved.specs.declared.expr.ResolvedExpr.{ResolvedExpr}
-use Rattle.psm_resolved.specs.declared.expr.ResolvedQuery.{ResolvedQuery, out-ResolvedQuery, roll-ResolvedQuery}
-use Rattle.psm_resolved.specs.declared.statement.ResolvedBlock.{ResolvedBlock, roll-ResolvedBlock}
+use Rattle.psm_resolved.specs.declared.statement.ResolvedBlock.{roll-ResolvedBlock}
 use Rattle.psm_resolved.specs.declared.statement.ResolvedBranch.{ResolvedBranch, roll-ResolvedBranch}
 use Rattle.psm_resolved.specs.declared.statement.ResolvedCondition.{ResolvedCondition}
 use Rattle.psm_resolved.specs.declared.statement.ResolvedCondition.TheVariants as conditions
@@ -63,107 +56,15 @@ use Rattle.psm_resolved.specs.declared.statement.ResolvedFor.{ResolvedFor}
 use Rattle.psm_resolved.specs.declared.statement.ResolvedHandler.{ResolvedHandler, roll-ResolvedHandler}
 use Rattle.psm_resolved.specs.declared.statement.ResolvedStatement.{ResolvedStatement}
 use Rattle.psm_resolved.specs.declared.statement.ResolvedStatement.TheVariants as made
-use Rattle.psm_resolve_expr.specs.Exprs.{made_of, query_made, type_known}
-use Rattle.psm_resolve_expr.specs.Sight.{Sight, Frames, on_row, name_in, table_at}
-use Rattle.psm_resolve.specs.Numbering.{Numbering, Step, in_turn, then_as, with_slot, next_slot, with_cursor, with_condition, next_condition}
-use Rattle.psm_resolve.specs.Statements.{expr_at, simple_of, declared_as, state_of, columns_of}
+use Rattle.psm_resolve_expr.specs.Exprs.{made_of, type_known}
+use Rattle.psm_resolve_expr.specs.Sight.{Sight, Frames, on_row, name_in}
+use Rattle.psm_declare.specs.Declarations.{Told, cursors_of, declarations_of, opened, ordered_query, told_by, told_cursors, told_variable, with_numbered_cursor}
+use Rattle.psm_declare.specs.Numbering.{Numbering, Step, in_turn, then_as, with_slot, next_slot, with_cursor}
+use Rattle.psm_declare.specs.Seen.{expr_at}
+use Rattle.psm_resolve.specs.Statements.{simple_of, declared_as, state_of, columns_of}
 
 abbrev pub in_frames : Sight → Frames → Sight
 in_frames sight frames = record sight { frames = frames }
-
--- ---- declarations: each sees those before it, and a DEFAULT doesn't see the names of its own
-
--- what is declared so far: the frames, and what is numbered
-abbrev pub Told : Type 0
-Told = Frames × Numbering
-
-abbrev pub with_variable : Frames → Spelling → Variable → Frames
-with_variable frames n x = let d = declared_here frames in redeclared frames (record d { variables = declared_once d.variables n x })
-
-abbrev pub with_named_condition : Frames → Spelling → DeclaredCondition → Frames
-with_named_condition frames n x = let d = declared_here frames in redeclared frames (record d { conditions = declared_once d.conditions n x })
-
-abbrev pub with_numbered_cursor : Frames → Spelling → ℕ → Frames
-with_numbered_cursor frames n x = let d = declared_here frames in redeclared frames (record d { cursors = declared_once d.cursors n x })
-
--- a variable of a type, in the next slot
-abbrev pub variable_in : SqlType → Numbering → Variable
-variable_in t n = record { kind = Some t; slot = next_slot n; assignable = true }
-
-abbrev pub told_variable : SqlType → Told → Spelling → Told
-told_variable t told name = (with_variable told.0 name (variable_in t told.1), with_slot t told.1)
-
--- the slots of variables of one declaration
-abbrev pub told_variables : SqlType → Told → List Identifier → Told
-told_variables t told [] = told
-told_variables t told (n ∷ ns) = told_variables t (told_variable t told n.name) ns
-
-abbrev pub slots_from : ℕ → List Identifier → List ℕ
-slots_from slot [] = []
-slots_from slot (n ∷ ns) = slot ∷ slots_from (suc slot) ns
-
-abbrev pub own_condition : Told → Spelling → Told
-own_condition told name = (with_named_condition told.0 name (record { number = next_condition told.1; state = None }), with_condition name told.1)
-
-abbrev pub named_state : Told → Spelling → State → Told
-named_state told name s = (with_named_condition told.0 name (record { number = 0; state = good_state s.text }), told.1)
-
-abbrev pub told_condition : Told → Spelling → Option State → Told
-told_condition told name None = own_condition told name
-told_condition told name (Some s) = named_state told name s
-
-abbrev pub told_behind : Told → Declaration → Told
-told_behind told (declarations.Variables place names kind default) = told_variables (type_known (type_of kind)) told (several names)
-told_behind told (declarations.Condition place name state) = told_condition told name.name state
-
--- the declaration of variables; one of a condition leaves nothing behind
-abbrev pub declaration_of : World → Told → Declaration → List ResolvedDeclaration
-declaration_of world told (declarations.Variables place names kind default) = record {
-  slots = slots_from (next_slot told.1) (several names);
-  default = option_map (expr_at (record { world = world; frames = told.0; row = None })) default;
-} ∷ []
-declaration_of world told (declarations.Condition place name state) = []
-
-abbrev pub declarations_of : World → Told → List Declaration → List ResolvedDeclaration
-declarations_of world told [] = []
-declarations_of world told (x ∷ xs) = declaration_of world told x ++ declarations_of world (told_behind told x) xs
-
-abbrev pub told_by : Told → List Declaration → Told
-told_by told [] = told
-told_by told (x ∷ xs) = told_by (told_behind told x) xs
-
--- ---- cursors
-
--- an order is that of the key, all upwards or all downwards
-abbrev pub is_downward : Option Order → Bool
-is_downward None = false
-is_downward (Some order) = order.columns.first.descending
-
-abbrev pub ordered : Bool → ResolvedQuery → ResolvedQuery
-ordered downward query = let q = out-ResolvedQuery query in roll-ResolvedQuery (record { table = q.table; downward = downward; items = q.items; test = q.test })
-
-abbrev pub ordered_query : Sight → OrderedQuery → ResolvedQuery
-ordered_query sight q = ordered (is_downward q.order) (query_made q.query sight).query
-
-abbrev pub cursor_of : World → Told → CursorDeclaration → ResolvedCursor
-cursor_of world told x = record {
-  number = told.1.cursors;
-  name = x.name.name;
-  insensitive = x.insensitive;
-  updatable = is_updatable x.insensitive x.updatability;
-  query = ordered_query (record { world = world; frames = told.0; row = None }) x.query;
-}
-
-abbrev pub told_cursor : Told → CursorDeclaration → Told
-told_cursor told x = (with_numbered_cursor told.0 x.name.name told.1.cursors, with_cursor told.1)
-
-abbrev pub cursors_of : World → Told → List CursorDeclaration → List ResolvedCursor
-cursors_of world told [] = []
-cursors_of world told (x ∷ xs) = cursor_of world told x ∷ cursors_of world (told_cursor told x) xs
-
-abbrev pub told_cursors : Told → List CursorDeclaration → Told
-told_cursors told [] = told
-told_cursors told (x ∷ xs) = told_cursors (told_cursor told x) xs
 
 -- ---- handlers
 
@@ -304,9 +205,6 @@ body_of sight level atomic xs cursors handlers statements n =
     let hs = all sight handlers n in
     let ss = all sight statements hs.1 in
     (made.Compound level (roll-ResolvedBlock (record { atomic = atomic; declarations = xs; cursors = cursors; handlers = hs.0; statements = ss.0 })), ss.1)
-
-abbrev pub opened : Option Spelling → Frames → Frames
-opened label frames = frame.Compound label undeclared ∷ frames
 
 abbrev pub compound_of : Option Spelling → Sight → Bool → List Declaration → List CursorDeclaration → List (Part ResolvedHandler) → List (Part ResolvedStatement) → Step ResolvedStatement
 compound_of label sight atomic xs cursors handlers statements n =

@@ -1,7 +1,7 @@
 -- The module file without names that stands for one: its tables, and its routines, with the types of their slots.
 use Rattle.std.specs.Prelude.{ℕ, suc, Bool, true, false, not, ◌||◌, Option, Some, None, Result, Ok, Err, List, [], ◌∷◌, ◌++◌, map, nat_eq, option_map, if◌then◌else◌}
 use Rattle.std.specs.List.{list_any}
-use Rattle.psm_list.specs.Several.{Several}
+use Rattle.psm_known.specs.Columns.{column_of}
 use Rattle.psm_value.specs.declared.datum.Datum.{Datum}
 use Rattle.psm_value.specs.declared.datum.Datum.TheVariants as data_of
 use Rattle.psm_value.specs.declared.sqltype.SqlType.{SqlType}
@@ -9,13 +9,11 @@ use Rattle.psm_value.specs.Stored.{stored}
 use Rattle.psm_scope.specs.Frames.{Spelling, undeclared}
 use Rattle.psm_scope.specs.Frames as frame
 use Rattle.psm_scope.specs.Lookup.{or_else}
-use Rattle.psm_scope.specs.declared.known.Variable.{Variable}
 use Rattle.psm_rules.specs.View.{World, Columns}
 use Rattle.psm_rules.specs.FileFaults.{no_world, datum_of, columns_of, table_elements, is_in}
 use Rattle.psm_rules.specs.StatementFaults.{several}
 use Rattle.psm_rules.specs.Types.{type_of}
 use Rattle.psm_tree.specs.declared.name.Identifier.{Identifier}
-use Rattle.psm_tree.specs.declared.expr.Expr.{Expr}
 use Rattle.psm_tree.specs.declared.file.ColumnRule.{ColumnRule}
 use Rattle.psm_tree.specs.declared.file.ColumnRuleForm.{ColumnRuleForm}
 use Rattle.psm_tree.specs.declared.file.ColumnRuleForm.TheVariants as column_rules
@@ -31,7 +29,6 @@ use Rattle.psm_tree.specs.declared.file.TableRuleForm.TheVariants as table_rules
 use Rattle.psm_tree.specs.declared.file.TableTree.{TableTree}
 use Rattle.psm_tree.specs.declared.types.Constant.{Constant}
 use Rattle.psm_table.specs.declared.definition.Column.{Column}
-use Rattle.psm_table.specs.declared.definition.TableDef.{TableDef}
 use Rattle.psm_resolved.specs.declared.expr.ResolvedExpr.{ResolvedExpr}
 use Rattle.psm_resolved.specs.declared.file.ParameterMode.{ParameterMode}
 use Rattle.psm_resolved.specs.declared.file.ParameterMode.TheVariants as passed
@@ -40,10 +37,11 @@ use Rattle.psm_resolved.specs.declared.file.ResolvedParameter.{ResolvedParameter
 use Rattle.psm_resolved.specs.declared.file.ResolvedRoutine.{ResolvedRoutine}
 use Rattle.psm_resolved.specs.declared.file.ResolvedTable.{ResolvedTable}
 use Rattle.psm_resolve_expr.specs.Exprs.{type_known}
-use Rattle.psm_resolve_expr.specs.Sight.{Sight, Frames}
-use Rattle.psm_resolve.specs.Numbering.{Numbering, with_slot, next_slot}
-use Rattle.psm_resolve.specs.Statements.{expr_at, column_of}
-use Rattle.psm_resolve.specs.Blocks.{Told, with_variable, statement_made}
+use Rattle.psm_resolve_expr.specs.Sight.{Sight}
+use Rattle.psm_declare.specs.Numbering.{Numbering, with_slot, next_slot}
+use Rattle.psm_declare.specs.Declarations.{Told, with_variable}
+use Rattle.psm_declare.specs.Seen.{expr_at}
+use Rattle.psm_resolve.specs.Blocks.{statement_made}
 use Rattle.psm_resolve.specs.Worlds.{known_world}
 
 -- ---- tables

@@ -1,4 +1,3 @@
-pub mod Numbering
 pub mod Seen
 pub mod Statements
 pub mod Blocks

@@ -1,4 +1,4 @@
--- Where a routine is read, the items of a FOR statement and the key of a table, as they are kept.
+-- The items of a FOR statement and the key of a table, as they are kept.
 use Rattle.std.specs.Prelude.{Option, Some, None, List, [], ◌∷◌}
 use Rattle.std.specs.Option.{option_copied}
 use Rattle.psm_value.specs.declared.sqltype.SqlType.{SqlType}
@@ -7,15 +7,9 @@ use Rattle.psm_rules.specs.StatementFaults.{several}
 use Rattle.psm_tree.specs.declared.name.Identifier.{Identifier}
 use Rattle.psm_check_expr.specs.declared.world.Key.{Key}
 use Rattle.psm_check_expr.specs.declared.world.Key.TheVariants as keys
-use Rattle.psm_resolve_expr.specs.Sight.{Sight, Frames}
 use Rattle.psm_resolve.specs.Blocks.{ForItem}
-use Rattle.psm_resolve.specs.declared.setting.Setting.{Setting}
 use Rattle.psm_resolve.specs.declared.fors.ForItem.{ForItem as KeptItem}
 use Rattle.psm_resolve.specs.declared.fors.NamedColumn.{NamedColumn}
-
--- what a control expression sees there in some frames
-abbrev pub control : Setting → Frames → Sight
-control setting frames = record { world = setting.world.now; frames = frames; row = None }
 
 abbrev pub item_seen : KeptItem → ForItem
 item_seen i = (option_copied i.name, i.kind)

@@ -1,16 +1,14 @@
 -- The statement without names that stands for one without statements in it (ISO/IEC 9075-4:1996, and 9075:1992, clause 13). What
 -- nothing declares is no part of an accepted file: the number 0 stands for it.
-use Rattle.std.specs.Prelude.{ℕ, suc, Option, Some, None, List, [], ◌∷◌, map, length, codes, option_map}
-use Rattle.psm_list.specs.Several.{Several}
+use Rattle.std.specs.Prelude.{ℕ, Option, Some, None, List, [], ◌∷◌, map, length, codes, option_map}
 use Rattle.psm_cond.specs.declared.item.StatementItem.{StatementItem}
 use Rattle.psm_cond.specs.declared.item.StatementItem.TheVariants as statement_items
 use Rattle.psm_cond.specs.declared.item.ConditionItem.{ConditionItem}
 use Rattle.psm_cond.specs.declared.item.ConditionItem.TheVariants as condition_items
-use Rattle.psm_value.specs.declared.sqltype.SqlType.{SqlType}
 use Rattle.psm_scope.specs.Frames.{Spelling}
-use Rattle.psm_scope.specs.Lookup.{meant, named, place_named}
+use Rattle.psm_scope.specs.Lookup.{meant}
 use Rattle.psm_scope.specs.Lookup as lookup
-use Rattle.psm_scope.specs.Routines.{Header, procedure}
+use Rattle.psm_scope.specs.Routines.{procedure}
 use Rattle.psm_scope.specs.Scopes.{level}
 use Rattle.psm_scope.specs.declared.known.Variable.{Variable}
 use Rattle.psm_scope.specs.declared.known.DeclaredCondition.{DeclaredCondition}
@@ -18,17 +16,15 @@ use Rattle.psm_scope.specs.declared.procedures.ProcedureScope.{ProcedureScope}
 use Rattle.psm_scope.specs.declared.procedures.ParameterScope.{ParameterScope}
 use Rattle.psm_scope.specs.declared.procedures.ParameterMode.{ParameterMode}
 use Rattle.psm_scope.specs.declared.procedures.ParameterMode.TheVariants.{In, Out, InOut}
-use Rattle.psm_rules.specs.View.{World, Columns}
+use Rattle.psm_rules.specs.View.{Columns}
 use Rattle.psm_rules.specs.ExprFaults.{spelling}
 use Rattle.psm_rules.specs.StatementFaults.{several}
 use Rattle.psm_rules.specs.StatementFaults as rules
-use Rattle.psm_tree.specs.Names.{Names, Targets}
 use Rattle.psm_tree.specs.declared.name.Identifier.{Identifier}
 use Rattle.psm_tree.specs.declared.name.Target.{Target}
 use Rattle.psm_tree.specs.declared.types.State.{State}
 use Rattle.psm_tree.specs.declared.expr.Expr.{Expr}
 use Rattle.psm_tree.specs.declared.expr.Expr.TheVariants as written
-use Rattle.psm_tree.specs.declared.expr.Select.{Select}
 use Rattle.psm_tree.specs.declared.statement.Assignment.{Assignment}
 use Rattle.psm_tree.specs.declared.statement.Condition.{Condition}
 use Rattle.psm_tree.specs.declared.statement.Condition.TheVariants as signals
@@ -65,13 +61,12 @@ use Rattle.psm_resolved.specs.declared.statement.ResolvedSimple.{ResolvedSimple}
 use Rattle.psm_resolved.specs.declared.statement.ResolvedSimple.TheVariants as made
 use Rattle.psm_resolved.specs.declared.statement.ResolvedWhere.{ResolvedWhere}
 use Rattle.psm_resolved.specs.declared.statement.ResolvedWhere.TheVariants as which_of
-use Rattle.psm_resolve_expr.specs.Exprs.{columns_in, made_of, number_of as table_number, query_made}
+use Rattle.psm_known.specs.Columns.{column_of, inserted}
+use Rattle.psm_declare.specs.Seen.{expr_at}
+use Rattle.psm_resolve_expr.specs.Exprs.{columns_in, number_of as table_number, query_made}
 use Rattle.psm_resolve_expr.specs.Sight.{Sight, Frames, on_row, table_at}
 
 -- ---- expressions and targets
-
-abbrev pub expr_at : Sight → Expr → ResolvedExpr
-expr_at sight e = (made_of e sight).expr
 
 abbrev pub slot_in : Option Variable → ℕ
 slot_in None = 0
@@ -101,14 +96,6 @@ table_of sight n = table_number (table_at sight n.name)
 
 abbrev pub columns_of : Sight → Identifier → Columns
 columns_of sight n = columns_in (table_at sight n.name)
-
-abbrev pub place_in : Option (ℕ × Option SqlType) → ℕ
-place_in None = 0
-place_in (Some c) = c.0
-
--- a column of a table by its place
-abbrev pub column_of : Columns → Identifier → ℕ
-column_of columns n = place_in (place_named 0 n.name columns)
 
 -- ---- CALL: an argument goes as the parameter's mode says
 
@@ -180,15 +167,6 @@ diagnostics_of frames (diagnostics.Statement items) = gotten.Statement (map (λ 
 diagnostics_of frames (diagnostics.Condition number items) = gotten.Condition (number_of frames number) (map (λ i. (slot_of frames i.target, condition_item i.item)) (several items))
 
 -- ---- rows
-
--- each column, where none is named
-abbrev pub all_places : ℕ → Columns → List ℕ
-all_places i [] = []
-all_places i (c ∷ columns) = i ∷ all_places (suc i) columns
-
-abbrev pub inserted : Columns → Option Names → List ℕ
-inserted columns None = all_places 0 columns
-inserted columns (Some names) = map (column_of columns) (several names)
 
 abbrev pub row_of : Sight → Values → List ResolvedExpr
 row_of sight row = map (expr_at sight) (several row.values)

@@ -3,23 +3,22 @@ ghost use Rattle.std.specs.Prelude.{◌≡◌, ◌++◌, ◌∷◌, [], map, IfO
 ghost use Rattle.std.specs.Option.{option_copied};
 ghost use Rattle.psm_list.specs.Several.{several_map};
 ghost use Rattle.psm_rules.specs.StatementFaults.{label_name, several};
-ghost use Rattle.psm_resolve.specs.Seen.{control};
-ghost use Rattle.psm_resolve.specs.Blocks.{all, block_made, branch_made, branches_of, handler_made, in_loop, statement_made};
+ghost use Rattle.psm_declare.specs.Seen.{control};
+ghost use Rattle.psm_resolve.specs.Blocks.{all, block_made, branch_made, handler_made, in_loop, statement_made};
 
-use crate::declarations::enter_compound;
 use crate::forms::{
     case_of, compound_of, for_of, if_of, loop_of, push_branch_with, push_handler_with, repeat_of,
     simple_at, while_of,
 };
 use crate::fors::enter_for;
-use crate::numbering::Numbering;
-use crate::setting::Setting;
+use psm_declare::{Numbering, Setting, enter_compound};
+use psm_known::label_name;
 use psm_list::{Boxed, List, OneOrMore};
 use psm_resolve_expr::Frames;
 use psm_resolved::{ResolvedBranch, ResolvedHandler, ResolvedStatement};
 use psm_scope::FrameKind;
 use psm_text::Name;
-use psm_tree::{Block, Branch, Handler, Label, Statement};
+use psm_tree::{Block, Branch, Handler, Statement};
 use std::alloc::AllocError;
 
 /// The statement without names that stands for one; its declarations are numbered. Fails only without memory.
@@ -59,15 +58,6 @@ pub(crate) fn statement_made<'w, 'a>(
             case_of(setting, frames, operand, branches, otherwise)
         }
         Statement::Simple(simple) => simple_at(setting, frames, simple.get()),
-    }
-}
-
-fn label_name(label: &Option<Label>) -> Option<&Name>
-    ensures { option_copied result ≡ label_name label.now }
-{
-    match label {
-        None => None,
-        Some(label) => Some(&label.start.name),
     }
 }
 

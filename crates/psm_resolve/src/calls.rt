@@ -5,7 +5,8 @@ ghost use Rattle.psm_resolve_expr.specs.Seen.{seen_at};
 ghost use Rattle.psm_resolved.specs.declared.statement.ResolvedSimple.TheVariants as made;
 ghost use Rattle.psm_resolve.specs.Statements.{argument_of, arguments_of, call_of, target_in};
 
-use crate::known::{expr_at, slot_of};
+use crate::known::slot_of;
+use psm_declare::expr_at;
 use psm_list::{Boxed, List};
 use psm_resolve_expr::{Frames, Sight};
 use psm_resolved::{ResolvedArgument, ResolvedSimple};

@@ -1,14 +1,14 @@
 //! Conditions: SQLSTATEs, signals and the diagnostics area.
-ghost use Rattle.std.specs.Prelude.{◌≡◌, ◌∷◌, [], ◌++◌, map, option_map, string_bytes, true, IfOk};
-ghost use Rattle.std.specs.List.{list_all};
-ghost use Rattle.psm_sqlstate.specs.State.{is_state_character};
+ghost use Rattle.std.specs.Prelude.{◌≡◌, map, option_map, IfOk};
 ghost use Rattle.psm_resolved.specs.declared.statement.ResolvedSimple.TheVariants as made;
-ghost use Rattle.psm_rules.specs.StatementFaults.{good_state, is_state, is_success, several};
+ghost use Rattle.psm_rules.specs.StatementFaults.{good_state, several};
 ghost use Rattle.psm_resolve_expr.specs.Seen.{seen_at};
 ghost use Rattle.psm_resolve.specs.Statements.{condition_item, condition_of, declared_as, diagnostics_of, number_of, signal_of, slot_of, state_of, statement_item};
 
-use crate::known::{optional_at, slot_of};
+use crate::known::slot_of;
 use psm_cond::{ConditionItem, StatementItem};
+use psm_declare::optional_at;
+use psm_known::good_state;
 use psm_list::{Boxed, List, OneOrMore};
 use psm_resolve_expr::{Frames, Sight};
 use psm_resolved::{
@@ -16,7 +16,6 @@ use psm_resolved::{
 };
 use psm_scope::DeclaredCondition;
 use psm_sqlstate::SqlState;
-use psm_text::Text;
 use psm_tree::{
     Condition, ConditionInformation, ConditionNumber, Diagnostics, Signalled, State,
     StatementInformation,
@@ -24,57 +23,6 @@ use psm_tree::{
 use std::alloc::{AllocError, Global};
 
 // ---- SQLSTATEs
-
-/// The SQLSTATE of a text that is one, and not one of success.
-pub(crate) fn good_state(alloc: Global, text: &Text) -> Result<Option<SqlState>, AllocError>
-    ensures { IfOk result (λ s. s ≡ good_state text.now) }
-{
-    if is_state(text.chars()) && !is_success(text.chars()) {
-        let spelled = spelled(alloc, text.chars())?;
-        Ok(SqlState::read(spelled.as_str()))
-    } else {
-        Ok(None)
-    }
-}
-
-fn is_state(text: &[char]) -> bool
-    ensures { result ≡ is_state text.now }
-{
-    text.len() == 5 && are_state_characters(text)
-}
-
-fn are_state_characters(text: &[char]) -> bool
-    ensures { result ≡ list_all is_state_character text.now }
-{
-    text.iter().all(|c| is_state_character(*c))
-}
-
-fn is_state_character(c: char) -> bool
-    ensures { result ≡ is_state_character c }
-{
-    c.is_ascii_digit() || c.is_ascii_uppercase()
-}
-
-fn is_success(text: &[char]) -> bool
-    ensures { result ≡ is_success text.now }
-{
-    match text {
-        ['0', '0', ..] => true,
-        _ => false,
-    }
-}
-
-// The characters of an SQLSTATE as a string.
-fn spelled(alloc: Global, text: &[char]) -> Result<String, AllocError>
-    requires { list_all is_state_character text.now ≡ true }
-    ensures { IfOk result (λ s. string_bytes s ≡ text.now) }
-{
-    let mut spelled = String::new(alloc);
-    for c in text {
-        spelled.push(*c)?;
-    }
-    Ok(spelled)
-}
 
 /// The SQLSTATE that is written; 00000 stands for a bad one.
 pub(crate) fn state_of(alloc: Global, state: &State) -> Result<SqlState, AllocError>

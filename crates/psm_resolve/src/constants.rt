@@ -4,8 +4,8 @@ ghost use Rattle.psm_value.specs.SqlType.{IsType};
 ghost use Rattle.psm_rules.specs.FileFaults.{datum_of, signed};
 ghost use Rattle.psm_resolve.specs.Files.{default_of};
 
-use psm_num::Dec;
-use psm_tree::{Constant, ConstantForm, Sign};
+use psm_known::signed;
+use psm_tree::{Constant, ConstantForm};
 use psm_value::{Datum, SqlType, ValueFault, store_into};
 use std::alloc::{AllocError, Global};
 
@@ -38,14 +38,5 @@ fn datum_of(alloc: Global, form: &ConstantForm) -> Result<Datum, AllocError>
         ConstantForm::Null => Ok(Datum::Null),
         ConstantForm::Number { sign, number } => Ok(Datum::Num(signed(*sign, *number))),
         ConstantForm::Text(text) => Ok(Datum::Text(text.copy(alloc)?)),
-    }
-}
-
-fn signed(sign: Option<Sign>, number: Dec) -> Dec
-    ensures { result ≡ signed sign number }
-{
-    match sign {
-        None | Some(Sign::Plus) => number,
-        Some(Sign::Minus) => number.neg(),
     }
 }

@@ -3,9 +3,9 @@ ghost use Rattle.std.specs.Prelude.{◌≡◌, IfOk};
 ghost use Rattle.psm_resolve.specs.Files.{file_made};
 
 use crate::routines::routines_made;
-use crate::setting::Setting;
 use crate::tables::tables_made;
 use crate::worlds::known_world;
+use psm_declare::Setting;
 use psm_resolved::ResolvedFile;
 use psm_tree::FileTree;
 use std::alloc::{AllocError, Global};

@@ -7,16 +7,14 @@ ghost use Rattle.psm_resolved.specs.declared.statement.ResolvedBlock.{roll-Resol
 ghost use Rattle.psm_resolved.specs.declared.statement.ResolvedBranch.{roll-ResolvedBranch};
 ghost use Rattle.psm_resolved.specs.declared.statement.ResolvedHandler.{roll-ResolvedHandler};
 ghost use Rattle.psm_resolved.specs.declared.statement.ResolvedStatement.TheVariants as made;
-ghost use Rattle.psm_resolve.specs.Statements.{expr_at, simple_of};
-ghost use Rattle.psm_resolve.specs.Seen.{control};
+ghost use Rattle.psm_declare.specs.Seen.{control, expr_at};
+ghost use Rattle.psm_resolve.specs.Statements.{simple_of};
 ghost use Rattle.psm_resolve.specs.Blocks.{kind_of, value_of};
 
-use crate::declarations::Declared;
 use crate::handlers::{kind_of, values_of};
-use crate::known::{expr_at, optional_at};
-use crate::numbering::number;
-use crate::setting::Setting;
 use crate::simple::simple_of;
+use psm_declare::{Declared, Setting, expr_at, optional_at};
+use psm_known::as_number;
 use psm_list::{Boxed, List};
 use psm_resolve_expr::Frames;
 use psm_resolved::{
@@ -117,7 +115,7 @@ pub(crate) fn compound_of(
             statements,
         },
     )?;
-    let level = number(frames.len())?;
+    let level = as_number(frames.len())?;
     Boxed::new(alloc, ResolvedStatement::Compound { level, block })
 }
 
@@ -128,7 +126,7 @@ pub(crate) fn loop_of(
 ) -> Result<Boxed<ResolvedStatement>, AllocError>
     ensures { IfOk result (λ s. s ≡ made.Loop (length frames.now) statements) }
 {
-    let level = number(frames.len())?;
+    let level = as_number(frames.len())?;
     Boxed::new(alloc, ResolvedStatement::Loop { level, statements })
 }
 
@@ -140,7 +138,7 @@ pub(crate) fn while_of(
 ) -> Result<Boxed<ResolvedStatement>, AllocError>
     ensures { IfOk result (λ s. s ≡ made.While (length frames.now) (expr_at (control setting.entry frames.now) test.now) statements) }
 {
-    let level = number(frames.len())?;
+    let level = as_number(frames.len())?;
     let test = expr_at(setting.alloc, setting.control(frames), test)?;
     Boxed::new(
         setting.alloc,
@@ -160,7 +158,7 @@ pub(crate) fn repeat_of(
 ) -> Result<Boxed<ResolvedStatement>, AllocError>
     ensures { IfOk result (λ s. s ≡ made.Repeat (length frames.now) statements (expr_at (control setting.entry frames.now) until.now)) }
 {
-    let level = number(frames.len())?;
+    let level = as_number(frames.len())?;
     let until = expr_at(setting.alloc, setting.control(frames), until)?;
     Boxed::new(
         setting.alloc,
@@ -180,7 +178,7 @@ pub(crate) fn for_of(
 ) -> Result<Boxed<ResolvedStatement>, AllocError>
     ensures { IfOk result (λ s. s ≡ made.For (length frames.now) head statements) }
 {
-    let level = number(frames.len())?;
+    let level = as_number(frames.len())?;
     Boxed::new(
         alloc,
         ResolvedStatement::For {

@@ -1,29 +1,27 @@
 //! The head of FOR: its query, its cursor, and a variable for each item.
 ghost use Rattle.std.specs.Prelude.{◌≡◌, ◌++◌, ◌∷◌, [], drop, map, not, option_map, Some, None, IfOk, IsTrue};
 ghost use Rattle.std.specs.Option.{option_copied};
-ghost use Rattle.psm_scope.specs.Rows.{meaning_of};
+ghost use Rattle.psm_scope.specs.Rows.{columns_known, meaning_of};
 ghost use Rattle.psm_scope.specs.Scopes.{can_declare_here};
 ghost use Rattle.psm_rules.specs.BlockFaults.{last_name};
-ghost use Rattle.psm_rules.specs.ExprFaults.{columns_known};
 ghost use Rattle.psm_rules.specs.StatementFaults.{several};
 ghost use Rattle.psm_tree.specs.declared.expr.Expr.{out-Expr};
 ghost use Rattle.psm_tree.specs.declared.expr.Pick.{out-Pick};
 ghost use Rattle.psm_tree.specs.declared.expr.Select.{out-Select};
 ghost use Rattle.psm_resolve_expr.specs.Exprs.{made_of, type_known};
 ghost use Rattle.psm_resolve_expr.specs.Seen.{seen_at};
-ghost use Rattle.psm_resolve.specs.Numbering.{next_slot};
-ghost use Rattle.psm_resolve.specs.Seen.{column_seen, control, item_seen};
+ghost use Rattle.psm_declare.specs.Numbering.{next_slot};
+ghost use Rattle.psm_declare.specs.Seen.{control};
+ghost use Rattle.psm_resolve.specs.Seen.{column_seen, item_seen};
 ghost use Rattle.psm_resolve.specs.Blocks.{column_items, column_meant, cursor_name, for_items, head_of, is_insensitive, item_column, item_of, item_slots, item_type, items_in, items_of_pick, own_name, told_for_cursor, told_head, told_item, told_items, wide_type};
 
-use crate::declarations::ordered_query;
-use crate::declaring::{declare_cursor, declare_variable};
-use crate::numbering::Numbering;
-use crate::setting::Setting;
-use psm_check_expr::{Columns, family_of, row_of};
+use psm_check_expr::{Columns, row_of};
+use psm_declare::{Numbering, Setting, declare_cursor, declare_variable, ordered_query};
+use psm_known::last_name;
 use psm_list::{Boxed, List};
 use psm_resolve_expr::{Frames, Sight, made_of, name_in, on_row, table_columns};
 use psm_resolved::{ResolvedCursor, ResolvedFor, ResolvedQuery};
-use psm_rules::{Family, Shape};
+use psm_rules::{Family, Shape, family_of};
 use psm_scope::{FrameKind, Meant};
 use psm_text::Name;
 use psm_tree::{Expr, ForCursor, ForHead, Identifier, Pick, Select, Target};
@@ -259,15 +257,6 @@ fn column_meant<'a>(meant: Option<Meant>, target: &'a Target) -> Option<NamedCol
             kind,
         }),
         Some(Meant::Variable(_)) | None => None,
-    }
-}
-
-fn last_name(target: &Target) -> &Name
-    ensures { result.now ≡ last_name target.now.first target.now.second }
-{
-    match &target.second {
-        None => &target.first.name,
-        Some(second) => &second.name,
     }
 }
 

@@ -4,9 +4,8 @@ ghost use Rattle.psm_rules.specs.FileFaults.{table_elements};
 ghost use Rattle.psm_resolve.specs.Files.{element_key, key_among, key_of, own_key, rule_key, says_primary};
 ghost use Rattle.psm_resolve.specs.Seen.{key_seen};
 
-use crate::known::column_of;
-use crate::rows::places_of;
 use psm_check_expr::{Columns, Key};
+use psm_known::{column_of, places_of};
 use psm_list::List;
 use psm_tree::{ColumnRule, ColumnRuleForm, Element, Identifier, TableRuleForm, TableTree};
 use std::alloc::{AllocError, Global};

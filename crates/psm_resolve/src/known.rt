@@ -1,61 +1,14 @@
 //! What the names of statements mean: slots, numbers and places. The number 0 stands for what nothing declares.
-ghost use Rattle.std.specs.Prelude.{◌≡◌, ◌∷◌, ◌++◌, [], option_map, IfOk};
-ghost use Rattle.std.specs.Option.{option_copied};
-ghost use Rattle.psm_rules.specs.ExprFaults.{columns_known};
+ghost use Rattle.std.specs.Prelude.{◌≡◌, IfOk};
 ghost use Rattle.psm_rules.specs.StatementFaults.{several};
-ghost use Rattle.psm_resolve_expr.specs.Seen.{seen_at};
-ghost use Rattle.psm_resolve.specs.Statements.{column_of, cursor_of, expr_at, level_of, slot_of, slots_of};
+ghost use Rattle.psm_resolve.specs.Statements.{cursor_of, level_of, slot_of, slots_of};
 
-use crate::numbering::number;
-use psm_check_expr::{Columns, spelling};
-use psm_list::{Boxed, List, OneOrMore};
-use psm_resolve_expr::{Frames, Sight, made_of};
-use psm_resolved::ResolvedExpr;
-use psm_tree::{Expr, Identifier, Target};
+use psm_check_expr::spelling;
+use psm_known::as_number;
+use psm_list::{List, OneOrMore};
+use psm_resolve_expr::Frames;
+use psm_tree::{Identifier, Target};
 use std::alloc::{AllocError, Global};
-
-/// An expression where it stands.
-pub(crate) fn expr_at(
-    alloc: Global,
-    sight: Sight,
-    e: &Expr,
-) -> Result<Boxed<ResolvedExpr>, AllocError>
-    ensures { IfOk result (λ made. made ≡ expr_at (seen_at sight.entry) e.now) }
-{
-    let made = made_of(alloc, e, sight)?;
-    Ok(made.expr)
-}
-
-/// Puts an expression behind others.
-pub(crate) fn push_expr(
-    alloc: Global,
-    sight: Sight,
-    e: &Expr,
-    exprs: &mut Vec<Boxed<ResolvedExpr>>,
-) -> Result<(), AllocError>
-    ensures { IfOk result (λ _. exprs.new.items ≡ exprs.old.items ++ expr_at (seen_at sight.entry) e.now ∷ []) }
-{
-    let made = made_of(alloc, e, sight)?;
-    exprs.push(made.expr)?;
-    Ok(())
-}
-
-/// An expression that may be absent.
-pub(crate) fn optional_at(
-    alloc: Global,
-    sight: Sight,
-    e: &Option<Boxed<Expr>>,
-) -> Result<Option<Boxed<ResolvedExpr>>, AllocError>
-    ensures { IfOk result (λ made. made ≡ option_map (expr_at (seen_at sight.entry)) e.now) }
-{
-    match e {
-        None => Ok(None),
-        Some(e) => {
-            let made = expr_at(alloc, sight, e.get())?;
-            Ok(Some(made))
-        }
-    }
-}
 
 // ---- variables
 
@@ -93,7 +46,7 @@ pub(crate) fn level_of(frames: &Frames, label: &Identifier) -> Result<u32, Alloc
 {
     match frames.level(&label.name) {
         None => Ok(0),
-        Some(level) => number(level),
+        Some(level) => as_number(level),
     }
 }
 
@@ -108,16 +61,3 @@ pub(crate) fn cursor_of(frames: &Frames, cursor: &Identifier) -> u32
 }
 
 // ---- columns
-
-/// The place of a column.
-pub(crate) fn column_of(columns: Option<&Columns>, column: &Identifier) -> u32
-    ensures { result ≡ column_of (columns_known (option_copied columns.entry)) column.now }
-{
-    match columns {
-        None => 0,
-        Some(columns) => match columns.find(&column.name) {
-            None => 0,
-            Some((place, _)) => place,
-        },
-    }
-}

@@ -1,5 +1,5 @@
 //! Routines.
-ghost use Rattle.std.specs.Prelude.{◌≡◌, ◌++◌, ◌∷◌, [], map, option_map, IfOk, IsTrue};
+ghost use Rattle.std.specs.Prelude.{◌≡◌, [], map, option_map, IfOk, IsTrue};
 ghost use Rattle.psm_scope.specs.Scopes.{can_declare_here};
 ghost use Rattle.psm_rules.specs.FileFaults.{is_in};
 ghost use Rattle.psm_rules.specs.Types.{type_of};
@@ -7,10 +7,8 @@ ghost use Rattle.psm_resolve_expr.specs.Exprs.{type_known};
 ghost use Rattle.psm_resolve.specs.Files.{mode_of, nothing_numbered, parameter_made, routine_made, routine_told, told_parameter};
 
 use crate::blocks::statement_made;
-use crate::declarations::known;
-use crate::declaring::declare_known;
-use crate::numbering::Numbering;
-use crate::setting::Setting;
+use psm_declare::{Numbering, Setting, declare_known, known_type};
+use psm_known::is_in;
 use psm_list::{Boxed, List};
 use psm_resolve_expr::Frames;
 use psm_resolved::{ParameterMode, ResolvedParameter, ResolvedRoutine, ResolvedStatement};
@@ -74,7 +72,7 @@ fn returned(kind: &Option<DataType>) -> Option<SqlType>
 {
     match kind {
         None => None,
-        Some(t) => Some(known(t)),
+        Some(t) => Some(known_type(t)),
     }
 }
 
@@ -99,7 +97,7 @@ fn parameter_made(alloc: Global, parameter: &Parameter) -> Result<ResolvedParame
     Ok(ResolvedParameter {
         mode: mode_of(parameter.mode),
         name: parameter.name.name.copy(alloc)?,
-        kind: known(&parameter.kind),
+        kind: known_type(&parameter.kind),
     })
 }
 
@@ -110,15 +108,6 @@ fn mode_of(mode: Mode) -> ParameterMode
         Mode::In => ParameterMode::In,
         Mode::Out => ParameterMode::Out,
         Mode::InOut => ParameterMode::InOut,
-    }
-}
-
-fn is_in(mode: Mode) -> bool
-    ensures { result ≡ is_in mode }
-{
-    match mode {
-        Mode::In => true,
-        Mode::Out | Mode::InOut => false,
     }
 }
 
@@ -150,7 +139,7 @@ fn declare_parameter<'a>(
     ensures numbering { IfOk result (λ _. numbering.new ≡ (told_parameter (frames.old, numbering.old) parameter.now).1) }
     ensures open { IfOk result (λ _. IsTrue (can_declare_here frames.new)) }
 {
-    let kind = known(&parameter.kind);
+    let kind = known_type(&parameter.kind);
     let variable = Variable {
         kind: Some(kind),
         slot: numbering.slot(kind)?,

@@ -1,20 +1,25 @@
 //! INSERT, UPDATE and DELETE.
 ghost use Rattle.std.specs.Prelude.{◌≡◌, ◌∷◌, [], ◌++◌, map, None, IfOk};
 ghost use Rattle.std.specs.Option.{option_copied};
-ghost use Rattle.psm_rules.specs.ExprFaults.{columns_known};
+ghost use Rattle.psm_known.specs.Columns.{column_of, inserted};
+ghost use Rattle.psm_scope.specs.Rows.{columns_known};
 ghost use Rattle.psm_rules.specs.StatementFaults.{several};
 ghost use Rattle.psm_resolved.specs.declared.statement.ResolvedSimple.TheVariants as made;
 ghost use Rattle.psm_resolve_expr.specs.Exprs.{query_made};
 ghost use Rattle.psm_resolve_expr.specs.Seen.{seen_at};
 ghost use Rattle.psm_resolve_expr.specs.Sight.{on_row};
-ghost use Rattle.psm_resolve.specs.Statements.{all_places, column_of, columns_of, expr_at, inserted, on_table, row_of, rows_of, set_of, table_of, which_in};
+ghost use Rattle.psm_declare.specs.Seen.{expr_at};
+ghost use Rattle.psm_resolve.specs.Statements.{columns_of, on_table, row_of, rows_of, set_of, table_of, which_in};
 ghost use Rattle.psm_resolved.specs.declared.statement.ResolvedRows.TheVariants as rows;
 
-use crate::known::{column_of, cursor_of, expr_at, push_expr};
-use psm_check_expr::{Columns, RowTable};
+use crate::known::cursor_of;
+use psm_check_expr::Columns;
+use psm_declare::{expr_at, push_expr};
+use psm_known::{column_of, inserted};
 use psm_list::{Boxed, List, OneOrMore};
 use psm_resolve_expr::{Sight, on_row, query_made, table_columns, table_number};
 use psm_resolved::{ResolvedExpr, ResolvedRows, ResolvedSet, ResolvedSimple, ResolvedWhere};
+use psm_scope::RowTable;
 use psm_tree::{Assignment, Identifier, InsertSource, Names, Values, Where};
 use std::alloc::{AllocError, Global};
 
@@ -41,55 +46,6 @@ pub(crate) fn insert(
             rows,
         },
     )
-}
-
-// The columns for which there are values: all, where none is named.
-fn inserted(
-    alloc: Global,
-    columns: Option<&Columns>,
-    names: &Option<Boxed<Names>>,
-) -> Result<List<u32>, AllocError>
-    ensures { IfOk result (λ places. places ≡ inserted (columns_known (option_copied columns.entry)) names.now) }
-{
-    match names {
-        None => all_places(alloc, columns),
-        Some(names) => places_of(alloc, columns, names.get()),
-    }
-}
-
-/// The places of columns that are named.
-pub(crate) fn places_of(
-    alloc: Global,
-    columns: Option<&Columns>,
-    names: &Names,
-) -> Result<List<u32>, AllocError>
-    ensures { IfOk result (λ places. places ≡ map (column_of (columns_known (option_copied columns.entry))) (several names.now)) }
-{
-    let mut places = Vec::new(alloc);
-    places.push(column_of(columns, &names.first))?;
-    for name in names.rest.items() {
-        places.push(column_of(columns, name))?;
-    }
-    Ok(List::of(places))
-}
-
-fn all_places(alloc: Global, columns: Option<&Columns>) -> Result<List<u32>, AllocError>
-    ensures { IfOk result (λ places. places ≡ all_places 0 (columns_known (option_copied columns.entry))) }
-{
-    match columns {
-        None => Ok(List::of(Vec::new(alloc))),
-        Some(columns) => each_place(alloc, columns),
-    }
-}
-
-fn each_place(alloc: Global, columns: &Columns) -> Result<List<u32>, AllocError>
-    ensures { IfOk result (λ places. places ≡ all_places 0 columns.now) }
-{
-    let mut places = Vec::new(alloc);
-    for place in 0..columns.len() {
-        places.push(place)?;
-    }
-    Ok(List::of(places))
 }
 
 fn rows_of(

@@ -1,15 +1,17 @@
 //! Statements without statements in them.
-ghost use Rattle.std.specs.Prelude.{◌≡◌, map, IfOk};
+ghost use Rattle.std.specs.Prelude.{◌≡◌, IfOk};
 ghost use Rattle.psm_rules.specs.StatementFaults.{several};
 ghost use Rattle.psm_resolved.specs.declared.statement.ResolvedSimple.TheVariants as made;
 ghost use Rattle.psm_resolve_expr.specs.Exprs.{query_made};
 ghost use Rattle.psm_resolve_expr.specs.Seen.{seen_at};
-ghost use Rattle.psm_resolve.specs.Statements.{cursor_of, expr_at, level_of, simple_of, slot_of, slots_of};
+ghost use Rattle.psm_declare.specs.Seen.{expr_at};
+ghost use Rattle.psm_resolve.specs.Statements.{cursor_of, level_of, simple_of, slot_of, slots_of};
 
 use crate::calls::call;
 use crate::conditions::{get_diagnostics, resignal, signal};
-use crate::known::{cursor_of, expr_at, level_of, slot_of, slots_of};
+use crate::known::{cursor_of, level_of, slot_of, slots_of};
 use crate::rows::{delete, insert, update};
+use psm_declare::expr_at;
 use psm_list::Boxed;
 use psm_resolve_expr::{Frames, Sight, query_made};
 use psm_resolved::ResolvedSimple;

@@ -1,5 +1,5 @@
 //! Tables: their columns, keys and UNIQUE lists by places, and their CHECKs.
-ghost use Rattle.std.specs.Prelude.{◌≡◌, ◌++◌, ◌∷◌, [], map, nat_eq, Some, IfOk};
+ghost use Rattle.std.specs.Prelude.{◌≡◌, ◌++◌, [], map, nat_eq, Some, IfOk};
 ghost use Rattle.std.specs.List.{list_any};
 ghost use Rattle.psm_rules.specs.FileFaults.{no_world, table_elements};
 ghost use Rattle.psm_rules.specs.Types.{type_of};
@@ -8,16 +8,14 @@ ghost use Rattle.psm_resolve_expr.specs.Seen.{seen_at};
 ghost use Rattle.psm_resolve.specs.Files.{checks_in, checks_of, column_in, column_with, defined_from, key_of, next_place, on_columns, own_check, own_checks, own_unique, own_uniques, rule_check, rule_unique, says_not_null, table_made, unique_in, uniques_from};
 
 use crate::constants::default_of;
-use crate::declarations::known;
 use crate::keys::key_of;
-use crate::known::push_expr;
-use crate::numbering::next;
-use crate::rows::places_of;
-use crate::worlds::columns_of;
-use psm_check_expr::{Columns, RowTable, World};
+use psm_check_expr::{Columns, World};
+use psm_declare::{known_type, push_expr};
+use psm_known::{columns_of, next_number, places_of};
 use psm_list::{Boxed, List};
 use psm_resolve_expr::{Frames, Sight};
 use psm_resolved::{ResolvedExpr, ResolvedTable};
+use psm_scope::RowTable;
 use psm_table::{Column, TableDef};
 use psm_tree::{
     ColumnRule, ColumnRuleForm, Constant, DataType, Element, Identifier, TableRuleForm, TableTree,
@@ -156,7 +154,7 @@ fn push_element(
             let column = column_with(alloc, key, place, name, kind, default, rules.items())?;
             parts.columns.push(column)?;
             push_own_rules(alloc, sight, place, rules.items(), parts)?;
-            next(place)
+            next_number(place)
         }
         Element::Rule(rule) => {
             push_rule(alloc, sight, columns, &rule.form, parts)?;
@@ -178,7 +176,7 @@ fn column_with(
 ) -> Result<Column, AllocError>
     ensures { IfOk result (λ c. c ≡ column_with key.now place name.now.name (type_known (type_of kind.now)) default.now rules.now) }
 {
-    let kind = known(kind);
+    let kind = known_type(kind);
     let default = default_of(alloc, kind, default)?;
     Ok(Column {
         name: name.name.copy(alloc)?,

@@ -1,13 +1,13 @@
 //! What the tables and the routines of a file declare.
-ghost use Rattle.std.specs.Prelude.{◌≡◌, map, None, Some, IfOk};
-ghost use Rattle.psm_rules.specs.FileFaults.{columns_of, kind_of, mode_of, parameter_of, table_elements, with_column};
+ghost use Rattle.std.specs.Prelude.{◌≡◌, None, Some, IfOk};
+ghost use Rattle.psm_rules.specs.FileFaults.{columns_of};
 ghost use Rattle.psm_resolve.specs.Worlds.{known_world, next_procedure, with_known_routine, with_known_routines, with_known_table};
 
-use crate::numbering::next;
-use psm_check_expr::{Columns, World, type_of};
+use psm_check_expr::{World, type_of};
+use psm_known::{columns_of, kinds_of, next_number, parameters_of};
 use psm_list::List;
-use psm_scope::{ArgKind, Names, ParameterMode, ParameterScope, ProcedureScope};
-use psm_tree::{DataType, Element, FileTree, Mode, Parameter, Routine, TableTree, TypeForm};
+use psm_scope::ProcedureScope;
+use psm_tree::{DataType, FileTree, Routine, TableTree};
 use std::alloc::{AllocError, Global};
 
 /// What a file declares; each routine is known in the whole module.
@@ -34,30 +34,6 @@ fn declare_table<'a>(
     let columns = columns_of(alloc, table)?;
     world.tables.add(&table.name.name, columns)?;
     Ok(())
-}
-
-/// The columns of a table, each name once.
-pub(crate) fn columns_of<'a>(alloc: Global, table: &'a TableTree) -> Result<Columns<'a>, AllocError>
-    ensures { IfOk result (λ cs. cs ≡ columns_of (table_elements table.now)) }
-{
-    let mut columns = Names::new(alloc);
-    push_column(&mut columns, &table.elements.first)?;
-    for element in table.elements.rest.items() {
-        push_column(&mut columns, element)?;
-    }
-    Ok(columns)
-}
-
-fn push_column<'a>(columns: &mut Columns<'a>, element: &'a Element) -> Result<(), AllocError>
-    ensures { IfOk result (λ _. columns.new ≡ with_column columns.old element.now) }
-{
-    match element {
-        Element::Column { name, kind, .. } => {
-            columns.add(&name.name, type_of(kind))?;
-            Ok(())
-        }
-        Element::Rule(_) => Ok(()),
-    }
 }
 
 // ---- routines
@@ -90,7 +66,7 @@ fn declare_routine<'a>(
     match &routine.returns {
         None => {
             declare_procedure(alloc, routine, procedures, world)?;
-            next(procedures)
+            next_number(procedures)
         }
         Some(t) => {
             declare_function(alloc, routine, t, world)?;
@@ -131,52 +107,3 @@ fn declare_function<'a>(
 }
 
 // ---- parameters
-
-fn kinds_of(alloc: Global, parameters: &[Parameter]) -> Result<Vec<ArgKind>, AllocError>
-    ensures { IfOk result (λ kinds. kinds.items ≡ map (λ p. kind_of p.kind.form) parameters.now) }
-{
-    let mut kinds = Vec::new(alloc);
-    for parameter in parameters {
-        kinds.push(kind_of(&parameter.kind.form))?;
-    }
-    Ok(kinds)
-}
-
-// The kind of a type, also of one that is out of range.
-fn kind_of(form: &TypeForm) -> ArgKind
-    ensures { result ≡ kind_of form.now }
-{
-    match form {
-        TypeForm::SmallInt => ArgKind::SmallInt,
-        TypeForm::Integer => ArgKind::Integer,
-        TypeForm::Numeric(_) => ArgKind::Numeric,
-        TypeForm::Char(_) => ArgKind::Char,
-        TypeForm::VarChar(_) => ArgKind::VarChar,
-    }
-}
-
-fn parameters_of(
-    alloc: Global,
-    parameters: &[Parameter],
-) -> Result<List<ParameterScope>, AllocError>
-    ensures { IfOk result (λ known. known ≡ map parameter_of parameters.now) }
-{
-    let mut known = Vec::new(alloc);
-    for parameter in parameters {
-        known.push(ParameterScope {
-            mode: mode_of(parameter.mode),
-            kind: type_of(&parameter.kind),
-        })?;
-    }
-    Ok(List::of(known))
-}
-
-fn mode_of(mode: Mode) -> ParameterMode
-    ensures { result ≡ mode_of mode }
-{
-    match mode {
-        Mode::In => ParameterMode::In,
-        Mode::Out => ParameterMode::Out,
-        Mode::InOut => ParameterMode::InOut,
-    }
-}

@@ -4,9 +4,9 @@ use Rattle.std.specs.Prelude.{slice_get}
 use Rattle.std.proofs.lemmas.List.{append_assoc, append-nil, map-append}
 use Rattle.psm_list.specs.Several.{Several}
 use Rattle.psm_value.specs.declared.sqltype.SqlType.{SqlType}
+use Rattle.psm_scope.specs.Rows.{columns_known}
 use Rattle.psm_scope.specs.Frames.{Spelling, is_spelled}
 use Rattle.psm_scope.specs.Lookup.{named, place_named}
-use Rattle.psm_rules.specs.ExprFaults.{columns_known}
 use Rattle.psm_rules.specs.declared.shape.Shape.{Shape}
 use Rattle.psm_rules.specs.declared.shape.Typed.{Typed}
 use Rattle.psm_rules.specs.Shapes.{joined}

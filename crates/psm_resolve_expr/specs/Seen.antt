@@ -1,6 +1,6 @@
 -- What is seen at a place as it is kept.
 use Rattle.std.specs.Option.{option_map}
-use Rattle.psm_check_expr.specs.Seen.{row_table}
+use Rattle.psm_scope.specs.Rows.{row_table}
 use Rattle.psm_resolve_expr.specs.Sight.{Sight}
 use Rattle.psm_resolve_expr.specs.declared.sight.Sight.{Sight as Kept}
 

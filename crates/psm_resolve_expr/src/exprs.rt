@@ -12,10 +12,10 @@ use crate::parts::{Arguments, Branch, Branches, Operands, push_operand, when_the
 use crate::picks::Picks;
 use crate::shapes::kind_of;
 use crate::sight::{Sight, on_row, table_columns, table_number};
-use psm_check_expr::{joined, row_of};
+use psm_check_expr::row_of;
 use psm_list::{Boxed, List, OneOrMore};
 use psm_resolved::{ResolvedExpr, ResolvedLink};
-use psm_rules::Shape;
+use psm_rules::{Shape, joined};
 use psm_tree::{Expr, Link, Pick, Select, When};
 use std::alloc::{AllocError, Global};
 

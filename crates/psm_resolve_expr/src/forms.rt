@@ -19,11 +19,11 @@ use crate::shapes::{
     joined_else, only_shape, scale_of_result, shape_of_result, shape_of_type, type_known,
 };
 use crate::sight::{Sight, name_in};
-use psm_check_expr::{CHARACTER, INTEGER, VARYING, of_literal, text_result, type_of, typed};
+use psm_check_expr::{text_result, type_of};
 use psm_list::{Boxed, List};
 use psm_num::Dec;
 use psm_resolved::{ResolvedExpr, ResolvedLink};
-use psm_rules::Shape;
+use psm_rules::{CHARACTER, INTEGER, Shape, VARYING, of_literal, typed};
 use psm_scope::Meant;
 use psm_text::Text;
 use psm_tree::{Comparison, DataType, Identifier, Junction, Sign, Target, TextFunction, TrimSide};

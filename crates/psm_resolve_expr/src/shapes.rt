@@ -5,8 +5,8 @@ ghost use Rattle.psm_resolve_expr.specs.Made.{joined_in, kind_of, operated, scal
 ghost use Rattle.psm_resolve_expr.specs.Exprs.{only_shape, shape_of_set, shapes_of_else, type_known};
 
 use crate::made::Made;
-use psm_check_expr::{VARYING, at_larger_scale, family_of, joined, set_result, typed};
-use psm_rules::{Family, Shape, Typed};
+use psm_check_expr::set_result;
+use psm_rules::{Family, Shape, Typed, VARYING, at_larger_scale, family_of, joined, typed};
 use psm_scope::ArgKind;
 use psm_tree::{Operator, SetFunction};
 use psm_value::SqlType;

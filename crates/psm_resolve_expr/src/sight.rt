@@ -1,19 +1,15 @@
 //! What is seen at a place, and what names mean there.
 ghost use Rattle.std.specs.Prelude.{◌≡◌, option_map};
 ghost use Rattle.std.specs.Option.{option_copied};
-ghost use Rattle.psm_scope.specs.Lookup.{as_variable, column_meant, is_table, meant, place_named};
-ghost use Rattle.psm_scope.specs.Rows.{meaning_of};
-ghost use Rattle.psm_rules.specs.ExprFaults.{columns_known};
-ghost use Rattle.psm_check_expr.specs.Seen.{row_table};
+ghost use Rattle.psm_scope.specs.Rows.{columns_known, meaning_of, row_table};
 ghost use Rattle.psm_resolve_expr.specs.Sight.{name_in, on_row, table_at};
 ghost use Rattle.psm_resolve_expr.specs.Exprs.{columns_in, number_of};
 ghost use Rattle.psm_resolve_expr.specs.Seen.{seen_at};
 
-use psm_check_expr::{Columns, RowTable, World, same_name, spelling};
-use psm_scope::Meant;
+use psm_check_expr::{Columns, World, spelling};
+use psm_scope::{Meant, RowTable};
 use psm_text::Name;
 use psm_tree::Target;
-use psm_value::SqlType;
 
 /// The frames around a statement, in which a cursor is known by its number.
 pub type Frames<'a> = psm_scope::Frames<'a, u32>;
@@ -45,55 +41,8 @@ pub fn name_in(sight: Sight, target: &Target) -> Option<Meant>
 {
     let second = spelling(&target.second);
     match sight.row {
-        None => variable_in(sight.frames, &target.first.name, second),
-        Some(row) => match column_in(row, &target.first.name, second) {
-            Some((number, kind)) => Some(Meant::Column(number, kind)),
-            None => variable_in(sight.frames, &target.first.name, second),
-        },
-    }
-}
-
-fn variable_in(frames: &Frames, first: &Name, second: Option<&Name>) -> Option<Meant>
-    ensures { option_map meaning_of result ≡ as_variable (meant first.now (option_copied second.entry) frames.now) }
-{
-    match frames.meant(first, second) {
-        None => None,
-        Some(known) => Some(Meant::Variable(known)),
-    }
-}
-
-// The column that a name means.
-fn column_in(row: RowTable, first: &Name, second: Option<&Name>) -> Option<(u32, Option<SqlType>)>
-    ensures { result ≡ column_meant first.now (option_copied second.entry) (row_table row.entry) }
-{
-    match second {
-        None => column_named(row.columns, first),
-        Some(name) => {
-            if is_table(row, first) {
-                column_named(row.columns, name)
-            } else {
-                None
-            }
-        }
-    }
-}
-
-// Whether a qualifier is the table's name or its alias.
-fn is_table(row: RowTable, qualifier: &Name) -> bool
-    ensures { result ≡ is_table qualifier.now (row_table row.entry) }
-{
-    match row.alias {
-        None => same_name(qualifier, row.name),
-        Some(alias) => same_name(qualifier, row.name) || same_name(qualifier, alias),
-    }
-}
-
-fn column_named(columns: Option<&Columns>, name: &Name) -> Option<(u32, Option<SqlType>)>
-    ensures { result ≡ place_named 0 name.now (columns_known (option_copied columns.entry)) }
-{
-    match columns {
-        None => None,
-        Some(columns) => columns.find(name),
+        None => sight.frames.meant_alone(&target.first.name, second),
+        Some(row) => sight.frames.meant_on_row(&target.first.name, second, row),
     }
 }
 

@@ -4,6 +4,7 @@ use Rattle.std.specs.List.{list_all, list_any}
 use Rattle.psm_token.specs.declared.place.Place.{Place}
 use Rattle.psm_value.specs.declared.sqltype.SqlType.{SqlType}
 use Rattle.psm_value.specs.declared.sqltype.SqlType.TheVariants as types
+use Rattle.psm_scope.specs.Rows.{columns_known}
 use Rattle.psm_scope.specs.Frames.{Spelling, is_spelled, Frame, undeclared}
 use Rattle.psm_scope.specs.Frames as frame
 use Rattle.psm_scope.specs.Lookup.{Meaning, named}
@@ -42,7 +43,7 @@ use Rattle.psm_tree.specs.declared.statement.HandlerValue.{HandlerValue}
 use Rattle.psm_tree.specs.declared.statement.HandlerValue.TheVariants as handled
 use Rattle.psm_rules.specs.declared.fault.Fault.{Fault}
 use Rattle.psm_rules.specs.declared.rule.Rule.TheVariants as rule
-use Rattle.psm_rules.specs.ExprFaults.{PickFound, QueryFound, query_found, query_fault, table_fault, test_fault, type_fault, items_of, is_all, columns_known, first_set, misplaced_set, simple_test, name_in, pick_found, row_of}
+use Rattle.psm_rules.specs.ExprFaults.{PickFound, QueryFound, query_found, query_fault, table_fault, test_fault, type_fault, items_of, is_all, first_set, misplaced_set, simple_test, name_in, pick_found, row_of}
 use Rattle.psm_rules.specs.Faults.{breaks, breaks_if, earlier, first_of}
 use Rattle.psm_rules.specs.declared.found.Found.{Found}
 use Rattle.psm_rules.specs.Found.{as_value, as_condition}

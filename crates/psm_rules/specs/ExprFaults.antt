@@ -11,6 +11,7 @@ use Rattle.psm_scope.specs.declared.fault.ChoiceFault.TheVariants.{NoRoutine, Am
 use Rattle.psm_scope.specs.Frames.{Spelling, is_spelled}
 use Rattle.psm_scope.specs.declared.known.Variable.{Variable}
 use Rattle.psm_scope.specs.Lookup.{RowTable, Meaning, meant, meant_on_row, or_else}
+use Rattle.psm_scope.specs.Rows.{columns_known}
 use Rattle.psm_scope.specs.Lookup as lookup
 use Rattle.psm_scope.specs.declared.kinds.ArgKind.{ArgKind}
 use Rattle.psm_scope.specs.declared.kinds.ArgKind.TheVariants as kind
@@ -263,11 +264,7 @@ pub record QueryFound : Type 0 where
   -- of WHERE
   pub test : Option Found
 
--- the table of a query, which has no columns where it isn't known
-abbrev pub columns_known : Option Columns → Columns
-columns_known None = []
-columns_known (Some cs) = cs
-
+-- the row that a query goes over
 abbrev pub row_of : View → Identifier → Option Identifier → RowTable (Option SqlType)
 row_of view table alias = record { name = table.name; alias = spelling alias; columns = columns_known (table_named view table.name) }
 

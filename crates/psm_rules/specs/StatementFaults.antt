@@ -6,6 +6,7 @@ use Rattle.psm_token.specs.declared.place.Place.{Place}
 use Rattle.psm_value.specs.declared.sqltype.SqlType.{SqlType}
 use Rattle.psm_value.specs.declared.sqltype.SqlType.TheVariants as types
 use Rattle.psm_sqlstate.specs.State.{is_state_character}
+use Rattle.psm_scope.specs.Rows.{columns_known}
 use Rattle.psm_scope.specs.Frames.{Spelling, is_spelled, Declared, Frame}
 use Rattle.psm_scope.specs.Frames as frame
 use Rattle.psm_scope.specs.Lookup.{RowTable, named, labels, meant}
@@ -61,7 +62,7 @@ use Rattle.psm_tree.specs.declared.statement.Simple.TheVariants as simples
 use Rattle.psm_rules.specs.declared.fault.Fault.{Fault}
 use Rattle.psm_rules.specs.declared.rule.Rule.{Rule}
 use Rattle.psm_rules.specs.declared.rule.Rule.TheVariants as rule
-use Rattle.psm_rules.specs.ExprFaults.{QueryFound, expr_found, query_found, query_fault, miscounted_fault, table_fault, items_of, may_be, columns_known, spelling}
+use Rattle.psm_rules.specs.ExprFaults.{QueryFound, expr_found, query_found, query_fault, miscounted_fault, table_fault, items_of, may_be, spelling}
 use Rattle.psm_rules.specs.Faults.{breaks, breaks_if, earlier, first_of}
 use Rattle.psm_rules.specs.declared.found.Found.{Found}
 use Rattle.psm_rules.specs.Found.{as_value, as_condition, of_family}

@@ -1,6 +1,6 @@
 //! Faults, and which of two comes first.
 ghost use Rattle.std.specs.Prelude.{◌≡◌};
-ghost use Rattle.psm_rules.specs.Faults.{earlier as earlier_of, precedes};
+ghost use Rattle.psm_rules.specs.Faults.{breaks, breaks_if, earlier as earlier_of, precedes};
 
 use crate::rule::Rule;
 use psm_token::Place;
@@ -10,6 +10,20 @@ use psm_token::Place;
 pub struct Fault {
     pub place: Place,
     pub rule: Rule,
+}
+
+/// The fault of a rule that is broken at a place.
+pub fn breaks(rule: Rule, place: Place) -> Option<Fault>
+    ensures { result ≡ breaks rule place }
+{
+    Some(Fault { place, rule })
+}
+
+/// That fault, if the rule is broken.
+pub fn breaks_if(broken: bool, rule: Rule, place: Place) -> Option<Fault>
+    ensures { result ≡ breaks_if broken rule place }
+{
+    if broken { breaks(rule, place) } else { None }
 }
 
 /// The first of two faults: that of the earlier place, and at one place that of the lower code.

@@ -1,14 +1,26 @@
-//! The rules of the checker: their codes and words, and the first fault of a part, as a definition.
+//! The rules of the checker: their codes and words, the first fault of a part, and what small parts come to by themselves.
 #![tactic(auto)]
 
+mod block;
 mod fault;
 mod found;
 mod query;
 mod rule;
 mod shape;
+mod shapes;
+mod table;
 
-pub use fault::{Fault, earlier};
-pub use found::Found;
+pub use block::undo_fault;
+pub use fault::{Fault, breaks, breaks_if, earlier};
+pub use found::{
+    Found, all_of, are_shaped, as_condition, as_value, broken, faults_in, made_of, of_family,
+    shape_of, sound,
+};
 pub use query::{Item, Picked};
 pub use rule::Rule;
 pub use shape::{Family, Shape, Typed};
+pub use shapes::{
+    CHARACTER, INTEGER, VARYING, at_larger_scale, family_of, higher, is_of, joined, of_literal,
+    typed,
+};
+pub use table::too_many;

@@ -28,6 +28,6 @@ pub use known::{DeclaredCondition, Variable};
 pub use laws::{exact_kinds_stay, narrowing_keeps_the_least, one_candidate_more};
 pub use names::Names;
 pub use procedures::{ParameterMode, ParameterScope, ProcedureScope, Procedures};
-pub use row::{Meant, RowScope, TableScope};
+pub use row::{Meant, RowTable, TableScope};
 pub use scopes::Scopes;
 pub use signatures::Signatures;

@@ -1,6 +1,7 @@
 -- The queries of an accepted script are sound and proper.
 use Rattle.std.proofs.Common.{◌≡◌, Bool, true, ◌&&◌, List, None, refl, sym, subst}
 use Rattle.std.specs.Prelude.{IsTrue, slice_get, Some}
+use Rattle.psm_declare.specs.Declarations.{is_downward, ordered}
 use Rattle.psm_exprcode.specs.declared.op.Letter.{Letter}
 use Rattle.psm_rules.specs.ExprFaults.{query_fault, query_found}
 use Rattle.psm_tree.specs.declared.statement.OrderedQuery.{OrderedQuery}
@@ -24,7 +25,7 @@ use Rattle.psm_accept.proofs.Clauses.{queries}
 use Rattle.psm_accept.proofs.Parts.{neither}
 use Rattle.psm_accept.proofs.ProperParts.{HaveColumns}
 use Rattle.psm_accept.proofs.ProperQueries.{proper-letters, proper-queries}
-use Rattle.psm_check_script.specs.Commands.{is_downward, ordered, selected}
+use Rattle.psm_check_script.specs.Commands.{selected}
 use Rattle.psm_check_script.specs.Known.{sight_of, view_of}
 use Rattle.psm_check_script.specs.ScriptFaults.{order_fault, select_fault}
 use Rattle.psm_script_code.specs.FileKnown.{known_of_file}

@@ -1,5 +1,5 @@
 //! What is known of code before the commands of a script are made.
-ghost use Rattle.std.specs.Prelude.{◌≡◌, suc, map, IfOk};
+ghost use Rattle.std.specs.Prelude.{◌≡◌, map, IfOk};
 ghost use Rattle.psm_code.specs.Instructions as instructions;
 ghost use Rattle.psm_script_code.specs.Lowered.{procedure_numbers};
 ghost use Rattle.psm_script_code.specs.Made.{known_of_tables};
@@ -7,6 +7,7 @@ ghost use Rattle.psm_script_code.specs.Made.{known_of_tables};
 use psm_code::{CodeTable, RawCode, RawRoutine};
 use psm_emit::Known;
 use psm_exprcode::Letter;
+use psm_known::next_number;
 use psm_list::List;
 use psm_tablecode::column_letters;
 use std::alloc::{AllocError, Global};
@@ -48,16 +49,7 @@ pub(crate) fn procedures_of(alloc: Global, routines: &[RawRoutine]) -> Result<Ve
         if !routine.is_function {
             numbers.push(number)?;
         }
-        number = next(number)?;
+        number = next_number(number)?;
     }
     Ok(numbers)
-}
-
-fn next(n: u32) -> Result<u32, AllocError>
-    ensures { IfOk result (λ m. m ≡ suc n) }
-{
-    match n.checked_add(1) {
-        None => Err(AllocError),
-        Some(m) => Ok(m),
-    }
 }

@@ -1,9 +1,10 @@
 use Rattle.std.proofs.Common.{ap, map, ◌∙◌}
+use Rattle.psm_scope.specs.Rows.{columns_known, row_table}
 use Rattle.psm_tree.specs.declared.expr.Select.{out-Select}
 use Rattle.psm_rules.specs.View.{on_row}
-use Rattle.psm_rules.specs.ExprFaults.{columns_known, spelling}
+use Rattle.psm_rules.specs.ExprFaults.{spelling}
 use Rattle.psm_check_stmt.specs.InRoutine.{context}
-use Rattle.psm_check_expr.specs.Seen.{pick_of, row_table, seen_in_view}
+use Rattle.psm_check_expr.specs.Seen.{pick_of, seen_in_view}
 use Rattle.psm_check_stmt.proofs.ForItems.{found_inside, found_picks}
 use Rattle.psm_check_stmt.proofs.loops.for_items.Goals as goal
 

@@ -1,9 +1,9 @@
 use Rattle.std.proofs.Common.{◌≡◌, drop, map}
 use Rattle.std.specs.Prelude.{IsTrue}
 use Rattle.std.specs.Option.{option_copied}
+use Rattle.psm_scope.specs.Rows.{columns_known}
 use Rattle.psm_scope.specs.Scopes.{can_declare_here}
 use Rattle.psm_rules.specs.Faults.{first_from, first_of}
-use Rattle.psm_rules.specs.ExprFaults.{columns_known}
 use Rattle.psm_rules.specs.BlockFaults.{for_items, for_variables}
 use Rattle.psm_check_stmt.specs.ForItems.{item_of, variables_here, with_variables_here}
 use Rattle.psm_check_stmt.proofs.loops.items_fault.Given as goal

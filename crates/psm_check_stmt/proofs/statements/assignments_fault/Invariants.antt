@@ -1,6 +1,6 @@
 use Rattle.std.proofs.Common.{◌≡◌, drop, map}
 use Rattle.std.specs.Option.{option_copied}
-use Rattle.psm_rules.specs.ExprFaults.{columns_known}
+use Rattle.psm_scope.specs.Rows.{columns_known}
 use Rattle.psm_rules.specs.Faults.{first_from, first_of}
 use Rattle.psm_rules.specs.StatementFaults.{assignment_fault, several}
 use Rattle.psm_check_expr.specs.Seen.{seen_in_view}

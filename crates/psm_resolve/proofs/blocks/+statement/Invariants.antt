@@ -1,7 +1,7 @@
 use Rattle.std.proofs.Common.{◌≡◌, ◌++◌, drop, map}
 use Rattle.psm_list.specs.Several.{several_map}
 use Rattle.psm_rules.specs.StatementFaults.{several}
-use Rattle.psm_resolve.specs.Seen.{control}
+use Rattle.psm_declare.specs.Seen.{control}
 use Rattle.psm_resolve.specs.Blocks.{all, branch_made, handler_made, statement_made}
 use Rattle.psm_resolve.proofs.blocks.+statement.Given as goal
 

@@ -1,7 +1,7 @@
 use Rattle.std.proofs.Common.{◌≡◌, ◌++◌, drop, map}
 use Rattle.std.specs.Prelude.{IsTrue}
 use Rattle.psm_scope.specs.Scopes.{can_declare_here}
-use Rattle.psm_resolve.specs.Numbering.{next_slot}
+use Rattle.psm_declare.specs.Numbering.{next_slot}
 use Rattle.psm_resolve.specs.Seen.{item_seen}
 use Rattle.psm_resolve.specs.Blocks.{item_slots, told_items}
 use Rattle.psm_resolve.proofs.fors.declare_items.Given as goal

@@ -1,6 +1,6 @@
 use Rattle.std.proofs.Common.{◌≡◌, ◌++◌, drop, map}
 use Rattle.std.specs.Option.{option_copied}
-use Rattle.psm_rules.specs.ExprFaults.{columns_known}
+use Rattle.psm_scope.specs.Rows.{columns_known}
 use Rattle.psm_rules.specs.StatementFaults.{several}
 use Rattle.psm_tree.specs.declared.expr.Select.{out-Select}
 use Rattle.psm_resolve_expr.specs.Seen.{seen_at}

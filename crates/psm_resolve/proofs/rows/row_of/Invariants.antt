@@ -1,7 +1,7 @@
 use Rattle.std.proofs.Common.{◌≡◌, ◌++◌, drop, map}
-use Rattle.psm_rules.specs.StatementFaults.{several}
 use Rattle.psm_resolve_expr.specs.Seen.{seen_at}
-use Rattle.psm_resolve.specs.Statements.{expr_at, row_of}
+use Rattle.psm_declare.specs.Seen.{expr_at}
+use Rattle.psm_resolve.specs.Statements.{row_of}
 use Rattle.psm_resolve.proofs.rows.row_of.Given as goal
 
 abbrev pub invariant-loop-e : goal.invariant-loop-e

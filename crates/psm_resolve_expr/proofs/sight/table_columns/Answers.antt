@@ -1,5 +1,5 @@
 use Rattle.std.proofs.Common.{ap, ◌∙◌}
-use Rattle.psm_rules.specs.ExprFaults.{columns_known}
+use Rattle.psm_scope.specs.Rows.{columns_known}
 use Rattle.psm_resolve_expr.proofs.Joined.{columns_placed}
 use Rattle.psm_resolve_expr.proofs.sight.table_columns.Goals as goal
 
