@@ -24,6 +24,7 @@ use std::alloc::Global;
 /// and so have the column and the variable that it names; its type, scale or constant is within bounds.
 /// A condition comes exactly where it is due. After it, and where memory runs out, the operands below those
 /// that the operation takes are unchanged, and those are gone (ISO/IEC 9075:1992, clauses 6 and 8).
+#[inline(always)]
 pub fn apply(
     alloc: Global,
     op: &Op,

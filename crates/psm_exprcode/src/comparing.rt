@@ -51,6 +51,7 @@ pub(crate) fn decided(test: bool) -> Truth
     if test { Truth::True } else { Truth::False }
 }
 
+#[inline(always)]
 pub(crate) fn compare_two(operands: &mut Vec<Operand>, test: Test) -> Result<Next, ValueFault>
     requires { IsTrue (are_values 2 (reverse operands.old.items)) }
     ensures { Carries 2 (compares test) operands.old result operands.new }
@@ -61,6 +62,7 @@ pub(crate) fn compare_two(operands: &mut Vec<Operand>, test: Test) -> Result<Nex
     Ok(Next::Ahead)
 }
 
+#[inline(never)]
 pub(crate) fn test_between(operands: &mut Vec<Operand>) -> Result<Next, ValueFault>
     requires { IsTrue (are_values 3 (reverse operands.old.items)) }
     ensures { Carries 3 (on_three (λ a low high below. with_truth below (Ok (between a low high)))) operands.old result operands.new }
@@ -78,6 +80,7 @@ fn is_between(value: &Datum, low: &Datum, high: &Datum) -> Truth
     above.and(Test::AtMost.judge(value, high))
 }
 
+#[inline(never)]
 pub(crate) fn null_if(operands: &mut Vec<Operand>) -> Result<Next, ValueFault>
     requires { IsTrue (are_values 2 (reverse operands.old.items)) }
     ensures { Carries 2 (value_of_two (λ a b. Ok (unless_equal a b))) operands.old result operands.new }
@@ -112,6 +115,7 @@ pub(crate) fn is_null_value(value: &Datum) -> bool
     matches!(value, Datum::Null)
 }
 
+#[inline(never)]
 pub(crate) fn test_among(operands: &mut Vec<Operand>, count: u32) -> Result<Next, ValueFault>
     requires { IsTrue (are_values (suc count) (reverse operands.old.items)) }
     ensures { Carries (suc count) (on_many count (λ bs. on_value (λ a below. with_truth below (Ok (among a bs))))) operands.old result operands.new }

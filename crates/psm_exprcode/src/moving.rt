@@ -14,6 +14,7 @@ use crate::stack::{last_value, pop, pop_truth, pop_value, put, put_value};
 use psm_value::{Datum, SqlType, ValueFault, cast};
 use std::alloc::{AllocError, Global};
 
+#[inline(always)]
 pub(crate) fn put_copy(
     alloc: Global,
     operands: &mut Vec<Operand>,
@@ -29,6 +30,7 @@ pub(crate) fn put_copy(
 }
 
 // The value at a place of a row, or of the variables.
+#[inline(always)]
 pub(crate) fn put_named(
     alloc: Global,
     operands: &mut Vec<Operand>,
@@ -99,6 +101,7 @@ fn is_last_null(operands: &[Operand]) -> bool
     matches!(operands, [.., Operand::Value(Datum::Null)])
 }
 
+#[inline(never)]
 pub(crate) fn cast_one(
     alloc: Global,
     operands: &mut Vec<Operand>,

@@ -10,6 +10,7 @@ use crate::stack::{drop_two, last_two, pop_value, put_for_two, put_value};
 use psm_num::NumFault;
 use psm_value::{Datum, SqlState, ValueFault, add, div, mul, neg, sub};
 
+#[inline(never)]
 pub(crate) fn negate(operands: &mut Vec<Operand>) -> Result<Next, ValueFault>
     requires { IsTrue (are_values 1 (reverse operands.old.items)) }
     ensures { Carries 1 (value_of_one negated_of) operands.old result operands.new }
@@ -37,6 +38,7 @@ pub(crate) fn sub_two(operands: &mut Vec<Operand>) -> Result<Next, ValueFault>
     give(operands, due)
 }
 
+#[inline(never)]
 pub(crate) fn mul_two(operands: &mut Vec<Operand>) -> Result<Next, ValueFault>
     requires { IsTrue (are_values 2 (reverse operands.old.items)) }
     ensures { Carries 2 (value_of_two product_of) operands.old result operands.new }
@@ -46,6 +48,7 @@ pub(crate) fn mul_two(operands: &mut Vec<Operand>) -> Result<Next, ValueFault>
     give(operands, due)
 }
 
+#[inline(never)]
 pub(crate) fn div_two(operands: &mut Vec<Operand>) -> Result<Next, ValueFault>
     requires { IsTrue (are_values 2 (reverse operands.old.items)) }
     ensures { Carries 2 (value_of_two quotient_of) operands.old result operands.new }
@@ -56,6 +59,7 @@ pub(crate) fn div_two(operands: &mut Vec<Operand>) -> Result<Next, ValueFault>
 }
 
 // The value that an operation on the last two operands gives stands in their place; where it gives a condition they are gone.
+#[inline(always)]
 fn give(operands: &mut Vec<Operand>, due: Result<Datum, SqlState>) -> Result<Next, ValueFault>
     requires { 1 < vec_len operands.old }
     ensures { Applies 2 (reverse operands.old.items) (with_value (drop 2 (reverse operands.old.items)) due) result (reverse operands.new.items) }
@@ -72,6 +76,7 @@ fn give(operands: &mut Vec<Operand>, due: Result<Datum, SqlState>) -> Result<Nex
     }
 }
 
+#[inline(never)]
 pub(crate) fn rescale(operands: &mut Vec<Operand>, scale: u8) -> Result<Next, ValueFault>
     requires bound { scale ≤ 18 }
     requires operand { IsTrue (are_values 1 (reverse operands.old.items)) }

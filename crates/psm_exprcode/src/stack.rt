@@ -1,4 +1,5 @@
-//! The operand stack. Operands stand in a vector with the last one at its end.
+//! The operand stack. Operands stand in a vector with the last one at its end. What is asked of it here is a few words of code, which
+//! each operation has within itself.
 ghost use Rattle.std.specs.Prelude.{◌≡◌, ◌<◌, ◌∷◌, List as Seq, vec_len, drop, reverse, IsTrue, OnOk, OnErr};
 ghost use Rattle.psm_exprcode.specs.Fits.{are_values, are_truths};
 
@@ -7,6 +8,7 @@ use psm_value::{Datum, Truth};
 use std::alloc::AllocError;
 
 // The last operand, taken off.
+#[inline(always)]
 pub(crate) fn pop(operands: &mut Vec<Operand>) -> Operand
     requires { 0 < vec_len operands.old }
     ensures { reverse operands.old.items ≡ result ∷ reverse operands.new.items }
@@ -15,6 +17,7 @@ pub(crate) fn pop(operands: &mut Vec<Operand>) -> Operand
 }
 
 // The last operand, which is a value, taken off.
+#[inline(always)]
 pub(crate) fn pop_value(operands: &mut Vec<Operand>) -> Datum
     requires { IsTrue (are_values 1 (reverse operands.old.items)) }
     ensures { reverse operands.old.items ≡ Operand.Value result ∷ reverse operands.new.items }
@@ -26,6 +29,7 @@ pub(crate) fn pop_value(operands: &mut Vec<Operand>) -> Datum
 }
 
 // The last two operands, which are values, taken off; the lower one first.
+#[inline(always)]
 pub(crate) fn pop_two(operands: &mut Vec<Operand>) -> (Datum, Datum)
     requires { IsTrue (are_values 2 (reverse operands.old.items)) }
     ensures { reverse operands.old.items ≡ Operand.Value result.1 ∷ Operand.Value result.0 ∷ reverse operands.new.items }
@@ -36,6 +40,7 @@ pub(crate) fn pop_two(operands: &mut Vec<Operand>) -> (Datum, Datum)
 }
 
 // The last three operands, which are values, taken off; the lowest first.
+#[inline(always)]
 pub(crate) fn pop_three(operands: &mut Vec<Operand>) -> (Datum, Datum, Datum)
     requires { IsTrue (are_values 3 (reverse operands.old.items)) }
     ensures { reverse operands.old.items ≡ Operand.Value result.2 ∷ Operand.Value result.1 ∷ Operand.Value result.0 ∷ reverse operands.new.items }
@@ -46,6 +51,7 @@ pub(crate) fn pop_three(operands: &mut Vec<Operand>) -> (Datum, Datum, Datum)
 }
 
 // The last operand, which is a value, and those below it, lent.
+#[inline(always)]
 pub(crate) fn last_value(operands: &[Operand]) -> (&Datum, &[Operand])
     requires { IsTrue (are_values 1 (reverse operands.now)) }
     ensures { reverse operands.now ≡ Operand.Value result.0.now ∷ reverse result.1.now }
@@ -57,6 +63,7 @@ pub(crate) fn last_value(operands: &[Operand]) -> (&Datum, &[Operand])
 }
 
 // The last two operands, which are values, lent; the lower one first.
+#[inline(always)]
 pub(crate) fn last_two(operands: &[Operand]) -> (&Datum, &Datum)
     requires { IsTrue (are_values 2 (reverse operands.now)) }
     ensures { (below : Seq Operand) × (reverse operands.now ≡ Operand.Value result.1.now ∷ Operand.Value result.0.now ∷ below) }
@@ -67,6 +74,7 @@ pub(crate) fn last_two(operands: &[Operand]) -> (&Datum, &Datum)
 }
 
 // The last two operands, taken off.
+#[inline(always)]
 pub(crate) fn drop_two(operands: &mut Vec<Operand>)
     requires { 1 < vec_len operands.old }
     ensures { reverse operands.new.items ≡ drop 2 (reverse operands.old.items) }
@@ -76,6 +84,7 @@ pub(crate) fn drop_two(operands: &mut Vec<Operand>)
 }
 
 // One operand where the last two stood. It takes no memory.
+#[inline(always)]
 pub(crate) fn put_for_two(operands: &mut Vec<Operand>, operand: Operand)
     requires { 1 < vec_len operands.old }
     ensures { reverse operands.new.items ≡ operand ∷ drop 2 (reverse operands.old.items) }
@@ -86,6 +95,7 @@ pub(crate) fn put_for_two(operands: &mut Vec<Operand>, operand: Operand)
 }
 
 // The last operand, which is a truth value, taken off.
+#[inline(always)]
 pub(crate) fn pop_truth(operands: &mut Vec<Operand>) -> Truth
     requires { IsTrue (are_truths 1 (reverse operands.old.items)) }
     ensures { reverse operands.old.items ≡ Operand.Truth result ∷ reverse operands.new.items }
@@ -97,6 +107,7 @@ pub(crate) fn pop_truth(operands: &mut Vec<Operand>) -> Truth
 }
 
 // The last two operands, which are truth values, taken off; the lower one first.
+#[inline(always)]
 pub(crate) fn pop_truths(operands: &mut Vec<Operand>) -> (Truth, Truth)
     requires { IsTrue (are_truths 2 (reverse operands.old.items)) }
     ensures { reverse operands.old.items ≡ Operand.Truth result.1 ∷ Operand.Truth result.0 ∷ reverse operands.new.items }
@@ -107,30 +118,33 @@ pub(crate) fn pop_truths(operands: &mut Vec<Operand>) -> (Truth, Truth)
 }
 
 // One value more.
+#[inline(always)]
 pub(crate) fn put_value(operands: &mut Vec<Operand>, value: Datum) -> Result<(), AllocError>
     ensures ok { OnOk result (reverse operands.new.items ≡ Operand.Value value ∷ reverse operands.old.items) }
     ensures err { OnErr result (reverse operands.new.items ≡ reverse operands.old.items) }
 {
-    operands.push(Operand::Value(value))?;
-    Ok(())
+    put(operands, Operand::Value(value))
 }
 
 // One truth value more.
+#[inline(always)]
 pub(crate) fn put_truth(operands: &mut Vec<Operand>, truth: Truth) -> Result<(), AllocError>
     ensures ok { OnOk result (reverse operands.new.items ≡ Operand.Truth truth ∷ reverse operands.old.items) }
     ensures err { OnErr result (reverse operands.new.items ≡ reverse operands.old.items) }
 {
-    operands.push(Operand::Truth(truth))?;
-    Ok(())
+    put(operands, Operand::Truth(truth))
 }
 
-// One operand more.
+// One operand more. Mostly there is room for it, and then nothing is asked of memory.
+#[inline(always)]
 pub(crate) fn put(operands: &mut Vec<Operand>, operand: Operand) -> Result<(), AllocError>
     ensures ok { OnOk result (reverse operands.new.items ≡ operand ∷ reverse operands.old.items) }
     ensures err { OnErr result (reverse operands.new.items ≡ reverse operands.old.items) }
 {
-    match operand {
-        Operand::Value(value) => put_value(operands, value),
-        Operand::Truth(truth) => put_truth(operands, truth),
+    if operands.len() < operands.capacity() {
+        operands.push_reserved(operand);
+        return Ok(());
     }
+    operands.push(operand)?;
+    Ok(())
 }

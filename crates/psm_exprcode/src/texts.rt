@@ -17,6 +17,7 @@ use psm_text::{Side, Text};
 use psm_value::{Datum, Truth, ValueFault};
 use std::alloc::{AllocError, Global};
 
+#[inline(never)]
 pub(crate) fn concatenate_two(
     alloc: Global,
     operands: &mut Vec<Operand>,
@@ -40,6 +41,7 @@ fn concatenate(alloc: Global, first: &Datum, second: &Datum) -> Result<Datum, Va
     }
 }
 
+#[inline(never)]
 pub(crate) fn count_one(operands: &mut Vec<Operand>) -> Result<Next, ValueFault>
     requires { IsTrue (are_values 1 (reverse operands.old.items)) }
     ensures { Carries 1 (value_of_one length_of) operands.old result operands.new }
@@ -65,6 +67,7 @@ fn whole_number(number: u32) -> Datum
     Datum::Num(Dec::new(i64::from(number), 0).unwrap())
 }
 
+#[inline(never)]
 pub(crate) fn find_two(operands: &mut Vec<Operand>) -> Result<Next, ValueFault>
     requires { IsTrue (are_values 2 (reverse operands.old.items)) }
     ensures { Carries 2 (value_of_two (λ part t. Ok (position_of part t))) operands.old result operands.new }
@@ -90,6 +93,7 @@ fn place(part: &Text, text: &Text) -> u32
     text.position(part)
 }
 
+#[inline(never)]
 pub(crate) fn part_two(alloc: Global, operands: &mut Vec<Operand>) -> Result<Next, ValueFault>
     requires { IsTrue (are_values 2 (reverse operands.old.items)) }
     ensures { Carries 2 (value_of_two part_from) operands.old result operands.new }
@@ -118,6 +122,7 @@ fn cut(number: Dec) -> i64
     number.rescale(0).unwrap().coef()
 }
 
+#[inline(never)]
 pub(crate) fn part_three(alloc: Global, operands: &mut Vec<Operand>) -> Result<Next, ValueFault>
     requires { IsTrue (are_values 3 (reverse operands.old.items)) }
     ensures { Carries 3 (on_three (λ t place count below. with_value below (part_of t place count))) operands.old result operands.new }
@@ -143,6 +148,7 @@ fn part_between(
     }
 }
 
+#[inline(never)]
 pub(crate) fn trim_one(
     alloc: Global,
     operands: &mut Vec<Operand>,
@@ -172,6 +178,7 @@ fn trim_text(alloc: Global, text: &Text, side: Side) -> Result<Text, AllocError>
     text.trim(alloc, side)
 }
 
+#[inline(never)]
 pub(crate) fn upper_one(alloc: Global, operands: &mut Vec<Operand>) -> Result<Next, ValueFault>
     requires { IsTrue (are_values 1 (reverse operands.old.items)) }
     ensures { Carries 1 (value_of_one (on_text upper_of)) operands.old result operands.new }
@@ -190,6 +197,7 @@ fn upper(alloc: Global, text: &Datum) -> Result<Datum, AllocError>
     }
 }
 
+#[inline(never)]
 pub(crate) fn lower_one(alloc: Global, operands: &mut Vec<Operand>) -> Result<Next, ValueFault>
     requires { IsTrue (are_values 1 (reverse operands.old.items)) }
     ensures { Carries 1 (value_of_one (on_text lower_of)) operands.old result operands.new }
@@ -208,6 +216,7 @@ fn lower(alloc: Global, text: &Datum) -> Result<Datum, AllocError>
     }
 }
 
+#[inline(never)]
 pub(crate) fn like_two(operands: &mut Vec<Operand>) -> Result<Next, ValueFault>
     requires { IsTrue (are_values 2 (reverse operands.old.items)) }
     ensures { Carries 2 (on_two (λ t pattern below. with_truth below (like t pattern))) operands.old result operands.new }
@@ -226,6 +235,7 @@ fn liken(text: &Datum, pattern: &Datum) -> Result<Truth, ValueFault>
     }
 }
 
+#[inline(never)]
 pub(crate) fn like_three(operands: &mut Vec<Operand>) -> Result<Next, ValueFault>
     requires { IsTrue (are_values 3 (reverse operands.old.items)) }
     ensures { Carries 3 (on_three (λ t pattern escape below. with_truth below (like_escaped t pattern escape))) operands.old result operands.new }

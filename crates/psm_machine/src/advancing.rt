@@ -30,7 +30,9 @@ use std::alloc::{AllocError, Global};
 /// has, with the turns that there were before its last instruction.
 ///
 /// Most lines are common ones, which touch neither a table nor a block. The run goes from one to the other without a look at what it
-/// may have ended in. What a step needs has to be there; the marks stand afterwards too, also where memory runs out.
+/// may have ended in. All that a common instruction does is inlined here, down to the operation on its operands, so that what it comes
+/// to passes through no memory; what is rare, and would make the loop long, is kept out. What a step needs has to be there; the marks
+/// stand afterwards too, also where memory runs out.
 pub fn advance<S: Store>(
     alloc: Global,
     code: &RawCode,
@@ -61,6 +63,7 @@ pub fn advance<S: Store>(
 }
 
 // One instruction of any kind.
+#[inline(never)]
 fn one_more<S: Store>(
     alloc: Global,
     code: &RawCode,
@@ -101,6 +104,7 @@ fn is_common(instruction: &Instruction) -> bool
 }
 
 // A common instruction. What it comes to is small, since it is looked at behind each of them.
+#[inline(always)]
 fn follow(
     alloc: Global,
     routine: &RawRoutine,

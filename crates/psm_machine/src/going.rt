@@ -14,6 +14,7 @@ use psm_exprcode::Next;
 use psm_unwind::{Outcome, Run};
 
 /// Goes on at the line that follows, or at another one. The answer says only whether there was one.
+#[inline(always)]
 pub(crate) fn go_to(run: &mut Run, next: Next) -> Result<(), Stop>
     ensures due { LeadsOn (way_of next) run.old (goes_more result) run.new }
     ensures same { SameFrames run.old run.new }

@@ -10,6 +10,7 @@ use psm_unwind::Run;
 use psm_value::Datum;
 
 /// Takes the last operand, which is a value.
+#[inline(always)]
 pub fn pop(run: &mut Run) -> Result<Datum, Stop>
     ensures due { Does pop run.old result run.new }
     ensures same { SameFrames run.old run.new }

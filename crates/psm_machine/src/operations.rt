@@ -14,6 +14,7 @@ use std::alloc::Global;
 ///
 /// The operands that it takes have to be there, and so has the variable that it names; its type or scale is within bounds. Where it
 /// raises a condition, those that it takes are gone.
+#[inline(always)]
 pub fn operation(alloc: Global, run: &mut Run, op: &Op) -> Result<Next, Stop>
     requires { Fits op.now run.old.operands.own [] run.old.running.variables.items }
     ensures due { GoesOn (operation op.now) run.old result run.new }

@@ -87,6 +87,7 @@ pub fn obey<S: Store>(
 }
 
 // Most lines of a routine are operations of expressions.
+#[inline(never)]
 fn operate(alloc: Global, run: &mut Run, op: &Op) -> Result<Outcome, Stop>
     requires { Fits op.now run.old.operands.own [] run.old.running.variables.items }
     ensures due { TurnsOn (operated op.now) run.old result run.new }

@@ -9,6 +9,7 @@ use crate::stop::Stop;
 use psm_unwind::Run;
 
 /// Uses a turn.
+#[inline(always)]
 #[tactic(auto, using(crate::proofs::Spending::turn_used))]
 pub fn turn(run: &mut Run) -> Result<(), Stop>
     ensures due { Does turn run.old result run.new }
@@ -23,6 +24,7 @@ pub fn turn(run: &mut Run) -> Result<(), Stop>
 }
 
 /// The diagnostics area becomes success without rows, and no warning is pending.
+#[inline(always)]
 pub fn clear(run: &mut Run)
     ensures due { Does (change cleared) run.old (Ok tt) run.new }
     ensures same { SameFrames run.old run.new }

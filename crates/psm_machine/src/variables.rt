@@ -19,6 +19,7 @@ use psm_value::{Datum, SqlType, fetch_into, is_stored, store_into, storing_is_st
 use std::alloc::Global;
 
 /// Stores the last operand in a variable, as the variable's type stores it.
+#[inline(always)]
 pub fn store(alloc: Global, routine: &RawRoutine, run: &mut Run, slot: u32) -> Result<(), Stop>
     requires { All IsType (slots_of routine.now) }
     ensures due { Does (store routine.now slot) run.old result run.new }
@@ -57,6 +58,7 @@ pub fn retrieve(alloc: Global, routine: &RawRoutine, run: &mut Run, slot: u32) -
 }
 
 // The value as a type stores it. One that the type stores as it is isn't copied.
+#[inline(never)]
 pub(crate) fn stored(alloc: Global, kind: SqlType, value: Datum) -> Result<Datum, Stop>
     requires { IsType kind }
     ensures { Tries (stored kind value) result }

@@ -50,6 +50,7 @@ impl OperandStack {
     }
 
     /// The last operand of the activation that runs, taken off.
+    #[inline(always)]
     pub fn pop(&mut self) -> Option<Operand>
         ensures some { IfSome result (λ o. self.old.own ≡ o ∷ self.new.own) }
         ensures none { IfNone result (self.old.own ≡ []) }
@@ -102,6 +103,7 @@ impl OperandStack {
     }
 
     /// Carries out one operation over the operands of the activation that runs, as [`apply`] does over a stack of its own.
+    #[inline(always)]
     pub fn apply(
         &mut self,
         alloc: Global,
@@ -118,6 +120,7 @@ impl OperandStack {
 }
 
 // How many operands stand below those of the activation that runs.
+#[inline(always)]
 fn base_of(bases: &[usize]) -> usize
     ensures { result ≡ below (reverse bases.now) }
 {
