@@ -5,7 +5,7 @@ ghost use Rattle.psm_emit.specs.Written.{Written};
 
 use crate::exprs::{arguments, expr};
 use crate::known::Known;
-use crate::operators::letter_at;
+use crate::places::letter_at;
 use crate::setting::Setting;
 use crate::storing::copies;
 use crate::writer::Writer;

@@ -7,10 +7,7 @@ ghost use Rattle.psm_emit.specs.Written.{with_query};
 ghost use Rattle.psm_emit.specs.Exprs.{Arguments, Compares, Firsts, Joins, Links, Otherwise, Whens, Writes, WritesAll};
 
 use crate::letters::first_letter;
-use crate::operators::{
-    calculated, calculating, changed, changing, comparing, joining, letter_at, letter_of,
-    letter_of_results, letters_at, number_at,
-};
+use crate::places::{letter_at, letters_at, number_at};
 use crate::queries::query_code;
 use crate::setting::Setting;
 use crate::sizes::{behind, behind_else, later, several_behind, whens_behind};
@@ -18,7 +15,10 @@ use crate::writer::Writer;
 use psm_code::Instruction;
 use psm_exprcode::{Letter, Op};
 use psm_list::{Boxed, List, OneOrMore};
-use psm_resolved::{Junction, ResolvedExpr, ResolvedLink, ResolvedQuery, ResolvedWhen};
+use psm_resolved::{
+    Junction, ResolvedExpr, ResolvedLink, ResolvedQuery, ResolvedWhen, calculated, calculating,
+    changed, changing, comparing, joining, letter_of_results,
+};
 use psm_value::Datum;
 use std::alloc::AllocError;
 
@@ -254,7 +254,7 @@ pub(crate) fn expr(
                 setting.resume,
                 Op::Cast(*to),
                 1,
-                letter_of(*to),
+                Letter::of_type(*to),
             )
         }
         ResolvedExpr::NullIf { left, right } => {

@@ -7,7 +7,7 @@ ghost use Rattle.psm_emit.specs.Simples.{changed, condition_number, declared_wit
 ghost use Rattle.psm_emit.specs.Statements.{with_cursor};
 ghost use Rattle.psm_emit.specs.Written.{last_letter, letters_at, puts};
 
-use crate::operators::letters_at;
+use crate::places::letters_at;
 use crate::writer::Writer;
 use psm_code::{CodeCursor, Instruction, Lines, Plan};
 use psm_cond::{

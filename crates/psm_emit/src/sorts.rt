@@ -6,13 +6,15 @@ ghost use Rattle.psm_exprcode.specs.Kinds.{is_letter, is_value, letter_of, some_
 ghost use Rattle.psm_exprcode.specs.WellFormed.{is_type};
 ghost use Rattle.psm_exprcode.specs.declared.op.Letter.TheVariants.{N};
 ghost use Rattle.psm_resolved.specs.RowValue.{listed};
-ghost use Rattle.psm_resolved.specs.Sort.{are_results, are_tests, function_of, given, goes_as, is_of, is_scale, letter_at, link_sort, linked, may_be, named, null_if, operated, sort_of, typed, when_sort, where_true};
+ghost use Rattle.psm_resolved.specs.Sort.{are_results, are_tests, given, goes_as, is_of, is_scale, link_sort, linked, may_be, named, null_if, operated, sort_of, typed, when_sort, where_true};
 ghost use Rattle.psm_emit.specs.Queries.{letter_of_sort};
 ghost use Rattle.psm_emit.specs.Seen.{seen};
 
 use psm_exprcode::Letter;
 use psm_list::{Boxed, List, OneOrMore};
-use psm_resolved::{Operator, ResolvedExpr, ResolvedLink, ResolvedWhen, TextFunction};
+use psm_resolved::{
+    Operator, ResolvedExpr, ResolvedLink, ResolvedWhen, calculated, changed, letter_of_results,
+};
 use psm_value::SqlType;
 
 /// No row expression, NULL, or one of a letter.
@@ -129,10 +131,7 @@ fn are_three_values(a: Sort, b: Sort, c: Sort) -> bool
 fn operated(operator: Operator, a: Sort, b: Sort) -> Sort
     ensures { seen result ≡ operated operator (seen a) (seen b) }
 {
-    let letter = match operator {
-        Operator::Concatenate => Letter::T,
-        Operator::Add | Operator::Subtract | Operator::Multiply | Operator::Divide => Letter::N,
-    };
+    let letter = calculated(operator);
     where_true(are_both(letter, a, b), letter)
 }
 
@@ -143,24 +142,6 @@ fn null_if(a: Sort, b: Sort) -> Sort
         Sort::Of(Letter::N)
     } else {
         where_true(are_both(Letter::T, a, b), Letter::T)
-    }
-}
-
-fn function_of(function: TextFunction) -> Letter
-    ensures { result ≡ function_of function }
-{
-    match function {
-        TextFunction::CharLength => Letter::N,
-        TextFunction::Upper | TextFunction::Lower => Letter::T,
-    }
-}
-
-fn letter_at(scale: Option<u8>) -> Letter
-    ensures { result ≡ letter_at scale }
-{
-    match scale {
-        None => Letter::T,
-        Some(_) => Letter::N,
     }
 }
 
@@ -274,7 +255,7 @@ pub fn sort_of(columns: &[Letter], variables: &[Letter], e: &ResolvedExpr) -> So
             otherwise,
             scale,
         } => {
-            let letter = letter_at(*scale);
+            let letter = letter_of_results(*scale);
             let operand = part(columns, variables, operand);
             let otherwise = part(columns, variables, otherwise);
             let tests = are_tests(columns, variables, whens, operand);
@@ -282,7 +263,7 @@ pub fn sort_of(columns: &[Letter], variables: &[Letter], e: &ResolvedExpr) -> So
             where_true(tests && (results && is_scale(*scale)), letter)
         }
         ResolvedExpr::Coalesce { values, scale } => {
-            let letter = letter_at(*scale);
+            let letter = letter_of_results(*scale);
             let values = go_as(columns, variables, letter, values);
             where_true(values && is_scale(*scale), letter)
         }
@@ -295,7 +276,7 @@ pub fn sort_of(columns: &[Letter], variables: &[Letter], e: &ResolvedExpr) -> So
         }
         ResolvedExpr::Function { function, argument } => {
             let argument = sort_of(columns, variables, argument.get());
-            where_true(argument.is(Letter::T), function_of(*function))
+            where_true(argument.is(Letter::T), changed(*function))
         }
         ResolvedExpr::Position { part, whole } => {
             let part = sort_of(columns, variables, part.get());

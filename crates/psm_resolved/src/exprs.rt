@@ -6,8 +6,7 @@ ghost use Rattle.psm_resolved.specs.RowValue.{listed};
 
 use crate::expr::{Junction, ResolvedExpr, ResolvedLink, ResolvedWhen};
 use crate::operators::{
-    calculated, calculating, changed, changing, comparing, joining, letter_at, letter_of,
-    letter_of_results,
+    calculated, calculating, changed, changing, comparing, joining, letter_at, letter_of_results,
 };
 use crate::setting::Setting;
 use crate::writer::{Exit, Writer};
@@ -160,7 +159,7 @@ fn expr(out: &mut Writer, setting: Setting<'_>, e: &ResolvedExpr) -> Result<(), 
         }
         ResolvedExpr::Cast { source: value, to } => {
             source(out, setting, value.get(), Letter::N)?;
-            out.apply(Op::Cast(*to), 1, letter_of(*to))
+            out.apply(Op::Cast(*to), 1, Letter::of_type(*to))
         }
         ResolvedExpr::NullIf { left, right } => {
             expr(out, setting, left.get())?;

@@ -17,6 +17,9 @@ pub use expr::{
     ResolvedQuery, ResolvedWhen, TextFunction,
 };
 pub use file::{ParameterMode, ResolvedFile, ResolvedParameter, ResolvedRoutine, ResolvedTable};
+pub use operators::{
+    calculated, calculating, changed, changing, comparing, joining, letter_of_results,
+};
 pub use statement::{
     ResolvedArgument, ResolvedBlock, ResolvedBranch, ResolvedCondition, ResolvedCursor,
     ResolvedDeclaration, ResolvedDiagnostics, ResolvedFor, ResolvedHandler, ResolvedNumber,

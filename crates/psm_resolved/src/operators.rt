@@ -1,12 +1,10 @@
-//! The operations that stand for operators.
+//! The operations that stand for operators, and the letters of their results.
 ghost use Rattle.std.specs.Prelude.{◌≡◌, slice_get};
 ghost use Rattle.psm_resolved.specs.Written.{letter_or, op_of_comparison, op_of_junction, op_of_operator, op_of_function, letter_of_operator};
-ghost use Rattle.psm_exprcode.specs.Kinds.{letter_of as letter_of_type};
 ghost use Rattle.psm_resolved.specs.Sort.{function_of, letter_at as letter_of_scale};
 
 use crate::expr::{Comparison, Junction, Operator, TextFunction};
 use psm_exprcode::{Letter, Op};
-use psm_value::SqlType;
 
 /// The letter of the column or the variable at a place; that of a number where there is none.
 pub(crate) fn letter_at(letters: &[Letter], place: u32) -> Letter
@@ -18,7 +16,8 @@ pub(crate) fn letter_at(letters: &[Letter], place: u32) -> Letter
     }
 }
 
-pub(crate) fn comparing(operator: Comparison) -> Op
+/// The operation that compares so.
+pub fn comparing(operator: Comparison) -> Op
     ensures { result ≡ op_of_comparison operator }
 {
     match operator {
@@ -31,7 +30,8 @@ pub(crate) fn comparing(operator: Comparison) -> Op
     }
 }
 
-pub(crate) fn joining(junction: Junction) -> Op
+/// The operation that joins two conditions so.
+pub fn joining(junction: Junction) -> Op
     ensures { result ≡ op_of_junction junction }
 {
     match junction {
@@ -40,7 +40,8 @@ pub(crate) fn joining(junction: Junction) -> Op
     }
 }
 
-pub(crate) fn calculating(operator: Operator) -> Op
+/// The operation that an operator stands for.
+pub fn calculating(operator: Operator) -> Op
     ensures { result ≡ op_of_operator operator }
 {
     match operator {
@@ -53,7 +54,7 @@ pub(crate) fn calculating(operator: Operator) -> Op
 }
 
 /// The letter of an operator's result.
-pub(crate) fn calculated(operator: Operator) -> Letter
+pub fn calculated(operator: Operator) -> Letter
     ensures { result ≡ letter_of_operator operator }
 {
     match operator {
@@ -62,7 +63,8 @@ pub(crate) fn calculated(operator: Operator) -> Letter
     }
 }
 
-pub(crate) fn changing(function: TextFunction) -> Op
+/// The operation that a function of one text stands for.
+pub fn changing(function: TextFunction) -> Op
     ensures { result ≡ op_of_function function }
 {
     match function {
@@ -73,7 +75,7 @@ pub(crate) fn changing(function: TextFunction) -> Op
 }
 
 /// The letter of a function's result.
-pub(crate) fn changed(function: TextFunction) -> Letter
+pub fn changed(function: TextFunction) -> Letter
     ensures { result ≡ function_of function }
 {
     match function {
@@ -82,18 +84,8 @@ pub(crate) fn changed(function: TextFunction) -> Letter
     }
 }
 
-/// The letter of a type's values.
-pub(crate) fn letter_of(to: SqlType) -> Letter
-    ensures { result ≡ letter_of_type to }
-{
-    match to {
-        SqlType::SmallInt | SqlType::Integer | SqlType::Numeric { .. } => Letter::N,
-        SqlType::Char { .. } | SqlType::VarChar { .. } => Letter::T,
-    }
-}
-
 /// The letter of the results of a CASE or a COALESCE with that scale.
-pub(crate) fn letter_of_results(scale: Option<u8>) -> Letter
+pub fn letter_of_results(scale: Option<u8>) -> Letter
     ensures { result ≡ letter_of_scale scale }
 {
     match scale {

@@ -66,7 +66,7 @@ pub expr-returns-in_ok-part-in-Negated : goal.expr-returns-in_ok-part-in-Negated
 expr-returns-in_ok-part-in-Negated t c = straight_written c.args.letter c.args.e.now (layers.Negated c.in-Negated.number) c.applied-in-Negated.new.self c.applied-in-Negated.result (ap out-ResolvedExpr c.in-Negated.is ∙ exprs.outs-Negated c.in-Negated.number) refl (more c.in_ok-part-in-Negated.ensures none) c.applied-in-Negated.ensures
 
 pub expr-returns-in_ok-part-in-Cast : goal.expr-returns-in_ok-part-in-Cast
-expr-returns-in_ok-part-in-Cast t c = straight_written c.args.letter c.args.e.now (layers.Cast c.in-Cast.source c.in-Cast.to) c.applied-in-Cast.new.self c.applied-in-Cast.result (ap out-ResolvedExpr c.in-Cast.is ∙ exprs.outs-Cast c.in-Cast.source c.in-Cast.to) refl (more c.in_ok-part-in-Cast.ensures none) (ok_as c.applied-in-Cast.result (λ a. a ∙ ap (λ k. applied c.args.setting.context c.args.setting.resume (op.Cast c.in-Cast.to) 1 k c.part-in-Cast.new.out) c.letter_of.ensures) c.applied-in-Cast.ensures)
+expr-returns-in_ok-part-in-Cast t c = straight_written c.args.letter c.args.e.now (layers.Cast c.in-Cast.source c.in-Cast.to) c.applied-in-Cast.new.self c.applied-in-Cast.result (ap out-ResolvedExpr c.in-Cast.is ∙ exprs.outs-Cast c.in-Cast.source c.in-Cast.to) refl (more c.in_ok-part-in-Cast.ensures none) (ok_as c.applied-in-Cast.result (λ a. a ∙ ap (λ k. applied c.args.setting.context c.args.setting.resume (op.Cast c.in-Cast.to) 1 k c.part-in-Cast.new.out) c.of_type.ensures) c.applied-in-Cast.ensures)
 
 pub expr-returns-in_ok-part-in-NullIf-2 : goal.expr-returns-in_ok-part-in-NullIf-2
 expr-returns-in_ok-part-in-NullIf-2 t c = straight_written c.args.letter c.args.e.now (layers.NullIf c.in-NullIf.left c.in-NullIf.right) c.applied-in-NullIf.new.self c.applied-in-NullIf.result (ap out-ResolvedExpr c.in-NullIf.is ∙ exprs.outs-NullIf c.in-NullIf.left c.in-NullIf.right) refl (more c.in_ok-part-in-NullIf.ensures (more c.in_ok-part-in-NullIf-2.ensures none)) (ok_as c.applied-in-NullIf.result (λ a. a ∙ ap (λ k. applied c.args.setting.context c.args.setting.resume op.NullIf 2 k c.part-in-NullIf-2.new.out) c.second_letter-letter.ensures) c.applied-in-NullIf.ensures)

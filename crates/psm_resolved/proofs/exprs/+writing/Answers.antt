@@ -1,5 +1,5 @@
 use Rattle.std.proofs.Common.{◌≡◌, Ok, true, arith, ◌+◌, [], ◌∷◌, Some, None, take, drop, sym, ap, ◌∙◌, refl}
-use Rattle.psm_exprcode.specs.declared.op.Letter.TheVariants.{N, T, B}
+use Rattle.psm_exprcode.specs.declared.op.Letter.TheVariants.{N, T}
 use Rattle.psm_exprcode.specs.declared.op.Op.TheVariants as op
 use Rattle.psm_resolved.specs.declared.expr.ResolvedExpr.TheVariants as exprs
 use Rattle.psm_resolved.proofs.Forms.{number_written, text_written, column_written, variable_written, not_written, negated_written, trim_written, function_written, is_null_written, cast_written, compare_written, position_written, part_written, part_for_written, like_written, like_escape_written, between_written, null_if_written}
@@ -59,7 +59,7 @@ pub expr-returns-in_ok-expr-in-NullIf-2 : goal.expr-returns-in_ok-expr-in-NullIf
 expr-returns-in_ok-expr-in-NullIf-2 t c = null_if_written c.args.setting.columns.now c.args.setting.variables.now c.args.e.now c.get-in-NullIf.result.now c.get-in-NullIf-2.result.now c.last-letter.result c.args.out.now c.expr-in-NullIf.new.out c.expr-in-NullIf-2.new.out c.apply-in-NullIf.new.self c.apply-in-NullIf.result (c.in-NullIf.is ∙ ap (λ x. exprs.NullIf x c.in-NullIf.right) (sym c.get-in-NullIf.ensures) ∙ ap (exprs.NullIf c.get-in-NullIf.result.now) (sym c.get-in-NullIf-2.ensures)) c.in_ok-expr-in-NullIf.ensures c.last-letter.ensures c.in_ok-expr-in-NullIf-2.ensures c.apply-in-NullIf.ensures
 
 pub expr-returns-in_ok-source-in-Cast : goal.expr-returns-in_ok-source-in-Cast
-expr-returns-in_ok-source-in-Cast t c = cast_written c.args.setting.columns.now c.args.setting.variables.now c.args.e.now c.get-in-Cast.result.now c.in-Cast.to c.args.out.now c.source-in-Cast.new.out c.apply-in-Cast.new.self c.letter_of.result c.apply-in-Cast.result (c.in-Cast.is ∙ ap (λ x. exprs.Cast x c.in-Cast.to) (sym c.get-in-Cast.ensures)) c.in_ok-source-in-Cast.ensures c.letter_of.ensures c.apply-in-Cast.ensures
+expr-returns-in_ok-source-in-Cast t c = cast_written c.args.setting.columns.now c.args.setting.variables.now c.args.e.now c.get-in-Cast.result.now c.in-Cast.to c.args.out.now c.source-in-Cast.new.out c.apply-in-Cast.new.self c.of_type.result c.apply-in-Cast.result (c.in-Cast.is ∙ ap (λ x. exprs.Cast x c.in-Cast.to) (sym c.get-in-Cast.ensures)) c.in_ok-source-in-Cast.ensures c.of_type.ensures c.apply-in-Cast.ensures
 
 pub expr-returns-in_ok-apply-in-None : goal.expr-returns-in_ok-apply-in-None
 expr-returns-in_ok-apply-in-None t c = like_written c.args.setting.columns.now c.args.setting.variables.now c.args.e.now c.get-in-Like.result.now c.get-in-Like-2.result.now c.in-Like.negated c.args.out.now c.expr-in-Like.new.out c.expr-in-Like-2.new.out c.apply-in-None.new.self c.perhaps_not-in-None.new.self c.perhaps_not-in-None.result (c.in-Like.is ∙ ap (exprs.Like c.in-Like.negated c.in-Like.value c.in-Like.pattern) c.in-None.is ∙ ap (λ x. exprs.Like c.in-Like.negated x c.in-Like.pattern (None)) (sym c.get-in-Like.ensures) ∙ ap (λ x. exprs.Like c.in-Like.negated c.get-in-Like.result.now x (None)) (sym c.get-in-Like-2.ensures)) c.in_ok-expr-in-Like.ensures c.in_ok-expr-in-Like-2.ensures c.in_ok-apply-in-None.ensures c.perhaps_not-in-None.ensures
