@@ -12,7 +12,7 @@ use Rattle.psm_exprcode.specs.Kinds.{is_value, letter_of}
 use Rattle.psm_exprcode.specs.WellFormed.{is_type}
 use Rattle.psm_scope.proofs.Calls.{both}
 use Rattle.psm_scope.specs.Choice as choice
-use Rattle.psm_scope.specs.Choice.{Signature, all_go, goes_to, kind_of}
+use Rattle.psm_scope.specs.Choice.{all_go, goes_to, kind_of}
 use Rattle.psm_scope.specs.Exact.{is_typed}
 use Rattle.psm_scope.specs.Routines.{Callable, function, with_result}
 use Rattle.psm_scope.specs.declared.fault.ChoiceFault.{ChoiceFault}
@@ -28,9 +28,10 @@ use Rattle.psm_rules.specs.declared.shape.Typed.{Typed}
 use Rattle.psm_rules.specs.declared.rule.Rule.TheVariants as rule
 use Rattle.psm_rules.specs.Faults.{breaks_if, earlier}
 use Rattle.psm_rules.specs.Found.{as_condition, as_value, faults_in, is_shaped, made_of, shape_of, shown, sound}
+use Rattle.psm_rules.specs.Shapes as shapes
 use Rattle.psm_rules.specs.Shapes.{family_of, is_of, typed}
 use Rattle.psm_rules.specs.ExprFaults as faults
-use Rattle.psm_rules.specs.ExprFaults.{call_found, case_found, cast_found, cast_shape, coalesce_found, compares, else_of, of_type, results_found, simple_test, tests_of, type_fault}
+use Rattle.psm_rules.specs.ExprFaults.{case_found, cast_found, cast_shape, coalesce_found, compares, else_of, of_type, results_found, simple_test, tests_of}
 use Rattle.psm_rules.specs.Types.{decimals, digits_within, length_in, type_in, type_of, whole}
 use Rattle.psm_tree.specs.declared.types.DataType.{DataType}
 use Rattle.psm_tree.specs.declared.types.TypeForm.{TypeForm}
@@ -42,7 +43,7 @@ use Rattle.psm_resolved.specs.declared.file.ResolvedRoutine.{ResolvedRoutine}
 use Rattle.psm_resolved.specs.Sort.{is_scale, letter_at}
 use Rattle.psm_resolve_expr.specs.declared.made.Made.{Made}
 use Rattle.psm_resolve_expr.specs.Made as made
-use Rattle.psm_resolve_expr.specs.Made.{joined_in, scale_of_result, shape_of_result}
+use Rattle.psm_resolve_expr.specs.Made.{joined_in, scale_of_result}
 use Rattle.psm_resolve_expr.specs.Exprs.{case_of, coalesce_of, expr_in, optional_in, result_of_case, shapes_of_else, type_known, value, when_of}
 use Rattle.psm_sound.specs.Expressions as typed_expr
 use Rattle.psm_sound.specs.Expressions.{AreExprs, IsExpr}
@@ -444,19 +445,13 @@ compared_part e w place b g n bs fs ms a f m p ws o well =
 
 -- ---- calls
 
-kind_same : (s : Shape) → faults.kind_of s ≡ made.kind_of s
-kind_same (Value t) = refl
-kind_same Untyped = refl
-kind_same Condition = refl
-
-results_kinds : (e : Scene) (w : Where) (fs : List Found) (ms : List Made) → AllResults e w fs ms → map (λ f. faults.kind_of (shape_of f)) (map as_value fs) ≡ map (λ a. made.kind_of a.shape) ms
+results_kinds : (e : Scene) (w : Where) (fs : List Found) (ms : List Made) → AllResults e w fs ms → map (λ f. shapes.kind_of (shape_of f)) (map as_value fs) ≡ map (λ a. shapes.kind_of a.shape) ms
 results_kinds e w [] [] h = refl
 results_kinds e w [] (m ∷ ms) h = absurd h
 results_kinds e w (f ∷ fs) [] h = absurd h
 results_kinds e w (f ∷ fs) (m ∷ ms) h =
-    ap (λ s. faults.kind_of s ∷ map (λ f. faults.kind_of (shape_of f)) (map as_value fs)) (result_shape e w f m h.0)
-    ∙ ap (λ k. k ∷ map (λ f. faults.kind_of (shape_of f)) (map as_value fs)) (kind_same m.shape)
-    ∙ ap (λ ks. made.kind_of m.shape ∷ ks) (results_kinds e w fs ms h.1)
+    ap (λ s. shapes.kind_of s ∷ map (λ f. shapes.kind_of (shape_of f)) (map as_value fs)) (result_shape e w f m h.0)
+    ∙ ap (λ ks. shapes.kind_of m.shape ∷ ks) (results_kinds e w fs ms h.1)
 
 letter_goes : (a : ArgKind) (t : SqlType) → is_typed a ≡ true → goes_to a (kind_of t) ≡ true → letter_in (family_of a) ≡ letter_of t
 letter_goes kind.SmallInt types.SmallInt h g = refl
@@ -493,21 +488,21 @@ value_letter (types.Numeric p s) = refl
 value_letter (types.Char n) = refl
 value_letter (types.VarChar n) = refl
 
-source_goes : (e : Scene) (m : Made) (s : Shape) (t : SqlType) → IsSourceOf e Control m s → goes_to (made.kind_of s) (kind_of t) ≡ true → IsExpr e m.expr (letter_of t)
+source_goes : (e : Scene) (m : Made) (s : Shape) (t : SqlType) → IsSourceOf e Control m s → goes_to (shapes.kind_of s) (kind_of t) ≡ true → IsExpr e m.expr (letter_of t)
 source_goes e m (Value u) t h g = subst (IsExpr e m.expr) (letter_goes u.kind t h.sane.typed g) h.judged.0
 source_goes e m Untyped t h g = subst (λ x. IsExpr e x (letter_of t)) (sym h.1) (null-source e Control (letter_of t) (value_letter t)).0
 source_goes e m Condition t h g = absurd h
 
-arguments_go : (e : Scene) (fs : List Found) (ms : List Made) (ts : List SqlType) → AllResults e Control fs ms → all_go (map (λ a. made.kind_of a.shape) ms) (map kind_of ts) ≡ true → AreExprs e (map expr_in ms) (letters_of ts)
+arguments_go : (e : Scene) (fs : List Found) (ms : List Made) (ts : List SqlType) → AllResults e Control fs ms → all_go (map (λ a. shapes.kind_of a.shape) ms) (map kind_of ts) ≡ true → AreExprs e (map expr_in ms) (letters_of ts)
 arguments_go e [] [] [] h g = typed_expr.none
 arguments_go e [] [] (t ∷ ts) h g = absurd cc
 arguments_go e [] (m ∷ ms) ts h g = absurd h
 arguments_go e (f ∷ fs) [] ts h g = absurd h
 arguments_go e (f ∷ fs) (m ∷ ms) [] h g = absurd cc
 arguments_go e (f ∷ fs) (m ∷ ms) (t ∷ ts) h g =
-    let parts = both (goes_to (made.kind_of m.shape) (kind_of t)) (all_go (map (λ a. made.kind_of a.shape) ms) (map kind_of ts)) g in
+    let parts = both (goes_to (shapes.kind_of m.shape) (kind_of t)) (all_go (map (λ a. shapes.kind_of a.shape) ms) (map kind_of ts)) g in
     let r : IsResult e Control f m = h.0 in
-    typed_expr.more (source_goes e m r.shape t r.source (subst (λ s. goes_to (made.kind_of s) (kind_of t) ≡ true) (source_shape e Control m r.shape r.source) parts.0))
+    typed_expr.more (source_goes e m r.shape t r.source (subst (λ s. goes_to (shapes.kind_of s) (kind_of t) ≡ true) (source_shape e Control m r.shape r.source) parts.0))
     (arguments_go e fs ms ts h.1 parts.1)
 
 pub source_fit : (e : Scene) (m : Made) (s : Shape) → IsSourceOf e Control m s → Fit e true m.expr
@@ -544,10 +539,10 @@ called_clean e place callable name args (Err NoRoutine) known is = λ none. absu
 called_clean e place callable name args (Err Ambiguous) known is = λ none. absurd cc
 
 called_good : (e : Scene) (place : Place) (standing : Standing) (callable : Callable) (name : List ℕ) (fs : List Found) (ms : List Made) (c : Result ℕ ChoiceFault) → AreFunctions callable.signatures callable.results (functions_of e)
-    → AllResults e Control fs ms → choice.chosen callable.signatures name (map (λ a. made.kind_of a.shape) ms) ≡ c
+    → AllResults e Control fs ms → choice.chosen callable.signatures name (map (λ a. shapes.kind_of a.shape) ms) ≡ c
     → Good e Control standing (faults.called place (with_result callable.results c)) (made.called (map expr_in ms) (with_result callable.results c))
 called_good e place standing callable name fs ms (Ok k) known rs is =
-    let args : List ArgKind = map (λ a. made.kind_of a.shape) ms in
+    let args : List ArgKind = map (λ a. shapes.kind_of a.shape) ms in
     let callee : IsCallee args callable.results (functions_of e) k = chosen_called name args callable.signatures callable.results (functions_of e) k known is in
     type_good e Control standing place (slice_index_or callable.results k None) callee.type (made.called (map expr_in ms) (Ok (k, slice_index_or callable.results k None)))
     (listed_at callable.results k (Some callee.type) None callee.result) refl callee.bounded (
@@ -558,16 +553,16 @@ called_good e place standing callable name fs ms (Err NoRoutine) known rs is = r
 called_good e place standing callable name fs ms (Err Ambiguous) known rs is = record { clean = λ none. absurd cc; made = λ s is. absurd cc }
 
 pub call_part : (e : Scene) (place : Place) (callable : Callable) (name : List ℕ) (ss : List Standing) (fs : List Found) (ms : List Made) → AreFunctions callable.signatures callable.results (functions_of e) → Parts e Control ss fs ms
-    → Part e Control (Some (list_all as_source ss)) (made_of place (map as_value fs) (faults.called place (function callable name (map (λ f. faults.kind_of (shape_of f)) (map as_value fs)))))
-    (made.called (map expr_in ms) (function callable name (map (λ a. made.kind_of a.shape) ms)))
+    → Part e Control (Some (list_all as_source ss)) (made_of place (map as_value fs) (faults.called place (function callable name (map (λ f. shapes.kind_of (shape_of f)) (map as_value fs)))))
+    (made.called (map expr_in ms) (function callable name (map (λ a. shapes.kind_of a.shape) ms)))
 call_part e place callable name ss fs ms known p well =
     let values : List Found = map as_value fs in
-    let args : List ArgKind = map (λ f. faults.kind_of (shape_of f)) values in
+    let args : List ArgKind = map (λ f. shapes.kind_of (shape_of f)) values in
     let whole : Found = faults.called place (function callable name args) in record {
       clean = made_of-clean place values whole (sources_clean e Control ss fs ms p well) (called_clean e place callable name args (choice.chosen callable.signatures name args) known refl);
       made = λ s is.
           let parts = made_of-parts place values whole s is in
           let rs = results e Control ss fs ms p well parts.0 in
-          let given : (faults.called place (function callable name (map (λ a. made.kind_of a.shape) ms))).shape ≡ Some s = ap (λ ks. (faults.called place (function callable name ks)).shape) (sym (results_kinds e Control fs ms rs)) ∙ parts.1 in
-          (called_good e place (Some (list_all as_source ss)) callable name fs ms (choice.chosen callable.signatures name (map (λ a. made.kind_of a.shape) ms)) known rs refl).made s given;
+          let given : (faults.called place (function callable name (map (λ a. shapes.kind_of a.shape) ms))).shape ≡ Some s = ap (λ ks. (faults.called place (function callable name ks)).shape) (sym (results_kinds e Control fs ms rs)) ∙ parts.1 in
+          (called_good e place (Some (list_all as_source ss)) callable name fs ms (choice.chosen callable.signatures name (map (λ a. shapes.kind_of a.shape) ms)) known rs refl).made s given;
     }

@@ -3,7 +3,8 @@ ghost use Rattle.std.specs.Prelude.{◌≡◌, ◌∷◌, ◌++◌, [], IfOk, No
 ghost use Rattle.psm_list.specs.Several.{several_map};
 ghost use Rattle.psm_scope.specs.Routines.{function};
 ghost use Rattle.psm_rules.specs.Found.{as_condition, as_value, shape_of};
-ghost use Rattle.psm_rules.specs.ExprFaults.{call_found, called, case_found, chained, else_of, expr_found, junction_of, kind_of, link_found, linked, name_found, pick_found, query_found, seen, seen_in, seen_option, simple_test, when_found};
+ghost use Rattle.psm_rules.specs.Shapes.{kind_of};
+ghost use Rattle.psm_rules.specs.ExprFaults.{call_found, called, case_found, chained, else_of, expr_found, junction_of, link_found, linked, name_found, pick_found, query_found, seen, seen_in, seen_option, simple_test, when_found};
 ghost use Rattle.psm_check_expr.specs.Seen.{pick_of, seen_in_view};
 
 use crate::operators::{
@@ -318,18 +319,9 @@ fn kinds_of(alloc: Global, values: &[Found]) -> Result<Vec<ArgKind>, AllocError>
 {
     let mut kinds = Vec::new(alloc);
     for value in values {
-        kinds.push(kind_of(shape_of(*value)))?;
+        kinds.push(shape_of(*value).kind())?;
     }
     Ok(kinds)
-}
-
-fn kind_of(shape: Shape) -> ArgKind
-    ensures { result ≡ kind_of shape }
-{
-    match shape {
-        Shape::Value(t) => t.kind,
-        Shape::Untyped | Shape::Condition => ArgKind::Null,
-    }
 }
 
 // ---- CASE

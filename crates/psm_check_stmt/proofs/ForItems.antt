@@ -18,7 +18,7 @@ use Rattle.psm_rules.specs.ExprFaults.{QueryFound, pick_found, query_found, row_
 use Rattle.psm_rules.specs.BlockFaults.{declared_once, local_variable, with_columns, with_variable}
 use Rattle.psm_check_stmt.specs.ForItems.{variables_here, with_variables_here}
 use Rattle.psm_check_expr.proofs.Equations.{found_columns, found_query}
-use Rattle.psm_check_stmt.proofs.Innermost.{declared_again, declared_now}
+use Rattle.psm_rules.proofs.Innermost.{declared_again, declared_now}
 
 pub ruleset pick_layers = (picked.outs-All, picked.outs-Expr, picked.outs-CountRows, picked.outs-Aggregate)
 

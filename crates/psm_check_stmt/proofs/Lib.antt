@@ -1,13 +1,12 @@
 pub mod Apart
-pub mod Bounds
 pub mod ForItems
 pub mod Going
 pub mod Handling
-pub mod Innermost
 pub mod NamesSoFar
 pub mod Noted
 pub mod Once
 pub mod Orders
+pub mod Outside
 pub mod Pairs
 pub mod Returning
 pub mod StatementEquations

@@ -280,7 +280,7 @@ fn table_rule_fault(
 }
 
 // The faults of a column's type and of its DEFAULT.
-#[tactic(auto, using(crate::proofs::Bounds::type_within))]
+#[tactic(auto, using(psm_rules::proofs::Bounds::type_within))]
 fn column_type_fault(
     alloc: Global,
     kind: &DataType,

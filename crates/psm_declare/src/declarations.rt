@@ -38,7 +38,7 @@ pub struct Declared {
 }
 
 /// What a compound statement declares. Goes into its frame.
-#[tactic(auto, using(crate::proofs::Innermost::popped))]
+#[tactic(auto, using(crate::proofs::Outside::popped))]
 pub fn enter_compound<'w, 'a>(
     setting: Setting<'w, 'a>,
     frames: &mut Frames<'a>,

@@ -1,5 +1,5 @@
 pub mod Equations
-pub mod Innermost
+pub mod Outside
 pub mod Layers
 pub mod Once
 pub mod Pairs

@@ -29,7 +29,7 @@ use psm_value::SqlType;
 use std::alloc::{AllocError, Global};
 
 /// The head of FOR. Goes into the frame of its statements.
-#[tactic(auto, using(crate::proofs::Innermost::popped))]
+#[tactic(auto, using(crate::proofs::Outside::popped))]
 pub(crate) fn enter_for<'w, 'a>(
     setting: Setting<'w, 'a>,
     frames: &mut Frames<'a>,

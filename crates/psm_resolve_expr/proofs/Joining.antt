@@ -8,20 +8,18 @@ use Rattle.psm_list.specs.Several.{Several}
 use Rattle.psm_num.specs.Num.{Num}
 use Rattle.psm_token.specs.declared.place.Place.{Place}
 use Rattle.psm_token.specs.declared.token.Placed.{Placed}
-use Rattle.psm_grammar.specs.Language.{Words, Lang, Test, Any, Many}
-use Rattle.psm_grammar.specs.Grammar.{Grammar, Spells, lang, nested, words, token, level, nothing, seq, or, many, image}
+use Rattle.psm_grammar.specs.Language.{Words, Lang, Test, Many}
+use Rattle.psm_grammar.specs.Grammar.{Spells, lang, nested, words, token, level, seq, or, many, image}
 use Rattle.psm_grammar.specs.Forms.{optional, behind_token, before_token}
 use Rattle.psm_tree.specs.Tests.{At}
 use Rattle.psm_tree.specs.Parts.{Part, Enclosed, ExistsRest, CaseRest, CastRest, CoalesceRest, NullIfRest, FunctionRest, PositionRest, SubstringRest, TrimRest, V, Inside, Value, Query, Cases}
 use Rattle.psm_tree.specs.Productions.{productions}
 use Rattle.psm_tree.specs.ExprGrammar
-use Rattle.psm_tree.specs.ExprGrammar.{Gram, closed, within_parens}
+use Rattle.psm_tree.specs.ExprGrammar.{Gram, within_parens}
 use Rattle.psm_tree.specs.ExprValues as values
 use Rattle.psm_tree.specs.declared.name.Identifier.{Identifier}
-use Rattle.psm_tree.specs.declared.name.Target.{Target}
 use Rattle.psm_tree.specs.declared.types.DataType.{DataType}
 use Rattle.psm_tree.specs.declared.types.Sign.{Sign}
-use Rattle.psm_tree.specs.declared.expr.Comparison.{Comparison}
 use Rattle.psm_tree.specs.declared.expr.Junction.{Junction}
 use Rattle.psm_tree.specs.declared.expr.Operator.{Operator}
 use Rattle.psm_tree.specs.declared.expr.TextFunction.{TextFunction}
@@ -31,8 +29,8 @@ use Rattle.psm_tree.specs.declared.expr.Expr.TheVariants as exprs
 use Rattle.psm_tree.specs.declared.expr.Expr.TheOpen.{Expr-F}
 use Rattle.psm_tree.specs.declared.expr.Expr.TheOpen as layers
 use Rattle.psm_tree.specs.declared.expr.Expr.TheFolds.{map-Expr, fold-Pick, fold-Select, fold-roll-Expr, fold-roll-Link, fold-roll-When}
-use Rattle.psm_tree.specs.declared.expr.Link.{Link, roll-Link}
-use Rattle.psm_tree.specs.declared.expr.When.{When, roll-When}
+use Rattle.psm_tree.specs.declared.expr.Link.{Link}
+use Rattle.psm_tree.specs.declared.expr.When.{When}
 use Rattle.psm_tree.specs.declared.expr.Pick.{Pick}
 use Rattle.psm_tree.specs.declared.expr.Select.{Select}
 use Rattle.psm_resolve_expr.specs.Scales.{are_all, joins, joins_layer, link_joins, link_joins_layer, or_none, pick_none, select_none, when_joins, when_joins_layer}

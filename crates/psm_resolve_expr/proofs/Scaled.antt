@@ -31,7 +31,8 @@ use Rattle.psm_resolved.specs.declared.expr.ResolvedItem.{ResolvedItem}
 use Rattle.psm_resolve_expr.specs.declared.made.Made.{Made}
 use Rattle.psm_resolve_expr.specs.declared.made.MadeQuery.{MadeQuery}
 use Rattle.psm_resolve_expr.specs.Sight.{Sight, name_in, on_row, table_at}
-use Rattle.psm_resolve_expr.specs.Made.{MadePick, Values, OfAll, called, kind_of, of_meaning, sets_in, shape_of_result, values_in}
+use Rattle.psm_rules.specs.Shapes.{kind_of}
+use Rattle.psm_resolve_expr.specs.Made.{MadePick, Values, OfAll, called, of_meaning, sets_in, shape_of_result, values_in}
 use Rattle.psm_resolve_expr.specs.Exprs.{Of, all_at, any_at, at, case_of, chained, coalesce_of, columns_from, columns_in, columns_on, comparison_of, expr_in, expr_layer, junction_of, side_of, pick_layer, link_layer, select_layer, when_layer, made_of, pick_made, link_made, query_made, when_made, only_shape, result_of_case, shapes_of, signed, type_known}
 use Rattle.psm_resolved.specs.RowValue.{row_value}
 use Rattle.psm_resolve_expr.specs.Scales.{ComesAtScale, HoldAsDeclared, are_all, joins, joins_layer, link_joins, link_joins_layer, or_none, pick_none, select_none, when_joins, when_joins_layer}

@@ -36,7 +36,7 @@ use Rattle.psm_exprcode.specs.declared.aggregate.SetFunction.TheVariants as sets
 use Rattle.psm_rules.specs.declared.shape.Shape.{Shape}
 use Rattle.psm_rules.specs.declared.shape.Shape.TheVariants.{Value, Untyped, Condition}
 use Rattle.psm_rules.specs.declared.shape.Typed.{Typed}
-use Rattle.psm_rules.specs.Shapes.{integer, character, varying, of_literal, typed}
+use Rattle.psm_rules.specs.Shapes.{integer, character, varying, of_literal, typed, kind_of}
 use Rattle.psm_rules.specs.Types.{type_of}
 use Rattle.psm_rules.specs.View.{Columns}
 use Rattle.psm_rules.specs.ExprFaults.{spelling, set_result, text_result}
@@ -59,7 +59,7 @@ use Rattle.psm_resolved.specs.declared.expr.TextFunction.TheVariants as function
 use Rattle.psm_resolve_expr.specs.Sight.{Sight, on_row, name_in, table_at}
 use Rattle.psm_resolve_expr.specs.declared.made.Made.{Made}
 use Rattle.psm_resolve_expr.specs.declared.made.MadeQuery.{MadeQuery}
-use Rattle.psm_resolve_expr.specs.Made.{MadePick, Values, OfAll, values_in, sets_in, of_meaning, called, kind_of, operated, joined_in, shape_of_result, scale_of_result, shape_of_type}
+use Rattle.psm_resolve_expr.specs.Made.{MadePick, Values, OfAll, values_in, sets_in, of_meaning, called, operated, joined_in, shape_of_result, scale_of_result, shape_of_type}
 
 -- ---- operators and functions
 

@@ -6,7 +6,6 @@ use Rattle.psm_scope.specs.Lookup as lookup
 use Rattle.psm_scope.specs.Lookup.{Meaning}
 use Rattle.psm_scope.specs.declared.known.Variable.{Variable}
 use Rattle.psm_scope.specs.declared.fault.ChoiceFault.{ChoiceFault}
-use Rattle.psm_scope.specs.declared.kinds.ArgKind.{ArgKind}
 use Rattle.psm_scope.specs.declared.kinds.ArgKind.TheVariants as kind
 use Rattle.psm_rules.specs.declared.shape.Shape.{Shape}
 use Rattle.psm_rules.specs.declared.shape.Shape.TheVariants.{Value, Untyped, Condition}
@@ -73,11 +72,6 @@ of_meaning (Some (lookup.Column i t)) = record { expr = exprs.Column i; shape = 
 of_meaning (Some (lookup.Variable v)) = record { expr = exprs.Variable v.slot; shape = shape_of_type v.kind }
 
 -- ---- calls
-
-abbrev pub kind_of : Shape → ArgKind
-kind_of (Value t) = t.kind
-kind_of Untyped = kind.Null
-kind_of Condition = kind.Null
 
 abbrev pub called : List ResolvedExpr → Result (ℕ × Option SqlType) ChoiceFault → Made
 called arguments (Ok p) = record { expr = exprs.Call p.0 arguments; shape = shape_of_type p.1 }

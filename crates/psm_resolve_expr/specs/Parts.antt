@@ -14,7 +14,8 @@ use Rattle.psm_resolve_expr.specs.declared.parts.Arguments.{Arguments}
 use Rattle.psm_resolve_expr.specs.declared.parts.Branch.{Branch}
 use Rattle.psm_resolve_expr.specs.declared.parts.Branches.{Branches}
 use Rattle.psm_resolve_expr.specs.declared.parts.Operands.{Operands}
-use Rattle.psm_resolve_expr.specs.Made.{MadePick, Values, OfAll, joined_in, kind_of, scale_of_result, shape_of_result}
+use Rattle.psm_rules.specs.Shapes.{kind_of}
+use Rattle.psm_resolve_expr.specs.Made.{MadePick, Values, OfAll, joined_in, scale_of_result, shape_of_result}
 use Rattle.psm_resolve_expr.specs.Exprs.{expr_in, optional_in, shapes_of_else, when_of}
 
 -- values of one list, and the type of the result that one of them is

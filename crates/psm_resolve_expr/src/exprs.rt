@@ -10,7 +10,6 @@ use crate::forms;
 use crate::made::{Made, MadeQuery};
 use crate::parts::{Arguments, Branch, Branches, Operands, push_operand, when_then};
 use crate::picks::Picks;
-use crate::shapes::kind_of;
 use crate::sight::{Sight, on_row, table_columns, table_number};
 use psm_check_expr::row_of;
 use psm_list::{Boxed, List, OneOrMore};
@@ -229,7 +228,7 @@ fn arguments_made(
     let mut kinds = Vec::new(alloc);
     for e in list.items() {
         let shape = push_made(alloc, e.get(), sight, &mut exprs)?;
-        kinds.push(kind_of(shape))?;
+        kinds.push(shape.kind())?;
     }
     Ok(Arguments {
         exprs: List::of(exprs),

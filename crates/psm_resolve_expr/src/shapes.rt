@@ -1,13 +1,12 @@
 //! Shapes of values.
 ghost use Rattle.std.specs.Prelude.{◌≡◌, IfOk, ◌++◌};
 ghost use Rattle.psm_rules.specs.Shapes.{at_larger_scale, at_sum_of_scales};
-ghost use Rattle.psm_resolve_expr.specs.Made.{joined_in, kind_of, operated, scale_of_result, shape_of_result, shape_of_type, type_in, with_types};
+ghost use Rattle.psm_resolve_expr.specs.Made.{joined_in, operated, scale_of_result, shape_of_result, shape_of_type, type_in, with_types};
 ghost use Rattle.psm_resolve_expr.specs.Exprs.{only_shape, shape_of_set, shapes_of_else, type_known};
 
 use crate::made::Made;
 use psm_check_expr::set_result;
 use psm_rules::{Family, Shape, Typed, VARYING, at_larger_scale, family_of, joined, typed};
-use psm_scope::ArgKind;
 use psm_tree::{Operator, SetFunction};
 use psm_value::SqlType;
 use std::alloc::AllocError;
@@ -123,16 +122,6 @@ pub(crate) fn scale_of_result(t: Option<Typed>) -> Option<u8>
 }
 
 // ---- calls and queries
-
-/// The kind by which a function is chosen.
-pub(crate) fn kind_of(shape: Shape) -> ArgKind
-    ensures { result ≡ kind_of shape }
-{
-    match shape {
-        Shape::Value(t) => t.kind,
-        Shape::Untyped | Shape::Condition => ArgKind::Null,
-    }
-}
 
 /// The shape of a set function's value.
 pub(crate) fn shape_of_set(function: SetFunction, shape: Shape) -> Shape

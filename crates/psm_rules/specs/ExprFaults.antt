@@ -1,24 +1,21 @@
 -- The first fault of an expression or a query, and the shape of its value (ISO/IEC 9075:1992, clauses 6 to 8).
-use Rattle.std.specs.Prelude.{ℕ, zero, suc, ◌≡◌, nat_eq, nat_le, nat_lt, Bool, true, false, not, ◌&&◌, ◌||◌, Option, Some, None, Result, Ok, Err, List, [], ◌∷◌, ◌++◌, map, length, option_map, is_none, if◌then◌else◌}
-use Rattle.std.specs.List.{list_all, list_any, filter}
+use Rattle.std.specs.Prelude.{ℕ, ◌≡◌, nat_eq, nat_le, Bool, true, false, not, ◌&&◌, ◌||◌, Option, Some, None, Result, Ok, Err, List, [], ◌∷◌, ◌++◌, map, length, option_map, is_none, if◌then◌else◌}
+use Rattle.std.specs.List.{list_all}
 use Rattle.psm_list.specs.Several.{Several}
-use Rattle.psm_num.specs.Num.{Num}
 use Rattle.psm_token.specs.declared.place.Place.{Place}
 use Rattle.psm_value.specs.declared.sqltype.SqlType.{SqlType}
 use Rattle.psm_scope.specs.Routines.{function}
 use Rattle.psm_scope.specs.declared.fault.ChoiceFault.{ChoiceFault}
 use Rattle.psm_scope.specs.declared.fault.ChoiceFault.TheVariants.{NoRoutine, Ambiguous}
-use Rattle.psm_scope.specs.Frames.{Spelling, is_spelled}
+use Rattle.psm_scope.specs.Frames.{Spelling}
 use Rattle.psm_scope.specs.declared.known.Variable.{Variable}
 use Rattle.psm_scope.specs.Lookup.{RowTable, Meaning, meant, meant_on_row, or_else}
 use Rattle.psm_scope.specs.Rows.{columns_known}
 use Rattle.psm_scope.specs.Lookup as lookup
-use Rattle.psm_scope.specs.declared.kinds.ArgKind.{ArgKind}
 use Rattle.psm_scope.specs.declared.kinds.ArgKind.TheVariants as kind
 use Rattle.psm_tree.specs.declared.name.Identifier.{Identifier}
 use Rattle.psm_tree.specs.declared.name.Target.{Target}
 use Rattle.psm_tree.specs.declared.types.DataType.{DataType}
-use Rattle.psm_tree.specs.declared.types.Sign.{Sign}
 use Rattle.psm_tree.specs.declared.expr.Expr.{Expr}
 use Rattle.psm_tree.specs.declared.expr.Expr.TheOpen.{Expr-F, Pick-F, Link-F, Select-F, When-F}
 use Rattle.psm_tree.specs.declared.expr.Expr.TheOpen as layers
@@ -46,7 +43,7 @@ use Rattle.psm_rules.specs.declared.shape.Family.{Family}
 use Rattle.psm_rules.specs.declared.shape.Typed.{Typed}
 use Rattle.psm_rules.specs.declared.shape.Shape.TheVariants.{Value, Untyped, Condition}
 use Rattle.psm_rules.specs.declared.shape.Family.TheVariants.{Numbers, Texts}
-use Rattle.psm_rules.specs.Shapes.{is_of, integer, character, varying, of_literal, typed, at_larger_scale, at_sum_of_scales, joined, family_in, clashes, number_in}
+use Rattle.psm_rules.specs.Shapes.{is_of, integer, character, varying, of_literal, typed, at_larger_scale, at_sum_of_scales, joined, family_in, clashes, number_in, kind_of}
 use Rattle.psm_rules.specs.Types.{type_of}
 use Rattle.psm_rules.specs.View.{View, Columns, on_row, table_named}
 
@@ -117,11 +114,6 @@ chained left [] = left
 chained left (link ∷ links) = chained (linked left link.0 (as_value link.1)) links
 
 -- ---- calls
-
-abbrev pub kind_of : Shape → ArgKind
-kind_of (Value t) = t.kind
-kind_of Untyped = kind.Null
-kind_of Condition = kind.Null
 
 abbrev pub called : Place → Result (ℕ × Option SqlType) ChoiceFault → Found
 called place (Ok p) = of_type place p.1

@@ -1,18 +1,15 @@
 -- What is found in a part of an expression: its place, the first fault in it, and its shape, which a part that has a fault
 -- in it, or that is declared with a type at fault, doesn't have.
-use Rattle.std.specs.Prelude.{◌≡◌, Bool, true, false, not, ◌&&◌, Option, Some, None, List, [], ◌∷◌, map, is_some, if◌then◌else◌}
+use Rattle.std.specs.Prelude.{◌≡◌, Bool, ◌&&◌, Option, Some, None, List, ◌∷◌, map, is_some, if◌then◌else◌}
 use Rattle.std.specs.List.{list_all}
-use Rattle.psm_value.specs.declared.sqltype.SqlType.{SqlType}
-use Rattle.psm_scope.specs.Frames.{Spelling}
 use Rattle.psm_token.specs.declared.place.Place.{Place}
 use Rattle.psm_rules.specs.declared.fault.Fault.{Fault}
 use Rattle.psm_rules.specs.declared.found.Found.{Found}
 use Rattle.psm_rules.specs.declared.rule.Rule.{Rule}
 use Rattle.psm_rules.specs.declared.rule.Rule.TheVariants.{Misplaced, FamiliesMixed}
-use Rattle.psm_rules.specs.Faults.{breaks, breaks_if, earlier, first_of}
+use Rattle.psm_rules.specs.Faults.{breaks, first_of}
 use Rattle.psm_rules.specs.declared.shape.Shape.{Shape}
 use Rattle.psm_rules.specs.declared.shape.Family.{Family}
-use Rattle.psm_rules.specs.declared.shape.Typed.{Typed}
 use Rattle.psm_rules.specs.declared.shape.Shape.TheVariants.{Value, Untyped, Condition}
 use Rattle.psm_rules.specs.Shapes.{is_of}
 

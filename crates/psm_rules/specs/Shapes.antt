@@ -1,7 +1,6 @@
 -- What is known of the value of an expression before it is evaluated: its family, kind and scale (ISO/IEC 9075:1992, 6.1, 6.11
 -- to 6.13 and 9.3).
-use Rattle.std.specs.Prelude.{ℕ, ◌+◌, pos, unsigned_abs, nat_le, nat_eq, max, Bool, true, false, ◌&&◌, ◌||◌, not, Option, Some, None, List, [], ◌∷◌, if◌then◌else◌}
-use Rattle.std.specs.List.{filter, list_all}
+use Rattle.std.specs.Prelude.{◌+◌, unsigned_abs, nat_le, nat_eq, max, Bool, true, false, ◌&&◌, ◌||◌, not, Option, Some, None, ◌∷◌, if◌then◌else◌}
 use Rattle.psm_num.specs.Num.{Num}
 use Rattle.psm_value.specs.declared.sqltype.SqlType.{SqlType}
 use Rattle.psm_value.specs.declared.sqltype.SqlType.TheVariants as types
@@ -79,6 +78,12 @@ varying = record { kind = VarChar; scale = 0 }
 -- a literal without decimals is INTEGER where it fits in 32 bits
 abbrev pub of_literal : Num → Typed
 of_literal n = record { kind = if nat_eq n.scale 0 && nat_le (unsigned_abs n.coef) 2147483647 then Integer else Numeric; scale = n.scale }
+
+-- the kind by which a function is chosen for it; a condition is no argument
+abbrev pub kind_of : Shape → ArgKind
+kind_of (Value t) = t.kind
+kind_of Untyped = Null
+kind_of Condition = Null
 
 -- ---- operators
 

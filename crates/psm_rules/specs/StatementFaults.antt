@@ -1,55 +1,34 @@
 -- The first fault of a statement (ISO/IEC 9075-4:1996).
-use Rattle.std.specs.Prelude.{ℕ, suc, ◌≡◌, nat_eq, nat_le, nat_lt, Bool, true, false, not, ◌&&◌, ◌||◌, Option, Some, None, is_some, Result, Ok, Err, List, [], ◌∷◌, ◌++◌, map, length, codes, take, option_map, if◌then◌else◌}
-use Rattle.std.specs.List.{list_all, list_any, filter}
+use Rattle.std.specs.Prelude.{◌≡◌, nat_eq, Bool, true, false, not, ◌&&◌, ◌||◌, Option, Some, None, is_some, List, [], ◌∷◌, ◌++◌, map, length, codes, take, option_map, if◌then◌else◌}
+use Rattle.std.specs.List.{list_all, list_any}
 use Rattle.psm_list.specs.Several.{Several}
 use Rattle.psm_token.specs.declared.place.Place.{Place}
 use Rattle.psm_value.specs.declared.sqltype.SqlType.{SqlType}
 use Rattle.psm_value.specs.declared.sqltype.SqlType.TheVariants as types
 use Rattle.psm_sqlstate.specs.State.{is_state_character}
 use Rattle.psm_scope.specs.Rows.{columns_known}
-use Rattle.psm_scope.specs.Frames.{Spelling, is_spelled, Declared, Frame}
+use Rattle.psm_scope.specs.Frames.{Spelling, is_spelled, Frame}
 use Rattle.psm_scope.specs.Frames as frame
-use Rattle.psm_scope.specs.Lookup.{RowTable, named, labels, meant}
+use Rattle.psm_scope.specs.Lookup.{named, labels, meant}
 use Rattle.psm_scope.specs.Lookup as lookup
 use Rattle.psm_tree.specs.declared.name.Identifier.{Identifier}
 use Rattle.psm_tree.specs.declared.name.Target.{Target}
 use Rattle.psm_tree.specs.Names.{Names, Targets}
-use Rattle.psm_tree.specs.declared.types.DataType.{DataType}
 use Rattle.psm_tree.specs.declared.types.State.{State}
 use Rattle.psm_tree.specs.declared.expr.Expr.{Expr}
 use Rattle.psm_tree.specs.declared.expr.Expr.TheVariants as exprs
-use Rattle.psm_tree.specs.declared.expr.Select.{Select}
 use Rattle.psm_tree.specs.declared.statement.Statement.{Statement}
-use Rattle.psm_tree.specs.declared.statement.Block.TheOpen.{Block-F, Statement-F, Branch-F, Handler-F}
-use Rattle.psm_tree.specs.declared.statement.Block.TheOpen as layers
-use Rattle.psm_tree.specs.declared.statement.Block.TheFolds.{fold-Statement}
 use Rattle.psm_tree.specs.declared.statement.Label.{Label}
 use Rattle.psm_tree.specs.declared.statement.Assignment.{Assignment}
-use Rattle.psm_tree.specs.declared.statement.ForHead.{ForHead}
-use Rattle.psm_tree.specs.declared.statement.ForCursor.{ForCursor}
-use Rattle.psm_tree.specs.declared.statement.OrderedQuery.{OrderedQuery}
-use Rattle.psm_tree.specs.declared.statement.Order.{Order}
-use Rattle.psm_tree.specs.declared.statement.OrderColumn.{OrderColumn}
-use Rattle.psm_tree.specs.declared.statement.Declaration.{Declaration}
-use Rattle.psm_tree.specs.declared.statement.Declaration.TheVariants as declarations
-use Rattle.psm_tree.specs.declared.statement.CursorDeclaration.{CursorDeclaration}
-use Rattle.psm_tree.specs.declared.statement.Updatability.{Updatability}
-use Rattle.psm_tree.specs.declared.statement.Updatability.TheVariants as updatability
-use Rattle.psm_tree.specs.declared.statement.HandlerKind.{HandlerKind}
-use Rattle.psm_tree.specs.declared.statement.HandlerKind.TheVariants.{Continue, Exit, Undo}
-use Rattle.psm_tree.specs.declared.statement.HandlerValue.{HandlerValue}
-use Rattle.psm_tree.specs.declared.statement.HandlerValue.TheVariants as handled
 use Rattle.psm_tree.specs.declared.statement.Condition.{Condition}
 use Rattle.psm_tree.specs.declared.statement.Condition.TheVariants as signals
 use Rattle.psm_tree.specs.declared.statement.Signalled.{Signalled}
 use Rattle.psm_tree.specs.declared.statement.ConditionItem.{ConditionItem}
 use Rattle.psm_tree.specs.declared.statement.ConditionItem.TheVariants as condition_items
-use Rattle.psm_tree.specs.declared.statement.ConditionInformation.{ConditionInformation}
 use Rattle.psm_tree.specs.declared.statement.ConditionNumber.{ConditionNumber}
 use Rattle.psm_tree.specs.declared.statement.ConditionNumber.TheVariants as numbers
 use Rattle.psm_tree.specs.declared.statement.StatementItem.{StatementItem}
 use Rattle.psm_tree.specs.declared.statement.StatementItem.TheVariants as statement_items
-use Rattle.psm_tree.specs.declared.statement.StatementInformation.{StatementInformation}
 use Rattle.psm_tree.specs.declared.statement.Diagnostics.{Diagnostics}
 use Rattle.psm_tree.specs.declared.statement.Diagnostics.TheVariants as diagnostics
 use Rattle.psm_tree.specs.declared.statement.InsertSource.{InsertSource}
@@ -68,13 +47,10 @@ use Rattle.psm_rules.specs.declared.found.Found.{Found}
 use Rattle.psm_rules.specs.Found.{as_value, as_condition, of_family}
 use Rattle.psm_rules.specs.declared.shape.Shape.{Shape}
 use Rattle.psm_rules.specs.declared.shape.Family.{Family}
-use Rattle.psm_rules.specs.declared.shape.Typed.{Typed}
-use Rattle.psm_rules.specs.declared.shape.Shape.TheVariants.{Value, Untyped}
 use Rattle.psm_rules.specs.declared.shape.Family.TheVariants.{Numbers, Texts}
 use Rattle.psm_rules.specs.Shapes.{family_of, is_of, typed}
 use Rattle.psm_rules.specs.declared.shape.Shape.TheVariants as shape
 use Rattle.psm_rules.specs.Shapes as families
-use Rattle.psm_rules.specs.Types.{type_of}
 use Rattle.psm_scope.specs.Routines as routines
 use Rattle.psm_scope.specs.declared.known.Variable.{Variable}
 use Rattle.psm_scope.specs.declared.known.DeclaredCondition.{DeclaredCondition}

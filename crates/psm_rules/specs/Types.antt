@@ -1,10 +1,9 @@
 -- The types that are declared, and which of them are within bounds (ISO/IEC 9075:1992, 6.1).
-use Rattle.std.specs.Prelude.{ℕ, ◌+ℤ◌, unsigned_abs, nat_eq, nat_le, Bool, true, false, ◌&&◌, Option, Some, None, option_map, if◌then◌else◌}
+use Rattle.std.specs.Prelude.{ℕ, ◌+ℤ◌, unsigned_abs, nat_eq, nat_le, ◌&&◌, Option, Some, None, option_map, if◌then◌else◌}
 use Rattle.psm_num.specs.Num.{Num}
 use Rattle.psm_value.specs.declared.sqltype.SqlType.{SqlType}
 use Rattle.psm_value.specs.declared.sqltype.SqlType.TheVariants as types
 use Rattle.psm_tree.specs.declared.types.DataType.{DataType}
-use Rattle.psm_tree.specs.declared.types.Precision.{Precision}
 use Rattle.psm_tree.specs.declared.types.TypeForm.{TypeForm}
 use Rattle.psm_tree.specs.declared.types.TypeForm.TheVariants as forms
 

@@ -1,4 +1,6 @@
 //! What is known of the value of an expression before it is evaluated.
+ghost use Rattle.std.specs.Prelude.{◌≡◌};
+ghost use Rattle.psm_rules.specs.Shapes.{kind_of};
 
 use psm_scope::ArgKind;
 
@@ -15,6 +17,18 @@ pub enum Shape {
     Value(Typed),
     Untyped,
     Condition,
+}
+
+impl Shape {
+    /// The kind by which a function is chosen for it. A condition is no argument.
+    pub fn kind(self) -> ArgKind
+        ensures { result ≡ kind_of self }
+    {
+        match self {
+            Shape::Value(t) => t.kind,
+            Shape::Untyped | Shape::Condition => ArgKind::Null,
+        }
+    }
 }
 
 /// A family of kinds.

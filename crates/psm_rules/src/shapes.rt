@@ -1,7 +1,6 @@
 //! Families and shapes of values.
 ghost use Rattle.std.specs.Prelude.{◌≡◌, ◌≤◌};
 ghost use Rattle.psm_rules.specs.Shapes.{at_larger_scale, family_of, higher, is_of, joined, of_literal, typed};
-ghost use Rattle.psm_scope.specs.Choice.{rank};
 
 use crate::shape::{Family, Shape, Typed};
 use psm_num::Dec;
@@ -83,17 +82,7 @@ pub fn of_literal(n: Dec) -> Typed
 pub fn higher(a: ArgKind, b: ArgKind) -> ArgKind
     ensures { result ≡ higher a b }
 {
-    if rank(b) <= rank(a) { a } else { b }
-}
-
-fn rank(kind: ArgKind) -> u8
-    ensures { result ≡ rank kind }
-{
-    match kind {
-        ArgKind::SmallInt | ArgKind::Char | ArgKind::Null => 0,
-        ArgKind::Integer | ArgKind::VarChar => 1,
-        ArgKind::Numeric => 2,
-    }
+    if b.rank() <= a.rank() { a } else { b }
 }
 
 /// A sum, a difference or a quotient.

@@ -1,7 +1,7 @@
 //! The choice of the function that a call means.
 ghost use Rattle.std.specs.Prelude.{◌≡◌, ◌<◌, length, IfSome, List as Seq};
 ghost use Rattle.std.specs.List.{list_all};
-ghost use Rattle.psm_scope.specs.Choice.{Candidate, all_go, chosen, goes_to, is_number as number, is_text as text, only, rank};
+ghost use Rattle.psm_scope.specs.Choice.{Candidate, all_go, chosen, goes_to, is_number as number, is_text as text, only};
 ghost use Rattle.psm_scope.specs.Exact.{is_typed};
 ghost use Rattle.psm_scope.specs.Pass.{IsAsLong, Sees, added, order, order_in};
 
@@ -168,10 +168,10 @@ fn goes_to(arg: ArgKind, parameter: ArgKind) -> bool
 {
     match arg {
         ArgKind::SmallInt => is_number(parameter),
-        ArgKind::Integer => is_number(parameter) && rank(parameter) >= 1,
-        ArgKind::Numeric => is_number(parameter) && rank(parameter) >= 2,
+        ArgKind::Integer => is_number(parameter) && parameter.rank() >= 1,
+        ArgKind::Numeric => is_number(parameter) && parameter.rank() >= 2,
         ArgKind::Char => is_text(parameter),
-        ArgKind::VarChar => is_text(parameter) && rank(parameter) >= 1,
+        ArgKind::VarChar => is_text(parameter) && parameter.rank() >= 1,
         ArgKind::Null => true,
     }
 }
@@ -185,18 +185,7 @@ fn order_in(arg: ArgKind, kind: ArgKind, other: ArgKind) -> Ordering
         | ArgKind::Integer
         | ArgKind::Numeric
         | ArgKind::Char
-        | ArgKind::VarChar => rank(kind).cmp(&rank(other)),
-    }
-}
-
-// How high a kind stands among those of its family.
-fn rank(kind: ArgKind) -> u8
-    ensures { result ≡ rank kind }
-{
-    match kind {
-        ArgKind::SmallInt | ArgKind::Char | ArgKind::Null => 0,
-        ArgKind::Integer | ArgKind::VarChar => 1,
-        ArgKind::Numeric => 2,
+        | ArgKind::VarChar => kind.rank().cmp(&other.rank()),
     }
 }
 

@@ -3,7 +3,7 @@ ghost use Rattle.std.specs.Prelude.{◌≡◌};
 ghost use Rattle.std.proofs.Common.{rules};
 ghost use Rattle.std.specs.Cmp.Rules.{comparing, hashing};
 ghost use Rattle.std.specs.Hash as fed;
-ghost use Rattle.psm_scope.specs.Choice.{kind_of};
+ghost use Rattle.psm_scope.specs.Choice.{kind_of, rank};
 ghost use Rattle.psm_scope.specs.KindNumbers.{is_kind, kind_number};
 
 use psm_value::SqlType;
@@ -32,6 +32,17 @@ impl ArgKind {
             SqlType::Numeric { .. } => ArgKind::Numeric,
             SqlType::Char { .. } => ArgKind::Char,
             SqlType::VarChar { .. } => ArgKind::VarChar,
+        }
+    }
+
+    /// How high it stands among those of its family, that is, among the numbers or among the texts.
+    pub fn rank(self) -> u8
+        ensures { result ≡ rank self }
+    {
+        match self {
+            ArgKind::SmallInt | ArgKind::Char | ArgKind::Null => 0,
+            ArgKind::Integer | ArgKind::VarChar => 1,
+            ArgKind::Numeric => 2,
         }
     }
 

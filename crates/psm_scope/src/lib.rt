@@ -14,7 +14,6 @@ mod laws;
 mod names;
 mod procedures;
 mod row;
-mod scopes;
 mod signatures;
 
 pub use choice::choose_routine;
@@ -28,6 +27,5 @@ pub use known::{DeclaredCondition, Variable};
 pub use laws::{exact_kinds_stay, narrowing_keeps_the_least, one_candidate_more};
 pub use names::Names;
 pub use procedures::{ParameterMode, ParameterScope, ProcedureScope, Procedures};
-pub use row::{Meant, RowTable, TableScope};
-pub use scopes::Scopes;
+pub use row::{Meant, RowTable};
 pub use signatures::Signatures;

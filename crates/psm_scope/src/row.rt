@@ -12,14 +12,6 @@ use crate::names::Names;
 use psm_text::Name;
 use psm_value::SqlType;
 
-/// A table as far as names go: its name, and the type of each column in order. A column that is declared with a type at fault has
-/// none.
-#[derive(Drop)]
-pub struct TableScope<'a> {
-    pub name: &'a Name,
-    pub columns: Names<'a, Option<SqlType>>,
-}
-
 /// The table of a row expression, with its alias. One that isn't known has no columns.
 #[derive(Clone, Copy)]
 pub struct RowTable<'v, 'a> {

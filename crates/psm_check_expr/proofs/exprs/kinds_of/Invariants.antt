@@ -1,6 +1,6 @@
 use Rattle.std.proofs.Common.{◌≡◌, ◌++◌, drop, map}
 use Rattle.psm_rules.specs.Found.{shape_of}
-use Rattle.psm_rules.specs.ExprFaults.{kind_of}
+use Rattle.psm_rules.specs.Shapes.{kind_of}
 use Rattle.psm_check_expr.proofs.exprs.kinds_of.Given as goal
 
 abbrev pub invariant-loop-value : goal.invariant-loop-value

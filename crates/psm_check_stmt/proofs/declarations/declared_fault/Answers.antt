@@ -2,7 +2,7 @@ use Rattle.std.proofs.Common.{ap, drop, ◌∙◌}
 use Rattle.std.specs.Option.{option_copied}
 use Rattle.psm_rules.specs.BlockFaults.{declared_by, with_cursors}
 use Rattle.psm_check_stmt.specs.InRoutine.{context}
-use Rattle.psm_check_stmt.proofs.Innermost.{popped}
+use Rattle.psm_check_stmt.proofs.Outside.{popped}
 use Rattle.psm_check_stmt.proofs.declarations.declared_fault.Goals as goal
 
 pub returns-clause-outer : goal.returns-clause-outer

@@ -1,6 +1,6 @@
 use Rattle.std.proofs.Common.{refl}
 use Rattle.psm_scope.specs.Scopes.{the_conditions}
-use Rattle.psm_check_stmt.proofs.Innermost.{declares_once, declares_open}
+use Rattle.psm_rules.proofs.Innermost.{declares_once, declares_open}
 use Rattle.psm_check_stmt.proofs.declaring.declare_condition.Goals as goal
 
 pub returns : goal.returns

@@ -2,7 +2,7 @@ use Rattle.std.proofs.Common.{refl, subst}
 use Rattle.psm_scope.specs.Scopes.{Declares, the_variables}
 use Rattle.psm_scope.specs.declared.known.Variable.{Variable}
 use Rattle.psm_rules.specs.BlockFaults.{local_variable}
-use Rattle.psm_check_stmt.proofs.Innermost.{declares_new, declares_once, declares_open}
+use Rattle.psm_rules.proofs.Innermost.{declares_new, declares_once, declares_open}
 use Rattle.psm_check_stmt.proofs.declaring.declare_variable.Goals as goal
 
 pub returns : goal.returns

@@ -1,7 +1,8 @@
 use Rattle.std.proofs.Common.{◌≡◌, ◌++◌, ◌∷◌, drop, map}
 use Rattle.psm_list.specs.Several.{several_map}
 use Rattle.psm_resolve_expr.specs.Exprs.{all_at, at, chained, expr_in, link_made, link_of, made_of, pick_made, when_made, when_of}
-use Rattle.psm_resolve_expr.specs.Made.{joined_in, kind_of}
+use Rattle.psm_rules.specs.Shapes.{kind_of}
+use Rattle.psm_resolve_expr.specs.Made.{joined_in}
 use Rattle.psm_resolve_expr.specs.Parts.{none_picked, operands_of, branches_of, with_picks}
 use Rattle.psm_resolve_expr.specs.Seen.{seen_at}
 use Rattle.psm_resolve_expr.proofs.exprs.+expression.Given as goal

@@ -5,7 +5,8 @@ use Rattle.psm_rules.specs.BlockFaults.{declared_once}
 use Rattle.psm_tree.specs.declared.statement.ForCursor.{ForCursor}
 use Rattle.psm_declare.specs.Declarations.{Told}
 use Rattle.psm_resolve.specs.Blocks.{ForItem, told_for_cursor, told_item, told_items}
-use Rattle.psm_declare.proofs.Innermost.{popped_again, popped_variable}
+use Rattle.psm_rules.proofs.Innermost.{popped_again}
+use Rattle.psm_declare.proofs.Outside.{popped_variable}
 
 pub popped_for_cursor : (told : Told) (cursor : Option ForCursor) → drop 1 (told_for_cursor told cursor).0 ≡ drop 1 told.0
 popped_for_cursor told None = refl
