@@ -13,14 +13,14 @@ use Rattle.psm_rules.specs.declared.shape.Family.TheVariants.{Numbers, Texts}
 use Rattle.psm_rules.specs.declared.shape.Shape.TheVariants.{Value}
 use Rattle.psm_rules.specs.declared.shape.Typed.{Typed}
 use Rattle.psm_rules.specs.BlockFaults as faults
-use Rattle.psm_rules.specs.BlockFaults.{declared_once, for_item, item_of_for, local_variable, named_fault, unless_broken, wide, with_columns, with_item}
+use Rattle.psm_rules.specs.BlockFaults.{declared_once, local_variable, wide, with_columns}
 use Rattle.psm_rules.specs.ExprFaults as found
-use Rattle.psm_rules.specs.ExprFaults.{Of, PickFound, PickPart, LinkPart, QueryFound, WhenPart, expr_found, is_set, link_found, pick_found, query_found, spelling, when_found}
+use Rattle.psm_rules.specs.ExprFaults.{Of, spelling}
 use Rattle.psm_rules.specs.Shapes.{family_of, typed}
 use Rattle.psm_rules.specs.View.{Columns, View}
 use Rattle.psm_tree.specs.declared.expr.Expr.{Expr, out-Expr}
 use Rattle.psm_tree.specs.declared.expr.Expr.TheFolds.{fold_out-Expr, map-Expr}
-use Rattle.psm_tree.specs.declared.expr.Expr.TheOpen.{Expr-F, Pick-F}
+use Rattle.psm_tree.specs.declared.expr.Expr.TheOpen.{Expr-F}
 use Rattle.psm_tree.specs.declared.expr.Expr.TheOpen as layers
 use Rattle.psm_tree.specs.declared.expr.Link.{Link}
 use Rattle.psm_tree.specs.declared.expr.Operator.{Operator as WrittenOperator}
@@ -31,12 +31,12 @@ use Rattle.psm_tree.specs.declared.name.Target.{Target}
 use Rattle.psm_resolve_expr.specs.declared.made.Made.{Made}
 use Rattle.psm_resolve_expr.specs.declared.made.MadeQuery.{MadeQuery}
 use Rattle.psm_resolve_expr.specs.Exprs as making
-use Rattle.psm_resolve_expr.specs.Exprs.{columns_from, columns_on, made_of, pick_made, type_known}
+use Rattle.psm_resolve_expr.specs.Exprs.{columns_from, made_of, pick_made, type_known}
 use Rattle.psm_resolve_expr.specs.Made as made
-use Rattle.psm_resolve_expr.specs.Made.{MadePick, Values, shape_of_type}
+use Rattle.psm_resolve_expr.specs.Made.{MadePick, shape_of_type}
 use Rattle.psm_resolve_expr.specs.Sight.{Sight, meant_in}
 use Rattle.psm_resolve.specs.Blocks as blocks
-use Rattle.psm_resolve.specs.Blocks.{ForItem, column_items, items_of_pick}
+use Rattle.psm_resolve.specs.Blocks.{ForItem, column_items}
 use Rattle.psm_accept.specs.Agreement.{HaveTypes, letter_in}
 use Rattle.psm_accept.proofs.Declaring.{kinds}
 use Rattle.psm_accept.proofs.DeclaredOnce.{once_mapped}

@@ -39,9 +39,9 @@ use Rattle.psm_resolved.specs.declared.expr.ResolvedExpr.TheVariants as exprs
 use Rattle.psm_resolved.specs.declared.expr.ResolvedLink.{out-roll-ResolvedLink}
 use Rattle.psm_resolve_expr.specs.declared.made.Made.{Made}
 use Rattle.psm_resolve_expr.specs.Made as made
-use Rattle.psm_resolve_expr.specs.Made.{joined_in, scale_of_result, shape_of_result, shape_of_type}
+use Rattle.psm_resolve_expr.specs.Made.{shape_of_type}
 use Rattle.psm_resolve_expr.specs.Exprs as making
-use Rattle.psm_resolve_expr.specs.Exprs.{chain_of, coalesce_of, condition, expr_in, function_of, link_of, operator_of, signed, type_known, value}
+use Rattle.psm_resolve_expr.specs.Exprs.{chain_of, condition, expr_in, function_of, link_of, operator_of, signed, value}
 use Rattle.psm_sound.specs.Scene.{Scene}
 use Rattle.psm_sound.specs.Expressions.{letter_of_operator}
 use Rattle.psm_accept.specs.Agreement.{HasSlot, letter_in}

@@ -21,7 +21,7 @@ use Rattle.psm_resolved.specs.declared.expr.ResolvedExpr.TheVariants as exprs
 use Rattle.psm_resolved.specs.declared.expr.ResolvedLink.{ResolvedLink, out-ResolvedLink}
 use Rattle.psm_resolved.specs.declared.expr.ResolvedWhen.{ResolvedWhen, out-ResolvedWhen}
 use Rattle.psm_resolved.specs.Sort as sort
-use Rattle.psm_resolved.specs.Sort.{Sort, Of, Untyped, Wrong, function_of, letter_at, link_sort, sort_layer, sort_of, when_sort}
+use Rattle.psm_resolved.specs.Sort.{Sort, Of, Untyped, function_of, letter_at, link_sort, sort_of, when_sort}
 use Rattle.psm_resolved.proofs.Equations.{sort-Null, sort-Number, sort-Text, sort-Column, sort-Variable, sort-Junction, sort-Not, sort-Compare, sort-IsNull, sort-Between, sort-In, sort-Like, sort-Chain, sort-Negated, sort-Case, sort-Coalesce, sort-Cast, sort-NullIf, sort-Function, sort-Position, sort-Substring, sort-Trim, sort_of_link, sort_of_when}
 use Rattle.psm_sound.specs.Scene.{Scene, letters_of, variables_of}
 use Rattle.psm_sound.specs.Expressions as typed

@@ -6,7 +6,7 @@ use Rattle.psm_scope.specs.Frames.{Spelling, is_spelled}
 use Rattle.psm_scope.specs.Routines.{Header, is_header, procedure}
 use Rattle.psm_scope.specs.declared.procedures.ProcedureScope.{ProcedureScope}
 use Rattle.psm_rules.specs.FileFaults as rules
-use Rattle.psm_rules.specs.FileFaults.{Procedures, is_function, no_world, parameter_of, with_procedure, with_routine, with_routines, with_table, with_tables, world_of}
+use Rattle.psm_rules.specs.FileFaults.{Procedures, is_function, no_world, parameter_of, with_routine, with_routines, with_table, with_tables, world_of}
 use Rattle.psm_rules.specs.View.{World}
 use Rattle.psm_tree.specs.declared.file.FileTree.{FileTree}
 use Rattle.psm_tree.specs.declared.file.Mode.{Mode}

@@ -8,7 +8,7 @@ use Rattle.psm_lower.specs.Expressions.{Layer, is_straight, operands_of}
 use Rattle.psm_emit.specs.declared.known.Known.{Known}
 use Rattle.psm_emit.specs.Files.{known_of}
 use Rattle.psm_proper.specs.Expressions as proper
-use Rattle.psm_proper.specs.Expressions.{AllProper, LayerProper, PerhapsProper, Proper, allows, is_within, takes_null}
+use Rattle.psm_proper.specs.Expressions.{AllProper, LayerProper, Proper, allows, is_within, takes_null}
 use Rattle.psm_sound.specs.Scene.{Each, Scene}
 
 -- each table has a column, so that all columns of a table are some

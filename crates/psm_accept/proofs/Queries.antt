@@ -26,7 +26,7 @@ use Rattle.psm_rules.specs.Faults.{breaks, first_of}
 use Rattle.psm_rules.specs.Found.{as_value, is_shaped, made_of, shape_of, shown, sound, value_shape, with_shape}
 use Rattle.psm_rules.specs.Shapes.{family_of, integer, typed}
 use Rattle.psm_rules.specs.ExprFaults as faults
-use Rattle.psm_rules.specs.ExprFaults.{PickFound, QueryFound, argument, column_item, first_set, is_all, is_set, item_of, items_fault, items_in, items_of_pick, joined_items, misplaced_set, other_faults, query_fault, set_argument, set_found, set_result, set_shape, sets_fault, table_fault, test_fault}
+use Rattle.psm_rules.specs.ExprFaults.{PickFound, QueryFound, argument, column_item, first_set, is_all, is_set, item_of, items_fault, items_in, joined_items, misplaced_set, other_faults, query_fault, set_argument, set_found, set_result, set_shape, sets_fault}
 use Rattle.psm_rules.specs.View.{Columns}
 use Rattle.psm_rules.proofs.Earliest.{first_of_cons}
 use Rattle.psm_tree.specs.declared.expr.SetFunction.{SetFunction}

@@ -11,7 +11,6 @@ use Rattle.psm_tree.specs.declared.file.ColumnRuleForm.TheVariants as column_rul
 use Rattle.psm_tree.specs.declared.file.Element.{Element}
 use Rattle.psm_tree.specs.declared.file.Element.TheVariants as elements
 use Rattle.psm_tree.specs.declared.file.FileTree.{FileTree}
-use Rattle.psm_tree.specs.declared.file.Routine.{Routine}
 use Rattle.psm_tree.specs.declared.file.TableRuleForm.{TableRuleForm}
 use Rattle.psm_tree.specs.declared.file.TableRuleForm.TheVariants as table_rules
 use Rattle.psm_tree.specs.declared.file.TableTree.{TableTree}

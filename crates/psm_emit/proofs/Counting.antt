@@ -6,7 +6,6 @@ use Rattle.std.specs.Prelude.{Result, Ok, Err, IfOk}
 use Rattle.std.specs.declared.alloc.AllocError.{AllocError}
 use Rattle.psm_resolved.specs.RowValue.{listed}
 use Rattle.psm_resolved.specs.declared.expr.ResolvedExpr.TheVariants as exprs
-use Rattle.psm_resolved.specs.declared.expr.ResolvedExpr.TheOpen.{ResolvedExpr-F}
 use Rattle.psm_resolved.specs.declared.expr.ResolvedExpr.TheOpen as layers
 use Rattle.psm_resolved.specs.declared.expr.ResolvedExpr.TheFolds.{map-ResolvedExpr, fold-ResolvedItems, fold-ResolvedItem, fold-ResolvedLink, fold-ResolvedQuery, fold-ResolvedWhen, fold_out-ResolvedExpr, fold_out-ResolvedLink, fold_out-ResolvedWhen}
 use Rattle.psm_resolved.specs.declared.expr.ResolvedItems.{ResolvedItems}

@@ -21,9 +21,9 @@ use Rattle.psm_emit.specs.declared.around.Around.{Around}
 use Rattle.psm_emit.specs.declared.known.Known.{Known}
 use Rattle.psm_emit.specs.Parts.{Parts, block_entered, next_context, with_code, with_handler, with_plain}
 use Rattle.psm_emit.specs.Queries.{item_letters}
-use Rattle.psm_emit.specs.Simples.{WritesSimple, changed, declared_with, more_operands, number_op, procedure_number, retrieved}
+use Rattle.psm_emit.specs.Simples.{WritesSimple, changed, declared_with, more_operands, number_op, procedure_number}
 use Rattle.psm_emit.specs.Simples as simple
-use Rattle.psm_emit.specs.Statements.{WritesBranches, WritesComparisons, WritesCursors, WritesElse, WritesHandlers, WritesStatement, WritesStatements, fetched, jumped, opened, passed, with_cursor}
+use Rattle.psm_emit.specs.Statements.{WritesCursors, fetched, opened, passed, with_cursor}
 use Rattle.psm_emit.specs.Statements as written
 use Rattle.psm_emit.specs.Writing.{BeginsWith, Grows}
 use Rattle.psm_emit.specs.Written.{Written, applied, letters_at, puts, with_query}

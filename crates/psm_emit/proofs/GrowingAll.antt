@@ -11,7 +11,7 @@ use Rattle.psm_emit.specs.declared.around.Around.{Around}
 use Rattle.psm_emit.specs.declared.known.Known.{Known}
 use Rattle.psm_emit.specs.Parts.{Parts, at, block_entered, next_context, with_code}
 use Rattle.psm_emit.specs.Simples.{Declares}
-use Rattle.psm_emit.specs.Statements.{WritesBranches, WritesComparisons, WritesCursors, WritesElse, WritesHandlers, WritesStatement, WritesStatements, fetched, jumped, opened, passed, unless_true}
+use Rattle.psm_emit.specs.Statements.{WritesBranches, WritesComparisons, WritesCursors, WritesElse, WritesHandlers, WritesStatement, WritesStatements, jumped, opened, passed, unless_true}
 use Rattle.psm_emit.specs.Statements as written
 use Rattle.psm_emit.specs.Written.{Written, applied, last_letter}
 use Rattle.psm_emit.proofs.Growing.{Grown, begins-length, grown-any, grown-block, grown-code, grown-cursors, grown-entered, grown-fetched, grown-handler, grown-here, grown-on, grown-opened, grown-passed, grown-plain, grown-simple, next-entered, no_context}

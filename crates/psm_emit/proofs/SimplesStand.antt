@@ -26,7 +26,7 @@ use Rattle.psm_lower.specs.Changes.{PutsRows}
 use Rattle.psm_lower.specs.Cursors.{IsCursor, Sees}
 use Rattle.psm_lower.specs.Env.{Env, IfElse, Iterates, Leaves, Plain, Raising}
 use Rattle.psm_lower.specs.Expressions.{Puts}
-use Rattle.psm_lower.specs.Scheme.{AreFor, AreForRoutine, IsDeclared, IsProcedure, Simple, number_instruction, slots_given}
+use Rattle.psm_lower.specs.Scheme.{IsDeclared, Simple, number_instruction, slots_given}
 use Rattle.psm_lower.specs.Scheme as stands
 use Rattle.psm_emit.specs.declared.around.Around.{Around}
 use Rattle.psm_emit.specs.declared.around.Around.TheVariants.{Loop, Block as AroundBlock, Rows}

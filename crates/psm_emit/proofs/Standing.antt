@@ -14,7 +14,7 @@ use Rattle.psm_code.specs.declared.code.RawCode.{RawCode}
 use Rattle.psm_code.specs.declared.code.RawRoutine.{RawRoutine}
 use Rattle.psm_code.specs.declared.instruction.Instruction.TheVariants as instruction
 use Rattle.psm_lower.specs.Env.{Raising}
-use Rattle.psm_lower.specs.Expressions.{IsFunction, Layer, Operations, Puts, PutsAll, Takes, is_straight, operands_of, operations_of, scaling}
+use Rattle.psm_lower.specs.Expressions.{IsFunction, Puts, PutsAll, Takes, operands_of, operations_of, scaling}
 use Rattle.psm_lower.specs.Expressions as stands
 use Rattle.psm_emit.specs.declared.known.Known.{Known}
 use Rattle.psm_emit.specs.Exprs.{Arguments, Compares, Firsts, Joins, Links, Otherwise, Whens, Writes, WritesAll, function_number, straight_letter}

@@ -26,7 +26,7 @@ use Rattle.psm_emit.specs.declared.around.Around.TheVariants.{Loop, Block, Rows}
 use Rattle.psm_emit.specs.declared.known.Known.{Known}
 use Rattle.psm_emit.specs.Parts.{Parts, at, block_entered, iterates, leaves, next_context, with_code, with_plain}
 use Rattle.psm_emit.specs.Queries.{item_letters}
-use Rattle.psm_emit.specs.Simples.{CallArguments, Declares, Default, Signals, WritesRows, WritesSimple, cleared, condition_items, condition_number, copied, item_stored, more_operands, number_op, procedure_number, retrieved, statement_items, stored}
+use Rattle.psm_emit.specs.Simples.{CallArguments, Declares, Default, Signals, WritesRows, WritesSimple, cleared, condition_items, copied, item_stored, more_operands, number_op, procedure_number, retrieved, statement_items, stored}
 use Rattle.psm_emit.specs.Simples as simple
 use Rattle.psm_emit.specs.Sizes.{each_with, else_lines, expr_lines, exprs_lines, some_lines}
 use Rattle.psm_emit.specs.Statements.{WritesBranches, WritesComparisons, WritesCursors, WritesElse, WritesHandlers, WritesStatement, WritesStatements, fetched, jumped, opened, passed, unless_true}

@@ -28,7 +28,7 @@ use Rattle.psm_code.specs.Raising.{put_back}
 use Rattle.psm_code.specs.Rows.{finding as found_of, line_behind, settled, then_ahead, with_frames}
 use Rattle.psm_code.specs.RoutineRules.{is_undo, may_undo}
 use Rattle.psm_code.specs.Rules.{where_there}
-use Rattle.psm_code.specs.State.{Frame, Machine, Turned, More}
+use Rattle.psm_code.specs.State.{Machine, Turned, More}
 use Rattle.psm_code.specs.State as code_state
 use Rattle.psm_code.specs.Steps as steps
 use Rattle.psm_lower.specs.Agreement.{Acting, Acts, AllKept, AreOwned, Arrived, BeginsAt, ComesTo, Entered, IsReady, IsVisible, Kept, Leads, Meets, ReachAll, Spot, Spotted, Standing, areas, arriving, goes_on_behind, is_raised, iterating, leaving, machine, owns, undone, with_standing}

@@ -6,7 +6,7 @@ use Rattle.psm_exprcode.specs.declared.operand.Operand.{Operand}
 use Rattle.psm_resolved.specs.declared.file.ResolvedFile.{ResolvedFile}
 use Rattle.psm_resolved.specs.declared.file.ResolvedRoutine.{ResolvedRoutine}
 use Rattle.psm_meaning.specs.Acts as meaning
-use Rattle.psm_meaning.specs.Acts.{Act, Meaning}
+use Rattle.psm_meaning.specs.Acts.{Meaning}
 use Rattle.psm_meaning.specs.Calls.{activated, called, result_of, returns}
 use Rattle.psm_meaning.specs.State.{State}
 use Rattle.psm_code.specs.declared.code.RawCode.{RawCode}

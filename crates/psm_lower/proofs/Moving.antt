@@ -28,7 +28,7 @@ use Rattle.psm_code.specs.Parts.{routine_at}
 use Rattle.psm_code.specs.Querying as coded
 use Rattle.psm_code.specs.Rows.{Way, settled}
 use Rattle.psm_code.specs.State as code_state
-use Rattle.psm_code.specs.State.{Machine, Turned}
+use Rattle.psm_code.specs.State.{Turned}
 use Rattle.psm_code.specs.Steps as steps
 use Rattle.psm_tablecode.specs.Codes as row_codes
 use Rattle.psm_lower.specs.Agreement.{Comes, IsReady, Spot, machine, owns}

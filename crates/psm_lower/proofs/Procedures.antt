@@ -26,7 +26,7 @@ use Rattle.psm_code.specs.Parts as parts
 use Rattle.psm_code.specs.Parts.{back, routine_at, slots_of}
 use Rattle.psm_code.specs.Rows.{done, settled}
 use Rattle.psm_code.specs.State as code_state
-use Rattle.psm_code.specs.State.{Machine, Turned, More}
+use Rattle.psm_code.specs.State.{Machine, Turned}
 use Rattle.psm_lower.proofs.Closing.{all-begin, all-closed}
 use Rattle.psm_lower.specs.Agreement.{Comes, Fits, Leads, Spot, areas, machine}
 use Rattle.psm_lower.specs.Env.{Env, Plain, Raising, outermost, place_of}

@@ -7,7 +7,7 @@ use Rattle.psm_resolved.specs.declared.file.ResolvedRoutine.{ResolvedRoutine}
 use Rattle.psm_resolved.specs.declared.statement.ResolvedHandler.{ResolvedHandler, out-ResolvedHandler}
 use Rattle.psm_meaning.specs.Acts.{Do, Meaning, Outcome, Normal, Leave, Iterate, Return, Raised, Away, Stopped}
 use Rattle.psm_meaning.specs.Raising as meaning
-use Rattle.psm_meaning.specs.Raising.{Candidate, after_action, choice}
+use Rattle.psm_meaning.specs.Raising.{after_action}
 use Rattle.psm_meaning.specs.State.{State, cleared}
 use Rattle.psm_cond.specs.Area.{Diagnostics}
 use Rattle.psm_code.specs.declared.code.RawCode.{RawCode}
@@ -16,7 +16,7 @@ use Rattle.psm_code.specs.declared.instruction.Instruction.TheVariants as instru
 use Rattle.psm_code.specs.Parts.{handler_at, routine_at}
 use Rattle.psm_code.specs.Rows.{act_ended, at, line_behind, with_frames}
 use Rattle.psm_code.specs.State as code_state
-use Rattle.psm_code.specs.State.{Activation, Machine, Turned, More, Over}
+use Rattle.psm_code.specs.State.{Machine, Turned, More}
 use Rattle.psm_code.specs.Steps.{Act, change, ends, go_on, got, present, ◌>>=◌, ◌>>◌}
 use Rattle.psm_lower.specs.Env.{Env, Plain, Visible, in_action, place_of, scope_of}
 use Rattle.psm_lower.specs.Agreement.{Acting, Acts, AllHandle, AllKept, AreStanding, Arrived, BeginsAt, Entered, Fits, IsReady, IsVisible, Leads, Meets, ReachAll, Spot, Standing, Spotted, ComesTo, areas, arriving, frame_of, is_raised, iterating, leaving, machine, owns, undone, with_standing}

@@ -12,11 +12,10 @@ use Rattle.psm_table.specs.Table.{Contents}
 use Rattle.psm_resolved.specs.declared.file.ResolvedFile.{ResolvedFile}
 use Rattle.psm_resolved.specs.declared.file.ResolvedRoutine.{ResolvedRoutine}
 use Rattle.psm_meaning.specs.Acts as meaning
-use Rattle.psm_meaning.specs.Acts.{Act, Do, Meaning, Outcome, Normal, Leave, Iterate, Return, Raised, Away, Stopped, NoHeight, NoTurns, Lacking, of_state}
+use Rattle.psm_meaning.specs.Acts.{Act, Do, Meaning, Outcome, Normal, Leave, Iterate, Return, Raised, Away, Stopped, of_state}
 use Rattle.psm_meaning.specs.Calls.{Ended, apart, begun, body_place, ending, result_of, run_body}
 use Rattle.psm_meaning.specs.State.{State, cleared, returned_to}
 use Rattle.psm_code.specs.Calling as coded
-use Rattle.psm_code.specs.Calling.{end_of, left_values}
 use Rattle.psm_code.specs.declared.code.RawCode.{RawCode}
 use Rattle.psm_code.specs.declared.code.RawRoutine.{RawRoutine}
 use Rattle.psm_code.specs.declared.lines.CodeLine.{CodeLine}
@@ -24,7 +23,7 @@ use Rattle.psm_code.specs.Parts.{line_at, routine_at}
 use Rattle.psm_code.specs.Raising.{asked, asked_at, raised, raised_in}
 use Rattle.psm_code.specs.Rows.{done, settled}
 use Rattle.psm_code.specs.State as code_state
-use Rattle.psm_code.specs.State.{Activation, Machine, Turned, More, Over}
+use Rattle.psm_code.specs.State.{Activation, Machine, Turned, More}
 use Rattle.psm_lower.proofs.Closing.{all-begin, all-closed}
 use Rattle.psm_lower.specs.Agreement.{Comes, Fits, IsReady, Leads, LeavesBy, Meets, RaisedAt, Returns, Spot, machine, raised_outside}
 use Rattle.psm_lower.specs.Env.{outermost}

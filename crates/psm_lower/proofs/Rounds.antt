@@ -11,7 +11,7 @@ use Rattle.psm_resolved.specs.declared.statement.ResolvedCursor.{ResolvedCursor}
 use Rattle.psm_resolved.specs.declared.statement.ResolvedFor.{ResolvedFor}
 use Rattle.psm_resolved.specs.declared.statement.ResolvedStatement.{ResolvedStatement}
 use Rattle.psm_meaning.specs.Acts as acts
-use Rattle.psm_meaning.specs.Acts.{Act, Deed, Given, Got, Raises, Ends, Meaning, Outcome, Normal, Leave, Iterate, Return, Raised, Away, Stopped, all, behind, changing, ends_as}
+use Rattle.psm_meaning.specs.Acts.{Act, Deed, Given, Got, Raises, Ends, Meaning, Outcome, Normal, Leave, Iterate, Return, Raised, Away, Stopped, behind, changing, ends_as}
 use Rattle.psm_meaning.specs.Assigning.{assign_all}
 use Rattle.psm_meaning.specs.Cursors as meaning
 use Rattle.psm_meaning.specs.Flow.{for_each, kept, over_row, round, rounds, row_of_for}
@@ -28,7 +28,7 @@ use Rattle.psm_code.specs.Parts.{routine_at, slots_of}
 use Rattle.psm_code.specs.Querying as coded
 use Rattle.psm_code.specs.Raising.{put_back}
 use Rattle.psm_code.specs.Rows as code_rows
-use Rattle.psm_code.specs.State.{Turned, More, closed_cursors}
+use Rattle.psm_code.specs.State.{Turned, closed_cursors}
 use Rattle.psm_code.specs.State as code_state
 use Rattle.psm_code.specs.Steps as steps
 use Rattle.psm_lower.specs.Agreement.{Arrived, BeginsAt, Comes, HasAll, IsReady, Leads, Meets, Spot, areas, arriving, is_raised, iterating, leaving, machine, owns}

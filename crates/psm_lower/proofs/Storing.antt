@@ -22,7 +22,6 @@ use Rattle.psm_code.specs.declared.instruction.Instruction.TheVariants as instru
 use Rattle.psm_code.specs.Parts.{routine_at, slots_of}
 use Rattle.psm_code.specs.Rows.{settled, then_ahead}
 use Rattle.psm_code.specs.State as code_state
-use Rattle.psm_code.specs.State.{Machine, Turned, More}
 use Rattle.psm_code.specs.Steps as steps
 use Rattle.psm_lower.specs.Agreement.{Comes, IsReady, Spot, machine}
 use Rattle.psm_lower.specs.Env.{Raising}

@@ -6,7 +6,7 @@ use Rattle.psm_resolved.specs.declared.file.ResolvedFile.{ResolvedFile}
 use Rattle.psm_resolved.specs.declared.file.ResolvedRoutine.{ResolvedRoutine}
 use Rattle.psm_resolved.specs.declared.statement.ResolvedStatement.{ResolvedStatement}
 use Rattle.psm_meaning.specs.State.{State, Place}
-use Rattle.psm_meaning.specs.Acts.{Stop, NoTurns, NoHeight, Lacking, Given, Got, Raises, Ends, Outcome, Normal, Leave, Iterate, Return, Raised, Away, Evaluated, Do, Meaning, Act}
+use Rattle.psm_meaning.specs.Acts.{NoTurns, NoHeight, Lacking, Given, Got, Raises, Ends, Outcome, Do, Meaning, Act}
 use Rattle.psm_meaning.specs.Acts as acts
 use Rattle.psm_meaning.specs.Calls.{returns, activated, procedure_at}
 use Rattle.psm_meaning.specs.Lines.{first_line}

@@ -11,7 +11,7 @@ use Rattle.psm_meaning.specs.Calls.{Ended, activated, entered, returns}
 use Rattle.psm_meaning.specs.Heights.{file_size, height_for}
 use Rattle.psm_meaning.specs.Lines.{condition_lines, ok_line}
 use Rattle.psm_meaning.specs.Meaning.{meaning}
-use Rattle.psm_meaning.specs.Session.{Call, Played, Standing, Stopped, Went, at_command, call_lines, ended, played, run}
+use Rattle.psm_meaning.specs.Session.{Call, Standing, Went, at_command, call_lines, ended, played, run}
 use Rattle.psm_meaning.specs.Session as session
 use Rattle.psm_meaning.specs.State.{State}
 use Rattle.psm_meaning.proofs.Enough.{Well}
@@ -20,13 +20,13 @@ use Rattle.psm_meaning.proofs.EnoughValues.{keeps-activated}
 use Rattle.psm_meaning.proofs.Pure.{High}
 use Rattle.psm_meaning.proofs.Sizes.{BodyWithin, body_of-le}
 use Rattle.psm_code.specs.Calling as coded
-use Rattle.psm_code.specs.Calling.{before_start, started}
+use Rattle.psm_code.specs.Calling.{before_start}
 use Rattle.psm_code.specs.declared.code.RawCode.{RawCode}
 use Rattle.psm_code.specs.declared.code.RawRoutine.{RawRoutine}
 use Rattle.psm_code.specs.Parts.{given_back, giving, routine_at}
 use Rattle.psm_code.specs.Rows.{Ran}
 use Rattle.psm_code.specs.State as code_ends
-use Rattle.psm_code.specs.State.{Activation, End, Machine, Turned, Over}
+use Rattle.psm_code.specs.State.{Activation, End, Machine, Turned}
 use Rattle.psm_code.specs.Steps as steps
 use Rattle.psm_code.proofs.Ending.{one_end}
 use Rattle.psm_lower.specs.Running.{RunEnds, RunsAs, values_of}

@@ -1,5 +1,5 @@
 -- The definitions of proper tables are definitions of tables, and an empty table keeps the rules of its code.
-use Rattle.std.proofs.Common.{◌≡◌, ◌≢◌, ℕ, zero, suc, ◌<◌, Bool, true, false, not, ◌&&◌, List, [], ◌∷◌, ◌++◌, length, map, nat_eq, slice_get, Option, Some, None, refl, sym, ap, ◌∙◌, subst, arith, eq-eqb}
+use Rattle.std.proofs.Common.{◌≡◌, ◌≢◌, ℕ, zero, suc, ◌<◌, Bool, true, false, not, ◌&&◌, List, [], ◌∷◌, ◌++◌, length, map, nat_eq, Option, None, refl, sym, ◌∙◌, arith, eq-eqb}
 use Rattle.std.specs.List.{AllPairs, list_all}
 use Rattle.std.specs.Prelude.{All, if◌then◌else◌}
 use Rattle.std.proofs.lemmas.Bool.{false≢true}
@@ -10,14 +10,13 @@ use Rattle.psm_value.specs.Stored.{stored}
 use Rattle.psm_exprcode.specs.WellFormed.{is_type}
 use Rattle.psm_exprcode.proofs.Types.{type_within}
 use Rattle.psm_table.specs.declared.definition.Column.{Column}
-use Rattle.psm_table.specs.declared.definition.TableDef.{TableDef}
 use Rattle.psm_table.specs.Definition.{IsDefinition, kinds_of}
 use Rattle.psm_resolved.specs.declared.file.ResolvedFile.{ResolvedFile}
 use Rattle.psm_resolved.specs.declared.file.ResolvedTable.{ResolvedTable}
 use Rattle.psm_code.specs.declared.rule.CodeRule.{CodeRule}
 use Rattle.psm_code.specs.declared.rule.CodeRule.TheVariants as rule
-use Rattle.psm_code.specs.Rules.{are_distinct, each_after, first_of, is_among, is_some, is_same, is_there, there, unless}
-use Rattle.psm_code.specs.TableRules.{are_there, column_fault, is_as_stored, is_column_list, key_fault, refuses_null}
+use Rattle.psm_code.specs.Rules.{are_distinct, each_after, first_of, is_among, is_some, is_same, is_there, unless}
+use Rattle.psm_code.specs.TableRules.{are_there, column_fault, is_as_stored, is_column_list, refuses_null}
 use Rattle.psm_sound.specs.Scene.{Each}
 use Rattle.psm_proper.specs.Files.{NoFault, ProperFile, ProperTable}
 

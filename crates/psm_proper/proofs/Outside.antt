@@ -1,11 +1,11 @@
 -- Proper expressions that are sound stand outside of rows.
-use Rattle.std.proofs.Common.{◌≡◌, ℕ, suc, Bool, true, false, List, [], ◌∷◌, length, map, Option, Some, None, refl, sym, ap, ◌∙◌}
+use Rattle.std.proofs.Common.{◌≡◌, suc, Bool, true, false, List, [], ◌∷◌, length, Option, Some, None, refl, sym, ap, ◌∙◌}
 use Rattle.std.proofs.lemmas.Bool.{false≢true}
 use Rattle.std.proofs.lemmas.List.{length-map}
 use Rattle.std.specs.Prelude.{filter, if◌then◌else◌}
 use Rattle.psm_exprcode.specs.declared.op.Letter.{Letter}
 use Rattle.psm_exprcode.specs.declared.op.Letter.TheVariants.{N, T, B}
-use Rattle.psm_resolved.specs.declared.expr.ResolvedExpr.{ResolvedExpr, out-ResolvedExpr}
+use Rattle.psm_resolved.specs.declared.expr.ResolvedExpr.{ResolvedExpr}
 use Rattle.psm_resolved.specs.declared.expr.ResolvedExpr.TheOpen as layers
 use Rattle.psm_resolved.specs.declared.expr.ResolvedLink.{ResolvedLink}
 use Rattle.psm_resolved.specs.declared.expr.ResolvedWhen.{ResolvedWhen}
@@ -19,7 +19,7 @@ use Rattle.psm_emit.specs.Outside as outside
 use Rattle.psm_emit.specs.Outside.{AllOutside, LayerOutside, LinksOutside, Outside, PerhapsOutside, WhensOutside}
 use Rattle.psm_sound.specs.Expressions as sound
 use Rattle.psm_sound.specs.Expressions.{AreAll, AreExprs, AreLinks, AreWhens, IsElse, IsExpr}
-use Rattle.psm_sound.specs.Scene.{Scene, letters_of, taken_by, with_taken}
+use Rattle.psm_sound.specs.Scene.{Scene, taken_by, with_taken}
 use Rattle.psm_proper.specs.Expressions as proper
 use Rattle.psm_proper.specs.Expressions.{AllProper, LayerProper, LinksProper, PerhapsProper, Proper, WhensProper}
 use Rattle.psm_proper.proofs.Typing.{IsLayer, opens}

@@ -1,11 +1,10 @@
 -- Code can stand for proper statements: what they name is in sight, and their expressions stand outside of rows.
-use Rattle.std.proofs.Common.{◌≡◌, ℕ, suc, ◌<◌, ◌≤◌, ◌⊎◌, inl, inr, Bool, true, false, not, List, [], ◌∷◌, ◌++◌, zero, length, nat_eq, slice_get, Option, Some, None, refl, sym, ap, ◌∙◌, subst, arith}
+use Rattle.std.proofs.Common.{◌≡◌, ℕ, suc, ◌<◌, ◌≤◌, ◌⊎◌, true, false, List, [], ◌∷◌, ◌++◌, zero, length, nat_eq, slice_get, Option, Some, None, sym, ap, ◌∙◌, subst, arith}
 use Rattle.std.specs.List.{list_all}
 use Rattle.std.specs.Prelude.{◌||◌, find}
 use Rattle.std.proofs.lemmas.Bool.{false≢true}
 use Rattle.psm_exprcode.specs.declared.op.Letter.{Letter}
 use Rattle.psm_resolved.specs.declared.expr.ResolvedExpr.{ResolvedExpr}
-use Rattle.psm_resolved.specs.declared.file.ResolvedFile.{ResolvedFile}
 use Rattle.psm_resolved.specs.declared.file.ResolvedParameter.{ResolvedParameter}
 use Rattle.psm_resolved.specs.declared.file.ResolvedRoutine.{ResolvedRoutine}
 use Rattle.psm_resolved.specs.declared.statement.ResolvedArgument.{ResolvedArgument}
@@ -31,7 +30,6 @@ use Rattle.psm_emit.specs.Simples.{letters_of_columns}
 use Rattle.psm_emit.specs.Written.{letters_at}
 use Rattle.psm_emit.specs.Standing as fit
 use Rattle.psm_emit.specs.Standing.{ConditionFits, CursorsFit, SeesCursor, SignalFits, SimpleFits, WhereFits, is_among}
-use Rattle.psm_sound.specs.Expressions.{IsExpr}
 use Rattle.psm_sound.specs.Scene.{Among, Each, IsThere, Scene}
 use Rattle.psm_sound.specs.Statements.{AreArguments, IsCondition, IsDeclaration, IsMessage, IsRowFor, IsSeen, IsSignal, IsSimple, Sight, IsDefault}
 use Rattle.psm_proper.specs.Expressions.{PerhapsProper}

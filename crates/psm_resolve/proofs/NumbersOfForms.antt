@@ -2,7 +2,7 @@
 use Rattle.std.proofs.Common.{◌≡◌, ℕ, List, Option, map}
 use denote.Hole.Carrier
 use Rattle.psm_resolved.specs.declared.expr.ResolvedExpr.{ResolvedExpr}
-use Rattle.psm_resolved.specs.declared.statement.ResolvedBlock.{ResolvedBlock, out-ResolvedBlock, roll-ResolvedBlock}
+use Rattle.psm_resolved.specs.declared.statement.ResolvedBlock.{ResolvedBlock, roll-ResolvedBlock}
 use Rattle.psm_resolved.specs.declared.statement.ResolvedBranch.{ResolvedBranch, roll-ResolvedBranch}
 use Rattle.psm_resolved.specs.declared.statement.ResolvedFor.{ResolvedFor}
 use Rattle.psm_resolved.specs.declared.statement.ResolvedHandler.{ResolvedHandler, roll-ResolvedHandler}
@@ -11,7 +11,7 @@ use Rattle.psm_resolved.specs.declared.statement.ResolvedStatement.{ResolvedStat
 use Rattle.psm_resolved.specs.declared.statement.ResolvedStatement.TheVariants as made
 use Rattle.psm_resolved.specs.declared.statement.ResolvedStatement.TheOpen.{ResolvedStatement-F, ResolvedBlock-F, ResolvedBranch-F, ResolvedHandler-F}
 use Rattle.psm_resolved.specs.declared.statement.ResolvedStatement.TheOpen as layers
-use Rattle.psm_resolved.specs.declared.statement.ResolvedStatement.TheFolds.{map-ResolvedStatement, map-ResolvedBlock, map-ResolvedBranch, map-ResolvedHandler, fold-roll-ResolvedStatement, fold-roll-ResolvedBlock, fold-roll-ResolvedBranch, fold-roll-ResolvedHandler}
+use Rattle.psm_resolved.specs.declared.statement.ResolvedStatement.TheFolds.{map-ResolvedStatement, fold-roll-ResolvedStatement, fold-roll-ResolvedBlock, fold-roll-ResolvedBranch, fold-roll-ResolvedHandler}
 use Rattle.psm_resolve.specs.OwnNumbers.{Numbers, beside, block_numbers_layer, branch_numbers_layer, cursors_in, handler_numbers_layer, no_numbers, numbers_layer, numbers_of, numbers_of_block, numbers_of_branch, numbers_of_handler, numbers_of_head, together, variables_in}
 
 rolled : (layer : ResolvedStatement-F ResolvedStatement ResolvedBlock ResolvedBranch ResolvedHandler) → numbers_of (roll-ResolvedStatement layer) ≡ numbers_layer (map-ResolvedStatement ResolvedStatement ResolvedBlock ResolvedBranch ResolvedHandler Numbers Numbers Numbers Numbers numbers_of numbers_of_block numbers_of_branch numbers_of_handler layer)

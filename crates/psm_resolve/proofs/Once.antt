@@ -1,5 +1,5 @@
 -- Tables that are declared once, as maps keep them.
-use Rattle.std.proofs.Common.{◌≡◌, Bool, true, false, is_some, List, [], ◌∷◌, ◌++◌, map, ap, sym, ◌∙◌}
+use Rattle.std.proofs.Common.{◌≡◌, Bool, true, false, is_some, List, [], ◌∷◌, ◌++◌, ap, sym, ◌∙◌}
 use Rattle.std.specs.Prelude.{Ok, if◌then◌else◌}
 use Rattle.psm_scope.specs.Frames.{Spelling}
 use Rattle.psm_scope.specs.Names.{Adds}

@@ -2,7 +2,6 @@
 -- cursor by a number. The conditions without an SQLSTATE are numbered by their places among their names.
 use Rattle.std.specs.Prelude.{◌≡◌, ℕ, suc, Option, Some, None, List, [], ◌∷◌, ◌++◌, map, length}
 use Rattle.std.specs.List.{concat}
-use Rattle.psm_list.specs.Several.{Several}
 use Rattle.psm_scope.specs.Frames.{Spelling}
 use Rattle.psm_rules.specs.StatementFaults.{several}
 use Rattle.psm_tree.specs.declared.types.State.{State}

@@ -1,5 +1,5 @@
 -- The lines of CASE and COALESCE.
-use Rattle.std.proofs.Common.{◌≡◌, ℕ, zero, suc, ◌+◌, ◌<◌, Bool, true, false, ◌&&◌, List, [], ◌∷◌, ◌++◌, length, drop, get_or, refl, ap, sym, subst, ◌∙◌, arith, Option, Some, None, Result, Ok, Err, map, option_map, append_assoc, length-append}
+use Rattle.std.proofs.Common.{◌≡◌, ℕ, suc, ◌+◌, ◌<◌, Bool, true, false, ◌&&◌, List, [], ◌∷◌, ◌++◌, length, drop, get_or, refl, ap, sym, subst, ◌∙◌, arith, Option, Some, None, Result, Ok, Err, map, append_assoc, length-append}
 use Rattle.std.specs.Prelude.{reverse, IfOk, if◌then◌else◌}
 use Rattle.std.specs.List.{list_all}
 use Rattle.std.specs.declared.alloc.AllocError.{AllocError}
@@ -8,8 +8,6 @@ use Rattle.std.proofs.Math.Seq.{drop-cons}
 use Rattle.psm_list.specs.Several.{Several}
 use Rattle.psm_num.proofs.Literals.{and_first, and_second}
 use Rattle.psm_value.specs.declared.datum.Datum.{Datum}
-use Rattle.psm_value.specs.declared.datum.Datum.TheVariants as data_of
-use Rattle.psm_value.specs.declared.truth.Truth.{Truth as Answer}
 use Rattle.psm_value.specs.Truth.{is_certain}
 use Rattle.psm_exprcode.specs.declared.op.Letter.{Letter}
 use Rattle.psm_exprcode.specs.declared.op.Letter.TheVariants.{N, T, B}
@@ -18,7 +16,7 @@ use Rattle.psm_exprcode.specs.declared.op.Op.{Op}
 use Rattle.psm_exprcode.specs.declared.op.Op.TheVariants as op
 use Rattle.psm_exprcode.specs.declared.operand.Operand.{Operand}
 use Rattle.psm_exprcode.specs.declared.operand.Operand.TheVariants.{Value, Truth}
-use Rattle.psm_exprcode.specs.Applied.{with_value, applied}
+use Rattle.psm_exprcode.specs.Applied.{with_value}
 use Rattle.psm_exprcode.specs.Comparison.{is_null}
 use Rattle.psm_exprcode.specs.Evaluated.{Outcome}
 use Rattle.psm_exprcode.specs.Kinds.{is_value}
@@ -29,13 +27,12 @@ use Rattle.psm_resolved.specs.declared.expr.ResolvedExpr.{ResolvedExpr}
 use Rattle.psm_resolved.specs.declared.expr.ResolvedExpr.TheVariants as exprs
 use Rattle.psm_resolved.specs.Blocks.{Moved, Move, put, Block}
 use Rattle.psm_resolved.specs.Open.{Open, Pends, branch_move, then_move}
-use Rattle.psm_resolved.specs.Outcomes.{valued, with_operand, on_truth, of_one, chosen, first_set, at_scale}
+use Rattle.psm_resolved.specs.Outcomes.{valued, with_operand, on_truth, of_one, first_set, at_scale}
 use Rattle.psm_resolved.specs.RowValue.{listed, row_value}
-use Rattle.psm_resolved.specs.Sort.{Sort, is_of, given, goes_as, where_true, letter_at, is_scale, sort_of}
-use Rattle.psm_resolved.specs.Written.{Written, with_line, with_op, patched, Jumps, Adds, puts_value, puts_first, with_scale, Writes, WritesSource, WritesFirst, WritesOthers}
+use Rattle.psm_resolved.specs.Sort.{Sort, goes_as, letter_at, is_scale, sort_of}
+use Rattle.psm_resolved.specs.Written.{Written, with_line, patched, Jumps, Adds, puts_value, puts_first, with_scale, Writes, WritesSource, WritesFirst, WritesOthers}
 use Rattle.psm_resolved.proofs.Equations.{value-Coalesce, sort-Coalesce}
 use Rattle.psm_resolved.proofs.Forms.{Meaning, puts, told, relabel, one_adds, written_ok}
-use Rattle.psm_resolved.proofs.Lines.{ahead, Rule}
 use Rattle.psm_resolved.proofs.Jumps.{set_move, open_branch, open_value}
 use Rattle.psm_resolved.proofs.Operations.{value_ahead, one_ahead, adds_same}
 use Rattle.psm_resolved.proofs.Pending.{pends_none, pends_more, pends_closed, replaced_here}

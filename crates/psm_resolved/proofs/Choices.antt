@@ -4,12 +4,10 @@ use Rattle.std.specs.Prelude.{reverse, IfOk, if◌then◌else◌}
 use Rattle.std.specs.List.{list_all}
 use Rattle.std.specs.declared.alloc.AllocError.{AllocError}
 use Rattle.std.proofs.lemmas.List.{reverse-reverse, map-append}
-use Rattle.psm_list.specs.Several.{Several, several_map}
+use Rattle.psm_list.specs.Several.{Several}
 use Rattle.psm_num.proofs.Literals.{and_first, and_second}
 use Rattle.psm_value.specs.declared.datum.Datum.{Datum}
 use Rattle.psm_value.specs.declared.datum.Datum.TheVariants as data_of
-use Rattle.psm_value.specs.declared.truth.Truth.{Truth as Answer}
-use Rattle.psm_value.specs.Truth.{is_certain}
 use Rattle.psm_exprcode.specs.declared.op.Letter.{Letter}
 use Rattle.psm_exprcode.specs.declared.op.Letter.TheVariants.{N, T, B}
 use Rattle.psm_exprcode.specs.declared.op.Line.{Line}
@@ -27,16 +25,16 @@ use Rattle.psm_resolved.specs.declared.expr.ResolvedExpr.TheVariants as exprs
 use Rattle.psm_resolved.specs.declared.expr.ResolvedWhen.{ResolvedWhen, out-ResolvedWhen}
 use Rattle.psm_resolved.specs.Blocks.{Moved, Move, put, Block}
 use Rattle.psm_resolved.specs.Open.{Pends, branch_move, then_move}
-use Rattle.psm_resolved.specs.Outcomes.{valued, decided, with_operand, on_value, on_truth, of_one, chosen, at_scale}
+use Rattle.psm_resolved.specs.Outcomes.{decided, chosen}
 use Rattle.psm_resolved.specs.RowValue.{tested, listed, else_of, equal_to, cased, row_value, when_value}
-use Rattle.psm_resolved.specs.Sort.{Sort, is_of, given, goes_as, may_be, are_tests, are_results, letter_at, is_scale, sort_of, when_sort}
+use Rattle.psm_resolved.specs.Sort.{Sort, is_of, goes_as, may_be, are_tests, are_results, letter_at, is_scale, sort_of, when_sort}
 use Rattle.psm_resolved.specs.Choices.{compared, test_move, fits_test, WritesTest, Branch, chosen_move, branched, WritesWhens, puts_else, WritesElse}
-use Rattle.psm_resolved.specs.Written.{Written, with_line, with_op, with_scale, with_copy, with_comparison, last_letter, patched, Jumps, Leaves, Adds, puts_value, Writes, WritesSource}
+use Rattle.psm_resolved.specs.Written.{Written, with_op, with_scale, with_copy, with_comparison, last_letter, patched, Jumps, Leaves, Adds, puts_value, Writes, WritesSource}
 use Rattle.psm_resolved.proofs.Equations.{value-Case, sort-Case, value_of_when, sort_of_when}
 use Rattle.psm_resolved.proofs.Forms.{Meaning, puts, told, value_found, relabel, written_ok, comparison_ahead, comparison_rule}
 use Rattle.psm_resolved.proofs.Lines.{ahead, Rule, line_block}
 use Rattle.psm_resolved.proofs.Operations.{move_two, adds_same, adds_more, adds_op, adds_leaf}
-use Rattle.psm_resolved.proofs.Pending.{pends_none, pends_more, pends_closed}
+use Rattle.psm_resolved.proofs.Pending.{pends_more, pends_closed}
 use Rattle.psm_resolved.proofs.Cases.{branch_moved, branch_pends, scale_adds, letter_value}
 use Rattle.psm_resolved.proofs.Several.{all_one_more}
 

@@ -10,7 +10,7 @@ use Rattle.psm_resolved.specs.declared.expr.Comparison.TheVariants as comparison
 use Rattle.psm_resolved.specs.declared.expr.Junction.TheVariants as junctions
 use Rattle.psm_resolved.specs.declared.expr.Operator.TheVariants as operators
 use Rattle.psm_resolved.specs.declared.expr.ResolvedExpr.TheOpen as layers
-use Rattle.psm_exprcode.specs.declared.op.Letter.TheVariants.{N, T, B}
+use Rattle.psm_exprcode.specs.declared.op.Letter.TheVariants.{N, T}
 use Rattle.psm_resolved.specs.RowValue.{value_layer}
 use Rattle.psm_resolved.specs.Sort.{Wrong, Untyped, Of, sort_layer}
 

@@ -1,5 +1,5 @@
 -- The lines of each form of row expression, from those of its parts.
-use Rattle.std.proofs.Common.{◌≡◌, ℕ, zero, suc, Bool, true, false, ◌&&◌, ◌||◌, List, [], ◌∷◌, ◌++◌, length, refl, ap, sym, subst, ◌∙◌, Option, Some, None, Result, Ok, Err, map, option_map}
+use Rattle.std.proofs.Common.{◌≡◌, ℕ, Bool, true, false, ◌&&◌, ◌||◌, List, [], ◌∷◌, ◌++◌, refl, ap, sym, subst, ◌∙◌, Option, Some, None, Result, Ok, Err}
 use Rattle.std.specs.Prelude.{slice_get, IfOk, if◌then◌else◌}
 use Rattle.std.specs.declared.alloc.AllocError.{AllocError}
 use Rattle.psm_num.specs.Num.{Num}
@@ -10,9 +10,9 @@ use Rattle.psm_value.specs.declared.datum.Datum.{Datum}
 use Rattle.psm_value.specs.declared.datum.Datum.TheVariants as data_of
 use Rattle.psm_value.specs.declared.sqltype.SqlType.{SqlType}
 use Rattle.psm_value.specs.declared.truth.Truth.{Truth as Answer}
-use Rattle.psm_value.specs.Arithmetic.{sum_of, difference_of, product_of, quotient_of, negated_of}
+use Rattle.psm_value.specs.Arithmetic.{negated_of}
 use Rattle.psm_value.specs.Cast.{cast_of}
-use Rattle.psm_value.specs.Truth.{both, either, opposite}
+use Rattle.psm_value.specs.Truth.{both, opposite}
 use Rattle.psm_exprcode.specs.declared.op.Letter.{Letter}
 use Rattle.psm_exprcode.specs.declared.op.Letter.TheVariants.{N, T, B}
 use Rattle.psm_exprcode.specs.declared.op.Op.{Op}
@@ -24,25 +24,23 @@ use Rattle.psm_exprcode.specs.Comparison.{truth_of, between, unless_equal, is_nu
 use Rattle.psm_exprcode.specs.Evaluated.{Outcome}
 use Rattle.psm_exprcode.specs.Kinds.{is_letter, is_value, some_value, letter_of}
 use Rattle.psm_exprcode.specs.Texts.{trim_of}
-use Rattle.psm_exprcode.specs.Values.{concatenated, length_of, position_of, part_from, part_of, on_text, like, like_escaped}
+use Rattle.psm_exprcode.specs.Values.{length_of, position_of, part_from, part_of, on_text, like, like_escaped}
 use Rattle.psm_exprcode.specs.WellFormed.{is_type, is_known, is_of_kind}
 use Rattle.psm_exprcode.proofs.Stripping.{is_letter-self, is_letter-same}
 use Rattle.psm_resolved.specs.declared.expr.Comparison.{Comparison}
 use Rattle.psm_resolved.specs.declared.expr.Comparison.TheVariants as comparisons
-use Rattle.psm_resolved.specs.declared.expr.Operator.{Operator}
-use Rattle.psm_resolved.specs.declared.expr.Operator.TheVariants as operators
 use Rattle.psm_resolved.specs.declared.expr.TextFunction.{TextFunction}
 use Rattle.psm_resolved.specs.declared.expr.TextFunction.TheVariants as functions
 use Rattle.psm_resolved.specs.declared.expr.ResolvedExpr.{ResolvedExpr}
 use Rattle.psm_resolved.specs.declared.expr.ResolvedExpr.TheVariants as exprs
 use Rattle.psm_resolved.specs.Blocks.{Move, put}
 use Rattle.psm_resolved.specs.Open.{then_move}
-use Rattle.psm_resolved.specs.Outcomes.{valued, decided, named, on_value, of_one, of_two, of_three, of_truth, of_truths, perhaps_not}
+use Rattle.psm_resolved.specs.Outcomes.{valued, decided, named, of_one, of_two, of_three, of_truth, perhaps_not}
 use Rattle.psm_resolved.specs.RowValue.{tested, function_of, row_value}
 use Rattle.psm_resolved.specs.Sort as sort
-use Rattle.psm_resolved.specs.Sort.{Sort, Wrong, Untyped, Of, is_of, given, may_be, where_true, sort_of}
+use Rattle.psm_resolved.specs.Sort.{Sort, Of, is_of, given, where_true, sort_of}
 use Rattle.psm_resolved.specs.Written.{Written, with_op, with_not, letter_or, last_letter, op_of_comparison, op_of_function, Adds, puts_value, Writes, WritesSource}
-use Rattle.psm_resolved.proofs.Equations.{value-Number, value-Text, value-Column, value-Variable, value-Not, value-Compare, value-IsNull, value-Between, value-Like, value-Negated, value-Cast, value-NullIf, value-Function, value-Position, value-Substring, value-Trim, sort-Null, sort-Number, sort-Text, sort-Column, sort-Variable, sort-Not, sort-Compare, sort-IsNull, sort-Between, sort-Like, sort-Negated, sort-Call, sort-Scalar, sort-Exists, sort-Cast, sort-NullIf, sort-Function, sort-Position, sort-Substring, sort-Trim}
+use Rattle.psm_resolved.proofs.Equations.{value-Number, value-Text, value-Column, value-Variable, value-Not, value-Compare, value-IsNull, value-Between, value-Like, value-Negated, value-Cast, value-NullIf, value-Function, value-Position, value-Substring, value-Trim, sort-Number, sort-Text, sort-Column, sort-Variable, sort-Not, sort-Compare, sort-IsNull, sort-Between, sort-Like, sort-Negated, sort-Cast, sort-NullIf, sort-Function, sort-Position, sort-Substring, sort-Trim}
 use Rattle.psm_resolved.proofs.Lines.{ahead, Rule}
 use Rattle.psm_resolved.proofs.Operations.{move_one, move_two, move_three, move_truth, value_ahead, truth_ahead, one_ahead, two_ahead, three_ahead, one_truth_ahead, one_moved, truth_moved, two_moved, three_moved, adds_same, adds_more, adds_op, adds_leaf}
 

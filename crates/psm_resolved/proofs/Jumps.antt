@@ -1,27 +1,26 @@
 -- Lines with jumps whose place isn't known yet: open blocks, which a block behind them closes.
-use Rattle.std.proofs.Common.{◌≡◌, ℕ, zero, suc, ◌+◌, ◌-◌, ◌<◌, ◌≤◌, Bool, true, false, ◌&&◌, List, [], ◌∷◌, ◌++◌, length, nat_eq, nat_lt, refl, ap, sym, subst, ◌∙◌, arith, Option, Some, None, Result, Ok, Err, append_assoc, length-append, eq-eqb, eqb-true}
+use Rattle.std.proofs.Common.{◌≡◌, ℕ, suc, ◌+◌, ◌-◌, ◌<◌, ◌≤◌, Bool, true, false, ◌&&◌, List, [], ◌∷◌, ◌++◌, length, nat_eq, nat_lt, refl, ap, sym, subst, ◌∙◌, arith, Some, None, Ok, append_assoc, length-append, eq-eqb, eqb-true}
 use Rattle.std.specs.Prelude.{reverse, slice_get, if◌then◌else◌}
 use Rattle.std.proofs.lemmas.Bool.{ne_eqb, lt-ltb}
 use Rattle.psm_value.specs.declared.datum.Datum.{Datum}
-use Rattle.psm_value.specs.declared.truth.Truth.{Truth as Answer}
 use Rattle.psm_value.specs.Truth.{is_certain}
 use Rattle.psm_exprcode.specs.declared.op.Letter.{Letter}
-use Rattle.psm_exprcode.specs.declared.op.Letter.TheVariants.{N, T, B}
+use Rattle.psm_exprcode.specs.declared.op.Letter.TheVariants.{N, B}
 use Rattle.psm_exprcode.specs.declared.op.Line.{Line}
 use Rattle.psm_exprcode.specs.declared.op.Op.{Op}
 use Rattle.psm_exprcode.specs.declared.op.Op.TheVariants as op
 use Rattle.psm_exprcode.specs.declared.operand.Operand.{Operand}
 use Rattle.psm_exprcode.specs.declared.operand.Operand.TheVariants.{Value, Truth}
 use Rattle.psm_exprcode.specs.declared.operand.Next.TheVariants.{Ahead, Jump}
-use Rattle.psm_exprcode.specs.Applied.{Applied, Went, Raised, Lacking, applied, set_at, unless_true}
+use Rattle.psm_exprcode.specs.Applied.{Went, applied}
 use Rattle.psm_exprcode.specs.Comparison.{is_null}
 use Rattle.psm_exprcode.specs.Evaluated.{Outcome, place_after, goes_on, ran}
 use Rattle.psm_exprcode.specs.Kinds.{is_value}
-use Rattle.psm_exprcode.specs.WellFormed.{are_stated, lands, goes_ahead, goes_away, is_line, are_lines}
+use Rattle.psm_exprcode.specs.WellFormed.{are_stated, lands, is_line, are_lines}
 use Rattle.psm_exprcode.proofs.Standing.{both_true}
 use Rattle.psm_resolved.specs.Blocks.{Moved, Move, after, Block}
 use Rattle.psm_resolved.specs.Open.{Open, branch_move, then_move}
-use Rattle.psm_resolved.proofs.Lines.{after_same, after_then, stated_here, same_stack-self, Rule, line_right, ran_here, follows}
+use Rattle.psm_resolved.proofs.Lines.{after_same, stated_here, Rule, line_right, ran_here, follows}
 
 -- ---- lines that are passed over
 

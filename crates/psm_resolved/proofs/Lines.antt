@@ -1,5 +1,5 @@
 -- Blocks of lines: one line, and one block behind another.
-use Rattle.std.proofs.Common.{◌≡◌, ℕ, zero, suc, ◌+◌, Bool, true, false, ◌&&◌, ◌||◌, List, [], ◌∷◌, ◌++◌, length, nat_eq, refl, ap, sym, subst, ◌∙◌, arith, Option, Some, None, Result, Ok, Err, append_assoc, length-append, eq-eqb}
+use Rattle.std.proofs.Common.{◌≡◌, ℕ, suc, ◌+◌, Bool, true, false, ◌&&◌, ◌||◌, List, [], ◌∷◌, ◌++◌, refl, ap, sym, subst, ◌∙◌, arith, Option, Some, None, Ok, Err, append_assoc, length-append, eq-eqb}
 use Rattle.std.specs.Prelude.{reverse, if◌then◌else◌}
 use Rattle.psm_value.specs.declared.datum.Datum.{Datum}
 use Rattle.psm_exprcode.specs.declared.op.Letter.{Letter}
@@ -8,7 +8,7 @@ use Rattle.psm_exprcode.specs.declared.op.Line.{Line}
 use Rattle.psm_exprcode.specs.declared.op.Op.{Op}
 use Rattle.psm_exprcode.specs.declared.operand.Operand.{Operand}
 use Rattle.psm_exprcode.specs.declared.operand.Next.{Next}
-use Rattle.psm_exprcode.specs.declared.operand.Next.TheVariants.{Ahead, Jump}
+use Rattle.psm_exprcode.specs.declared.operand.Next.TheVariants.{Ahead}
 use Rattle.psm_exprcode.specs.Applied.{Applied, Went, Raised, Lacking, applied}
 use Rattle.psm_exprcode.specs.Evaluated.{Outcome, place_after, goes_on, ran}
 use Rattle.psm_exprcode.specs.Kinds.{is_letter, is_value, some_value, some_letter}
@@ -16,7 +16,7 @@ use Rattle.psm_exprcode.specs.Operations.{Effect, effect}
 use Rattle.psm_exprcode.specs.WellFormed.{same_stack, left_of, is_bounded, lands, goes_ahead, goes_away, goes_on_with, leads, is_line, are_lines}
 use Rattle.psm_exprcode.proofs.Standing.{both_true}
 use Rattle.psm_exprcode.proofs.Stripping.{is_letter-self}
-use Rattle.psm_resolved.specs.Blocks.{Moved, Move, put, after, Block}
+use Rattle.psm_resolved.specs.Blocks.{Moved, Move, after, Block}
 use Rattle.psm_resolved.specs.Open.{then_move}
 
 -- ---- what becomes of operands

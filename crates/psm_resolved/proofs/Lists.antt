@@ -1,35 +1,35 @@
 -- The lines of IN: a value, and a list of others.
-use Rattle.std.proofs.Common.{◌≡◌, ℕ, zero, suc, ◌+◌, Bool, true, false, ◌&&◌, List, [], ◌∷◌, ◌++◌, length, refl, ap, sym, subst, ◌∙◌, arith, Option, Some, None, Result, Ok, Err, map, option_map, append_assoc, length-append}
+use Rattle.std.proofs.Common.{◌≡◌, ℕ, zero, suc, ◌+◌, Bool, true, ◌&&◌, List, [], ◌∷◌, ◌++◌, length, refl, ap, sym, subst, ◌∙◌, arith, Option, Some, None, Result, Ok, Err, map, option_map, append_assoc, length-append}
 use Rattle.std.specs.Prelude.{reverse, replicate, IfOk}
 use Rattle.std.specs.List.{list_all}
 use Rattle.std.specs.declared.alloc.AllocError.{AllocError}
 use Rattle.std.proofs.lemmas.List.{reverse-append, length-reverse}
-use Rattle.psm_list.specs.Several.{Several, several_map}
+use Rattle.psm_list.specs.Several.{Several}
 use Rattle.psm_num.proofs.Literals.{and_first, and_second}
 use Rattle.psm_value.specs.declared.datum.Datum.{Datum}
 use Rattle.psm_value.specs.declared.truth.Truth.{Truth as Answer}
 use Rattle.psm_value.specs.declared.truth.Truth.TheVariants as truths
 use Rattle.psm_value.specs.Truth.{either}
 use Rattle.psm_exprcode.specs.declared.op.Letter.{Letter}
-use Rattle.psm_exprcode.specs.declared.op.Letter.TheVariants.{N, T, B}
+use Rattle.psm_exprcode.specs.declared.op.Letter.TheVariants.{N, B}
 use Rattle.psm_exprcode.specs.declared.op.Op.{Op}
 use Rattle.psm_exprcode.specs.declared.op.Op.TheVariants as op
 use Rattle.psm_exprcode.specs.declared.operand.Operand.{Operand}
 use Rattle.psm_exprcode.specs.declared.operand.Operand.TheVariants.{Value, Truth}
-use Rattle.psm_exprcode.specs.Applied.{Applied, Went, Raised, Lacking, with_truth, applied}
+use Rattle.psm_exprcode.specs.Applied.{Applied, Went, Raised, Lacking, with_truth}
 use Rattle.psm_exprcode.specs.Applied as taking
 use Rattle.psm_exprcode.specs.Comparison.{among}
 use Rattle.psm_exprcode.specs.Evaluated.{Outcome}
-use Rattle.psm_exprcode.specs.Kinds.{is_value, some_value}
+use Rattle.psm_exprcode.specs.Kinds.{some_value}
 use Rattle.psm_exprcode.specs.WellFormed.{is_of_kind}
 use Rattle.psm_resolved.specs.declared.expr.Comparison.TheVariants as comparisons
 use Rattle.psm_resolved.specs.declared.expr.ResolvedExpr.{ResolvedExpr}
 use Rattle.psm_resolved.specs.declared.expr.ResolvedExpr.TheVariants as exprs
-use Rattle.psm_resolved.specs.Blocks.{Moved, Move, put, put_all}
+use Rattle.psm_resolved.specs.Blocks.{Moved, put, put_all}
 use Rattle.psm_resolved.specs.Open.{then_move}
-use Rattle.psm_resolved.specs.Outcomes.{decided, with_operand, with_operands, on_value, on_values, of_others, perhaps_not}
+use Rattle.psm_resolved.specs.Outcomes.{decided, with_operands, on_value, on_values, of_others}
 use Rattle.psm_resolved.specs.RowValue.{listed, tested, row_value}
-use Rattle.psm_resolved.specs.Sort.{Sort, is_of, where_true, sort_of}
+use Rattle.psm_resolved.specs.Sort.{is_of, sort_of}
 use Rattle.psm_resolved.specs.Written.{Written, with_op, with_not, Adds, puts_value, puts_all, Writes, WritesAll}
 use Rattle.psm_resolved.proofs.Equations.{value-In, sort-In}
 use Rattle.psm_resolved.proofs.Forms.{Meaning, puts, told, value_found, relabel, not_adds, written_ok}

@@ -1,5 +1,5 @@
 -- What operations make of the operands that they take, and lines that are written for them.
-use Rattle.std.proofs.Common.{◌≡◌, ℕ, zero, suc, ◌+◌, Bool, true, false, List, [], ◌∷◌, ◌++◌, length, drop, refl, ap, sym, subst, ◌∙◌, arith, Option, Some, None, Result, Ok, Err, append_assoc, length-append}
+use Rattle.std.proofs.Common.{◌≡◌, ℕ, ◌+◌, Bool, List, [], ◌∷◌, ◌++◌, length, drop, refl, ap, sym, subst, ◌∙◌, arith, Some, None, Result, Ok, Err, append_assoc, length-append}
 use Rattle.std.specs.Prelude.{reverse}
 use Rattle.std.proofs.lemmas.List.{reverse-reverse}
 use Rattle.std.proofs.Math.Seq.{drop-append_seam}
@@ -10,13 +10,13 @@ use Rattle.psm_exprcode.specs.declared.op.Line.{Line}
 use Rattle.psm_exprcode.specs.declared.op.Op.{Op}
 use Rattle.psm_exprcode.specs.declared.operand.Operand.{Operand}
 use Rattle.psm_exprcode.specs.declared.operand.Operand.TheVariants.{Value, Truth}
-use Rattle.psm_exprcode.specs.Applied.{Applied, Lacking, with_value, with_truth, applied}
+use Rattle.psm_exprcode.specs.Applied.{Applied, with_value, with_truth, applied}
 use Rattle.psm_exprcode.specs.Applied as taking
 use Rattle.psm_exprcode.specs.Evaluated.{Outcome}
 use Rattle.psm_resolved.specs.Blocks.{Moved, Move, put, Block}
 use Rattle.psm_resolved.specs.Open.{then_move}
-use Rattle.psm_resolved.specs.Outcomes.{valued, decided, with_operand, on_value, on_truth, of_one, of_two, of_three, of_truth, of_truths}
-use Rattle.psm_resolved.specs.Written.{Written, with_line, with_op, Adds}
+use Rattle.psm_resolved.specs.Outcomes.{valued, decided, on_value, on_truth, of_one, of_two, of_three, of_truth, of_truths}
+use Rattle.psm_resolved.specs.Written.{Written, with_op, Adds}
 use Rattle.psm_resolved.proofs.Lines.{ahead, Rule, line_block, follows, same_move}
 
 -- ---- what operations make of operands, the last one first

@@ -1,12 +1,11 @@
 -- Lines that are written with jumps whose place is filled in later.
-use Rattle.std.proofs.Common.{◌≡◌, ℕ, zero, suc, ◌+◌, ◌<◌, ◌≤◌, Bool, List, [], ◌∷◌, ◌++◌, length, get_or, set, refl, ap, sym, subst, ◌∙◌, arith, Option, Some, None, append_assoc, length-append}
+use Rattle.std.proofs.Common.{◌≡◌, ℕ, ◌+◌, ◌<◌, ◌≤◌, Bool, List, [], ◌∷◌, ◌++◌, length, refl, ap, sym, subst, ◌∙◌, append_assoc, length-append}
 use Rattle.std.proofs.lemmas.List.{append-nil}
 use Rattle.psm_exprcode.specs.declared.op.Letter.{Letter}
 use Rattle.psm_exprcode.specs.declared.op.Line.{Line}
 use Rattle.psm_exprcode.specs.declared.op.Op.{Op}
-use Rattle.psm_exprcode.specs.declared.operand.Operand.{Operand}
 use Rattle.psm_exprcode.specs.Numbered.{with_op_at}
-use Rattle.psm_resolved.specs.Blocks.{Moved, Move, Block}
+use Rattle.psm_resolved.specs.Blocks.{Move, Block}
 use Rattle.psm_resolved.specs.Open.{Open, Pends}
 use Rattle.psm_resolved.specs.Written.{Written, patched, Adds}
 use Rattle.psm_resolved.proofs.Jumps.{open_none, open_more}

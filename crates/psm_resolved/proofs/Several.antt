@@ -1,9 +1,9 @@
 -- The lines of expressions of several operands: conditions with AND or OR between them, and chains of operators.
-use Rattle.std.proofs.Common.{◌≡◌, ℕ, zero, suc, ◌+◌, ◌<◌, ◌≤◌, Bool, true, false, ◌&&◌, List, [], ◌∷◌, ◌++◌, length, take, drop, get_or, refl, ap, sym, subst, ◌∙◌, arith, Option, Some, None, Result, Ok, Err, map}
+use Rattle.std.proofs.Common.{◌≡◌, ℕ, suc, ◌+◌, ◌<◌, ◌≤◌, Bool, true, ◌&&◌, List, [], ◌∷◌, ◌++◌, length, take, get_or, refl, ap, sym, subst, ◌∙◌, arith, Some, None, map}
 use Rattle.std.specs.List.{list_all}
 use Rattle.std.proofs.lemmas.List.{append-nil, drop_all, take-append-drop}
 use Rattle.std.proofs.Math.Seq.{take-suc}
-use Rattle.psm_list.specs.Several.{Several, several_map}
+use Rattle.psm_list.specs.Several.{Several}
 use Rattle.psm_num.proofs.Literals.{and_first, and_second}
 use Rattle.psm_value.specs.declared.datum.Datum.{Datum}
 use Rattle.psm_value.specs.declared.truth.Truth.{Truth as Answer}
@@ -25,7 +25,7 @@ use Rattle.psm_resolved.specs.declared.expr.Operator.TheVariants as operators
 use Rattle.psm_resolved.specs.declared.expr.ResolvedExpr.{ResolvedExpr}
 use Rattle.psm_resolved.specs.declared.expr.ResolvedExpr.TheVariants as exprs
 use Rattle.psm_resolved.specs.declared.expr.ResolvedLink.{ResolvedLink, out-ResolvedLink}
-use Rattle.psm_resolved.specs.Blocks.{Move, put}
+use Rattle.psm_resolved.specs.Blocks.{put}
 use Rattle.psm_resolved.specs.Open.{then_move}
 use Rattle.psm_resolved.specs.Outcomes.{valued, of_two, of_truths}
 use Rattle.psm_resolved.specs.RowValue as values

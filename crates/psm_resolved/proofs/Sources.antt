@@ -3,7 +3,6 @@ use Rattle.std.proofs.Common.{◌≡◌, ℕ, Bool, true, false, ◌&&◌, List,
 use Rattle.std.specs.Prelude.{IfOk, slice_get, if◌then◌else◌}
 use Rattle.std.specs.declared.alloc.AllocError.{AllocError}
 use denote.Hole.Carrier
-use Rattle.psm_value.specs.declared.datum.Datum.{Datum}
 use Rattle.psm_value.specs.declared.datum.Datum.TheVariants as data_of
 use Rattle.psm_exprcode.specs.declared.op.Letter.{Letter}
 use Rattle.psm_exprcode.specs.declared.op.Letter.TheVariants.{N, T, B}
@@ -26,11 +25,11 @@ use Rattle.psm_resolved.specs.Blocks.{put}
 use Rattle.psm_resolved.specs.RowValue.{row_value}
 use Rattle.psm_resolved.specs.Sort as sorts
 use Rattle.psm_resolved.specs.Sort.{Sort, Wrong, Untyped, Of, is_of, given, typed, where_true, sort_layer, sort_of, link_sort, when_sort}
-use Rattle.psm_resolved.specs.Written.{Written, with_op, Adds, puts_value, Writes, WritesSource, Extends}
+use Rattle.psm_resolved.specs.Written.{Written, with_op, puts_value, Writes, WritesSource, Extends}
 use Rattle.psm_resolved.proofs.Equations.{value-Null, sort-Null, sort-Call, sort-Scalar, sort-Exists}
 use Rattle.psm_resolved.proofs.Forms.{told, relabel}
 use Rattle.psm_resolved.proofs.Several.{chain_first}
-use Rattle.psm_resolved.proofs.Lines.{ahead, Rule}
+use Rattle.psm_resolved.proofs.Lines.{ahead}
 use Rattle.psm_resolved.proofs.Operations.{adds_leaf}
 
 -- ---- what isn't NULL has a letter or is no row expression

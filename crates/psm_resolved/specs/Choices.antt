@@ -1,9 +1,8 @@
 -- The lines of a CASE, and what they stand for.
-use Rattle.std.specs.Prelude.{◌≡◌, ℕ, Bool, true, false, ◌&&◌, Option, Some, None, Result, Ok, Err, List, [], ◌∷◌, map, option_map}
+use Rattle.std.specs.Prelude.{◌≡◌, ℕ, Bool, true, false, ◌&&◌, Option, None, Ok, List, [], ◌∷◌, map, option_map}
 use Rattle.std.specs.List.{list_all}
-use Rattle.psm_value.specs.declared.datum.Datum.{Datum}
 use Rattle.psm_exprcode.specs.declared.op.Letter.{Letter}
-use Rattle.psm_exprcode.specs.declared.op.Letter.TheVariants.{N, T, B}
+use Rattle.psm_exprcode.specs.declared.op.Letter.TheVariants.{B}
 use Rattle.psm_exprcode.specs.declared.op.Op.TheVariants as op
 use Rattle.psm_exprcode.specs.declared.operand.Operand.{Operand}
 use Rattle.psm_exprcode.specs.declared.operand.Operand.TheVariants.{Value, Truth}
@@ -18,7 +17,7 @@ use Rattle.psm_resolved.specs.Open.{then_move, branch_move, Pends}
 use Rattle.psm_resolved.specs.Outcomes.{decided, of_one}
 use Rattle.psm_resolved.specs.RowValue.{tested, else_of, row_value, when_value}
 use Rattle.psm_resolved.specs.Sort.{Sort, is_of, goes_as, may_be, sort_of, when_sort}
-use Rattle.psm_resolved.specs.Written.{Written, Jumps, Adds, Writes, WritesSource}
+use Rattle.psm_resolved.specs.Written.{Written, Jumps, Adds, WritesSource}
 
 -- ---- tests: conditions, or values that are compared with the operand, which stays
 

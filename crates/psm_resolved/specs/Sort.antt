@@ -3,7 +3,6 @@
 -- stands in, of any in CAST, and alone of that which is asked for. It stands nowhere else.
 use Rattle.std.specs.Prelude.{ℕ, Bool, true, false, ◌&&◌, List, [], ◌∷◌, slice_get, nat_le, IsTrue, Option, Some, None, if◌then◌else◌}
 use Rattle.std.specs.List.{list_all}
-use Rattle.psm_value.specs.declared.sqltype.SqlType.{SqlType}
 use Rattle.psm_exprcode.specs.declared.op.Letter.{Letter}
 use Rattle.psm_exprcode.specs.declared.op.Letter.TheVariants.{N, T, B}
 use Rattle.psm_exprcode.specs.Kinds.{is_letter, is_value, some_value, letter_of}

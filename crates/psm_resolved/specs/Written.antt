@@ -1,5 +1,5 @@
 -- Lines that are written, and what they stand for.
-use Rattle.std.specs.Prelude.{◌≡◌, ℕ, Bool, true, false, Option, Some, None, Result, Ok, Err, List, [], ◌∷◌, ◌++◌, length, drop, reverse, replicate, map, option_map, IsTrue}
+use Rattle.std.specs.Prelude.{◌≡◌, ℕ, Bool, true, false, Option, Some, None, List, [], ◌∷◌, ◌++◌, length, drop, reverse, replicate, map, IsTrue}
 use Rattle.std.specs.List.{list_all}
 use Rattle.psm_value.specs.declared.datum.Datum.{Datum}
 use Rattle.psm_exprcode.specs.declared.op.Letter.{Letter}
@@ -7,9 +7,7 @@ use Rattle.psm_exprcode.specs.declared.op.Line.{Line}
 use Rattle.psm_exprcode.specs.declared.op.Letter.TheVariants.{N, T, B}
 use Rattle.psm_exprcode.specs.declared.op.Op.{Op}
 use Rattle.psm_exprcode.specs.declared.op.Op.TheVariants as op
-use Rattle.psm_exprcode.specs.declared.operand.Operand.{Operand}
-use Rattle.psm_exprcode.specs.declared.operand.Operand.TheVariants.{Value, Truth}
-use Rattle.psm_exprcode.specs.Evaluated.{Outcome, evaluated}
+use Rattle.psm_exprcode.specs.Evaluated.{evaluated}
 use Rattle.psm_exprcode.specs.Numbered.{with_op_at}
 use Rattle.psm_exprcode.specs.WellFormed.{is_of_kind, does_fit}
 use Rattle.psm_resolved.specs.declared.expr.Comparison.{Comparison}
@@ -23,13 +21,12 @@ use Rattle.psm_resolved.specs.declared.expr.TextFunction.TheVariants as function
 use Rattle.psm_resolved.specs.declared.expr.ResolvedExpr.{ResolvedExpr}
 use Rattle.psm_resolved.specs.declared.expr.ResolvedExpr.TheVariants as exprs
 use Rattle.psm_resolved.specs.declared.expr.ResolvedLink.{ResolvedLink}
-use Rattle.psm_resolved.specs.declared.expr.ResolvedWhen.{ResolvedWhen, out-ResolvedWhen}
-use Rattle.psm_resolved.specs.Blocks.{Moved, Move, Block, put, put_all}
+use Rattle.psm_resolved.specs.Blocks.{Move, Block, put, put_all}
 use Rattle.psm_list.specs.Several.{Several}
 use Rattle.psm_exprcode.specs.Kinds.{is_value}
-use Rattle.psm_resolved.specs.Outcomes.{decided, of_one, chosen, first_set}
-use Rattle.psm_resolved.specs.RowValue.{tested, listed, else_of, equal_to, row_value, when_value}
-use Rattle.psm_resolved.specs.Sort.{is_of, given, goes_as, may_be, are_tests, are_results, sort_of, when_sort}
+use Rattle.psm_resolved.specs.Outcomes.{first_set}
+use Rattle.psm_resolved.specs.RowValue.{listed, row_value}
+use Rattle.psm_resolved.specs.Sort.{is_of, given, goes_as, sort_of}
 
 -- the lines so far, and the letters of the operands behind them, the last one first
 pub record Written : Type 0 where

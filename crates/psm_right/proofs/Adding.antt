@@ -30,7 +30,7 @@ use Rattle.psm_emit.specs.declared.around.Around.TheVariants.{Loop, Block as Aro
 use Rattle.psm_emit.specs.declared.known.Known.{Known}
 use Rattle.psm_emit.specs.Parts.{Parts, iterates, leaves}
 use Rattle.psm_emit.specs.Queries.{TestMade, item_letters}
-use Rattle.psm_emit.specs.Simples.{CallArguments, Declares, Default, Deletes, Signals, Updates, WritesRows, WritesSimple, cleared, condition_items, copied, item_stored, more_operands, number_op, procedure_number, retrieved, statement_items, stored}
+use Rattle.psm_emit.specs.Simples.{CallArguments, Declares, Default, Deletes, Signals, Updates, WritesRows, WritesSimple, cleared, condition_items, copied, item_stored, more_operands, number_op, procedure_number, statement_items, stored}
 use Rattle.psm_emit.specs.Simples as written
 use Rattle.psm_emit.specs.Written.{Written, applied, last_letter, letters_at, plain, puts, takes, with_query}
 use Rattle.psm_emit.specs.Writing.{BeginsWith}

@@ -14,7 +14,7 @@ use Rattle.psm_emit.specs.declared.around.Around.{Around}
 use Rattle.psm_emit.specs.declared.known.Known.{Known}
 use Rattle.psm_emit.specs.Parts.{Parts, at, with_code}
 use Rattle.psm_emit.specs.Standing.{cursors_of}
-use Rattle.psm_emit.specs.Statements.{WritesBranches, WritesComparisons, WritesCursors, WritesElse, WritesHandlers, WritesStatement, WritesStatements, fetched, jumped, opened, passed, unless_true}
+use Rattle.psm_emit.specs.Statements.{WritesBranches, WritesComparisons, WritesElse, WritesHandlers, WritesStatement, WritesStatements, jumped, unless_true}
 use Rattle.psm_emit.specs.Statements as written
 use Rattle.psm_emit.specs.Written.{applied, last_letter, taken}
 use Rattle.psm_emit.proofs.Growing.{Grown, grown-code, grown-on, grown-plain, no_context}

@@ -23,7 +23,7 @@ use Rattle.psm_emit.specs.Written.{Written, all_applied, applied, with_query}
 use Rattle.psm_proper.specs.Expressions.{AllProper, LayerProper, LinksProper, PerhapsProper, Proper, WhensProper}
 use Rattle.psm_proper.specs.Expressions as parts
 use Rattle.psm_proper.specs.Queries.{ProperQuery}
-use Rattle.psm_sound.specs.Expressions.{AreLinks, AreWhens, IsElse, IsExpr}
+use Rattle.psm_sound.specs.Expressions.{AreLinks, AreWhens, IsElse}
 use Rattle.psm_sound.specs.Expressions as sound
 use Rattle.psm_sound.specs.Queries.{IsQuery}
 use Rattle.psm_sound.specs.Scene.{Each, Scene}

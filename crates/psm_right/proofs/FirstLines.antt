@@ -18,9 +18,9 @@ use Rattle.psm_emit.specs.declared.around.Around.TheVariants.{Loop, Block, Rows}
 use Rattle.psm_emit.specs.declared.known.Known.{Known}
 use Rattle.psm_emit.specs.Parts.{Parts, at, block_entered, iterates, leaves, next_context, with_plain}
 use Rattle.psm_emit.specs.Queries.{item_letters}
-use Rattle.psm_emit.specs.Simples.{WritesSimple, cleared, changed, more_operands, number_op, procedure_number, statement_items}
+use Rattle.psm_emit.specs.Simples.{WritesSimple, cleared, more_operands, number_op, procedure_number, statement_items}
 use Rattle.psm_emit.specs.Simples as simple
-use Rattle.psm_emit.specs.Statements.{WritesBranches, WritesComparisons, WritesCursors, WritesElse, WritesStatement, WritesStatements, fetched, jumped, opened, passed, unless_true}
+use Rattle.psm_emit.specs.Statements.{WritesBranches, WritesComparisons, WritesCursors, WritesElse, WritesStatement, WritesStatements, jumped, opened, passed, unless_true}
 use Rattle.psm_emit.specs.Statements as written
 use Rattle.psm_emit.specs.Written.{Written, applied, here, last_letter, letters_at, plain, puts, takes, with_query}
 use Rattle.psm_emit.specs.Writing.{Begins, Grows}

@@ -37,9 +37,9 @@ use Rattle.psm_emit.specs.Queries.{Layer, are_items, column_letters, is_query, i
 use Rattle.psm_emit.specs.Written.{letters_at, letters_or}
 use Rattle.psm_resolved.specs.Written.{letter_or}
 use Rattle.psm_emit.proofs.Numbers.{known_functions}
-use Rattle.psm_sound.specs.Queries.{AreItems, AreRowValues, AreSets, IsOperand, IsQuery, IsRowValue}
+use Rattle.psm_sound.specs.Queries.{AreItems, AreRowValues, AreSets, IsOperand, IsQuery}
 use Rattle.psm_sound.specs.Queries as sound
-use Rattle.psm_sound.specs.Scene.{Begin, Scene, columns_of, taken_by, variables_of, with_taken}
+use Rattle.psm_sound.specs.Scene.{Begin, Scene, columns_of, taken_by, with_taken}
 use Rattle.psm_sound.specs.Scene as scenes
 use Rattle.psm_right.specs.Kept.{FunctionTakes, Keeps, KeepsFunction, QueriesKeep}
 

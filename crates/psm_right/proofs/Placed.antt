@@ -22,7 +22,7 @@ use Rattle.psm_code.specs.TableRules.{are_there}
 use Rattle.psm_emit.specs.declared.around.Around.{Around}
 use Rattle.psm_emit.specs.declared.known.Known.{Known}
 use Rattle.psm_emit.specs.Parts.{Parts}
-use Rattle.psm_emit.specs.Simples.{Declares, WritesSimple, declared_with}
+use Rattle.psm_emit.specs.Simples.{WritesSimple, declared_with}
 use Rattle.psm_emit.specs.Simples as simple
 use Rattle.psm_emit.specs.Statements.{passed}
 use Rattle.psm_emit.specs.Written.{Written, here}

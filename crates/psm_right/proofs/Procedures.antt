@@ -25,7 +25,7 @@ use Rattle.psm_meaning.specs.Calls.{procedure_at, returns}
 use Rattle.psm_emit.specs.Simples.{procedure_number}
 use Rattle.psm_emit.specs.Written.{letters_or}
 use Rattle.psm_emit.proofs.Numbers.{known_procedures}
-use Rattle.psm_sound.specs.Scene.{Begin, Scene, taken_by, with_taken}
+use Rattle.psm_sound.specs.Scene.{Begin, Scene, taken_by}
 use Rattle.psm_sound.specs.Scene as scenes
 use Rattle.psm_sound.specs.Statements.{AreArguments}
 use Rattle.psm_proper.specs.Slots.{AreSlots}

@@ -30,7 +30,7 @@ use Rattle.psm_code.specs.Rules.{is_some}
 use Rattle.psm_code.specs.RoutineRules.{jump_of}
 use Rattle.psm_emit.specs.declared.known.Known.{Known}
 use Rattle.psm_emit.specs.Exprs.{Writes}
-use Rattle.psm_emit.specs.Simples.{CallArguments, Declares, Default, Signals, WritesRows, condition_items, copied, item_stored, letter_of_slots, number_op, statement_items}
+use Rattle.psm_emit.specs.Simples.{CallArguments, Declares, Default, Signals, WritesRows, condition_items, item_stored, letter_of_slots, number_op, statement_items}
 use Rattle.psm_emit.specs.Simples as written
 use Rattle.psm_emit.specs.Written.{Written, applied, letter_at, puts, takes}
 use Rattle.psm_sound.specs.Scene.{Each, Scene, letters_of, taken_by, with_taken}

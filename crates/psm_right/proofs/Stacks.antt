@@ -13,12 +13,11 @@ use Rattle.psm_resolved.specs.declared.expr.Operator.TheVariants as operators
 use Rattle.psm_resolved.specs.declared.expr.ResolvedExpr.{ResolvedExpr, out-ResolvedExpr}
 use Rattle.psm_resolved.specs.declared.expr.ResolvedLink.{ResolvedLink, out-ResolvedLink}
 use Rattle.psm_resolved.specs.declared.expr.ResolvedWhen.{ResolvedWhen, out-ResolvedWhen}
-use Rattle.psm_resolved.specs.Sort.{is_scale}
 use Rattle.psm_resolved.specs.Sort as sorts
 use Rattle.psm_resolved.specs.Written.{letter_of_operator, letter_or}
 use Rattle.psm_lower.specs.Expressions.{Layer, operands_of, operations_of, scaling}
 use Rattle.psm_emit.specs.declared.known.Known.{Known}
-use Rattle.psm_emit.specs.Exprs.{Arguments, Compares, Firsts, Joins, Links, Otherwise, Whens, Writes, WritesAll, straight_letter}
+use Rattle.psm_emit.specs.Exprs.{Arguments, Compares, Firsts, Joins, Links, Otherwise, Whens, Writes, WritesAll}
 use Rattle.psm_emit.specs.Exprs as written
 use Rattle.psm_emit.specs.Written.{Written, all_applied, last_letter, letter_at}
 use Rattle.psm_sound.specs.Expressions.{AreAll, AreExprs, AreLinks, AreWhens, IsElse, IsExpr}

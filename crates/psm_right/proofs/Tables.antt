@@ -7,7 +7,7 @@ use Rattle.psm_resolved.specs.declared.file.ResolvedTable.{ResolvedTable}
 use Rattle.psm_table.specs.Definition.{kinds_of}
 use Rattle.psm_code.specs.declared.code.RawCode.{RawCode}
 use Rattle.psm_code.specs.declared.code.RawRoutine.{RawRoutine}
-use Rattle.psm_code.specs.Instructions.{columns_at, columns_of_table, letters_in, table_letters, with_letter}
+use Rattle.psm_code.specs.Instructions.{columns_at, columns_of_table, with_letter}
 use Rattle.psm_code.specs.Instructions as code_letters
 use Rattle.psm_code.specs.PlanRules.{columns_there}
 use Rattle.psm_code.specs.Rules.{is_there, there, where_there}

@@ -18,7 +18,7 @@ use Rattle.psm_exprcode.proofs.Results.{null-letter}
 use Rattle.psm_exprcode.proofs.Standing.{both_true}
 use Rattle.psm_table.specs.Evaluator.{and_then, mapped, test_of, values_of}
 use Rattle.psm_table.specs.Queries as q
-use Rattle.psm_table.specs.Queries.{Aggregate, Answer, answer, answered, column, finished, first_by, function_of, in_range, in_walk, is_met, known, operand_of, operands_of, ranged, summed, averaged, taken, walked}
+use Rattle.psm_table.specs.Queries.{Aggregate, answer, answered, column, finished, first_by, function_of, in_range, in_walk, is_met, known, operand_of, operands_of, ranged, summed, averaged, taken, walked}
 use Rattle.psm_table.specs.Unique.{is_null}
 use Rattle.psm_tablecode.specs.Codes.{value_in}
 use Rattle.psm_resolved.specs.declared.expr.ResolvedExpr.{ResolvedExpr}

@@ -38,7 +38,7 @@ use Rattle.psm_meaning.specs.Values.{Layer, among, came, chosen, else_of, evalua
 use Rattle.psm_sound.specs.Scene.{Scene, Among, Each, columns_of, letters_of, taken_by, variables_of}
 use Rattle.psm_sound.specs.Queries.{AreItems, IsQuery}
 use Rattle.psm_sound.specs.Expressions as typed
-use Rattle.psm_sound.specs.Expressions.{AreAll, AreExprs, AreLinks, AreWhens, IsElse, IsExpr, letter_of_operator}
+use Rattle.psm_sound.specs.Expressions.{AreAll, AreExprs, AreLinks, AreWhens, IsElse, IsExpr}
 use Rattle.psm_sound.specs.States.{AreFilled, IsFilled}
 use Rattle.psm_sound.specs.Ends.{IsEnded, IsReturned}
 use Rattle.psm_sound.proofs.Comes.{Comes, Valued, AllValued, comes-valued}

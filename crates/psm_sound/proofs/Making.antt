@@ -14,7 +14,7 @@ use Rattle.psm_meaning.specs.Blocks.{Block}
 use Rattle.psm_sound.specs.Scene.{Scene}
 use Rattle.psm_sound.specs.Expressions.{IsExpr}
 use Rattle.psm_sound.specs.Statements as typed
-use Rattle.psm_sound.specs.Statements.{AreBranches, AreHandlers, AreStatements, IsCursor, IsDeclaration, IsStatement, Sight, in_action, inside}
+use Rattle.psm_sound.specs.Statements.{AreBranches, AreHandlers, AreStatements, IsStatement, Sight, in_action}
 use Rattle.psm_sound.proofs.Entering.{IsBlock}
 
 pub block-sound : {e : Scene} {s : Sight} (level : ℕ) (b : Block) → IsBlock e s level b → IsStatement e s (made.Compound level (roll-ResolvedBlock b))

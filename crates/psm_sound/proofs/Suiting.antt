@@ -18,9 +18,9 @@ use Rattle.psm_resolved.specs.declared.expr.Operator.{Operator}
 use Rattle.psm_resolved.specs.declared.expr.Operator.TheVariants as operators
 use Rattle.psm_resolved.specs.Outcomes as o
 use Rattle.psm_resolved.specs.RowValue as values
-use Rattle.psm_resolved.specs.RowValue.{connective, listed, operated}
+use Rattle.psm_resolved.specs.RowValue.{connective, operated}
 use Rattle.psm_resolved.specs.Sort as sorts
-use Rattle.psm_resolved.specs.Sort.{Sort, Wrong, Untyped, Of, are_results, are_tests, goes_as, is_of, letter_at, may_be, where_true}
+use Rattle.psm_resolved.specs.Sort.{Sort, Wrong, Untyped, Of, goes_as, is_of, where_true}
 use Rattle.psm_sound.specs.Expressions.{letter_of_operator}
 use Rattle.psm_sound.proofs.Comes.{Comes, Valued, AllValued, comes-valued, comes-one, comes-truths, no_truth, no_value}
 use Rattle.psm_sound.proofs.Layers.{link-comes}
