@@ -17,12 +17,13 @@ pub fn declare_known<'a>(
     frames: &mut Frames<'a>,
     name: &'a Name,
     known: Variable,
-) -> Result<bool, AllocError>
+) -> Result<(), AllocError>
     requires { IsTrue (can_declare_here frames.old) }
     ensures frames { IfOk result (λ _. frames.new ≡ with_variable frames.old name.now known) }
     ensures open { IfOk result (λ _. IsTrue (can_declare_here frames.new)) }
 {
-    frames.declare_variable(name, known)
+    frames.declare_variable(name, known)?;
+    Ok(())
 }
 
 /// Declares a condition by its number and the SQLSTATE that it is another name of.
@@ -31,12 +32,13 @@ pub fn declare_condition<'a>(
     name: &'a Name,
     number: u32,
     state: Option<SqlState>,
-) -> Result<bool, AllocError>
+) -> Result<(), AllocError>
     requires { IsTrue (can_declare_here frames.old) }
     ensures frames { IfOk result (λ _. frames.new ≡ with_named_condition frames.old name.now (record { number = number; state = state })) }
     ensures open { IfOk result (λ _. IsTrue (can_declare_here frames.new)) }
 {
-    frames.declare_condition(name, number, state)
+    frames.declare_condition(name, number, state)?;
+    Ok(())
 }
 
 /// Declares a cursor by its number.
@@ -44,12 +46,13 @@ pub fn declare_cursor<'a>(
     frames: &mut Frames<'a>,
     name: &'a Name,
     number: u32,
-) -> Result<bool, AllocError>
+) -> Result<(), AllocError>
     requires { IsTrue (can_declare_here frames.old) }
     ensures frames { IfOk result (λ _. frames.new ≡ with_numbered_cursor frames.old name.now number) }
     ensures open { IfOk result (λ _. IsTrue (can_declare_here frames.new)) }
 {
-    frames.declare_cursor(name, number)
+    frames.declare_cursor(name, number)?;
+    Ok(())
 }
 
 /// Declares a variable of a type in the next slot, which it gives.
