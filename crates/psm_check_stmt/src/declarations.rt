@@ -9,14 +9,13 @@ ghost use Rattle.psm_rules.specs.BlockFaults.{behind, condition_names, condition
 ghost use Rattle.psm_check_stmt.specs.InRoutine.{context};
 ghost use Rattle.psm_check_stmt.specs.Listed.{with_names};
 
-use crate::conditions::state_fault;
 use crate::cursors::declared_cursor;
 use crate::declaring::{declare_condition, declare_cursor, declare_variable};
 use crate::repeated::Repeats;
 use crate::sources::source_fault;
 use crate::statements::Context;
 use psm_check_expr::{Frames, expr_found, type_fault, type_of};
-use psm_known::good_state;
+use psm_known::{good_state, state_fault};
 use psm_list::{Boxed, List};
 use psm_rules::{Fault, Rule, earlier};
 use psm_scope::FrameKind;

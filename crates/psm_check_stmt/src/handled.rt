@@ -2,19 +2,17 @@
 ghost use Rattle.std.specs.Prelude.{◌≡◌, ◌∷◌, [], IfOk, map, option_map};
 ghost use Rattle.psm_rules.specs.Faults.{first_of};
 ghost use Rattle.psm_rules.specs.StatementFaults.{several};
-ghost use Rattle.psm_rules.specs.BlockFaults.{ByName, ByState, Exceptions, NoData, Warnings, all_values, handler_part, handles, named_value, value_fault, value_place, values_fault};
+ghost use Rattle.psm_rules.specs.BlockFaults.{ByName, ByState, Exceptions, NoData, Warnings, all_values, handler_part, handles, named_value, values_fault};
 ghost use Rattle.psm_check_stmt.specs.Handling.{AreHandled, FindsIn, Notes, NotesKnown};
 
-use crate::conditions::{condition_name_fault, state_fault};
 use indexmap::IndexSet;
 use psm_check_expr::Frames;
-use psm_known::good_state;
+use psm_known::{good_state, handler_value_fault};
 use psm_list::{Boxed, List, OneOrMore};
-use psm_rules::{Fault, Rule, breaks_if, earlier};
+use psm_rules::{Fault, earlier};
 use psm_scope::{DeclaredCondition, Names};
 use psm_sqlstate::SqlState;
 use psm_text::Name;
-use psm_token::Place;
 use psm_tree::{Handler, HandlerValue, Identifier};
 use std::alloc::{AllocError, Global};
 
@@ -202,31 +200,6 @@ fn value_fault<'a>(
 ) -> Result<Option<Fault>, AllocError>
     ensures { IfOk result (λ f. FindsIn frames.now (value.now ∷ []) handled.old handled.new f) }
 {
-    let own = unrepeated_fault(alloc, frames, value)?;
     let repeats = handled.repeats(alloc, frames, value)?;
-    let repeated = breaks_if(repeats, Rule::ConditionValueRepeated, value_place(value));
-    Ok(earlier(own, repeated))
-}
-
-// The fault of a value by itself.
-fn unrepeated_fault(
-    alloc: Global,
-    frames: &Frames,
-    value: &HandlerValue,
-) -> Result<Option<Fault>, AllocError>
-    ensures { IfOk result (λ f. f ≡ value_fault frames.now value.now) }
-{
-    match value {
-        HandlerValue::State(state) => state_fault(alloc, state),
-        HandlerValue::Name(name) => Ok(condition_name_fault(frames, name)),
-        HandlerValue::SqlException { .. }
-        | HandlerValue::SqlWarning { .. }
-        | HandlerValue::NotFound { .. } => Ok(None),
-    }
-}
-
-fn value_place(value: &HandlerValue) -> Place
-    ensures { result ≡ value_place value.now }
-{
-    value.place()
+    handler_value_fault(alloc, frames, value, repeats)
 }

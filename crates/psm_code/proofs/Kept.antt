@@ -8,6 +8,7 @@ use Rattle.psm_exprcode.specs.Stacks.{stack_at, Extends}
 use Rattle.psm_code.specs.declared.lines.CodeLine.{CodeLine}
 use Rattle.psm_code.specs.declared.lines.NumberedLine.{NumberedLine}
 use Rattle.psm_code.specs.Numbered.{line_of, lines_of, AreStatedIn}
+use Rattle.psm_code.specs.Writing.{Writing}
 
 -- the line with the letters of its stack
 abbrev pub with_stack : NumberedLine → List Letter → CodeLine
@@ -28,3 +29,14 @@ lines_push old new lines more n letters h k e g =
 
 pub stated_there : (stacks : List (List Letter)) (lines : List NumberedLine) (at : ℕ) (l : NumberedLine) → AreStatedIn stacks lines → at < length lines → l ≡ get_or lines at l → l.stack < length stacks
 stated_there stacks lines at l h k e = let P : NumberedLine → Type 0 = λ x. x.stack < length stacks in subst P (sym e) (h at l k)
+
+-- ---- lines that stay where letters are put behind them
+
+abbrev written : List CodeLine → List Letter → Writing
+written lines stack = record { lines = lines; stack = stack }
+
+pub written_put : (old new : List (List Letter)) (lines : List NumberedLine) (s more letters : List Letter) (w : Writing) → written (lines_of old lines) s ≡ w → Extends old new → AreStatedIn old lines → more ≡ letters ++ s
+    → written (lines_of new lines) more ≡ written w.lines (letters ++ w.stack)
+written_put old new lines s more letters w e h k g =
+    let kept : lines_of new lines ≡ w.lines = lines_kept old new lines h k ∙ ap (λ x. x.lines) e in
+    ap (λ x. written x more) kept ∙ ap (written w.lines) (g ∙ ap (λ x. letters ++ x.stack) e)

@@ -14,3 +14,4 @@ pub mod TableRules
 pub mod PlanRules
 pub mod RoutineRules
 pub mod Sits
+pub mod Writing

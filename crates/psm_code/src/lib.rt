@@ -7,9 +7,11 @@ mod instruction;
 mod laws;
 mod lines;
 mod rule;
+mod writing;
 
 pub use code::{CodeCursor, CodeTable, Parameter, ParameterMode, Plan, RawCode, RawRoutine};
 pub use instruction::Instruction;
 pub use laws::{empty_code_is_right, right_code_lacks_nothing, runs_have_one_end};
 pub use lines::{CodeLine, Lines};
 pub use rule::CodeRule;
+pub use writing::LinesWriter;

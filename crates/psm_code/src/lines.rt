@@ -2,7 +2,7 @@
 ghost use Rattle.std.specs.Prelude.{◌≡◌, ◌<◌, [], ◌∷◌, ◌++◌, ℕ, length, slice_get, option_map, IfSome, OnErr, OnOk};
 ghost use Rattle.std.specs.List.{All};
 ghost use Rattle.std.specs.Option.{option_copied};
-ghost use Rattle.psm_code.specs.Numbered.{with_instruction_at, with_resume_at};
+ghost use Rattle.psm_code.specs.Numbered.{lines_of, with_instruction_at, with_resume_at, AreStatedIn};
 
 use crate::instruction::Instruction;
 use psm_exprcode::{Letter, Stacks};
@@ -23,10 +23,10 @@ pub struct CodeLine {
 /// A line that has its stack by number.
 #[derive(Debug, Drop)]
 pub(crate) struct NumberedLine {
-    context: u32,
-    resume: Option<u32>,
-    stack: usize,
-    instruction: Instruction,
+    pub(crate) context: u32,
+    pub(crate) resume: Option<u32>,
+    pub(crate) stack: usize,
+    pub(crate) instruction: Instruction,
 }
 
 /// The lines of a routine, seen as these. Stacks of lines share what lies below: a line takes memory for those of its letters alone
@@ -58,6 +58,14 @@ impl Lines {
             stacks: Stacks::new(alloc),
             lines: Vec::new(alloc),
         }
+    }
+
+    /// Lines that have their stacks by number.
+    pub(crate) fn numbered(stacks: Stacks, lines: Vec<NumberedLine>) -> Lines
+        requires { AreStatedIn stacks lines.items }
+        ensures { result ≡ lines_of stacks lines.items }
+    {
+        Lines { stacks, lines }
     }
 
     /// Puts a line behind the others, with the letters of the operands that stand before its instruction, the last one at the end.

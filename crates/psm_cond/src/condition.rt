@@ -1,5 +1,5 @@
 //! Conditions.
-ghost use Rattle.std.specs.Prelude.{◌≡◌, ◌↔◌, ◌≤◌, IfOk, IsTrue, SomeIff, length, map};
+ghost use Rattle.std.specs.Prelude.{◌≡◌, ◌↔◌, ◌≤◌, IfOk, IsTrue, length, map};
 ghost use Rattle.psm_sqlstate.specs.Kind.{kind_of};
 ghost use Rattle.psm_cond.specs.Entry.{entry_of, name_text, without_own};
 ghost use Rattle.psm_cond.specs.Condition.{alone, behind, by_state};
@@ -40,21 +40,6 @@ impl Model for Condition {
 }
 
 impl Condition {
-    /// The condition of these entries; `more` tells that others were dropped. `None` comes exactly where there
-    /// are more than three behind the first one.
-    pub fn try_new(first: Entry, others: List<Entry>, more: bool) -> Option<Condition>
-        ensures { SomeIff result (length others ≤ 3) (record { first = first; others = others; more = more }) }
-    {
-        if others.items().len() > MOST_OTHERS {
-            return None;
-        }
-        Some(Condition {
-            first,
-            others,
-            more,
-        })
-    }
-
     /// The condition of one entry.
     pub fn of(alloc: Global, entry: Entry) -> Condition
         ensures { result ≡ alone entry }

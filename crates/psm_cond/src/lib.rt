@@ -10,7 +10,6 @@ mod fault;
 mod handlers;
 mod item;
 mod laws;
-mod sound;
 
 pub use area::Area;
 pub use choice::choose;

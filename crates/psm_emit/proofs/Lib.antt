@@ -12,7 +12,6 @@ pub mod Goes
 pub mod Lists
 pub mod Codes
 pub mod ItemLetters
-pub mod Stacks
 pub mod Ends
 pub mod Forms
 pub mod GrowthSimples

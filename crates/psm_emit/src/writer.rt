@@ -1,31 +1,29 @@
 //! Lines that are written one behind another.
-ghost use Rattle.std.specs.Prelude.{◌≡◌, ◌∷◌, [], ◌++◌, None, Some, drop, length, reverse, slice_get, IfOk};
+ghost use Rattle.std.specs.Prelude.{◌≡◌, ◌∷◌, [], None, Some, drop, length, slice_get, IfOk};
 ghost use Rattle.psm_resolved.specs.Written.{letter_or};
 ghost use Rattle.psm_lower.specs.Expressions.{negating, scaling};
 ghost use Rattle.psm_emit.specs.Written.{Written, all_applied, applied as with_operation, here, last_letter, plain, puts, second_letter, taken, takes, with_line, with_query};
 ghost use Rattle.psm_exprcode.specs.declared.op.Letter.TheVariants.{N, B};
 
-use psm_code::{Instruction, Lines};
+use psm_code::{Instruction, Lines, LinesWriter};
 use psm_exprcode::{Letter, Op, Query};
 use psm_list::List;
 use std::alloc::{AllocError, Global};
 use std::marker::Model;
 
-/// The lines so far, the letters of the operands behind them, the last one at the end, and the queries so far.
+/// The lines so far, the letters of the operands behind them, and the queries so far.
 #[derive(Drop)]
 pub(crate) struct Writer {
-    lines: Lines,
-    stack: Vec<Letter>,
+    code: LinesWriter,
     queries: Vec<Query>,
 }
 
 impl Model for Writer {
-    ghost use Rattle.std.specs.Prelude.{reverse};
     ghost use Rattle.psm_emit.specs.Written.{Written};
 
     ghost Value = { Written };
 
-    ghost view = { λ w. record { lines = w.lines; stack = reverse w.stack.items; queries = w.queries.items } };
+    ghost view = { λ w. record { lines = w.code.lines; stack = w.code.stack; queries = w.queries.items } };
 }
 
 impl Writer {
@@ -34,8 +32,7 @@ impl Writer {
         ensures { result ≡ record { lines = []; stack = []; queries = [] } }
     {
         Writer {
-            lines: Lines::new(alloc),
-            stack: Vec::new(alloc),
+            code: LinesWriter::new(alloc),
             queries: Vec::new(alloc),
         }
     }
@@ -45,8 +42,8 @@ impl Writer {
         ensures lines { result.0 ≡ self.lines }
         ensures queries { result.1 ≡ self.queries }
     {
-        let Writer { lines, queries, .. } = self;
-        (lines, List::of(queries))
+        let Writer { code, queries } = self;
+        (code.into_lines(), List::of(queries))
     }
 
     /// Writes an instruction, which leaves the operands as they are.
@@ -58,17 +55,14 @@ impl Writer {
     ) -> Result<(), AllocError>
         ensures { IfOk result (λ _. self.new ≡ with_line context resume instruction self.old.stack self.old) }
     {
-        self.lines
-            .push(context, resume, self.stack.as_slice(), instruction)
+        self.code.line(context, resume, instruction)
     }
 
     /// Takes so many letters off, or all that there are.
-    #[tactic(auto, using(crate::proofs::Stacks::dropped_below))]
     fn forget(&mut self, count: usize)
         ensures { self.new ≡ record self.old { stack = drop count self.old.stack } }
     {
-        let below = self.stack.len().saturating_sub(count);
-        self.stack.truncate(below);
+        self.code.take(count);
     }
 
     /// Writes an instruction that raises no condition and leaves the operands as they are.
@@ -92,7 +86,7 @@ impl Writer {
     {
         self.line(context, Some(resume), instruction)?;
         self.forget(takes);
-        heap(&mut self.stack, letters)
+        self.code.put_all(letters)
     }
 
     /// Writes an instruction that takes so many operands and puts one of that letter.
@@ -108,8 +102,7 @@ impl Writer {
     {
         self.line(context, Some(resume), instruction)?;
         self.forget(takes);
-        self.stack.push(letter)?;
-        Ok(())
+        self.code.put(letter)
     }
 
     /// Writes an instruction that takes so many operands and puts none.
@@ -201,7 +194,7 @@ impl Writer {
     pub fn height(&self) -> usize
         ensures { result ≡ length self.now.stack }
     {
-        self.stack.len()
+        self.code.height()
     }
 
     /// The letter of the last operand; that of a number where there is none.
@@ -219,14 +212,12 @@ impl Writer {
     }
 
     /// The letter of the operand that so many others stand on; that of a number where there is none.
-    #[tactic(auto, using(crate::proofs::Stacks::from_below, crate::proofs::Stacks::past_all))]
     fn letter_below(&self, others: usize) -> Letter
         ensures { result ≡ letter_or (slice_get self.now.stack others) }
     {
-        if others < self.stack.len() {
-            self.stack[self.stack.len() - 1 - others]
-        } else {
-            Letter::N
+        match self.code.letter_below(others) {
+            Some(letter) => letter,
+            None => Letter::N,
         }
     }
 
@@ -234,22 +225,9 @@ impl Writer {
     pub fn here(&self) -> Result<u32, AllocError>
         ensures { IfOk result (λ place. place ≡ here self.now) }
     {
-        match u32::try_from(self.lines.len()) {
+        match u32::try_from(self.code.len()) {
             Ok(place) => Ok(place),
             Err(_) => Err(AllocError),
         }
     }
-}
-
-/// Puts letters behind others, the first one last.
-#[tactic(auto, using(crate::proofs::Stacks::one_more))]
-fn heap(stack: &mut Vec<Letter>, letters: &[Letter]) -> Result<(), AllocError>
-    ensures { IfOk result (λ _. reverse stack.new.items ≡ letters.now ++ reverse stack.old.items) }
-{
-    let mut left = letters.len();
-    while left > 0 {
-        left -= 1;
-        stack.push(letters[left])?;
-    }
-    Ok(())
 }

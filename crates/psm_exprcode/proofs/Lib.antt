@@ -1,4 +1,5 @@
 pub mod Among
+pub mod Changing
 pub mod Likes
 pub mod OnTop
 pub mod Positions

@@ -13,3 +13,4 @@ pub mod Texts
 pub mod Values
 pub mod Ways
 pub mod WellFormed
+pub mod Writing

@@ -3,7 +3,7 @@ ghost use Rattle.std.specs.Prelude.{◌≡◌, ◌<◌, [], ◌∷◌, ◌++◌,
 ghost use Rattle.std.specs.List.{All};
 ghost use Rattle.std.specs.Option.{option_copied};
 ghost use Rattle.psm_exprcode.specs.Lent.{lines_in};
-ghost use Rattle.psm_exprcode.specs.Numbered.{with_op_at};
+ghost use Rattle.psm_exprcode.specs.Numbered.{lines_of, with_op_at, AreStatedIn};
 
 use crate::lent::NumberedLines;
 use crate::op::{Letter, Op};
@@ -47,6 +47,14 @@ impl RawExpr {
             stacks: Stacks::new(alloc),
             lines: Vec::new(alloc),
         }
+    }
+
+    /// Lines that have their stacks by number.
+    pub(crate) fn numbered(stacks: Stacks, lines: Vec<NumberedLine>) -> RawExpr
+        requires { AreStatedIn stacks lines.items }
+        ensures { result ≡ lines_of stacks lines.items }
+    {
+        RawExpr { stacks, lines }
     }
 
     /// Puts a line behind the others: the letters of the operands that stand before the operation, the last

@@ -1,5 +1,5 @@
 //! Stacks of letters that share what lies below.
-ghost use Rattle.std.specs.Prelude.{◌≡◌, ◌<◌, ◌≤◌, [], ◌∷◌, ◌++◌, length, reverse, take, IfOk, IfSome, OnErr, OnOk, MatchOption};
+ghost use Rattle.std.specs.Prelude.{◌≡◌, ◌<◌, ◌≤◌, [], ◌∷◌, ◌++◌, drop, length, reverse, take, IfOk, IfSome, OnErr, OnOk, MatchOption, IsTrue};
 ghost use Rattle.psm_exprcode.specs.Stacks.{first_stacks, stack_at, Extends};
 
 use crate::letters::is_known;
@@ -136,7 +136,8 @@ impl Stacks {
         (shared, count)
     }
 
-    fn depth(&self, number: usize) -> usize
+    /// How many letters a stack has.
+    pub(crate) fn depth(&self, number: usize) -> usize
         requires { number < length self.now }
         ensures { result ≡ length (stack_at self.now number) }
     {
@@ -147,6 +148,61 @@ impl Stacks {
             depth += 1;
         }
         depth
+    }
+
+    /// What is left of a stack where so many letters are taken off, or all that there are, and the stack of the
+    /// last letter that was taken.
+    #[tactic(auto, using(crate::proofs::Changing::dropped_step, crate::proofs::Changing::dropped_all))]
+    pub(crate) fn dropped(&self, number: usize, count: usize) -> (usize, usize)
+        requires { number < length self.now }
+        ensures there { result.0 < length self.now }
+        ensures above { result.1 < length self.now }
+        ensures letters { stack_at self.now result.0 ≡ drop count (stack_at self.now number) }
+    {
+        let mut rest = number;
+        let mut above = number;
+        let mut more = count;
+        while more > 0 {
+            match self.split(rest) {
+                Some((_, below)) => {
+                    above = rest;
+                    rest = below;
+                }
+                None => return (rest, above),
+            }
+            more -= 1;
+        }
+        (rest, above)
+    }
+
+    /// The number of the stack of that letter on the one of the number `below`. Where the stack of the number
+    /// `like` is that one, no memory is taken.
+    pub fn put_like(
+        &mut self,
+        letter: Letter,
+        below: usize,
+        like: usize,
+    ) -> Result<usize, AllocError>
+        requires below { below < length self.old }
+        requires like { like < length self.old }
+        ensures extends { Extends self.old self.new }
+        ensures number { IfOk result (λ n. (n < length self.new) × (stack_at self.new n ≡ letter ∷ stack_at self.old below)) }
+    {
+        if self.is_on(letter, below, like) {
+            Ok(like)
+        } else {
+            self.put(letter, below)
+        }
+    }
+
+    fn is_on(&self, letter: Letter, below: usize, number: usize) -> bool
+        requires { number < length self.now }
+        ensures { IsTrue result → stack_at self.now number ≡ letter ∷ stack_at self.now below }
+    {
+        match self.split(number) {
+            Some((last, rest)) => last == letter && rest == below,
+            None => false,
+        }
     }
 
     // The letters on a stack, one after another.

@@ -3,6 +3,7 @@
 
 mod columns;
 mod constants;
+mod handled;
 mod names;
 mod numbers;
 mod orders;
@@ -14,6 +15,7 @@ pub use columns::{
     unknown_column,
 };
 pub use constants::signed;
+pub use handled::{condition_name_fault, handler_value_fault, state_fault};
 pub use names::{label_name, last_name};
 pub use numbers::{as_number, next_number};
 pub use orders::is_one_way;

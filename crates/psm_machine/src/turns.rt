@@ -6,7 +6,7 @@ ghost use Rattle.psm_unwind.specs.Marks.{SameFrames};
 ghost use Rattle.psm_machine.specs.Coming.{Does};
 
 use crate::stop::Stop;
-use psm_unwind::Run;
+use psm_unwind::{Run, spend};
 
 /// Uses a turn.
 #[inline(always)]
@@ -16,10 +16,10 @@ pub fn turn(run: &mut Run) -> Result<(), Stop>
     ensures same { SameFrames run.old run.new }
     ensures routine { run.new.running.routine ≡ run.old.running.routine }
 {
-    if run.turns == 0 {
+    let Some(left) = spend(run.turns) else {
         return Err(Stop::NoTurns);
-    }
-    run.turns -= 1;
+    };
+    run.turns = left;
     Ok(())
 }
 

@@ -124,7 +124,7 @@ fn if_branches(
 
 /// `[ELSE statements] END IF`
 #[cycle(statements)]
-#[tactic(auto, using(psm_tree::proofs::Reading::steps), unfolding(psm_tree::specs::StatementGrammar::if_end))]
+#[tactic(auto, using(psm_tree::proofs::Reading::steps, psm_parse_token::proofs::Ends::reading_two), unfolding(psm_tree::specs::StatementGrammar::if_end))]
 fn if_end(
     alloc: Global,
     tokens: &mut Tokens,
@@ -133,8 +133,7 @@ fn if_end(
     ensures { Takes (reading levels if_end_part tokens.old.rest.now) result tokens.new.rest.now }
 {
     let otherwise = perhaps_otherwise(alloc, tokens, levels)?;
-    tokens.word(Word::End)?;
-    tokens.word(Word::If)?;
+    tokens.end_of(Word::If)?;
     Ok(otherwise)
 }
 
@@ -217,7 +216,7 @@ fn all_when_branches(
 
 /// `[ELSE statements] END CASE`
 #[cycle(statements)]
-#[tactic(auto, using(psm_tree::proofs::Reading::steps), unfolding(psm_tree::specs::StatementGrammar::case_end))]
+#[tactic(auto, using(psm_tree::proofs::Reading::steps, psm_parse_token::proofs::Ends::reading_two), unfolding(psm_tree::specs::StatementGrammar::case_end))]
 fn case_end(
     alloc: Global,
     tokens: &mut Tokens,
@@ -226,8 +225,7 @@ fn case_end(
     ensures { Takes (reading levels case_end_part tokens.old.rest.now) result tokens.new.rest.now }
 {
     let otherwise = perhaps_otherwise(alloc, tokens, levels)?;
-    tokens.word(Word::End)?;
-    tokens.word(Word::Case)?;
+    tokens.end_of(Word::Case)?;
     Ok(otherwise)
 }
 

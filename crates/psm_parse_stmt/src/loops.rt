@@ -16,7 +16,7 @@ use std::alloc::Global;
 
 /// `statements END LOOP`
 #[cycle(statements)]
-#[tactic(auto, using(psm_tree::proofs::Reading::steps), unfolding(psm_tree::specs::StatementGrammar::loop_rest))]
+#[tactic(auto, using(psm_tree::proofs::Reading::steps, psm_parse_token::proofs::Ends::reading_two), unfolding(psm_tree::specs::StatementGrammar::loop_rest))]
 fn loop_rest(
     alloc: Global,
     tokens: &mut Tokens,
@@ -25,8 +25,7 @@ fn loop_rest(
     ensures { Takes (reading levels loop_rest_part tokens.old.rest.now) result tokens.new.rest.now }
 {
     let statements = statements(alloc, tokens, levels)?;
-    tokens.word(Word::End)?;
-    tokens.word(Word::Loop)?;
+    tokens.end_of(Word::Loop)?;
     Ok(statements)
 }
 
@@ -47,7 +46,7 @@ pub(crate) fn loop_block(
 
 /// `DO statements END WHILE`
 #[cycle(statements)]
-#[tactic(auto, using(psm_tree::proofs::Reading::steps), unfolding(psm_tree::specs::StatementGrammar::while_body))]
+#[tactic(auto, using(psm_tree::proofs::Reading::steps, psm_parse_token::proofs::Ends::reading_two), unfolding(psm_tree::specs::StatementGrammar::while_body))]
 fn while_body(
     alloc: Global,
     tokens: &mut Tokens,
@@ -57,8 +56,7 @@ fn while_body(
 {
     tokens.word(Word::Do)?;
     let statements = statements(alloc, tokens, levels)?;
-    tokens.word(Word::End)?;
-    tokens.word(Word::While)?;
+    tokens.end_of(Word::While)?;
     Ok(statements)
 }
 
@@ -98,14 +96,13 @@ pub(crate) fn while_block(
 }
 
 /// `UNTIL expr END REPEAT`
-#[tactic(auto, using(psm_tree::proofs::Reading::steps), unfolding(psm_tree::specs::StatementGrammar::until))]
+#[tactic(auto, using(psm_tree::proofs::Reading::steps, psm_parse_token::proofs::Ends::reading_two), unfolding(psm_tree::specs::StatementGrammar::until))]
 fn until(alloc: Global, tokens: &mut Tokens, levels: u32) -> Result<Boxed<Expr>, Halt>
     ensures { Takes (reading levels until_part tokens.old.rest.now) result tokens.new.rest.now }
 {
     tokens.word(Word::Until)?;
     let test = expr(alloc, tokens, levels)?;
-    tokens.word(Word::End)?;
-    tokens.word(Word::Repeat)?;
+    tokens.end_of(Word::Repeat)?;
     Ok(test)
 }
 
@@ -146,7 +143,7 @@ pub(crate) fn repeat_block(
 
 /// `DO statements END FOR`
 #[cycle(statements)]
-#[tactic(auto, using(psm_tree::proofs::Reading::steps), unfolding(psm_tree::specs::StatementGrammar::for_body))]
+#[tactic(auto, using(psm_tree::proofs::Reading::steps, psm_parse_token::proofs::Ends::reading_two), unfolding(psm_tree::specs::StatementGrammar::for_body))]
 fn for_body(
     alloc: Global,
     tokens: &mut Tokens,
@@ -156,8 +153,7 @@ fn for_body(
 {
     tokens.word(Word::Do)?;
     let statements = statements(alloc, tokens, levels)?;
-    tokens.word(Word::End)?;
-    tokens.word(Word::For)?;
+    tokens.end_of(Word::For)?;
     Ok(statements)
 }
 

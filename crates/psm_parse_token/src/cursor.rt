@@ -7,6 +7,7 @@ ghost use Rattle.psm_token.specs.Words.{word_kind};
 ghost use Rattle.psm_tree.specs.Readers.{Takes, TakesAs, opening};
 ghost use Rattle.psm_tree.specs.Tests.{name_kinds, word as word_test, sign as sign_test, name as name_test, number as number_test, text as text_test};
 ghost use Rattle.psm_parse_token.specs.Among.{among};
+ghost use Rattle.psm_parse_token.specs.Ended.{ended};
 
 use crate::token::{is_name, is_sign_of, is_word_of, spelled_name};
 use psm_grammar::Halt;
@@ -135,6 +136,16 @@ impl<'a> Tokens<'a> {
                 Ok(place)
             }
         }
+    }
+
+    /// Takes END and the word behind it, which end a statement; `Syntax` where another token or none stands at one of the two.
+    #[tactic(auto, unfolding(crate::specs::Ended::two))]
+    pub fn end_of(&mut self, word: Word) -> Result<(), Halt>
+        ensures { Takes (ended word self.old.rest.now) result self.new.rest.now }
+    {
+        self.word(Word::End)?;
+        self.word(word)?;
+        Ok(())
     }
 
     /// Takes one of the words, and gives its place; `Syntax` where another token or none stands there.

@@ -1,6 +1,5 @@
 pub mod Examples
 pub mod Equations
-pub mod Letters
 pub mod Lines
 pub mod Operations
 pub mod Forms

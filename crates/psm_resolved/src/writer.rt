@@ -4,24 +4,22 @@ ghost use Rattle.psm_exprcode.specs.Numbered.{with_op_at};
 ghost use Rattle.psm_resolved.specs.Written.{with_line, with_op, with_not, with_scale, with_copy, with_comparison, last_letter, patched, Jumps, Leaves};
 ghost use Rattle.psm_resolved.specs.Exits.{exit_op};
 
-use psm_exprcode::{Letter, Op, RawExpr};
+use psm_exprcode::{ExprWriter, Letter, Op, RawExpr};
 use std::alloc::{AllocError, Global};
 use std::marker::Model;
 
-/// The lines so far, and the letters of the operands behind them, the last one at the end.
+/// The lines so far, and the letters of the operands behind them.
 #[derive(Drop)]
 pub(crate) struct Writer {
-    lines: RawExpr,
-    stack: Vec<Letter>,
+    code: ExprWriter,
 }
 
 impl Model for Writer {
-    ghost use Rattle.std.specs.Prelude.{reverse};
     ghost use Rattle.psm_resolved.specs.Written.{Written};
 
     ghost Value = { Written };
 
-    ghost view = { λ w. record { lines = w.lines; stack = reverse w.stack.items } };
+    ghost view = { λ w. record { lines = w.code.lines; stack = w.code.stack } };
 }
 
 impl Writer {
@@ -30,8 +28,7 @@ impl Writer {
         ensures { result ≡ record { lines = []; stack = [] } }
     {
         Writer {
-            lines: RawExpr::new(alloc),
-            stack: Vec::new(alloc),
+            code: ExprWriter::new(alloc),
         }
     }
 
@@ -39,24 +36,22 @@ impl Writer {
     pub fn into_lines(self) -> RawExpr
         ensures { result ≡ self.lines }
     {
-        let Writer { lines, .. } = self;
-        lines
+        let Writer { code } = self;
+        code.into_lines()
     }
 
     /// Writes an operation on the operands that there are.
     fn line(&mut self, op: Op) -> Result<(), AllocError>
         ensures { IfOk result (λ _. self.new ≡ with_line self.old op self.old.stack) }
     {
-        self.lines.push(self.stack.as_slice(), op)
+        self.code.line(op)
     }
 
     /// Takes so many letters off, or all that there are.
-    #[tactic(auto, using(crate::proofs::Letters::dropped_below))]
     fn forget(&mut self, count: usize)
         ensures { self.new ≡ record { lines = self.old.lines; stack = drop count self.old.stack } }
     {
-        let below = self.stack.len().saturating_sub(count);
-        self.stack.truncate(below);
+        self.code.take(count);
     }
 
     /// Writes an operation that takes so many operands and puts one of that letter.
@@ -65,8 +60,7 @@ impl Writer {
     {
         self.line(op)?;
         self.forget(takes);
-        self.stack.push(puts)?;
-        Ok(())
+        self.code.put(puts)
     }
 
     /// Writes NOT, where it is wanted.
@@ -114,8 +108,8 @@ impl Writer {
     pub fn last(&self) -> Letter
         ensures { result ≡ last_letter self.now.stack }
     {
-        match self.stack.last() {
-            Some(letter) => *letter,
+        match self.code.letter_below(0) {
+            Some(letter) => letter,
             None => Letter::N,
         }
     }
@@ -125,7 +119,7 @@ impl Writer {
     pub fn jump(&mut self, op: Op, takes: usize) -> Result<usize, AllocError>
         ensures { IfOk result (λ place. Jumps op takes place self.old self.new) }
     {
-        let place = self.lines.len();
+        let place = self.code.len();
         self.line(op)?;
         self.forget(takes);
         Ok(place)
@@ -135,7 +129,7 @@ impl Writer {
     pub fn here(&self) -> Result<u32, AllocError>
         ensures { IfOk result (λ place. place ≡ length self.now.lines) }
     {
-        match u32::try_from(self.lines.len()) {
+        match u32::try_from(self.code.len()) {
             Ok(place) => Ok(place),
             Err(_) => Err(AllocError),
         }
@@ -145,7 +139,7 @@ impl Writer {
     pub fn set(&mut self, place: usize, op: Op)
         ensures { self.new ≡ record { lines = with_op_at self.old.lines place op; stack = self.old.stack } }
     {
-        self.lines.set_op(place, op);
+        self.code.set_op(place, op);
     }
 
     /// Writes a jump to the end behind a result, and lets the jump at that place pass over both. The answer is

@@ -4,5 +4,7 @@ pub mod NumberTexts
 pub mod Numerals
 pub mod Plain
 pub mod Pushing
+pub mod Spacing
 pub mod Spellable
+pub mod Stops
 pub mod Walks

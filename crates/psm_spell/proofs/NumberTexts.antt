@@ -22,6 +22,7 @@ use Rattle.psm_token.specs.Fronts.{front_of}
 use Rattle.psm_token.proofs.Runs.{number_ok}
 use Rattle.psm_spell.specs.Written.{is_fraction, number_text, IsSpellableNumber}
 use Rattle.psm_spell.proofs.Numerals.{plain, numeral_stands}
+use Rattle.psm_spell.proofs.Stops.{stops}
 
 -- a literal without a sign that is written so
 record IsNumeral (text : List ℕ) (d : Num) : Type 0 where
@@ -126,22 +127,22 @@ module _ (v s : ℕ) (scale_bound : s ≤ 18) (size_bound : v < 10 ^ 18) where
       by true e = below_one (and_first (nat_lt 0 s) (nat_lt v (10 ^ s)) e) (and_second (nat_lt 0 s) (nat_lt v (10 ^ s)) e)
       by false e = with_whole e
 
-stands_so : (text rest : List ℕ) (d : Num) → IsNumeral text d → IsToken (front_of false (text ++ 32 ∷ rest)) (text ++ 32 ∷ rest) (length text) (Number d)
-stands_so text rest d h =
-    subst (λ (x : List ℕ). IsToken (front_of false (x ++ 32 ∷ rest)) (x ++ 32 ∷ rest) (length x) (Number d)) h.spelled
-    (numeral_stands h.whole h.fraction h.pointed rest (Number d) h.form h.limit (ap (λ (m : Num). Number m) (sym h.value)))
+stands_so : (text rest : List ℕ) (d : Num) → stops rest ≡ true → IsNumeral text d → IsToken (front_of false (text ++ rest)) (text ++ rest) (length text) (Number d)
+stands_so text rest d end h =
+    subst (λ (x : List ℕ). IsToken (front_of false (x ++ rest)) (x ++ rest) (length x) (Number d)) h.spelled
+    (numeral_stands h.whole h.fraction h.pointed rest (Number d) end h.form h.limit (ap (λ (m : Num). Number m) (sym h.value)))
 
 -- the value of a literal without a sign
 unsigned_value : (l : Literal) → l.sign ≡ None → literal_value l ≡ record { coef = pos (digits_value 10 (l.whole ++ l.fraction)); scale = length l.fraction }
 unsigned_value l e = ap (λ (g : Option Sign). literal_value (record { sign = g; whole = l.whole; fraction = l.fraction; pointed = l.pointed })) e
 
-pub number_stands : (d : Num) (rest : List ℕ) → IsSpellableNumber d
-    → IsToken (front_of false (number_text d ++ 32 ∷ rest)) (number_text d ++ 32 ∷ rest) (length (number_text d)) (Number d)
-number_stands d rest h =
+pub number_stands : (d : Num) (rest : List ℕ) → IsSpellableNumber d → stops rest ≡ true
+    → IsToken (front_of false (number_text d ++ rest)) (number_text d ++ rest) (length (number_text d)) (Number d)
+number_stands d rest h end =
     let w = h.literal.whole in
     let f = h.literal.fraction in
     let digits : list_all is_ascii_digit (w ++ f) ≡ true = list_all-append is_ascii_digit w f ∙ rw (h.form.whole_digits, h.form.fraction_digits) refl in
     let small : digits_value 10 (w ++ f) < 10 ^ 18 = digits_value_short own (w ++ f) 18 digits (omega (arith, length-append w f, h.limit)) in
     let at : Num = record { coef = pos (digits_value 10 (w ++ f)); scale = length f } in
     let same : d ≡ at = h.value ∙ unsigned_value h.literal h.unsigned in
-    stands_so (number_text d) rest d (subst (λ (m : Num). IsNumeral (number_text m) m) (sym same) (numeral (digits_value 10 (w ++ f)) (length f) (omega (arith, h.limit)) small))
+    stands_so (number_text d) rest d end (subst (λ (m : Num). IsNumeral (number_text m) m) (sym same) (numeral (digits_value 10 (w ++ f)) (length f) (omega (arith, h.limit)) small))

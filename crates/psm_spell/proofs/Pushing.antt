@@ -17,8 +17,10 @@ use Rattle.psm_token.specs.declared.word.Word.TheVariants.{And}
 use Rattle.psm_token.specs.Quotes.{doubled, doubled_one}
 use Rattle.psm_token.specs.Signs.{sign_text}
 use Rattle.psm_token.specs.Words.{text_of}
-use Rattle.psm_spell.specs.Written.{is_fraction, number_text, quoted, separated, written}
-use Rattle.psm_spell.proofs.Files.{written_push}
+use Rattle.psm_spell.specs.Gaps.{is_open, spaced, written_with, are_open}
+use Rattle.psm_spell.specs.Written.{is_fraction, number_text, quoted}
+use Rattle.psm_spell.specs.declared.gaps.Gaps.{Gaps}
+use Rattle.psm_spell.proofs.Spacing.{spaced_push, open_push}
 use Rattle.psm_spell.proofs.NumberTexts.{decimal_none, no_whole, all_rest}
 
 pub pushed_text : {E : Type 0} (r : Result (Unit {0}) E) (bs ds more : List ℕ) → ds ≡ (if is_ok r then bs ++ more else bs) → IsUtf8 bs → OnOk r (chars ds ≡ chars bs ++ chars more)
@@ -122,13 +124,21 @@ module _ (n : Num) (small : unsigned_abs n.coef < 10 ^ 18) where
 pub pushed_same : {E : Type 0} (r : Result (Unit {0}) E) (text after more kept : List ℕ) → OnOk r (after ≡ text ++ more) → more ≡ kept → OnOk r (after ≡ text ++ kept)
 pushed_same r text after more kept h e = subst (λ (t : List ℕ). OnOk r (after ≡ text ++ t)) e h
 
--- ---- a token and what separates it from the next
+-- ---- a token with what is written before and after it
 
-pub spelled_so : (start after all text : List ℕ) (c gap : ℕ) → start ≡ [] → after ≡ chars start ++ text → all ≡ after ++ c ∷ [] → c ≡ gap → all ≡ text ++ gap ∷ []
-spelled_so start after all text c gap e f g h =
-    let first : after ≡ text = f ∙ ap (λ (t : List ℕ). chars t ++ text) e ∙ ap (λ (t : List ℕ). t ++ text) chars-nil in
-    g ∙ ap (λ (t : List ℕ). t ++ c ∷ []) first ∙ ap (λ (x : ℕ). text ++ x ∷ []) h
+pub pushed_none : (text : List ℕ) → text ≡ text ++ []
+pushed_none text = sym (append-nil text)
 
-pub written_more : (bs ds more : List ℕ) (ts us : List Token) (t : Token) → ds ≡ bs ++ more → IsUtf8 bs → chars bs ≡ written ts → chars more ≡ separated t → us ≡ ts ++ t ∷ [] → chars ds ≡ written us
-written_more bs ds more ts us t e u h k g =
-    ap chars e ∙ chars-append bs more u ∙ ap (λ (x : List ℕ). x ++ chars more) h ∙ ap (λ (x : List ℕ). written ts ++ x) k ∙ sym (written_push ts t) ∙ ap written (sym g)
+pub spelled_so : (start first after all blank text gap : List ℕ) → start ≡ [] → first ≡ chars start ++ blank → after ≡ first ++ text → all ≡ after ++ gap → all ≡ blank ++ (text ++ gap)
+spelled_so start first after all blank text gap e f g h =
+    let begun : first ≡ blank = f ∙ ap (λ (t : List ℕ). chars t ++ blank) e ∙ ap (λ (t : List ℕ). t ++ blank) chars-nil in
+    h ∙ ap (λ (t : List ℕ). t ++ gap) (g ∙ ap (λ (t : List ℕ). t ++ text) begun) ∙ append_assoc blank text gap
+
+pub written_more : (g : Gaps) (tight : Bool) (bs ds more : List ℕ) (ts us : List Token) (t : Token) → ds ≡ bs ++ more → IsUtf8 bs → chars bs ≡ written_with g ts → tight ≡ are_open true ts → chars more ≡ spaced g tight t
+    → us ≡ ts ++ t ∷ [] → chars ds ≡ written_with g us
+written_more g tight bs ds more ts us t e u h o k i =
+    ap chars e ∙ chars-append bs more u ∙ ap (λ (x : List ℕ). x ++ chars more) h ∙ ap (λ (x : List ℕ). written_with g ts ++ x) (k ∙ ap (λ (b : Bool). spaced g b t) o)
+    ∙ sym (spaced_push g true ts t) ∙ ap (written_with g) (sym i)
+
+pub open_more : (tight : Bool) (ts us : List Token) (t : Token) → tight ≡ is_open t → us ≡ ts ++ t ∷ [] → tight ≡ are_open true us
+open_more tight ts us t e i = e ∙ sym (open_push true ts t) ∙ ap (are_open true) (sym i)

@@ -3,9 +3,11 @@ ghost use Rattle.std.specs.Prelude.{◌≡◌, ◌∷◌, ◌++◌, ◌<◌, ◌
 ghost use Rattle.std.specs.Str.{chars};
 ghost use Rattle.psm_token.specs.Quotes.{doubled_one};
 ghost use Rattle.psm_spell.specs.Parts.{token_of};
-ghost use Rattle.psm_spell.specs.Written.{is_fraction as is_fraction_of, number_text, quoted, token_text, separated};
+ghost use Rattle.psm_spell.specs.Gaps.{blank_if, listed, spaced};
+ghost use Rattle.psm_spell.specs.Written.{is_fraction as is_fraction_of, number_text, quoted, token_text};
 
-use crate::part::{Part, gap};
+use crate::gaps::{Gaps, gap_after, has_blank};
+use crate::part::Part;
 use psm_num::Dec;
 use psm_text::Name;
 use std::alloc::{AllocError, Global};
@@ -88,12 +90,37 @@ fn push_token(alloc: Global, text: &mut String, part: &Part<'_>) -> Result<(), A
     }
 }
 
-/// A token and what separates it from the next.
-pub(crate) fn spelled(alloc: Global, part: &Part<'_>) -> Result<String, AllocError>
-    ensures { IfOk result (λ text. chars (string_bytes text) ≡ separated (token_of part.now)) }
+/// Puts a blank behind a text, if there has to be one.
+#[tactic(auto, using(crate::proofs::Pushing::pushed_none))]
+fn push_blank(text: &mut String, blank: bool) -> Result<(), AllocError>
+    ensures { OnOk result (chars (string_bytes text.new) ≡ chars (string_bytes text.old) ++ blank_if blank) }
+{
+    if blank { push(text, ' ') } else { Ok(()) }
+}
+
+/// Puts a character behind a text, if there is one.
+#[tactic(auto, using(crate::proofs::Pushing::pushed_none))]
+fn push_gap(text: &mut String, gap: Option<char>) -> Result<(), AllocError>
+    ensures { OnOk result (chars (string_bytes text.new) ≡ chars (string_bytes text.old) ++ listed gap) }
+{
+    match gap {
+        Some(c) => push(text, c),
+        None => Ok(()),
+    }
+}
+
+/// A token with what is written before and after it. `tight` says that the tokens before it want no blank.
+pub(crate) fn spelled(
+    alloc: Global,
+    gaps: Gaps,
+    tight: bool,
+    part: &Part<'_>,
+) -> Result<String, AllocError>
+    ensures { IfOk result (λ text. chars (string_bytes text) ≡ spaced gaps tight (token_of part.now)) }
 {
     let mut text = String::new(alloc);
+    push_blank(&mut text, has_blank(gaps, tight, part))?;
     push_token(alloc, &mut text, part)?;
-    push(&mut text, gap(part))?;
+    push_gap(&mut text, gap_after(gaps, part))?;
     Ok(text)
 }

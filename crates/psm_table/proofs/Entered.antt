@@ -1,14 +1,15 @@
 -- The entries of a row in the sets of UNIQUE lists.
-use Rattle.std.proofs.Common.{◌≡◌, ℕ, zero, suc, ◌+◌, ◌<◌, List, [], ◌∷◌, ◌++◌, length, get_or, set, take, true, false, refl, ap, sym, subst, ◌∙◌, add-one, arith, inl, inr, Some, None}
-use Rattle.std.specs.Prelude.{is_some, Option, Result, Ok, Err, OnOk, OnErr}
+use Rattle.std.proofs.Common.{◌≡◌, ℕ, zero, suc, ◌+◌, ◌<◌, List, [], ◌∷◌, ◌++◌, length, length-append, below_more, get_or, set, take, true, false, refl, ap, sym, subst, ◌∙◌, add-one, arith, inl, inr, Some, None}
+use Rattle.std.specs.Prelude.{is_some, Option}
 use Rattle.std.specs.List.{AllZip}
 use Rattle.std.proofs.lemmas.Bool.{cases_eq, cases_lt}
-use Rattle.std.proofs.lemmas.List.{map-append, length-map, length-set, get_or-map, get_or_default, get_or-take}
+use Rattle.std.proofs.lemmas.List.{map-append, length-map, length-set, get_or_append_left, get_or-map, get_or_default, get_or-take}
+use Rattle.std.proofs.Math.Seq.{get_or-append_seam}
 use Rattle.psm_value.specs.declared.datum.Datum.{Datum}
 use Rattle.psm_table.specs.declared.definition.TableDef.{TableDef}
 use Rattle.psm_table.specs.declared.map.Pair.{Pair}
 use Rattle.psm_table.specs.Held.{entries_of, IsEntered}
-use Rattle.psm_table.specs.Index.{Grow, GrowByOne, IsEnteredFrom}
+use Rattle.psm_table.specs.Index.{ArePrepared, ArePut, Grow, GrowByOne, HasRoom, HaveRoom, IsPrepared, IsPut}
 use Rattle.psm_table.specs.Map.{keys_of, value_of, with_pair}
 use Rattle.psm_table.specs.Mapped.{Mapped}
 use Rattle.psm_table.specs.State.{entry_of, has_key, HasEntry}
@@ -18,6 +19,9 @@ use Rattle.psm_table.proofs.Keys.{has-grown, has-new, has_value, keys-longer}
 
 abbrev pub Sets : Type 0
 Sets = List (Mapped (Unit {0}))
+
+abbrev no_set : Mapped (Unit {0})
+no_set = record { runs = []; pairs = []; ready = false }
 
 -- the entries of the set at place k
 pub get-entries : (sets : Sets) (k : ℕ) (d : Mapped (Unit {0})) (e : List (List Datum)) → k < length sets → get_or (entries_of sets) k e ≡ keys_of (get_or sets k d).pairs
@@ -32,9 +36,6 @@ grow-same old new same k d e key l h =
 
 pub one-same : (old new : List (List (List Datum))) → new ≡ old → GrowByOne old new
 one-same old new same k d l = omega (arith, ap (λ (s : List (List (List Datum))). length (get_or s k d)) same)
-
-pub grow-trans : (a b c : List (List (List Datum))) → length b ≡ length a → Grow a b → Grow b c → Grow a c
-grow-trans a b c long f g k d e key l h = g k d e key (omega (arith, l, long)) (f k d d key l h)
 
 -- a set in the place of one with the same pairs
 pub entries-set : (sets : Sets) (i : ℕ) (m d : Mapped (Unit {0})) → i < length sets → m.pairs ≡ (get_or sets i d).pairs → entries_of (set sets i m) ≡ entries_of sets
@@ -54,11 +55,6 @@ get-set_other (x ∷ xs) zero (suc k) y d n = refl
 get-set_other (x ∷ xs) (suc i) zero y d n = refl
 get-set_other (x ∷ xs) (suc i) (suc k) y d n = get-set_other xs i k y d (λ e. n (ap suc e))
 
-pub take-set : {X : Type 0} (xs : List X) (i : ℕ) (y : X) → take i (set xs i y) ≡ take i xs
-take-set [] i y = refl
-take-set (x ∷ xs) zero y = refl
-take-set (x ∷ xs) (suc i) y = ap (λ rest. x ∷ rest) (take-set xs i y)
-
 pub take-less : {X : Type 0} (xs ys : List X) (i : ℕ) → take (suc i) xs ≡ take (suc i) ys → take i xs ≡ take i ys
 take-less xs ys zero e = refl
 take-less [] [] (suc i) e = refl
@@ -71,19 +67,6 @@ take-less (x ∷ xs) (y ∷ ys) (suc i) e =
 
 pub take-get : {X : Type 0} (xs ys : List X) (i : ℕ) (d : X) → take (suc i) xs ≡ take (suc i) ys → get_or xs i d ≡ get_or ys i d
 take-get xs ys i d e = sym (get_or-take (suc i) xs i d (omega arith)) ∙ ap (λ l. get_or l i d) e ∙ get_or-take (suc i) ys i d (omega arith)
-
-module _ (def : TableDef) (row : List Datum) where
-  -- where the entry at place i is there, or not needed, and those after it are
-  pub entered-next : (i : ℕ) (sets : Sets) (columns : List ℕ) → HasEntry def row columns (get_or (entries_of sets) i [])
-      → i < length def.unique → columns ≡ get_or def.unique i columns → IsEnteredFrom (i + 1) def (entries_of sets) row → IsEnteredFrom i def (entries_of sets) row
-  entered-next i sets columns here long at later k d e from l = elim (cases_lt i k) [
-    | inl above ↦ later k d e (omega arith) l
-    | inr to ↦
-        let same : k ≡ i = omega arith in
-        let list : get_or def.unique k d ≡ columns = ap (λ j. get_or def.unique j d) same ∙ get_or_default def.unique i d columns long ∙ sym at in
-        let set_at : get_or (entries_of sets) k e ≡ get_or (entries_of sets) i [] = ap (λ j. get_or (entries_of sets) j e) same ∙ get_or_default (entries_of sets) i e [] (omega (arith, l, same)) in
-        subst (λ c. HasEntry def row c (get_or (entries_of sets) k e)) (sym list) (subst (λ s. HasEntry def row columns s) (sym set_at) here)
-  ]
 
 -- what holds at each place of two lists
 pub all_zip-from : {A B : Type 0} (R : A → B → Type 0) (xs : List A) (ys : List B) → length xs ≡ length ys → ((k : ℕ) (d : A) (e : B) → k < length ys → R (get_or xs k d) (get_or ys k e)) → AllZip R xs ys
@@ -105,10 +88,6 @@ all_zip-at R (x ∷ xs) [] k d e h l = absurd h
 all_zip-at R (x ∷ xs) (y ∷ ys) zero d e h l = h.0
 all_zip-at R (x ∷ xs) (y ∷ ys) (suc k) d e h l = all_zip-at R xs ys k d e h.1 (omega arith)
 
-pub entered-all : (def : TableDef) (row : List Datum) (sets : Sets) → length sets ≡ length def.unique → IsEnteredFrom 0 def (entries_of sets) row → IsEntered def (entries_of sets) row
-entered-all def row sets long h =
-    all_zip-from (HasEntry def row) def.unique (entries_of sets) (omega (arith, long, length-entries sets)) (λ k d e l. h k d e (omega arith) l)
-
 -- no entry of a row is lost where the sets grow
 pub entered-grow : (def : TableDef) (row : List Datum) (old new : List (List (List Datum))) → length new ≡ length old → Grow old new → IsEntered def old row → IsEntered def new row
 entered-grow def row old new long g h =
@@ -116,91 +95,86 @@ entered-grow def row old new long g h =
     all_zip-from (HasEntry def row) def.unique new (omega (arith, lists, long))
     (λ k d e l n. g k e e (entry_of def (get_or def.unique k d) row) (omega (arith, l, long)) (all_zip-at (HasEntry def row) def.unique old k d e h (omega (arith, l, long)) n))
 
-pub entered-none : (def : TableDef) (row : List Datum) (sets : Sets) (i : ℕ) → i ≡ length sets → IsEnteredFrom i def (entries_of sets) row
-entered-none def row sets i e k d f l m = absurd (omega (arith, e, l, m, length-entries sets))
+-- what holds at a place of three lists
+module _ {A B C : Type 0} (R : A → B → C → Type 0) where
+  abbrev pub At : List A → List B → List C → ℕ → Type 0
+  At xs ys zs k = (a : A) (b : B) (c : C) → R (get_or xs k a) (get_or ys k b) (get_or zs k c)
 
--- the list has a null, or its entry is there, or is put in
-module _ (def : TableDef) (row : List Datum) (i : ℕ) (columns : List ℕ) (long : i < length def.unique) (at : columns ≡ get_or def.unique i columns) where
-  pub entered-null : (sets : Sets) → has_null (values_at columns row) ≡ true → IsEnteredFrom (i + 1) def (entries_of sets) row → IsEnteredFrom i def (entries_of sets) row
-  entered-null sets null later = entered-next def row i sets columns (λ f. absurd (let g : true ≡ false = sym null ∙ f in cc)) long at later
+  -- the first so many places and one more, at which another element is set in the second list
+  pub at_set : (xs : List A) (ys : List B) (zs : List C) (i : ℕ) (a : A) (b : B) (c : C) → i < length xs → i < length ys → i < length zs → a ≡ get_or xs i a → c ≡ get_or zs i c → R a b c
+      → ((k : ℕ) → k < i → At xs ys zs k) → (k : ℕ) → k < i + 1 → At xs (set ys i b) zs k
+  at_set xs ys zs i a b c l m n ea ec r h = below_more (At xs (set ys i b) zs) i
+      (λ k below x y z. subst (λ w. R (get_or xs k x) w (get_or zs k z)) (sym (get-set_other ys i k b y (λ (f : i ≡ k). absurd (omega (arith, f, below))))) (h k below x y z))
+      (λ x y z.
+      let first : get_or xs i x ≡ a = get_or_default xs i x a l ∙ sym ea in
+      let third : get_or zs i z ≡ c = get_or_default zs i z c n ∙ sym ec in
+      subst (λ w. R w (get_or (set ys i b) i y) (get_or zs i z)) (sym first)
+      (subst (λ w. R a w (get_or zs i z)) (sym (get-set ys i b y m)) (subst (λ w. R a b w) (sym third) r)))
 
-  pub entered-there : (old new : Sets) (m : Mapped (Unit {0})) → m ≡ get_or old i m → i < length old → length new ≡ length old → has_key (keys_of m.pairs) (entry_of def columns row) ≡ true
-      → Grow (entries_of old) (entries_of new) → IsEnteredFrom (i + 1) def (entries_of new) row → IsEnteredFrom i def (entries_of new) row
-  entered-there old new m e l same has grow later =
-      let here : has_key (get_or (entries_of old) i []) (entry_of def columns row) ≡ true =
-      ap (λ (s : List (List Datum)). has_key s (entry_of def columns row)) (get-entries old i m [] l ∙ ap (λ (x : Mapped (Unit {0})). keys_of x.pairs) (sym e)) ∙ has in
-      entered-next def row i new columns (λ f. grow i [] [] (entry_of def columns row) (omega (arith, l, length-entries old)) here) long at later
+  -- the same, where an element is put behind the third list
+  pub at_pushed : (xs : List A) (ys : List B) (zs : List C) (i : ℕ) (a : A) (b : B) (c : C) → i < length xs → i < length ys → length zs ≡ i → a ≡ get_or xs i a → R a b c
+      → ((k : ℕ) → k < i → At xs ys zs k) → (k : ℕ) → k < i + 1 → At xs (set ys i b) (zs ++ c ∷ []) k
+  at_pushed xs ys zs i a b c l m n ea r h =
+      at_set xs ys (zs ++ c ∷ []) i a b c l m (omega (arith, n, length-append zs (c ∷ []))) ea
+      (sym (subst (λ j. get_or (zs ++ c ∷ []) j c ≡ c) n (get_or-append_seam zs c [] c))) r
+      (λ k below x y z. subst (λ w. R (get_or xs k x) (get_or ys k y) w) (sym (get_or_append_left zs (c ∷ []) z k (omega (arith, below, n)))) (h k below x y z))
 
-  -- first is the set at place i once it has memory, between the sets after those that follow, and last the set with the entry
-  module _ (old between : Sets) (index first last : Mapped (Unit {0})) (value : Unit {0}) (here : index ≡ get_or old i index) (inside : i < length old) (pairs : first.pairs ≡ index.pairs)
-      (same : length between ≡ length (set old i first)) (before : take (i + 1) between ≡ take (i + 1) (set old i first)) where
-    reserved : entries_of (set old i first) ≡ entries_of old
-    reserved = entries-set old i first index inside (pairs ∙ ap (λ (m : Mapped (Unit {0})). m.pairs) here)
+-- a set into which an entry was put
+pub put-some : (old new : Mapped (Unit {0})) (e : List Datum) → new.pairs ≡ with_pair (record { key = e; value = tt }) old.pairs → IsPut old new (Some e)
+put-some old new e put =
+    let pair : Pair (Unit {0}) = record { key = e; value = tt } in record {
+      grown = λ key h. ap (λ (ps : List (Pair (Unit {0}))). has_key (keys_of ps) key) put ∙ has-grown pair key old.pairs h;
+      one = omega (arith, ap (λ (ps : List (Pair (Unit {0}))). length (keys_of ps)) put, keys-longer pair old.pairs);
+      there = ap (λ (ps : List (Pair (Unit {0}))). has_key (keys_of ps) e) put ∙ has-new pair old.pairs;
+    }
 
-    pub first_kept : (d : Mapped (Unit {0})) → get_or between i d ≡ first
-    first_kept d = take-get between (set old i first) i d (rw add-one at before) ∙ get-set old i first d inside
+pub put-none : (old new : Mapped (Unit {0})) → new ≡ old → IsPut old new None
+put-none old new same = record {
+  grown = λ key h. ap (λ (m : Mapped (Unit {0})). has_key (keys_of m.pairs) key) same ∙ h;
+  one = omega (arith, ap (λ (m : Mapped (Unit {0})). length (keys_of m.pairs)) same);
+  there = tt;
+}
 
-    pub before_kept : (last : Mapped (Unit {0})) → take i (set between i last) ≡ take i old
-    before_kept last = take-set between i last ∙ take-less between (set old i first) i (rw add-one at before) ∙ take-set old i first
+-- a set that was prepared for an entry
+pub prepared-room : (columns key : List ℕ) (row : List Datum) (m : Mapped (Unit {0})) (o : Option (List Datum)) → IsPrepared columns key row m o → HasRoom m o
+prepared-room columns key row m None h = tt
+prepared-room columns key row m (Some e) h = (h.1, h.2)
 
-    pub refused_same : entries_of between ≡ entries_of (set old i first) → entries_of between ≡ entries_of old
-    refused_same e = e ∙ reserved
+has-put : (def : TableDef) (row : List Datum) (columns : List ℕ) (m new : Mapped (Unit {0})) (o : Option (List Datum)) → IsPrepared columns def.key row m o → IsPut m new o
+    → HasEntry def row columns (keys_of new.pairs)
+has-put def row columns m new None p h null = h.grown (entry_of def columns row) (p null)
+has-put def row columns m new (Some e) p h null = ap (λ (k : List Datum). has_key (keys_of new.pairs) k) (sym p.0) ∙ h.there
 
-    between-inside : i < length between
-    between-inside = omega (arith, inside, same, length-set old i first)
+-- sets that were prepared for a row, and then have its entries
+module _ (def : TableDef) (row : List Datum) (sets : Sets) (entries : List (Option (List Datum))) (prepared : ArePrepared def row sets entries) where
+  pub room-for : HaveRoom sets entries
+  room-for k m o l = prepared-room (get_or def.unique k []) def.key row (get_or sets k m) (get_or entries k o) (prepared.each k [] m o l)
 
-    module _ (put : last.pairs ≡ with_pair (record { key = entry_of def columns row; value = value }) first.pairs) where
-      pub grow_put : Grow (entries_of (set old i first)) (entries_of between) → Grow (entries_of old) (entries_of (set between i last))
-      grow_put grow k d e key l h = elim (cases_eq k i) [
-        | inl is ↦
-            let at_i : has_key (keys_of first.pairs) key ≡ true =
-            ap (λ (s : List (List Datum)). has_key s key) (sym (ap (λ (ps : List (Pair (Unit {0}))). keys_of ps) (ap (λ (m : Mapped (Unit {0})). m.pairs) (get-set old i first first inside))) ∙ sym (get-entries (set old i first) i first d (omega (arith, inside, length-set old i first)))
-            ∙ ap (λ (s : List (List (List Datum))). get_or s i d) reserved ∙ ap (λ j. get_or (entries_of old) j d) (sym is)) ∙ h in
-            let grown : has_key (keys_of last.pairs) key ≡ true =
-            ap (λ (ps : List (Pair (Unit {0}))). has_key (keys_of ps) key) put ∙ has-grown (record { key = entry_of def columns row; value = value }) key first.pairs at_i in
-            ap (λ (s : List (List Datum)). has_key s key) (ap (λ j. get_or (entries_of (set between i last)) j e) is ∙ get-entries (set between i last) i last e (omega (arith, between-inside, length-set between i last)) ∙ ap (λ (m : Mapped (Unit {0})). keys_of m.pairs) (get-set between i last last between-inside)) ∙ grown
-        | inr other ↦
-            let inside_k : k < length between = omega (arith, l, length-entries old, same, length-set old i first) in
-            ap (λ (s : List (List Datum)). has_key s key) (get-entries (set between i last) k last e (omega (arith, inside_k, length-set between i last)) ∙ ap (λ (m : Mapped (Unit {0})). keys_of m.pairs) (get-set_other between i k last last (λ f. other (sym f))) ∙ sym (get-entries between k last e inside_k))
-            ∙ grow k d e key (omega (arith, l, ap length reserved)) (ap (λ (s : List (List (List Datum))). has_key (get_or s k d) key) reserved ∙ h)
-      ]
+  pub entered-put : (new : Sets) → length sets ≡ length def.unique → length new ≡ length sets → ArePut sets new entries → IsEntered def (entries_of new) row
+  entered-put new lists long put =
+      all_zip-from (HasEntry def row) def.unique (entries_of new) (omega (arith, lists, long, length-entries new)) (λ k d e l.
+      let inside : k < length new = omega (arith, l, length-entries new) in
+      let within : k < length sets = omega (arith, inside, long) in
+      subst (λ (s : List (List Datum)). HasEntry def row (get_or def.unique k d) s) (sym (get-entries new k no_set e inside))
+      (has-put def row (get_or def.unique k d) (get_or sets k no_set) (get_or new k no_set) (get_or entries k None) (prepared.each k d no_set None within) (put k no_set None within)))
 
-      pub one_put : GrowByOne (entries_of (set old i first)) (entries_of between) → GrowByOne (entries_of old) (entries_of (set between i last))
-      one_put one k d l = elim (cases_eq k i) [
-        | inl is ↦
-            let was : get_or (entries_of old) k d ≡ keys_of first.pairs =
-            ap (λ j. get_or (entries_of old) j d) is ∙ ap (λ (s : List (List (List Datum))). get_or s i d) (sym reserved) ∙ get-entries (set old i first) i first d (omega (arith, inside, length-set old i first))
-            ∙ ap (λ (m : Mapped (Unit {0})). keys_of m.pairs) (get-set old i first first inside) in
-            let now : get_or (entries_of (set between i last)) k d ≡ keys_of last.pairs =
-            ap (λ j. get_or (entries_of (set between i last)) j d) is ∙ get-entries (set between i last) i last d (omega (arith, between-inside, length-set between i last)) ∙ ap (λ (m : Mapped (Unit {0})). keys_of m.pairs) (get-set between i last last between-inside) in
-            omega (arith, ap length was, ap length now, ap (λ (ps : List (Pair (Unit {0}))). length (keys_of ps)) put, keys-longer (record { key = entry_of def columns row; value = value }) first.pairs)
-        | inr other ↦
-            let inside_k : k < length between = omega (arith, l, length-entries old, same, length-set old i first) in
-            let now : get_or (entries_of (set between i last)) k d ≡ get_or (entries_of between) k d =
-            get-entries (set between i last) k last d (omega (arith, inside_k, length-set between i last)) ∙ ap (λ (m : Mapped (Unit {0})). keys_of m.pairs) (get-set_other between i k last last (λ f. other (sym f))) ∙ sym (get-entries between k last d inside_k) in
-            omega (arith, ap length now, ap (λ (s : List (List (List Datum))). length (get_or s k d)) reserved, one k d (omega (arith, l, ap length reserved)))
-      ]
+module _ (old sets new : Sets) (entries : List (Option (List Datum))) (same : entries_of sets ≡ entries_of old) (long : length new ≡ length sets) (put : ArePut sets new entries) where
+  was : (k : ℕ) (d : List (List Datum)) → k < length sets → keys_of (get_or sets k no_set).pairs ≡ get_or (entries_of old) k d
+  was k d l = sym (get-entries sets k no_set d l) ∙ ap (λ (s : List (List (List Datum))). get_or s k d) same
 
-      pub entered_put : IsEnteredFrom (i + 1) def (entries_of between) row → IsEnteredFrom i def (entries_of (set between i last)) row
-      entered_put later =
-          let at_i : get_or (entries_of (set between i last)) i [] ≡ keys_of last.pairs =
-          get-entries (set between i last) i last [] (omega (arith, between-inside, length-set between i last)) ∙ ap (λ (m : Mapped (Unit {0})). keys_of m.pairs) (get-set between i last last between-inside) in
-          let has : has_key (keys_of last.pairs) (entry_of def columns row) ≡ true =
-          ap (λ (ps : List (Pair (Unit {0}))). has_key (keys_of ps) (entry_of def columns row)) put ∙ has-new (record { key = entry_of def columns row; value = value }) first.pairs in
-          entered-next def row i (set between i last) columns (λ f. ap (λ (s : List (List Datum)). has_key s (entry_of def columns row)) at_i ∙ has) long at
-          (λ k d e from l.
-          let inside_k : k < length between = omega (arith, l, length-entries (set between i last), length-set between i last) in
-          subst (λ (s : List (List Datum)). HasEntry def row (get_or def.unique k d) s)
-          (sym (get-entries (set between i last) k last e (omega (arith, inside_k, length-set between i last)) ∙ ap (λ (m : Mapped (Unit {0})). keys_of m.pairs) (get-set_other between i k last last (λ f. absurd (omega (arith, f, from)))) ∙ sym (get-entries between k last e inside_k)))
-          (later k d e from (omega (arith, inside_k, length-entries between))))
+  inside-sets : (k : ℕ) → k < length (entries_of old) → k < length sets
+  inside-sets k l = omega (arith, l, ap length same, length-entries sets)
 
-pub on_ok : {E : Type 0} (r : Result (Unit {0}) E) (P Q : Type 0) → (P → Q) → OnOk r P → OnOk r Q
-on_ok (Ok u) P Q f p = f p
-on_ok (Err e) P Q f p = tt
+  pub grow-put : Grow (entries_of old) (entries_of new)
+  grow-put k d e key l h =
+      let within : k < length sets = inside-sets k l in
+      ap (λ (s : List (List Datum)). has_key s key) (get-entries new k no_set e (omega (arith, within, long)))
+      ∙ (put k no_set None within).grown key (ap (λ (s : List (List Datum)). has_key s key) (was k d within) ∙ h)
 
-pub on_err : {E : Type 0} (r : Result (Unit {0}) E) (P : Type 0) → P → OnErr r P
-on_err (Ok u) P p = tt
-on_err (Err e) P p = p
+  pub one-put : GrowByOne (entries_of old) (entries_of new)
+  one-put k d l =
+      let within : k < length sets = inside-sets k l in
+      omega (arith, ap length (get-entries new k no_set d (omega (arith, within, long))), ap length (was k d within), (put k no_set None within).one)
 
 pub no_value : {V : Type 0} (o : Option V) → is_some o ≡ false → o ≡ None
 no_value None e = refl

@@ -1,13 +1,14 @@
 -- The entries of UNIQUE lists: what is added to them and taken from them, and which tell of a row.
-use Rattle.std.specs.Prelude.{◌≡◌, ℕ, ◌+◌, ◌≤◌, ◌<◌, Bool, true, false, not, ◌&&◌, ◌++◌, List, length, drop, All, Option, Some, None, slice_index_or}
+use Rattle.std.specs.Prelude.{◌≡◌, ℕ, ◌+◌, ◌≤◌, ◌<◌, Bool, true, false, not, ◌&&◌, ◌++◌, List, length, drop, All, Option, Some, None, IfSome, slice_index_or}
 use Rattle.std.specs.Ordering.{is_eq}
 use Rattle.psm_value.specs.declared.datum.Datum.{Datum}
 use Rattle.psm_table.specs.declared.definition.TableDef.{TableDef}
 use Rattle.psm_table.specs.declared.map.Pair.{Pair}
 use Rattle.psm_table.specs.Held.{row_of, IsEntered}
 use Rattle.psm_table.specs.Key.{values_at, key_order, AreColumnsOf}
-use Rattle.psm_table.specs.Map.{prefix_order}
-use Rattle.psm_table.specs.State.{has_key, HasEntry}
+use Rattle.psm_table.specs.Map.{keys_of, prefix_order, value_of}
+use Rattle.psm_table.specs.Mapped.{Mapped}
+use Rattle.psm_table.specs.State.{has_key}
 use Rattle.psm_table.specs.Unique.{has_null, is_rival}
 
 -- no set loses an entry
@@ -18,10 +19,35 @@ Grow old new = (k : ℕ) (d e : List (List Datum)) (key : List Datum) → k < le
 abbrev pub GrowByOne : List (List (List Datum)) → List (List (List Datum)) → Type 0
 GrowByOne old new = (k : ℕ) (d : List (List Datum)) → k < length old → length (slice_index_or new k d) ≤ length (slice_index_or old k d) + 1
 
--- the entries of a row are in the sets from a place on
-abbrev pub IsEnteredFrom : ℕ → TableDef → List (List (List Datum)) → List Datum → Type 0
-IsEnteredFrom i def entries row =
-    (k : ℕ) (d : List ℕ) (e : List (List Datum)) → i ≤ k → k < length entries → HasEntry def row (slice_index_or def.unique k d) (slice_index_or entries k e)
+-- the entry that a set needs of a row and doesn't have, for which it has memory; none if it has a null in the columns or
+-- its entry is there
+abbrev pub IsPrepared : List ℕ → List ℕ → List Datum → Mapped (Unit {0}) → Option (List Datum) → Type 0
+IsPrepared columns key row index None = has_null (values_at columns row) ≡ false → has_key (keys_of index.pairs) (values_at columns row ++ values_at key row) ≡ true
+IsPrepared columns key row index (Some entry) = (entry ≡ values_at columns row ++ values_at key row) × (index.ready ≡ true) × (value_of entry index.pairs ≡ None)
+
+-- at the place of each set stands the entry that it needs of a row and doesn't have
+pub record ArePrepared (def : TableDef) (row : List Datum) (indexes : List (Mapped (Unit {0}))) (entries : List (Option (List Datum))) : Type 0 where
+  pub lists : length entries ≡ length indexes
+  pub each : (k : ℕ) (c : List ℕ) (m : Mapped (Unit {0})) (o : Option (List Datum)) → k < length indexes →
+      IsPrepared (slice_index_or def.unique k c) def.key row (slice_index_or indexes k m) (slice_index_or entries k o)
+
+-- a set has memory for an entry and lacks it, if there is one
+abbrev pub HasRoom : Mapped (Unit {0}) → Option (List Datum) → Type 0
+HasRoom index entry = IfSome entry (λ e. (index.ready ≡ true) × (value_of e index.pairs ≡ None))
+
+-- each set has memory for the entry at its place and lacks it
+abbrev pub HaveRoom : List (Mapped (Unit {0})) → List (Option (List Datum)) → Type 0
+HaveRoom indexes entries = (k : ℕ) (m : Mapped (Unit {0})) (o : Option (List Datum)) → k < length indexes → HasRoom (slice_index_or indexes k m) (slice_index_or entries k o)
+
+-- a set into which an entry was put, if there is one: it loses none, has one more at most, and the entry is there
+pub record IsPut (old new : Mapped (Unit {0})) (entry : Option (List Datum)) : Type 0 where
+  pub grown : (key : List Datum) → has_key (keys_of old.pairs) key ≡ true → has_key (keys_of new.pairs) key ≡ true
+  pub one : length (keys_of new.pairs) ≤ length (keys_of old.pairs) + 1
+  pub there : IfSome entry (λ e. has_key (keys_of new.pairs) e ≡ true)
+
+-- into each set the entry at its place was put
+abbrev pub ArePut : List (Mapped (Unit {0})) → List (Mapped (Unit {0})) → List (Option (List Datum)) → Type 0
+ArePut old new entries = (k : ℕ) (m : Mapped (Unit {0})) (o : Option (List Datum)) → k < length old → IsPut (slice_index_or old k m) (slice_index_or new k m) (slice_index_or entries k o)
 
 -- each row has its entries
 abbrev pub AreEntered : TableDef → List (List Datum) → List (List (List Datum)) → Type 0

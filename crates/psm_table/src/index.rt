@@ -1,10 +1,10 @@
 //! The UNIQUE lists of a table (ISO/IEC 9075:1992, 8.9), each with the set of its entries: the values of rows in
 //! the columns of the list, each followed by the row's key.
-ghost use Rattle.std.specs.Prelude.{◌≡◌, ◌≤◌, ◌++◌, length, take, drop, All, slice_index_or, true, false, OnOk, OnErr};
+ghost use Rattle.std.specs.Prelude.{◌≡◌, ◌≤◌, ◌++◌, length, take, drop, All, slice_index_or, true, false, IfOk, OnOk, OnErr};
 ghost use Rattle.std.specs.Bool.{OnTrue, OnFalse};
 ghost use Rattle.psm_value.specs.declared.datum.Datum.TheVariants.{Null};
 ghost use Rattle.psm_table.specs.Held.{entries_of, live_rows, row_of, HasItsKey, IsEntered};
-ghost use Rattle.psm_table.specs.Index.{is_current, is_entry, rival_at, AreEntered, AreHarmless, Grow, GrowByOne, HaveKeys, IsEnteredFrom};
+ghost use Rattle.psm_table.specs.Index.{is_current, is_entry, rival_at, AreEntered, AreHarmless, ArePrepared, ArePut, Grow, GrowByOne, HasRoom, HaveKeys, HaveRoom, IsPrepared, IsPut};
 ghost use Rattle.psm_table.specs.Key.{values_at, AreColumnsOf};
 ghost use Rattle.psm_table.specs.Map.{keys_of, prefix_order, AreAscending};
 ghost use Rattle.psm_table.specs.Rows.{IsAscending};
@@ -34,43 +34,76 @@ pub(crate) fn enter(
     ensures one { GrowByOne (entries_of indexes.old.items) (entries_of indexes.new.items) }
     ensures refused { OnErr result (entries_of indexes.new.items ≡ entries_of indexes.old.items) }
 {
-    enter_from(alloc, indexes, 0, def, row)
+    let entries = prepare_all(alloc, indexes, def, row)?;
+    put_all(indexes, entries);
+    Ok(())
 }
 
-/// The same for the lists from a place on.
-fn enter_from(
+/// The entries of a row that the sets don't have, each at the place of its set, which then has memory for it.
+fn prepare_all(
     alloc: Global,
     indexes: &mut Vec<OrderedMap<()>>,
-    i: usize,
     def: &TableDef,
     row: &[Datum],
-) -> Result<(), AllocError>
-    requires place { i ≤ length indexes.old.items }
+) -> Result<Vec<Option<Key>>, AllocError>
     requires lists { length indexes.old.items ≡ length def.now.unique }
     requires key { AreColumnsOf row.now def.now.key }
     ensures lists { length indexes.new.items ≡ length indexes.old.items }
-    ensures before { take i indexes.new.items ≡ take i indexes.old.items }
-    ensures entered { OnOk result (IsEnteredFrom i def.now (entries_of indexes.new.items) row.now) }
-    ensures grow { Grow (entries_of indexes.old.items) (entries_of indexes.new.items) }
-    ensures one { GrowByOne (entries_of indexes.old.items) (entries_of indexes.new.items) }
-    ensures refused { OnErr result (entries_of indexes.new.items ≡ entries_of indexes.old.items) }
+    ensures same { entries_of indexes.new.items ≡ entries_of indexes.old.items }
+    ensures entries { IfOk result (λ entries. ArePrepared def.now row.now indexes.new.items entries.items) }
 {
-    if i == indexes.len() {
-        return Ok(());
+    let mut entries = Vec::new(alloc);
+    for i in 0..indexes.len() {
+        let columns = def.unique.items()[i].items();
+        let entry = prepare(alloc, &mut indexes[i], columns, def.key.items(), row)?;
+        entries.push(entry)?;
     }
-    let columns = def.unique.items()[i].items();
-    let key = def.key.items();
+    Ok(entries)
+}
+
+/// The entry of a row, if the set needs it and doesn't have it. The set then has memory for it.
+fn prepare(
+    alloc: Global,
+    index: &mut OrderedMap<()>,
+    columns: &[u32],
+    key: &[u32],
+    row: &[Datum],
+) -> Result<Option<Key>, AllocError>
+    requires key { AreColumnsOf row.now key.now }
+    ensures pairs { index.new.pairs ≡ index.old.pairs }
+    ensures entry { IfOk result (IsPrepared columns.now key.now row.now index.new) }
+{
     if is_null_in(row, columns) {
-        return enter_from(alloc, indexes, i + 1, def, row);
+        return Ok(None);
     }
-    if has_entry(&indexes[i], columns, key, row) {
-        return enter_from(alloc, indexes, i + 1, def, row);
+    if has_entry(index, columns, key, row) {
+        return Ok(None);
     }
     let entry = Key::of_entry(alloc, columns, key, row)?;
-    indexes[i].reserve()?;
-    enter_from(alloc, indexes, i + 1, def, row)?;
-    indexes[i].insert(entry, ());
-    Ok(())
+    index.reserve()?;
+    Ok(Some(entry))
+}
+
+/// Puts each entry into the set at its place. It takes no memory.
+fn put_all(indexes: &mut Vec<OrderedMap<()>>, mut entries: Vec<Option<Key>>)
+    requires lists { length entries.items ≡ length indexes.old.items }
+    requires room { HaveRoom indexes.old.items entries.items }
+    ensures lists { length indexes.new.items ≡ length indexes.old.items }
+    ensures put { ArePut indexes.old.items indexes.new.items entries.items }
+{
+    for i in 0..indexes.len() {
+        put(&mut indexes[i], entries[i].take());
+    }
+}
+
+/// Puts an entry into a set, if there is one.
+fn put(index: &mut OrderedMap<()>, entry: Option<Key>)
+    requires { HasRoom index.old entry }
+    ensures { IsPut index.old index.new entry }
+{
+    if let Some(entry) = entry {
+        index.insert(entry, ());
+    }
 }
 
 /// Whether the entry of a row is there.

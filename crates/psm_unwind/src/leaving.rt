@@ -110,6 +110,7 @@ fn let_go<S: Store>(undo: bool, mark: Mark, store: &mut S)
     ensures tables { S.tables store.new ≡ put_back undo (Some (S.at store.old mark)) (S.tables store.old) }
     ensures defs { defs_of (S.tables store.new) ≡ defs_of (S.tables store.old) }
     ensures marks { S.marks store.new ≤ S.marks store.old }
+    ensures closed { S.marks store.new ≡ mark.depth }
     ensures keeps { Keeps (IsOutside mark) (S.holds store.old) (S.at store.old) (S.holds store.new) (S.at store.new) }
 {
     if undo {

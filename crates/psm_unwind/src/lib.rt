@@ -7,9 +7,11 @@ mod leaving;
 mod parts;
 mod raising;
 mod run;
+mod turns;
 
 pub use ending::{Ending, Outcome};
 pub use leaving::{leave_frame, leave_until};
 pub use parts::{block_at, handler_at, routine_at};
 pub use raising::raise;
 pub use run::{Activation, Frame, Run};
+pub use turns::spend;

@@ -1,10 +1,19 @@
 use Rattle.std.proofs.Common.{◌∙◌}
-use Rattle.psm_table.specs.Held.{entries_of, IsEntered}
-use Rattle.psm_table.specs.Index.{IsEnteredFrom}
-use Rattle.psm_table.proofs.Entered.{entered-all, on_ok}
+use Rattle.psm_table.proofs.Entered.{entered-put, grow-put, one-put, room-for}
 use Rattle.psm_table.proofs.index.enter.Goals as goal
+
+pub put_all-requires-clause-room : goal.put_all-requires-clause-room
+put_all-requires-clause-room c = room-for c.args.def.now c.args.row.now c.prepare_all.new.indexes.items c.in_ok-entries.entries.items c.in_ok-entries.ensures.entries
 
 pub returns-clause-entered : goal.returns-clause-entered
 returns-clause-entered c =
-    on_ok c.enter_from.result (IsEnteredFrom 0 c.args.def.now (entries_of c.enter_from.new.indexes.items) c.args.row.now) (IsEntered c.args.def.now (entries_of c.enter_from.new.indexes.items) c.args.row.now)
-    (entered-all c.args.def.now c.args.row.now c.enter_from.new.indexes.items (c.enter_from.ensures.lists ∙ c.requires.lists)) c.enter_from.ensures.entered
+    entered-put c.args.def.now c.args.row.now c.prepare_all.new.indexes.items c.in_ok-entries.entries.items c.in_ok-entries.ensures.entries c.put_all.new.indexes.items
+    (c.prepare_all.ensures.lists ∙ c.requires.lists) c.put_all.ensures.lists c.put_all.ensures.put
+
+pub returns-clause-grow : goal.returns-clause-grow
+returns-clause-grow c =
+    grow-put c.args.indexes.now.items c.prepare_all.new.indexes.items c.put_all.new.indexes.items c.in_ok-entries.entries.items c.prepare_all.ensures.same c.put_all.ensures.lists c.put_all.ensures.put
+
+pub returns-clause-one : goal.returns-clause-one
+returns-clause-one c =
+    one-put c.args.indexes.now.items c.prepare_all.new.indexes.items c.put_all.new.indexes.items c.in_ok-entries.entries.items c.prepare_all.ensures.same c.put_all.ensures.lists c.put_all.ensures.put

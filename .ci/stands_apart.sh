@@ -1,0 +1,61 @@
+#!/usr/bin/env bash
+# What a crate must never stand on, as the map in docs/architecture.md says.
+set -u
+cd "$(dirname "$0")/.." || exit 1
+
+status=0
+stands_on() { sed -n "s/^$1:\(.*\)/\1 /p" crates.txt | grep -qE "(^| )$2 "; }
+forbid() {
+    local crate=$1 below
+    shift
+    for below; do
+        if stands_on "$crate" "$below"; then
+            echo "repository: $crate must not stand on $below" >&2
+            status=1
+        fi
+    done
+}
+
+parsers='psm_parse_token psm_parse_expr psm_parse_stmt psm_parse_file'
+readers="psm_token psm_spell psm_tree psm_unplaced psm_print $parsers"
+for crate in $readers psm_value psm_cond psm_exprcode psm_table psm_tablecode psm_store psm_undostore psm_query; do
+    forbid "$crate" psm_io
+done
+for crate in $readers; do forbid "$crate" psm_value; done
+for crate in psm_exprcode psm_table; do forbid "$crate" psm_tree; done
+for crate in psm_tablecode psm_store psm_undostore psm_query; do forbid "$crate" psm_tree; done
+forbid psm_tablecode psm_store
+forbid psm_code psm_store psm_tree psm_resolved psm_io
+for crate in psm_scope psm_rules psm_check_expr psm_known psm_check_stmt; do forbid "$crate" psm_io psm_exprcode psm_table; done
+forbid psm_scope psm_tree
+forbid psm_resolved psm_tree psm_scope psm_store
+for crate in psm_resolve_expr psm_declare psm_resolve; do forbid "$crate" psm_io psm_check_stmt psm_store psm_meaning; done
+forbid psm_declare psm_resolve psm_table
+forbid psm_check_script psm_check_stmt psm_resolve psm_store psm_io
+forbid psm_dml psm_query psm_tree
+forbid psm_accept psm_right psm_store psm_io
+forbid psm_sound psm_tree psm_code psm_store psm_io
+forbid psm_lower psm_tree psm_scope psm_store psm_io
+forbid psm_ends psm_tree psm_resolved psm_store psm_io
+forbid psm_emit psm_tree psm_scope psm_store psm_io
+forbid psm_right psm_tree psm_scope psm_store psm_io
+forbid psm_verify psm_tree psm_resolved psm_meaning psm_store psm_io
+forbid psm_cursor psm_code psm_tree psm_undostore psm_io
+for crate in psm_unwind psm_machine; do forbid $crate psm_tree psm_resolved psm_meaning psm_undostore psm_io; done
+forbid psm_cond psm_tree psm_table
+forbid psm_machine psm_scope
+forbid psm_session psm_tree psm_lower psm_emit psm_undostore
+forbid psm_proper psm_tree psm_scope psm_store psm_io
+forbid psm_script_code psm_check_stmt psm_io psm_undostore
+forbid psm_plays psm_tree psm_scope psm_machine psm_io
+forbid psm_build psm_undostore psm_verify
+# shellcheck disable=SC2086
+{
+    forbid psm_print $parsers
+    # The program knows words, files, stores and statuses: no token, value, tree or machine.
+    forbid psm psm_token psm_value psm_text psm_num psm_grammar psm_tree psm_resolved psm_machine $parsers
+}
+forbid psm_spell psm_grammar psm_tree
+forbid psm_io psm_value
+
+exit "$status"

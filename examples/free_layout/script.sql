@@ -1,1 +1,0 @@
-CALL raise_price(100, 5, ?); -- one command

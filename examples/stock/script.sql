@@ -1,1 +1,0 @@
-CALL receive(40, 3, 120);

@@ -1,0 +1,56 @@
+"""Explains a refusal: reads what the program printed, and tells the line with the place and how to mend it.
+
+python3 refusals.py MODULE_FILE SCRIPT <OUTPUT; all that is told goes to standard error.
+"""
+import re
+import sys
+
+import causes
+import mends
+
+REFUSED = re.compile(r"^(module|script) ([0-9]+):([0-9]+) (.+)$", re.M)
+# So many characters of a long line are shown around the place.
+WIDTH = 100
+
+
+def marked(line, column):
+    """Returns the line and below it a caret under the column; of a long line what stands around that."""
+    start = max(0, column - 1 - WIDTH // 2) if len(line) > WIDTH else 0
+    shown = line[start : start + WIDTH]
+    under = re.sub(r"[^\t]", " ", line[start : column - 1])
+    return shown.rstrip(), under + "^"
+
+
+def help_for(fault, text, line, column):
+    """Returns the word that `psm explain` takes, and one line of help."""
+    code = fault.split()[0]
+    written = text.split("\n")[line - 1][column - 1 :] if line <= text.count("\n") + 1 else ""
+    if code == "K21" and written.startswith('"'):
+        return code, "texts stand between apostrophes, and only names between quotation marks"
+    if code in mends.RULES:
+        return code, mends.RULES[code]
+    if fault == "syntax fault":
+        return "syntax", causes.told(text, line, column)
+    if fault == "bad character":
+        return fault, mends.CHARACTERS.get(written[:1], mends.TOKENS[fault])
+    return fault, mends.TOKENS.get(fault, "")
+
+
+def explain(output, module_file, script):
+    refused = REFUSED.search(output)
+    if not refused:
+        return
+    which, line, column, fault = refused[1], int(refused[2]), int(refused[3]), refused[4]
+    file = module_file if which == "module" else script
+    with open(file, "rb") as it:
+        text = it.read().decode("utf-8", errors="replace")
+    lines = text.split("\n")
+    shown, under = marked(lines[line - 1].rstrip("\r") if line <= len(lines) else "", column)
+    code, mend = help_for(fault, text, line, column)
+    number = str(line)
+    rows = [f"{file}:{line}:{column}", f"{number} | {shown}", f"{' ' * len(number)} | {under}", f"{mend} (psm explain {code})"]
+    print("\n".join(rows), file=sys.stderr)
+
+
+if __name__ == "__main__":
+    explain(sys.stdin.read(), sys.argv[1], sys.argv[2])

@@ -1,0 +1,89 @@
+"""Runs the program without a proof, by `rt try`: python3 unproved.py yes|no run M S [--turns N]; yes explains a refusal."""
+import os
+import re
+import subprocess
+import sys
+import tempfile
+
+import refusals
+
+ROOT = os.path.dirname(os.path.dirname(os.path.abspath(__file__)))
+ENDED = re.compile(r"^run=ended status=(\d+) ", re.M)
+CASE = re.compile(r"^case=(\S+) run=(\S+)(?: status=(\d+))?", re.M)
+# Where it is run, rt try copies what lies below; so it is called in the folder of the program.
+FOLDER = f"{ROOT}/crates/psm"
+FAILED = 70
+
+
+def say(text):
+    print(f"psm: {text}", file=sys.stderr, flush=True)
+
+
+def say_how_long(what):
+    say(f"{what} without a proof: rt try compiles the program each time, in one to three minutes, longer on a busy machine")
+
+
+def run(is_explained, words):
+    """Runs the program once, prints what it prints, and returns its status."""
+    say_how_long("running")
+    module_file, script = words[1:3]
+    given = ["--data", f"M={os.path.abspath(module_file)}", "--data", f"S={os.path.abspath(script)}"]
+    command = ["rt", "try", *given, "--", "run", "M", "S", *words[3:]]
+    how = {"stdin": subprocess.DEVNULL, "stdout": subprocess.PIPE, "stderr": subprocess.PIPE}
+    ran = subprocess.run(command, cwd=FOLDER, **how)
+    ended = ENDED.search(ran.stderr.decode(errors="replace"))
+    text = ran.stdout
+    for name, file in ((b"M", module_file), (b"S", script)):
+        # The one line that names a file is that of a file too long.
+        text = re.sub(rb"\A" + name + rb"(?= is longer than )", os.fsencode(file), text)
+    sys.stdout.buffer.write(text)
+    sys.stdout.flush()
+    if not ended:
+        sys.stderr.buffer.write(ran.stderr)
+        say("rt try gave no answer")
+        return FAILED
+    status = int(ended[1])
+    if is_explained and status in (4, 5):
+        refusals.explain(text.decode(errors="replace"), module_file, script)
+    return status
+
+
+def run_many(cases):
+    """Runs the program on each case, a list of words with files' names. Returns the list of (status, output), with None for a status that isn't known."""
+    with tempfile.TemporaryDirectory(prefix="psm-cases-") as folder:
+        data = []
+        for number, (module_file, script, turns) in enumerate(cases):
+            name = f"case{number:05}"
+            words = ["run", f"M{number}", f"S{number}", *(["--turns", turns] if turns else [])]
+            with open(f"{folder}/{name}", "w", encoding="utf-8"):
+                pass
+            with open(f"{folder}/{name}.args", "w", encoding="utf-8") as args:
+                args.writelines(f"{word}\n" for word in words)
+            data += ["--data", f"M{number}={os.path.abspath(module_file)}"]
+            data += ["--data", f"S{number}={os.path.abspath(script)}"]
+        how = {"stdin": subprocess.DEVNULL, "stdout": subprocess.PIPE, "stderr": subprocess.PIPE}
+        ran = subprocess.run(["rt", "try", *data, "--cases", folder], cwd=FOLDER, **how)
+    said = ran.stderr.decode(errors="replace")
+    statuses = {name: int(status) if status else None for name, _, status in CASE.findall(said)}
+    if not statuses:
+        sys.stderr.write(said)
+        say("rt try gave no answer")
+        sys.exit(FAILED)
+    outputs = parted(ran.stdout.decode(errors="replace"), len(cases))
+    return [(statuses.get(f"case{it:05}"), outputs[it]) for it in range(len(cases))]
+
+
+def parted(text, count):
+    """Returns the output of each case, which stands below the line `== NAME`."""
+    outputs, at = [""] * count, None
+    for line in text.splitlines(keepends=True):
+        head = re.fullmatch(r"== case(\d{5})\n", line)
+        if head:
+            at = int(head[1])
+        elif at is not None:
+            outputs[at] += line
+    return outputs
+
+
+if __name__ == "__main__":
+    sys.exit(run(sys.argv[1] == "yes", sys.argv[2:]))
