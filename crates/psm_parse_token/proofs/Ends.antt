@@ -14,18 +14,18 @@ pub reading_two : {X A B : Type 0} (levels : ℕ) (p : Gram X) (test : Test Plac
 unfolding reading two
 reading_two {X} {A} {B} levels p test next ts = whole (reading levels p ts)
   where
-    second : (x : X) (o : Out Placed B) → and_then o (λ b end. Ok (x, end)) ≡ and_then (and_then o (λ b end. Ok (tt, end))) (λ u end. Ok (x, end))
+    second : (x : X) (o : Out Placed B) → and_then o (λ b end. Ok (x, end)) ≡ and_then (and_then o (λ b end. Ok (tt {0}, end))) (λ u end. Ok (x, end))
     second x (Ok r) = refl
     second x (Err e) = refl
 
     both_of : (x : X) (o : Out Placed A)
         → and_then (and_then o (λ a end. Ok (x, end))) (λ y rest. and_then (one kind next rest) (λ b end. Ok (y, end)))
-        ≡ and_then (and_then o (λ a rest. and_then (one kind next rest) (λ b end. Ok (tt, end)))) (λ u end. Ok (x, end))
+        ≡ and_then (and_then o (λ a rest. and_then (one kind next rest) (λ b end. Ok (tt {0}, end)))) (λ u end. Ok (x, end))
     both_of x (Ok r) = second x (one kind next r.1)
     both_of x (Err e) = refl
 
     whole : (o : Out Placed X)
         → and_then (and_then o (λ x rest. and_then (one kind test rest) (λ a end. Ok (x, end)))) (λ y rest. and_then (one kind next rest) (λ b end. Ok (y, end)))
-        ≡ and_then o (λ x rest. and_then (and_then (one kind test rest) (λ a rest. and_then (one kind next rest) (λ b end. Ok (tt, end)))) (λ u end. Ok (x, end)))
+        ≡ and_then o (λ x rest. and_then (and_then (one kind test rest) (λ a rest. and_then (one kind next rest) (λ b end. Ok (tt {0}, end)))) (λ u end. Ok (x, end)))
     whole (Ok r) = both_of r.0 (one kind test r.1)
     whole (Err e) = refl
