@@ -4,12 +4,10 @@ use Rattle.std.specs.Prelude.{unwrap_or}
 use Rattle.psm_io.specs.Count.{Rose}
 use Rattle.psm_code.specs.declared.code.RawCode.{RawCode}
 use Rattle.psm_session.specs.declared.command.ScriptCode.{ScriptCode}
-use Rattle.psm_build.specs.Program.{StandsFor}
+use Rattle.psm_build.specs.Program.{StandsFor, session_of, tables_behind}
 use Rattle.psm_build.specs.Building.{Builds, BuildsOver}
 use Rattle.psm_build.specs.declared.fault.BuildFault.{BuildFault}
 use Rattle.psm_build.specs.declared.fault.BuildFault.TheVariants as builds
-use Rattle.psm_build.proofs.Compiled.{is_module_file}
-use Rattle.psm_build.proofs.Scripts.{can-run, plays}
 use Rattle.psm.specs.Fetches.{Fetches, Tells, NoneFailed, IsUnread}
 use Rattle.psm.specs.Prepared.{IsRead, Gets, GetsCode, GetsScript, Prepares, refusal_of}
 use Rattle.psm.specs.Words.{Files}
@@ -84,7 +82,7 @@ module _ (held held' : List ℕ → Option (List ℕ)) (before mid after : List 
     ms = ms;
     told_module = read.told;
     short = read.short;
-    is_module = is_module_file ms code is;
+    is_module = is.file;
     unread = unread_from held held' before mid after f.for_script read.none_failed h.1;
   }
   script_unread (Unread which.Module) h = absurd cc
@@ -93,7 +91,7 @@ module _ (held held' : List ℕ → Option (List ℕ)) (before mid after : List 
     ss = h.1.bytes;
     told_module = read.told;
     told_script = told_from held held' f.for_script h.1.bytes same h.1.told;
-    files_are = (read.short, (is_module_file ms code is, h.1.long));
+    files_are = (read.short, (is.file, h.1.long));
     none_failed = both_stay before mid after read.none_failed h.1.none_failed;
   }
   script_unread (TooLong which.Module) h = absurd cc
@@ -109,24 +107,24 @@ module _ (held held' : List ℕ → Option (List ℕ)) (before mid after : List 
     ss = ss;
     told_module = read.told;
     told_script = told_from held held' f.for_script ss same second.told;
-    files_are = (read.short, (is_module_file ms code is, (second.short, h.1)));
+    files_are = (read.short, (is.file, (second.short, h.1)));
     none_failed = both_stay before mid after read.none_failed second.none_failed;
   }
   script_refused ss Memory second h = tt
 
   pub script_ready : (ss : List ℕ) (s : ScriptCode) → IsRead (between held' mid after) f.for_script ss → GetsScript ms code ss (Ok s) → Prepares (between held before after) f (Ok (code, s))
   script_ready ss s second h =
-      let played = plays ms ss code s.commands is h f.turns in
       record {
-        session = played.0;
+        session = session_of h.script f.turns;
+        behind = tables_behind h.script f.turns;
         finds = record {
           ms = ms;
           ss = ss;
           told_module = read.told;
           told_script = told_from held held' f.for_script ss same second.told;
-          files_are = (read.short, (is_module_file ms code is, (second.short, played.1)));
+          files_are = (read.short, (is.file, (second.short, record { script = h.script; session_is = refl })));
           none_failed = both_stay before mid after read.none_failed second.none_failed;
         };
-        runs = can-run ms ss code s.commands is h;
-        plays = played.2;
+        runs = h.can;
+        plays = h.plays f.turns;
       }

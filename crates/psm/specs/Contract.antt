@@ -34,7 +34,7 @@ pub record IsDue (asked : Asked) (owed : Owed) : Type 0 where
   pub named : files_of asked.words ≡ Some files
   pub found : Found (Found Session)
   pub finds : Finds asked.fetches files found
-  pub owed_is : owed ≡ due files found
+  pub owed_is : due files found ≡ Some owed
 
 -- ---- the answer
 
@@ -78,9 +78,14 @@ Stayed before after = Rose before after → ⊥
 abbrev pub Answers : Status → Status → Type 0
 Answers due_status answer = (answer ≡ due_status) ⊎ (answer ≡ status.Memory)
 
--- Words without a form are answered Usage. Where the words name two files that the shelf tells, the status
--- that is due for their contents is answered. Both hold where no put failed, the second where no fetch of the
--- two names failed.
+-- something is due for what was found of the files, and its status is answered
+pub record AnswersFor (f : Files) (found : Found (Found Session)) (answer : Status) : Type 0 where
+  pub owed : Owed
+  pub owed_is : due f found ≡ Some owed
+  pub answers : Answers owed.status answer
+
+-- Words without a form are answered Usage. Where the words name two files that the shelf tells, something is due for their contents, and
+-- its status is answered. Both hold where no put failed, the second where no fetch of the two names failed.
 pub record Completes (asked : Asked) (sunk : Sunk) (answer : Status) : Type 0 where
   pub misused : Stayed sunk.faults_before sunk.faults_after → files_of asked.words ≡ None → Answers status.Usage answer
   pub told : (f : Files) (ms ss : List ℕ) (found : Found (Found Session))
@@ -88,4 +93,4 @@ pub record Completes (asked : Asked) (sunk : Sunk) (answer : Status) : Type 0 wh
       → Stayed (asked.fetches.before f.for_module) (asked.fetches.after f.for_module)
       → Stayed (asked.fetches.before f.for_script) (asked.fetches.after f.for_script)
       → files_of asked.words ≡ Some f → asked.fetches.held f.for_module ≡ Some ms → asked.fetches.held f.for_script ≡ Some ss
-      → FilesAre ms ss f.turns found → Answers (due f found).status answer
+      → FilesAre ms ss f.turns found → AnswersFor f found answer

@@ -1,10 +1,11 @@
 -- What is known of the two files, step by step.
 use Rattle.std.specs.Prelude.{◌≡◌, ℕ, ◌<◌, ◌≤◌, List, length, Option, Some, None, IfSome, Result, Ok, Err}
 use Rattle.std.specs.Global.{Vec}
-use Rattle.psm_build.specs.Program.{IsModuleFault, IsScriptFault, IsScriptOf, StandsFor}
+use Rattle.psm_table.specs.Table.{Contents}
+use Rattle.psm_build.specs.Program.{IsModuleFault, IsScriptFault, StandsFor}
 use Rattle.psm_build.specs.declared.fault.BuildFault.{BuildFault}
 use Rattle.psm_build.specs.declared.fault.BuildFault.TheVariants as builds
-use Rattle.psm_build.specs.Played.{CanRun, PlaysAs}
+use Rattle.psm_build.specs.Played.{CanRun, PlaysAs, RunsOver}
 use Rattle.psm_code.specs.declared.code.RawCode.{RawCode}
 use Rattle.psm_meaning.specs.Session.{Session}
 use Rattle.psm_session.specs.declared.command.ScriptCode.{ScriptCode}
@@ -56,7 +57,7 @@ GetsCode ms (Err (TooLong x)) = ⊥
 -- ---- the script
 
 abbrev pub GetsScript : List ℕ → RawCode → List ℕ → Result ScriptCode Refusal → Type 0
-GetsScript ms code ss (Ok script) = IsScriptOf code ss script.commands
+GetsScript ms code ss (Ok script) = RunsOver ms ss code script.commands
 GetsScript ms code ss (Err (Refused x line column fault)) = (x ≡ which.Script) × IsScriptFault ms ss line column fault
 GetsScript ms code ss (Err Memory) = Unit {0}
 GetsScript ms code ss (Err (Unread x)) = ⊥
@@ -77,9 +78,10 @@ found_of Memory = None
 -- both files are accepted, and the commands that are given can be run over the code and play as the session that they come to
 pub record IsReady (fetches : Fetches) (f : Files) (code : RawCode) (script : ScriptCode) : Type 0 where
   pub session : Session
+  pub behind : ℕ → List Contents
   pub finds : Finds fetches f (found.Accepted (found.Accepted session))
   pub runs : CanRun code script.commands
-  pub plays : PlaysAs code script.commands f.turns session
+  pub plays : PlaysAs code script.commands f.turns session behind
 
 -- they are ready, or a refusal tells what was found
 abbrev pub Prepares : Fetches → Files → Result (RawCode × ScriptCode) Refusal → Type 0

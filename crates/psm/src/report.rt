@@ -1,6 +1,7 @@
 //! What is put for a refusal, and for a script that is run.
-ghost use Rattle.std.specs.Prelude.{◌≡◌, ◌++◌, All, IfOk, map};
+ghost use Rattle.std.specs.Prelude.{◌≡◌, ◌++◌, ℕ, List as Seq, All, IfOk};
 ghost use Rattle.psm_table.specs.Definition.{IsDefinition};
+ghost use Rattle.psm_table.specs.Table.{Contents};
 ghost use Rattle.psm_undostore.specs.Undo.{tables_of};
 ghost use Rattle.psm_build.specs.Played.{CanRun, PlaysAs, definitions, empty_tables};
 ghost use Rattle.psm_meaning.specs.Session.{Session};
@@ -15,11 +16,9 @@ use crate::line::fault_line;
 use crate::prepare::{Refusal, Which};
 use crate::status::Status;
 use crate::words::Files;
-use psm_build::{Code, Fault, ScriptCode};
-use psm_code::CodeTable;
+use psm_build::{Code, Fault, ScriptCode, definitions_of};
 use psm_io::{Sink, SinkFault};
 use psm_session::{ScriptEnd, run_script};
-use psm_table::TableDef;
 use psm_undostore::UndoStore;
 use std::alloc::{AllocError, Global};
 
@@ -32,7 +31,7 @@ pub fn play<K: Sink>(
     out: &mut K,
 ) -> Status
     requires { CanRun code.now script.now.commands }
-    ensures { (s : Session) → PlaysAs code.now script.now.commands turns s → Runs s (sunk_of K.written K.faults out.old out.new) result }
+    ensures { (s : Session) (behind : ℕ → Seq Contents) → PlaysAs code.now script.now.commands turns s behind → Runs s (sunk_of K.written K.faults out.old out.new) result }
 {
     let Ok(mut store) = empty_store(alloc, code) else {
         return Status::Memory;
@@ -59,18 +58,8 @@ fn empty_store(alloc: Global, code: &Code) -> Result<UndoStore, AllocError>
     ensures tables { IfOk result (λ s. tables_of s ≡ empty_tables code.now) }
     ensures marks { IfOk result (λ s. s.marks ≡ 0) }
 {
-    let defs = definitions_of(alloc, code.tables.items())?;
+    let defs = definitions_of(alloc, code)?;
     UndoStore::new(alloc, defs)
-}
-
-fn definitions_of(alloc: Global, tables: &[CodeTable]) -> Result<Vec<TableDef>, AllocError>
-    ensures { IfOk result (λ defs. defs.items ≡ map (λ t. t.definition) tables.now) }
-{
-    let mut defs = Vec::new(alloc);
-    for table in tables {
-        defs.push(table.definition.copy(alloc)?)?;
-    }
-    Ok(defs)
 }
 
 /// Puts the line that shows the form of the words.

@@ -7,6 +7,7 @@ use crate::prepare::prepare;
 use crate::report::{play, report, report_usage};
 use crate::status::Status;
 use crate::words::files_in;
+use psm_build::files_are_one_thing;
 use psm_io::{Shelf, Sink};
 use std::alloc::Global;
 
@@ -19,6 +20,7 @@ pub fn psm<F: Shelf, K: Sink>(alloc: Global, words: &[String], shelf: &mut F, ou
     ensures completes { Completes (asked_of words.now (fetches_of F.held F.faults shelf.old shelf.new))
         (sunk_of K.written K.faults out.old out.new) result }
 {
+    files_are_one_thing();
     match files_in(words) {
         None => report_usage(out),
         Some(files) => match prepare(alloc, &files, shelf) {

@@ -1,6 +1,6 @@
 -- What is answered for a file, from the answers of its steps.
 use Rattle.std.proofs.Common.{◌≡◌, ℕ, List, Result, Ok, Err, refl, sym, subst, inl, inr}
-use Rattle.std.specs.Prelude.{All, IsOkUnless}
+use Rattle.std.specs.Prelude.{All, IfOk, IsOkUnless}
 use Rattle.std.proofs.lemmas.List.Elements.{All-from_recursion}
 use Rattle.psm_tree.specs.declared.file.FileTree.{FileTree}
 use Rattle.psm_tree.specs.declared.script.ScriptTree.{ScriptTree}
@@ -17,10 +17,12 @@ use Rattle.psm_build.specs.Source.{module_files, scripts, IsTreeOf, IsAccepted, 
 use Rattle.psm_build.specs.Told.{told_of_script}
 use Rattle.psm_build.specs.Program.{IsModuleFile, StandsFor}
 use Rattle.psm_build.specs.Building.{ReadsTree, Accepts, Compiles, Builds, BuildsScript, BuildsOver}
+use Rattle.psm_build.specs.Played.{RunsOver}
 use Rattle.psm_build.specs.declared.fault.BuildFault.{BuildFault}
 use Rattle.psm_build.specs.declared.fault.BuildFault.TheVariants.{Refused, Memory}
 use Rattle.psm_build.proofs.Compiled.{compiled_stands, fault_over, script_file_over}
 use Rattle.psm_build.proofs.Files.{module_exclusive}
+use Rattle.psm_build.proofs.Scripts.{runs_over}
 
 -- a file without a tree
 pub module_without_tree : (bytes : List ℕ) (e : BuildFault) → ReadsTree module_files bytes (Err e) → Builds bytes (Err e)
@@ -64,3 +66,8 @@ pub built_over : (code : RawCode) (ss : List ℕ) (answer : Result ScriptCode Bu
 built_over code ss (Ok s) h ms stands = script_file_over ms ss code s.commands stands h
 built_over code ss (Err (Refused line column fault)) h ms stands = fault_over ms ss code line column fault stands h
 built_over code ss (Err Memory) h ms stands = tt
+
+-- what is given over code that stands for a module file can be run, and shows the session that the two files come to
+pub given_runs : (code : RawCode) (ss : List ℕ) (answer : Result ScriptCode BuildFault) → BuildsScript code ss answer → (ms : List ℕ) → StandsFor ms code → IfOk answer (λ s. RunsOver ms ss code s.commands)
+given_runs code ss (Ok s) h ms stands = runs_over ms ss code s.commands stands h
+given_runs code ss (Err e) h ms stands = tt

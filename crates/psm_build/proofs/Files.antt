@@ -15,15 +15,11 @@ use Rattle.psm_script_code.specs.FileKnown.{known_of_file}
 use Rattle.psm_build.specs.Told.{told_of_rule}
 use Rattle.psm_build.specs.Source.{module_files, scripts, IsTreeOf, IsFaultAt, IsRuleFault, IsAccepted, IsAcceptedScript, IsScriptRuleFault}
 use Rattle.psm_build.specs.Program.{IsModuleFile, IsModuleFault, IsScriptFile, IsScriptFault, ComesTo, known_over}
+use Rattle.psm_build.specs.Once.{Exclusive}
 use Rattle.psm_build.specs.declared.fault.Fault.{Fault}
 use Rattle.psm_build.specs.declared.fault.BuildFault.{BuildFault}
 use Rattle.psm_build.specs.declared.fault.BuildFault.TheVariants.{Refused}
 use Rattle.psm_build.proofs.Sources.{tree_once, tree_excludes, fault_once}
-
--- a file that is accepted has no fault, and its fault is one
-pub record Exclusive (IsFile : Type 0) (IsFault : ℕ → ℕ → Fault → Type 0) : Type 0 where
-  pub file_or_fault : (l c : ℕ) (f : Fault) → IsFile → IsFault l c f → ⊥
-  pub one_fault : (l c l' c' : ℕ) (f f' : Fault) → IsFault l c f → IsFault l' c' f' → Refused l c f ≡ Refused l' c' f'
 
 -- ---- first faults
 
@@ -114,16 +110,12 @@ script_exclusive ms ss = record {
 
 -- ---- both
 
--- what comes to something is a script over the module file
-pub comes_to_script : (ms ss : List ℕ) (turns : ℕ) (a : Session) → ComesTo ms ss turns a → IsScriptFile ms ss
-comes_to_script ms ss turns a h = h.script
-
 -- the session of two trees
-abbrev session_of : FileTree → ScriptTree → ℕ → Session
-session_of file script turns = heights.session (file_made file) (script_of (known_of_file (file_made file)) script) turns
+abbrev session_of_trees : FileTree → ScriptTree → ℕ → Session
+session_of_trees file script turns = heights.session (file_made file) (script_of (known_of_file (file_made file)) script) turns
 
 pub comes_to_once : (ms ss : List ℕ) (turns : ℕ) (a b : Session) → ComesTo ms ss turns a → ComesTo ms ss turns b → a ≡ b
 comes_to_once ms ss turns a b x y =
     let files : x.script.over.tree ≡ y.script.over.tree = module_once ms x.script.over y.script.over in
     let trees : x.script.tree ≡ y.script.tree = tree_once script_fit ss x.script.tree y.script.tree x.script.tree_is y.script.tree_is in
-    x.session_is ∙ ap (λ (t : FileTree). session_of t x.script.tree turns) files ∙ ap (λ (t : ScriptTree). session_of y.script.over.tree t turns) trees ∙ sym y.session_is
+    x.session_is ∙ ap (λ (t : FileTree). session_of_trees t x.script.tree turns) files ∙ ap (λ (t : ScriptTree). session_of_trees y.script.over.tree t turns) trees ∙ sym y.session_is

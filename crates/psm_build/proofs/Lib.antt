@@ -2,6 +2,7 @@ pub mod Reading
 pub mod Sources
 pub mod Files
 pub mod Compiled
+pub mod Ending
 pub mod EmptyTables
 pub mod Shown
 pub mod Procedures

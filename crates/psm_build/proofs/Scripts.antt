@@ -1,12 +1,10 @@
 -- A script over code that stands for a module file can be run over it, and each run of it shows the session that the two files come to.
-use Rattle.std.proofs.Common.{ℕ, List, refl, sym, subst}
+use Rattle.std.proofs.Common.{ℕ, List, sym, subst}
 use Rattle.std.specs.Prelude.{All}
 use Rattle.psm_tree.specs.declared.script.ScriptTree.{ScriptTree}
 use Rattle.psm_accept.proofs.SmallTokens.{read-scripts-stand}
 use Rattle.psm_accept.specs.ScriptsStand.{ScriptStands}
 use Rattle.psm_table.specs.Table.{Contents}
-use Rattle.psm_meaning.specs.Heights.{session}
-use Rattle.psm_meaning.specs.Session.{Session}
 use Rattle.psm_code.specs.declared.code.RawCode.{RawCode}
 use Rattle.psm_proper.proofs.Sound.{sound-file}
 use Rattle.psm_sound.specs.Scene.{Each}
@@ -20,8 +18,8 @@ use Rattle.psm_script_code.proofs.Fits.{commands_fit}
 use Rattle.psm_script_code.proofs.Sound.{commands_proper, commands_sound}
 use Rattle.psm_plays.specs.Standing.{CommandsStand}
 use Rattle.psm_build.specs.Source.{scripts, IsTreeOf}
-use Rattle.psm_build.specs.Program.{ComesTo, IsScriptFile, IsScriptOf, StandsFor, commands_of, file_of}
-use Rattle.psm_build.specs.Played.{CanRun, PlaysAs, empty_tables}
+use Rattle.psm_build.specs.Program.{IsScriptFile, IsScriptOf, StandsFor, commands_of, file_of, session_of, tables_behind}
+use Rattle.psm_build.specs.Played.{CanRun, RunsOver, empty_tables}
 use Rattle.psm_build.proofs.CommandsStand.{commands_stand}
 use Rattle.psm_build.proofs.Compiled.{known_over_code, script_file_over}
 use Rattle.psm_build.proofs.EmptyTables.{code_definitions, empty_tables_kept, same_empty_tables}
@@ -36,7 +34,7 @@ module _ (ms ss : List ℕ) (code : RawCode) (commands : List ScriptCommand) (st
   all_fit : All (FitsCommand code) commands
   all_fit = commands_fit (file_of stands.file) code stands.proper stands.written is.tree (read_stands ss is.tree is.tree_is) is.accepted commands is.made
 
-  pub can-run : CanRun code commands
+  can-run : CanRun code commands
   can-run = record {
     right = stands.right;
     numbered = stands.numbered;
@@ -57,12 +55,14 @@ module _ (ms ss : List ℕ) (code : RawCode) (commands : List ScriptCommand) (st
       (subst (λ (k : Known). CommandsMade code (script_of k is.tree) commands) (known_over_code ms code stands) is.made)
       all_sound (commands_proper (file_of stands.file) stands.proper is.tree (read_stands ss is.tree is.tree_is) script.accepted) all_fit
 
-  comes_to : (turns : ℕ) → ComesToRuns code commands (beginning (empty_tables code) turns) (session (file_of stands.file) (commands_of script) turns)
-  comes_to turns = subst (λ (cs : List Contents). ComesToRuns code commands (beginning cs turns) (session (file_of stands.file) (commands_of script) turns))
+  comes_to : (turns : ℕ) → ComesToRuns code commands (beginning (empty_tables code) turns) (session_of script turns) (tables_behind script turns)
+  comes_to turns = subst (λ (cs : List Contents). ComesToRuns code commands (beginning cs turns) (session_of script turns) (tables_behind script turns))
       (sym (same_empty_tables (file_of stands.file) code stands.written))
       (comes_to_runs (file_of stands.file) code stands.stands (sound-file (file_of stands.file) stands.proper) (commands_of script) commands all_stand turns)
 
-  pub plays : (turns : ℕ) → (s : Session) × ComesTo ms ss turns s × PlaysAs code commands turns s
-  plays turns =
-      let s = session (file_of stands.file) (commands_of script) turns in
-      (s, record { script = script; session_is = refl }, λ sunk tables left end h. shown code commands (beginning (empty_tables code) turns) s (comes_to turns) sunk tables left end h)
+  pub runs_over : RunsOver ms ss code commands
+  runs_over = record {
+    can = can-run;
+    script = script;
+    plays = λ turns sunk tables left end h. shown code commands (beginning (empty_tables code) turns) (session_of script turns) (tables_behind script turns) (comes_to turns) sunk tables left end h;
+  }

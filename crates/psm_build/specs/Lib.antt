@@ -2,5 +2,6 @@ pub mod Told
 pub mod FaultTexts
 pub mod Source
 pub mod Program
+pub mod Once
 pub mod Building
 pub mod Played

@@ -1,26 +1,52 @@
--- What running a script over code leaves in the sink, and what that has to do with the session that two files come to.
-use Rattle.std.specs.Prelude.{◌≡◌, ℕ, List, map, None, All, IsTrue}
+-- What running a script over code leaves in the sink and in the tables, and what that has to do with the session that two files come to.
+use Rattle.std.specs.Prelude.{◌≡◌, ℕ, ◌+◌, List, ◌∷◌, ◌++◌, length, map, None, All, IsTrue}
 use Rattle.psm_cond.specs.Sound.{is_numbered}
 use Rattle.psm_table.specs.declared.definition.TableDef.{TableDef}
 use Rattle.psm_table.specs.Definition.{IsDefinition}
 use Rattle.psm_table.specs.Table.{Contents, empty_table}
 use Rattle.psm_meaning.specs.Acts.{NoTurns}
-use Rattle.psm_meaning.specs.Session.{Session, Cut, Done}
+use Rattle.psm_meaning.specs.Session.{Session, End, Cut, Done}
 use Rattle.psm_code.specs.declared.code.RawCode.{RawCode}
 use Rattle.psm_code.specs.RoutineRules.{first_fault}
 use Rattle.psm_code.specs.Sits.{AreKept}
 use Rattle.psm_session.specs.Ends.{Ends, FitsCommand, beginning}
-use Rattle.psm_session.specs.Put.{Sunk, PutAll, PutFirst, PutSome}
+use Rattle.psm_session.specs.Put.{Sunk, PutAll, PutUpTo}
 use Rattle.psm_session.specs.declared.command.ScriptCommand.{ScriptCommand}
 use Rattle.psm_session.specs.declared.script.ScriptEnd.{ScriptEnd}
 use Rattle.psm_session.specs.declared.script.ScriptEnd.TheVariants as ends
+use Rattle.psm_build.specs.Program.{IsScriptFile, session_of, tables_behind}
 
--- the sink has what the session wrote up to the end that was answered
-abbrev pub Shows : Session → Sunk → ScriptEnd → Type 0
-Shows s sunk ends.Done = (s.end ≡ Done) × PutAll sunk s.pieces
-Shows s sunk ends.TurnsUsed = (s.end ≡ Cut NoTurns) × PutAll sunk s.pieces
-Shows s sunk ends.WriteFault = PutSome sunk s.pieces
-Shows s sunk ends.Memory = PutFirst sunk s.pieces
+-- ---- what a run shows of a session; `behind n` are the tables behind its first n commands
+
+-- the put of the piece of a command failed: the pieces before it are written, and a prefix of it; the tables are those behind the command
+pub record IsTorn (s : Session) (behind : ℕ → List Contents) (sunk : Sunk) (tables : List Contents) : Type 0 where
+  pub pieces : List (List ℕ)
+  pub failed : List ℕ
+  pub later : List (List ℕ)
+  pub are : s.pieces ≡ pieces ++ failed ∷ later
+  pub put : PutUpTo sunk pieces failed
+  pub tables_are : tables ≡ behind (length pieces + 1)
+
+-- memory ran out behind some commands, whose pieces are written; the tables are those behind these commands
+pub record IsShort (s : Session) (behind : ℕ → List Contents) (sunk : Sunk) (tables : List Contents) : Type 0 where
+  pub pieces : List (List ℕ)
+  pub later : List (List ℕ)
+  pub are : s.pieces ≡ pieces ++ later
+  pub put : PutAll sunk pieces
+  pub tables_are : tables ≡ behind (length pieces)
+
+-- all pieces are written, and the tables and the turns left are those of the session, which ends so
+pub record IsWhole (s : Session) (end : End) (sunk : Sunk) (tables : List Contents) (left : ℕ) : Type 0 where
+  pub end_is : s.end ≡ end
+  pub put : PutAll sunk s.pieces
+  pub tables_are : tables ≡ s.tables
+  pub left_are : left ≡ s.turns
+
+abbrev pub Shows : Session → (ℕ → List Contents) → Sunk → List Contents → ℕ → ScriptEnd → Type 0
+Shows s behind sunk tables left ends.Done = IsWhole s Done sunk tables left
+Shows s behind sunk tables left ends.TurnsUsed = IsWhole s (Cut NoTurns) sunk tables left
+Shows s behind sunk tables left ends.WriteFault = IsTorn s behind sunk tables
+Shows s behind sunk tables left ends.Memory = IsShort s behind sunk tables
 
 -- ---- the tables of code
 
@@ -41,5 +67,12 @@ pub record CanRun (code : RawCode) (commands : List ScriptCommand) : Type 0 wher
   pub kept : AreKept code.tables (empty_tables code)
 
 -- however a run of them ends, it shows that session
-abbrev pub PlaysAs : RawCode → List ScriptCommand → ℕ → Session → Type 0
-PlaysAs code commands turns s = (sunk : Sunk) (tables : List Contents) (left : ℕ) (end : ScriptEnd) → Ends code commands (beginning (empty_tables code) turns) sunk tables left end → Shows s sunk end
+abbrev pub PlaysAs : RawCode → List ScriptCommand → ℕ → Session → (ℕ → List Contents) → Type 0
+PlaysAs code commands turns s behind = (sunk : Sunk) (tables : List Contents) (left : ℕ) (end : ScriptEnd) → Ends code commands (beginning (empty_tables code) turns) sunk tables left end → Shows s behind sunk tables left end
+
+-- commands over code that stands for the module file ms: they can be run, the bytes ss are a script over it, and for each number of
+-- turns each run of the commands shows the session that the two files come to
+pub record RunsOver (ms ss : List ℕ) (code : RawCode) (commands : List ScriptCommand) : Type 0 where
+  pub can : CanRun code commands
+  pub script : IsScriptFile ms ss
+  pub plays : (turns : ℕ) → PlaysAs code commands turns (session_of script turns) (tables_behind script turns)

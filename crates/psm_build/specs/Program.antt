@@ -1,8 +1,9 @@
 -- What the bytes of files are, and what two files come to. Above this crate nothing else is said of them.
-use Rattle.std.specs.Prelude.{◌≡◌, ℕ, ◌⊎◌, List, None, All, IsTrue}
+use Rattle.std.specs.Prelude.{◌≡◌, ℕ, ◌⊎◌, List, take, None, All, IsTrue}
 use Rattle.psm_cond.specs.Sound.{is_numbered}
 use Rattle.psm_tree.specs.declared.file.FileTree.{FileTree}
 use Rattle.psm_tree.specs.declared.script.ScriptTree.{ScriptTree}
+use Rattle.psm_table.specs.Table.{Contents}
 use Rattle.psm_resolved.specs.declared.file.ResolvedFile.{ResolvedFile}
 use Rattle.psm_resolve.specs.Files.{file_made}
 use Rattle.psm_meaning.specs.Heights.{session}
@@ -59,10 +60,18 @@ pub record IsScriptFault (ms ss : List ℕ) (line column : ℕ) (fault : Fault) 
   pub over : IsModuleFile ms
   pub fault_is : IsFaultAt scripts ss line column fault ⊎ IsScriptRuleFault (known_over over) ss (Refused line column fault)
 
+-- its session with so many turns
+abbrev pub session_of : {ms ss : List ℕ} → IsScriptFile ms ss → ℕ → Session
+session_of s turns = session (file_of s.over) (commands_of s) turns
+
+-- the tables behind its first n commands, which are those that a session of these commands alone leaves
+abbrev pub tables_behind : {ms ss : List ℕ} → IsScriptFile ms ss → ℕ → ℕ → List Contents
+tables_behind s turns n = (session (file_of s.over) (take n (commands_of s)) turns).tables
+
 -- the script ss over the module file ms, with so many turns, comes to these pieces, this end, these tables and turns left
 pub record ComesTo (ms ss : List ℕ) (turns : ℕ) (comes_to : Session) : Type 0 where
   pub script : IsScriptFile ms ss
-  pub session_is : comes_to ≡ session (file_of script.over) (commands_of script) turns
+  pub session_is : comes_to ≡ session_of script turns
 
 -- ---- code and commands
 

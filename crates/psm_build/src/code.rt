@@ -1,6 +1,7 @@
 //! Code of a module file, and scripts over it.
-ghost use Rattle.std.specs.Prelude.{◌<◌, ℕ, List as Seq, length, IsOkUnless};
+ghost use Rattle.std.specs.Prelude.{◌<◌, ℕ, List as Seq, length, IfOk, IsOkUnless};
 ghost use Rattle.psm_build.specs.Program.{IsModuleFile, StandsFor};
+ghost use Rattle.psm_build.specs.Played.{RunsOver};
 ghost use Rattle.psm_build.specs.Building.{Accepts, Builds, BuildsScript, BuildsOver, Compiles};
 
 use crate::fault::{BuildFault, refused_rule, refused_script};
@@ -72,13 +73,15 @@ fn compiled(alloc: Global, tree: &FileTree) -> Result<RawCode, BuildFault>
 /// # Errors
 /// `Refused` exactly where the bytes are no tokens, spell no script or one with a fault over the tables and procedures of the code,
 /// with the first fault, as of a module file. `Memory`.
-#[tactic(auto, using(crate::proofs::Building::built_over))]
+#[tactic(auto, using(crate::proofs::Building::built_over, crate::proofs::Building::given_runs))]
 pub fn build_script(alloc: Global, code: &RawCode, bytes: &[u8]) -> Result<ScriptCode, BuildFault>
     requires { length bytes.now < 4294967295 }
     // What is given is the file's script, and a fault is the file's.
     ensures builds { BuildsScript code.now bytes.now result }
     // Over code that stands for a module file, it is a script over that file, or has that fault over it.
     ensures over { (ms : Seq ℕ) → StandsFor ms code.now → BuildsOver ms bytes.now result }
+    // Its commands can be run, and each run of them shows the session that the two files come to, with its tables and turns.
+    ensures runs { (ms : Seq ℕ) → StandsFor ms code.now → IfOk result (λ s. RunsOver ms bytes.now code.now s.commands) }
 {
     script_over(alloc, code, bytes)
 }

@@ -4,9 +4,13 @@
 
 mod code;
 mod fault;
+mod laws;
 mod read;
+mod tables;
 
 pub use code::{build, build_script};
 pub use fault::{BuildFault, Fault};
+pub use laws::files_are_one_thing;
 pub use psm_code::RawCode as Code;
 pub use psm_session::ScriptCode;
+pub use tables::definitions_of;

@@ -4,7 +4,7 @@ use Rattle.std.specs.Prelude.{option_map}
 use Rattle.std.proofs.lemmas.List.{append-nil}
 use Rattle.psm_io.specs.Count.{Rose}
 use Rattle.psm_io.specs.Sink.{Grew}
-use Rattle.psm_session.specs.Put.{joined, Sunk, PutAll, PutSome}
+use Rattle.psm_session.specs.Put.{joined, Sunk, PutAll, PutSome, PutUpTo}
 
 -- what a sink tells and its count of faults, before and after
 abbrev pub sunk : Option (List ℕ) → ℕ → Option (List ℕ) → ℕ → Sunk
@@ -40,23 +40,13 @@ PutAll-then w w' w'' f f' f'' ps qs first second = record {
 pub PutAll-still : (w w' w'' : Option (List ℕ)) (f f' f'' : ℕ) (ps : List (List ℕ)) → PutAll (sunk w f w' f') ps → PutAll (sunk w' f' w'' f'') [] → PutAll (sunk w f w'' f'') ps
 PutAll-still w w' w'' f f' f'' ps first second = subst (PutAll (sunk w f w'' f'')) (append-nil ps) (PutAll-then w w' w'' f f' f'' ps [] first second)
 
--- what stands before is kept whole
-take-behind : (n : ℕ) (x y : List ℕ) → x ++ take n y ≡ take (length x + n) (x ++ y)
-take-behind n [] y = let e : n ≡ 0 + n = omega arith in ap (λ (k : ℕ). take k y) e
-take-behind n (a ∷ x) y =
-    let e : suc (length x + n) ≡ suc (length x) + n = omega arith in
-    ap (λ (z : List ℕ). a ∷ z) (take-behind n x y) ∙ ap (λ (k : ℕ). take k (a ∷ (x ++ y))) e
-
 Rose-from : (f f' f'' : ℕ) → f' ≡ f → Rose f' f'' → Rose f f''
 Rose-from f f' f'' e r = rw (← e) r
 
--- all of these pieces, and then a prefix of those
-pub PutSome-then : (w w' w'' : Option (List ℕ)) (f f' f'' : ℕ) (ps qs : List (List ℕ)) → PutAll (sunk w f w' f') ps → PutSome (sunk w' f' w'' f'') qs → PutSome (sunk w f w'' f'') (ps ++ qs)
-PutSome-then w w' w'' f f' f'' ps qs first second =
-    let whole : joined ps ++ take second.kept (joined qs) ≡ take (length (joined ps) + second.kept) (joined (ps ++ qs)) =
-    take-behind second.kept (joined ps) (joined qs) ∙ ap (take (length (joined ps) + second.kept)) (sym (joined-append ps qs)) in
-    record {
-      kept = length (joined ps) + second.kept;
-      written = subst (λ (x : List ℕ). Grew w w'' x) whole (Grew-then w w' w'' (joined ps) (take second.kept (joined qs)) first.written second.written);
-      rose = Rose-from f f' f'' first.no_fault second.rose;
-    }
+-- all of these pieces, and then a prefix of another
+pub PutUpTo-then : (w w' w'' : Option (List ℕ)) (f f' f'' : ℕ) (ps : List (List ℕ)) (p : List ℕ) → PutAll (sunk w f w' f') ps → PutSome (sunk w' f' w'' f'') (p ∷ []) → PutUpTo (sunk w f w'' f'') ps p
+PutUpTo-then w w' w'' f f' f'' ps p first second = record {
+  kept = second.kept;
+  written = subst (λ (x : List ℕ). Grew w w'' (joined ps ++ take second.kept x)) (append-nil p) (Grew-then w w' w'' (joined ps) (take second.kept (p ++ [])) first.written second.written);
+  rose = Rose-from f f' f'' first.no_fault second.rose;
+}

@@ -12,7 +12,7 @@ use Rattle.psm_session.specs.declared.script.ScriptEnd.TheVariants as ends
 use Rattle.psm_session.specs.declared.step.Step.{Step}
 use Rattle.psm_session.specs.declared.step.Step.TheVariants as steps
 use Rattle.psm_session.proofs.Commands.{plays_further}
-use Rattle.psm_session.proofs.Puts.{sunk, PutAll-nothing, PutAll-still, PutAll-then, PutSome-then}
+use Rattle.psm_session.proofs.Puts.{sunk, PutAll-nothing, PutAll-still, PutAll-then, PutUpTo-then}
 
 -- so many commands were played, and their pieces are put
 pub record SoFar (code : RawCode) (cs : List ScriptCommand) (i : ℕ) (s : Standing) (sink : Sunk) (t : Standing) : Type 0 where
@@ -106,7 +106,8 @@ module _ (code : RawCode) (cs : List ScriptCommand) (i : ℕ) (c : ScriptCommand
   torn : (goes : Bool) (piece : List ℕ) (due : Standing) → Makes code (i + 1) t c goes piece due → PutSome (sunk w' f' w'' f'') (piece ∷ []) → u.tables ≡ due.tables
       → IsBroken code cs s (sunk w f w'' f'') u.tables ⊎ IsBrokenCut code cs s (sunk w f w'' f'') u.tables
   torn true piece due makes put same = inl (record {
-    pieces = so_far.pieces ++ piece ∷ [];
+    pieces = so_far.pieces;
+    failed = piece;
     end = due;
     played = record {
       first = before ++ c ∷ [];
@@ -114,7 +115,7 @@ module _ (code : RawCode) (cs : List ScriptCommand) (i : ℕ) (c : ScriptCommand
       are = split_behind;
       played = plays_further code 1 (i + 1) s t due before c so_far.pieces piece number so_far.played makes;
     };
-    put = PutSome-then w w' w'' f f' f'' so_far.pieces (piece ∷ []) so_far.put put;
+    put = PutUpTo-then w w' w'' f f' f'' so_far.pieces piece so_far.put put;
     tables_are = same;
   })
   torn false piece due makes put same = inr (record {
@@ -122,7 +123,7 @@ module _ (code : RawCode) (cs : List ScriptCommand) (i : ℕ) (c : ScriptCommand
     before = t;
     piece = piece;
     runs_out = runs_out piece due makes;
-    put = PutSome-then w w' w'' f f' f'' so_far.pieces (piece ∷ []) so_far.put put;
+    put = PutUpTo-then w w' w'' f f' f'' so_far.pieces piece so_far.put put;
     tables_are = same ∙ makes.1;
   })
 

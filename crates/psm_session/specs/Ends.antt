@@ -9,7 +9,7 @@ use Rattle.psm_machine.specs.Running.{Takes}
 use Rattle.psm_meaning.specs.Acts.{NoTurns}
 use Rattle.psm_meaning.specs.Session.{Standing, Stopped}
 use Rattle.psm_session.specs.Going.{CommandGoes, Plays}
-use Rattle.psm_session.specs.Put.{Sunk, PutAll, PutSome}
+use Rattle.psm_session.specs.Put.{Sunk, PutAll, PutUpTo}
 use Rattle.psm_session.specs.declared.command.ScriptCommand.{ScriptCommand}
 use Rattle.psm_session.specs.declared.command.ScriptCommand.TheVariants as commands
 use Rattle.psm_session.specs.declared.script.ScriptEnd.{ScriptEnd}
@@ -71,12 +71,13 @@ pub record IsCut (code : RawCode) (commands : List ScriptCommand) (s : Standing)
   pub tables_are : tables ≡ before.tables
   pub left : turns ≡ 0
 
--- a piece of a command that was played wasn't put whole; the tables are those behind it
+-- the put of the piece of a command that was played failed; the pieces before it are written, and the tables are those behind the command
 pub record IsBroken (code : RawCode) (commands : List ScriptCommand) (s : Standing) (sunk : Sunk) (tables : List Contents) : Type 0 where
   pub pieces : List (List ℕ)
+  pub failed : List ℕ
   pub end : Standing
-  pub played : Played code commands s pieces end
-  pub put : PutSome sunk pieces
+  pub played : Played code commands s (pieces ++ failed ∷ []) end
+  pub put : PutUpTo sunk pieces failed
   pub tables_are : tables ≡ end.tables
 
 -- the same of the piece of a command in which the turns ran out
@@ -85,7 +86,7 @@ pub record IsBrokenCut (code : RawCode) (commands : List ScriptCommand) (s : Sta
   pub before : Standing
   pub piece : List ℕ
   pub runs_out : RunsOut code commands s pieces before piece
-  pub put : PutSome sunk (pieces ++ piece ∷ [])
+  pub put : PutUpTo sunk pieces piece
   pub tables_are : tables ≡ before.tables
 
 -- memory ran out behind some commands, whose pieces are put, and the tables are those behind them

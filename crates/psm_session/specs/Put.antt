@@ -30,6 +30,12 @@ pub record PutSome (sunk : Sunk) (pieces : List (List ℕ)) : Type 0 where
   pub written : Grew sunk.before sunk.after (take kept (joined pieces))
   pub rose : Rose sunk.faults_before sunk.faults_after
 
+-- the pieces were put, and then a put of another failed, of which a prefix is written
+pub record PutUpTo (sunk : Sunk) (pieces : List (List ℕ)) (failed : List ℕ) : Type 0 where
+  pub kept : ℕ
+  pub written : Grew sunk.before sunk.after (joined pieces ++ take kept failed)
+  pub rose : Rose sunk.faults_before sunk.faults_after
+
 -- memory ran out after the first so many pieces
 pub record PutFirst (sunk : Sunk) (pieces : List (List ℕ)) : Type 0 where
   pub count : ℕ
