@@ -37,9 +37,9 @@ pub enum ScriptEnd {
 /// the tables back as the last COMMIT left them, or as they were found. `turns` is how many turns are left.
 ///
 /// At `Done` the pieces of all commands are put. At `TurnsUsed` the last piece that is put says so, and the tables are those before its
-/// command. At `WriteFault`, which comes only where a put failed, a prefix of the pieces joined is written, and the tables are those
-/// behind the command whose piece it was. At `Memory`, which may come at any time, the pieces of some commands are put, and the tables
-/// are those behind these. All marks that the store held stay.
+/// command. At `WriteFault`, which comes only where a put failed, the pieces before it are put, a prefix of its piece is written, and the
+/// tables are those behind its command. At `Memory`, which may come at any time, the pieces of some commands are put, and the tables are
+/// those behind these. All marks that the store held stay.
 ///
 /// The code has to break no rule, what the commands name has to be there, and the tables have to be those of the code.
 pub fn run_script<S: Store, K: Sink>(
