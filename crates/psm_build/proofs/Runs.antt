@@ -25,7 +25,9 @@ first_stand file code (c ∷ cs) (d ∷ first) later q = (q.0, first_stand file 
 -- each command that was played has its piece
 as_many : (code : RawCode) (k : ℕ) (s t : Standing) (ds : List ScriptCommand) (pieces : List (List ℕ)) → Plays code k s ds pieces t → length pieces ≡ length ds
 as_many code k s t [] [] none = refl
-as_many code k s t (d ∷ ds) (piece ∷ pieces) (next {t = u} goes more) = ap suc (as_many code (suc k) u t ds pieces more)
+as_many code k s t (d ∷ ds) (piece ∷ pieces) (next goes more) = ap suc (as_many code (suc k) _ t ds pieces more)
+as_many code k s t [] (piece ∷ pieces) plays = elim plays [ ]
+as_many code k s t (d ∷ ds) [] plays = elim plays [ ]
 
 module _ (file : ResolvedFile) (code : RawCode) (stands : FileStands file code) (sound : IsSound file) (cs : List Command) (ds : List ScriptCommand) (all : CommandsStand file code cs ds) (turns : ℕ) where
   -- the tables behind the first n commands
