@@ -1,0 +1,64 @@
+"""What the measurements of this folder share: the program, its limits, and a run of it that is measured."""
+
+import collections
+import os
+import subprocess
+import sys
+import tempfile
+from pathlib import Path
+
+HERE = Path(__file__).resolve().parent
+ROOT = HERE.parent
+MOST_BYTES = 16_777_216
+MOST_TOKENS = 2_000_000
+MOST_ROWS = 200_000
+TURNS = 10**12
+# Of the output this many bytes are kept.
+KEPT = 4096
+
+# seconds are those of the processor, elapsed those of the clock; memory is the peak in KB; written is the end of the output.
+Run = collections.namedtuple("Run", "status seconds elapsed memory written")
+
+
+def program_of(words):
+    """The path of the program that is measured: the first word, or else what `./psm which` prints."""
+    if words:
+        program = words[0]
+    else:
+        which = subprocess.run([str(ROOT / "psm"), "which"], stdout=subprocess.PIPE)
+        if which.returncode:
+            sys.exit(which.returncode)
+        program = which.stdout.decode().strip()
+    if not os.path.isfile(program) or not os.access(program, os.X_OK):
+        sys.exit(f"bench: {program} is no program")
+    return str(Path(program).resolve())
+
+
+def in_module(text):
+    return "CREATE MODULE m " + text + " END MODULE"
+
+
+def write(folder, module, script):
+    (Path(folder) / "module.sql").write_text(module, encoding="utf-8")
+    (Path(folder) / "script.sql").write_text(script, encoding="utf-8")
+
+
+def once(program, folder, turns=None, seconds=0, megabytes=0):
+    """Runs the program on the module and the script in the folder, with so much time and memory at most, or any."""
+    output = Path(folder) / "output.txt"
+    words = [program, "run", str(Path(folder) / "module.sql"), str(Path(folder) / "script.sql")]
+    if turns:
+        words += ["--turns", str(turns)]
+    command = [sys.executable, "-I", "-S", str(HERE / "once.py"), str(output), str(seconds), str(megabytes), *words]
+    told = subprocess.run(command, stdout=subprocess.PIPE, check=True).stdout.split()
+    with open(output, "rb") as file:
+        file.seek(max(0, output.stat().st_size - KEPT))
+        written = file.read().decode(errors="replace")
+    return Run(int(told[0]), float(told[1]), float(told[2]), int(told[3]), written)
+
+
+def run(program, module, script, turns=None, runs=1):
+    """The run of the module and the script that took the least time by the clock, of so many runs."""
+    with tempfile.TemporaryDirectory(prefix="psm-bench-") as folder:
+        write(folder, module, script)
+        return min((once(program, folder, turns) for _ in range(runs)), key=lambda each: each.elapsed)
