@@ -13,8 +13,8 @@
 # took too long and one that took too much memory are errors, and the exit status is 1.
 #
 #     --kinds NAME,..   only these kinds; * and ? are patterns
-#     --largest N       the largest size of each kind, as far as a file holds it
-#     --limits          the largest size of each kind that a file holds; it takes much more than a minute
+#     --largest N       N as the largest size of each kind, or the kind's limit if that is lower
+#     --limits          the limit of each kind as its largest size; this takes much more than a minute
 #     --seconds N       stop a run after so many processor seconds, 60 if it is not said
 #     --memory MB       refuse a run more memory than this, 4000 if it is not said
 #     --write FOLDER    only write the files to FOLDER/KIND/SIZE, and print their bytes and tokens

@@ -1,6 +1,7 @@
 """The kinds of files whose cost growth.py measures: for each a module and a script of a size, and the end of the output.
 
-A function of this file marked by `kind` makes them. Its sizes are at most `most`, by the limits of files and tables.
+A function of this file marked by `kind` makes them. Its sizes are at most `most`: more is above the limits of files or
+tables, or has an output or variables of gigabytes (select_items_in_script, long_variables).
 """
 
 import collections
@@ -300,7 +301,7 @@ END;"""
 # Routines and what they declare.
 
 
-@kind(20_000, 110_000)
+@kind(20_000, 165_000)
 def routines(n):
     """n procedures, and a CALL of each in a script"""
     module = in_module(many(n, lambda i: f"PROCEDURE p{i} (OUT r INT) SET r = {i};"))
@@ -366,7 +367,7 @@ def labels(n):
     return Files(in_module(f"PROCEDURE p (OUT r INTEGER) BEGIN SET r = 0;\n{blocks}\nEND;"), "CALL p(?);\n", called(n))
 
 
-@kind(20_000, 150_000)
+@kind(20_000, 180_000)
 def leaves(n):
     """a block with n LEAVEs of its label"""
     leaves_of = many(n, lambda i: f"IF x = {i} THEN LEAVE l; END IF;")
