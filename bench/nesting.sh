@@ -1,6 +1,6 @@
 #!/usr/bin/env bash
-# Runs the deepest accepted module, script and action in a stack of 1 MiB. It is outside the gate until the proved program
-# is seen to pass it. A level is opened by each pair of parentheses of an expression, each statement that has statements,
+# Runs the deepest accepted module, script and action in a stack of 1 MiB, by the program as it was proved and built: a build
+# with checks needs more. A level is opened by each pair of parentheses of an expression, each statement that has statements,
 # and each handler; the 100th is the last.
 set -u
 program=${PSM_PROGRAM:-$(dirname "$0")/../crates/psm/out/psm}

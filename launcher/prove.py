@@ -8,7 +8,7 @@ import time
 
 PROGRAM = "psm"
 # What a first proof of all crates takes in processor minutes, on a quick machine and on a slow one.
-QUICK, SLOW = 100, 200
+QUICK, SLOW = 100, 250
 # rt works on one crate at a time and gives a large one up to this many processors.
 MOST_PROCESSORS = 2
 # Lines of rt that say why a crate isn't proved.
