@@ -1,16 +1,15 @@
 //! The answer to a case.
-ghost use Rattle.std.specs.Prelude.{◌≡◌, IfOk, IfSome, map};
+ghost use Rattle.std.specs.Prelude.{IfSome};
 ghost use Rattle.psm_build.specs.Played.{CanRun};
 
 use crate::case::Case;
 use crate::play::play;
 use crate::program::{Program, Refusal, prepare};
 use anyhow::{Result, bail};
-use psm_code::CodeTable;
+use psm_build::definitions_of;
 use psm_store::CopyStore;
-use psm_table::TableDef;
 use psm_undostore::UndoStore;
-use std::alloc::{AllocError, Global};
+use std::alloc::Global;
 
 /// What a case comes to over both stores.
 pub fn answer(alloc: Global, case: &Case) -> Result<String> {
@@ -39,7 +38,7 @@ fn over_undoing(alloc: Global, case: &Case, program: &Program) -> Result<String>
     requires first { CanRun program.now.code program.now.script.commands }
     requires second { IfSome program.now.behind (λ s. CanRun program.now.code s.commands) }
 {
-    let definitions = definitions_of(alloc, program.code.tables.items())?;
+    let definitions = definitions_of(alloc, &program.code)?;
     let mut store = UndoStore::new(alloc, definitions)?;
     play(alloc, case, program, &mut store)
 }
@@ -48,18 +47,7 @@ fn over_copying(alloc: Global, case: &Case, program: &Program) -> Result<String>
     requires first { CanRun program.now.code program.now.script.commands }
     requires second { IfSome program.now.behind (λ s. CanRun program.now.code s.commands) }
 {
-    let definitions = definitions_of(alloc, program.code.tables.items())?;
+    let definitions = definitions_of(alloc, &program.code)?;
     let mut store = CopyStore::new(alloc, definitions)?;
     play(alloc, case, program, &mut store)
-}
-
-// The definitions of tables.
-fn definitions_of(alloc: Global, tables: &[CodeTable]) -> Result<Vec<TableDef>, AllocError>
-    ensures { IfOk result (λ ds. ds.items ≡ map (λ t. t.definition) tables.now) }
-{
-    let mut definitions = Vec::new(alloc);
-    for table in tables {
-        definitions.push(table.definition.copy(alloc)?)?;
-    }
-    Ok(definitions)
 }

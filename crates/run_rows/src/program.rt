@@ -64,7 +64,6 @@ fn code_of(alloc: Global, bytes: &[u8]) -> Result<Code, Refusal>
 }
 
 // A script over the code.
-#[tactic(auto, using(crate::proofs::Runnable::runnable))]
 fn script_over(alloc: Global, code: &Code, bytes: &[u8]) -> Result<ScriptCode, Refusal>
     requires { IsBuilt code.now }
     ensures { IfOk result (λ s. CanRun code.now s.commands) }
