@@ -1,8 +1,8 @@
 -- Lists of tables after a row call on one of them.
-use Rattle.std.proofs.Common.{◌≡◌, ℕ, zero, suc, ◌+◌, ◌<◌, List, [], length, get_or, set, take, drop, ◌++◌, ◌∷◌, refl, ap, sym, subst, ◌∙◌, arith, Some}
+use Rattle.std.proofs.Common.{◌≡◌, ℕ, zero, suc, ◌<◌, List, [], length, get_or, set, take, drop, ◌++◌, ◌∷◌, refl, ap, sym, subst, ◌∙◌, arith, Some}
 use Rattle.std.specs.Prelude.{slice_get, All, IfSome, Option, Result, Ok, Err, is_ok, if◌then◌else◌}
-use Rattle.std.proofs.lemmas.List.{get_or-map, get_or-set_same, get_or_default, drop_all, length-set, map-set, set-get_or, take-set, take_all, take_at}
-use Rattle.std.proofs.lemmas.List.Elements.{All-more, All-set}
+use Rattle.std.proofs.lemmas.List.{get_or-map, get_or_default, drop_all, map-set, set-get_or, take_all, take_at}
+use Rattle.std.proofs.lemmas.List.Elements.{All-set}
 use Rattle.std.proofs.lemmas.Option.{slice_get-get_or}
 use Rattle.psm_value.specs.declared.datum.Datum.{Datum}
 use Rattle.psm_table.specs.declared.fault.RowFault.{RowFault}
@@ -66,6 +66,7 @@ module _ (states : List State) (t : ℕ) (d : State) (inside : t < length states
               subst (All (λ (x : Entry). x.table ≡ t)) (sym (ap (drop (length entries)) all ∙ drop_all (length entries) entries (omega arith)))
               (λ k d l. let never : ⊥ = omega (arith, l) in absurd never);
           same = λ place l. ap (λ (x : List Entry). before place x (set states t w)) all ∙ ap (before place entries) here;
+          others = λ k x n. ap (λ (s : List State). get_or s k x) here;
         };
       }
 
@@ -82,12 +83,6 @@ same_contents (s ∷ states) (suc t) d w e = ap (λ l. s.contents ∷ l) (same_c
 -- tables of which one was called and stays tidy
 pub tidy_called : (states : List State) (t : ℕ) (d w : State) → t < length states → (IsTidy (get_or states t d) → IsTidy w) → All IsTidy states → All IsTidy (set states t w)
 tidy_called states t d w inside f h = All-set IsTidy states t w (f (h t d inside)) h
-
--- tables of which the first so many are tidy, and the next becomes so
-pub tidy_next : (states : List State) (i : ℕ) (w : State) → i < length states → IsTidy w → All IsTidy (take i states) → All IsTidy (take (i + 1) (set states i w))
-tidy_next states i w inside tidy h =
-    All-more IsTidy (set states i w) i w (omega (arith, inside, length-set states i w)) (subst (All IsTidy) (sym (take-set states i w)) h)
-    (subst IsTidy (sym (get_or-set_same states i w w inside)) tidy)
 
 -- a refused change of a row leaves the table as it was
 pub refused_same : (old new : State) (row : List Datum) (first last : ℕ) (fault : RowFault) → Changes old new row first last (Err fault) → new ≡ old

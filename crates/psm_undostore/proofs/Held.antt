@@ -1,17 +1,16 @@
 -- Marks of a store that undoes changes.
 use Rattle.std.proofs.Common.{◌≡◌, ℕ, ◌+◌, ◌^◌, ◌<◌, ◌≤◌, List, ◌++◌, length, drop, take, ap, sym, subst, ◌∙◌, arith}
-use Rattle.std.specs.Prelude.{All, IfSome, slice_get, Result}
+use Rattle.std.specs.Prelude.{IfSome, slice_get, Result}
 use Rattle.std.proofs.lemmas.List.{drop-append-le, length-take, take-append-drop}
-use Rattle.std.proofs.lemmas.List.Elements.{All-nil}
 use Rattle.psm_table.specs.declared.fault.RowFault.{RowFault}
-use Rattle.psm_table.specs.State.{IsTidy, State}
+use Rattle.psm_table.specs.State.{State}
 use Rattle.psm_table.specs.Table.{Contents}
 use Rattle.psm_store.specs.declared.store.Mark.{Mark}
 use Rattle.psm_store.specs.Marks.{IsNewMark, defs_of, most_marks}
 use Rattle.psm_store.specs.RowCalls.{after}
 use Rattle.psm_store.proofs.Changes.{defs-after}
 use Rattle.psm_undostore.specs.declared.entry.Entry.{Entry}
-use Rattle.psm_undostore.specs.Journal.{AreUndoable, IsReady}
+use Rattle.psm_undostore.specs.Journal.{AreUndoable}
 use Rattle.psm_undostore.specs.Undo.{IsHeld, IsUndo, Undo, stands_for, tables_of}
 use Rattle.psm_undostore.specs.Undone.{before, contents_of, undone_from}
 use Rattle.psm_undostore.proofs.UndoneLaws.{defs-undone_from, length-contents, undone_from-append}
@@ -64,14 +63,12 @@ module _ (states : List State) (journal : List Entry) (marks : ℕ) (now : Undo)
     bound = omega (arith, h.bound, held.depth, same_marks);
   }
 
-  -- a row call without a mark
-  pub idle_undo : (new : List State) → IsUndo (undo_of states journal marks) → marks ≡ 0 → (All IsTidy states → All IsTidy new) → IsUndo (undo_of new journal marks)
-  idle_undo new h none tidy = record {
-    undoable =
-        subst (AreUndoable new) (sym (h.idle none))
-        (record { ready = All-nil (IsReady new); tables = λ k e d l. let never : ⊥ = omega (arith, l) in absurd never });
-    idle = h.idle;
-    tidy = λ e. tidy (h.tidy e);
+  -- a row call with a mark
+  pub called_undo : (new : List State) (more : List Entry) → IsUndo (undo_of states journal marks) → 0 < marks → AreUndoable new more → IsUndo (undo_of new more marks)
+  called_undo new more h some undoable = record {
+    undoable = undoable;
+    idle = λ e. let never : ⊥ = omega (arith, e, some) in absurd never;
+    tidy = λ e. let never : ⊥ = omega (arith, e, some) in absurd never;
     bound = h.bound;
   }
 

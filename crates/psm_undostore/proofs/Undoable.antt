@@ -137,6 +137,7 @@ module _ (states : List State) (es : List Entry) (t : ℕ) (c : Change) (old new
     same = λ place l.
         before-last (set states t new) added old new inside_new (sym leads.back ∙ ap (λ (s : State). undone c s.contents) (read_new new)) es place l
         ∙ ap (before place es) again;
+    others = λ k d n. other_state states t old new inside read k d n;
   }
 
 -- the last of some entries
@@ -177,10 +178,3 @@ module _ (states : List State) (es : List Entry) (e : Entry) (h : AreUndoable st
 
     pub taken_before : (place : ℕ) → place ≤ length es → before place (es ++ e ∷ []) states ≡ before place es (set states e.table w)
     taken_before place l = before-last states e w w last_is_ready.inside (back w) es place l
-
--- nothing is to undo where there is no entry
-pub nothing_undoable : (states : List State) → AreUndoable states []
-nothing_undoable states = record {
-  ready = λ k d l. let never : ⊥ = omega (arith, l) in absurd never;
-  tables = λ k e d l. let never : ⊥ = omega (arith, l) in absurd never;
-}

@@ -1,6 +1,8 @@
 -- Entries that are undone one after another, the last first.
-use Rattle.std.proofs.Common.{◌≡◌, ℕ, ◌+◌, ◌*◌, ◌<◌, ◌≤◌, List, [], ◌∷◌, ◌++◌, length, get_or, set, take, ap, sym, subst, ◌∙◌, arith}
-use Rattle.std.proofs.lemmas.List.{length-append, take-append-le, drop_all}
+use Rattle.std.proofs.Common.{◌≡◌, ℕ, ◌+◌, ◌*◌, ◌<◌, ◌≤◌, List, [], ◌∷◌, ◌++◌, length, drop, get_or, set, take, ap, sym, subst, ◌∙◌, arith, Some}
+use Rattle.std.specs.Prelude.{◌≢◌, All}
+use Rattle.std.proofs.lemmas.List.{drop-append-le, drop_all, get_or-set_other, length-append, take-append-le}
+use Rattle.std.proofs.lemmas.List.Elements.{All-pop}
 use Rattle.psm_table.specs.State.{State}
 use Rattle.psm_table.specs.Table.{IsTable}
 use Rattle.psm_undostore.specs.declared.entry.Entry.{Entry}
@@ -9,12 +11,14 @@ use Rattle.psm_undostore.specs.Undone.{before, contents_of, undone, undone_from}
 use Rattle.psm_undostore.proofs.UndoneLaws.{undone_from-nil}
 use Rattle.psm_undostore.proofs.Undoable.{good_last, last_is_ready, taken_before, taken_undoable}
 
--- some of the entries are undone: those that are left are the first ones, and undoing them leads on to the same tables
+-- some of the entries are undone: those that are left are the first ones, and undoing them leads on to the same tables;
+-- each table that none of the entries was about stayed, and none of those that are left is about it
 pub record Undoing (place : ℕ) (states : List State) (entries : List Entry) (steps : ℕ) (now : List State) (left : List Entry) (taken : ℕ) : Type 0 where
   pub undoable : AreUndoable now left
   pub ahead : place ≤ length left
   pub first : take place left ≡ take place entries
   pub tables : before place left now ≡ before place entries states
+  pub others : (t : ℕ) → All (λ e. e.table ≢ t) (drop place entries) → All (λ e. e.table ≢ t) (drop place left) × ((d : State) → get_or now t d ≡ get_or states t d)
   pub cost : taken + 2 * length left ≤ steps + 2 * length entries
 
 -- no entry is left to undo
@@ -48,5 +52,10 @@ module _ (place : ℕ) (states : List State) (entries : List Entry) (steps : ℕ
             ∙ sym (taken_before now rest e undoable_last takes.state takes.back takes.keeps place short)
             ∙ ap (λ (x : List Entry). before place x now) (sym last)
             ∙ h.tables;
+        others = λ t out.
+            let was : All (λ x. x.table ≢ t) (drop place left) × ((d : State) → get_or now t d ≡ get_or states t d) = h.others t out in
+            let parts : All (λ x. x.table ≢ t) (drop place rest) × (e.table ≢ t) =
+            All-pop (λ x. x.table ≢ t) (drop place left) (drop place rest) (Some e) (ap (drop place) last ∙ drop-append-le place rest (e ∷ []) short) was.0 in
+            (parts.0, λ d. ap (λ (s : List State). get_or s t d) there ∙ get_or-set_other now e.table t takes.state d (λ p. parts.1 (sym p)) ∙ was.1 d);
         cost = omega (arith, h.cost, cost, longer);
       }

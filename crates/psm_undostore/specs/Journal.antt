@@ -1,5 +1,5 @@
 -- A journal of changes of rows, which can be undone without memory.
-use Rattle.std.specs.Prelude.{◌≡◌, ℕ, ◌+◌, ◌<◌, ◌≤◌, List, [], ◌∷◌, ◌++◌, length, take, drop, All, slice_index_or, slice_set, Option, Some, None, Result, Ok, Err}
+use Rattle.std.specs.Prelude.{◌≡◌, ◌≢◌, ℕ, ◌+◌, ◌<◌, ◌≤◌, List, [], ◌∷◌, ◌++◌, length, take, drop, All, slice_index_or, slice_set, Option, Some, None, Result, Ok, Err}
 use Rattle.std.specs.Option.{ForSome}
 use Rattle.psm_value.specs.declared.datum.Datum.{Datum}
 use Rattle.psm_table.specs.declared.fault.RowFault.{RowFault}
@@ -54,12 +54,17 @@ Records (Ok _) t old new entries more = (c : Change) × (more ≡ entries ++ (re
 Records (Err _) t old new entries more = (new ≡ old) × (more ≡ entries)
 
 -- behind the entries that were there stand so many more, which are about table number t, and from before each of the
--- entries that were there the tables are as they were
+-- entries that were there the tables are as they were; the other tables stay
 pub record Extends (t : ℕ) (old new : List State) (entries more : List Entry) (count : ℕ) : Type 0 where
   pub longer : length more ≡ length entries + count
   pub first : take (length entries) more ≡ entries
   pub about : All (λ e. e.table ≡ t) (drop (length entries) more)
   pub same : (place : ℕ) → place ≤ length entries → before place more new ≡ before place entries old
+  pub others : (k : ℕ) (d : State) → k ≢ t → slice_index_or new k d ≡ slice_index_or old k d
+
+-- each table that none of these entries is about stays
+abbrev pub OthersStay : List Entry → List State → List State → Type 0
+OthersStay entries old new = (t : ℕ) → All (λ e. e.table ≢ t) entries → (d : State) → slice_index_or new t d ≡ slice_index_or old t d
 
 -- the table of an entry is led back, and the others stay
 pub record Takes (e : Entry) (old new : List State) : Type 0 where

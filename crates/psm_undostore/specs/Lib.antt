@@ -1,3 +1,4 @@
 pub mod Journal
+pub mod Touched
 pub mod Undo
 pub mod Undone

@@ -1,10 +1,10 @@
 //! A journal of the changes of rows of some tables.
-ghost use Rattle.std.specs.Prelude.{◌≡◌, ◌+◌, ◌-◌, ◌*◌, ◌<◌, ◌≤◌, [], length, take, is_ok, if◌then◌else◌, IfSome, slice_get, slice_index_or};
+ghost use Rattle.std.specs.Prelude.{◌≡◌, ◌+◌, ◌-◌, ◌*◌, ◌<◌, ◌≤◌, [], length, take, drop, is_ok, if◌then◌else◌, IfSome, slice_get, slice_index_or};
 ghost use Rattle.psm_table.specs.Definition.{IsRow, IsKey};
 ghost use Rattle.psm_table.specs.State.{State, StillKeeps};
 ghost use Rattle.psm_table.specs.Table.{IsTable, keyed, namesake, with_row, without_row};
 ghost use Rattle.psm_store.specs.RowCalls.{AnswersFound, AnswersInsert, after};
-ghost use Rattle.psm_undostore.specs.Journal.{AreUndoable, CanUndo, Extends, IsReady, Takes};
+ghost use Rattle.psm_undostore.specs.Journal.{AreUndoable, CanUndo, Extends, IsReady, OthersStay, Takes};
 ghost use Rattle.psm_undostore.specs.Undone.{before, contents_of, undone};
 
 use crate::entry::{Change, Entry};
@@ -139,6 +139,7 @@ impl Journal {
         requires undoable { AreUndoable tables.old self.old }
         requires place { place ≤ length self.old }
         ensures tables { contents_of tables.new ≡ before place self.old tables.old }
+        ensures others { OthersStay (drop place self.old) tables.old tables.new }
         ensures entries { self.new ≡ take place self.old }
         ensures undoable { AreUndoable tables.new self.new }
         ensures steps { steps.new ≤ steps.old + 2 * (length self.old - place) }
@@ -156,6 +157,7 @@ fn undo_from<L: Ledger>(
     requires undoable { AreUndoable tables.old entries.old.items }
     requires place { place ≤ length entries.old.items }
     ensures tables { contents_of tables.new ≡ before place entries.old.items tables.old }
+    ensures others { OthersStay (drop place entries.old.items) tables.old tables.new }
     ensures entries { entries.new.items ≡ take place entries.old.items }
     ensures undoable { AreUndoable tables.new entries.new.items }
     ensures steps { steps.new ≤ steps.old + 2 * (length entries.old.items - place) }

@@ -5,6 +5,7 @@ mod entry;
 mod journal;
 mod journaled;
 mod plain;
+mod touched;
 mod undo_store;
 
 pub use journal::Journal;

@@ -1,15 +1,14 @@
 //! A store that undoes changes.
 ghost use Rattle.std.specs.Prelude.{◌≡◌, ◌+◌, ◌*◌, ◌<◌, ◌≤◌, [], map, length, is_ok, if◌then◌else◌, All, Some, IfSome, IfOk, IsOk, slice_get};
 ghost use Rattle.psm_table.specs.Definition.{IsDefinition, IsRow, IsKey};
-ghost use Rattle.psm_table.specs.State.{IsTidy};
 ghost use Rattle.psm_table.specs.Table.{empty_table, keyed, namesake, with_row, without_row};
 ghost use Rattle.psm_store.specs.Marks.{AnyMark, IsNewMark, IsOutside, Keeps, defs_of, marks_after, most_marks};
 ghost use Rattle.psm_store.specs.RowCalls.{AnswersFound, AnswersInsert, after};
 ghost use Rattle.psm_undostore.specs.Undo.{HasFewerSince, HasMoreSince, IsHeld, RestsTidy, since, stands_for, tables_of};
-ghost use Rattle.psm_undostore.specs.Undone.{contents_of};
 
 use crate::journal::Journal;
 use crate::plain;
+use crate::touched::Touched;
 use psm_store::{Mark, Store};
 use psm_table::{Key, Row, RowFault, Steps, Table, TableDef};
 use std::alloc::{AllocError, Global};
@@ -18,23 +17,27 @@ use std::sync::ledger::Ledger;
 
 /// A store that keeps the changes of rows since the outermost open mark, and undoes them in a rollback.
 ///
-/// A mark, a rollback and a release take no memory, and what they cost doesn't depend on the size of a table.
+/// A mark, a rollback and a release take no memory, and what they cost doesn't depend on the size of a table nor on
+/// how many tables there are: a release of the outermost mark looks once at each table that was changed since.
 /// Without a mark no change is kept, and what each table keeps is no more than twice its rows and 64.
 #[derive(Drop)]
 pub struct UndoStore {
     tables: Vec<Table>,
     journal: Journal,
     marks: u128,
+    touched: Touched,
 }
 
 impl Model for UndoStore {
+    ghost use Rattle.psm_undostore.specs.Touched.{IsNoted};
     ghost use Rattle.psm_undostore.specs.Undo.{IsUndo, Undo};
 
     ghost Value = { Undo };
 
     ghost view = { λ s. record { states = s.tables.items; entries = s.journal; marks = s.marks } };
 
-    ghost invariant = { λ s. IsUndo (record { states = s.tables.items; entries = s.journal; marks = s.marks }) };
+    ghost invariant = { λ s. IsUndo (record { states = s.tables.items; entries = s.journal; marks = s.marks }) ×
+        IsNoted s.touched (record { states = s.tables.items; entries = s.journal; marks = s.marks }) };
 }
 
 impl UndoStore {
@@ -49,10 +52,12 @@ impl UndoStore {
         for def in defs {
             tables.push(Table::new(alloc, def)?)?;
         }
+        let touched = Touched::new(alloc, tables.len())?;
         Ok(UndoStore {
             tables,
             journal: Journal::new(alloc),
             marks: 0,
+            touched,
         })
     }
 }
@@ -109,7 +114,7 @@ impl Store for UndoStore {
         self.marks = mark.depth + 1;
     }
 
-    /// Takes no memory. Where no mark is left open, no change is kept, and the tables are settled.
+    /// Takes no memory. Where no mark is left open, no change is kept, and the tables that were changed are settled.
     fn release(&mut self, mark: Mark)
         requires { IsHeld self.old mark }
         ensures tables { tables_of self.new ≡ tables_of self.old }
@@ -124,7 +129,7 @@ impl Store for UndoStore {
             return;
         }
         self.journal.clear();
-        settle(self.tables.as_mut_slice());
+        self.touched.settle(self.tables.as_mut_slice());
     }
 
     fn insert(&mut self, alloc: Global, t: u32, row: Row) -> Result<(), RowFault>
@@ -141,6 +146,7 @@ impl Store for UndoStore {
         if self.marks == 0 {
             return plain::insert(self.tables.as_mut_slice(), t, row);
         }
+        self.touched.add(t)?;
         self.journal
             .insert(alloc, self.tables.as_mut_slice(), t, row)
     }
@@ -159,6 +165,7 @@ impl Store for UndoStore {
         if self.marks == 0 {
             return plain::erase(self.tables.as_mut_slice(), t, key);
         }
+        self.touched.add(t)?;
         self.journal.erase(self.tables.as_mut_slice(), t, key)
     }
 
@@ -176,16 +183,7 @@ impl Store for UndoStore {
         if self.marks == 0 {
             return plain::change(self.tables.as_mut_slice(), t, row);
         }
+        self.touched.add(t)?;
         self.journal.change(self.tables.as_mut_slice(), t, row)
-    }
-}
-
-/// Lets each table forget the rows that were taken or put out, but for a few.
-fn settle(tables: &mut [Table])
-    ensures contents { contents_of tables.new ≡ contents_of tables.old }
-    ensures tidy { All IsTidy tables.new }
-{
-    for table in tables.iter_mut() {
-        table.settle();
     }
 }

@@ -1,4 +1,5 @@
-use Rattle.std.proofs.Common.{◌∙◌, List, ap, length, refl}
+use Rattle.std.proofs.Common.{◌∙◌, List, ap, arith, length, refl}
+use Rattle.std.specs.Prelude.{if◌then◌else◌, is_ok}
 use Rattle.psm_table.specs.Definition.{IsRow}
 use Rattle.psm_table.specs.State.{State}
 use Rattle.psm_table.specs.Table.{with_row}
@@ -6,6 +7,7 @@ use Rattle.psm_store.specs.Marks.{defs_of}
 use Rattle.psm_undostore.specs.Undone.{contents_of}
 use Rattle.psm_undostore.proofs.Calls.{written}
 use Rattle.psm_undostore.proofs.Held.{defs_called, exists_in, fits_in}
+use Rattle.psm_undostore.proofs.Noted.{kept_call}
 use Rattle.psm_undostore.proofs.undo_store.UndoStoreStore.change.Goals as goal
 
 pub change-requires-clause-exists : goal.change-requires-clause-exists
@@ -29,3 +31,9 @@ pub returns-clause-defs : goal.returns-clause-defs
 returns-clause-defs c =
     ap (λ (s : List State). defs_of (contents_of s)) (written c.self.inside.tables.items c.change-2.new.tables c.self.inside.tables.len c.self.inside.tables.ok.0 (c.change-2.auto.tables ∙ ap length c.as_mut_slice-2.ensures.value))
     ∙ defs_called c.self.inside.tables.items c.self.inside.journal c.self.inside.marks c.args.self.now c.self.view_is c.as_mut_slice-2.result.now c.as_mut_slice-2.ensures.value c.args.t (λ x. with_row x c.args.row) (λ x. refl) c.change-2.result c.change-2.new.tables c.change-2.ensures.tables
+
+pub invariant_of-self-2 : goal.invariant_of-self-2
+invariant_of-self-2 c =
+    kept_call c.self.inside.touched c.self.inside.tables.items c.self.inside.journal c.self.inside.marks c.self.invariant.1 c.self.invariant.0 c.self.inside.tables.len c.self.inside.tables.ok.0 c.as_mut_slice-2.result.now c.change-2.new.tables c.as_mut_slice-2.ensures.value c.change-2.auto.tables
+    c.args.t c.add.new.self c.change-2.new.self (if is_ok c.change-2.result then 1 else 0) (omega (arith, c.if-self-eq0.false)) c.in_ok-add.ensures.ok
+    (exists_in c.self.inside.tables.items c.self.inside.journal c.self.inside.marks c.args.self.now c.self.view_is c.as_mut_slice-2.result.now c.as_mut_slice-2.ensures.value c.args.t c.requires.exists) c.change-2.ensures.undoable c.change-2.ensures.entries
