@@ -10,7 +10,7 @@ use Rattle.psm_session.specs.Put.{Sunk, PutAll, PutFirst, PutSome, PutUpTo, join
 use Rattle.psm_session.specs.declared.command.ScriptCommand.{ScriptCommand}
 use Rattle.psm_session.specs.declared.script.ScriptEnd.{ScriptEnd}
 use Rattle.psm_session.specs.declared.script.ScriptEnd.TheVariants as ends
-use Rattle.psm_build.specs.Played.{PlaysAs, Shows, empty_tables}
+use Rattle.psm_build.specs.Played.{RunsAs, Shows, empty_tables}
 use Rattle.psm.specs.Report.{Runs, status_of_end}
 
 -- ---- pieces that stand before others
@@ -30,18 +30,18 @@ take-prefix zero (a ∷ x) y = (0, refl)
 take-prefix (suc k) (a ∷ x) y = let more = take-prefix k x y in (suc more.0, ap (λ (z : List ℕ). a ∷ z) more.1)
 
 -- what stands before is kept whole
-take-behind : (n : ℕ) (x y : List ℕ) → x ++ take n y ≡ take (length x + n) (x ++ y)
-take-behind n [] y = let e : n ≡ 0 + n = omega arith in ap (λ (k : ℕ). take k y) e
-take-behind n (a ∷ x) y =
+take-following : (n : ℕ) (x y : List ℕ) → x ++ take n y ≡ take (length x + n) (x ++ y)
+take-following n [] y = let e : n ≡ 0 + n = omega arith in ap (λ (k : ℕ). take k y) e
+take-following n (a ∷ x) y =
     let e : suc (length x + n) ≡ suc (length x) + n = omega arith in
-    ap (λ (z : List ℕ). a ∷ z) (take-behind n x y) ∙ ap (λ (k : ℕ). take k (a ∷ (x ++ y))) e
+    ap (λ (z : List ℕ). a ∷ z) (take-following n x y) ∙ ap (λ (k : ℕ). take k (a ∷ (x ++ y))) e
 
 -- some pieces and a prefix of another are a prefix of those and more
 torn : (sunk : Sunk) (pieces : List (List ℕ)) (failed : List ℕ) (later : List (List ℕ)) → PutUpTo sunk pieces failed → PutSome sunk (pieces ++ failed ∷ later)
 torn sunk pieces failed later h =
     let part = take-prefix h.kept failed (joined later) in
     let whole : joined pieces ++ take h.kept failed ≡ take (length (joined pieces) + part.0) (joined (pieces ++ failed ∷ later)) =
-    ap (λ (x : List ℕ). joined pieces ++ x) part.1 ∙ take-behind part.0 (joined pieces) (failed ++ joined later)
+    ap (λ (x : List ℕ). joined pieces ++ x) part.1 ∙ take-following part.0 (joined pieces) (failed ++ joined later)
     ∙ ap (take (length (joined pieces) + part.0)) (sym (joined-append pieces (failed ∷ later))) in
     record {
       kept = length (joined pieces) + part.0;
@@ -59,13 +59,13 @@ short sunk pieces later h = record {
 
 -- ---- runs
 
-shown_runs : (s : Session) (behind : ℕ → List Contents) (sunk : Sunk) (tables : List Contents) (left : ℕ) (end : ScriptEnd) → Shows s behind sunk tables left end → Runs s sunk (status_of_end end)
-shown_runs s behind sunk tables left ends.Done h = (h.end_is, h.put)
-shown_runs s behind sunk tables left ends.TurnsUsed h = (h.end_is, h.put)
-shown_runs s behind sunk tables left ends.WriteFault h = subst (PutSome sunk) (sym h.are) (torn sunk h.pieces h.failed h.later h.put)
-shown_runs s behind sunk tables left ends.Memory h = subst (PutFirst sunk) (sym h.are) (short sunk h.pieces h.later h.put)
+shown_runs : (s : Session) (following : ℕ → List Contents) (sunk : Sunk) (tables : List Contents) (left : ℕ) (end : ScriptEnd) → Shows s following sunk tables left end → Runs s sunk (status_of_end end)
+shown_runs s following sunk tables left ends.Done h = (h.end_is, h.put)
+shown_runs s following sunk tables left ends.TurnsUsed h = (h.end_is, h.put)
+shown_runs s following sunk tables left ends.WriteFault h = subst (PutSome sunk) (sym h.are) (torn sunk h.pieces h.failed h.later h.put)
+shown_runs s following sunk tables left ends.Memory h = subst (PutFirst sunk) (sym h.are) (short sunk h.pieces h.later h.put)
 
 pub played_runs : (code : RawCode) (commands : List ScriptCommand) (turns : ℕ) (start : List Contents) → start ≡ empty_tables code → (sunk : Sunk) (tables : List Contents) (left : ℕ) (end : ScriptEnd)
-    → Ends code commands (beginning start turns) sunk tables left end → (s : Session) (behind : ℕ → List Contents) → PlaysAs code commands turns s behind → Runs s sunk (status_of_end end)
-played_runs code commands turns start e sunk tables left end h s behind plays =
-    shown_runs s behind sunk tables left end (plays sunk tables left end (subst (λ (t : List Contents). Ends code commands (beginning t turns) sunk tables left end) e h))
+    → Ends code commands (beginning start turns) sunk tables left end → (s : Session) (following : ℕ → List Contents) → RunsAs code commands turns s following → Runs s sunk (status_of_end end)
+played_runs code commands turns start e sunk tables left end h s following runs_as =
+    shown_runs s following sunk tables left end (runs_as sunk tables left end (subst (λ (t : List Contents). Ends code commands (beginning t turns) sunk tables left end) e h))

@@ -1,4 +1,4 @@
-pub mod Told
+pub mod Reported
 pub mod FaultTexts
 pub mod Source
 pub mod Program

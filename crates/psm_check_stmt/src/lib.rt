@@ -7,7 +7,7 @@ mod cursors;
 mod declarations;
 mod declaring;
 mod files;
-mod handled;
+mod handled_conditions;
 mod logged;
 mod loops;
 mod repeated;
@@ -16,6 +16,6 @@ mod routines;
 mod sources;
 mod statements;
 mod tables;
-mod told;
+mod seen_routines;
 
 pub use files::file_fault;

@@ -7,7 +7,7 @@ pub mod Faults
 pub mod Frames
 pub mod Raises
 pub mod Handling
-pub mod Going
+pub mod NextLines
 pub mod Signals
 pub mod Simple
 pub mod Blocks
@@ -27,5 +27,5 @@ pub mod Planning
 pub mod Positioned
 pub mod Changes
 pub mod Sound
-pub mod Suiting
+pub mod Guarantees
 pub mod Sounding

@@ -1,4 +1,4 @@
--- The contexts and handlers of right code fit together, as the choice of a handler asks.
+-- The contexts and handlers of well-formed code fit together, as the choice of a handler asks.
 use Rattle.std.proofs.Common.{◌≡◌, ℕ, suc, true, ◌&&◌, nat_eq, nat_le, nat_lt, List, [], ◌∷◌, ◌++◌, length, refl, ap, ◌∙◌, Option, Some, None}
 use Rattle.std.specs.Prelude.{slice_get}
 use Rattle.std.specs.List.{list_all}
@@ -20,9 +20,9 @@ use Rattle.psm_code.specs.RoutineRules as rules
 use Rattle.psm_code.specs.RoutineRules.{context_fault, context_faults, handler_fault}
 use Rattle.psm_code.specs.Rules.{each_after, is_there, there, where_there}
 use Rattle.psm_code.specs.TableRules.{are_there}
-use Rattle.psm_code.proofs.Faults.{clean_first, clean_head, clean_second, clean_tail, four_hold, three_hold, two_hold, Clean, RightRoutine}
+use Rattle.psm_code.proofs.Faults.{clean_first, clean_head, clean_second, clean_tail, four_hold, three_hold, two_hold, Clean, WellFormedRoutineCode}
 use Rattle.psm_code.proofs.Raises.{there_some, where_some}
-use Rattle.psm_code.proofs.Suiting.{there_below}
+use Rattle.psm_code.proofs.Guarantees.{there_below}
 
 block_there : (o : Option Context) → there (block_of_context o) ≡ true → is_block o ≡ true
 block_there None h = absurd (cc)
@@ -70,7 +70,7 @@ module _ (r : RawRoutine) where
   handler_sound before h c =
       let values = rules.values_of h in
       let t = four_hold (rules.context_there r h.context && list_all (rules.value_there r) values) (is_there r.lines h.pc) (where_there (line_at r h.pc) (rules.is_action_line r (length before)))
-      (rules.may_undo r h && (list_all (rules.is_value_right r) values && rules.are_new (rules.values_in h.context before) values)) rule.Range rule.Target rule.Context rule.Definition (clean_head _ [] c) in
+      (rules.may_undo r h && (list_all (rules.is_value_well_formed r) values && rules.are_new (rules.values_in h.context before) values)) rule.Range rule.Target rule.Context rule.Definition (clean_head _ [] c) in
       both_true (nat_le h.context (length r.handlers.contexts)) (are_declared r.handlers h.values) (and_first (rules.context_there r h.context) (list_all (rules.value_there r) values) t.0)
       (values_declared values (and_second (rules.context_there r h.context) (list_all (rules.value_there r) values) t.0))
 
@@ -80,8 +80,8 @@ module _ (r : RawRoutine) where
       let rest = each_after (handler_fault r) (before ++ x ∷ []) hs in
       both_true (is_sound_handler r.handlers x) (list_all (is_sound_handler r.handlers) hs) (handler_sound before x (clean_first (handler_fault r before x) rest h)) (handlers_sound (before ++ x ∷ []) hs (clean_second (handler_fault r before x) rest h))
 
--- the contexts and handlers of a routine of right code fit together, where 32 bits are enough to number them
-pub table_sound : (code : RawCode) (r : RawRoutine) → RightRoutine code r → is_numbered r.handlers ≡ true → is_sound r.handlers ≡ true
+-- the contexts and handlers of a routine of well-formed code fit together, where 32 bits are enough to number them
+pub table_sound : (code : RawCode) (r : RawRoutine) → WellFormedRoutineCode code r → is_numbered r.handlers ≡ true → is_sound r.handlers ≡ true
 table_sound code r g n =
     let contexts = contexts_sound r 1 r.handlers.contexts g.contexts in
     both_true (is_numbered r.handlers && are_sound_contexts r.handlers 1 r.handlers.contexts) (list_all (is_sound_handler r.handlers) r.handlers.handlers)

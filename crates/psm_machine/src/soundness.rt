@@ -1,4 +1,4 @@
-//! What right code gives to those that run it.
+//! What well-formed code gives to those that run it.
 ghost use Rattle.std.specs.Prelude.{◌≡◌, All, IfSome, IsTrue, None, []};
 ghost use Rattle.psm_value.specs.SqlType.{IsType};
 ghost use Rattle.psm_cond.specs.Sound.{is_numbered};
@@ -9,15 +9,15 @@ ghost use Rattle.psm_code.specs.declared.code.RawRoutine.{RawRoutine};
 ghost use Rattle.psm_code.specs.declared.instruction.Instruction.TheVariants as instruction;
 ghost use Rattle.psm_code.specs.Parts.{slots_of};
 ghost use Rattle.psm_code.specs.RoutineRules.{first_fault};
-ghost use Rattle.psm_code.specs.Sits.{Sits};
+ghost use Rattle.psm_code.specs.MachineInvariant.{MachineInvariant};
 ghost use Rattle.psm_code.specs.State.{Machine};
 ghost use Rattle.psm_unwind.specs.Raising.{HasSoundHandlers};
 
-/// In code that breaks no rule the types of slots and of results are types, and the contexts and handlers fit together, where 32 bits
+/// In well-formed code the types of slots and of results are types, and the contexts and handlers fit together, where 32 bits
 /// are enough to number them. An operation finds what it needs wherever the machine is as it always is.
-pub fn right_code_is_sound()
+pub fn well_formed_code_is_sound()
     ensures slots { (code : RawCode) → first_fault code ≡ None → All (λ (r : RawRoutine). All IsType (slots_of r)) code.routines }
     ensures results { (code : RawCode) → first_fault code ≡ None → All (λ (r : RawRoutine). IfSome r.returns IsType) code.routines }
     ensures handlers { (code : RawCode) → first_fault code ≡ None → All (λ (r : RawRoutine). IsTrue (is_numbered r.handlers)) code.routines → HasSoundHandlers code }
-    ensures operations { (code : RawCode) → first_fault code ≡ None → (m : Machine) (h : Sits code m) (o : Op) → h.running.line.instruction ≡ instruction.Operation o → Fits o m.running.operands [] m.running.variables }
+    ensures operations { (code : RawCode) → first_fault code ≡ None → (m : Machine) (h : MachineInvariant code m) (o : Op) → h.running.line.instruction ≡ instruction.Operation o → Fits o m.running.operands [] m.running.variables }
 {}

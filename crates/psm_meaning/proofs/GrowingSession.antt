@@ -2,7 +2,7 @@
 use Rattle.std.proofs.Common.{◌≡◌, ◌⊎◌, inl, inr, ℕ, suc, ◌≤◌, List, [], ◌∷◌, refl, ap, subst}
 use Rattle.psm_value.specs.declared.datum.Datum.{Datum}
 use Rattle.psm_resolved.specs.declared.file.ResolvedFile.{ResolvedFile}
-use Rattle.psm_meaning.specs.Acts.{NoHeight, Evaluated, Meaning, Act}
+use Rattle.psm_meaning.specs.Acts.{OutOfFuel, Evaluated, Meaning, Act}
 use Rattle.psm_meaning.specs.Calls.{procedure_at}
 use Rattle.psm_meaning.specs.Lines.{first_line}
 use Rattle.psm_meaning.specs.Session.{Command, Call, Insert, Select, Commit, Rollback, Standing, at_command, called, inserted, selected, Played, Went, Stopped, ended, run, played, Session, going_on, commands_from, command_name, session_to, at_start}
@@ -19,7 +19,7 @@ grows-called : {m n : Meaning} → Fits m n → (file : ResolvedFile) (procedure
 grows-called fits file procedure args = grows-bind (grows-pure (pure-present (procedure_at file procedure))) (λ r. grows-bind (grows-activated fits r args) (λ e. grows-pure (pures.pure-call_lines r e.returned e.variables)))
 
 SamePlayed : Played → Played → Type 0
-SamePlayed r s = (r ≡ Stopped NoHeight []) ⊎ (r ≡ s)
+SamePlayed r s = (r ≡ Stopped OutOfFuel []) ⊎ (r ≡ s)
 
 same-ended : (first : List ℕ) (s : Standing) (r q : Evaluated (List ℕ)) → Same r q → SamePlayed (ended first s r.given r.state) (ended first s q.given q.state)
 unfolding SamePlayed
@@ -51,14 +51,14 @@ same-going : (s : Standing) (p : Played) (later more : Standing → Session) →
 same-going s (Went piece next) later more h = same-piece piece (later next) (more next) (h next)
 same-going s (Stopped stop pieces) later more h = inr refl
 
-same-behind : (s : Standing) (p q : Played) (later more : Standing → Session) → SamePlayed p q → ((next : Standing) → SameSession (later next) (more next)) → SameSession (going_on s p later) (going_on s q more)
+same-following : (s : Standing) (p q : Played) (later more : Standing → Session) → SamePlayed p q → ((next : Standing) → SameSession (later next) (more next)) → SameSession (going_on s p later) (going_on s q more)
 unfolding SamePlayed
-same-behind s p q later more (inl e) h = inl (ap (λ x. (going_on s x later).end) e)
-same-behind s p q later more (inr e) h = subst (λ x. SameSession (going_on s p later) (going_on s x more)) e (same-going s p later more h)
+same-following s p q later more (inl e) h = inl (ap (λ x. (going_on s x later).end) e)
+same-following s p q later more (inr e) h = subst (λ x. SameSession (going_on s p later) (going_on s x more)) e (same-going s p later more h)
 
 same-commands : {m n : Meaning} → Fits m n → (file : ResolvedFile) (k : ℕ) (cs : List Command) (s : Standing) → SameSession (commands_from file m k cs s) (commands_from file n k cs s)
 same-commands fits file k [] s = inr refl
-same-commands {m = m} {n = n} fits file k (c ∷ cs) s = same-behind s (played file m (first_line k (command_name file c)) s c) (played file n (first_line k (command_name file c)) s c) (commands_from file m (suc k) cs) (commands_from file n (suc k) cs)
+same-commands {m = m} {n = n} fits file k (c ∷ cs) s = same-following s (played file m (first_line k (command_name file c)) s c) (played file n (first_line k (command_name file c)) s c) (commands_from file m (suc k) cs) (commands_from file n (suc k) cs)
     (same-played fits file _ s c) (same-commands fits file (suc k) cs)
 
 pub same-session : (file : ResolvedFile) (h k : ℕ) → h ≤ k → (cs : List Command) (turns : ℕ) → SameSession (session_to file h cs turns) (session_to file k cs turns)

@@ -8,7 +8,7 @@ use Rattle.psm_resolved.specs.declared.file.ResolvedFile.{ResolvedFile}
 use Rattle.psm_resolved.specs.declared.file.ResolvedRoutine.{ResolvedRoutine}
 use Rattle.psm_resolved.specs.declared.file.ResolvedTable.{ResolvedTable}
 use Rattle.psm_meaning.specs.State.{State}
-use Rattle.psm_meaning.specs.Acts.{Stop, NoTurns, NoHeight, Lacking, Given, Got, Raises, Ends, Meaning, Act, got, raises, ends, of_state, present, ◌>>=◌, ◌>>◌}
+use Rattle.psm_meaning.specs.Acts.{Stop, NoTurns, OutOfFuel, Stuck, Given, Got, Raises, Ends, Meaning, Act, got, raises, ends, of_state, present, ◌>>=◌, ◌>>◌}
 use Rattle.psm_meaning.specs.Calls.{activated, procedure_at}
 use Rattle.psm_meaning.specs.Data.{put_in}
 use Rattle.psm_meaning.specs.Lines.{condition_lines, first_line, naming, ok_line, row_lines, turns_used_line, value_lines}
@@ -36,12 +36,12 @@ pub record Standing : Type 0 where
 abbrev pub at_command : Standing → State
 at_command s = record { tables = s.tables; area = clear; turns = s.turns; depth = 0; variables = []; cursors = [] }
 
--- ---- commands: the lines behind the first one
+-- ---- commands: the lines after the first one
 
 -- a procedure that ended well prints its OUT and INOUT parameters
 abbrev pub call_lines : ResolvedRoutine → Option Datum → List Datum → Act (List ℕ)
 call_lines r None vars = got (value_lines r.parameters vars ++ ok_line)
-call_lines r (Some d) vars = ends Lacking
+call_lines r (Some d) vars = ends Stuck
 
 abbrev pub called : ResolvedFile → ℕ → List Datum → Act (List ℕ)
 called file procedure args = do
@@ -54,7 +54,7 @@ inserted file table columns rows = do
   put_in file table columns rows
   got ok_line
 
--- nulls that a set function skipped are a warning behind the rows
+-- nulls that a set function skipped are a warning after the rows
 abbrev pub end_of_rows : Bool → List ℕ
 end_of_rows true = condition_lines (of_state (codes "01003"))
 end_of_rows false = ok_line
@@ -96,8 +96,8 @@ standing_after s st = record s { tables = st.tables; turns = st.turns }
 
 abbrev pub stopped_at : Stop → List ℕ → Played
 stopped_at NoTurns first = Stopped NoTurns ((first ++ turns_used_line) ∷ [])
-stopped_at NoHeight first = Stopped NoHeight []
-stopped_at Lacking first = Stopped Lacking []
+stopped_at OutOfFuel first = Stopped OutOfFuel []
+stopped_at Stuck first = Stopped Stuck []
 
 abbrev pub ended : List ℕ → Standing → Given (List ℕ) → State → Played
 ended first s (Got lines) st = Went (first ++ lines) (standing_after s st)
@@ -135,8 +135,8 @@ finished s = record { pieces = []; tables = s.tables; turns = s.turns; end = Don
 -- the turns that are left where a command stopped: none where it was for want of one
 abbrev pub turns_at : Stop → ℕ → ℕ
 turns_at NoTurns turns = 0
-turns_at NoHeight turns = turns
-turns_at Lacking turns = turns
+turns_at OutOfFuel turns = turns
+turns_at Stuck turns = turns
 
 -- a command that stops is the last, and the tables are as before it
 abbrev pub going_on : Standing → Played → (Standing → Session) → Session
@@ -155,6 +155,6 @@ empty_tables file = map (λ t. empty_table t.definition) file.tables
 abbrev pub at_start : ResolvedFile → ℕ → Standing
 at_start file turns = record { tables = empty_tables file; turns = turns; committed = empty_tables file }
 
--- the session to a height
+-- the session with some fuel
 abbrev pub session_to : ResolvedFile → ℕ → List Command → ℕ → Session
 session_to file h commands turns = commands_from file (meaning file h) 1 commands (at_start file turns)

@@ -8,7 +8,7 @@ mod call;
 mod command;
 mod insert;
 mod module_file;
-mod notes;
+mod characteristics;
 mod optional;
 mod parameters;
 mod parse;

@@ -1,10 +1,10 @@
-//! What names mean: in the frames around a statement, in the table of a row expression, and as the function of a call.
+//! What names mean: in the scopes around a statement, in the table of a row expression, and as the function of a call.
 #![tactic(auto)]
 
 mod choice;
 mod fault;
-mod frame;
-mod frames;
+mod scope;
+mod scopes;
 mod functions;
 mod index;
 mod key;
@@ -18,8 +18,8 @@ mod signatures;
 
 pub use choice::choose_routine;
 pub use fault::ChoiceFault;
-pub use frame::FrameKind;
-pub use frames::Frames;
+pub use scope::ScopeKind;
+pub use scopes::Scopes;
 pub use functions::Functions;
 pub use key::{CallKey, FunctionKey, NameKey};
 pub use kinds::ArgKind;

@@ -1,4 +1,4 @@
--- INSERT: the piece that rows put into a table come to.
+-- INSERT: the piece that rows put into a table end in.
 use Rattle.std.proofs.Common.{◌≡◌, ℕ, true, List, ◌++◌, slice_get, Some, None, IfOk, Result, Ok, Err, ap, sym, subst}
 use Rattle.std.specs.Prelude.{codes}
 use Rattle.std.specs.declared.alloc.AllocError.{AllocError}
@@ -12,14 +12,14 @@ use Rattle.psm_dml.specs.Ends.{IsDue}
 use Rattle.psm_code.specs.declared.code.CodeTable.{CodeTable}
 use Rattle.psm_code.specs.declared.code.RawCode.{RawCode}
 use Rattle.psm_code.specs.RoutineRules.{first_fault}
-use Rattle.psm_code.specs.Sits.{AreKept}
+use Rattle.psm_code.specs.MachineInvariant.{AreKept}
 use Rattle.psm_code.proofs.Queried.{kept_at}
 use Rattle.psm_machine.proofs.Asking.{of_some}
-use Rattle.psm_machine.proofs.Rights.{put_kept}
+use Rattle.psm_machine.proofs.CodeGuarantees.{put_kept}
 use Rattle.psm_machine.specs.Inserting.{EndsIn, PutsInto, PutsRows, put_due}
 use Rattle.psm_meaning.specs.Lines.{condition_lines, first_line, naming, ok_line}
 use Rattle.psm_meaning.specs.Session.{Standing, Went}
-use Rattle.psm_session.specs.Going.{CommandGoes, Goes, insert, name_of_table, put_in}
+use Rattle.psm_session.specs.CommandSteps.{CommandGoes, Goes, insert, name_of_table, put_in}
 use Rattle.psm_session.specs.Steps.{Makes, standing}
 use Rattle.psm_session.specs.declared.command.ScriptCommand.{ScriptCommand}
 use Rattle.psm_session.specs.declared.command.ScriptCommand.TheVariants as commands
@@ -51,14 +51,14 @@ module _ (code : RawCode) (k n : ℕ) (columns : List ℕ) (rows : List (List Da
   -- ---- the tables
 
   kept_by : first_fault code ≡ None → (r : Result ℕ DataFault) → Found r → AreKept code.tables new
-  kept_by right (Ok count) f =
+  kept_by well_formed_code (Ok count) f =
       let changed : Changed = record { rows = f.ends.0; count = count } in
-      subst (AreKept code.tables) (sym f.ends.2) (put_kept code old right kept n t f.contents there f.here columns rows changed f.ends.1)
-  kept_by right (Err (fault.Raised condition)) f = subst (AreKept code.tables) (sym f.ends.1) kept
-  kept_by right (Err fault.Memory) f = subst (AreKept code.tables) (sym f.ends) kept
+      subst (AreKept code.tables) (sym f.ends.2) (put_kept code old well_formed_code kept n t f.contents there f.here columns rows changed f.ends.1)
+  kept_by well_formed_code (Err (fault.Raised condition)) f = subst (AreKept code.tables) (sym f.ends.1) kept
+  kept_by well_formed_code (Err fault.Memory) f = subst (AreKept code.tables) (sym f.ends) kept
 
-  pub kept_behind : first_fault code ≡ None → (r : Result ℕ DataFault) → PutsRows code n columns rows old new r → AreKept code.tables new
-  kept_behind right r puts = kept_by right r (found r puts)
+  pub kept_after : first_fault code ≡ None → (r : Result ℕ DataFault) → PutsRows code n columns rows old new r → AreKept code.tables new
+  kept_after well_formed_code r puts = kept_by well_formed_code r (found r puts)
 
   -- ---- the piece
 

@@ -11,12 +11,12 @@ mod statement;
 mod types;
 
 pub use expr::{
-    Comparison, Expr, Junction, Link, Operator, Pick, Select, SetFunction, TextFunction, TrimSide,
+    Comparison, Expr, LogicalOperator, ChainLink, Operator, Pick, Select, SetFunction, TextFunction, TrimSide,
     When,
 };
 pub use fault::ParseFault;
 pub use file::{
-    ColumnRule, ColumnRuleForm, Element, FileTree, Mode, Module, Note, NoteForm, Parameter,
+    ColumnRule, ColumnRuleForm, Element, FileTree, Mode, Module, Characteristic, CharacteristicForm, Parameter,
     Routine, TableRule, TableRuleForm, TableTree,
 };
 pub use laws::one_tree;

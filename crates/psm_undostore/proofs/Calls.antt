@@ -83,7 +83,7 @@ same_contents (s ∷ states) (suc t) d w e = ap (λ l. s.contents ∷ l) (same_c
 pub tidy_called : (states : List State) (t : ℕ) (d w : State) → t < length states → (IsTidy (get_or states t d) → IsTidy w) → All IsTidy states → All IsTidy (set states t w)
 tidy_called states t d w inside f h = All-set IsTidy states t w (f (h t d inside)) h
 
--- tables of which the first so many are tidy, and the next becomes so
+-- tables of which the first n are tidy, and the next becomes so
 pub tidy_next : (states : List State) (i : ℕ) (w : State) → i < length states → IsTidy w → All IsTidy (take i states) → All IsTidy (take (i + 1) (set states i w))
 tidy_next states i w inside tidy h =
     All-more IsTidy (set states i w) i w (omega (arith, inside, length-set states i w)) (subst (All IsTidy) (sym (take-set states i w)) h)

@@ -10,7 +10,7 @@ use Rattle.psm_code.specs.declared.code.RawRoutine.{RawRoutine}
 use Rattle.psm_code.specs.declared.lines.CodeLine.{CodeLine}
 use Rattle.psm_code.specs.Parts.{handler_at}
 use Rattle.psm_code.specs.Raising.{chosen, frames_left, passed_over}
-use Rattle.psm_code.specs.State.{Machine, Turned}
+use Rattle.psm_code.specs.State.{Machine, Stepped}
 use Rattle.psm_unwind.specs.declared.parts.Place.{Place}
 use Rattle.psm_unwind.specs.declared.raising.Met.{Met}
 use Rattle.psm_unwind.specs.declared.raising.Met.TheVariants.{Here, Outside}
@@ -28,15 +28,15 @@ IsPlace None (Some p) = ⊥
 IsPlace (Some l) None = ⊥
 IsPlace (Some l) (Some p) = (l.context ≡ p.context) × (l.resume ≡ p.resume)
 
--- what a condition meets behind a line of a routine, where this handler is chosen
-abbrev pub met_at : RawRoutine → Option ℕ → Entries → Option ℕ → (Machine → Turned) → Machine → Turned
+-- what a condition meets after a line of a routine, where this handler is chosen
+abbrev pub met_at : RawRoutine → Option ℕ → Entries → Option ℕ → (Machine → Stepped) → Machine → Stepped
 met_at r resume c (Some n) outside m = chosen r (is_exception (kind_of c.first.state)) resume n (handler_at r n) m
 met_at r resume c None outside m = if is_exception (kind_of c.first.state) then outside (frames_left r true m.running.frames m) else passed_over resume m
 
 -- a condition meets what is due, whatever is outside; or it goes outside, with all but the activation as it is now
-abbrev pub Meets : ((Machine → Turned) → Turned) → Met → Machine → Type 0
-Meets due (Here o) now = (outside : Machine → Turned) → LeadsTo (due outside) o now
-Meets due Outside now = (m : Machine) × ((outside : Machine → Turned) → due outside ≡ outside m) × (record m { running = now.running } ≡ now)
+abbrev pub Meets : ((Machine → Stepped) → Stepped) → Met → Machine → Type 0
+Meets due (Here o) now = (outside : Machine → Stepped) → LeadsTo (due outside) o now
+Meets due Outside now = (m : Machine) × ((outside : Machine → Stepped) → due outside ≡ outside m) × (record m { running = now.running } ≡ now)
 
 -- a condition that goes outside leaves all frames
 abbrev pub HasLeft : Met → Run → Type 0

@@ -20,7 +20,7 @@ mod placed;
 mod plans;
 mod routines;
 mod same;
-mod scene;
+mod verify_context;
 mod stating;
 mod tables;
 mod verify;

@@ -12,11 +12,11 @@ use psm_table::TableDef;
 use psm_undostore::UndoStore;
 use std::alloc::{AllocError, Global};
 
-/// What a case comes to over both stores.
+/// What a case ends in over both stores.
 pub fn answer(alloc: Global, case: &Case) -> Result<String> {
     match prepare(alloc, case) {
         Ok(program) => over_both(alloc, case, &program),
-        Err(Refusal::Told(line)) => Ok(line),
+        Err(Refusal::Reported(line)) => Ok(line),
         Err(Refusal::Long) => bail!("a file is too long"),
         Err(Refusal::Memory) => bail!("no memory"),
     }
@@ -25,7 +25,7 @@ pub fn answer(alloc: Global, case: &Case) -> Result<String> {
 // The answer over both stores, or both answers.
 fn over_both(alloc: Global, case: &Case, program: &Program) -> Result<String>
     requires first { CanRun program.now.code program.now.script.commands }
-    requires second { IfSome program.now.behind (λ s. CanRun program.now.code s.commands) }
+    requires second { IfSome program.now.following (λ s. CanRun program.now.code s.commands) }
 {
     let undoing = over_undoing(alloc, case, program)?;
     let copying = over_copying(alloc, case, program)?;
@@ -37,7 +37,7 @@ fn over_both(alloc: Global, case: &Case, program: &Program) -> Result<String>
 
 fn over_undoing(alloc: Global, case: &Case, program: &Program) -> Result<String>
     requires first { CanRun program.now.code program.now.script.commands }
-    requires second { IfSome program.now.behind (λ s. CanRun program.now.code s.commands) }
+    requires second { IfSome program.now.following (λ s. CanRun program.now.code s.commands) }
 {
     let definitions = definitions_of(alloc, program.code.tables.items())?;
     let mut store = UndoStore::new(alloc, definitions)?;
@@ -46,7 +46,7 @@ fn over_undoing(alloc: Global, case: &Case, program: &Program) -> Result<String>
 
 fn over_copying(alloc: Global, case: &Case, program: &Program) -> Result<String>
     requires first { CanRun program.now.code program.now.script.commands }
-    requires second { IfSome program.now.behind (λ s. CanRun program.now.code s.commands) }
+    requires second { IfSome program.now.following (λ s. CanRun program.now.code s.commands) }
 {
     let definitions = definitions_of(alloc, program.code.tables.items())?;
     let mut store = CopyStore::new(alloc, definitions)?;
