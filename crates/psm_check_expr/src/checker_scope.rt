@@ -23,7 +23,10 @@ pub struct CheckerScope<'v, 'a> {
 }
 
 /// What is seen at the same place on the rows of a table.
-pub fn on_row<'v, 'a>(checker_scope: CheckerScope<'v, 'a>, row: RowTable<'v, 'a>) -> CheckerScope<'v, 'a>
+pub fn on_row<'v, 'a>(
+    checker_scope: CheckerScope<'v, 'a>,
+    row: RowTable<'v, 'a>,
+) -> CheckerScope<'v, 'a>
     ensures { seen_in_checker_scope result ≡ on_row (seen_in_checker_scope checker_scope.entry) (row_table row.entry) }
 {
     CheckerScope {
@@ -40,7 +43,9 @@ pub fn name_in(checker_scope: CheckerScope, target: &Target) -> Option<Meant>
     let second = spelling(&target.second);
     match checker_scope.row {
         None => checker_scope.scopes.meant_alone(&target.first.name, second),
-        Some(row) => checker_scope.scopes.meant_on_row(&target.first.name, second, row),
+        Some(row) => checker_scope
+            .scopes
+            .meant_on_row(&target.first.name, second, row),
     }
 }
 

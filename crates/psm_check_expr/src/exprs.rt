@@ -7,16 +7,16 @@ ghost use Rattle.psm_rules.specs.Shapes.{kind_of};
 ghost use Rattle.psm_rules.specs.ExprFaults.{check_call, called, check_case, chained, else_of, check_expr, logical_operator_of, check_chain_link, linked, check_name, check_pick, check_query, seen, seen_in, seen_option, simple_test, check_when};
 ghost use Rattle.psm_check_expr.specs.Seen.{pick_of, seen_in_checker_scope};
 
+use crate::checker_scope::{CheckerScope, name_in, on_row};
 use crate::operators::{
-    between, check_cast, compares, comparison, checked_with, logical_operator_of, check_like, linked,
-    negated, check_null_if, null_test, of_type, check_position, check_signed, simple_test,
-    check_substring, check_text_function, check_trim,
+    between, check_cast, check_like, check_null_if, check_position, check_signed, check_substring,
+    check_text_function, check_trim, checked_with, compares, comparison, linked,
+    logical_operator_of, negated, null_test, of_type, simple_test,
 };
 use crate::queries::{
-    PickChecked, QueryChecked, check_exists, pick_item, row_of, check_scalar, check_set,
+    PickChecked, QueryChecked, check_exists, check_scalar, check_set, pick_item, row_of,
 };
 use crate::results::{case_of, check_coalesce};
-use crate::checker_scope::{CheckerScope, name_in, on_row};
 use psm_list::{Boxed, List, OneOrMore};
 use psm_rules::{
     CHARACTER, Checked, INTEGER, Picked, Rule, Shape, as_condition, as_value, broken, combined,
@@ -24,14 +24,18 @@ use psm_rules::{
 };
 use psm_scope::{ArgKind, ChoiceFault, Meant};
 use psm_token::Place;
-use psm_tree::{Expr, Identifier, ChainLink, Pick, Select, Target, When};
+use psm_tree::{ChainLink, Expr, Identifier, Pick, Select, Target, When};
 use std::alloc::{AllocError, Global};
 
 /// What is found in an expression: its first fault, or else the shape of its value (ISO/IEC 9075:1992, clauses 6 and 8). Fails only
 /// without memory.
 #[cycle(expression)]
 #[tactic(auto, using(crate::proofs::Equations::expr_equations))]
-pub fn check_expr(alloc: Global, e: &Expr, checker_scope: CheckerScope) -> Result<Checked, AllocError>
+pub fn check_expr(
+    alloc: Global,
+    e: &Expr,
+    checker_scope: CheckerScope,
+) -> Result<Checked, AllocError>
     ensures { IfOk result (λ f. f ≡ check_expr e.now (seen_in_checker_scope checker_scope.entry)) }
 {
     match e {
@@ -39,7 +43,11 @@ pub fn check_expr(alloc: Global, e: &Expr, checker_scope: CheckerScope) -> Resul
         Expr::Number { place, value } => Ok(well_typed(*place, Shape::Value(of_literal(*value)))),
         Expr::Text { place, .. } => Ok(well_typed(*place, Shape::Value(CHARACTER))),
         Expr::Name(target) => Ok(check_name(checker_scope, target)),
-        Expr::LogicalOperator { operands, .. } => check_logical_operator(alloc, operands, checker_scope),
+        Expr::LogicalOperator { operands, .. } => check_logical_operator(
+            alloc,
+            operands,
+            checker_scope,
+        ),
         Expr::Not { place, condition } => {
             let checked = check_expr(alloc, condition.get(), checker_scope)?;
             Ok(negated(*place, checked))
@@ -267,7 +275,12 @@ fn check_operator_chain(
 // A chain so far with a link more.
 #[cycle(expression)]
 #[tactic(auto, using(crate::proofs::Equations::checked_chain_link))]
-fn check_chain_link(alloc: Global, chain_link: &ChainLink, checker_scope: CheckerScope, left: Checked) -> Result<Checked, AllocError>
+fn check_chain_link(
+    alloc: Global,
+    chain_link: &ChainLink,
+    checker_scope: CheckerScope,
+    left: Checked,
+) -> Result<Checked, AllocError>
     ensures { IfOk result (λ f. f ≡ linked left (check_chain_link chain_link.now (seen_in_checker_scope checker_scope.entry)).0 (as_value (check_chain_link chain_link.now (seen_in_checker_scope checker_scope.entry)).1)) }
 {
     let checked = check_expr(alloc, chain_link.operand.get(), checker_scope)?;
@@ -369,7 +382,13 @@ fn check_searched(
 {
     let mut tests = Vec::new(alloc);
     let mut results = Vec::new(alloc);
-    push_searched(alloc, whens.first.get(), checker_scope, &mut tests, &mut results)?;
+    push_searched(
+        alloc,
+        whens.first.get(),
+        checker_scope,
+        &mut tests,
+        &mut results,
+    )?;
     for when in whens.rest.items() {
         push_searched(alloc, when.get(), checker_scope, &mut tests, &mut results)?;
     }
@@ -414,7 +433,14 @@ fn check_simple(
     let first = whens.first.get();
     push_simple(alloc, first, checker_scope, value, &mut tests, &mut results)?;
     for when in whens.rest.items() {
-        push_simple(alloc, when.get(), checker_scope, value, &mut tests, &mut results)?;
+        push_simple(
+            alloc,
+            when.get(),
+            checker_scope,
+            value,
+            &mut tests,
+            &mut results,
+        )?;
     }
     push_else(otherwise, &mut results)?;
     Ok(case_of(place, tests.as_slice(), results.as_slice()))
@@ -501,7 +527,11 @@ fn check_picks<'q>(
 
 #[cycle(expression)]
 #[tactic(auto, using(crate::proofs::Equations::pick_equations))]
-fn check_pick<'q>(alloc: Global, pick: &'q Pick, checker_scope: CheckerScope) -> Result<PickChecked<'q>, AllocError>
+fn check_pick<'q>(
+    alloc: Global,
+    pick: &'q Pick,
+    checker_scope: CheckerScope,
+) -> Result<PickChecked<'q>, AllocError>
     ensures { IfOk result (λ p. pick_of p ≡ check_pick pick.now (seen_in_checker_scope checker_scope.entry)) }
 {
     match pick {

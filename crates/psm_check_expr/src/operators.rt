@@ -7,9 +7,9 @@ ghost use Rattle.psm_rules.specs.declared.rule.Rule.TheVariants.{FamiliesMixed};
 
 use crate::types::{type_fault, type_of};
 use psm_rules::{
-    Family, Fault, Checked, INTEGER, Rule, Shape, Typed, VARYING, all_of, as_condition, as_value,
-    at_larger_scale, broken, earlier, family_of, higher, is_of, combined, of_family, shape_of,
-    well_typed, typed,
+    Checked, Family, Fault, INTEGER, Rule, Shape, Typed, VARYING, all_of, as_condition, as_value,
+    at_larger_scale, broken, combined, earlier, family_of, higher, is_of, of_family, shape_of,
+    typed, well_typed,
 };
 use psm_token::Place;
 use psm_tree::{DataType, Operator, TextFunction};

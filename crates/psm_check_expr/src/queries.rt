@@ -9,13 +9,13 @@ ghost use Rattle.std.specs.List.{list_all};
 ghost use Rattle.psm_tree.specs.declared.expr.Select.{out-Select};
 ghost use Rattle.psm_check_expr.specs.Seen.{pick_of};
 
-use crate::operators::without_fault;
 use crate::checker_scope::spelling;
+use crate::operators::without_fault;
 use crate::symbols::Columns;
 use psm_list::List;
 use psm_rules::{
-    Family, Fault, Checked, INTEGER, Item, Picked, Rule, Shape, Typed, as_condition, as_value,
-    breaks, breaks_if, earlier, combined, of_family, shape_of, well_typed, typed,
+    Checked, Family, Fault, INTEGER, Item, Picked, Rule, Shape, Typed, as_condition, as_value,
+    breaks, breaks_if, combined, earlier, of_family, shape_of, typed, well_typed,
 };
 use psm_scope::{ArgKind, RowTable};
 use psm_text::Name;

@@ -5,8 +5,8 @@ ghost use Rattle.psm_rules.specs.ExprFaults.{case_of, check_coalesce, differing,
 ghost use Rattle.psm_rules.specs.Shapes.{clashes, family_in};
 
 use psm_rules::{
-    Family, Checked, Rule, Shape, Typed, are_shaped, breaks, broken, earlier, family_of, faults_in,
-    joined, combined, shape_of, well_typed,
+    Checked, Family, Rule, Shape, Typed, are_shaped, breaks, broken, combined, earlier, family_of,
+    faults_in, joined, shape_of, well_typed,
 };
 use psm_token::Place;
 

@@ -6,8 +6,8 @@ ghost use Rattle.psm_rules.specs.StatementFaults.{family_due};
 ghost use Rattle.psm_check_script.specs.Commands.{value_of};
 ghost use Rattle.psm_check_script.specs.ScriptFaults.{constant_fault, is_due};
 
-use psm_symbols::signed;
 use psm_rules::{Family, Fault, Rule, breaks_if, family_of, typed};
+use psm_symbols::signed;
 use psm_tree::{Constant, ConstantForm};
 use psm_value::{Datum, SqlType};
 use std::alloc::{AllocError, Global};

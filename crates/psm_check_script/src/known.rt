@@ -7,12 +7,12 @@ ghost use Rattle.psm_scope.specs.Lookup.{named};
 ghost use Rattle.psm_scope.specs.Routines.{procedure};
 ghost use Rattle.psm_check_script.specs.Known.{key_names, known_of, mode_of, named_column, next_procedure, parameter_of, resolver_scope_of, checker_scope_of, with_column, with_columns, with_key, with_keys, with_procedure, with_routine, with_routines, with_table, with_tables};
 
-use psm_check_expr::{Columns, Scopes, CheckerScope, SymbolTable};
+use psm_check_expr::{CheckerScope, Columns, Scopes, SymbolTable};
 use psm_code::{CodeTable, Parameter, ParameterMode as CodeMode, RawCode, RawRoutine};
-use psm_symbols::next_number;
 use psm_list::List;
-use psm_resolve_expr::{Scopes as NumberedScopes, ResolverScope};
+use psm_resolve_expr::{ResolverScope, Scopes as NumberedScopes};
 use psm_scope::{Functions, Names, ParameterMode, ParameterScope, ProcedureScope, Procedures};
+use psm_symbols::next_number;
 use psm_table::{Column, TableDef};
 use psm_text::Name;
 use std::alloc::{AllocError, Global};
@@ -83,7 +83,10 @@ impl<'a> Known<'a> {
     }
 
     /// The same, where names are resolved.
-    pub(crate) fn resolver_scope<'v>(&'v self, scopes: &'v NumberedScopes<'a>) -> ResolverScope<'v, 'a>
+    pub(crate) fn resolver_scope<'v>(
+        &'v self,
+        scopes: &'v NumberedScopes<'a>,
+    ) -> ResolverScope<'v, 'a>
         requires { scopes.now ≡ [] }
         ensures { seen_at result ≡ resolver_scope_of self.now }
     {

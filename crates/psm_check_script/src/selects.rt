@@ -8,11 +8,11 @@ ghost use Rattle.psm_check_script.specs.ScriptFaults.{order_fault, select_fault}
 use crate::known::{Known, TableKey};
 use psm_check_expr::{Scopes, check_query, same_name};
 use psm_declare::ordered_query;
-use psm_symbols::is_one_way;
 use psm_list::{Boxed, OneOrMore};
 use psm_resolve_expr::Scopes as NumberedScopes;
 use psm_resolved::ResolvedQuery;
 use psm_rules::{Fault, Rule, breaks_if, earlier};
+use psm_symbols::is_one_way;
 use psm_text::Name;
 use psm_tree::{Identifier, Order, OrderColumn, OrderedQuery};
 use std::alloc::{AllocError, Global};

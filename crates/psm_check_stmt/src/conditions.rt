@@ -5,11 +5,11 @@ ghost use Rattle.psm_rules.specs.StatementFaults.{condition_fault, condition_ite
 ghost use Rattle.psm_check_expr.specs.Seen.{seen_in_checker_scope};
 
 use crate::sources::{assigned_type, family_due, target_fault, variable_of};
-use psm_check_expr::{Scopes, CheckerScope, check_expr};
-use psm_symbols::{condition_name_fault, state_fault};
+use psm_check_expr::{CheckerScope, Scopes, check_expr};
 use psm_list::{Boxed, OneOrMore};
 use psm_rules::{Family, Fault, Rule, as_value, breaks, breaks_if, earlier, of_family};
 use psm_scope::Variable;
+use psm_symbols::{condition_name_fault, state_fault};
 use psm_token::Place;
 use psm_tree::{
     Condition, ConditionInformation, ConditionItem, ConditionNumber, Diagnostics, Expr, Signalled,
@@ -39,7 +39,10 @@ pub(crate) fn signalled_fault(
     ensures { IfOk result (λ f. f ≡ signalled_fault (seen_in_checker_scope checker_scope.entry) signalled.now) }
 {
     let fault = condition_fault(alloc, checker_scope.scopes, &signalled.condition)?;
-    Ok(earlier(fault, message_fault(alloc, &signalled.message, checker_scope)?))
+    Ok(earlier(
+        fault,
+        message_fault(alloc, &signalled.message, checker_scope)?,
+    ))
 }
 
 fn message_fault(

@@ -10,19 +10,23 @@ ghost use Rattle.psm_check_expr.specs.Seen.{seen_in_checker_scope};
 
 use crate::sources::{family_due, mixed_at, target_type};
 use psm_check_expr::{
-    CheckedCursor, Scopes, Key, QueryChecked, CheckerScope, SymbolTable, first_set, misplaced_set, check_query,
-    same_name,
+    CheckedCursor, CheckerScope, Key, QueryChecked, Scopes, SymbolTable, check_query, first_set,
+    misplaced_set, same_name,
 };
-use psm_symbols::is_one_way;
 use psm_list::{List, OneOrMore};
 use psm_rules::{Fault, Rule, Shape, breaks, breaks_if, earlier};
+use psm_symbols::is_one_way;
 use psm_tree::{CursorDeclaration, Identifier, Order, OrderColumn, Target, Targets, Updatability};
 use std::alloc::{AllocError, Global};
 
 // ---- the order of a query: exactly the key, all upwards or all downwards
 
 /// An order of other columns than those of the key.
-pub(crate) fn order_fault(symbols: &SymbolTable, table: &Identifier, order: &Option<Order>) -> Option<Fault>
+pub(crate) fn order_fault(
+    symbols: &SymbolTable,
+    table: &Identifier,
+    order: &Option<Order>,
+) -> Option<Fault>
     ensures { result ≡ order_fault symbols.now table.now order.now }
 {
     match order {

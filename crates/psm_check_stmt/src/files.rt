@@ -7,11 +7,11 @@ ghost use Rattle.psm_rules.specs.FileFaults.{file_fault, routines_fault, table_f
 
 use crate::repeated::Repeats;
 use crate::routines::{declare_routines, routine_fault};
-use crate::tables::{keys_of, table_fault};
 use crate::seen_routines::SeenRoutines;
+use crate::tables::{keys_of, table_fault};
 use psm_check_expr::SymbolTable;
-use psm_symbols::columns_of;
 use psm_rules::{Fault, Rule, earlier};
+use psm_symbols::columns_of;
 use psm_tree::{FileTree, Routine, TableTree};
 use std::alloc::{AllocError, Global};
 

@@ -7,11 +7,11 @@ ghost use Rattle.psm_check_stmt.specs.Handling.{AreHandled, FindsIn, Characteris
 
 use indexmap::IndexSet;
 use psm_check_expr::Scopes;
-use psm_symbols::{good_state, handler_value_fault};
 use psm_list::{Boxed, List, OneOrMore};
 use psm_rules::{Fault, earlier};
 use psm_scope::{DeclaredCondition, Names};
 use psm_sqlstate::SqlState;
+use psm_symbols::{good_state, handler_value_fault};
 use psm_text::Name;
 use psm_tree::{Handler, HandlerValue, Identifier};
 use std::alloc::{AllocError, Global};

@@ -13,9 +13,9 @@ mod loops;
 mod repeated;
 mod routine_log;
 mod routines;
+mod seen_routines;
 mod sources;
 mod statements;
 mod tables;
-mod seen_routines;
 
 pub use files::file_fault;

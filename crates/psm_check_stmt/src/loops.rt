@@ -19,13 +19,15 @@ use crate::cursors::{cursor_on, order_fault};
 use crate::declaring::{declare_cursor, declare_variable};
 use crate::statements::Context;
 use psm_check_expr::{
-    CheckedCursor, Columns, Scopes, PickChecked, QueryChecked, CheckerScope, first_set, misplaced_set, name_in,
-    on_row, check_query, row_of, table_fault, test_fault,
+    CheckedCursor, CheckerScope, Columns, PickChecked, QueryChecked, Scopes, check_query,
+    first_set, misplaced_set, name_in, on_row, row_of, table_fault, test_fault,
 };
-use psm_symbols::last_name;
 use psm_list::List;
-use psm_rules::{Family, Fault, Checked, Picked, Rule, Shape, as_value, breaks, earlier, family_of};
-use psm_scope::{ScopeKind, Meant};
+use psm_rules::{
+    Checked, Family, Fault, Picked, Rule, Shape, as_value, breaks, earlier, family_of,
+};
+use psm_scope::{Meant, ScopeKind};
+use psm_symbols::last_name;
 use psm_text::Name;
 use psm_tree::{Expr, ForCursor, ForHead, Identifier, Pick, Select, Target};
 use psm_value::SqlType;
@@ -264,7 +266,12 @@ fn item_fault<'a>(
         Picked::Plain | Picked::Set => {
             let checked = item.pick.checked;
             let kind = item_type(item.column, as_value(checked).shape);
-            named_item_fault(scopes, own_name(item.pick.alias, item.column), kind, checked)
+            named_item_fault(
+                scopes,
+                own_name(item.pick.alias, item.column),
+                kind,
+                checked,
+            )
         }
     }
 }

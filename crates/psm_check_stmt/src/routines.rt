@@ -10,15 +10,16 @@ ghost use Rattle.psm_check_stmt.specs.InRoutine.{within_of};
 
 use crate::blocks::statement_fault;
 use crate::repeated::Repeats;
-use crate::statements::{Context, Within};
 use crate::seen_routines::SeenRoutines;
+use crate::statements::{Context, Within};
 use psm_check_expr::{Scopes, SymbolTable, type_fault, type_of};
-use psm_symbols::{is_in, kinds_of, parameters_of};
 use psm_list::{Boxed, List, OneOrMore};
 use psm_rules::{Fault, Rule, breaks_if, earlier};
-use psm_scope::{ScopeKind, ProcedureScope, Variable};
+use psm_scope::{ProcedureScope, ScopeKind, Variable};
+use psm_symbols::{is_in, kinds_of, parameters_of};
 use psm_tree::{
-    Block, Branch, DataType, Handler, Characteristic, CharacteristicForm, Parameter, Routine, Simple, Statement,
+    Block, Branch, Characteristic, CharacteristicForm, DataType, Handler, Parameter, Routine,
+    Simple, Statement,
 };
 use std::alloc::{AllocError, Global};
 
@@ -213,7 +214,10 @@ fn characteristics_fault(characteristics: &[Characteristic]) -> Option<Fault>
         let number = characteristic_number(characteristic.form);
         let repeated = seen[number];
         seen[number] = true;
-        fault = earlier(fault, breaks_if(repeated, Rule::CharacteristicRepeated, characteristic.place));
+        fault = earlier(
+            fault,
+            breaks_if(repeated, Rule::CharacteristicRepeated, characteristic.place),
+        );
     }
     fault
 }

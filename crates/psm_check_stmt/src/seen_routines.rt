@@ -5,9 +5,9 @@ ghost use Rattle.psm_check_stmt.specs.SeenRoutines.{IsFunctionKey};
 
 use crate::routine_log::RoutineLog;
 use indexmap::IndexSet;
-use psm_symbols::kinds_of;
 use psm_rules::{Fault, Rule, breaks_if};
 use psm_scope::{CallKey, FunctionKey, NameKey};
+use psm_symbols::kinds_of;
 use psm_tree::Routine;
 use std::alloc::{AllocError, Global};
 use std::borrow::CowSlice;

@@ -4,7 +4,7 @@ ghost use Rattle.psm_rules.specs.StatementFaults.{assigned_type, family_due, mix
 
 use psm_check_expr::{Scopes, spelling};
 use psm_rules::{
-    Family, Fault, Checked, Rule, Shape, as_value, breaks, breaks_if, earlier, family_of, is_of,
+    Checked, Family, Fault, Rule, Shape, as_value, breaks, breaks_if, earlier, family_of, is_of,
     typed,
 };
 use psm_scope::Variable;

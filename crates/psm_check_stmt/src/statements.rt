@@ -17,12 +17,13 @@ use crate::sources::{
     variable_of,
 };
 use psm_check_expr::{
-    Columns, Scopes, QueryChecked, CheckerScope, SymbolTable, check_expr, may_be, on_row, check_query, table_fault,
+    CheckerScope, Columns, QueryChecked, Scopes, SymbolTable, check_expr, check_query, may_be,
+    on_row, table_fault,
 };
-use psm_symbols::{column_fault, inserted_types, type_of_column, unknown_column};
 use psm_list::{Boxed, List, OneOrMore};
-use psm_rules::{Fault, Checked, Item, Rule, as_condition, breaks, breaks_if, earlier, faults_in};
+use psm_rules::{Checked, Fault, Item, Rule, as_condition, breaks, breaks_if, earlier, faults_in};
 use psm_scope::{ParameterMode, ParameterScope, RowTable};
+use psm_symbols::{column_fault, inserted_types, type_of_column, unknown_column};
 use psm_token::Place;
 use psm_tree::{
     Assignment, Expr, Identifier, InsertSource, Names, Select, Signalled, Simple, Target, Targets,
@@ -227,7 +228,10 @@ fn call_fault(
     ensures { IfOk result (λ f. f ≡ call_fault (seen_in_checker_scope checker_scope.entry) procedure.now arguments.now (routines.procedure procedure.now.name (length arguments.now) checker_scope.entry.symbols.now.procedures)) }
 {
     let symbols = checker_scope.symbols;
-    match symbols.procedures.procedure(&procedure.name, arguments.len()) {
+    match symbols
+        .procedures
+        .procedure(&procedure.name, arguments.len())
+    {
         None => Ok(breaks(Rule::UnknownProcedure, procedure.place)),
         Some(known) => arguments_fault(alloc, checker_scope, known.parameters.items(), arguments),
     }
@@ -244,7 +248,12 @@ fn arguments_fault(
 {
     let mut fault = None;
     for number in 0..parameters.len().min(arguments.len()) {
-        let own = argument_fault(alloc, checker_scope, parameters[number], arguments[number].get())?;
+        let own = argument_fault(
+            alloc,
+            checker_scope,
+            parameters[number],
+            arguments[number].get(),
+        )?;
         fault = earlier(fault, own);
     }
     Ok(fault)

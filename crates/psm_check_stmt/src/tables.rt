@@ -15,13 +15,15 @@ ghost use Rattle.psm_check_expr.specs.Seen.{seen_in_checker_scope};
 
 use crate::repeated::Repeats;
 use crate::statements::columns_fault;
-use psm_check_expr::{Columns, Scopes, Key, CheckerScope, SymbolTable, check_expr, type_fault, type_of};
-use psm_symbols::{columns_of, signed};
+use psm_check_expr::{
+    CheckerScope, Columns, Key, Scopes, SymbolTable, check_expr, type_fault, type_of,
+};
 use psm_list::OneOrMore;
 use psm_rules::{
     Family, Fault, Rule, as_condition, breaks_if, earlier, family_of, too_many, typed,
 };
 use psm_scope::RowTable;
+use psm_symbols::{columns_of, signed};
 use psm_tree::{
     ColumnRule, ColumnRuleForm, Constant, ConstantForm, DataType, Element, Expr, Identifier,
     TableRuleForm, TableTree,
@@ -322,7 +324,11 @@ fn column_rule_fault(
     }
 }
 
-fn check_fault(alloc: Global, e: &Expr, checker_scope: CheckerScope) -> Result<Option<Fault>, AllocError>
+fn check_fault(
+    alloc: Global,
+    e: &Expr,
+    checker_scope: CheckerScope,
+) -> Result<Option<Fault>, AllocError>
     ensures { IfOk result (λ f. f ≡ check_fault (seen_in_checker_scope checker_scope.entry) e.now) }
 {
     let checked = check_expr(alloc, e, checker_scope)?;

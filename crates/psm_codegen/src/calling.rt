@@ -3,10 +3,10 @@ ghost use Rattle.std.specs.Prelude.{◌≡◌, ◌∷◌, ◌<◌, ◌+◌, ◌�
 ghost use Rattle.psm_codegen.specs.Simples.{CallArguments, Declares, Default, Signals, WritesRows, letter_of_slots};
 ghost use Rattle.psm_codegen.specs.Written.{Written};
 
+use crate::emit_context::EmitContext;
 use crate::exprs::{arguments, expr};
 use crate::known::Known;
 use crate::places::letter_at;
-use crate::emit_context::EmitContext;
 use crate::storing::copies;
 use crate::writer::Writer;
 use psm_code::Instruction;

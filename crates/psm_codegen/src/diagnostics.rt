@@ -49,7 +49,13 @@ pub(crate) fn condition_items(
         None => Ok(()),
         Some((last, others)) => {
             for (slot, item) in others {
-                out.applied(emit_context.context, emit_context.resume, Op::Duplicate, 0, Letter::N)?;
+                out.applied(
+                    emit_context.context,
+                    emit_context.resume,
+                    Op::Duplicate,
+                    0,
+                    Letter::N,
+                )?;
                 item_stored(out, emit_context, *slot, *item)?;
             }
             let (slot, item) = last;
@@ -74,7 +80,12 @@ fn item_stored(
         1,
         condition_letter(item),
     )?;
-    out.takes(emit_context.context, emit_context.resume, Instruction::Store(slot), 1)
+    out.takes(
+        emit_context.context,
+        emit_context.resume,
+        Instruction::Store(slot),
+        1,
+    )
 }
 
 /// The letter of an item of the diagnostics area about the statement.

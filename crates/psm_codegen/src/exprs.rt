@@ -6,18 +6,18 @@ ghost use Rattle.psm_codegen.specs.Queries.{QueryMade};
 ghost use Rattle.psm_codegen.specs.Written.{with_query};
 ghost use Rattle.psm_codegen.specs.Exprs.{Arguments, Compares, Firsts, Joins, ChainLinks, Otherwise, Whens, Writes, WritesAll};
 
+use crate::emit_context::EmitContext;
 use crate::letters::first_letter;
 use crate::places::{letter_at, letters_at, number_at};
 use crate::queries::query_code;
-use crate::emit_context::EmitContext;
-use crate::sizes::{following, after_else, later, several_after, whens_after};
+use crate::sizes::{after_else, following, later, several_after, whens_after};
 use crate::writer::Writer;
 use psm_code::Instruction;
 use psm_exprcode::{Letter, Op};
 use psm_list::{Boxed, List, OneOrMore};
 use psm_resolved::{
-    LogicalOperator, ResolvedExpr, ResolvedChainLink, ResolvedQuery, ResolvedWhen, calculated, calculating,
-    changed, changing, comparing, joining, letter_of_results,
+    LogicalOperator, ResolvedChainLink, ResolvedExpr, ResolvedQuery, ResolvedWhen, calculated,
+    calculating, changed, changing, comparing, joining, letter_of_results,
 };
 use psm_value::Datum;
 use std::alloc::AllocError;
@@ -103,13 +103,22 @@ pub(crate) fn expr(
                 letter,
             )
         }
-        ResolvedExpr::LogicalOperator { logical_operator, operands } => {
+        ResolvedExpr::LogicalOperator {
+            logical_operator,
+            operands,
+        } => {
             part(out, emit_context, &operands.first, Letter::B)?;
             joined(out, emit_context, &operands.rest, *logical_operator)
         }
         ResolvedExpr::Not(condition) => {
             part(out, emit_context, condition, Letter::N)?;
-            out.applied(emit_context.context, emit_context.resume, Op::Not, 1, Letter::B)
+            out.applied(
+                emit_context.context,
+                emit_context.resume,
+                Op::Not,
+                1,
+                Letter::B,
+            )
         }
         ResolvedExpr::Compare {
             operator,
@@ -128,7 +137,13 @@ pub(crate) fn expr(
         }
         ResolvedExpr::IsNull { negated, value } => {
             part(out, emit_context, value, Letter::N)?;
-            out.applied(emit_context.context, emit_context.resume, Op::IsNull, 1, Letter::B)?;
+            out.applied(
+                emit_context.context,
+                emit_context.resume,
+                Op::IsNull,
+                1,
+                Letter::B,
+            )?;
             out.perhaps_not(emit_context.context, emit_context.resume, *negated)
         }
         ResolvedExpr::Between {
@@ -140,7 +155,13 @@ pub(crate) fn expr(
             part(out, emit_context, value, Letter::N)?;
             part(out, emit_context, low, Letter::N)?;
             part(out, emit_context, high, Letter::N)?;
-            out.applied(emit_context.context, emit_context.resume, Op::Between, 3, Letter::B)?;
+            out.applied(
+                emit_context.context,
+                emit_context.resume,
+                Op::Between,
+                3,
+                Letter::B,
+            )?;
             out.perhaps_not(emit_context.context, emit_context.resume, *negated)
         }
         ResolvedExpr::Like {
@@ -153,7 +174,13 @@ pub(crate) fn expr(
             part(out, emit_context, pattern, Letter::N)?;
             match escape {
                 None => {
-                    out.applied(emit_context.context, emit_context.resume, Op::Like, 2, Letter::B)?;
+                    out.applied(
+                        emit_context.context,
+                        emit_context.resume,
+                        Op::Like,
+                        2,
+                        Letter::B,
+                    )?;
                     out.perhaps_not(emit_context.context, emit_context.resume, *negated)
                 }
                 Some(escape) => {
@@ -192,7 +219,13 @@ pub(crate) fn expr(
         }
         ResolvedExpr::Negated(number) => {
             part(out, emit_context, number, Letter::N)?;
-            out.applied(emit_context.context, emit_context.resume, Op::Negate, 1, Letter::N)
+            out.applied(
+                emit_context.context,
+                emit_context.resume,
+                Op::Negate,
+                1,
+                Letter::N,
+            )
         }
         ResolvedExpr::Call {
             function,
@@ -261,7 +294,13 @@ pub(crate) fn expr(
             part(out, emit_context, left, Letter::N)?;
             part(out, emit_context, right, Letter::N)?;
             let letter = out.second_letter();
-            out.applied(emit_context.context, emit_context.resume, Op::NullIf, 2, letter)
+            out.applied(
+                emit_context.context,
+                emit_context.resume,
+                Op::NullIf,
+                2,
+                letter,
+            )
         }
         ResolvedExpr::Function { function, argument } => {
             part(out, emit_context, argument, Letter::N)?;
@@ -276,7 +315,13 @@ pub(crate) fn expr(
         ResolvedExpr::Position { part: text, whole } => {
             part(out, emit_context, text, Letter::N)?;
             part(out, emit_context, whole, Letter::N)?;
-            out.applied(emit_context.context, emit_context.resume, Op::Position, 2, Letter::N)
+            out.applied(
+                emit_context.context,
+                emit_context.resume,
+                Op::Position,
+                2,
+                Letter::N,
+            )
         }
         ResolvedExpr::Substring { text, from, length } => {
             part(out, emit_context, text, Letter::N)?;
@@ -315,7 +360,11 @@ pub(crate) fn expr(
 }
 
 /// Puts a query after those that there are, and gives its number back.
-fn asked(out: &mut Writer, emit_context: EmitContext<'_>, query: &ResolvedQuery) -> Result<u32, AllocError>
+fn asked(
+    out: &mut Writer,
+    emit_context: EmitContext<'_>,
+    query: &ResolvedQuery,
+) -> Result<u32, AllocError>
     ensures number { IfOk result (λ number. number ≡ length out.old.queries) }
     ensures made { IfOk result (λ _. (code : Query) × QueryMade emit_context.entry.known.now query.now code × (out.new ≡ with_query code out.old)) }
 {
@@ -432,7 +481,11 @@ fn firsts(
 {
     expr(out, emit_context, values.first.get(), letter)?;
     for value in values.rest.items() {
-        out.taken(emit_context.context, emit_context.resume, Op::JumpUnlessNull(end))?;
+        out.taken(
+            emit_context.context,
+            emit_context.resume,
+            Op::JumpUnlessNull(end),
+        )?;
         expr(out, emit_context, value.get(), letter)?;
     }
     Ok(())
@@ -471,7 +524,11 @@ fn test(
     let tested = out.here()?;
     let chosen = following(when.result.get(), later(tested, 1)?)?;
     let next = later(chosen, 1)?;
-    out.taken(emit_context.context, emit_context.resume, Op::JumpUnlessTrue(next))?;
+    out.taken(
+        emit_context.context,
+        emit_context.resume,
+        Op::JumpUnlessTrue(next),
+    )?;
     part(out, emit_context, &when.result, letter)?;
     out.taken(emit_context.context, emit_context.resume, Op::Jump(end))
 }
@@ -506,16 +563,38 @@ fn comparison(
     ensures { IfOk result (λ _. Compares emit_context.entry.known.now emit_context.entry.context emit_context.entry.resume letter end (when.now ∷ []) out.old out.new) }
 {
     let operand = out.last_letter();
-    out.applied(emit_context.context, emit_context.resume, Op::Duplicate, 0, operand)?;
+    out.applied(
+        emit_context.context,
+        emit_context.resume,
+        Op::Duplicate,
+        0,
+        operand,
+    )?;
     part(out, emit_context, &when.test, operand)?;
-    out.applied(emit_context.context, emit_context.resume, Op::Equal, 2, Letter::B)?;
+    out.applied(
+        emit_context.context,
+        emit_context.resume,
+        Op::Equal,
+        2,
+        Letter::B,
+    )?;
     let tested = out.here()?;
     let chosen = following(when.result.get(), later(tested, 2)?)?;
     let next = later(chosen, 1)?;
-    out.taken(emit_context.context, emit_context.resume, Op::JumpUnlessTrue(next))?;
+    out.taken(
+        emit_context.context,
+        emit_context.resume,
+        Op::JumpUnlessTrue(next),
+    )?;
     out.taken(emit_context.context, emit_context.resume, Op::Drop)?;
     part(out, emit_context, &when.result, letter)?;
-    out.applied(emit_context.context, emit_context.resume, Op::Jump(end), 1, operand)
+    out.applied(
+        emit_context.context,
+        emit_context.resume,
+        Op::Jump(end),
+        1,
+        operand,
+    )
 }
 
 /// Writes the result of ELSE, or null.

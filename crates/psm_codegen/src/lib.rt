@@ -1,12 +1,13 @@
 //! Writes the code of resolved module files (ISO/IEC 9075-4:1996), one line after another.
 #![tactic(auto)]
 
-mod enclosing;
 mod calling;
 mod changes;
-mod diagnostics;
-mod exprs;
 mod declared_letters;
+mod diagnostics;
+mod emit_context;
+mod enclosing;
+mod exprs;
 mod known;
 mod leaving;
 mod letters;
@@ -15,11 +16,10 @@ mod parts;
 mod places;
 mod queries;
 mod routines;
+mod row_types;
 mod rows;
-mod emit_context;
 mod simples;
 mod sizes;
-mod row_types;
 mod statement_sizes;
 mod statements;
 mod steps;
@@ -27,8 +27,8 @@ mod storing;
 mod tables;
 mod writer;
 
-pub use enclosing::EnclosingBlock;
 pub use declared_letters::columns_of;
+pub use enclosing::EnclosingBlock;
 pub use known::Known;
 pub use lowering::lower;
 pub use queries::query_code;

@@ -8,9 +8,9 @@ ghost use Rattle.psm_codegen.specs.Files.{FileWritten, RoutineWritten, RoutinesW
 ghost use Rattle.psm_codegen.specs.Standing.{CanStand};
 
 use crate::declared_letters::file_known;
+use crate::emit_context::EmitContext;
 use crate::known::Known;
 use crate::parts::FunctionBuilder;
-use crate::emit_context::EmitContext;
 use crate::statements::statement;
 use crate::tables::tables_code;
 use psm_code::{Instruction, Parameter, ParameterMode as Mode, RawCode, RawRoutine};

@@ -13,7 +13,7 @@ ghost use Rattle.psm_codegen.specs.Seen.{seen};
 use psm_exprcode::Letter;
 use psm_list::{Boxed, List, OneOrMore};
 use psm_resolved::{
-    Operator, ResolvedExpr, ResolvedChainLink, ResolvedWhen, calculated, changed, letter_of_results,
+    Operator, ResolvedChainLink, ResolvedExpr, ResolvedWhen, calculated, changed, letter_of_results,
 };
 use psm_value::SqlType;
 
@@ -95,7 +95,11 @@ fn is_value(letter: Letter) -> bool
 fn where_true(test: bool, letter: Letter) -> RowType
     ensures { seen result ≡ where_true test letter }
 {
-    if test { RowType::Of(letter) } else { RowType::Wrong }
+    if test {
+        RowType::Of(letter)
+    } else {
+        RowType::Wrong
+    }
 }
 
 // ---- operations
@@ -301,7 +305,11 @@ pub fn row_type_of(columns: &[Letter], variables: &[Letter], e: &ResolvedExpr) -
 
 // Of a part that may be absent.
 #[cycle(sorting)]
-fn part(columns: &[Letter], variables: &[Letter], e: &Option<Boxed<ResolvedExpr>>) -> Option<RowType>
+fn part(
+    columns: &[Letter],
+    variables: &[Letter],
+    e: &Option<Boxed<ResolvedExpr>>,
+) -> Option<RowType>
     ensures { option_map seen result ≡ option_map (row_type_of columns.now variables.now) e.now }
 {
     match e {
@@ -369,7 +377,12 @@ fn go_as(
 
 #[cycle(sorting)]
 #[tactic(auto, using(crate::proofs::RowTypeForms::row_type_parts))]
-fn linked(columns: &[Letter], variables: &[Letter], first: RowType, chain_links: &List<ResolvedChainLink>) -> RowType
+fn linked(
+    columns: &[Letter],
+    variables: &[Letter],
+    first: RowType,
+    chain_links: &List<ResolvedChainLink>,
+) -> RowType
     ensures { seen result ≡ linked (seen first) (map (chain_link_row_type columns.now variables.now) chain_links.now) }
 {
     let mut row_type = first;

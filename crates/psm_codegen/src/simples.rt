@@ -4,10 +4,11 @@ ghost use Rattle.psm_resolved.specs.declared.statement.ResolvedSimple.TheVariant
 ghost use Rattle.psm_resolved.specs.declared.statement.ResolvedRows.TheVariants as given;
 ghost use Rattle.psm_codegen.specs.Simples.{WritesAnywhere, WritesSimple, letters_of_columns, number_op};
 
-use crate::enclosing::EnclosingBlock;
 use crate::calling::{call_arguments, rows, signals};
 use crate::changes::{deletes, updates};
 use crate::diagnostics::{condition_items, statement_items};
+use crate::emit_context::EmitContext;
+use crate::enclosing::EnclosingBlock;
 use crate::exprs::expr;
 use crate::known::Known;
 use crate::leaving::{iterates, leaves};
@@ -15,7 +16,6 @@ use crate::letters::item_letters;
 use crate::parts::{FunctionBuilder, numbered};
 use crate::places::{letter_at, letters_at, number_at};
 use crate::queries::query_code;
-use crate::emit_context::EmitContext;
 use crate::storing::{gives, retrieves};
 use psm_code::{Instruction, Plan};
 use psm_exprcode::{Letter, Op};
@@ -82,7 +82,12 @@ fn set(
     let letter = letter_at(emit_context.known.variables.items(), slot as usize);
     parts.code.plain(emit_context.context, Instruction::Clear)?;
     expr(&mut parts.code, emit_context, source, letter)?;
-    parts.code.takes(emit_context.context, emit_context.resume, Instruction::Store(slot), 1)
+    parts.code.takes(
+        emit_context.context,
+        emit_context.resume,
+        Instruction::Store(slot),
+        1,
+    )
 }
 
 /// Writes CALL.
@@ -112,17 +117,28 @@ fn call(
 }
 
 /// Writes RETURN.
-fn returned(parts: &mut FunctionBuilder, emit_context: EmitContext<'_>, e: &ResolvedExpr) -> Result<(), AllocError>
+fn returned(
+    parts: &mut FunctionBuilder,
+    emit_context: EmitContext<'_>,
+    e: &ResolvedExpr,
+) -> Result<(), AllocError>
     ensures { IfOk result (λ _. WritesAnywhere emit_context.entry.known.now emit_context.entry.context emit_context.entry.resume (simples.Return e.now) parts.old parts.new) }
 {
     expr(&mut parts.code, emit_context, e, emit_context.known.result)?;
-    parts
-        .code
-        .takes(emit_context.context, emit_context.resume, Instruction::ReturnValue, 1)
+    parts.code.takes(
+        emit_context.context,
+        emit_context.resume,
+        Instruction::ReturnValue,
+        1,
+    )
 }
 
 /// Writes SIGNAL.
-fn signal(parts: &mut FunctionBuilder, emit_context: EmitContext<'_>, s: &ResolvedSignal) -> Result<(), AllocError>
+fn signal(
+    parts: &mut FunctionBuilder,
+    emit_context: EmitContext<'_>,
+    s: &ResolvedSignal,
+) -> Result<(), AllocError>
     ensures { IfOk result (λ _. WritesAnywhere emit_context.entry.known.now emit_context.entry.context emit_context.entry.resume (simples.Signal s.now) parts.old parts.new) }
 {
     let number = parts.condition(&s.condition)?;
@@ -147,9 +163,12 @@ fn resignal(
     match s {
         None => {
             parts.code.plain(emit_context.context, Instruction::Clear)?;
-            parts
-                .code
-                .takes(emit_context.context, emit_context.resume, Instruction::Resignal, 0)
+            parts.code.takes(
+                emit_context.context,
+                emit_context.resume,
+                Instruction::Resignal,
+                0,
+            )
         }
         Some(s) => resignal_condition(parts, emit_context, s.get()),
     }
@@ -245,7 +264,13 @@ fn insert(
 {
     match list {
         ResolvedRows::Values(list) => insert_rows(parts, emit_context, table, columns, list),
-        ResolvedRows::Query(query) => insert_query(parts, emit_context, table, columns, query.get()),
+        ResolvedRows::Query(query) => insert_query(
+            parts,
+            emit_context,
+            table,
+            columns,
+            query.get(),
+        ),
     }
 }
 
@@ -350,7 +375,11 @@ fn delete(
 }
 
 /// Writes OPEN.
-fn opened(parts: &mut FunctionBuilder, emit_context: EmitContext<'_>, cursor: u32) -> Result<(), AllocError>
+fn opened(
+    parts: &mut FunctionBuilder,
+    emit_context: EmitContext<'_>,
+    cursor: u32,
+) -> Result<(), AllocError>
     ensures { IfOk result (λ _. WritesAnywhere emit_context.entry.known.now emit_context.entry.context emit_context.entry.resume (simples.Open cursor) parts.old parts.new) }
 {
     parts.code.plain(emit_context.context, Instruction::Clear)?;
@@ -382,7 +411,11 @@ fn fetch(
 }
 
 /// Writes CLOSE.
-fn closed(parts: &mut FunctionBuilder, emit_context: EmitContext<'_>, cursor: u32) -> Result<(), AllocError>
+fn closed(
+    parts: &mut FunctionBuilder,
+    emit_context: EmitContext<'_>,
+    cursor: u32,
+) -> Result<(), AllocError>
     ensures { IfOk result (λ _. WritesAnywhere emit_context.entry.known.now emit_context.entry.context emit_context.entry.resume (simples.Close cursor) parts.old parts.new) }
 {
     parts.code.plain(emit_context.context, Instruction::Clear)?;

@@ -4,7 +4,7 @@ ghost use Rattle.psm_resolved.specs.RowValue.{listed};
 ghost use Rattle.psm_codegen.specs.Sizes.{each_with, else_lines, expr_lines, chain_link_lines, not_lines, scale_lines, some_lines, when_lines};
 
 use psm_list::{Boxed, List, OneOrMore};
-use psm_resolved::{ResolvedExpr, ResolvedChainLink, ResolvedWhen};
+use psm_resolved::{ResolvedChainLink, ResolvedExpr, ResolvedWhen};
 use std::alloc::AllocError;
 
 /// The line after an expression whose first line it is. More lines than fit in 32 bits count as out of memory.

@@ -5,7 +5,7 @@ ghost use Rattle.psm_codegen.specs.Sizes.{each_with, else_lines, expr_lines, exp
 ghost use Rattle.psm_codegen.specs.StatementSizes.{LoopFrame, RowsFrame, argument_lines, branch_lines, block_lines, condition_lines, copied_lines, declaration_lines, diagnostics_lines, each_of, frame_of, handler_lines, iterate_lines, leave_lines, otherwise_lines, passing_lines, resignal_lines, rows_lines, signal_lines, simple_lines, statement_lines, statements_lines};
 
 use crate::enclosing::EnclosingBlock;
-use crate::sizes::{all_after, following, after_else, after_some, later};
+use crate::sizes::{after_else, after_some, all_after, following, later};
 use psm_cond::ConditionItem;
 use psm_list::{Boxed, List};
 use psm_resolved::{
@@ -81,7 +81,11 @@ fn after_iterate(enclosing: &[EnclosingBlock], level: u32, at: u32) -> Result<u3
 }
 
 /// The line after a simple statement.
-fn after_simple(s: &ResolvedSimple, enclosing: &[EnclosingBlock], at: u32) -> Result<u32, AllocError>
+fn after_simple(
+    s: &ResolvedSimple,
+    enclosing: &[EnclosingBlock],
+    at: u32,
+) -> Result<u32, AllocError>
     ensures { IfOk result (λ end. end ≡ at + simple_lines (map frame_of enclosing.now) s.now) }
 {
     match s {

@@ -5,9 +5,9 @@ ghost use Rattle.psm_codegen.specs.FunctionBuilder.{FunctionBuilder as Whole};
 ghost use Rattle.psm_codegen.specs.StatementForms.{WritesForm};
 ghost use Rattle.psm_codegen.specs.Statements.{WritesBranches, WritesComparisons, WritesElse, WritesHandlers, WritesStatement, WritesStatements};
 
+use crate::emit_context::EmitContext;
 use crate::enclosing::EnclosingBlock;
 use crate::parts::FunctionBuilder;
-use crate::emit_context::EmitContext;
 use crate::simples::simple;
 use crate::sizes::later;
 use crate::statement_sizes::{after_statement, after_statements, after_turn, inside};
@@ -52,17 +52,38 @@ pub(crate) fn statement(
             level,
             test,
             statements,
-        } => whiled(statements, parts, emit_context, enclosing, *level, test.get()),
+        } => whiled(
+            statements,
+            parts,
+            emit_context,
+            enclosing,
+            *level,
+            test.get(),
+        ),
         ResolvedStatement::Repeat {
             level,
             statements,
             until,
-        } => repeated(statements, parts, emit_context, enclosing, *level, until.get()),
+        } => repeated(
+            statements,
+            parts,
+            emit_context,
+            enclosing,
+            *level,
+            until.get(),
+        ),
         ResolvedStatement::For {
             level,
             head,
             statements,
-        } => over_rows(statements, parts, emit_context, enclosing, *level, head.get()),
+        } => over_rows(
+            statements,
+            parts,
+            emit_context,
+            enclosing,
+            *level,
+            head.get(),
+        ),
         ResolvedStatement::If {
             branches: list,
             otherwise,
@@ -344,7 +365,13 @@ fn comparison(
     take(parts, emit_context, Op::JumpUnlessTrue(next))?;
     take(parts, emit_context, Op::Drop)?;
     statements(&x.statements, parts, emit_context, enclosing)?;
-    apply(parts, emit_context, Op::Jump(emit_context.resume), 0, operand)
+    apply(
+        parts,
+        emit_context,
+        Op::Jump(emit_context.resume),
+        0,
+        operand,
+    )
 }
 
 /// Writes the handlers of the block of a context, each with its action.
@@ -363,7 +390,11 @@ fn handlers(
 }
 
 #[cycle(stating)]
-fn handler(h: &ResolvedHandler, parts: &mut FunctionBuilder, emit_context: EmitContext<'_>) -> Result<(), AllocError>
+fn handler(
+    h: &ResolvedHandler,
+    parts: &mut FunctionBuilder,
+    emit_context: EmitContext<'_>,
+) -> Result<(), AllocError>
     ensures { IfOk result (λ _. (hs : _) (r : Whole) → WritesHandlers emit_context.entry.known.now emit_context.entry.context hs parts.new r → WritesHandlers emit_context.entry.known.now emit_context.entry.context (h.now ∷ hs) parts.old r) }
 {
     let number = parts.handler_count()?;

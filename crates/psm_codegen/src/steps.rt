@@ -10,11 +10,11 @@ ghost use Rattle.psm_codegen.specs.Statements.{WritesCursors, fetched, jumped, o
 ghost use Rattle.psm_codegen.specs.Written.{applied, taken, takes};
 
 use crate::calling::declares;
+use crate::emit_context::EmitContext;
 use crate::exprs::expr;
 use crate::letters::item_letters;
 use crate::parts::FunctionBuilder;
 use crate::queries::query_code;
-use crate::emit_context::EmitContext;
 use crate::sizes::later;
 use crate::statement_sizes::{after_handlers, after_passing};
 use crate::storing::stores;
@@ -59,10 +59,16 @@ pub(crate) fn jump(parts: &mut FunctionBuilder, context: u32, to: u32) -> Result
 }
 
 /// Writes an operation that takes the last operand.
-pub(crate) fn take(parts: &mut FunctionBuilder, emit_context: EmitContext<'_>, op: Op) -> Result<(), AllocError>
+pub(crate) fn take(
+    parts: &mut FunctionBuilder,
+    emit_context: EmitContext<'_>,
+    op: Op,
+) -> Result<(), AllocError>
     ensures { IfOk result (λ _. parts.new ≡ with_code (taken emit_context.entry.context emit_context.entry.resume op parts.old.code) parts.old) }
 {
-    parts.code.taken(emit_context.context, emit_context.resume, op)
+    parts
+        .code
+        .taken(emit_context.context, emit_context.resume, op)
 }
 
 /// Writes an operation that takes n operands and puts one.
@@ -75,9 +81,7 @@ pub(crate) fn apply(
 ) -> Result<(), AllocError>
     ensures { IfOk result (λ _. parts.new ≡ with_code (applied emit_context.entry.context emit_context.entry.resume op count letter parts.old.code) parts.old) }
 {
-    parts
-        .code
-        .applied(emit_context.context, emit_context.resume, op, count, letter)
+    parts.code.applied(emit_context.context, emit_context.resume, op, count, letter)
 }
 
 /// Writes cursors, with their queries.
@@ -183,7 +187,12 @@ pub(crate) fn fetch_row(
         cursor: head.cursor.number,
         end: emit_context.resume,
     };
-    parts.puts_row(emit_context.context, emit_context.resume, next, head.cursor.number)?;
+    parts.puts_row(
+        emit_context.context,
+        emit_context.resume,
+        next,
+        head.cursor.number,
+    )?;
     stores(&mut parts.code, emit_context, &head.slots)
 }
 

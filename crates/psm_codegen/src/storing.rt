@@ -49,7 +49,12 @@ pub(crate) fn retrieves(
             1,
         )?;
     }
-    out.takes(emit_context.context, emit_context.resume, Instruction::Warn, 0)
+    out.takes(
+        emit_context.context,
+        emit_context.resume,
+        Instruction::Warn,
+        0,
+    )
 }
 
 /// Stores the values that a procedure gives back.
@@ -105,6 +110,17 @@ fn copy(out: &mut Writer, emit_context: EmitContext<'_>, slot: u32) -> Result<()
     ensures { IfOk result (λ _. out.new ≡ takes emit_context.entry.context emit_context.entry.resume (instruction.Store slot) 1 (applied emit_context.entry.context emit_context.entry.resume op.Duplicate 0 (last_letter out.old) out.old)) }
 {
     let letter = out.last_letter();
-    out.applied(emit_context.context, emit_context.resume, Op::Duplicate, 0, letter)?;
-    out.takes(emit_context.context, emit_context.resume, Instruction::Store(slot), 1)
+    out.applied(
+        emit_context.context,
+        emit_context.resume,
+        Op::Duplicate,
+        0,
+        letter,
+    )?;
+    out.takes(
+        emit_context.context,
+        emit_context.resume,
+        Instruction::Store(slot),
+        1,
+    )
 }

@@ -17,11 +17,11 @@ use crate::exprs::optional_at;
 use crate::numbering::Numbering;
 use crate::resolver::ResolveContext;
 use psm_check_expr::type_of;
-use psm_symbols::good_state;
 use psm_list::{Boxed, List};
-use psm_resolve_expr::{Scopes, ResolverScope, resolve_query};
+use psm_resolve_expr::{ResolverScope, Scopes, resolve_query};
 use psm_resolved::{ResolvedCursor, ResolvedDeclaration, ResolvedExpr, ResolvedQuery};
 use psm_scope::ScopeKind;
+use psm_symbols::good_state;
 use psm_text::Name;
 use psm_tree::{
     CursorDeclaration, DataType, Declaration, Identifier, Names, Order, OrderedQuery, State,
@@ -83,7 +83,13 @@ fn declarations_of<'w, 'a>(
 {
     let mut resolved = Vec::new(resolver.alloc);
     for declaration in declarations.items() {
-        declare(resolver, scopes, numbering, declaration.get(), &mut resolved)?;
+        declare(
+            resolver,
+            scopes,
+            numbering,
+            declaration.get(),
+            &mut resolved,
+        )?;
     }
     Ok(List::of(resolved))
 }

@@ -10,7 +10,11 @@ use psm_tree::Expr;
 use std::alloc::{AllocError, Global};
 
 /// An expression where it stands.
-pub fn expr_at(alloc: Global, resolver_scope: ResolverScope, e: &Expr) -> Result<Boxed<ResolvedExpr>, AllocError>
+pub fn expr_at(
+    alloc: Global,
+    resolver_scope: ResolverScope,
+    e: &Expr,
+) -> Result<Boxed<ResolvedExpr>, AllocError>
     ensures { IfOk result (λ resolved. resolved ≡ expr_at (seen_at resolver_scope.entry) e.now) }
 {
     let resolved = resolve_expr(alloc, e, resolver_scope)?;

@@ -4,7 +4,7 @@ ghost use Rattle.psm_resolve_expr.specs.Seen.{seen_at};
 ghost use Rattle.psm_declare.specs.Seen.{control};
 
 use psm_check_expr::SymbolTable;
-use psm_resolve_expr::{Scopes, ResolverScope};
+use psm_resolve_expr::{ResolverScope, Scopes};
 use std::alloc::Global;
 
 /// What the file of a routine declares, and the allocator.

@@ -129,7 +129,8 @@ fn leads(end: Letter, at: usize, entry: Entry, stack: usize, after: &NumberedLin
 {
     match left(after.stacks, stack, entry.takes) {
         Some(rest) => {
-            falls_through(end, entry.fall_through, rest, after) && branches(end, at, entry.branching, rest, after)
+            falls_through(end, entry.fall_through, rest, after)
+                && branches(end, at, entry.branching, rest, after)
         }
         None => false,
     }

@@ -12,12 +12,12 @@ ghost use Rattle.psm_unwind.specs.View.{machine_of};
 ghost use Rattle.psm_machine.specs.Successors.{FindsNeeds, StandStill, StepsOn, goes_more, is_common};
 ghost use Rattle.psm_machine.specs.Running.{Advances, AfterStep, ended_by};
 
-use crate::successors::go_to;
+use crate::completion::settle;
 use crate::operations::operation;
 use crate::running::Finished;
-use crate::completion::settle;
 use crate::stepping::step;
 use crate::stop::Stop;
+use crate::successors::go_to;
 use crate::turns::{clear, turn};
 use crate::variables::store as store_in;
 use psm_code::{Instruction, RawCode, RawRoutine};

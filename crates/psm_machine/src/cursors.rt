@@ -11,9 +11,9 @@ ghost use Rattle.psm_machine.specs.Allowed.{MayAsk, MayMove, MayOpen, OfCursor};
 ghost use Rattle.psm_machine.specs.ActResults.{Does};
 ghost use Rattle.psm_machine.specs.Over.{DoesOver, StopsIn, as_successor};
 
-use crate::table_statements::part_of;
 use crate::queries::{put_values, query_at};
 use crate::stop::{Stop, stop_at};
+use crate::table_statements::part_of;
 use psm_code::{CodeCursor, RawRoutine};
 use psm_cond::Condition;
 use psm_cursor::Cursor;

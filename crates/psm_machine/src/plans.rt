@@ -9,10 +9,10 @@ ghost use Rattle.psm_machine.specs.Allowed.{MayChange, MayDo, MayErase};
 ghost use Rattle.psm_machine.specs.ActResults.{Evaluates, Finds};
 ghost use Rattle.psm_machine.specs.Over.{DoesOver};
 
-use crate::table_statements::part_of;
 use crate::positioned::{delete_at, update_at};
 use crate::putting::{put_operands, put_query};
 use crate::stop::{Stop, stop_at};
+use crate::table_statements::part_of;
 use psm_code::{CodeTable, Plan, RawCode, RawRoutine};
 use psm_dml::{delete, update};
 use psm_exprcode::{ExprCode, SetItem};

@@ -13,10 +13,10 @@ ghost use Rattle.psm_machine.specs.ActResults.{Does};
 ghost use Rattle.psm_machine.specs.Over.{DoesOver};
 
 use crate::cursors::{cursor_at, declared_at, wrong_state};
-use crate::table_statements::part_of;
 use crate::plans::table_at;
 use crate::queries::query_at;
 use crate::stop::Stop;
+use crate::table_statements::part_of;
 use psm_code::{RawCode, RawRoutine};
 use psm_cursor::Cursor;
 use psm_exprcode::SetItem;

@@ -11,10 +11,10 @@ ghost use Rattle.psm_machine.specs.Inserting.{PutsInto, PutsRows, put_operands, 
 ghost use Rattle.psm_machine.specs.Over.{DoesOver};
 
 use crate::operands::pop;
-use crate::table_statements::part_of;
 use crate::plans::table_at;
 use crate::queries::{answer_of, query_at};
 use crate::stop::{Stop, stop_at};
+use crate::table_statements::part_of;
 use psm_code::{CodeTable, RawCode, RawRoutine};
 use psm_cond::DataFault;
 use psm_dml::insert;

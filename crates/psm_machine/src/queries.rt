@@ -10,8 +10,8 @@ ghost use Rattle.psm_machine.specs.ActResults.{Does, Finds};
 ghost use Rattle.psm_machine.specs.Over.{DoesOver};
 
 use crate::operands::put;
-use crate::table_statements::part_of;
 use crate::stop::{Stop, stop_at};
+use crate::table_statements::part_of;
 use crate::variables::warn_of;
 use psm_code::RawRoutine;
 use psm_exprcode::{Operand, Query};

@@ -13,14 +13,14 @@ ghost use Rattle.psm_machine.specs.Successors.{FindsNeeds, StandStill, StepsTo, 
 ghost use Rattle.psm_machine.specs.Over.{successor_for};
 ghost use Rattle.psm_machine.specs.Stepping.{data_act};
 
+use crate::completion::settle;
 use crate::cursors::{close, fetch, next, open};
-use crate::successors::{following, go};
 use crate::operations::operation;
 use crate::performing::perform;
 use crate::plans::change;
 use crate::queries::{exists, scalar, select_row};
-use crate::completion::settle;
 use crate::stop::Stop;
+use crate::successors::{following, go};
 use psm_code::{Instruction, RawCode, RawRoutine};
 use psm_exprcode::{Next, Op};
 use psm_store::Store;

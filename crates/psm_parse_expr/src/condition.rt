@@ -136,5 +136,11 @@ fn joined(
         return Ok(first);
     }
     let operands = OneOrMore::of(first, rest);
-    Boxed::new(alloc, Expr::LogicalOperator { logical_operator, operands })
+    Boxed::new(
+        alloc,
+        Expr::LogicalOperator {
+            logical_operator,
+            operands,
+        },
+    )
 }

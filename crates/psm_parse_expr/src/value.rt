@@ -10,7 +10,7 @@ use psm_grammar::Halt;
 use psm_list::{Boxed, List};
 use psm_parse_token::{Tokens, plus_minus};
 use psm_token::Sign;
-use psm_tree::{Expr, ChainLink};
+use psm_tree::{ChainLink, Expr};
 use std::alloc::{AllocError, Global};
 
 const PLUS_MINUS: [Sign; 2] = [Sign::Plus, Sign::Minus];
@@ -43,7 +43,11 @@ pub(crate) fn factor(alloc: Global, tokens: &mut Tokens, levels: u32) -> Result<
 /// `("*" | "/") factor`
 #[cycle(expressions)]
 #[tactic(auto, using(psm_tree::proofs::Reading::steps), unfolding(psm_tree::specs::ExprGrammar::next_factor))]
-pub(crate) fn next_factor(alloc: Global, tokens: &mut Tokens, levels: u32) -> Result<ChainLink, Halt>
+pub(crate) fn next_factor(
+    alloc: Global,
+    tokens: &mut Tokens,
+    levels: u32,
+) -> Result<ChainLink, Halt>
     ensures { Takes (reading levels next_factor_part tokens.old.rest.now) result tokens.new.rest.now }
 {
     let operator = term_operator(tokens)?;
@@ -128,7 +132,11 @@ pub(crate) fn sum(alloc: Global, tokens: &mut Tokens, levels: u32) -> Result<Box
 
 /// Operands with operators of one level between them; a lone one is itself.
 #[tactic(auto, using(crate::proofs::Built::operator_chain_some))]
-fn chained(alloc: Global, first: Boxed<Expr>, chain_links: List<ChainLink>) -> Result<Boxed<Expr>, AllocError>
+fn chained(
+    alloc: Global,
+    first: Boxed<Expr>,
+    chain_links: List<ChainLink>,
+) -> Result<Boxed<Expr>, AllocError>
     ensures { IfOk result (λ e. e ≡ operator_chain_of first chain_links) }
 {
     if chain_links.items().is_empty() {

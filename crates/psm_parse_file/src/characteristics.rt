@@ -49,7 +49,12 @@ fn two_words(
 
 /// A characteristic of a word before `SQL DATA`.
 #[tactic(auto, using(psm_tree::proofs::Reading::steps))]
-fn data_characteristic(tokens: &mut Tokens, levels: u32, word: Word, form: CharacteristicForm) -> Result<Characteristic, Halt>
+fn data_characteristic(
+    tokens: &mut Tokens,
+    levels: u32,
+    word: Word,
+    form: CharacteristicForm,
+) -> Result<Characteristic, Halt>
     ensures { Takes (reading levels (seq (characteristic_by form) (token (word_test word)) sql_data_part) tokens.old.rest.now) result tokens.new.rest.now }
 {
     let place = tokens.word(word)?;
@@ -95,14 +100,28 @@ fn characteristic(tokens: &mut Tokens, levels: u32) -> Result<Characteristic, Ha
         );
     }
     if tokens.at(Word::Reads) {
-        return data_characteristic(tokens, levels, Word::Reads, CharacteristicForm::ReadsSqlData);
+        return data_characteristic(
+            tokens,
+            levels,
+            Word::Reads,
+            CharacteristicForm::ReadsSqlData,
+        );
     }
-    data_characteristic(tokens, levels, Word::Modifies, CharacteristicForm::ModifiesSqlData)
+    data_characteristic(
+        tokens,
+        levels,
+        Word::Modifies,
+        CharacteristicForm::ModifiesSqlData,
+    )
 }
 
 /// `{characteristic}`
 #[tactic(auto, using(psm_tree::proofs::Repeating::turns, psm_tree::proofs::Firsts::first_characteristic), unfolding(psm_tree::specs::FileGrammar::characteristic_list))]
-pub(crate) fn characteristic_list(alloc: Global, tokens: &mut Tokens, levels: u32) -> Result<List<Characteristic>, Halt>
+pub(crate) fn characteristic_list(
+    alloc: Global,
+    tokens: &mut Tokens,
+    levels: u32,
+) -> Result<List<Characteristic>, Halt>
     ensures { Takes (reading levels characteristic_list_part tokens.old.rest.now) result tokens.new.rest.now }
 {
     let mut characteristics = Vec::new(alloc);

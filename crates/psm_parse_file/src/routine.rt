@@ -10,7 +10,7 @@ use psm_list::{Boxed, List};
 use psm_parse_stmt::statement;
 use psm_parse_token::{Tokens, char_length, plain_type, varying};
 use psm_token::{Sign, Word};
-use psm_tree::{DataType, Characteristic, Routine, Statement, TypeForm};
+use psm_tree::{Characteristic, DataType, Routine, Statement, TypeForm};
 use std::alloc::Global;
 
 const CHAR_WORDS: [Word; 2] = [Word::Char, Word::Character];

@@ -7,12 +7,13 @@ ghost use Rattle.psm_print.specs.ExprTokens.{expr_tokens, logical_operator_token
 
 use crate::names::{data_type, name, target};
 use crate::operators::{
-    comparison, logical_operator, not, opening, operator, plus_minus, set_function, side, text_function,
+    comparison, logical_operator, not, opening, operator, plus_minus, set_function, side,
+    text_function,
 };
 use psm_list::{Boxed, List, OneOrMore};
 use psm_spell::Writer;
 use psm_token::{Sign, Word};
-use psm_tree::{Expr, Identifier, LogicalOperator, ChainLink, Pick, Select, When};
+use psm_tree::{ChainLink, Expr, Identifier, LogicalOperator, Pick, Select, When};
 use std::alloc::AllocError;
 
 /// An expression.
@@ -26,7 +27,10 @@ pub(crate) fn expr(out: &mut Writer, e: &Expr) -> Result<(), AllocError>
         Expr::Number { value, .. } => out.number(*value),
         Expr::Text { value, .. } => out.text(value),
         Expr::Name(name) => target(out, name),
-        Expr::LogicalOperator { logical_operator, operands } => joined(out, operands, *logical_operator),
+        Expr::LogicalOperator {
+            logical_operator,
+            operands,
+        } => joined(out, operands, *logical_operator),
         Expr::Not { condition, .. } => {
             out.word(Word::Not)?;
             expr(out, condition.get())
@@ -82,7 +86,10 @@ pub(crate) fn expr(out: &mut Writer, e: &Expr) -> Result<(), AllocError>
             expr(out, pattern.get())?;
             following(out, escape, Word::Escape)
         }
-        Expr::OperatorChain { first, chain_links: rest } => {
+        Expr::OperatorChain {
+            first,
+            chain_links: rest,
+        } => {
             expr(out, first.get())?;
             chain_links(out, rest)
         }
@@ -220,7 +227,11 @@ pub(crate) fn sources(out: &mut Writer, items: &OneOrMore<Boxed<Expr>>) -> Resul
 
 /// Conditions with AND or OR between two of them.
 #[cycle(printing)]
-fn joined(out: &mut Writer, items: &OneOrMore<Boxed<Expr>>, by: LogicalOperator) -> Result<(), AllocError>
+fn joined(
+    out: &mut Writer,
+    items: &OneOrMore<Boxed<Expr>>,
+    by: LogicalOperator,
+) -> Result<(), AllocError>
     ensures { IfOk result (λ _. out.new ≡ out.old ++ separated (logical_operator_tokens by) (several_map expr_tokens items.now)) }
 {
     expr(out, items.first.get())?;

@@ -14,8 +14,8 @@ use psm_list::{List, OneOrMore};
 use psm_spell::Writer;
 use psm_token::{Sign, Word};
 use psm_tree::{
-    ColumnRule, ColumnRuleForm, DataType, Element, Expr, FileTree, Mode, Module, Characteristic, CharacteristicForm,
-    Parameter, Routine, TableRule, TableRuleForm, TableTree,
+    Characteristic, CharacteristicForm, ColumnRule, ColumnRuleForm, DataType, Element, Expr,
+    FileTree, Mode, Module, Parameter, Routine, TableRule, TableRuleForm, TableTree,
 };
 use std::alloc::AllocError;
 
@@ -205,7 +205,10 @@ fn characteristic(out: &mut Writer, characteristic: &Characteristic) -> Result<(
 }
 
 /// The characteristics on a routine.
-fn characteristics(out: &mut Writer, characteristics: &List<Characteristic>) -> Result<(), AllocError>
+fn characteristics(
+    out: &mut Writer,
+    characteristics: &List<Characteristic>,
+) -> Result<(), AllocError>
     ensures { IfOk result (λ _. out.new ≡ out.old ++ each [] (map characteristic_tokens characteristics.now)) }
 {
     for next in characteristics.items() {

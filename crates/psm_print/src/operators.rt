@@ -18,7 +18,10 @@ pub(crate) fn plus_minus(out: &mut Writer, sign: Sign) -> Result<(), AllocError>
     }
 }
 
-pub(crate) fn logical_operator(out: &mut Writer, logical_operator: LogicalOperator) -> Result<(), AllocError>
+pub(crate) fn logical_operator(
+    out: &mut Writer,
+    logical_operator: LogicalOperator,
+) -> Result<(), AllocError>
     ensures { IfOk result (λ _. out.new ≡ out.old ++ logical_operator_tokens logical_operator) }
 {
     match logical_operator {

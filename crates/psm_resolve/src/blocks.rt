@@ -12,11 +12,11 @@ use crate::forms::{
 };
 use crate::fors::enter_for;
 use psm_declare::{Numbering, ResolveContext, enter_compound};
-use psm_symbols::label_name;
 use psm_list::{Boxed, List, OneOrMore};
 use psm_resolve_expr::Scopes;
 use psm_resolved::{ResolvedBranch, ResolvedHandler, ResolvedStatement};
 use psm_scope::ScopeKind;
+use psm_symbols::label_name;
 use psm_text::Name;
 use psm_tree::{Block, Branch, Handler, Statement};
 use std::alloc::AllocError;
@@ -137,7 +137,13 @@ fn resolve_branches<'w, 'a>(
     ensures kept { IfOk result (λ _. scopes.new ≡ scopes.old) }
 {
     let mut resolved = Vec::new(resolver.alloc);
-    push_branch(branches.first.get(), resolver, scopes, numbering, &mut resolved)?;
+    push_branch(
+        branches.first.get(),
+        resolver,
+        scopes,
+        numbering,
+        &mut resolved,
+    )?;
     for branch in branches.rest.items() {
         push_branch(branch.get(), resolver, scopes, numbering, &mut resolved)?;
     }

@@ -8,7 +8,7 @@ ghost use Rattle.psm_resolve.specs.Statements.{argument_of, arguments_of, call_o
 use crate::known::slot_of;
 use psm_declare::expr_at;
 use psm_list::{Boxed, List};
-use psm_resolve_expr::{Scopes, ResolverScope};
+use psm_resolve_expr::{ResolverScope, Scopes};
 use psm_resolved::{ResolvedArgument, ResolvedSimple};
 use psm_scope::{ParameterMode, ParameterScope};
 use psm_tree::{Expr, Identifier};
@@ -27,7 +27,12 @@ pub(crate) fn call(
     match symbols.procedures.procedure(&name.name, arguments.len()) {
         None => called(alloc, 0, List::of(Vec::new(alloc))),
         Some(known) => {
-            let resolved = arguments_of(alloc, resolver_scope, known.parameters.items(), arguments)?;
+            let resolved = arguments_of(
+                alloc,
+                resolver_scope,
+                known.parameters.items(),
+                arguments,
+            )?;
             called(alloc, known.number, resolved)
         }
     }
@@ -61,7 +66,13 @@ fn arguments_of(
     let mut resolved = Vec::new(alloc);
     for number in 0..parameters.len().min(arguments.len()) {
         let mode = parameters[number].mode;
-        push_argument(alloc, resolver_scope, mode, arguments[number].get(), &mut resolved)?;
+        push_argument(
+            alloc,
+            resolver_scope,
+            mode,
+            arguments[number].get(),
+            &mut resolved,
+        )?;
     }
     Ok(List::of(resolved))
 }

@@ -8,14 +8,14 @@ ghost use Rattle.psm_resolve.specs.Statements.{condition_item, condition_of, dec
 use crate::known::slot_of;
 use psm_cond::{ConditionItem, StatementItem};
 use psm_declare::optional_at;
-use psm_symbols::good_state;
 use psm_list::{Boxed, List, OneOrMore};
-use psm_resolve_expr::{Scopes, ResolverScope};
+use psm_resolve_expr::{ResolverScope, Scopes};
 use psm_resolved::{
     ResolvedCondition, ResolvedDiagnostics, ResolvedNumber, ResolvedSignal, ResolvedSimple,
 };
 use psm_scope::DeclaredCondition;
 use psm_sqlstate::SqlState;
+use psm_symbols::good_state;
 use psm_tree::{
     Condition, ConditionInformation, ConditionNumber, Diagnostics, Signalled, State,
     StatementInformation,

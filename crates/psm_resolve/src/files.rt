@@ -3,8 +3,8 @@ ghost use Rattle.std.specs.Prelude.{◌≡◌, IfOk};
 ghost use Rattle.psm_resolve.specs.Files.{resolved_file};
 
 use crate::routines::resolve_routines;
-use crate::tables::resolve_tables;
 use crate::symbol_tables::known_symbols;
+use crate::tables::resolve_tables;
 use psm_declare::ResolveContext;
 use psm_resolved::ResolvedFile;
 use psm_tree::FileTree;

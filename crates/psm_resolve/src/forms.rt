@@ -14,12 +14,12 @@ ghost use Rattle.psm_resolve.specs.Blocks.{kind_of, value_of};
 use crate::handlers::{kind_of, values_of};
 use crate::simple::simple_of;
 use psm_declare::{Declared, ResolveContext, expr_at, optional_at};
-use psm_symbols::as_number;
 use psm_list::{Boxed, List};
 use psm_resolve_expr::Scopes;
 use psm_resolved::{
     ResolvedBlock, ResolvedBranch, ResolvedFor, ResolvedHandler, ResolvedStatement,
 };
+use psm_symbols::as_number;
 use psm_tree::{Branch, Expr, Handler, Simple};
 use std::alloc::{AllocError, Global};
 

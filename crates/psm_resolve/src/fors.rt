@@ -17,12 +17,12 @@ ghost use Rattle.psm_resolve.specs.Blocks.{column_items, column_meant, cursor_na
 
 use psm_check_expr::{Columns, row_of};
 use psm_declare::{Numbering, ResolveContext, declare_cursor, declare_variable, ordered_query};
-use psm_symbols::last_name;
 use psm_list::{Boxed, List};
-use psm_resolve_expr::{Scopes, ResolverScope, resolve_expr, name_in, on_row, table_columns};
+use psm_resolve_expr::{ResolverScope, Scopes, name_in, on_row, resolve_expr, table_columns};
 use psm_resolved::{ResolvedCursor, ResolvedFor, ResolvedQuery};
 use psm_rules::{Family, Shape, family_of};
-use psm_scope::{ScopeKind, Meant};
+use psm_scope::{Meant, ScopeKind};
+use psm_symbols::last_name;
 use psm_text::Name;
 use psm_tree::{Expr, ForCursor, ForHead, Identifier, Pick, Select, Target};
 use psm_value::SqlType;
@@ -154,7 +154,13 @@ fn items_in<'a>(
 {
     let picks = &select.picks;
     let mut items = Vec::new(alloc);
-    push_items(alloc, resolver_scope, columns, picks.first.get(), &mut items)?;
+    push_items(
+        alloc,
+        resolver_scope,
+        columns,
+        picks.first.get(),
+        &mut items,
+    )?;
     for pick in picks.rest.items() {
         push_items(alloc, resolver_scope, columns, pick.get(), &mut items)?;
     }

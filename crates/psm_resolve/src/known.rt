@@ -4,9 +4,9 @@ ghost use Rattle.psm_rules.specs.StatementFaults.{several};
 ghost use Rattle.psm_resolve.specs.Statements.{cursor_of, level_of, slot_of, slots_of};
 
 use psm_check_expr::spelling;
-use psm_symbols::as_number;
 use psm_list::{List, OneOrMore};
 use psm_resolve_expr::Scopes;
+use psm_symbols::as_number;
 use psm_tree::{Identifier, Target};
 use std::alloc::{AllocError, Global};
 

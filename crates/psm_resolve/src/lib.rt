@@ -15,8 +15,8 @@ mod laws;
 mod routines;
 mod rows;
 mod simple;
-mod tables;
 mod symbol_tables;
+mod tables;
 
 pub use files::resolve_file;
 pub use laws::each_declaration_has_a_number_of_its_own;

@@ -8,11 +8,11 @@ ghost use Rattle.psm_resolve.specs.Files.{mode_of, nothing_numbered, resolve_par
 
 use crate::blocks::resolve_statement;
 use psm_declare::{Numbering, ResolveContext, declare_known, known_type};
-use psm_symbols::is_in;
 use psm_list::{Boxed, List};
 use psm_resolve_expr::Scopes;
 use psm_resolved::{ParameterMode, ResolvedParameter, ResolvedRoutine, ResolvedStatement};
 use psm_scope::{ScopeKind, Variable};
+use psm_symbols::is_in;
 use psm_tree::{DataType, Mode, Parameter, Routine};
 use psm_value::SqlType;
 use std::alloc::{AllocError, Global};

@@ -15,11 +15,11 @@ ghost use Rattle.psm_resolved.specs.declared.statement.ResolvedRows.TheVariants 
 use crate::known::cursor_of;
 use psm_check_expr::Columns;
 use psm_declare::{expr_at, push_expr};
-use psm_symbols::{column_of, inserted};
 use psm_list::{Boxed, List, OneOrMore};
 use psm_resolve_expr::{ResolverScope, on_row, resolve_query, table_columns, table_number};
 use psm_resolved::{ResolvedExpr, ResolvedRows, ResolvedSet, ResolvedSimple, ResolvedWhere};
 use psm_scope::RowTable;
+use psm_symbols::{column_of, inserted};
 use psm_tree::{Assignment, Identifier, InsertSource, Names, Values, Where};
 use std::alloc::{AllocError, Global};
 
@@ -141,7 +141,10 @@ pub(crate) fn delete(
 }
 
 // What is seen on the rows of a table.
-fn on_table<'v, 'a>(resolver_scope: ResolverScope<'v, 'a>, table: &'v Identifier) -> ResolverScope<'v, 'a>
+fn on_table<'v, 'a>(
+    resolver_scope: ResolverScope<'v, 'a>,
+    table: &'v Identifier,
+) -> ResolverScope<'v, 'a>
     ensures { seen_at result ≡ on_table (seen_at resolver_scope.entry) table.now }
 {
     let row = RowTable {
@@ -161,7 +164,13 @@ fn sets_of(
     ensures { IfOk result (λ resolved. resolved ≡ map (set_of (seen_at resolver_scope.entry) (columns_known (option_copied columns.entry))) (several assignments.now)) }
 {
     let mut resolved = Vec::new(alloc);
-    push_set(alloc, resolver_scope, columns, &assignments.first, &mut resolved)?;
+    push_set(
+        alloc,
+        resolver_scope,
+        columns,
+        &assignments.first,
+        &mut resolved,
+    )?;
     for assignment in assignments.rest.items() {
         push_set(alloc, resolver_scope, columns, assignment, &mut resolved)?;
     }

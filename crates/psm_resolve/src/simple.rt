@@ -13,7 +13,7 @@ use crate::known::{cursor_of, level_of, slot_of, slots_of};
 use crate::rows::{delete, insert, update};
 use psm_declare::expr_at;
 use psm_list::Boxed;
-use psm_resolve_expr::{Scopes, ResolverScope, resolve_query};
+use psm_resolve_expr::{ResolverScope, Scopes, resolve_query};
 use psm_resolved::ResolvedSimple;
 use psm_tree::{Expr, Identifier, Select, Simple, Target, Targets};
 use std::alloc::{AllocError, Global};

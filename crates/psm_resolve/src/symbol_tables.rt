@@ -4,14 +4,17 @@ ghost use Rattle.psm_rules.specs.FileFaults.{columns_of};
 ghost use Rattle.psm_resolve.specs.SymbolTables.{known_symbols, next_procedure, with_known_routine, with_known_routines, with_known_table};
 
 use psm_check_expr::{SymbolTable, type_of};
-use psm_symbols::{columns_of, kinds_of, next_number, parameters_of};
 use psm_list::List;
 use psm_scope::ProcedureScope;
+use psm_symbols::{columns_of, kinds_of, next_number, parameters_of};
 use psm_tree::{DataType, FileTree, Routine, TableTree};
 use std::alloc::{AllocError, Global};
 
 /// What a file declares; each routine is known in the whole module.
-pub(crate) fn known_symbols<'a>(alloc: Global, file: &'a FileTree) -> Result<SymbolTable<'a>, AllocError>
+pub(crate) fn known_symbols<'a>(
+    alloc: Global,
+    file: &'a FileTree,
+) -> Result<SymbolTable<'a>, AllocError>
     ensures { IfOk result (λ symbols. symbols ≡ known_symbols file.now) }
 {
     let mut symbols = SymbolTable::new(alloc);

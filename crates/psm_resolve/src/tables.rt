@@ -11,11 +11,11 @@ use crate::constants::default_of;
 use crate::keys::key_of;
 use psm_check_expr::{Columns, SymbolTable};
 use psm_declare::{known_type, push_expr};
-use psm_symbols::{columns_of, next_number, places_of};
 use psm_list::{Boxed, List};
-use psm_resolve_expr::{Scopes, ResolverScope};
+use psm_resolve_expr::{ResolverScope, Scopes};
 use psm_resolved::{ResolvedExpr, ResolvedTable};
 use psm_scope::RowTable;
+use psm_symbols::{columns_of, next_number, places_of};
 use psm_table::{Column, TableDef};
 use psm_tree::{
     ColumnRule, ColumnRuleForm, Constant, DataType, Element, Identifier, TableRuleForm, TableTree,
@@ -124,7 +124,15 @@ fn parts_of(
     let first = &table.elements.first;
     let mut place = push_element(alloc, resolver_scope, columns, key, 0, first, &mut parts)?;
     for element in table.elements.rest.items() {
-        place = push_element(alloc, resolver_scope, columns, key, place, element, &mut parts)?;
+        place = push_element(
+            alloc,
+            resolver_scope,
+            columns,
+            key,
+            place,
+            element,
+            &mut parts,
+        )?;
     }
     Ok(parts)
 }

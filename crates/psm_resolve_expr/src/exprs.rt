@@ -7,21 +7,25 @@ ghost use Rattle.psm_resolve_expr.specs.Parts.{arguments_of, branch_of, branches
 ghost use Rattle.psm_resolve_expr.specs.Seen.{seen_at};
 
 use crate::forms;
-use crate::resolved::{Resolved, ShapedQuery};
 use crate::parts::{Arguments, Branch, Branches, Operands, push_operand, when_then};
 use crate::picks::Picks;
+use crate::resolved::{Resolved, ShapedQuery};
 use crate::resolver_scope::{ResolverScope, on_row, table_columns, table_number};
 use psm_check_expr::row_of;
 use psm_list::{Boxed, List, OneOrMore};
-use psm_resolved::{ResolvedExpr, ResolvedChainLink};
+use psm_resolved::{ResolvedChainLink, ResolvedExpr};
 use psm_rules::{Shape, joined};
-use psm_tree::{Expr, ChainLink, Pick, Select, When};
+use psm_tree::{ChainLink, Expr, Pick, Select, When};
 use std::alloc::{AllocError, Global};
 
 /// The resolved expression that stands for an expression at a place, and the shape of its value. Fails only without memory.
 #[cycle(expression)]
 #[tactic(auto, using(crate::proofs::Equations::resolved_equations))]
-pub fn resolve_expr(alloc: Global, e: &Expr, resolver_scope: ResolverScope) -> Result<Resolved, AllocError>
+pub fn resolve_expr(
+    alloc: Global,
+    e: &Expr,
+    resolver_scope: ResolverScope,
+) -> Result<Resolved, AllocError>
     ensures { IfOk result (λ m. m ≡ resolve_expr e.now (seen_at resolver_scope.entry)) }
 {
     match e {
@@ -29,7 +33,10 @@ pub fn resolve_expr(alloc: Global, e: &Expr, resolver_scope: ResolverScope) -> R
         Expr::Number { value, .. } => forms::number(alloc, *value),
         Expr::Text { value, .. } => forms::text(alloc, value),
         Expr::Name(target) => forms::name(alloc, resolver_scope, target),
-        Expr::LogicalOperator { logical_operator, operands } => {
+        Expr::LogicalOperator {
+            logical_operator,
+            operands,
+        } => {
             let operands = resolve_operands(alloc, operands, resolver_scope)?;
             forms::logical_operator(alloc, *logical_operator, operands)
         }
@@ -298,7 +305,11 @@ fn resolve_branches(
 
 #[cycle(expression)]
 #[tactic(auto, using(crate::proofs::Equations::resolved_when))]
-fn resolve_branch(alloc: Global, when: &When, resolver_scope: ResolverScope) -> Result<Branch, AllocError>
+fn resolve_branch(
+    alloc: Global,
+    when: &When,
+    resolver_scope: ResolverScope,
+) -> Result<Branch, AllocError>
     ensures { IfOk result (λ b. b ≡ branch_of (resolve_when when.now (seen_at resolver_scope.entry))) }
 {
     let test = resolve_expr(alloc, when.test.get(), resolver_scope)?;
@@ -312,7 +323,11 @@ fn resolve_branch(alloc: Global, when: &When, resolver_scope: ResolverScope) -> 
 /// without memory.
 #[cycle(expression)]
 #[tactic(auto, using(crate::proofs::Equations::resolved_query))]
-pub fn resolve_query(alloc: Global, query: &Select, resolver_scope: ResolverScope) -> Result<ShapedQuery, AllocError>
+pub fn resolve_query(
+    alloc: Global,
+    query: &Select,
+    resolver_scope: ResolverScope,
+) -> Result<ShapedQuery, AllocError>
     ensures { IfOk result (λ q. q ≡ resolve_query query.now (seen_at resolver_scope.entry)) }
 {
     let columns = table_columns(resolver_scope, &query.table.name);
@@ -341,7 +356,12 @@ fn resolve_picks(
 
 #[cycle(expression)]
 #[tactic(auto, using(crate::proofs::Equations::pick_equations))]
-fn push_pick(alloc: Global, pick: &Pick, resolver_scope: ResolverScope, picks: &mut Picks) -> Result<(), AllocError>
+fn push_pick(
+    alloc: Global,
+    pick: &Pick,
+    resolver_scope: ResolverScope,
+    picks: &mut Picks,
+) -> Result<(), AllocError>
     ensures { IfOk result (λ _. picks.new ≡ with_pick picks.old (resolve_pick pick.now (seen_at resolver_scope.entry))) }
 {
     match pick {

@@ -12,21 +12,23 @@ ghost use Rattle.psm_resolve_expr.specs.Resolved.{called, of_meaning, scale_of_r
 ghost use Rattle.psm_resolve_expr.specs.Parts.{case_in};
 ghost use Rattle.psm_resolve_expr.specs.Exprs.{comparison_of, condition, function_of, logical_operator_of, only_shape, optional_in, side_of, signed, type_known, value};
 
-use crate::resolved::{Resolved, ShapedQuery, boxed, optional_in};
 use crate::operators::{comparison_of, function_of, logical_operator_of, side_of};
 use crate::parts::{Arguments, Branches, Operands};
+use crate::resolved::{Resolved, ShapedQuery, boxed, optional_in};
+use crate::resolver_scope::{ResolverScope, name_in};
 use crate::shapes::{
     joined_else, only_shape, scale_of_result, shape_of_result, shape_of_type, type_known,
 };
-use crate::resolver_scope::{ResolverScope, name_in};
 use psm_check_expr::{text_result, type_of};
 use psm_list::{Boxed, List};
 use psm_num::Dec;
-use psm_resolved::{ResolvedExpr, ResolvedChainLink};
+use psm_resolved::{ResolvedChainLink, ResolvedExpr};
 use psm_rules::{CHARACTER, INTEGER, Shape, VARYING, of_literal, typed};
 use psm_scope::Meant;
 use psm_text::Text;
-use psm_tree::{Comparison, DataType, Identifier, LogicalOperator, Sign, Target, TextFunction, TrimSide};
+use psm_tree::{
+    Comparison, DataType, Identifier, LogicalOperator, Sign, Target, TextFunction, TrimSide,
+};
 use std::alloc::{AllocError, Global};
 
 // ---- constants and names
@@ -52,7 +54,11 @@ pub(crate) fn text(alloc: Global, text: &Text) -> Result<Resolved, AllocError>
 }
 
 /// What a name means: a column or a variable.
-pub(crate) fn name(alloc: Global, resolver_scope: ResolverScope, target: &Target) -> Result<Resolved, AllocError>
+pub(crate) fn name(
+    alloc: Global,
+    resolver_scope: ResolverScope,
+    target: &Target,
+) -> Result<Resolved, AllocError>
     ensures { IfOk result (λ m. m ≡ of_meaning (name_in (seen_at resolver_scope.entry) target.now)) }
 {
     match name_in(resolver_scope, target) {
@@ -185,7 +191,11 @@ pub(crate) fn operator_chain(
 ) -> Result<Resolved, AllocError>
     ensures { IfOk result (λ m. m ≡ record { expr = exprs.OperatorChain first chain_links; shape = shape }) }
 {
-    boxed(alloc, ResolvedExpr::OperatorChain { first, chain_links }, shape)
+    boxed(
+        alloc,
+        ResolvedExpr::OperatorChain { first, chain_links },
+        shape,
+    )
 }
 
 pub(crate) fn signed(alloc: Global, sign: Sign, operand: Resolved) -> Result<Resolved, AllocError>
@@ -272,7 +282,11 @@ pub(crate) fn coalesce(alloc: Global, values: Operands) -> Result<Resolved, Allo
     boxed(alloc, expr, shape_of_result(result))
 }
 
-pub(crate) fn null_if(alloc: Global, left: Resolved, right: Resolved) -> Result<Resolved, AllocError>
+pub(crate) fn null_if(
+    alloc: Global,
+    left: Resolved,
+    right: Resolved,
+) -> Result<Resolved, AllocError>
     ensures { IfOk result (λ m. m ≡ record { expr = exprs.NullIf left.expr right.expr; shape = left.shape }) }
 {
     let shape = left.shape;
@@ -312,7 +326,11 @@ pub(crate) fn text_function(
     boxed(alloc, expr, shape)
 }
 
-pub(crate) fn position(alloc: Global, part: Resolved, whole: Resolved) -> Result<Resolved, AllocError>
+pub(crate) fn position(
+    alloc: Global,
+    part: Resolved,
+    whole: Resolved,
+) -> Result<Resolved, AllocError>
     ensures { IfOk result (λ m. m ≡ value integer (exprs.Position part.expr whole.expr)) }
 {
     let expr = ResolvedExpr::Position {

@@ -5,14 +5,14 @@
 mod exprs;
 mod forms;
 mod laws;
-mod resolved;
 mod operators;
 mod parts;
 mod picks;
-mod shapes;
+mod resolved;
 mod resolver_scope;
+mod shapes;
 
 pub use exprs::{resolve_expr, resolve_query};
 pub use laws::{numbers_have_the_scale_of_their_shape, spelled_logical_operators_join_two};
 pub use resolved::{Resolved, ShapedQuery};
-pub use resolver_scope::{Scopes, ResolverScope, name_in, on_row, table_columns, table_number};
+pub use resolver_scope::{ResolverScope, Scopes, name_in, on_row, table_columns, table_number};

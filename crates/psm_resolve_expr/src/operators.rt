@@ -6,8 +6,9 @@ use psm_exprcode::SetFunction;
 use psm_resolved::{Comparison, LogicalOperator, Operator, TextFunction};
 use psm_text::Side;
 use psm_tree::{
-    Comparison as WrittenComparison, LogicalOperator as WrittenLogicalOperator, Operator as WrittenOperator,
-    SetFunction as WrittenSet, TextFunction as WrittenFunction, TrimSide,
+    Comparison as WrittenComparison, LogicalOperator as WrittenLogicalOperator,
+    Operator as WrittenOperator, SetFunction as WrittenSet, TextFunction as WrittenFunction,
+    TrimSide,
 };
 
 pub(crate) fn logical_operator_of(logical_operator: WrittenLogicalOperator) -> LogicalOperator

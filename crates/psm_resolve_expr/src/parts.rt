@@ -4,11 +4,11 @@ ghost use Rattle.psm_resolve_expr.specs.Exprs.{chain_link_of};
 ghost use Rattle.psm_resolve_expr.specs.Resolved.{operated};
 ghost use Rattle.psm_resolve_expr.specs.Parts.{branch_of};
 
-use crate::resolved::Resolved;
 use crate::operators::operator_of;
+use crate::resolved::Resolved;
 use crate::shapes::operated;
 use psm_list::{Boxed, List, OneOrMore};
-use psm_resolved::{ResolvedExpr, ResolvedChainLink, ResolvedWhen};
+use psm_resolved::{ResolvedChainLink, ResolvedExpr, ResolvedWhen};
 use psm_rules::{Shape, Typed};
 use psm_scope::ArgKind;
 use psm_tree::Operator;
@@ -43,7 +43,11 @@ pub(crate) struct Branches {
 }
 
 /// `WHEN test THEN result`.
-pub(crate) fn when_then(alloc: Global, test: Resolved, value: Resolved) -> Result<Branch, AllocError>
+pub(crate) fn when_then(
+    alloc: Global,
+    test: Resolved,
+    value: Resolved,
+) -> Result<Branch, AllocError>
     ensures { IfOk result (λ w. w ≡ branch_of (test, value)) }
 {
     let shape = value.shape;

@@ -9,10 +9,10 @@ ghost use Rattle.psm_resolve_expr.specs.Parts.{items_in, none_picked, query_in, 
 ghost use Rattle.psm_resolve_expr.specs.Seen.{seen_at};
 ghost use Rattle.psm_resolved.specs.declared.expr.ResolvedExpr.TheVariants as exprs;
 
-use crate::resolved::{Resolved, ShapedQuery, boxed, optional_in};
 use crate::operators::set_of;
-use crate::shapes::{shape_of_set, shape_of_type};
+use crate::resolved::{Resolved, ShapedQuery, boxed, optional_in};
 use crate::resolver_scope::ResolverScope;
+use crate::shapes::{shape_of_set, shape_of_type};
 use psm_check_expr::Columns;
 use psm_exprcode::SetFunction;
 use psm_list::{Boxed, List};
@@ -88,7 +88,11 @@ impl Picks {
     }
 
     /// Puts a set function of values after the others.
-    pub fn push_aggregate(&mut self, function: WrittenSet, resolved: Resolved) -> Result<(), AllocError>
+    pub fn push_aggregate(
+        &mut self,
+        function: WrittenSet,
+        resolved: Resolved,
+    ) -> Result<(), AllocError>
         ensures { IfOk result (λ _. self.new ≡ with_pick self.old (OfAll (set_item (set_of function) (Some resolved.expr)) (shape_of_set function resolved.shape))) }
     {
         let shape = shape_of_set(function, resolved.shape);
@@ -113,7 +117,11 @@ impl Picks {
     }
 
     /// Puts all columns of the row after the others.
-    pub fn push_row(&mut self, alloc: Global, resolver_scope: ResolverScope) -> Result<(), AllocError>
+    pub fn push_row(
+        &mut self,
+        alloc: Global,
+        resolver_scope: ResolverScope,
+    ) -> Result<(), AllocError>
         ensures { IfOk result (λ _. self.new ≡ with_pick self.old (Values (columns_on (seen_at resolver_scope.entry).row))) }
     {
         match resolver_scope.row {

@@ -23,7 +23,10 @@ pub struct ResolverScope<'v, 'a> {
 }
 
 /// The same on the rows of a table.
-pub fn on_row<'v, 'a>(resolver_scope: ResolverScope<'v, 'a>, row: RowTable<'v, 'a>) -> ResolverScope<'v, 'a>
+pub fn on_row<'v, 'a>(
+    resolver_scope: ResolverScope<'v, 'a>,
+    row: RowTable<'v, 'a>,
+) -> ResolverScope<'v, 'a>
     ensures { seen_at result ≡ on_row (seen_at resolver_scope.entry) (row_table row.entry) }
 {
     ResolverScope {
@@ -41,8 +44,12 @@ pub fn name_in(resolver_scope: ResolverScope, target: &Target) -> Option<Meant>
 {
     let second = spelling(&target.second);
     match resolver_scope.row {
-        None => resolver_scope.scopes.meant_alone(&target.first.name, second),
-        Some(row) => resolver_scope.scopes.meant_on_row(&target.first.name, second, row),
+        None => resolver_scope
+            .scopes
+            .meant_alone(&target.first.name, second),
+        Some(row) => resolver_scope
+            .scopes
+            .meant_on_row(&target.first.name, second, row),
     }
 }
 
@@ -60,7 +67,10 @@ pub fn table_number(resolver_scope: ResolverScope, table: &Name) -> u32
 }
 
 /// The columns of a table.
-pub fn table_columns<'v, 'a>(resolver_scope: ResolverScope<'v, 'a>, table: &Name) -> Option<&'v Columns<'a>>
+pub fn table_columns<'v, 'a>(
+    resolver_scope: ResolverScope<'v, 'a>,
+    table: &Name,
+) -> Option<&'v Columns<'a>>
     ensures { columns_known (option_copied result) ≡ columns_in (table_at (seen_at resolver_scope.entry) table.now) }
 {
     let symbols = resolver_scope.symbols;

@@ -5,8 +5,8 @@ ghost use Rattle.psm_resolved.specs.RowType.{IsOfLetter};
 ghost use Rattle.psm_resolved.specs.Written.{IsCodeOf};
 
 use crate::expr::ResolvedExpr;
-use crate::exprs::source;
 use crate::expr_context::ExprContext;
+use crate::exprs::source;
 use crate::writer::Writer;
 use psm_exprcode::{ExprCode, Letter, RawExpr};
 use std::alloc::{AllocError, Global};

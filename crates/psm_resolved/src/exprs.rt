@@ -4,11 +4,11 @@ ghost use Rattle.psm_resolved.specs.Written.{Writes, WritesSource, WritesAll, Wr
 ghost use Rattle.psm_resolved.specs.Choices.{Branch, WritesWhens, WritesElse};
 ghost use Rattle.psm_resolved.specs.RowValue.{listed};
 
-use crate::expr::{LogicalOperator, ResolvedExpr, ResolvedChainLink, ResolvedWhen};
+use crate::expr::{LogicalOperator, ResolvedChainLink, ResolvedExpr, ResolvedWhen};
+use crate::expr_context::ExprContext;
 use crate::operators::{
     calculated, calculating, changed, changing, comparing, joining, letter_at, letter_of_results,
 };
-use crate::expr_context::ExprContext;
 use crate::writer::{Exit, Writer};
 use psm_exprcode::{Letter, Op};
 use psm_list::{Boxed, List, OneOrMore};
@@ -57,7 +57,10 @@ fn expr(out: &mut Writer, expr_context: ExprContext<'_>, e: &ResolvedExpr) -> Re
             let letter = letter_at(expr_context.variables, *slot);
             out.apply(Op::Variable(*slot), 0, letter)
         }
-        ResolvedExpr::LogicalOperator { logical_operator, operands } => joined(out, expr_context, operands, *logical_operator),
+        ResolvedExpr::LogicalOperator {
+            logical_operator,
+            operands,
+        } => joined(out, expr_context, operands, *logical_operator),
         ResolvedExpr::Not(condition) => {
             expr(out, expr_context, condition.get())?;
             out.apply(Op::Not, 1, Letter::B)

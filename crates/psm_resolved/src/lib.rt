@@ -4,17 +4,17 @@
 
 mod code;
 mod expr;
+mod expr_context;
 mod exprs;
 mod file;
 mod operators;
-mod expr_context;
 mod statement;
 mod writer;
 
 pub use code::row_code;
 pub use expr::{
-    Comparison, LogicalOperator, Operator, ResolvedExpr, ResolvedItem, ResolvedItems, ResolvedChainLink,
-    ResolvedQuery, ResolvedWhen, TextFunction,
+    Comparison, LogicalOperator, Operator, ResolvedChainLink, ResolvedExpr, ResolvedItem,
+    ResolvedItems, ResolvedQuery, ResolvedWhen, TextFunction,
 };
 pub use file::{ParameterMode, ResolvedFile, ResolvedParameter, ResolvedRoutine, ResolvedTable};
 pub use operators::{

@@ -2,8 +2,8 @@
 #![tactic(auto)]
 
 mod block;
-mod fault;
 mod checked;
+mod fault;
 mod query;
 mod rule;
 mod shape;
@@ -11,11 +11,11 @@ mod shapes;
 mod table;
 
 pub use block::undo_fault;
-pub use fault::{Fault, breaks, breaks_if, earlier};
 pub use checked::{
-    Checked, all_of, are_shaped, as_condition, as_value, broken, faults_in, combined, of_family,
+    Checked, all_of, are_shaped, as_condition, as_value, broken, combined, faults_in, of_family,
     shape_of, well_typed,
 };
+pub use fault::{Fault, breaks, breaks_if, earlier};
 pub use query::{Item, Picked};
 pub use rule::Rule;
 pub use shape::{Family, Shape, Typed};

@@ -4,11 +4,11 @@ ghost use Rattle.std.specs.Option.{option_copied};
 ghost use Rattle.psm_scope.specs.Lookup.{as_variable, column_meant, is_table, meant, meant_on_row, index_named};
 ghost use Rattle.psm_scope.specs.Rows.{columns_known, meaning_of, row_table};
 
-use crate::scope::is_label;
-use crate::scopes::Scopes;
 use crate::key::same_name;
 use crate::known::Variable;
 use crate::names::Names;
+use crate::scope::is_label;
+use crate::scopes::Scopes;
 use psm_text::Name;
 use psm_value::SqlType;
 

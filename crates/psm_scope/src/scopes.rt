@@ -5,8 +5,8 @@ ghost use Rattle.psm_scope.specs.Scopes.{undeclared};
 ghost use Rattle.psm_scope.specs.Lookup.{condition, cursor, labels, meant, named, qualified, variable};
 ghost use Rattle.psm_scope.specs.KeptScopes.{Declares, can_declare_here, scope_of, level, the_conditions, the_cursors, the_variables};
 
-use crate::scope::{Scope, ScopeKind};
 use crate::known::{DeclaredCondition, Variable};
+use crate::scope::{Scope, ScopeKind};
 use psm_sqlstate::SqlState;
 use psm_text::Name;
 use std::alloc::{AllocError, Global};

@@ -7,8 +7,8 @@ ghost use Rattle.psm_script_code.specs.Made.{known_of_tables};
 use psm_code::{CodeTable, RawCode, RawRoutine};
 use psm_codegen::Known;
 use psm_exprcode::Letter;
-use psm_symbols::next_number;
 use psm_list::List;
+use psm_symbols::next_number;
 use psm_tablecode::column_letters;
 use std::alloc::{AllocError, Global};
 

@@ -34,9 +34,8 @@ impl<'a> VerifyContext<'a> {
             Instruction::Call(number) | Instruction::FunctionCall(number) => {
                 is_there(self.code.routines.items(), *number)
             }
-            Instruction::Exists(query)
-            | Instruction::Scalar(query)
-            | Instruction::Row(query) => is_there(routine.queries.items(), *query),
+            Instruction::Exists(query) | Instruction::Scalar(query) | Instruction::Row(query) =>
+                is_there(routine.queries.items(), *query),
             Instruction::Data(plan) => is_there(routine.plans.items(), *plan),
             Instruction::Open(cursor)
             | Instruction::Close(cursor)

@@ -4,4 +4,7 @@
 
 mod laws;
 
-pub use laws::{well_formed_files_are_well_typed, well_formed_files_can_stand, well_formed_tables_are_definitions};
+pub use laws::{
+    well_formed_files_are_well_typed, well_formed_files_can_stand,
+    well_formed_tables_are_definitions,
+};

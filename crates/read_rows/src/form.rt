@@ -9,7 +9,10 @@ pub fn expression(expr: &Expr) -> &'static str {
         Expr::Number { .. } => "number",
         Expr::Text { .. } => "text",
         Expr::Name(target) => name(target),
-        Expr::LogicalOperator { logical_operator, .. } => match logical_operator {
+        Expr::LogicalOperator {
+            logical_operator,
+            ..
+        } => match logical_operator {
             LogicalOperator::And => "and",
             LogicalOperator::Or => "or",
         },

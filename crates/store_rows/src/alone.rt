@@ -5,10 +5,10 @@ ghost use Rattle.store_rows.specs.Parts.{IsPartsKey, IsPartsRow};
 
 use crate::call::{Call, Change};
 use crate::definition::definition;
+use crate::display;
 use crate::fault::Fault;
 use crate::like::{numbered_key, numbered_row};
 use crate::look::looked;
-use crate::display;
 use psm_table::{Key, Row, Steps, Table};
 use std::alloc::Global;
 use std::sync::ledger::Ledger;

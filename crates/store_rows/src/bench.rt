@@ -4,10 +4,10 @@ ghost use Rattle.store_rows.specs.Bench.{IsBench};
 ghost use Rattle.store_rows.specs.Parts.{IsPartsKey, IsPartsRow, IsPartsTable};
 
 use crate::call::{Call, Change, Look};
+use crate::display;
 use crate::fault::Fault;
 use crate::like::{numbered_key, numbered_row};
 use crate::look::looked;
-use crate::display;
 use psm_store::{Key, Mark, Row, Steps, Store, Table};
 use std::alloc::Global;
 use std::sync::ledger::Ledger;

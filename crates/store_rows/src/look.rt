@@ -2,9 +2,9 @@
 ghost use Rattle.store_rows.specs.Parts.{IsPartsTable};
 
 use crate::call::Look;
+use crate::display;
 use crate::fault::Fault;
 use crate::like::{KeyLike, RowLike};
-use crate::display;
 use crate::walk::{falling, rising};
 use psm_table::{Datum, Row, Table};
 use std::alloc::Global;

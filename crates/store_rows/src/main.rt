@@ -14,12 +14,12 @@ mod answer;
 mod bench;
 mod call;
 mod definition;
+mod display;
 mod fault;
 mod group;
 mod like;
 mod look;
 mod operands;
-mod display;
 mod walk;
 
 use anyhow::Result;

@@ -1,8 +1,8 @@
 //! What is printed after a row.
 
+use crate::display;
 use crate::fault::Fault;
 use crate::spelled::{read_again, written};
-use crate::display;
 use crate::unescape::unescaped;
 use psm_token::{TokenList, tokens};
 use std::alloc::{AllocError, Global};

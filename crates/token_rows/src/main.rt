@@ -10,9 +10,9 @@
 #![tactic(auto)]
 
 mod answer;
+mod display;
 mod fault;
 mod spelled;
-mod display;
 mod unescape;
 
 use answer::answer;
