@@ -64,7 +64,7 @@ def main(root):
     processors = min(len(os.sched_getaffinity(0)), MOST_PROCESSORS)
     say(f"proving {len(crates)} crates, then building the program. From nothing this takes {QUICK} to {SLOW} processor minutes,")
     say(f"here about {QUICK // processors} to {SLOW // processors} minutes. Finished crates are kept, so it can be stopped and started again.")
-    say("'psm try run M S' runs without a proof, in one to three minutes.")
+    say("'psm try run M S' runs without a proof, in two to five minutes.")
     begun = time.monotonic()
     for number, name in enumerate(crates, 1):
         say(f"crate {number} of {len(crates)}, {minutes(time.monotonic() - begun)} so far: {name}")

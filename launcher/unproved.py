@@ -20,7 +20,7 @@ def say(text):
 
 
 def say_how_long(what):
-    say(f"{what} without a proof: rt try compiles the program each time, in one to three minutes, longer on a busy machine")
+    say(f"{what} without a proof: rt try compiles the program each time, in two to five minutes, longer on a busy machine")
 
 
 def run(is_explained, words):
