@@ -26,7 +26,7 @@ use Rattle.psm_rules.specs.Faults.{breaks, first_of}
 use Rattle.psm_rules.specs.Found.{as_value, is_shaped, made_of, shape_of, shown, sound, value_shape, with_shape}
 use Rattle.psm_rules.specs.Shapes.{family_of, integer, typed}
 use Rattle.psm_rules.specs.ExprFaults as faults
-use Rattle.psm_rules.specs.ExprFaults.{PickFound, QueryFound, argument, column_item, first_set, is_all, is_set, item_of, items_fault, items_in, joined_items, misplaced_set, other_faults, query_fault, set_argument, set_found, set_result, set_shape, sets_fault}
+use Rattle.psm_rules.specs.ExprFaults.{PickFound, QueryFound, argument, column_item, first_set, is_all, is_set, item_of, items_fault, items_in, joined_items, misplaced_set, other_faults, query_fault, set_argument, set_found, set_result, set_shape, sets_fault, typed_pick, without_type}
 use Rattle.psm_rules.specs.View.{Columns}
 use Rattle.psm_rules.proofs.Earliest.{first_of_cons}
 use Rattle.psm_tree.specs.declared.expr.SetFunction.{SetFunction}
@@ -112,9 +112,34 @@ pick_items_by : (cs : Columns) (p : PickFound) (b : Bool) → (if b then option_
 pick_items_by cs p true = refl
 pick_items_by cs p false = refl
 
-pub all_items_in : (cs : Columns) (ps : List PickFound) → items_in (Some cs) ps ≡ Some (all_items cs ps)
+all_items_in : (cs : Columns) (ps : List PickFound) → items_in (Some cs) ps ≡ Some (all_items cs ps)
 all_items_in cs [] = refl
 all_items_in cs (p ∷ ps) = ap (λ o. joined_items o (items_in (Some cs) ps)) (pick_items_by cs p (is_all p.form)) ∙ ap (joined_items (Some (pick_items cs p))) (all_items_in cs ps)
+
+-- picks have their types where no set function is among them, and where all are set functions
+typed_without_sets : (b : Bool) (ps : List PickFound) → first_set ps ≡ None → map (typed_pick b) ps ≡ ps
+typed_without_sets b [] h = refl
+typed_without_sets b (p ∷ ps) h = plain_first (is_set p.form) refl h
+  where
+    plain_first : (s : Bool) → is_set p.form ≡ s → (if s then Some p.found.place else first_set ps) ≡ None → typed_pick b p ∷ map (typed_pick b) ps ≡ p ∷ ps
+    plain_first true is h = absurd cc
+    plain_first false is h = ap (λ s. (if s && not b then without_type p else p) ∷ map (typed_pick b) ps) is ∙ ap (λ l. p ∷ l) (typed_without_sets b ps h)
+
+typed_all : (ps : List PickFound) → map (typed_pick true) ps ≡ ps
+typed_all [] = refl
+typed_all (p ∷ ps) = whole (is_set p.form)
+  where
+    whole : (s : Bool) → (if s && not true then without_type p else p) ∷ map (typed_pick true) ps ≡ p ∷ ps
+    whole true = ap (λ l. p ∷ l) (typed_all ps)
+    whole false = ap (λ l. p ∷ l) (typed_all ps)
+
+typed_by : (ps : List PickFound) (d : Option Place) (b : Bool) → first_set ps ≡ d → misplaced_set (not b) d ≡ None → map (typed_pick b) ps ≡ ps
+typed_by ps d true h none = typed_all ps
+typed_by ps None false h none = typed_without_sets false ps h
+typed_by ps (Some place) false h none = absurd cc
+
+pub all_items_of : (cs : Columns) (ps : List PickFound) → sets_fault ps ≡ None → items_in (Some cs) (map (typed_pick (list_all (λ p. is_set p.form) ps)) ps) ≡ Some (all_items cs ps)
+all_items_of cs ps none = ap (items_in (Some cs)) (typed_by ps (first_set ps) (list_all (λ p. is_set p.form) ps) refl none) ∙ all_items_in cs ps
 
 -- some columns are some items, and so is each other pick
 pick_some : (cs : Columns) (p : PickFound) (b : Bool) → some cs ≡ true → some (if b then map (column_item p.found.place) cs else item_of p.found ∷ []) ≡ true

@@ -42,7 +42,7 @@ use Rattle.psm_accept.proofs.Judging.{OnRow, goes_as_sort, sort_at}
 use Rattle.psm_accept.proofs.Parts.{Part, as_condition-clean, neither, operand_source, tested}
 use Rattle.psm_accept.proofs.Forms.{IsLink}
 use Rattle.psm_accept.proofs.Choices.{IsWhen}
-use Rattle.psm_accept.proofs.Queries.{AreValues, IsTable, ItemsMade, PickGood, QueryGood, aggregate_good, all_good, all_items, all_items_in, count_good, items_made, items_some, named_placed, plain_good, query_made_of, rows_made, tables_placed, types_some}
+use Rattle.psm_accept.proofs.Queries.{AreValues, IsTable, ItemsMade, PickGood, QueryGood, aggregate_good, all_good, all_items, all_items_of, count_good, items_made, items_some, named_placed, plain_good, query_made_of, rows_made, tables_placed, types_some}
 use Rattle.psm_accept.proofs.Accepted.{E, Fits, L, OfExpr, OfLink, OfPick, OfSelect, OfWhen, P, S, W, expr_step, picks_parts}
 
 -- ---- picks
@@ -168,7 +168,7 @@ query_with e view sight a ps table alias test well true_test (Some p) h none =
     items_made e types p.1 (pick_found ps.first.0 inner_view) (seen inner_view (map pick_found (map (λ e. e.0) ps.rest))) (pick_made ps.first.0 inner_sight) (all_at inner_sight (map pick_made (map (λ e. e.0) ps.rest))) picks parts.0 others.0 in
     let from : h.place ≡ p.0 = omega (arith, h.from) in (
       all_items p.1 f.picks,
-      all_items_in p.1 f.picks,
+      all_items_of p.1 f.picks others.0,
       query_made_of e (all_items p.1 f.picks) p.0 h.table (all_at inner_sight (map pick_made (map (λ e. e.0) (ps.first ∷ ps.rest)))) (any_at inner_sight (option_map made_of (option_map (λ e. e.0) test)))
           (subst (λ i. slice_get e.file.tables i ≡ Some h.table) from h.there) items (test_good e types inner_view inner_sight inner h.types test true_test others.2)
           (λ given. items_some p.1 (pick_found ps.first.0 inner_view) (seen inner_view (map pick_found (map (λ e. e.0) ps.rest))) (types_some p.1 h.table.definition.columns h.types given)),

@@ -11,7 +11,7 @@ use Rattle.psm_rules.specs.Shapes.{typed}
 use Rattle.psm_rules.specs.View.{Columns}
 use Rattle.psm_check_expr.specs.Seen.{pick_of}
 use Rattle.psm_check_expr.specs.declared.queries.PickFound.{PickFound as KeptPick}
-use Rattle.psm_rules.specs.ExprFaults.{PickFound, column_item, joined_items, items_of_pick, items_in}
+use Rattle.psm_rules.specs.ExprFaults.{PickFound, column_item, joined_items, items_of_pick, items_in, typed_pick}
 
 joined_three : (xs : List Item) (a b : Option (List Item)) → joined_items (Some xs) (joined_items a b) ≡ joined_items (joined_items (Some xs) a) b
 joined_three xs None b = refl
@@ -43,21 +43,21 @@ items_unknown columns old p ps whole e l =
 pub items_end : (columns : Option Columns) (items : List Item) (whole : Option (List Item)) → ItemsLeft columns items [] whole → Some items ≡ whole
 items_end columns items whole l = ap Some (sym (append-nil items)) ∙ l.joined
 
-pub picks_step : (columns : Option Columns) (old new : List Item) (picks : List KeptPick) (i : ℕ) (pick : KeptPick) (known : Bool) (whole : Option (List Item))
-    → known ≡ true → i < length picks → pick ≡ get_or picks i pick → joined_items (Some old) (items_of_pick columns (pick_of pick)) ≡ (if known then Some new else None)
-    → ItemsLeft columns old (map pick_of (drop i picks)) whole → ItemsLeft columns new (map pick_of (drop (i + 1) picks)) whole
-picks_step columns old new picks i pick known whole k h at e l =
+pub picks_step : (all_sets : Bool) (columns : Option Columns) (old new : List Item) (picks : List KeptPick) (i : ℕ) (pick : KeptPick) (known : Bool) (whole : Option (List Item))
+    → known ≡ true → i < length picks → pick ≡ get_or picks i pick → joined_items (Some old) (items_of_pick columns (typed_pick all_sets (pick_of pick))) ≡ (if known then Some new else None)
+    → ItemsLeft columns old (map (typed_pick all_sets) (map pick_of (drop i picks))) whole → ItemsLeft columns new (map (typed_pick all_sets) (map pick_of (drop (i + 1) picks))) whole
+picks_step all_sets columns old new picks i pick known whole k h at e l =
     let t : drop i picks ≡ pick ∷ drop (i + 1) picks = drop_more picks i pick h ∙ ap (λ p. p ∷ drop (i + 1) picks) (sym at) in
-    items_step columns old new (pick_of pick) (map pick_of (drop (i + 1) picks)) whole (e ∙ ap (λ b. if b then Some new else None) k)
-    (subst (λ (ps : List KeptPick). ItemsLeft columns old (map pick_of ps) whole) t l)
+    items_step columns old new (typed_pick all_sets (pick_of pick)) (map (typed_pick all_sets) (map pick_of (drop (i + 1) picks))) whole (e ∙ ap (λ b. if b then Some new else None) k)
+    (subst (λ (ps : List KeptPick). ItemsLeft columns old (map (typed_pick all_sets) (map pick_of ps)) whole) t l)
 
-pub picks_unknown : (columns : Option Columns) (old new : List Item) (picks : List KeptPick) (i : ℕ) (pick : KeptPick) (known : Bool) (whole : Option (List Item))
-    → known ≡ false → i < length picks → pick ≡ get_or picks i pick → joined_items (Some old) (items_of_pick columns (pick_of pick)) ≡ (if known then Some new else None)
-    → ItemsLeft columns old (map pick_of (drop i picks)) whole → None ≡ whole
-picks_unknown columns old new picks i pick known whole k h at e l =
+pub picks_unknown : (all_sets : Bool) (columns : Option Columns) (old new : List Item) (picks : List KeptPick) (i : ℕ) (pick : KeptPick) (known : Bool) (whole : Option (List Item))
+    → known ≡ false → i < length picks → pick ≡ get_or picks i pick → joined_items (Some old) (items_of_pick columns (typed_pick all_sets (pick_of pick))) ≡ (if known then Some new else None)
+    → ItemsLeft columns old (map (typed_pick all_sets) (map pick_of (drop i picks))) whole → None ≡ whole
+picks_unknown all_sets columns old new picks i pick known whole k h at e l =
     let t : drop i picks ≡ pick ∷ drop (i + 1) picks = drop_more picks i pick h ∙ ap (λ p. p ∷ drop (i + 1) picks) (sym at) in
-    items_unknown columns old (pick_of pick) (map pick_of (drop (i + 1) picks)) whole (e ∙ ap (λ b. if b then Some new else None) k)
-    (subst (λ (ps : List KeptPick). ItemsLeft columns old (map pick_of ps) whole) t l)
+    items_unknown columns old (typed_pick all_sets (pick_of pick)) (map (typed_pick all_sets) (map pick_of (drop (i + 1) picks))) whole (e ∙ ap (λ b. if b then Some new else None) k)
+    (subst (λ (ps : List KeptPick). ItemsLeft columns old (map (typed_pick all_sets) (map pick_of ps)) whole) t l)
 
 -- ---- all columns one by one
 

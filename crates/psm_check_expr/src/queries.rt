@@ -2,7 +2,8 @@
 ghost use Rattle.std.specs.Prelude.{◌≡◌, ◌++◌, IfOk, None, Some, map, option_map, if◌then◌else◌};
 ghost use Rattle.std.specs.Option.{option_copied};
 ghost use Rattle.psm_scope.specs.Rows.{columns_known, row_table};
-ghost use Rattle.psm_rules.specs.ExprFaults.{column_item, counted_fault, first_set, is_set, item_of, items_fault, items_in, items_of, items_of_pick, joined_items, may_be, miscounted_fault, misplaced_set, only_shape, other_faults, parts_fault, pick_item, query_fault, set_argument, set_found, set_result, set_shape, sets_fault, spelling, table_fault, test_fault, without_fault};
+ghost use Rattle.psm_rules.specs.ExprFaults.{column_item, counted_fault, first_set, is_set, item_of, items_fault, items_in, items_of, items_of_pick, joined_items, may_be, miscounted_fault, misplaced_set, only_shape, other_faults, parts_fault, pick_item, query_fault, set_argument, set_found, set_result, set_shape, sets_fault, spelling, table_fault, test_fault, typed_pick, without_fault};
+ghost use Rattle.psm_rules.specs.Found.{as_value};
 ghost use Rattle.psm_rules.specs.Shapes.{typed};
 ghost use Rattle.psm_rules.specs.declared.shape.Shape.TheVariants.{Condition, Value};
 ghost use Rattle.std.specs.List.{list_all};
@@ -259,21 +260,23 @@ impl<'q, 'v, 'a> QueryFound<'q, 'v, 'a> {
     pub fn items(&self, alloc: Global) -> Result<Option<List<Item>>, AllocError>
         ensures { IfOk result (λ items. items ≡ items_of self.now) }
     {
-        items_in(alloc, self.columns, self.picks.as_slice())
+        let picks = self.picks.as_slice();
+        items_in(alloc, self.columns, are_all_sets(picks), picks)
     }
 }
 
-// The items of some picks.
+// The items of some picks. Set functions have a type only where all are.
 fn items_in(
     alloc: Global,
     columns: Option<&Columns>,
+    all_sets: bool,
     picks: &[PickFound],
 ) -> Result<Option<List<Item>>, AllocError>
-    ensures { IfOk result (λ items. items ≡ items_in (option_copied columns.entry) (map pick_of picks.now)) }
+    ensures { IfOk result (λ items. items ≡ items_in (option_copied columns.entry) (map (typed_pick all_sets) (map pick_of picks.now))) }
 {
     let mut items = Vec::new(alloc);
     for pick in picks {
-        if !push_items(columns, *pick, &mut items)? {
+        if !push_items(columns, all_sets, *pick, &mut items)? {
             return Ok(None);
         }
     }
@@ -283,10 +286,11 @@ fn items_in(
 // The items of a pick, or `false` where they aren't known.
 fn push_items(
     columns: Option<&Columns>,
+    all_sets: bool,
     pick: PickFound,
     items: &mut Vec<Item>,
 ) -> Result<bool, AllocError>
-    ensures { IfOk result (λ known. joined_items (Some items.old.items) (items_of_pick (option_copied columns.entry) (pick_of pick.entry)) ≡ (if known then Some items.new.items else None)) }
+    ensures { IfOk result (λ known. joined_items (Some items.old.items) (items_of_pick (option_copied columns.entry) (typed_pick all_sets (pick_of pick.entry))) ≡ (if known then Some items.new.items else None)) }
 {
     match pick.form {
         Picked::All => match columns {
@@ -296,10 +300,30 @@ fn push_items(
                 Ok(true)
             }
         },
-        Picked::Plain | Picked::Set => {
+        Picked::Plain => {
             items.push(item_of(pick.found))?;
             Ok(true)
         }
+        Picked::Set => {
+            items.push(set_item(all_sets, pick.found))?;
+            Ok(true)
+        }
+    }
+}
+
+// The item of a set function, which has a type only where all items are set functions.
+fn set_item(all_sets: bool, found: Found) -> Item
+    ensures place { result.place ≡ found.place }
+    ensures shape { result.shape ≡ (if all_sets then (as_value found).shape else None) }
+{
+    let shape = if all_sets {
+        as_value(found).shape
+    } else {
+        None
+    };
+    Item {
+        place: found.place,
+        shape,
     }
 }
 

@@ -321,8 +321,15 @@ abbrev pub items_in : Option Columns → List PickFound → Option (List Item)
 items_in columns [] = Some []
 items_in columns (p ∷ ps) = joined_items (items_of_pick columns p) (items_in columns ps)
 
+-- a set function beside other items is at fault, and so has no type
+abbrev pub without_type : PickFound → PickFound
+without_type p = record { form = p.form; found = record { place = p.found.place; fault = p.found.fault; shape = None }; alias = p.alias }
+
+abbrev pub typed_pick : Bool → PickFound → PickFound
+typed_pick all_sets p = if is_set p.form && not all_sets then without_type p else p
+
 abbrev pub items_of : QueryFound → Option (List Item)
-items_of q = items_in q.columns q.picks
+items_of q = items_in q.columns (map (typed_pick (list_all (λ p. is_set p.form) q.picks)) q.picks)
 
 -- whether there may be so many
 abbrev pub may_be : ℕ → Option (List Item) → Bool
