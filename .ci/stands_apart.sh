@@ -26,28 +26,28 @@ for crate in psm_exprcode psm_table; do forbid "$crate" psm_tree; done
 for crate in psm_tablecode psm_store psm_undostore psm_query; do forbid "$crate" psm_tree; done
 forbid psm_tablecode psm_store
 forbid psm_code psm_store psm_tree psm_resolved psm_io
-for crate in psm_scope psm_rules psm_check_expr psm_known psm_check_stmt; do forbid "$crate" psm_io psm_exprcode psm_table; done
+for crate in psm_scope psm_rules psm_check_expr psm_symbols psm_check_stmt; do forbid "$crate" psm_io psm_exprcode psm_table; done
 forbid psm_scope psm_tree
 forbid psm_resolved psm_tree psm_scope psm_store
 for crate in psm_resolve_expr psm_declare psm_resolve; do forbid "$crate" psm_io psm_check_stmt psm_store psm_meaning; done
 forbid psm_declare psm_resolve psm_table
 forbid psm_check_script psm_check_stmt psm_resolve psm_store psm_io
 forbid psm_dml psm_query psm_tree
-forbid psm_accept psm_right psm_store psm_io
-forbid psm_sound psm_tree psm_code psm_store psm_io
-forbid psm_lower psm_tree psm_scope psm_store psm_io
-forbid psm_ends psm_tree psm_resolved psm_store psm_io
-forbid psm_emit psm_tree psm_scope psm_store psm_io
-forbid psm_right psm_tree psm_scope psm_store psm_io
+forbid psm_checker_sound psm_codegen_wellformed psm_store psm_io
+forbid psm_typing psm_tree psm_code psm_store psm_io
+forbid psm_simulation psm_tree psm_scope psm_store psm_io
+forbid psm_termination psm_tree psm_resolved psm_store psm_io
+forbid psm_codegen psm_tree psm_scope psm_store psm_io
+forbid psm_codegen_wellformed psm_tree psm_scope psm_store psm_io
 forbid psm_verify psm_tree psm_resolved psm_meaning psm_store psm_io
 forbid psm_cursor psm_code psm_tree psm_undostore psm_io
 for crate in psm_unwind psm_machine; do forbid $crate psm_tree psm_resolved psm_meaning psm_undostore psm_io; done
 forbid psm_cond psm_tree psm_table
 forbid psm_machine psm_scope
-forbid psm_session psm_tree psm_lower psm_emit psm_undostore
-forbid psm_proper psm_tree psm_scope psm_store psm_io
+forbid psm_session psm_tree psm_simulation psm_codegen psm_undostore
+forbid psm_wellformed psm_tree psm_scope psm_store psm_io
 forbid psm_script_code psm_check_stmt psm_io psm_undostore
-forbid psm_plays psm_tree psm_scope psm_machine psm_io
+forbid psm_session_simulation psm_tree psm_scope psm_machine psm_io
 forbid psm_build psm_undostore psm_verify
 # shellcheck disable=SC2086
 {
@@ -55,8 +55,8 @@ forbid psm_build psm_undostore psm_verify
     # The program knows arguments, files, stores and statuses: no token, value or tree, and none of the crates of which a second
     # checker, code generator or engine could be made.
     forbid psm psm_token psm_value psm_text psm_num psm_grammar psm_tree psm_resolved psm_machine $parsers
-    forbid psm psm_scope psm_rules psm_check_expr psm_known psm_check_stmt psm_check_script psm_resolve_expr psm_declare psm_resolve
-    forbid psm psm_emit psm_verify psm_exprcode psm_tablecode psm_store psm_query psm_dml psm_cursor psm_unwind psm_script_code
+    forbid psm psm_scope psm_rules psm_check_expr psm_symbols psm_check_stmt psm_check_script psm_resolve_expr psm_declare psm_resolve
+    forbid psm psm_codegen psm_verify psm_exprcode psm_tablecode psm_store psm_query psm_dml psm_cursor psm_unwind psm_script_code
 }
 forbid psm_spell psm_grammar psm_tree
 forbid psm_io psm_value

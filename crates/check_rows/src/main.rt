@@ -1,7 +1,7 @@
 //! Reads module files from standard input and prints the first fault of each.
 //!
 //! A row is a name, ` | `, and the text of a module file in one line, in which `\n` stands for the end
-//! of a line, `\t` for a tab, `\r` for a carriage return and `\b` for a backslash. Behind the name stands what was found: the line and the
+//! of a line, `\t` for a tab, `\r` for a carriage return and `\b` for a backslash. After the name stands what was found: the line and the
 //! column of the first fault with its code and words, or `accepted`. A line that is empty or begins with `#` is printed as it is.
 #![tactic(auto)]
 

@@ -1,4 +1,4 @@
-//! What is printed behind a row.
+//! What is printed after a row.
 ghost use Rattle.std.specs.Prelude.{IsTrue};
 ghost use Rattle.psm_exprcode.specs.Kinds.{are_of};
 ghost use Rattle.psm_exprcode.specs.WellFormed.{does_fit};

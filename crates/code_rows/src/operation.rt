@@ -60,7 +60,7 @@ fn plain_test(word: &str) -> Option<Op> {
     })
 }
 
-// One with a number behind a point.
+// One with a number after a point.
 fn numbered(word: &str) -> Option<Op> {
     let (name, number) = word.split_once('.')?;
     let number = number.parse::<u32>().ok()?;

@@ -50,7 +50,7 @@ fn read_stack(letters: &str, stack: &mut Vec<Letter>) -> Result<(), AllocError> 
     Ok(())
 }
 
-// One letter, or so many of it.
+// One letter, or n of it.
 fn put(stack: &mut Vec<Letter>, letter: Letter, count: u16) -> Result<(), AllocError> {
     for _ in 0..count.max(1) {
         stack.push(letter)?;

@@ -1,27 +1,27 @@
--- What is due is answered, where nothing outside fails.
+-- What is expected is answered, where nothing outside fails.
 use Rattle.std.proofs.Common.{◌≡◌, ℕ, ◌<◌, ◌≤◌, List, length, Option, Some, None, refl, ap, ◌∙◌, subst, inl, inr, arith}
 use Rattle.std.specs.Prelude.{◌⊎◌, IfSome, MatchOption}
 use Rattle.psm_build.specs.Once.{Exclusive, IsEnd}
-use Rattle.psm_build.specs.Program.{ComesTo, IsModuleFault, IsModuleFile, IsScriptFault, IsScriptFile}
+use Rattle.psm_build.specs.Program.{EndsIn, IsModuleFault, IsModuleFile, IsScriptFault, IsScriptFile}
 use Rattle.psm_build.specs.declared.fault.Fault.{Fault}
 use Rattle.psm_build.specs.declared.fault.BuildFault.{BuildFault}
 use Rattle.psm_build.specs.declared.fault.BuildFault.TheVariants as builds
 use Rattle.psm_meaning.specs.Session.{Session}
 use Rattle.psm_session.specs.Put.{Sunk}
-use Rattle.psm.specs.Contract.{Asked, IsPut, IsBroken, IsCut, RunsOut, Stayed, Answers, Completes}
+use Rattle.psm.specs.Contract.{Asked, IsPut, IsPutInPart, IsCut, RunsOut, Stayed, Answers, Completes}
 use Rattle.psm.specs.Fetches.{Fetches, AreRead, Finds}
 use Rattle.psm.specs.Found.{most_bytes, Found, Unread, Long, Refused, Accepted, FileIs, ScriptIs, FilesAre}
 use Rattle.psm.specs.Message.{usage, too_long, refusal_line}
 use Rattle.psm.specs.Prepared.{found_of}
-use Rattle.psm.specs.Program.{Owed, with_line, due}
+use Rattle.psm.specs.Program.{Expected, with_line, expected_of}
 use Rattle.psm.specs.Report.{PutsLine, Reports, Runs}
 use Rattle.psm.specs.Words.{Files, files_of}
 use Rattle.psm.specs.declared.prepare.Refusal.{Refusal}
 use Rattle.psm.specs.declared.prepare.Which.TheVariants as which
 use Rattle.psm.specs.declared.status.Status.{Status}
 use Rattle.psm.specs.declared.status.Status.TheVariants as status
-use Rattle.psm.proofs.Answering.{reported, ran, session_due}
-use Rattle.psm.proofs.Fetched.{told_same}
+use Rattle.psm.proofs.Answering.{is_reported, ran, session_due}
+use Rattle.psm.proofs.Fetched.{reported_same}
 
 -- ---- at most one thing is found
 
@@ -52,8 +52,8 @@ module _ {A : Type 0} (IsFile : Type 0) (IsFault : ℕ → ℕ → Fault → Typ
 
 -- what is so of the bytes of files, whoever reads them
 module _ (modules : (ms : List ℕ) → Exclusive (IsModuleFile ms) (IsModuleFault ms)) (scripts : (ms ss : List ℕ) → Exclusive (IsScriptFile ms ss) (IsScriptFault ms ss))
-    (sessions : (ms ss : List ℕ) (turns : ℕ) (a b : Session) → ComesTo ms ss turns a → ComesTo ms ss turns b → a ≡ b)
-    (ends : (ms ss : List ℕ) (turns : ℕ) (s : Session) → ComesTo ms ss turns s → IsEnd s.end) where
+    (sessions : (ms ss : List ℕ) (turns : ℕ) (a b : Session) → EndsIn ms ss turns a → EndsIn ms ss turns b → a ≡ b)
+    (ends : (ms ss : List ℕ) (turns : ℕ) (s : Session) → EndsIn ms ss turns s → IsEnd s.end) where
   script_once : (ms ss : List ℕ) (turns : ℕ) (x y : Found Session) → ScriptIs ms ss turns x → ScriptIs ms ss turns y → x ≡ y
   script_once ms ss turns = file_once _ _ _ (scripts ms ss) (λ a h. h.script) (sessions ms ss turns) ss
 
@@ -65,8 +65,8 @@ module _ (modules : (ms : List ℕ) → Exclusive (IsModuleFile ms) (IsModuleFau
   module _ (fetches : Fetches) (f : Files) (ms ss : List ℕ) (hm : fetches.held f.for_module ≡ Some ms) (hs : fetches.held f.for_script ≡ Some ss) where
     read_same : (x y : Found (Found Session)) → AreRead fetches f x → FilesAre ms ss f.turns y → x ≡ y
     read_same x y h k =
-        let m : ms ≡ h.ms = told_same (fetches.held f.for_module) h.ms ms hm h.told_module in
-        let n : ss ≡ h.ss = told_same (fetches.held f.for_script) h.ss ss hs h.told_script in
+        let m : ms ≡ h.ms = reported_same (fetches.held f.for_module) h.ms ms hm h.reported_module in
+        let n : ss ≡ h.ss = reported_same (fetches.held f.for_script) h.ss ss hs h.reported_script in
         files_once h.ms h.ss f.turns x y h.files_are (subst (λ (b : List ℕ). FilesAre h.ms b f.turns y) n (subst (λ (b : List ℕ). FilesAre b ss f.turns y) m k))
 
     found_same : Stayed (fetches.before f.for_module) (fetches.after f.for_module) → Stayed (fetches.before f.for_script) (fetches.after f.for_script)
@@ -81,15 +81,15 @@ module _ (modules : (ms : List ℕ) → Exclusive (IsModuleFile ms) (IsModuleFau
 
   -- ---- answers
 
-  -- something is due for two files
-  found_due : (f : Files) (ms ss : List ℕ) (x : Found (Found Session)) → FilesAre ms ss f.turns x → (owed : Owed) × (due f x ≡ Some owed)
-  found_due f ms ss Unread h = absurd h
-  found_due f ms ss Long h = (with_line status.TooLong (too_long f.for_module), refl)
-  found_due f ms ss (Refused l c e) h = (with_line status.ModuleRefused (refusal_line which.Module l c e), refl)
-  found_due f ms ss (Accepted Unread) h = absurd h.1.1
-  found_due f ms ss (Accepted Long) h = (with_line status.TooLong (too_long f.for_script), refl)
-  found_due f ms ss (Accepted (Refused l c e)) h = (with_line status.ScriptRefused (refusal_line which.Script l c e), refl)
-  found_due f ms ss (Accepted (Accepted s)) h = let d = session_due s (ends ms ss f.turns s h.1.1.1) in (d.owed, d.owed_is)
+  -- something is expected for two files
+  found_expected : (f : Files) (ms ss : List ℕ) (x : Found (Found Session)) → FilesAre ms ss f.turns x → (expected : Expected) × (expected_of f x ≡ Some expected)
+  found_expected f ms ss Unread h = absurd h
+  found_expected f ms ss Long h = (with_line status.TooLong (too_long f.for_module), refl)
+  found_expected f ms ss (Refused l c e) h = (with_line status.ModuleRefused (refusal_line which.Module l c e), refl)
+  found_expected f ms ss (Accepted Unread) h = absurd h.1.1
+  found_expected f ms ss (Accepted Long) h = (with_line status.TooLong (too_long f.for_script), refl)
+  found_expected f ms ss (Accepted (Refused l c e)) h = (with_line status.ScriptRefused (refusal_line which.Script l c e), refl)
+  found_expected f ms ss (Accepted (Accepted s)) h = let d = session_due s (ends ms ss f.turns s h.1.1.1) in (d.expected, d.expected_is)
 
   no_files : (words : List (List ℕ)) (f : Files) → files_of words ≡ Some f → files_of words ≡ None → ⊥
   no_files words f e n = cc
@@ -98,53 +98,53 @@ module _ (modules : (ms : List ℕ) → Exclusive (IsModuleFile ms) (IsModuleFau
   same_files words f g e e' = cc
 
   module _ (asked : Asked) (sunk : Sunk) (answer : Status) where
-    line_answers : (owed : Owed) → PutsLine owed sunk answer → Stayed sunk.faults_before sunk.faults_after → Answers owed.status answer
-    line_answers owed (inl p) stayed = inl p.answer_is
-    line_answers owed (inr (inl p)) stayed = absurd (stayed p.put.rose)
-    line_answers owed (inr (inr p)) stayed = inr p.answer_is
+    line_answers : (expected : Expected) → PutsLine expected sunk answer → Stayed sunk.faults_before sunk.faults_after → Answers expected.status answer
+    line_answers expected (inl p) stayed = inl p.answer_is
+    line_answers expected (inr (inl p)) stayed = absurd (stayed p.put.rose)
+    line_answers expected (inr (inr p)) stayed = inr p.answer_is
 
-    put_answers : (owed : Owed) → IsPut owed sunk answer ⊎ IsBroken owed sunk answer ⊎ IsCut owed sunk answer → Stayed sunk.faults_before sunk.faults_after → Answers owed.status answer
-    put_answers owed (inl p) stayed = inl p.answer_is
-    put_answers owed (inr (inl p)) stayed = absurd (stayed p.put.rose)
-    put_answers owed (inr (inr p)) stayed = inr p.answer_is
+    put_answers : (expected : Expected) → IsPut expected sunk answer ⊎ IsPutInPart expected sunk answer ⊎ IsCut expected sunk answer → Stayed sunk.faults_before sunk.faults_after → Answers expected.status answer
+    put_answers expected (inl p) stayed = inl p.answer_is
+    put_answers expected (inr (inl p)) stayed = absurd (stayed p.put.rose)
+    put_answers expected (inr (inr p)) stayed = inr p.answer_is
 
     pub completes_usage : files_of asked.words ≡ None → PutsLine (with_line status.Usage usage) sunk answer → Completes asked sunk answer
     completes_usage none puts = record {
       misused = λ stayed n. line_answers (with_line status.Usage usage) puts stayed;
-      told = λ f ms ss found stayed s t named hm hs files_are. absurd (no_files asked.words f named none);
+      reported = λ f ms ss found stayed s t named hm hs files_are. absurd (no_files asked.words f named none);
     }
 
     memory_completes : answer ≡ status.Memory → Completes asked sunk answer
     memory_completes e = record {
       misused = λ stayed n. inr e;
-      told = λ f ms ss found stayed s t named hm hs files_are.
-          let d = found_due f ms ss found files_are in record { owed = d.0; owed_is = d.1; answers = inr e };
+      reported = λ f ms ss found stayed s t named hm hs files_are.
+          let d = found_expected f ms ss found files_are in record { expected = d.0; expected_is = d.1; answers = inr e };
     }
 
-    -- what is due for what was found is answered
-    found_completes : (f : Files) (x : Found (Found Session)) (owed : Owed) → files_of asked.words ≡ Some f → Finds asked.fetches f x → due f x ≡ Some owed
-        → (Stayed sunk.faults_before sunk.faults_after → Answers owed.status answer) → Completes asked sunk answer
-    found_completes f x owed named finds is answers = record {
+    -- what is expected for what was found is answered
+    found_completes : (f : Files) (x : Found (Found Session)) (expected : Expected) → files_of asked.words ≡ Some f → Finds asked.fetches f x → expected_of f x ≡ Some expected
+        → (Stayed sunk.faults_before sunk.faults_after → Answers expected.status answer) → Completes asked sunk answer
+    found_completes f x expected named finds is answers = record {
       misused = λ stayed n. absurd (no_files asked.words f named n);
-      told = λ g ms ss y stayed s t named' hm hs files_are.
+      reported = λ g ms ss y stayed s t named' hm hs files_are.
           let e : f ≡ g = same_files asked.words f g named named' in
           let so : Finds asked.fetches g x = subst (λ (z : Files). Finds asked.fetches z x) e finds in
           let same : x ≡ y = found_same asked.fetches g ms ss hm hs s t x y so files_are in
           record {
-            owed = owed;
-            owed_is = subst (λ (z : Found (Found Session)). due g z ≡ Some owed) same (subst (λ (z : Files). due z x ≡ Some owed) e is);
+            expected = expected;
+            expected_is = subst (λ (z : Found (Found Session)). expected_of g z ≡ Some expected) same (subst (λ (z : Files). expected_of z x ≡ Some expected) e is);
             answers = answers stayed;
           };
     }
 
     pub completes_refusal : (f : Files) (refusal : Refusal) → files_of asked.words ≡ Some f → IfSome (found_of refusal) (Finds asked.fetches f) → Reports refusal f sunk answer → Completes asked sunk answer
-    completes_refusal f refusal named finds reports = by (found_of refusal) finds (reported f sunk answer refusal reports)
+    completes_refusal f refusal named finds reports = by (found_of refusal) finds (is_reported f sunk answer refusal reports)
       where
-        by : (o : Option (Found (Found Session))) → IfSome o (Finds asked.fetches f) → MatchOption o (RunsOut sunk answer) (λ found. (owed : Owed) × (due f found ≡ Some owed) × PutsLine owed sunk answer) → Completes asked sunk answer
+        by : (o : Option (Found (Found Session))) → IfSome o (Finds asked.fetches f) → MatchOption o (RunsOut sunk answer) (λ found. (expected : Expected) × (expected_of f found ≡ Some expected) × PutsLine expected sunk answer) → Completes asked sunk answer
         by None h r = memory_completes r.answer_is
         by (Some found) h puts = found_completes f found puts.0 named h puts.1 (line_answers puts.0 puts.2)
 
     pub completes_run : (f : Files) (s : Session) → files_of asked.words ≡ Some f → Finds asked.fetches f (Accepted (Accepted s)) → IsEnd s.end → Runs s sunk answer → Completes asked sunk answer
     completes_run f s named finds over runs =
         let r = ran s sunk answer over runs in
-        found_completes f (Accepted (Accepted s)) r.owed named finds r.owed_is (put_answers r.owed r.put)
+        found_completes f (Accepted (Accepted s)) r.expected named finds r.expected_is (put_answers r.expected r.put)

@@ -13,19 +13,19 @@ stay_all before after name at others n = here (pointwise nat_eq n name) (told_te
     here true e = ap after e ∙ at ∙ ap before (sym e)
     here false ne = others n ne
 
--- a file of which more than so many bytes were counted
-pub long_file : (told : Option (List ℕ)) (counted most : ℕ) → IfSome told (λ held. counted ≤ length held) → most < counted → (bytes : List ℕ) × Tells told bytes × (most < length bytes)
+-- a file of which more than n bytes were counted
+pub long_file : (reported : Option (List ℕ)) (counted most : ℕ) → IfSome reported (λ held. counted ≤ length held) → most < counted → (bytes : List ℕ) × Tells reported bytes × (most < length bytes)
 long_file None counted most h lt =
     let zeros : List ℕ = replicate counted 0 in
     let e : length zeros ≡ counted = length-replicate counted 0 in
     (zeros, tt, omega (arith, e))
 long_file (Some held) counted most h lt = (held, refl, omega arith)
 
--- contents as far as they are told
-pub told_or : (told : Option (List ℕ)) (other : List ℕ) → Tells told (unwrap_or told other)
-told_or None other = tt
-told_or (Some held) other = refl
+-- contents as far as they are reported
+pub reported_or : (reported : Option (List ℕ)) (other : List ℕ) → Tells reported (unwrap_or reported other)
+reported_or None other = tt
+reported_or (Some held) other = refl
 
-pub told_same : (told : Option (List ℕ)) (bytes held : List ℕ) → told ≡ Some held → Tells told bytes → held ≡ bytes
-told_same None bytes held e h = absurd cc
-told_same (Some x) bytes held e h = let p : held ≡ x = cc in p ∙ h
+pub reported_same : (reported : Option (List ℕ)) (bytes held : List ℕ) → reported ≡ Some held → Tells reported bytes → held ≡ bytes
+reported_same None bytes held e h = absurd cc
+reported_same (Some x) bytes held e h = let p : held ≡ x = cc in p ∙ h

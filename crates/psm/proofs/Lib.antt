@@ -1,6 +1,6 @@
 pub mod Fetched
 pub mod Numbers
-pub mod Played
+pub mod Outcomes
 pub mod Preparing
 pub mod Answering
 pub mod Completeness

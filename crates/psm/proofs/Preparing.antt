@@ -4,7 +4,7 @@ use Rattle.std.specs.Prelude.{unwrap_or}
 use Rattle.psm_io.specs.Count.{Rose}
 use Rattle.psm_code.specs.declared.code.RawCode.{RawCode}
 use Rattle.psm_session.specs.declared.command.ScriptCode.{ScriptCode}
-use Rattle.psm_build.specs.Program.{StandsFor, session_of, tables_behind}
+use Rattle.psm_build.specs.Program.{StandsFor, session_of, tables_after}
 use Rattle.psm_build.specs.Building.{Builds, BuildsOver}
 use Rattle.psm_build.specs.declared.fault.BuildFault.{BuildFault}
 use Rattle.psm_build.specs.declared.fault.BuildFault.TheVariants as builds
@@ -14,7 +14,7 @@ use Rattle.psm.specs.Words.{Files}
 use Rattle.psm.specs.declared.prepare.Which.TheVariants as which
 use Rattle.psm.specs.declared.prepare.Refusal.{Refusal}
 use Rattle.psm.specs.declared.prepare.Refusal.TheVariants.{Unread, TooLong, Refused, Memory}
-use Rattle.psm.proofs.Fetched.{told_or}
+use Rattle.psm.proofs.Fetched.{reported_or}
 
 -- the fetches of one step
 abbrev pub between : (List ℕ → Option (List ℕ)) → (List ℕ → ℕ) → (List ℕ → ℕ) → Fetches
@@ -23,9 +23,9 @@ between held before after = record { held = held; before = before; after = after
 -- ---- the module
 
 -- what the build refuses is refused so
-pub module_told : (ms : List ℕ) (fault : BuildFault) → Builds ms (Err fault) → GetsCode ms (Err (refusal_of which.Module fault))
-module_told ms (builds.Refused line column fault) h = (refl, h)
-module_told ms builds.Memory h = tt
+pub module_reported : (ms : List ℕ) (fault : BuildFault) → Builds ms (Err fault) → GetsCode ms (Err (refusal_of which.Module fault))
+module_reported ms (builds.Refused line column fault) h = (refl, h)
+module_reported ms builds.Memory h = tt
 
 pub module_unread : (fetches : Fetches) (f : Files) (e : Refusal) → Gets fetches f.for_module which.Module (Err e) → Prepares fetches f (Err e)
 module_unread fetches f (Unread which.Module) h = h.1
@@ -33,8 +33,8 @@ module_unread fetches f (Unread which.Script) h = absurd cc
 module_unread fetches f (TooLong which.Module) h = record {
   ms = h.1.bytes;
   ss = unwrap_or (fetches.held f.for_script) [];
-  told_module = h.1.told;
-  told_script = told_or (fetches.held f.for_script) [];
+  reported_module = h.1.reported;
+  reported_script = reported_or (fetches.held f.for_script) [];
   files_are = h.1.long;
   none_failed = h.1.none_failed;
 }
@@ -48,8 +48,8 @@ module_refused fetches f ms (TooLong w) read h = absurd h
 module_refused fetches f ms (Refused which.Module line column fault) read h = record {
   ms = ms;
   ss = unwrap_or (fetches.held f.for_script) [];
-  told_module = read.told;
-  told_script = told_or (fetches.held f.for_script) [];
+  reported_module = read.reported;
+  reported_script = reported_or (fetches.held f.for_script) [];
   files_are = (read.short, h.1);
   none_failed = read.none_failed;
 }
@@ -58,9 +58,9 @@ module_refused fetches f ms Memory read h = tt
 
 -- ---- the script
 
-pub script_told : (ms ss : List ℕ) (code : RawCode) (fault : BuildFault) → BuildsOver ms ss (Err fault) → GetsScript ms code ss (Err (refusal_of which.Script fault))
-script_told ms ss code (builds.Refused line column fault) h = (refl, h)
-script_told ms ss code builds.Memory h = tt
+pub script_reported : (ms ss : List ℕ) (code : RawCode) (fault : BuildFault) → BuildsOver ms ss (Err fault) → GetsScript ms code ss (Err (refusal_of which.Script fault))
+script_reported ms ss code (builds.Refused line column fault) h = (refl, h)
+script_reported ms ss code builds.Memory h = tt
 
 both_stay : (before mid after : List ℕ → ℕ) → ((n : List ℕ) → mid n ≡ before n) → ((n : List ℕ) → after n ≡ mid n) → (n : List ℕ) → after n ≡ before n
 both_stay before mid after first second n = second n ∙ first n
@@ -72,15 +72,15 @@ unread_from held held' before mid after name first h = record {
   others = λ other n. h.others other n ∙ first other;
 }
 
-told_from : (held held' : List ℕ → Option (List ℕ)) (name bytes : List ℕ) → ((n : List ℕ) → held' n ≡ held n) → Tells (held' name) bytes → Tells (held name) bytes
-told_from held held' name bytes same h = subst (λ (o : Option (List ℕ)). Tells o bytes) (same name) h
+reported_from : (held held' : List ℕ → Option (List ℕ)) (name bytes : List ℕ) → ((n : List ℕ) → held' n ≡ held n) → Tells (held' name) bytes → Tells (held name) bytes
+reported_from held held' name bytes same h = subst (λ (o : Option (List ℕ)). Tells o bytes) (same name) h
 
 module _ (held held' : List ℕ → Option (List ℕ)) (before mid after : List ℕ → ℕ) (f : Files) (ms : List ℕ) (code : RawCode)
     (read : IsRead (between held before mid) f.for_module ms) (is : StandsFor ms code) (same : (n : List ℕ) → held' n ≡ held n) where
   pub script_unread : (e : Refusal) → Gets (between held' mid after) f.for_script which.Script (Err e) → Prepares (between held before after) f (Err e)
   script_unread (Unread which.Script) h = record {
     ms = ms;
-    told_module = read.told;
+    reported_module = read.reported;
     short = read.short;
     is_module = is.file;
     unread = unread_from held held' before mid after f.for_script read.none_failed h.1;
@@ -89,8 +89,8 @@ module _ (held held' : List ℕ → Option (List ℕ)) (before mid after : List 
   script_unread (TooLong which.Script) h = record {
     ms = ms;
     ss = h.1.bytes;
-    told_module = read.told;
-    told_script = told_from held held' f.for_script h.1.bytes same h.1.told;
+    reported_module = read.reported;
+    reported_script = reported_from held held' f.for_script h.1.bytes same h.1.reported;
     files_are = (read.short, (is.file, h.1.long));
     none_failed = both_stay before mid after read.none_failed h.1.none_failed;
   }
@@ -105,8 +105,8 @@ module _ (held held' : List ℕ → Option (List ℕ)) (before mid after : List 
   script_refused ss (Refused which.Script line column fault) second h = record {
     ms = ms;
     ss = ss;
-    told_module = read.told;
-    told_script = told_from held held' f.for_script ss same second.told;
+    reported_module = read.reported;
+    reported_script = reported_from held held' f.for_script ss same second.reported;
     files_are = (read.short, (is.file, (second.short, h.1)));
     none_failed = both_stay before mid after read.none_failed second.none_failed;
   }
@@ -116,15 +116,15 @@ module _ (held held' : List ℕ → Option (List ℕ)) (before mid after : List 
   script_ready ss s second h =
       record {
         session = session_of h.script f.turns;
-        behind = tables_behind h.script f.turns;
+        following = tables_after h.script f.turns;
         finds = record {
           ms = ms;
           ss = ss;
-          told_module = read.told;
-          told_script = told_from held held' f.for_script ss same second.told;
+          reported_module = read.reported;
+          reported_script = reported_from held held' f.for_script ss same second.reported;
           files_are = (read.short, (is.file, (second.short, record { script = h.script; session_is = refl })));
           none_failed = both_stay before mid after read.none_failed second.none_failed;
         };
         runs = h.can;
-        plays = h.plays f.turns;
+        runs_as = h.runs_as f.turns;
       }

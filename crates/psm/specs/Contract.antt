@@ -7,12 +7,12 @@ use Rattle.psm_meaning.specs.Session.{Session}
 use Rattle.psm.specs.Fetches.{Fetches, NoneFailed, Finds}
 use Rattle.psm.specs.Found.{Found, FilesAre}
 use Rattle.psm.specs.Message.{usage}
-use Rattle.psm.specs.Program.{Owed, with_line, due}
+use Rattle.psm.specs.Program.{Expected, with_line, expected_of}
 use Rattle.psm.specs.Words.{Files, files_of}
 use Rattle.psm.specs.declared.status.Status.{Status}
 use Rattle.psm.specs.declared.status.Status.TheVariants as status
 
--- ---- what is owed
+-- ---- what is expected
 
 -- the words, and the fetches
 pub record Asked : Type 0 where
@@ -23,41 +23,41 @@ abbrev pub asked_of : List (String Global) → Fetches → Asked
 asked_of words fetches = record { words = map string_bytes words; fetches = fetches }
 
 -- the words have no form
-pub record IsMisused (asked : Asked) (owed : Owed) : Type 0 where
+pub record IsMisused (asked : Asked) (expected : Expected) : Type 0 where
   pub unnamed : files_of asked.words ≡ None
   pub none_failed : NoneFailed asked.fetches
-  pub owed_is : owed ≡ with_line status.Usage usage
+  pub expected_is : expected ≡ with_line status.Usage usage
 
--- the words name two files, for what was found of which this is due
-pub record IsDue (asked : Asked) (owed : Owed) : Type 0 where
+-- the words name two files, for what was found of which this is expected
+pub record IsExpected (asked : Asked) (expected : Expected) : Type 0 where
   pub files : Files
   pub named : files_of asked.words ≡ Some files
   pub found : Found (Found Session)
   pub finds : Finds asked.fetches files found
-  pub owed_is : due files found ≡ Some owed
+  pub expected_is : expected_of files found ≡ Some expected
 
 -- ---- the answer
 
--- the status that is owed is answered, and all its pieces are written
-pub record IsPut (owed : Owed) (sunk : Sunk) (answer : Status) : Type 0 where
-  pub answer_is : answer ≡ owed.status
-  pub put : PutAll sunk owed.pieces
+-- the status that is expected is answered, and all its pieces are written
+pub record IsPut (expected : Expected) (sunk : Sunk) (answer : Status) : Type 0 where
+  pub answer_is : answer ≡ expected.status
+  pub put : PutAll sunk expected.pieces
 
 -- a put failed, and a prefix of the pieces is written
-pub record IsBroken (owed : Owed) (sunk : Sunk) (answer : Status) : Type 0 where
+pub record IsPutInPart (expected : Expected) (sunk : Sunk) (answer : Status) : Type 0 where
   pub answer_is : answer ≡ status.WriteFault
-  pub put : PutSome sunk owed.pieces
+  pub put : PutSome sunk expected.pieces
 
--- memory ran out, and the first so many of the pieces are written
-pub record IsCut (owed : Owed) (sunk : Sunk) (answer : Status) : Type 0 where
+-- memory ran out, and the first n of the pieces are written
+pub record IsCut (expected : Expected) (sunk : Sunk) (answer : Status) : Type 0 where
   pub answer_is : answer ≡ status.Memory
-  pub put : PutFirst sunk owed.pieces
+  pub put : PutFirst sunk expected.pieces
 
--- something was owed, with its cause, and was put so
+-- something was expected, with its cause, and was put so
 pub record Settles (asked : Asked) (sunk : Sunk) (answer : Status) : Type 0 where
-  pub owed : Owed
-  pub cause : IsMisused asked owed ⊎ IsDue asked owed
-  pub put : IsPut owed sunk answer ⊎ IsBroken owed sunk answer ⊎ IsCut owed sunk answer
+  pub expected : Expected
+  pub cause : IsMisused asked expected ⊎ IsExpected asked expected
+  pub put : IsPut expected sunk answer ⊎ IsPutInPart expected sunk answer ⊎ IsCut expected sunk answer
 
 -- memory ran out before, and nothing is written
 pub record RunsOut (sunk : Sunk) (answer : Status) : Type 0 where
@@ -74,21 +74,21 @@ Says asked sunk answer = Settles asked sunk answer ⊎ RunsOut sunk answer
 abbrev pub Stayed : ℕ → ℕ → Type 0
 Stayed before after = Rose before after → ⊥
 
--- the status that is due, or want of memory
+-- the status that is expected, or out of memory
 abbrev pub Answers : Status → Status → Type 0
-Answers due_status answer = (answer ≡ due_status) ⊎ (answer ≡ status.Memory)
+Answers expected_status answer = (answer ≡ expected_status) ⊎ (answer ≡ status.Memory)
 
--- something is due for what was found of the files, and its status is answered
+-- something is expected for what was found of the files, and its status is answered
 pub record AnswersFor (f : Files) (found : Found (Found Session)) (answer : Status) : Type 0 where
-  pub owed : Owed
-  pub owed_is : due f found ≡ Some owed
-  pub answers : Answers owed.status answer
+  pub expected : Expected
+  pub expected_is : expected_of f found ≡ Some expected
+  pub answers : Answers expected.status answer
 
--- Words without a form are answered Usage. Where the words name two files that the shelf tells, something is due for their contents, and
+-- Words without a form are answered Usage. Where the words name two files that the shelf tells, something is expected for their contents, and
 -- its status is answered. Both hold where no put failed, the second where no fetch of the two names failed.
 pub record Completes (asked : Asked) (sunk : Sunk) (answer : Status) : Type 0 where
   pub misused : Stayed sunk.faults_before sunk.faults_after → files_of asked.words ≡ None → Answers status.Usage answer
-  pub told : (f : Files) (ms ss : List ℕ) (found : Found (Found Session))
+  pub reported : (f : Files) (ms ss : List ℕ) (found : Found (Found Session))
       → Stayed sunk.faults_before sunk.faults_after
       → Stayed (asked.fetches.before f.for_module) (asked.fetches.after f.for_module)
       → Stayed (asked.fetches.before f.for_script) (asked.fetches.after f.for_script)

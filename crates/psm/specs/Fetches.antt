@@ -18,7 +18,7 @@ fetches_of held faults old new = record { held = held old; before = faults old; 
 
 -- the contents of a file are those that the shelf tells, where it tells them
 abbrev pub Tells : Option (List ℕ) → List ℕ → Type 0
-Tells told bytes = IfSome told (λ held. held ≡ bytes)
+Tells reported bytes = IfSome reported (λ held. held ≡ bytes)
 
 -- no fetch failed
 abbrev pub NoneFailed : Fetches → Type 0
@@ -32,7 +32,7 @@ pub record IsUnread (fetches : Fetches) (name : List ℕ) : Type 0 where
 -- the module file was read and is accepted, and then the script could not be read
 pub record IsScriptUnread (fetches : Fetches) (f : Files) : Type 0 where
   pub ms : List ℕ
-  pub told_module : Tells (fetches.held f.for_module) ms
+  pub reported_module : Tells (fetches.held f.for_module) ms
   pub short : length ms ≤ most_bytes
   pub is_module : IsModuleFile ms
   pub unread : IsUnread fetches f.for_script
@@ -41,8 +41,8 @@ pub record IsScriptUnread (fetches : Fetches) (f : Files) : Type 0 where
 pub record AreRead (fetches : Fetches) (f : Files) (found : Found (Found Session)) : Type 0 where
   pub ms : List ℕ
   pub ss : List ℕ
-  pub told_module : Tells (fetches.held f.for_module) ms
-  pub told_script : Tells (fetches.held f.for_script) ss
+  pub reported_module : Tells (fetches.held f.for_module) ms
+  pub reported_script : Tells (fetches.held f.for_script) ss
   pub files_are : FilesAre ms ss f.turns found
   pub none_failed : NoneFailed fetches
 

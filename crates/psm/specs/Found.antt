@@ -1,6 +1,6 @@
 -- What two files are found to be, by their bytes.
 use Rattle.std.specs.Prelude.{ℕ, ◌<◌, ◌≤◌, List, length}
-use Rattle.psm_build.specs.Program.{IsModuleFile, IsModuleFault, IsScriptFault, ComesTo}
+use Rattle.psm_build.specs.Program.{IsModuleFile, IsModuleFault, IsScriptFault, EndsIn}
 use Rattle.psm_build.specs.declared.fault.Fault.{Fault}
 use Rattle.psm_meaning.specs.Session.{Session}
 
@@ -23,9 +23,9 @@ FileIs IsFault Is bytes Long = most_bytes < length bytes
 FileIs IsFault Is bytes (Refused line column fault) = (length bytes ≤ most_bytes) × IsFault line column fault
 FileIs IsFault Is bytes (Accepted a) = (length bytes ≤ most_bytes) × Is a
 
--- what the script ss is found to be, over the module file ms and with so many turns
+-- what the script ss is found to be, over the module file ms and with n turns
 abbrev pub ScriptIs : List ℕ → List ℕ → ℕ → Found Session → Type 0
-ScriptIs ms ss turns found = FileIs (IsScriptFault ms ss) (ComesTo ms ss turns) ss found
+ScriptIs ms ss turns found = FileIs (IsScriptFault ms ss) (EndsIn ms ss turns) ss found
 
 -- what the module file is found to be, and then the script
 abbrev pub FilesAre : List ℕ → List ℕ → ℕ → Found (Found Session) → Type 0

@@ -5,7 +5,7 @@ use Rattle.psm_table.specs.Table.{Contents}
 use Rattle.psm_build.specs.Program.{IsModuleFault, IsScriptFault, StandsFor}
 use Rattle.psm_build.specs.declared.fault.BuildFault.{BuildFault}
 use Rattle.psm_build.specs.declared.fault.BuildFault.TheVariants as builds
-use Rattle.psm_build.specs.Played.{CanRun, PlaysAs, RunsOver}
+use Rattle.psm_build.specs.Outcome.{CanRun, RunsAs, RunsOver}
 use Rattle.psm_code.specs.declared.code.RawCode.{RawCode}
 use Rattle.psm_meaning.specs.Session.{Session}
 use Rattle.psm_session.specs.declared.command.ScriptCode.{ScriptCode}
@@ -22,14 +22,14 @@ use Rattle.psm.specs.declared.prepare.Refusal.TheVariants.{Unread, TooLong, Refu
 
 -- the bytes that a fetch of a name gave
 pub record IsRead (fetches : Fetches) (name bytes : List ℕ) : Type 0 where
-  pub told : Tells (fetches.held name) bytes
+  pub reported : Tells (fetches.held name) bytes
   pub short : length bytes ≤ most_bytes
   pub none_failed : NoneFailed fetches
 
 -- a file that is too long
 pub record IsTooLong (fetches : Fetches) (name : List ℕ) : Type 0 where
   pub bytes : List ℕ
-  pub told : Tells (fetches.held name) bytes
+  pub reported : Tells (fetches.held name) bytes
   pub long : most_bytes < length bytes
   pub none_failed : NoneFailed fetches
 
@@ -75,13 +75,13 @@ found_of (Refused which.Module line column fault) = Some (found.Refused line col
 found_of (Refused which.Script line column fault) = Some (found.Accepted (found.Refused line column fault))
 found_of Memory = None
 
--- both files are accepted, and the commands that are given can be run over the code and play as the session that they come to
+-- both files are accepted, and the commands that are given can be run over the code and run as the session that they end in
 pub record IsReady (fetches : Fetches) (f : Files) (code : RawCode) (script : ScriptCode) : Type 0 where
   pub session : Session
-  pub behind : ℕ → List Contents
+  pub following : ℕ → List Contents
   pub finds : Finds fetches f (found.Accepted (found.Accepted session))
   pub runs : CanRun code script.commands
-  pub plays : PlaysAs code script.commands f.turns session behind
+  pub runs_as : RunsAs code script.commands f.turns session following
 
 -- they are ready, or a refusal tells what was found
 abbrev pub Prepares : Fetches → Files → Result (RawCode × ScriptCode) Refusal → Type 0

@@ -5,9 +5,9 @@ use Rattle.psm_meaning.specs.Session.{Session, Cut, Done}
 use Rattle.psm_session.specs.Put.{Sunk, PutAll, PutSome, PutFirst}
 use Rattle.psm_session.specs.declared.script.ScriptEnd.{ScriptEnd}
 use Rattle.psm_session.specs.declared.script.ScriptEnd.TheVariants as ends
-use Rattle.psm.specs.Contract.{IsPut, IsBroken, RunsOut}
+use Rattle.psm.specs.Contract.{IsPut, IsPutInPart, RunsOut}
 use Rattle.psm.specs.Message.{cannot_read, too_long, refusal_line}
-use Rattle.psm.specs.Program.{Owed, with_line, status_of_refused}
+use Rattle.psm.specs.Program.{Expected, with_line, status_of_refused}
 use Rattle.psm.specs.Words.{Files}
 use Rattle.psm.specs.declared.prepare.Which.{Which}
 use Rattle.psm.specs.declared.prepare.Which.TheVariants as which
@@ -17,8 +17,8 @@ use Rattle.psm.specs.declared.status.Status.{Status}
 use Rattle.psm.specs.declared.status.Status.TheVariants as status
 
 -- the line is put for its status, or a put failed, or memory ran out
-abbrev pub PutsLine : Owed → Sunk → Status → Type 0
-PutsLine owed sunk answer = IsPut owed sunk answer ⊎ IsBroken owed sunk answer ⊎ RunsOut sunk answer
+abbrev pub PutsLine : Expected → Sunk → Status → Type 0
+PutsLine expected sunk answer = IsPut expected sunk answer ⊎ IsPutInPart expected sunk answer ⊎ RunsOut sunk answer
 
 abbrev pub name_of : Files → Which → List ℕ
 name_of f which.Module = f.for_module

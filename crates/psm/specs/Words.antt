@@ -34,7 +34,7 @@ is_number word = list_all is_ascii_digit word && (nat_lt 0 (length word) && (nat
 abbrev pub number_of : List ℕ → Option ℕ
 number_of word = if is_number word then Some (digits_value 10 word) else None
 
--- ---- the form `run M S`, with `--turns N` behind it or not
+-- ---- the form `run M S`, with `--turns N` after it or not
 
 abbrev pub with_turns : List ℕ → List ℕ → Option ℕ → Option Files
 with_turns m s None = None
@@ -43,7 +43,7 @@ with_turns m s (Some n) = Some (named m s n)
 abbrev pub run_with : List ℕ → List ℕ → List ℕ → Option ℕ → Option Files
 run_with word m s turns = if is_word word (codes "run") then with_turns m s turns else None
 
--- the turns that the words behind the names tell
+-- the turns that the words after the names tell
 abbrev pub turns_of : List (List ℕ) → Option ℕ
 turns_of [] = Some default_turns
 turns_of (option ∷ []) = None

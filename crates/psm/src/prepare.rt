@@ -62,7 +62,7 @@ fn fetch<F: Shelf>(
     shelf: &mut F,
 ) -> Result<Vec<u8>, Refusal>
     ensures gets { Gets (fetches_of F.held F.faults shelf.old shelf.new) name.now which result }
-    ensures told { (n : Seq ℕ) → F.held shelf.new n ≡ F.held shelf.old n }
+    ensures reported { (n : Seq ℕ) → F.held shelf.new n ≡ F.held shelf.old n }
 {
     match shelf.fetch(alloc, name, MOST_BYTES) {
         Ok(bytes) => Ok(bytes),

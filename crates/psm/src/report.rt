@@ -3,7 +3,7 @@ ghost use Rattle.std.specs.Prelude.{◌≡◌, ◌++◌, ℕ, List as Seq, All, 
 ghost use Rattle.psm_table.specs.Definition.{IsDefinition};
 ghost use Rattle.psm_table.specs.Table.{Contents};
 ghost use Rattle.psm_undostore.specs.Undo.{tables_of};
-ghost use Rattle.psm_build.specs.Played.{CanRun, PlaysAs, definitions, empty_tables};
+ghost use Rattle.psm_build.specs.Outcome.{CanRun, RunsAs, definitions, empty_tables};
 ghost use Rattle.psm_meaning.specs.Session.{Session};
 ghost use Rattle.psm_session.specs.Put.{sunk_of};
 ghost use Rattle.psm.specs.Message.{refusal_line, usage};
@@ -22,7 +22,7 @@ use psm_session::{ScriptEnd, run_script};
 use psm_undostore::UndoStore;
 use std::alloc::{AllocError, Global};
 
-/// Runs the script over the code and empty tables, with so many turns, and puts the piece of each command.
+/// Runs the script over the code and empty tables, with n turns, and puts the piece of each command.
 pub fn play<K: Sink>(
     alloc: Global,
     code: &Code,
@@ -31,7 +31,7 @@ pub fn play<K: Sink>(
     out: &mut K,
 ) -> Status
     requires { CanRun code.now script.now.commands }
-    ensures { (s : Session) (behind : ℕ → Seq Contents) → PlaysAs code.now script.now.commands turns s behind → Runs s (sunk_of K.written K.faults out.old out.new) result }
+    ensures { (s : Session) (following : ℕ → Seq Contents) → RunsAs code.now script.now.commands turns s following → Runs s (sunk_of K.written K.faults out.old out.new) result }
 {
     let Ok(mut store) = empty_store(alloc, code) else {
         return Status::Memory;

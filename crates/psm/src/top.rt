@@ -13,10 +13,10 @@ use std::alloc::Global;
 
 /// Does what the words after the program's name say, and tells how it ended.
 pub fn psm<F: Shelf, K: Sink>(alloc: Global, words: &[String], shelf: &mut F, out: &mut K) -> Status
-    // Each status comes only for its cause, and what is written is what is due.
+    // Each status comes only for its cause, and what is written is what is expected.
     ensures says { Says (asked_of words.now (fetches_of F.held F.faults shelf.old shelf.new))
         (sunk_of K.written K.faults out.old out.new) result }
-    // What is due is answered where nothing outside fails, unless memory runs out.
+    // What is expected is answered where nothing outside fails, unless memory runs out.
     ensures completes { Completes (asked_of words.now (fetches_of F.held F.faults shelf.old shelf.new))
         (sunk_of K.written K.faults out.old out.new) result }
 {

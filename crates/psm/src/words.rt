@@ -51,7 +51,7 @@ fn files_for<'a>(
     }
 }
 
-// The turns that the words behind the names tell.
+// The turns that the words after the names tell.
 fn turns_in(options: &[String]) -> Option<u64>
     ensures { result ≡ turns_of (map string_bytes options.now) }
 {

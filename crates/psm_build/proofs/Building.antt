@@ -14,10 +14,10 @@ use Rattle.psm_check_script.specs.declared.check.CheckFault.TheVariants as check
 use Rattle.psm_code.specs.declared.code.RawCode.{RawCode}
 use Rattle.psm_session.specs.declared.command.ScriptCode.{ScriptCode}
 use Rattle.psm_build.specs.Source.{module_files, scripts, IsTreeOf, IsAccepted, IsAcceptedScript}
-use Rattle.psm_build.specs.Told.{told_of_script}
+use Rattle.psm_build.specs.Reported.{reported_of_script}
 use Rattle.psm_build.specs.Program.{IsModuleFile, StandsFor}
 use Rattle.psm_build.specs.Building.{ReadsTree, Accepts, Compiles, Builds, BuildsScript, BuildsOver}
-use Rattle.psm_build.specs.Played.{RunsOver}
+use Rattle.psm_build.specs.Outcome.{RunsOver}
 use Rattle.psm_build.specs.declared.fault.BuildFault.{BuildFault}
 use Rattle.psm_build.specs.declared.fault.BuildFault.TheVariants.{Refused, Memory}
 use Rattle.psm_build.proofs.Compiled.{compiled_stands, fault_over, script_file_over}
@@ -50,9 +50,9 @@ script_there code tree commands accepted e =
     subst (All (IsThere code)) (sym e) (All-from_recursion (IsThere code) (script_of (known_of code) tree) (commands_there code tree.commands accepted))
 
 -- a script that isn't accepted
-pub script_refused : (code : RawCode) (bytes : List ℕ) (tree : ScriptTree) (fault : CheckFault) → IsTreeOf scripts bytes tree → Checks (known_of code) tree (Err fault) → BuildsScript code bytes (Err (told_of_script fault))
+pub script_refused : (code : RawCode) (bytes : List ℕ) (tree : ScriptTree) (fault : CheckFault) → IsTreeOf scripts bytes tree → Checks (known_of code) tree (Err fault) → BuildsScript code bytes (Err (reported_of_script fault))
 script_refused code bytes tree (checks.Rule place rule) is first =
-    inr (record { tree = tree; tree_is = is; breaks = record { fault = record { place = place; rule = rule }; first = first; told_is = refl } })
+    inr (record { tree = tree; tree_is = is; breaks = record { fault = record { place = place; rule = rule }; first = first; reported_is = refl } })
 script_refused code bytes tree checks.Memory is h = tt
 
 -- the answer for a module file
@@ -67,7 +67,7 @@ built_over code ss (Ok s) h ms stands = script_file_over ms ss code s.commands s
 built_over code ss (Err (Refused line column fault)) h ms stands = fault_over ms ss code line column fault stands h
 built_over code ss (Err Memory) h ms stands = tt
 
--- what is given over code that stands for a module file can be run, and shows the session that the two files come to
+-- what is given over code that stands for a module file can be run, and shows the session that the two files end in
 pub given_runs : (code : RawCode) (ss : List ℕ) (answer : Result ScriptCode BuildFault) → BuildsScript code ss answer → (ms : List ℕ) → StandsFor ms code → IfOk answer (λ s. RunsOver ms ss code s.commands)
 given_runs code ss (Ok s) h ms stands = runs_over ms ss code s.commands stands h
 given_runs code ss (Err e) h ms stands = tt

@@ -10,12 +10,12 @@ use Rattle.psm_resolved.specs.declared.file.ResolvedTable.{ResolvedTable}
 use Rattle.psm_meaning.specs.Session as meaning
 use Rattle.psm_code.specs.declared.code.CodeTable.{CodeTable}
 use Rattle.psm_code.specs.declared.code.RawCode.{RawCode}
-use Rattle.psm_code.specs.Sits.{AreKept}
-use Rattle.psm_emit.specs.Files.{FileWritten}
-use Rattle.psm_emit.specs.Queries.{TablesMade}
-use Rattle.psm_proper.proofs.Definitions.{file-definitions}
-use Rattle.psm_proper.specs.Files.{ProperFile}
-use Rattle.psm_build.specs.Played.{definitions, empty_tables}
+use Rattle.psm_code.specs.MachineInvariant.{AreKept}
+use Rattle.psm_codegen.specs.Files.{FileWritten}
+use Rattle.psm_codegen.specs.Queries.{TablesMade}
+use Rattle.psm_wellformed.proofs.Definitions.{file-definitions}
+use Rattle.psm_wellformed.specs.Files.{WellFormedFile}
+use Rattle.psm_build.specs.Outcome.{definitions, empty_tables}
 
 -- no row breaks a rule
 tables_kept : (ts : List CodeTable) → AreKept ts (map empty_table (map (λ t. t.definition) ts))
@@ -36,8 +36,8 @@ same_definitions (t ∷ ts) (u ∷ us) h = ap (λ (d : TableDef). d ∷ map (λ 
 pub written_definitions : (file : ResolvedFile) (code : RawCode) → FileWritten file code → definitions code ≡ map (λ t. t.definition) file.tables
 written_definitions file code h = same_definitions file.tables code.tables h.tables
 
-pub code_definitions : (file : ResolvedFile) (code : RawCode) → FileWritten file code → ProperFile file → All IsDefinition (definitions code)
-code_definitions file code written proper = subst (All IsDefinition) (sym (written_definitions file code written)) (file-definitions file proper)
+pub code_definitions : (file : ResolvedFile) (code : RawCode) → FileWritten file code → WellFormedFile file → All IsDefinition (definitions code)
+code_definitions file code written well_formed = subst (All IsDefinition) (sym (written_definitions file code written)) (file-definitions file well_formed)
 
 empty_each : (ts : List ResolvedTable) → map empty_table (map (λ t. t.definition) ts) ≡ map (λ t. empty_table t.definition) ts
 empty_each [] = refl

@@ -1,20 +1,20 @@
--- The bytes of a file are at most one thing, and two files come to one session at most.
+-- The bytes of a file are at most one thing, and two files end in one session at most.
 use Rattle.std.proofs.Common.{◌≡◌, ◌⊎◌, ℕ, List, Option, Some, None, sym, ap, ◌∙◌, subst, inl, inr}
 use Rattle.psm_tree.proofs.FileFits.{file_fit, script_fit}
 use Rattle.psm_tree.specs.declared.file.FileTree.{FileTree}
 use Rattle.psm_tree.specs.declared.script.ScriptTree.{ScriptTree}
 use Rattle.psm_rules.specs.FileFaults.{file_fault}
 use Rattle.psm_rules.specs.declared.fault.Fault.{Fault as RuleFault}
-use Rattle.psm_resolve.specs.Files.{file_made}
-use Rattle.psm_meaning.specs.Heights as heights
+use Rattle.psm_resolve.specs.Files.{resolved_file}
+use Rattle.psm_meaning.specs.Fuel as fuel_of_files
 use Rattle.psm_meaning.specs.Session.{Session}
 use Rattle.psm_check_script.specs.Checked.{script_of}
 use Rattle.psm_check_script.specs.Known.{Known}
 use Rattle.psm_check_script.specs.ScriptFaults.{script_fault}
 use Rattle.psm_script_code.specs.FileKnown.{known_of_file}
-use Rattle.psm_build.specs.Told.{told_of_rule}
+use Rattle.psm_build.specs.Reported.{reported_of_rule}
 use Rattle.psm_build.specs.Source.{module_files, scripts, IsTreeOf, IsFaultAt, IsRuleFault, IsAccepted, IsAcceptedScript, IsScriptRuleFault}
-use Rattle.psm_build.specs.Program.{IsModuleFile, IsModuleFault, IsScriptFile, IsScriptFault, ComesTo, known_over}
+use Rattle.psm_build.specs.Program.{IsModuleFile, IsModuleFault, IsScriptFile, IsScriptFault, EndsIn, known_over}
 use Rattle.psm_build.specs.Once.{Exclusive}
 use Rattle.psm_build.specs.declared.fault.Fault.{Fault}
 use Rattle.psm_build.specs.declared.fault.BuildFault.{BuildFault}
@@ -37,8 +37,8 @@ same_fault f g e = ap (fault_or f) e
 -- ---- module files
 
 -- an accepted tree breaks no rule
-rule_excludes : (bytes : List ℕ) (tree : FileTree) (told : BuildFault) → IsTreeOf module_files bytes tree → IsAccepted tree → IsRuleFault bytes told → ⊥
-rule_excludes bytes tree told is accepted h =
+rule_excludes : (bytes : List ℕ) (tree : FileTree) (reported : BuildFault) → IsTreeOf module_files bytes tree → IsAccepted tree → IsRuleFault bytes reported → ⊥
+rule_excludes bytes tree reported is accepted h =
     some_none h.breaks.fault (sym (subst IsAccepted (tree_once file_fit bytes tree h.tree is h.tree_is) accepted) ∙ h.breaks.first)
 
 -- two broken rules are one
@@ -46,7 +46,7 @@ rule_once : (bytes : List ℕ) (a b : BuildFault) → IsRuleFault bytes a → Is
 rule_once bytes a b h k =
     let trees : h.tree ≡ k.tree = tree_once file_fit bytes h.tree k.tree h.tree_is k.tree_is in
     let faults : h.breaks.fault ≡ k.breaks.fault = same_fault h.breaks.fault k.breaks.fault (sym h.breaks.first ∙ ap file_fault trees ∙ k.breaks.first) in
-    sym h.breaks.told_is ∙ ap told_of_rule faults ∙ k.breaks.told_is
+    sym h.breaks.reported_is ∙ ap reported_of_rule faults ∙ k.breaks.reported_is
 
 module_fault_once : (bytes : List ℕ) (l c l' c' : ℕ) (f f' : Fault) → IsModuleFault bytes l c f → IsModuleFault bytes l' c' f' → Refused l c f ≡ Refused l' c' f'
 module_fault_once bytes l c l' c' f f' (inl h) (inl k) = fault_once file_fit bytes l c l' c' f f' h k
@@ -72,17 +72,17 @@ module_once bytes p q = tree_once file_fit bytes p.tree q.tree p.tree_is q.tree_
 
 -- a script may name the same over it, however it is known to be one
 known_once : (bytes : List ℕ) (p q : IsModuleFile bytes) → known_over p ≡ known_over q
-known_once bytes p q = ap (λ (t : FileTree). known_of_file (file_made t)) (module_once bytes p q)
+known_once bytes p q = ap (λ (t : FileTree). known_of_file (resolved_file t)) (module_once bytes p q)
 
-script_rule_excludes : (known : Known) (bytes : List ℕ) (tree : ScriptTree) (told : BuildFault) → IsTreeOf scripts bytes tree → IsAcceptedScript known tree → IsScriptRuleFault known bytes told → ⊥
-script_rule_excludes known bytes tree told is accepted h =
+script_rule_excludes : (known : Known) (bytes : List ℕ) (tree : ScriptTree) (reported : BuildFault) → IsTreeOf scripts bytes tree → IsAcceptedScript known tree → IsScriptRuleFault known bytes reported → ⊥
+script_rule_excludes known bytes tree reported is accepted h =
     some_none h.breaks.fault (sym (subst (IsAcceptedScript known) (tree_once script_fit bytes tree h.tree is h.tree_is) accepted) ∙ h.breaks.first)
 
 script_rule_once : (known : Known) (bytes : List ℕ) (a b : BuildFault) → IsScriptRuleFault known bytes a → IsScriptRuleFault known bytes b → a ≡ b
 script_rule_once known bytes a b h k =
     let trees : h.tree ≡ k.tree = tree_once script_fit bytes h.tree k.tree h.tree_is k.tree_is in
     let faults : h.breaks.fault ≡ k.breaks.fault = same_fault h.breaks.fault k.breaks.fault (sym h.breaks.first ∙ ap (script_fault known) trees ∙ k.breaks.first) in
-    sym h.breaks.told_is ∙ ap told_of_rule faults ∙ k.breaks.told_is
+    sym h.breaks.reported_is ∙ ap reported_of_rule faults ∙ k.breaks.reported_is
 
 -- a fault of a script over what it may name
 abbrev pub IsFaultOver : Known → List ℕ → ℕ → ℕ → Fault → Type 0
@@ -112,10 +112,10 @@ script_exclusive ms ss = record {
 
 -- the session of two trees
 abbrev session_of_trees : FileTree → ScriptTree → ℕ → Session
-session_of_trees file script turns = heights.session (file_made file) (script_of (known_of_file (file_made file)) script) turns
+session_of_trees file script turns = fuel_of_files.session (resolved_file file) (script_of (known_of_file (resolved_file file)) script) turns
 
-pub comes_to_once : (ms ss : List ℕ) (turns : ℕ) (a b : Session) → ComesTo ms ss turns a → ComesTo ms ss turns b → a ≡ b
-comes_to_once ms ss turns a b x y =
+pub ends_in_once : (ms ss : List ℕ) (turns : ℕ) (a b : Session) → EndsIn ms ss turns a → EndsIn ms ss turns b → a ≡ b
+ends_in_once ms ss turns a b x y =
     let files : x.script.over.tree ≡ y.script.over.tree = module_once ms x.script.over y.script.over in
     let trees : x.script.tree ≡ y.script.tree = tree_once script_fit ss x.script.tree y.script.tree x.script.tree_is y.script.tree_is in
     x.session_is ∙ ap (λ (t : FileTree). session_of_trees t x.script.tree turns) files ∙ ap (λ (t : ScriptTree). session_of_trees y.script.over.tree t turns) trees ∙ sym y.session_is

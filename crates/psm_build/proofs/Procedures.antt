@@ -13,13 +13,13 @@ use Rattle.psm_resolved.specs.declared.file.ResolvedFile.{ResolvedFile}
 use Rattle.psm_resolved.specs.declared.file.ResolvedParameter.{ResolvedParameter}
 use Rattle.psm_resolved.specs.declared.file.ResolvedRoutine.{ResolvedRoutine}
 use Rattle.psm_meaning.specs.Calls.{returns}
-use Rattle.psm_lower.specs.Simulation.{parameter_of}
-use Rattle.psm_emit.specs.Files.{FileWritten, is_function}
-use Rattle.psm_proper.specs.Files.{ProperFile, AreApart, are_told_apart, is_apart_from}
+use Rattle.psm_simulation.specs.Simulation.{parameter_of}
+use Rattle.psm_codegen.specs.Files.{FileWritten, is_function}
+use Rattle.psm_wellformed.specs.Files.{WellFormedFile, AreApart, are_distinct, is_apart_from}
 use Rattle.psm_check_script.specs.There.{procedures_in}
 use Rattle.psm_script_code.proofs.Heads.{SameHead, SameHeads, written_heads}
 use Rattle.psm_script_code.proofs.There.{procedures_there}
-use Rattle.psm_plays.specs.Standing.{CallStands}
+use Rattle.psm_session_simulation.specs.Standing.{CallStands}
 
 -- ---- two procedures of one name, with as many parameters
 
@@ -43,7 +43,7 @@ not_apart : (q r : ResolvedRoutine) → Alike q r → is_apart_from r q ≡ true
 not_apart q r h e = false≢true (sym no ∙ e)
   where
     no : is_apart_from r q ≡ false
-    no = ap (λ b. are_told_apart b (is_function r) q r) h.first ∙ ap (λ b. are_told_apart false b q r) h.second
+    no = ap (λ b. are_distinct b (is_function r) q r) h.first ∙ ap (λ b. are_distinct false b q r) h.second
         ∙ ap (λ b. not (b && nat_eq (length q.parameters) (length r.parameters))) (same_text q.name r.name h.name)
         ∙ ap not (eq-eqb (length q.parameters) (length r.parameters) h.many)
 
@@ -133,15 +133,15 @@ not_true true h = absurd (false≢true h)
 not_true false h = refl
 
 -- the routine with the number n is the procedure with that number, where their code is one
-pub procedure_stands : (file : ResolvedFile) (code : RawCode) → FileWritten file code → ProperFile file → (procedure n : ℕ) (r : RawRoutine) → routine_at code n ≡ Some r → slice_get (procedures_in code.routines) procedure ≡ Some r
+pub procedure_stands : (file : ResolvedFile) (code : RawCode) → FileWritten file code → WellFormedFile file → (procedure n : ℕ) (r : RawRoutine) → routine_at code n ≡ Some r → slice_get (procedures_in code.routines) procedure ≡ Some r
     → CallStands file code procedure n
-procedure_stands file code written proper procedure n r at is =
+procedure_stands file code written well_formed procedure n r at is =
     let heads = (written_heads file code written).routines in
     let p = procedures_there file.routines code.routines heads procedure r is in
     let q = headed file.routines code.routines heads n r at in
     let one = passing (λ r. not (returns r.returns)) file.routines procedure p.routine p.there in
     let no = not_true (is_function p.routine) one.passes in
-    let e : q.routine ≡ p.routine = one_of [] file.routines n one.at q.routine p.routine proper.apart q.there one.there (record {
+    let e : q.routine ≡ p.routine = one_of [] file.routines n one.at q.routine p.routine well_formed.apart q.there one.there (record {
       first = sym q.head.kind ∙ p.head.kind ∙ no;
       second = no;
       name = sym q.head.name ∙ p.head.name;

@@ -17,7 +17,7 @@ use Rattle.psm_tree.specs.declared.fault.ParseFault.{ParseFault}
 use Rattle.psm_tree.specs.declared.fault.ParseFault.TheVariants as parse
 use Rattle.psm_tree.proofs.ExprFits.{after}
 use Rattle.psm_tree.proofs.Readable.{height, readable}
-use Rattle.psm_build.specs.Told.{told_of_tokens, told_of_tree}
+use Rattle.psm_build.specs.Reported.{reported_of_tokens, reported_of_tree}
 use Rattle.psm_build.specs.Source.{IsTreeOf, IsTreeFault, IsFaultAt}
 use Rattle.psm_build.specs.declared.fault.Fault.{Fault}
 use Rattle.psm_build.specs.declared.fault.BuildFault.TheVariants.{Refused, Memory}
@@ -71,18 +71,18 @@ module _ {Y : Type 0} {g : Gram Y} {follow : List ℕ} (fit : Fit after follow g
   ]
   answered tokens (parse.Deep place) n h = record { answer = Err (TooDeep h.0); holds = h.1; fault_is = ap parse.Deep h.2 }
 
-  told_not_memory : (fault : ParseFault) (line column : ℕ) (f : Fault) → told_of_tree fault ≡ Refused line column f → fault ≢ parse.Memory
-  told_not_memory fault line column f e m = refused_not_memory line column f (sym (ap told_of_tree m) ∙ e)
+  reported_not_memory : (fault : ParseFault) (line column : ℕ) (f : Fault) → reported_of_tree fault ≡ Refused line column f → fault ≢ parse.Memory
+  reported_not_memory fault line column f e m = refused_not_memory line column f (sym (ap reported_of_tree m) ∙ e)
 
   -- two faults of the tree are one
   tree_faults_once : (l c l' c' : ℕ) (f f' : Fault) → IsTreeFault (Derives productions 0 g) bytes (Refused l c f) → IsTreeFault (Derives productions 0 g) bytes (Refused l' c' f') → Refused l c f ≡ Refused l' c' f'
   tree_faults_once l c l' c' f f' h k =
-      let a = answered h.tokens h.fault (told_not_memory h.fault l c f h.told_is) h.fault_is in
-      let b = answered k.tokens k.fault (told_not_memory k.fault l' c' f' k.told_is) k.fault_is in
+      let a = answered h.tokens h.fault (reported_not_memory h.fault l c f h.reported_is) h.fault_is in
+      let b = answered k.tokens k.fault (reported_not_memory k.fault l' c' f' k.reported_is) k.fault_is in
       let e : a.answer ≡ b.answer = same_answer h.tokens k.tokens h.spelled k.spelled a.answer b.answer a.holds b.holds in
       let t : h.tokens ≡ k.tokens = spells_once bytes h.tokens k.tokens h.spelled k.spelled in
       let faults : h.fault ≡ k.fault = a.fault_is ∙ ap (λ (o : Out Placed Y). fault_from h.tokens.end o) e ∙ ap (λ (x : Tokens). fault_from x.end b.answer) t ∙ sym b.fault_is in
-      sym h.told_is ∙ ap told_of_tree faults ∙ k.told_is
+      sym h.reported_is ∙ ap reported_of_tree faults ∙ k.reported_is
 
   ok_wrong : (y : Y) (rest : List Placed) → ◌≡◌ {A = Out Placed Y} (Ok (y, [])) (Err (Wrong rest)) → ⊥
   ok_wrong y rest e = cc
@@ -105,11 +105,11 @@ module _ {Y : Type 0} {g : Gram Y} {follow : List ℕ} (fit : Fit after follow g
   -- a file with a tree has no fault
   pub tree_excludes : (l c : ℕ) (f : Fault) (y : Y) → IsTreeOf (Derives productions 0 g) bytes y → IsFaultAt (Derives productions 0 g) bytes l c f → ⊥
   tree_excludes l c f y p (inl h) = fault_excludes bytes h.fault p.tokens h.first p.spelled
-  tree_excludes l c f y p (inr h) = no_tree_fault y h.tokens h.fault (told_not_memory h.fault l c f h.told_is) p h.spelled h.fault_is
+  tree_excludes l c f y p (inr h) = no_tree_fault y h.tokens h.fault (reported_not_memory h.fault l c f h.reported_is) p h.spelled h.fault_is
 
   -- two faults are one
   pub fault_once : (l c l' c' : ℕ) (f f' : Fault) → IsFaultAt (Derives productions 0 g) bytes l c f → IsFaultAt (Derives productions 0 g) bytes l' c' f' → Refused l c f ≡ Refused l' c' f'
-  fault_once l c l' c' f f' (inl h) (inl k) = sym h.told_is ∙ ap told_of_tokens (first_fault_once bytes h.fault k.fault h.first k.first) ∙ k.told_is
+  fault_once l c l' c' f f' (inl h) (inl k) = sym h.reported_is ∙ ap reported_of_tokens (first_fault_once bytes h.fault k.fault h.first k.first) ∙ k.reported_is
   fault_once l c l' c' f f' (inl h) (inr k) = absurd (fault_excludes bytes h.fault k.tokens h.first k.spelled)
   fault_once l c l' c' f f' (inr h) (inl k) = absurd (fault_excludes bytes k.fault h.tokens k.first h.spelled)
   fault_once l c l' c' f f' (inr h) (inr k) = tree_faults_once l c l' c' f f' h k

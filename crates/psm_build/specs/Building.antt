@@ -5,11 +5,11 @@ use Rattle.psm_token.specs.Listed.{Tokens}
 use Rattle.psm_token.specs.Spells.{Spells}
 use Rattle.psm_grammar.specs.Language.{Lang}
 use Rattle.psm_tree.specs.declared.file.FileTree.{FileTree}
-use Rattle.psm_cond.specs.Sound.{is_numbered}
-use Rattle.psm_resolve.specs.Files.{file_made}
-use Rattle.psm_lower.specs.Simulation.{FileStands}
-use Rattle.psm_emit.specs.Files.{FileWritten}
-use Rattle.psm_emit.specs.Standing.{CanStand}
+use Rattle.psm_cond.specs.WellFormed.{is_numbered}
+use Rattle.psm_resolve.specs.Files.{resolved_file}
+use Rattle.psm_simulation.specs.Simulation.{FileStands}
+use Rattle.psm_codegen.specs.Files.{FileWritten}
+use Rattle.psm_codegen.specs.Standing.{CanStand}
 use Rattle.psm_check_script.specs.Known.{known_of}
 use Rattle.psm_code.specs.declared.code.RawCode.{RawCode}
 use Rattle.psm_session.specs.declared.command.ScriptCode.{ScriptCode}
@@ -42,7 +42,7 @@ Accepts tree (Err Memory) = Unit {0}
 
 -- code that is written for the tree, and stands for it where it can
 abbrev pub Compiles : FileTree → Result RawCode BuildFault → Type 0
-Compiles tree (Ok code) = FileWritten (file_made tree) code × (CanStand (file_made tree) → FileStands (file_made tree) code) × All (λ r. IsTrue (is_numbered r.handlers)) code.routines
+Compiles tree (Ok code) = FileWritten (resolved_file tree) code × (CanStand (resolved_file tree) → FileStands (resolved_file tree) code) × All (λ r. IsTrue (is_numbered r.handlers)) code.routines
 Compiles tree (Err (Refused line column fault)) = ⊥
 Compiles tree (Err Memory) = Unit {0}
 

@@ -1,7 +1,7 @@
-pub mod Told
+pub mod Reported
 pub mod FaultTexts
 pub mod Source
 pub mod Program
 pub mod Once
 pub mod Building
-pub mod Played
+pub mod Outcome

@@ -1,6 +1,6 @@
 -- What is so of the bytes of files whoever reads them: they are one thing, and a session of theirs ends in one of two ways.
 use Rattle.std.specs.Prelude.{◌≡◌, ℕ}
-use Rattle.psm_meaning.specs.Acts.{NoTurns, NoHeight, Lacking}
+use Rattle.psm_meaning.specs.Acts.{NoTurns, OutOfFuel, Stuck}
 use Rattle.psm_meaning.specs.Session.{End, Cut, Done}
 use Rattle.psm_build.specs.declared.fault.Fault.{Fault}
 use Rattle.psm_build.specs.declared.fault.BuildFault.TheVariants.{Refused}
@@ -14,5 +14,5 @@ pub record Exclusive (IsFile : Type 0) (IsFault : ℕ → ℕ → Fault → Type
 abbrev pub IsEnd : End → Type 0
 IsEnd Done = Unit {0}
 IsEnd (Cut NoTurns) = Unit {0}
-IsEnd (Cut NoHeight) = ⊥
-IsEnd (Cut Lacking) = ⊥
+IsEnd (Cut OutOfFuel) = ⊥
+IsEnd (Cut Stuck) = ⊥

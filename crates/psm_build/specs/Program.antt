@@ -1,18 +1,18 @@
--- What the bytes of files are, and what two files come to. Above this crate nothing else is said of them.
+-- What the bytes of files are, and what two files end in. Above this crate nothing else is said of them.
 use Rattle.std.specs.Prelude.{◌≡◌, ℕ, ◌⊎◌, List, take, None, All, IsTrue}
-use Rattle.psm_cond.specs.Sound.{is_numbered}
+use Rattle.psm_cond.specs.WellFormed.{is_numbered}
 use Rattle.psm_tree.specs.declared.file.FileTree.{FileTree}
 use Rattle.psm_tree.specs.declared.script.ScriptTree.{ScriptTree}
 use Rattle.psm_table.specs.Table.{Contents}
 use Rattle.psm_resolved.specs.declared.file.ResolvedFile.{ResolvedFile}
-use Rattle.psm_resolve.specs.Files.{file_made}
-use Rattle.psm_meaning.specs.Heights.{session}
+use Rattle.psm_resolve.specs.Files.{resolved_file}
+use Rattle.psm_meaning.specs.Fuel.{session}
 use Rattle.psm_meaning.specs.Session.{Command, Session}
 use Rattle.psm_code.specs.declared.code.RawCode.{RawCode}
 use Rattle.psm_code.specs.RoutineRules.{first_fault}
-use Rattle.psm_lower.specs.Simulation.{FileStands}
-use Rattle.psm_emit.specs.Files.{FileWritten}
-use Rattle.psm_proper.specs.Files.{ProperFile}
+use Rattle.psm_simulation.specs.Simulation.{FileStands}
+use Rattle.psm_codegen.specs.Files.{FileWritten}
+use Rattle.psm_wellformed.specs.Files.{WellFormedFile}
 use Rattle.psm_check_script.specs.Checked.{script_of}
 use Rattle.psm_check_script.specs.Known.{Known, known_of}
 use Rattle.psm_session.specs.declared.command.ScriptCommand.{ScriptCommand}
@@ -30,9 +30,9 @@ pub record IsModuleFile (bytes : List ℕ) : Type 0 where
   pub tree_is : IsTreeOf module_files bytes tree
   pub accepted : IsAccepted tree
 
--- the module file without names
+-- the resolved module file
 abbrev pub file_of : {bytes : List ℕ} → IsModuleFile bytes → ResolvedFile
-file_of m = file_made m.tree
+file_of m = resolved_file m.tree
 
 -- their first fault as a module file is that one, at that line and column
 abbrev pub IsModuleFault : List ℕ → ℕ → ℕ → Fault → Type 0
@@ -51,7 +51,7 @@ pub record IsScriptFile (ms ss : List ℕ) : Type 0 where
   pub tree_is : IsTreeOf scripts ss tree
   pub accepted : IsAcceptedScript (known_over over) tree
 
--- its commands without names
+-- its resolved commands
 abbrev pub commands_of : {ms ss : List ℕ} → IsScriptFile ms ss → List Command
 commands_of s = script_of (known_over s.over) s.tree
 
@@ -60,28 +60,28 @@ pub record IsScriptFault (ms ss : List ℕ) (line column : ℕ) (fault : Fault) 
   pub over : IsModuleFile ms
   pub fault_is : IsFaultAt scripts ss line column fault ⊎ IsScriptRuleFault (known_over over) ss (Refused line column fault)
 
--- its session with so many turns
+-- its session with n turns
 abbrev pub session_of : {ms ss : List ℕ} → IsScriptFile ms ss → ℕ → Session
 session_of s turns = session (file_of s.over) (commands_of s) turns
 
--- the tables behind its first n commands, which are those that a session of these commands alone leaves
-abbrev pub tables_behind : {ms ss : List ℕ} → IsScriptFile ms ss → ℕ → ℕ → List Contents
-tables_behind s turns n = (session (file_of s.over) (take n (commands_of s)) turns).tables
+-- the tables after its first n commands, which are those that a session of these commands alone leaves
+abbrev pub tables_after : {ms ss : List ℕ} → IsScriptFile ms ss → ℕ → ℕ → List Contents
+tables_after s turns n = (session (file_of s.over) (take n (commands_of s)) turns).tables
 
--- the script ss over the module file ms, with so many turns, comes to these pieces, this end, these tables and turns left
-pub record ComesTo (ms ss : List ℕ) (turns : ℕ) (comes_to : Session) : Type 0 where
+-- the script ss over the module file ms, with n turns, ends in these pieces, this end, these tables and turns left
+pub record EndsIn (ms ss : List ℕ) (turns : ℕ) (ends_in : Session) : Type 0 where
   pub script : IsScriptFile ms ss
-  pub session_is : comes_to ≡ session_of script turns
+  pub session_is : ends_in ≡ session_of script turns
 
 -- ---- code and commands
 
--- the code stands for the module file, and breaks no rule
+-- the code stands for the module file, and is well-formed
 pub record StandsFor (bytes : List ℕ) (code : RawCode) : Type 0 where
   pub file : IsModuleFile bytes
-  pub proper : ProperFile (file_of file)
+  pub well_formed : WellFormedFile (file_of file)
   pub written : FileWritten (file_of file) code
   pub stands : FileStands (file_of file) code
-  pub right : first_fault code ≡ None
+  pub well_formed_code : first_fault code ≡ None
   pub numbered : All (λ r. IsTrue (is_numbered r.handlers)) code.routines
 
 -- the commands are the script of the bytes, over what the code lets it name

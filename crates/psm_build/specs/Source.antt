@@ -16,7 +16,7 @@ use Rattle.psm_rules.specs.FileFaults.{file_fault}
 use Rattle.psm_rules.specs.declared.fault.Fault.{Fault as RuleFault}
 use Rattle.psm_check_script.specs.Known.{Known}
 use Rattle.psm_check_script.specs.ScriptFaults.{script_fault}
-use Rattle.psm_build.specs.Told.{told_of_rule, told_of_tokens, told_of_tree}
+use Rattle.psm_build.specs.Reported.{reported_of_rule, reported_of_tokens, reported_of_tree}
 use Rattle.psm_build.specs.declared.fault.Fault.{Fault}
 use Rattle.psm_build.specs.declared.fault.BuildFault.{BuildFault}
 use Rattle.psm_build.specs.declared.fault.BuildFault.TheVariants.{Refused}
@@ -34,19 +34,19 @@ pub record IsTreeOf {Y : Type 0} (L : Lang Placed Y) (bytes : List ℕ) (tree : 
   pub spelled : Spells bytes tokens
   pub tree_is : ReadsAll L (λ y. y) tokens (Ok tree)
 
--- the first fault of the tokens is told so
-pub record IsTokenFault (bytes : List ℕ) (told : BuildFault) : Type 0 where
+-- the first fault of the tokens is reported so
+pub record IsTokenFault (bytes : List ℕ) (reported : BuildFault) : Type 0 where
   pub fault : LexFault
   pub first : IsFirstFault bytes fault
-  pub told_is : told_of_tokens fault ≡ told
+  pub reported_is : reported_of_tokens fault ≡ reported
 
--- the bytes spell tokens, whose fault is told so
-pub record IsTreeFault {Y : Type 0} (L : Lang Placed Y) (bytes : List ℕ) (told : BuildFault) : Type 0 where
+-- the bytes spell tokens, whose fault is reported so
+pub record IsTreeFault {Y : Type 0} (L : Lang Placed Y) (bytes : List ℕ) (reported : BuildFault) : Type 0 where
   pub tokens : Tokens
   pub spelled : Spells bytes tokens
   pub fault : ParseFault
   pub fault_is : ReadsAll {X = Y} L (λ y. y) tokens (Err fault)
-  pub told_is : told_of_tree fault ≡ told
+  pub reported_is : reported_of_tree fault ≡ reported
 
 -- the bytes have no tree, and their first fault is that one, at that line and column
 abbrev pub IsFaultAt : {Y : Type 0} → Lang Placed Y → List ℕ → ℕ → ℕ → Fault → Type 0
@@ -54,17 +54,17 @@ IsFaultAt L bytes line column fault = IsTokenFault bytes (Refused line column fa
 
 -- ---- the rules of a module file
 
--- the first fault of the tree is told so
-pub record BreaksRule (tree : FileTree) (told : BuildFault) : Type 0 where
+-- the first fault of the tree is reported so
+pub record BreaksRule (tree : FileTree) (reported : BuildFault) : Type 0 where
   pub fault : RuleFault
   pub first : file_fault tree ≡ Some fault
-  pub told_is : told_of_rule fault ≡ told
+  pub reported_is : reported_of_rule fault ≡ reported
 
--- the bytes have a tree, whose first fault is told so
-pub record IsRuleFault (bytes : List ℕ) (told : BuildFault) : Type 0 where
+-- the bytes have a tree, whose first fault is reported so
+pub record IsRuleFault (bytes : List ℕ) (reported : BuildFault) : Type 0 where
   pub tree : FileTree
   pub tree_is : IsTreeOf module_files bytes tree
-  pub breaks : BreaksRule tree told
+  pub breaks : BreaksRule tree reported
 
 -- no part of the tree has a fault
 abbrev pub IsAccepted : FileTree → Type 0
@@ -75,14 +75,14 @@ IsAccepted tree = file_fault tree ≡ None
 abbrev pub IsAcceptedScript : Known → ScriptTree → Type 0
 IsAcceptedScript known tree = script_fault known tree ≡ None
 
--- the first fault of the tree is told so
-pub record BreaksScriptRule (known : Known) (tree : ScriptTree) (told : BuildFault) : Type 0 where
+-- the first fault of the tree is reported so
+pub record BreaksScriptRule (known : Known) (tree : ScriptTree) (reported : BuildFault) : Type 0 where
   pub fault : RuleFault
   pub first : script_fault known tree ≡ Some fault
-  pub told_is : told_of_rule fault ≡ told
+  pub reported_is : reported_of_rule fault ≡ reported
 
--- the bytes have a tree, whose first fault is told so
-pub record IsScriptRuleFault (known : Known) (bytes : List ℕ) (told : BuildFault) : Type 0 where
+-- the bytes have a tree, whose first fault is reported so
+pub record IsScriptRuleFault (known : Known) (bytes : List ℕ) (reported : BuildFault) : Type 0 where
   pub tree : ScriptTree
   pub tree_is : IsTreeOf scripts bytes tree
-  pub breaks : BreaksScriptRule known tree told
+  pub breaks : BreaksScriptRule known tree reported

@@ -1,7 +1,7 @@
 //! Code of a module file, and scripts over it.
 ghost use Rattle.std.specs.Prelude.{◌<◌, ℕ, List as Seq, length, IfOk, IsOkUnless};
 ghost use Rattle.psm_build.specs.Program.{IsModuleFile, StandsFor};
-ghost use Rattle.psm_build.specs.Played.{RunsOver};
+ghost use Rattle.psm_build.specs.Outcome.{RunsOver};
 ghost use Rattle.psm_build.specs.Building.{Accepts, Builds, BuildsScript, BuildsOver, Compiles};
 
 use crate::fault::{BuildFault, refused_rule, refused_script};
@@ -9,15 +9,15 @@ use crate::read::{module_tree, script_tree};
 use psm_check_script::check_script;
 use psm_check_stmt::file_fault;
 use psm_code::RawCode;
-use psm_emit::lower;
+use psm_codegen::lower;
 use psm_resolve::resolve_file;
 use psm_script_code::lower_script;
 use psm_session::ScriptCode;
 use psm_tree::FileTree;
 use std::alloc::Global;
 
-/// The code of a module file (ISO/IEC 9075-4:1996, module definitions), which breaks no rule of code, and on which every script
-/// plays as the session over the file's module.
+/// The code of a module file (ISO/IEC 9075-4:1996, module definitions), which is well-formed, and on which every script
+/// runs as the session over the file's module.
 ///
 /// # Errors
 /// `Refused` exactly where the bytes are no tokens, spell no module file or one with a fault, with the first fault: that
@@ -55,7 +55,7 @@ fn accept(alloc: Global, tree: &FileTree) -> Result<(), BuildFault>
     }
 }
 
-/// The code that is written for a tree whose names are put away.
+/// The code that is written for a tree whose names are resolved.
 fn compiled(alloc: Global, tree: &FileTree) -> Result<RawCode, BuildFault>
     ensures { Compiles tree.now result }
 {
@@ -80,7 +80,7 @@ pub fn build_script(alloc: Global, code: &RawCode, bytes: &[u8]) -> Result<Scrip
     ensures builds { BuildsScript code.now bytes.now result }
     // Over code that stands for a module file, it is a script over that file, or has that fault over it.
     ensures over { (ms : Seq ℕ) → StandsFor ms code.now → BuildsOver ms bytes.now result }
-    // Its commands can be run, and each run of them shows the session that the two files come to, with its tables and turns.
+    // Its commands can be run, and each run of them shows the session that the two files end in, with its tables and turns.
     ensures runs { (ms : Seq ℕ) → StandsFor ms code.now → IfOk result (λ s. RunsOver ms bytes.now code.now s.commands) }
 {
     script_over(alloc, code, bytes)

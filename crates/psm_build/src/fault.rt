@@ -3,7 +3,7 @@ ghost use Rattle.std.specs.Prelude.{◌≡◌};
 ghost use Rattle.psm_token.specs.FaultTexts as tokens;
 ghost use Rattle.psm_tree.specs.FaultTexts as trees;
 ghost use Rattle.psm_build.specs.FaultTexts.{text_of, refusal_text};
-ghost use Rattle.psm_build.specs.Told.{told_at, told_of_rule, told_of_script, told_of_tokens, told_of_tree};
+ghost use Rattle.psm_build.specs.Reported.{reported_at, reported_of_rule, reported_of_script, reported_of_tokens, reported_of_tree};
 
 use psm_check_script::CheckFault;
 use psm_rules::{Fault as RuleFault, Rule};
@@ -17,7 +17,7 @@ use psm_tree::ParseFault;
 pub enum Fault {
     /// A byte that is part of no character.
     BadUtf8,
-    /// A character that begins no token, a letter directly behind a number, or the second quote of `""`.
+    /// A character that begins no token, a letter directly after a number, or the second quote of `""`.
     BadChar,
     /// A text without an end.
     OpenText,
@@ -29,7 +29,7 @@ pub enum Fault {
     LongNumber,
     /// A name of more than 128 characters.
     LongName,
-    /// The token behind 2,000,000 others.
+    /// The token after 2,000,000 others.
     ManyTokens,
     /// A token, or the end, with which no spelling goes on.
     Syntax,
@@ -74,7 +74,7 @@ impl Fault {
 
     // The refusal of a file that has the fault at that place.
     fn at(self, place: Place) -> BuildFault
-        ensures { result ≡ told_at place self }
+        ensures { result ≡ reported_at place self }
     {
         BuildFault::Refused {
             line: place.line,
@@ -86,7 +86,7 @@ impl Fault {
 
 /// The refusal of a file whose tokens have that fault. Its text is theirs.
 pub(crate) fn refused_tokens(fault: LexFault) -> BuildFault
-    ensures told { result ≡ told_of_tokens fault }
+    ensures reported { result ≡ reported_of_tokens fault }
     ensures text { refusal_text result ≡ tokens.fault_text fault }
 {
     match fault {
@@ -104,7 +104,7 @@ pub(crate) fn refused_tokens(fault: LexFault) -> BuildFault
 
 /// The refusal of a file whose tokens have no tree for that reason. Its text is that of the reason.
 pub(crate) fn refused_tree(fault: ParseFault) -> BuildFault
-    ensures told { result ≡ told_of_tree fault }
+    ensures reported { result ≡ reported_of_tree fault }
     ensures text { refusal_text result ≡ trees.fault_text fault }
 {
     match fault {
@@ -116,14 +116,14 @@ pub(crate) fn refused_tree(fault: ParseFault) -> BuildFault
 
 /// The refusal of a file with a part that breaks a rule.
 pub(crate) fn refused_rule(fault: RuleFault) -> BuildFault
-    ensures { result ≡ told_of_rule fault }
+    ensures { result ≡ reported_of_rule fault }
 {
     Fault::Broken(fault.rule).at(fault.place)
 }
 
 /// The refusal of a script that isn't accepted for that reason.
 pub(crate) fn refused_script(fault: CheckFault) -> BuildFault
-    ensures { result ≡ told_of_script fault }
+    ensures { result ≡ reported_of_script fault }
 {
     match fault {
         CheckFault::Rule { place, rule } => Fault::Broken(rule).at(place),

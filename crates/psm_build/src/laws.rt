@@ -2,14 +2,14 @@
 ghost use Rattle.std.specs.Prelude.{◌≡◌, ℕ, List};
 ghost use Rattle.psm_meaning.specs.Session.{Session};
 ghost use Rattle.psm_build.specs.Once.{Exclusive, IsEnd};
-ghost use Rattle.psm_build.specs.Program.{ComesTo, IsModuleFault, IsModuleFile, IsScriptFault, IsScriptFile};
+ghost use Rattle.psm_build.specs.Program.{EndsIn, IsModuleFault, IsModuleFile, IsScriptFault, IsScriptFile};
 
 /// The bytes of a file are at most one thing: a module file or the one first fault of one, and, over a module file, a script or the one
-/// first fault of one. A module file and a script over it come to one session with a number of turns, and it ends after the last
+/// first fault of one. A module file and a script over it end in one session with a number of turns, and it ends after the last
 /// command or where the turns run out, and in no other way.
 pub fn files_are_one_thing()
     ensures modules { (ms : List ℕ) → Exclusive (IsModuleFile ms) (IsModuleFault ms) }
     ensures scripts { (ms ss : List ℕ) → Exclusive (IsScriptFile ms ss) (IsScriptFault ms ss) }
-    ensures sessions { (ms ss : List ℕ) (turns : ℕ) (a b : Session) → ComesTo ms ss turns a → ComesTo ms ss turns b → a ≡ b }
-    ensures ends { (ms ss : List ℕ) (turns : ℕ) (s : Session) → ComesTo ms ss turns s → IsEnd s.end }
+    ensures sessions { (ms ss : List ℕ) (turns : ℕ) (a b : Session) → EndsIn ms ss turns a → EndsIn ms ss turns b → a ≡ b }
+    ensures ends { (ms ss : List ℕ) (turns : ℕ) (s : Session) → EndsIn ms ss turns s → IsEnd s.end }
 {}

@@ -1,5 +1,5 @@
 //! From the bytes of a file to code, or to the commands of a script over it, or why the file is refused. What the bytes of
-//! files are, and what two of them come to, is said in `specs/Program`.
+//! files are, and what two of them end in, is said in `specs/Program`.
 #![tactic(auto)]
 
 mod code;

@@ -1,6 +1,6 @@
 //! The tables of code.
 ghost use Rattle.std.specs.Prelude.{◌≡◌, IfOk, map};
-ghost use Rattle.psm_build.specs.Played.{definitions};
+ghost use Rattle.psm_build.specs.Outcome.{definitions};
 
 use psm_code::{CodeTable, RawCode};
 use psm_table::TableDef;

@@ -1,4 +1,4 @@
--- Items that are put behind others.
+-- Items that are put after others.
 use Rattle.std.proofs.Common.{◌≡◌, ℕ, zero, suc, ◌+◌, ◌<◌, Bool, true, false, if◌then◌else◌, length, get_or, subst, List, [], ◌∷◌, Option, Some, None, ◌++◌, map, drop, refl, ap, sym, ◌∙◌, add-one}
 use Rattle.std.specs.Prelude.{option_map, slice_get}
 use Rattle.std.proofs.lemmas.List.{append_assoc, append-nil, drop_more}
@@ -8,10 +8,10 @@ use Rattle.psm_rules.specs.declared.query.Item.{Item}
 use Rattle.psm_rules.specs.declared.shape.Shape.{Shape}
 use Rattle.psm_rules.specs.declared.shape.Shape.TheVariants.{Value}
 use Rattle.psm_rules.specs.Shapes.{typed}
-use Rattle.psm_rules.specs.View.{Columns}
+use Rattle.psm_rules.specs.CheckerScope.{Columns}
 use Rattle.psm_check_expr.specs.Seen.{pick_of}
-use Rattle.psm_check_expr.specs.declared.queries.PickFound.{PickFound as KeptPick}
-use Rattle.psm_rules.specs.ExprFaults.{PickFound, column_item, joined_items, items_of_pick, items_in, typed_pick}
+use Rattle.psm_check_expr.specs.declared.queries.PickChecked.{PickChecked as KeptPick}
+use Rattle.psm_rules.specs.ExprFaults.{PickChecked, column_item, joined_items, items_of_pick, items_in, typed_pick}
 
 joined_three : (xs : List Item) (a b : Option (List Item)) → joined_items (Some xs) (joined_items a b) ≡ joined_items (joined_items (Some xs) a) b
 joined_three xs None b = refl
@@ -22,20 +22,20 @@ joined_nothing : (a : Option (List Item)) → joined_items (Some []) a ≡ a
 joined_nothing None = refl
 joined_nothing (Some xs) = refl
 
--- ---- the items of the picks that are left, behind those that are there
+-- ---- the items of the picks that are left, after those that are there
 
-pub record ItemsLeft (columns : Option Columns) (items : List Item) (left : List PickFound) (whole : Option (List Item)) : Type 0 where
+pub record ItemsLeft (columns : Option Columns) (items : List Item) (left : List PickChecked) (whole : Option (List Item)) : Type 0 where
   pub joined : joined_items (Some items) (items_in columns left) ≡ whole
 
-pub items_begin : (columns : Option Columns) (picks : List PickFound) → ItemsLeft columns [] picks (items_in columns picks)
+pub items_begin : (columns : Option Columns) (picks : List PickChecked) → ItemsLeft columns [] picks (items_in columns picks)
 items_begin columns picks = record { joined = joined_nothing (items_in columns picks) }
 
-pub items_step : (columns : Option Columns) (old new : List Item) (p : PickFound) (ps : List PickFound) (whole : Option (List Item))
+pub items_step : (columns : Option Columns) (old new : List Item) (p : PickChecked) (ps : List PickChecked) (whole : Option (List Item))
     → joined_items (Some old) (items_of_pick columns p) ≡ Some new → ItemsLeft columns old (p ∷ ps) whole → ItemsLeft columns new ps whole
 items_step columns old new p ps whole e l =
     record { joined = ap (λ a. joined_items a (items_in columns ps)) (sym e) ∙ sym (joined_three old (items_of_pick columns p) (items_in columns ps)) ∙ l.joined }
 
-pub items_unknown : (columns : Option Columns) (old : List Item) (p : PickFound) (ps : List PickFound) (whole : Option (List Item))
+pub items_unknown : (columns : Option Columns) (old : List Item) (p : PickChecked) (ps : List PickChecked) (whole : Option (List Item))
     → joined_items (Some old) (items_of_pick columns p) ≡ None → ItemsLeft columns old (p ∷ ps) whole → None ≡ whole
 items_unknown columns old p ps whole e l =
     ap (λ a. joined_items a (items_in columns ps)) (sym e) ∙ sym (joined_three old (items_of_pick columns p) (items_in columns ps)) ∙ l.joined

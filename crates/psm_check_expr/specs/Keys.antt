@@ -1,8 +1,8 @@
 -- The names of a key's columns.
 use Rattle.std.specs.Prelude.{List, [], ◌∷◌, map}
-use Rattle.psm_scope.specs.Frames.{Spelling}
-use Rattle.psm_check_expr.specs.declared.world.Key.{Key}
-use Rattle.psm_check_expr.specs.declared.world.Key.TheVariants as keys
+use Rattle.psm_scope.specs.Scopes.{Spelling}
+use Rattle.psm_check_expr.specs.declared.symbols.Key.{Key}
+use Rattle.psm_check_expr.specs.declared.symbols.Key.TheVariants as keys
 
 abbrev pub key_names : Key → List Spelling
 key_names keys.None = []

@@ -2,56 +2,64 @@
 ghost use Rattle.std.specs.Prelude.{◌≡◌, ◌∷◌, ◌++◌, [], IfOk, None, Some, map, option_map};
 ghost use Rattle.psm_list.specs.Several.{several_map};
 ghost use Rattle.psm_scope.specs.Routines.{function};
-ghost use Rattle.psm_rules.specs.Found.{as_condition, as_value, shape_of};
+ghost use Rattle.psm_rules.specs.Checked.{as_condition, as_value, shape_of};
 ghost use Rattle.psm_rules.specs.Shapes.{kind_of};
-ghost use Rattle.psm_rules.specs.ExprFaults.{call_found, called, case_found, chained, else_of, expr_found, junction_of, link_found, linked, name_found, pick_found, query_found, seen, seen_in, seen_option, simple_test, when_found};
-ghost use Rattle.psm_check_expr.specs.Seen.{pick_of, seen_in_view};
+ghost use Rattle.psm_rules.specs.ExprFaults.{check_call, called, check_case, chained, else_of, check_expr, logical_operator_of, check_chain_link, linked, check_name, check_pick, check_query, seen, seen_in, seen_option, simple_test, check_when};
+ghost use Rattle.psm_check_expr.specs.Seen.{pick_of, seen_in_checker_scope};
 
+use crate::checker_scope::{CheckerScope, name_in, on_row};
 use crate::operators::{
-    between, cast_found, compares, comparison, found_with, junction_of, like_found, linked,
-    negated, null_if_found, null_test, of_type, position_found, signed_found, simple_test,
-    substring_found, text_function_found, trim_found,
+    between, check_cast, check_like, check_null_if, check_position, check_signed, check_substring,
+    check_text_function, check_trim, checked_with, compares, comparison, linked,
+    logical_operator_of, negated, null_test, of_type, simple_test,
 };
 use crate::queries::{
-    PickFound, QueryFound, exists_found, pick_item, row_of, scalar_found, set_found,
+    PickChecked, QueryChecked, check_exists, check_scalar, check_set, pick_item, row_of,
 };
-use crate::results::{case_of, coalesce_found};
-use crate::view::{View, name_in, on_row};
+use crate::results::{case_of, check_coalesce};
 use psm_list::{Boxed, List, OneOrMore};
 use psm_rules::{
-    CHARACTER, Found, INTEGER, Picked, Rule, Shape, as_condition, as_value, broken, made_of,
-    of_literal, shape_of, sound,
+    CHARACTER, Checked, INTEGER, Picked, Rule, Shape, as_condition, as_value, broken, combined,
+    of_literal, shape_of, well_typed,
 };
 use psm_scope::{ArgKind, ChoiceFault, Meant};
 use psm_token::Place;
-use psm_tree::{Expr, Identifier, Link, Pick, Select, Target, When};
+use psm_tree::{ChainLink, Expr, Identifier, Pick, Select, Target, When};
 use std::alloc::{AllocError, Global};
 
 /// What is found in an expression: its first fault, or else the shape of its value (ISO/IEC 9075:1992, clauses 6 and 8). Fails only
 /// without memory.
 #[cycle(expression)]
 #[tactic(auto, using(crate::proofs::Equations::expr_equations))]
-pub fn expr_found(alloc: Global, e: &Expr, view: View) -> Result<Found, AllocError>
-    ensures { IfOk result (λ f. f ≡ expr_found e.now (seen_in_view view.entry)) }
+pub fn check_expr(
+    alloc: Global,
+    e: &Expr,
+    checker_scope: CheckerScope,
+) -> Result<Checked, AllocError>
+    ensures { IfOk result (λ f. f ≡ check_expr e.now (seen_in_checker_scope checker_scope.entry)) }
 {
     match e {
-        Expr::Null { place } => Ok(sound(*place, Shape::Untyped)),
-        Expr::Number { place, value } => Ok(sound(*place, Shape::Value(of_literal(*value)))),
-        Expr::Text { place, .. } => Ok(sound(*place, Shape::Value(CHARACTER))),
-        Expr::Name(target) => Ok(name_found(view, target)),
-        Expr::Junction { operands, .. } => junction_found(alloc, operands, view),
+        Expr::Null { place } => Ok(well_typed(*place, Shape::Untyped)),
+        Expr::Number { place, value } => Ok(well_typed(*place, Shape::Value(of_literal(*value)))),
+        Expr::Text { place, .. } => Ok(well_typed(*place, Shape::Value(CHARACTER))),
+        Expr::Name(target) => Ok(check_name(checker_scope, target)),
+        Expr::LogicalOperator { operands, .. } => check_logical_operator(
+            alloc,
+            operands,
+            checker_scope,
+        ),
         Expr::Not { place, condition } => {
-            let found = expr_found(alloc, condition.get(), view)?;
-            Ok(negated(*place, found))
+            let checked = check_expr(alloc, condition.get(), checker_scope)?;
+            Ok(negated(*place, checked))
         }
         Expr::Compare { left, right, .. } => {
-            let first = expr_found(alloc, left.get(), view)?;
-            let second = expr_found(alloc, right.get(), view)?;
+            let first = check_expr(alloc, left.get(), checker_scope)?;
+            let second = check_expr(alloc, right.get(), checker_scope)?;
             Ok(comparison(first, second))
         }
         Expr::IsNull { value, .. } => {
-            let found = expr_found(alloc, value.get(), view)?;
-            Ok(null_test(found))
+            let checked = check_expr(alloc, value.get(), checker_scope)?;
+            Ok(null_test(checked))
         }
         Expr::Between {
             value,
@@ -59,16 +67,16 @@ pub fn expr_found(alloc: Global, e: &Expr, view: View) -> Result<Found, AllocErr
             high,
             ..
         } => {
-            let first = expr_found(alloc, value.get(), view)?;
-            let second = expr_found(alloc, low.get(), view)?;
-            let third = expr_found(alloc, high.get(), view)?;
+            let first = check_expr(alloc, value.get(), checker_scope)?;
+            let second = check_expr(alloc, low.get(), checker_scope)?;
+            let third = check_expr(alloc, high.get(), checker_scope)?;
             Ok(between(first, second, third))
         }
         Expr::In { value, list, .. } => {
-            let first = expr_found(alloc, value.get(), view)?;
+            let first = check_expr(alloc, value.get(), checker_scope)?;
             let mut values = Vec::new(alloc);
             values.push(as_value(first))?;
-            push_several(alloc, list, view, &mut values)?;
+            push_several(alloc, list, checker_scope, &mut values)?;
             Ok(compares(first.place, values.as_slice()))
         }
         Expr::Like {
@@ -77,39 +85,39 @@ pub fn expr_found(alloc: Global, e: &Expr, view: View) -> Result<Found, AllocErr
             escape,
             ..
         } => {
-            let first = expr_found(alloc, value.get(), view)?;
-            let second = expr_found(alloc, pattern.get(), view)?;
-            let third = optional_found(alloc, escape, view)?;
-            Ok(like_found(first, second, third))
+            let first = check_expr(alloc, value.get(), checker_scope)?;
+            let second = check_expr(alloc, pattern.get(), checker_scope)?;
+            let third = check_optional(alloc, escape, checker_scope)?;
+            Ok(check_like(first, second, third))
         }
-        Expr::Chain { first, links } => {
-            let first = expr_found(alloc, first.get(), view)?;
-            chain_found(alloc, links, view, as_value(first))
+        Expr::OperatorChain { first, chain_links } => {
+            let first = check_expr(alloc, first.get(), checker_scope)?;
+            check_operator_chain(alloc, chain_links, checker_scope, as_value(first))
         }
         Expr::Signed { place, operand, .. } => {
-            let found = expr_found(alloc, operand.get(), view)?;
-            Ok(signed_found(*place, found))
+            let checked = check_expr(alloc, operand.get(), checker_scope)?;
+            Ok(check_signed(*place, checked))
         }
         Expr::Call {
             function,
             arguments,
-        } => call_found(alloc, arguments, view, function),
+        } => check_call(alloc, arguments, checker_scope, function),
         Expr::Parenthesized { place, expr } => {
-            let found = expr_found(alloc, expr.get(), view)?;
-            Ok(found_with(*place, found))
+            let checked = check_expr(alloc, expr.get(), checker_scope)?;
+            Ok(checked_with(*place, checked))
         }
-        Expr::Subquery { place, query } => match view.row {
+        Expr::Subquery { place, query } => match checker_scope.row {
             Some(_) => Ok(broken(Rule::NotAllowedOnRow, *place)),
             None => {
-                let found = query_found(alloc, query.get(), view)?;
-                scalar_found(alloc, *place, &found)
+                let checked = check_query(alloc, query.get(), checker_scope)?;
+                check_scalar(alloc, *place, &checked)
             }
         },
-        Expr::Exists { place, query } => match view.row {
+        Expr::Exists { place, query } => match checker_scope.row {
             Some(_) => Ok(broken(Rule::NotAllowedOnRow, *place)),
             None => {
-                let found = query_found(alloc, query.get(), view)?;
-                Ok(exists_found(*place, &found))
+                let checked = check_query(alloc, query.get(), checker_scope)?;
+                Ok(check_exists(*place, &checked))
             }
         },
         Expr::Case {
@@ -118,37 +126,37 @@ pub fn expr_found(alloc: Global, e: &Expr, view: View) -> Result<Found, AllocErr
             whens,
             otherwise,
         } => {
-            let first = optional_found(alloc, operand, view)?;
-            let last = optional_found(alloc, otherwise, view)?;
-            let found = case_found(alloc, whens, view, *place, first, last)?;
-            Ok(found)
+            let first = check_optional(alloc, operand, checker_scope)?;
+            let last = check_optional(alloc, otherwise, checker_scope)?;
+            let checked = check_case(alloc, whens, checker_scope, *place, first, last)?;
+            Ok(checked)
         }
         Expr::Cast { place, source, to } => {
-            let found = expr_found(alloc, source.get(), view)?;
-            Ok(cast_found(*place, found, to))
+            let checked = check_expr(alloc, source.get(), checker_scope)?;
+            Ok(check_cast(*place, checked, to))
         }
         Expr::Coalesce { place, values } => {
-            let mut found = Vec::new(alloc);
-            push_several(alloc, values, view, &mut found)?;
-            Ok(coalesce_found(*place, found.as_slice()))
+            let mut checked = Vec::new(alloc);
+            push_several(alloc, values, checker_scope, &mut checked)?;
+            Ok(check_coalesce(*place, checked.as_slice()))
         }
         Expr::NullIf { place, left, right } => {
-            let first = expr_found(alloc, left.get(), view)?;
-            let second = expr_found(alloc, right.get(), view)?;
-            Ok(null_if_found(*place, first, second))
+            let first = check_expr(alloc, left.get(), checker_scope)?;
+            let second = check_expr(alloc, right.get(), checker_scope)?;
+            Ok(check_null_if(*place, first, second))
         }
         Expr::Function {
             place,
             function,
             argument,
         } => {
-            let found = expr_found(alloc, argument.get(), view)?;
-            Ok(text_function_found(*place, *function, found))
+            let checked = check_expr(alloc, argument.get(), checker_scope)?;
+            Ok(check_text_function(*place, *function, checked))
         }
         Expr::Position { place, part, whole } => {
-            let first = expr_found(alloc, part.get(), view)?;
-            let second = expr_found(alloc, whole.get(), view)?;
-            Ok(position_found(*place, first, second))
+            let first = check_expr(alloc, part.get(), checker_scope)?;
+            let second = check_expr(alloc, whole.get(), checker_scope)?;
+            Ok(check_position(*place, first, second))
         }
         Expr::Substring {
             place,
@@ -156,14 +164,14 @@ pub fn expr_found(alloc: Global, e: &Expr, view: View) -> Result<Found, AllocErr
             from,
             length,
         } => {
-            let first = expr_found(alloc, text.get(), view)?;
-            let second = expr_found(alloc, from.get(), view)?;
-            let third = optional_found(alloc, length, view)?;
-            Ok(substring_found(*place, first, second, third))
+            let first = check_expr(alloc, text.get(), checker_scope)?;
+            let second = check_expr(alloc, from.get(), checker_scope)?;
+            let third = check_optional(alloc, length, checker_scope)?;
+            Ok(check_substring(*place, first, second, third))
         }
         Expr::Trim { place, text, .. } => {
-            let found = expr_found(alloc, text.get(), view)?;
-            Ok(trim_found(*place, found))
+            let checked = check_expr(alloc, text.get(), checker_scope)?;
+            Ok(check_trim(*place, checked))
         }
     }
 }
@@ -174,13 +182,13 @@ pub fn expr_found(alloc: Global, e: &Expr, view: View) -> Result<Found, AllocErr
 fn push_value(
     alloc: Global,
     e: &Expr,
-    view: View,
-    values: &mut Vec<Found>,
+    checker_scope: CheckerScope,
+    values: &mut Vec<Checked>,
 ) -> Result<(), AllocError>
-    ensures { IfOk result (λ _. values.new.items ≡ values.old.items ++ as_value (expr_found e.now (seen_in_view view.entry)) ∷ []) }
+    ensures { IfOk result (λ _. values.new.items ≡ values.old.items ++ as_value (check_expr e.now (seen_in_checker_scope checker_scope.entry)) ∷ []) }
 {
-    let found = expr_found(alloc, e, view)?;
-    values.push(as_value(found))?;
+    let checked = check_expr(alloc, e, checker_scope)?;
+    values.push(as_value(checked))?;
     Ok(())
 }
 
@@ -188,13 +196,13 @@ fn push_value(
 fn push_values(
     alloc: Global,
     list: &List<Boxed<Expr>>,
-    view: View,
-    values: &mut Vec<Found>,
+    checker_scope: CheckerScope,
+    values: &mut Vec<Checked>,
 ) -> Result<(), AllocError>
-    ensures { IfOk result (λ _. values.new.items ≡ values.old.items ++ map as_value (seen (seen_in_view view.entry) (map expr_found list.now))) }
+    ensures { IfOk result (λ _. values.new.items ≡ values.old.items ++ map as_value (seen (seen_in_checker_scope checker_scope.entry) (map check_expr list.now))) }
 {
     for e in list.items() {
-        push_value(alloc, e.get(), view, values)?;
+        push_value(alloc, e.get(), checker_scope, values)?;
     }
     Ok(())
 }
@@ -203,43 +211,43 @@ fn push_values(
 fn push_several(
     alloc: Global,
     list: &OneOrMore<Boxed<Expr>>,
-    view: View,
-    values: &mut Vec<Found>,
+    checker_scope: CheckerScope,
+    values: &mut Vec<Checked>,
 ) -> Result<(), AllocError>
-    ensures { IfOk result (λ _. values.new.items ≡ values.old.items ++ map as_value (seen_in (seen_in_view view.entry) (several_map expr_found list.now))) }
+    ensures { IfOk result (λ _. values.new.items ≡ values.old.items ++ map as_value (seen_in (seen_in_checker_scope checker_scope.entry) (several_map check_expr list.now))) }
 {
-    push_value(alloc, list.first.get(), view, values)?;
+    push_value(alloc, list.first.get(), checker_scope, values)?;
     for e in list.rest.items() {
-        push_value(alloc, e.get(), view, values)?;
+        push_value(alloc, e.get(), checker_scope, values)?;
     }
     Ok(())
 }
 
 #[cycle(expression)]
-fn junction_found(
+fn check_logical_operator(
     alloc: Global,
     operands: &OneOrMore<Boxed<Expr>>,
-    view: View,
-) -> Result<Found, AllocError>
-    ensures { IfOk result (λ f. f ≡ junction_of (expr_found operands.now.first (seen_in_view view.entry)).place (map as_condition (seen_in (seen_in_view view.entry) (several_map expr_found operands.now)))) }
+    checker_scope: CheckerScope,
+) -> Result<Checked, AllocError>
+    ensures { IfOk result (λ f. f ≡ logical_operator_of (check_expr operands.now.first (seen_in_checker_scope checker_scope.entry)).place (map as_condition (seen_in (seen_in_checker_scope checker_scope.entry) (several_map check_expr operands.now)))) }
 {
-    let first = expr_found(alloc, operands.first.get(), view)?;
+    let first = check_expr(alloc, operands.first.get(), checker_scope)?;
     let mut conditions = Vec::new(alloc);
     conditions.push(as_condition(first))?;
     for e in operands.rest.items() {
-        let found = expr_found(alloc, e.get(), view)?;
-        conditions.push(as_condition(found))?;
+        let checked = check_expr(alloc, e.get(), checker_scope)?;
+        conditions.push(as_condition(checked))?;
     }
-    Ok(junction_of(first.place, conditions.as_slice()))
+    Ok(logical_operator_of(first.place, conditions.as_slice()))
 }
 
 // ---- names
 
 /// What is found in a name.
-pub(crate) fn name_found(view: View, target: &Target) -> Found
-    ensures { result ≡ name_found (seen_in_view view.entry) target.now }
+pub(crate) fn check_name(checker_scope: CheckerScope, target: &Target) -> Checked
+    ensures { result ≡ check_name (seen_in_checker_scope checker_scope.entry) target.now }
 {
-    match name_in(view, target) {
+    match name_in(checker_scope, target) {
         None => broken(Rule::UnknownName, target.place()),
         Some(Meant::Column(_, kind)) => of_type(target.place(), kind),
         Some(Meant::Variable(known)) => of_type(target.place(), known.kind),
@@ -249,72 +257,77 @@ pub(crate) fn name_found(view: View, target: &Target) -> Found
 // ---- chains
 
 #[cycle(expression)]
-fn chain_found(
+fn check_operator_chain(
     alloc: Global,
-    links: &List<Link>,
-    view: View,
-    first: Found,
-) -> Result<Found, AllocError>
-    ensures { IfOk result (λ f. f ≡ chained first (seen (seen_in_view view.entry) (map link_found links.now))) }
+    chain_links: &List<ChainLink>,
+    checker_scope: CheckerScope,
+    first: Checked,
+) -> Result<Checked, AllocError>
+    ensures { IfOk result (λ f. f ≡ chained first (seen (seen_in_checker_scope checker_scope.entry) (map check_chain_link chain_links.now))) }
 {
     let mut left = first;
-    for link in links.items() {
-        left = link_found(alloc, link, view, left)?;
+    for chain_link in chain_links.items() {
+        left = check_chain_link(alloc, chain_link, checker_scope, left)?;
     }
     Ok(left)
 }
 
 // A chain so far with a link more.
 #[cycle(expression)]
-#[tactic(auto, using(crate::proofs::Equations::found_link))]
-fn link_found(alloc: Global, link: &Link, view: View, left: Found) -> Result<Found, AllocError>
-    ensures { IfOk result (λ f. f ≡ linked left (link_found link.now (seen_in_view view.entry)).0 (as_value (link_found link.now (seen_in_view view.entry)).1)) }
+#[tactic(auto, using(crate::proofs::Equations::checked_chain_link))]
+fn check_chain_link(
+    alloc: Global,
+    chain_link: &ChainLink,
+    checker_scope: CheckerScope,
+    left: Checked,
+) -> Result<Checked, AllocError>
+    ensures { IfOk result (λ f. f ≡ linked left (check_chain_link chain_link.now (seen_in_checker_scope checker_scope.entry)).0 (as_value (check_chain_link chain_link.now (seen_in_checker_scope checker_scope.entry)).1)) }
 {
-    let found = expr_found(alloc, link.operand.get(), view)?;
-    Ok(linked(left, link.operator, as_value(found)))
+    let checked = check_expr(alloc, chain_link.operand.get(), checker_scope)?;
+    Ok(linked(left, chain_link.operator, as_value(checked)))
 }
 
 // ---- calls
 
 #[cycle(expression)]
-fn call_found(
+fn check_call(
     alloc: Global,
     arguments: &List<Boxed<Expr>>,
-    view: View,
+    checker_scope: CheckerScope,
     function: &Identifier,
-) -> Result<Found, AllocError>
-    ensures { IfOk result (λ f. f ≡ call_found (seen_in_view view.entry) (seen_in_view view.entry).row function.now (map as_value (seen (seen_in_view view.entry) (map expr_found arguments.now)))) }
+) -> Result<Checked, AllocError>
+    ensures { IfOk result (λ f. f ≡ check_call (seen_in_checker_scope checker_scope.entry) (seen_in_checker_scope checker_scope.entry).row function.now (map as_value (seen (seen_in_checker_scope checker_scope.entry) (map check_expr arguments.now)))) }
 {
-    match view.row {
+    match checker_scope.row {
         Some(_) => Ok(broken(Rule::NotAllowedOnRow, function.place)),
         None => {
             let mut values = Vec::new(alloc);
-            push_values(alloc, arguments, view, &mut values)?;
-            let whole = called(alloc, view, function, values.as_slice())?;
-            Ok(made_of(function.place, values.as_slice(), whole))
+            push_values(alloc, arguments, checker_scope, &mut values)?;
+            let whole = called(alloc, checker_scope, function, values.as_slice())?;
+            Ok(combined(function.place, values.as_slice(), whole))
         }
     }
 }
 
-// What a call of a function with these values comes to.
+// What a call of a function with these values evaluates to.
 fn called(
     alloc: Global,
-    view: View,
+    checker_scope: CheckerScope,
     name: &Identifier,
-    values: &[Found],
-) -> Result<Found, AllocError>
-    ensures { IfOk result (λ f. f ≡ called name.now.place (function view.entry.world.now.functions name.now.name (map (λ f. kind_of (shape_of f)) values.now))) }
+    values: &[Checked],
+) -> Result<Checked, AllocError>
+    ensures { IfOk result (λ f. f ≡ called name.now.place (function checker_scope.entry.symbols.now.functions name.now.name (map (λ f. kind_of (shape_of f)) values.now))) }
 {
     let kinds = kinds_of(alloc, values)?;
-    let world = view.world;
-    match world.functions.function(&name.name, kinds.as_slice()) {
+    let symbols = checker_scope.symbols;
+    match symbols.functions.function(&name.name, kinds.as_slice()) {
         Ok((_, returned)) => Ok(of_type(name.place, returned)),
         Err(ChoiceFault::NoRoutine) => Ok(broken(Rule::NoFunction, name.place)),
         Err(ChoiceFault::Ambiguous) => Ok(broken(Rule::AmbiguousFunction, name.place)),
     }
 }
 
-fn kinds_of(alloc: Global, values: &[Found]) -> Result<Vec<ArgKind>, AllocError>
+fn kinds_of(alloc: Global, values: &[Checked]) -> Result<Vec<ArgKind>, AllocError>
     ensures { IfOk result (λ ks. ks.items ≡ map (λ f. kind_of (shape_of f)) values.now) }
 {
     let mut kinds = Vec::new(alloc);
@@ -326,52 +339,58 @@ fn kinds_of(alloc: Global, values: &[Found]) -> Result<Vec<ArgKind>, AllocError>
 
 // ---- CASE
 
-// CASE, with what is found in its operand and behind ELSE.
+// CASE, with what is found in its operand and after ELSE.
 #[cycle(expression)]
-fn case_found(
+fn check_case(
     alloc: Global,
     whens: &OneOrMore<Boxed<When>>,
-    view: View,
+    checker_scope: CheckerScope,
     place: Place,
-    operand: Option<Found>,
-    otherwise: Option<Found>,
-) -> Result<Found, AllocError>
-    ensures { IfOk result (λ f. f ≡ case_found place operand (seen_in (seen_in_view view.entry) (several_map when_found whens.now)) otherwise) }
+    operand: Option<Checked>,
+    otherwise: Option<Checked>,
+) -> Result<Checked, AllocError>
+    ensures { IfOk result (λ f. f ≡ check_case place operand (seen_in (seen_in_checker_scope checker_scope.entry) (several_map check_when whens.now)) otherwise) }
 {
     match operand {
-        None => searched_found(alloc, whens, view, place, otherwise),
-        Some(operand) => simple_found(alloc, whens, view, place, operand, otherwise),
+        None => check_searched(alloc, whens, checker_scope, place, otherwise),
+        Some(operand) => check_simple(alloc, whens, checker_scope, place, operand, otherwise),
     }
 }
 
-fn push_else(otherwise: Option<Found>, results: &mut Vec<Found>) -> Result<(), AllocError>
+fn push_else(otherwise: Option<Checked>, results: &mut Vec<Checked>) -> Result<(), AllocError>
     ensures { IfOk result (λ _. results.new.items ≡ results.old.items ++ else_of otherwise) }
 {
     match otherwise {
         None => Ok(()),
-        Some(found) => {
-            results.push(as_value(found))?;
+        Some(checked) => {
+            results.push(as_value(checked))?;
             Ok(())
         }
     }
 }
 
 #[cycle(expression)]
-#[tactic(auto, using(crate::proofs::Equations::found_when))]
-fn searched_found(
+#[tactic(auto, using(crate::proofs::Equations::checked_when))]
+fn check_searched(
     alloc: Global,
     whens: &OneOrMore<Boxed<When>>,
-    view: View,
+    checker_scope: CheckerScope,
     place: Place,
-    otherwise: Option<Found>,
-) -> Result<Found, AllocError>
-    ensures { IfOk result (λ f. f ≡ case_found place None (seen_in (seen_in_view view.entry) (several_map when_found whens.now)) otherwise) }
+    otherwise: Option<Checked>,
+) -> Result<Checked, AllocError>
+    ensures { IfOk result (λ f. f ≡ check_case place None (seen_in (seen_in_checker_scope checker_scope.entry) (several_map check_when whens.now)) otherwise) }
 {
     let mut tests = Vec::new(alloc);
     let mut results = Vec::new(alloc);
-    push_searched(alloc, whens.first.get(), view, &mut tests, &mut results)?;
+    push_searched(
+        alloc,
+        whens.first.get(),
+        checker_scope,
+        &mut tests,
+        &mut results,
+    )?;
     for when in whens.rest.items() {
-        push_searched(alloc, when.get(), view, &mut tests, &mut results)?;
+        push_searched(alloc, when.get(), checker_scope, &mut tests, &mut results)?;
     }
     push_else(otherwise, &mut results)?;
     Ok(case_of(place, tests.as_slice(), results.as_slice()))
@@ -379,42 +398,49 @@ fn searched_found(
 
 // A WHEN without an operand.
 #[cycle(expression)]
-#[tactic(auto, using(crate::proofs::Equations::found_when))]
+#[tactic(auto, using(crate::proofs::Equations::checked_when))]
 fn push_searched(
     alloc: Global,
     when: &When,
-    view: View,
-    tests: &mut Vec<Found>,
-    results: &mut Vec<Found>,
+    checker_scope: CheckerScope,
+    tests: &mut Vec<Checked>,
+    results: &mut Vec<Checked>,
 ) -> Result<(), AllocError>
-    ensures tests { IfOk result (λ _. tests.new.items ≡ tests.old.items ++ as_condition (when_found when.now (seen_in_view view.entry)).0 ∷ []) }
-    ensures results { IfOk result (λ _. results.new.items ≡ results.old.items ++ as_value (when_found when.now (seen_in_view view.entry)).1 ∷ []) }
+    ensures tests { IfOk result (λ _. tests.new.items ≡ tests.old.items ++ as_condition (check_when when.now (seen_in_checker_scope checker_scope.entry)).0 ∷ []) }
+    ensures results { IfOk result (λ _. results.new.items ≡ results.old.items ++ as_value (check_when when.now (seen_in_checker_scope checker_scope.entry)).1 ∷ []) }
 {
-    let test = expr_found(alloc, when.test.get(), view)?;
+    let test = check_expr(alloc, when.test.get(), checker_scope)?;
     tests.push(as_condition(test))?;
-    push_value(alloc, when.result.get(), view, results)
+    push_value(alloc, when.result.get(), checker_scope, results)
 }
 
 #[cycle(expression)]
-#[tactic(auto, using(crate::proofs::Equations::found_when))]
-fn simple_found(
+#[tactic(auto, using(crate::proofs::Equations::checked_when))]
+fn check_simple(
     alloc: Global,
     whens: &OneOrMore<Boxed<When>>,
-    view: View,
+    checker_scope: CheckerScope,
     place: Place,
-    operand: Found,
-    otherwise: Option<Found>,
-) -> Result<Found, AllocError>
-    ensures { IfOk result (λ f. f ≡ case_found place (Some operand) (seen_in (seen_in_view view.entry) (several_map when_found whens.now)) otherwise) }
+    operand: Checked,
+    otherwise: Option<Checked>,
+) -> Result<Checked, AllocError>
+    ensures { IfOk result (λ f. f ≡ check_case place (Some operand) (seen_in (seen_in_checker_scope checker_scope.entry) (several_map check_when whens.now)) otherwise) }
 {
     let value = as_value(operand);
     let mut tests = Vec::new(alloc);
     tests.push(value)?;
     let mut results = Vec::new(alloc);
     let first = whens.first.get();
-    push_simple(alloc, first, view, value, &mut tests, &mut results)?;
+    push_simple(alloc, first, checker_scope, value, &mut tests, &mut results)?;
     for when in whens.rest.items() {
-        push_simple(alloc, when.get(), view, value, &mut tests, &mut results)?;
+        push_simple(
+            alloc,
+            when.get(),
+            checker_scope,
+            value,
+            &mut tests,
+            &mut results,
+        )?;
     }
     push_else(otherwise, &mut results)?;
     Ok(case_of(place, tests.as_slice(), results.as_slice()))
@@ -422,21 +448,21 @@ fn simple_found(
 
 // A WHEN with an operand.
 #[cycle(expression)]
-#[tactic(auto, using(crate::proofs::Equations::found_when))]
+#[tactic(auto, using(crate::proofs::Equations::checked_when))]
 fn push_simple(
     alloc: Global,
     when: &When,
-    view: View,
-    operand: Found,
-    tests: &mut Vec<Found>,
-    results: &mut Vec<Found>,
+    checker_scope: CheckerScope,
+    operand: Checked,
+    tests: &mut Vec<Checked>,
+    results: &mut Vec<Checked>,
 ) -> Result<(), AllocError>
-    ensures tests { IfOk result (λ _. tests.new.items ≡ tests.old.items ++ simple_test operand (when_found when.now (seen_in_view view.entry)).0 ∷ []) }
-    ensures results { IfOk result (λ _. results.new.items ≡ results.old.items ++ as_value (when_found when.now (seen_in_view view.entry)).1 ∷ []) }
+    ensures tests { IfOk result (λ _. tests.new.items ≡ tests.old.items ++ simple_test operand (check_when when.now (seen_in_checker_scope checker_scope.entry)).0 ∷ []) }
+    ensures results { IfOk result (λ _. results.new.items ≡ results.old.items ++ as_value (check_when when.now (seen_in_checker_scope checker_scope.entry)).1 ∷ []) }
 {
-    let test = expr_found(alloc, when.test.get(), view)?;
+    let test = check_expr(alloc, when.test.get(), checker_scope)?;
     tests.push(simple_test(operand, test))?;
-    push_value(alloc, when.result.get(), view, results)
+    push_value(alloc, when.result.get(), checker_scope, results)
 }
 
 // ---- queries
@@ -444,19 +470,19 @@ fn push_simple(
 /// What is found in a query: in its items and its WHERE on the rows of its table (ISO/IEC 9075:1992, 7.9). Fails only without
 /// memory.
 #[cycle(expression)]
-#[tactic(auto, using(crate::proofs::Equations::found_query))]
-pub fn query_found<'q, 'v, 'a>(
+#[tactic(auto, using(crate::proofs::Equations::checked_query))]
+pub fn check_query<'q, 'v, 'a>(
     alloc: Global,
     query: &'q Select,
-    view: View<'v, 'a>,
-) -> Result<QueryFound<'q, 'v, 'a>, AllocError>
-    ensures { IfOk result (λ q. q ≡ query_found query.now (seen_in_view view.entry)) }
+    checker_scope: CheckerScope<'v, 'a>,
+) -> Result<QueryChecked<'q, 'v, 'a>, AllocError>
+    ensures { IfOk result (λ q. q ≡ check_query query.now (seen_in_checker_scope checker_scope.entry)) }
 {
-    let columns = view.world.columns(&query.table.name);
-    let inside = on_row(view, row_of(query, columns));
-    let picks = picks_found(alloc, &query.picks, inside)?;
-    let test = optional_found(alloc, &query.condition, inside)?;
-    Ok(QueryFound {
+    let columns = checker_scope.symbols.columns(&query.table.name);
+    let inside = on_row(checker_scope, row_of(query, columns));
+    let picks = check_picks(alloc, &query.picks, inside)?;
+    let test = check_optional(alloc, &query.condition, inside)?;
+    Ok(QueryChecked {
         picks,
         table: &query.table,
         columns,
@@ -465,58 +491,62 @@ pub fn query_found<'q, 'v, 'a>(
 }
 
 #[cycle(expression)]
-fn optional_found(
+fn check_optional(
     alloc: Global,
     e: &Option<Boxed<Expr>>,
-    view: View,
-) -> Result<Option<Found>, AllocError>
-    ensures { IfOk result (λ f. f ≡ seen_option (seen_in_view view.entry) (option_map expr_found e.now)) }
+    checker_scope: CheckerScope,
+) -> Result<Option<Checked>, AllocError>
+    ensures { IfOk result (λ f. f ≡ seen_option (seen_in_checker_scope checker_scope.entry) (option_map check_expr e.now)) }
 {
     match e {
         None => Ok(None),
         Some(e) => {
-            let found = expr_found(alloc, e.get(), view)?;
-            Ok(Some(found))
+            let checked = check_expr(alloc, e.get(), checker_scope)?;
+            Ok(Some(checked))
         }
     }
 }
 
 #[cycle(expression)]
-fn picks_found<'q>(
+fn check_picks<'q>(
     alloc: Global,
     list: &'q OneOrMore<Boxed<Pick>>,
-    view: View,
-) -> Result<Vec<PickFound<'q>>, AllocError>
-    ensures { IfOk result (λ ps. map pick_of ps.items ≡ seen_in (seen_in_view view.entry) (several_map pick_found list.now)) }
+    checker_scope: CheckerScope,
+) -> Result<Vec<PickChecked<'q>>, AllocError>
+    ensures { IfOk result (λ ps. map pick_of ps.items ≡ seen_in (seen_in_checker_scope checker_scope.entry) (several_map check_pick list.now)) }
 {
     let mut picks = Vec::new(alloc);
-    let first = pick_found(alloc, list.first.get(), view)?;
+    let first = check_pick(alloc, list.first.get(), checker_scope)?;
     picks.push(first)?;
     for pick in list.rest.items() {
-        let found = pick_found(alloc, pick.get(), view)?;
-        picks.push(found)?;
+        let checked = check_pick(alloc, pick.get(), checker_scope)?;
+        picks.push(checked)?;
     }
     Ok(picks)
 }
 
 #[cycle(expression)]
 #[tactic(auto, using(crate::proofs::Equations::pick_equations))]
-fn pick_found<'q>(alloc: Global, pick: &'q Pick, view: View) -> Result<PickFound<'q>, AllocError>
-    ensures { IfOk result (λ p. pick_of p ≡ pick_found pick.now (seen_in_view view.entry)) }
+fn check_pick<'q>(
+    alloc: Global,
+    pick: &'q Pick,
+    checker_scope: CheckerScope,
+) -> Result<PickChecked<'q>, AllocError>
+    ensures { IfOk result (λ p. pick_of p ≡ check_pick pick.now (seen_in_checker_scope checker_scope.entry)) }
 {
     match pick {
-        Pick::All { place } => Ok(PickFound {
+        Pick::All { place } => Ok(PickChecked {
             form: Picked::All,
-            found: sound(*place, Shape::Untyped),
+            checked: well_typed(*place, Shape::Untyped),
             alias: None,
         }),
         Pick::Expr { expr, alias } => {
-            let found = expr_found(alloc, expr.get(), view)?;
-            Ok(pick_item(Picked::Plain, found, alias))
+            let checked = check_expr(alloc, expr.get(), checker_scope)?;
+            Ok(pick_item(Picked::Plain, checked, alias))
         }
         Pick::CountRows { place, alias } => {
-            let found = sound(*place, Shape::Value(INTEGER));
-            Ok(pick_item(Picked::Set, found, alias))
+            let checked = well_typed(*place, Shape::Value(INTEGER));
+            Ok(pick_item(Picked::Set, checked, alias))
         }
         Pick::Aggregate {
             place,
@@ -524,8 +554,8 @@ fn pick_found<'q>(alloc: Global, pick: &'q Pick, view: View) -> Result<PickFound
             argument,
             alias,
         } => {
-            let found = expr_found(alloc, argument.get(), view)?;
-            Ok(pick_item(Picked::Set, set_found(*place, *function, found), alias))
+            let checked = check_expr(alloc, argument.get(), checker_scope)?;
+            Ok(pick_item(Picked::Set, check_set(*place, *function, checked), alias))
         }
     }
 }

@@ -4,8 +4,8 @@ use psm_rules::Shape;
 use psm_text::Name;
 use std::marker::Model;
 
-/// The frames around a statement, with what they declare.
-pub type Frames<'a> = psm_scope::Frames<'a, CheckedCursor<'a>>;
+/// The scopes around a statement, with what they declare.
+pub type Scopes<'a> = psm_scope::Scopes<'a, CheckedCursor<'a>>;
 
 /// What is known of a cursor.
 #[derive(Debug, Drop)]
@@ -21,7 +21,7 @@ pub struct CheckedCursor<'a> {
 }
 
 impl<'a> Model for CheckedCursor<'a> {
-    ghost use Rattle.psm_rules.specs.View.{Cursor};
+    ghost use Rattle.psm_rules.specs.CheckerScope.{Cursor};
 
     ghost Value = { Cursor };
 

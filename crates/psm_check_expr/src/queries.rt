@@ -2,21 +2,21 @@
 ghost use Rattle.std.specs.Prelude.{◌≡◌, ◌++◌, IfOk, None, Some, map, option_map, if◌then◌else◌};
 ghost use Rattle.std.specs.Option.{option_copied};
 ghost use Rattle.psm_scope.specs.Rows.{columns_known, row_table};
-ghost use Rattle.psm_rules.specs.ExprFaults.{column_item, counted_fault, first_set, is_set, item_of, items_fault, items_in, items_of, items_of_pick, joined_items, may_be, miscounted_fault, misplaced_set, only_shape, other_faults, parts_fault, pick_item, query_fault, set_argument, set_found, set_result, set_shape, sets_fault, spelling, table_fault, test_fault, typed_pick, without_fault};
-ghost use Rattle.psm_rules.specs.Found.{as_value};
+ghost use Rattle.psm_rules.specs.ExprFaults.{column_item, counted_fault, first_set, is_set, item_of, items_fault, items_in, items_of, items_of_pick, joined_items, may_be, miscounted_fault, misplaced_set, only_shape, other_faults, parts_fault, pick_item, query_fault, set_argument, check_set, set_result, set_shape, sets_fault, spelling, table_fault, test_fault, typed_pick, without_fault};
+ghost use Rattle.psm_rules.specs.Checked.{as_value};
 ghost use Rattle.psm_rules.specs.Shapes.{typed};
 ghost use Rattle.psm_rules.specs.declared.shape.Shape.TheVariants.{Condition, Value};
 ghost use Rattle.std.specs.List.{list_all};
 ghost use Rattle.psm_tree.specs.declared.expr.Select.{out-Select};
 ghost use Rattle.psm_check_expr.specs.Seen.{pick_of};
 
+use crate::checker_scope::spelling;
 use crate::operators::without_fault;
-use crate::view::spelling;
-use crate::world::Columns;
+use crate::symbols::Columns;
 use psm_list::List;
 use psm_rules::{
-    Family, Fault, Found, INTEGER, Item, Picked, Rule, Shape, Typed, as_condition, as_value,
-    breaks, breaks_if, earlier, made_of, of_family, shape_of, sound, typed,
+    Checked, Family, Fault, INTEGER, Item, Picked, Rule, Shape, Typed, as_condition, as_value,
+    breaks, breaks_if, combined, earlier, of_family, shape_of, typed, well_typed,
 };
 use psm_scope::{ArgKind, RowTable};
 use psm_text::Name;
@@ -28,27 +28,27 @@ use std::marker::Model;
 
 /// What is found in an item of a query, and its alias.
 #[derive(Clone, Copy)]
-pub struct PickFound<'q> {
+pub struct PickChecked<'q> {
     pub form: Picked,
-    pub found: Found,
+    pub checked: Checked,
     pub alias: Option<&'q Name>,
 }
 
 /// What is found in a query.
 #[derive(Drop)]
-pub struct QueryFound<'q, 'v, 'a> {
-    pub picks: Vec<PickFound<'q>>,
+pub struct QueryChecked<'q, 'v, 'a> {
+    pub picks: Vec<PickChecked<'q>>,
     pub table: &'q Identifier,
     /// The columns of its table, where there is one of that name.
     pub columns: Option<&'v Columns<'a>>,
     /// What is found in WHERE.
-    pub test: Option<Found>,
+    pub test: Option<Checked>,
 }
 
-impl<'q, 'v, 'a> Model for QueryFound<'q, 'v, 'a> {
+impl<'q, 'v, 'a> Model for QueryChecked<'q, 'v, 'a> {
     ghost use Rattle.std.specs.Prelude.{map};
     ghost use Rattle.std.specs.Option.{option_copied};
-    ghost use Rattle.psm_rules.specs.ExprFaults.{QueryFound as Seen};
+    ghost use Rattle.psm_rules.specs.ExprFaults.{QueryChecked as Seen};
     ghost use Rattle.psm_check_expr.specs.Seen.{pick_of};
 
     ghost Value = { Seen };
@@ -70,14 +70,14 @@ pub fn row_of<'r, 'a>(query: &'r Select, columns: Option<&'r Columns<'a>>) -> Ro
 /// An item with its own name, where it has one.
 pub(crate) fn pick_item<'q>(
     form: Picked,
-    found: Found,
+    checked: Checked,
     alias: &'q Option<Identifier>,
-) -> PickFound<'q>
-    ensures { pick_of result ≡ pick_item form found alias.now }
+) -> PickChecked<'q>
+    ensures { pick_of result ≡ pick_item form checked alias.now }
 {
-    PickFound {
+    PickChecked {
         form,
-        found,
+        checked,
         alias: spelling(alias),
     }
 }
@@ -85,24 +85,24 @@ pub(crate) fn pick_item<'q>(
 // ---- set functions
 
 /// A set function over its argument.
-pub(crate) fn set_found(place: Place, function: SetFunction, argument: Found) -> Found
-    ensures { result ≡ set_found place function argument }
+pub(crate) fn check_set(place: Place, function: SetFunction, argument: Checked) -> Checked
+    ensures { result ≡ check_set place function argument }
 {
     let value = set_argument(function, argument);
     let whole = set_shape(place, function, shape_of(value));
-    made_of(place, &[value], whole)
+    combined(place, &[value], whole)
 }
 
-fn set_shape(place: Place, function: SetFunction, shape: Shape) -> Found
+fn set_shape(place: Place, function: SetFunction, shape: Shape) -> Checked
     ensures { result ≡ set_shape place function shape }
 {
     match shape {
-        Shape::Value(t) => sound(place, Shape::Value(set_result(function, t))),
-        Shape::Untyped | Shape::Condition => sound(place, Shape::Untyped),
+        Shape::Value(t) => well_typed(place, Shape::Value(set_result(function, t))),
+        Shape::Untyped | Shape::Condition => well_typed(place, Shape::Untyped),
     }
 }
 
-fn set_argument(function: SetFunction, argument: Found) -> Found
+fn set_argument(function: SetFunction, argument: Checked) -> Checked
     ensures { result ≡ set_argument function argument }
 {
     match function {
@@ -111,7 +111,7 @@ fn set_argument(function: SetFunction, argument: Found) -> Found
     }
 }
 
-/// What a set function over values of a type comes to.
+/// What a set function over values of a type evaluates to.
 pub fn set_result(function: SetFunction, t: Typed) -> Typed
     ensures { result ≡ set_result function t }
 {
@@ -135,7 +135,7 @@ pub fn table_fault(table: &Identifier, columns: Option<&Columns>) -> Option<Faul
 }
 
 /// The fault of WHERE, which is a condition.
-pub fn test_fault(test: Option<Found>) -> Option<Fault>
+pub fn test_fault(test: Option<Checked>) -> Option<Fault>
     ensures { result ≡ test_fault test }
 {
     match test {
@@ -154,18 +154,18 @@ fn is_set(form: Picked) -> bool
 }
 
 /// The place of the first item that is a set function.
-pub fn first_set(picks: &[PickFound]) -> Option<Place>
+pub fn first_set(picks: &[PickChecked]) -> Option<Place>
     ensures { result ≡ first_set (map pick_of picks.now) }
 {
     for pick in picks {
         if is_set(pick.form) {
-            return Some(pick.found.place);
+            return Some(pick.checked.place);
         }
     }
     None
 }
 
-fn are_all_sets(picks: &[PickFound]) -> bool
+fn are_all_sets(picks: &[PickChecked]) -> bool
     ensures { result ≡ list_all (λ p. is_set p.form) (map pick_of picks.now) }
 {
     for pick in picks {
@@ -187,34 +187,34 @@ pub fn misplaced_set(misplaced: bool, place: Option<Place>) -> Option<Fault>
 }
 
 // A set function beside other items.
-fn sets_fault(picks: &[PickFound]) -> Option<Fault>
+fn sets_fault(picks: &[PickChecked]) -> Option<Fault>
     ensures { result ≡ sets_fault (map pick_of picks.now) }
 {
     misplaced_set(!are_all_sets(picks), first_set(picks))
 }
 
-fn items_fault(picks: &[PickFound]) -> Option<Fault>
+fn items_fault(picks: &[PickChecked]) -> Option<Fault>
     ensures { result ≡ items_fault (map pick_of picks.now) }
 {
     let mut first = None;
     for pick in picks {
-        first = earlier(first, as_value(pick.found).fault);
+        first = earlier(first, as_value(pick.checked).fault);
     }
     first
 }
 
 // The faults of items whose sort isn't asked.
-fn parts_fault(picks: &[PickFound]) -> Option<Fault>
+fn parts_fault(picks: &[PickChecked]) -> Option<Fault>
     ensures { result ≡ parts_fault (map pick_of picks.now) }
 {
     let mut first = None;
     for pick in picks {
-        first = earlier(first, pick.found.fault);
+        first = earlier(first, pick.checked.fault);
     }
     first
 }
 
-impl<'q, 'v, 'a> QueryFound<'q, 'v, 'a> {
+impl<'q, 'v, 'a> QueryChecked<'q, 'v, 'a> {
     // The faults beside those of the items.
     fn other_faults(&self) -> Option<Fault>
         ensures { result ≡ other_faults self.now }
@@ -237,14 +237,14 @@ impl<'q, 'v, 'a> QueryFound<'q, 'v, 'a> {
     {
         let first = match self.picks.first() {
             None => self.table.place,
-            Some(pick) => pick.found.place,
+            Some(pick) => pick.checked.place,
         };
         let counts = breaks(Rule::CountsDiffer, first);
         let parts = parts_fault(self.picks.as_slice());
         earlier(earlier(counts, parts), self.other_faults())
     }
 
-    /// The first fault, where so many items are due.
+    /// The first fault, where n items are due.
     pub(crate) fn counted_fault(&self, count: usize, items: &Option<List<Item>>) -> Option<Fault>
         requires { items.now ≡ items_of self.now }
         ensures { result ≡ counted_fault count self.now }
@@ -270,7 +270,7 @@ fn items_in(
     alloc: Global,
     columns: Option<&Columns>,
     all_sets: bool,
-    picks: &[PickFound],
+    picks: &[PickChecked],
 ) -> Result<Option<List<Item>>, AllocError>
     ensures { IfOk result (λ items. items ≡ items_in (option_copied columns.entry) (map (typed_pick all_sets) (map pick_of picks.now))) }
 {
@@ -287,7 +287,7 @@ fn items_in(
 fn push_items(
     columns: Option<&Columns>,
     all_sets: bool,
-    pick: PickFound,
+    pick: PickChecked,
     items: &mut Vec<Item>,
 ) -> Result<bool, AllocError>
     ensures { IfOk result (λ known. joined_items (Some items.old.items) (items_of_pick (option_copied columns.entry) (typed_pick all_sets (pick_of pick.entry))) ≡ (if known then Some items.new.items else None)) }
@@ -296,43 +296,43 @@ fn push_items(
         Picked::All => match columns {
             None => Ok(false),
             Some(columns) => {
-                push_columns(pick.found.place, columns, items)?;
+                push_columns(pick.checked.place, columns, items)?;
                 Ok(true)
             }
         },
         Picked::Plain => {
-            items.push(item_of(pick.found))?;
+            items.push(item_of(pick.checked))?;
             Ok(true)
         }
         Picked::Set => {
-            items.push(set_item(all_sets, pick.found))?;
+            items.push(set_item(all_sets, pick.checked))?;
             Ok(true)
         }
     }
 }
 
 // The item of a set function, which has a type only where all items are set functions.
-fn set_item(all_sets: bool, found: Found) -> Item
-    ensures place { result.place ≡ found.place }
-    ensures shape { result.shape ≡ (if all_sets then (as_value found).shape else None) }
+fn set_item(all_sets: bool, checked: Checked) -> Item
+    ensures place { result.place ≡ checked.place }
+    ensures shape { result.shape ≡ (if all_sets then (as_value checked).shape else None) }
 {
     let shape = if all_sets {
-        as_value(found).shape
+        as_value(checked).shape
     } else {
         None
     };
     Item {
-        place: found.place,
+        place: checked.place,
         shape,
     }
 }
 
-fn item_of(found: Found) -> Item
-    ensures { result ≡ item_of found }
+fn item_of(checked: Checked) -> Item
+    ensures { result ≡ item_of checked }
 {
     Item {
-        place: found.place,
-        shape: as_value(found).shape,
+        place: checked.place,
+        shape: as_value(checked).shape,
     }
 }
 
@@ -355,7 +355,7 @@ fn column_shape(kind: Option<SqlType>) -> Option<Shape>
     }
 }
 
-/// Whether there may be so many items: of items that aren't known there may be any number.
+/// Whether there may be n items: of items that aren't known there may be any number.
 pub fn may_be(count: usize, items: &Option<List<Item>>) -> bool
     ensures { result ≡ may_be count items.now }
 {
@@ -368,11 +368,11 @@ pub fn may_be(count: usize, items: &Option<List<Item>>) -> bool
 // ---- subqueries in a control expression
 
 /// A scalar query.
-pub(crate) fn scalar_found(
+pub(crate) fn check_scalar(
     alloc: Global,
     place: Place,
-    query: &QueryFound,
-) -> Result<Found, AllocError>
+    query: &QueryChecked,
+) -> Result<Checked, AllocError>
     ensures { IfOk result (λ f. f ≡ without_fault place (counted_fault 1 query.now) (only_shape (items_of query.now))) }
 {
     let items = query.items(alloc)?;
@@ -394,7 +394,7 @@ fn only_shape(items: &Option<List<Item>>) -> Option<Shape>
 }
 
 /// EXISTS with a query.
-pub(crate) fn exists_found(place: Place, query: &QueryFound) -> Found
+pub(crate) fn check_exists(place: Place, query: &QueryChecked) -> Checked
     ensures { result ≡ without_fault place (query_fault query.now) (Some Condition) }
 {
     without_fault(place, query.fault(), Some(Shape::Condition))

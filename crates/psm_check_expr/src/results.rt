@@ -1,30 +1,30 @@
 //! The results of CASE and the values of COALESCE.
 ghost use Rattle.std.specs.Prelude.{◌≡◌};
 ghost use Rattle.psm_scope.specs.Lookup.{or_else};
-ghost use Rattle.psm_rules.specs.ExprFaults.{case_of, coalesce_found, differing, result_of, results_found, results_of};
+ghost use Rattle.psm_rules.specs.ExprFaults.{case_of, check_coalesce, differing, result_of, check_results, results_of};
 ghost use Rattle.psm_rules.specs.Shapes.{clashes, family_in};
 
 use psm_rules::{
-    Family, Found, Rule, Shape, Typed, are_shaped, breaks, broken, earlier, family_of, faults_in,
-    joined, made_of, shape_of, sound,
+    Checked, Family, Rule, Shape, Typed, are_shaped, breaks, broken, combined, earlier, family_of,
+    faults_in, joined, shape_of, well_typed,
 };
 use psm_token::Place;
 
 /// COALESCE of values.
-pub(crate) fn coalesce_found(place: Place, values: &[Found]) -> Found
-    ensures { result ≡ coalesce_found place values.now }
+pub(crate) fn check_coalesce(place: Place, values: &[Checked]) -> Checked
+    ensures { result ≡ check_coalesce place values.now }
 {
-    made_of(place, values, results_found(place, values))
+    combined(place, values, check_results(place, values))
 }
 
 /// CASE: the rules on the results are asked where no part, a test among them, is at fault.
-pub(crate) fn case_of(place: Place, tests: &[Found], results: &[Found]) -> Found
+pub(crate) fn case_of(place: Place, tests: &[Checked], results: &[Checked]) -> Checked
     ensures { result ≡ case_of place tests.now results.now }
 {
     if are_shaped(tests) && are_shaped(results) {
-        results_found(place, results)
+        check_results(place, results)
     } else {
-        Found {
+        Checked {
             place,
             fault: earlier(faults_in(tests), faults_in(results)),
             shape: None,
@@ -32,12 +32,12 @@ pub(crate) fn case_of(place: Place, tests: &[Found], results: &[Found]) -> Found
     }
 }
 
-fn results_found(place: Place, results: &[Found]) -> Found
-    ensures { result ≡ results_found place results.now }
+fn check_results(place: Place, results: &[Checked]) -> Checked
+    ensures { result ≡ check_results place results.now }
 {
     match differing(results) {
         None => results_of(place, result_of(results)),
-        Some(other) => Found {
+        Some(other) => Checked {
             place,
             fault: breaks(Rule::FamiliesMixed, other),
             shape: None,
@@ -45,24 +45,24 @@ fn results_found(place: Place, results: &[Found]) -> Found
     }
 }
 
-fn results_of(place: Place, typed: Option<Typed>) -> Found
+fn results_of(place: Place, typed: Option<Typed>) -> Checked
     ensures { result ≡ results_of place typed }
 {
     match typed {
         None => broken(Rule::NullWithoutType, place),
-        Some(t) => sound(place, Shape::Value(t)),
+        Some(t) => well_typed(place, Shape::Value(t)),
     }
 }
 
 // The first of the results whose family differs from that of the first that isn't NULL.
-fn differing(results: &[Found]) -> Option<Place>
+fn differing(results: &[Checked]) -> Option<Place>
     ensures { result ≡ differing None results.now }
 {
     let mut due = None;
-    for found in results {
-        let own = family_in(shape_of(*found));
+    for checked in results {
+        let own = family_in(shape_of(*checked));
         if clashes(due, own) {
-            return Some(found.place);
+            return Some(checked.place);
         }
         due = or_else(due, own);
     }
@@ -101,12 +101,12 @@ fn or_else(due: Option<Family>, own: Option<Family>) -> Option<Family>
 }
 
 // The highest kind and the largest scale among those that aren't NULL.
-fn result_of(results: &[Found]) -> Option<Typed>
+fn result_of(results: &[Checked]) -> Option<Typed>
     ensures { result ≡ result_of None results.now }
 {
     let mut so_far = None;
-    for found in results {
-        so_far = joined(so_far, shape_of(*found));
+    for checked in results {
+        so_far = joined(so_far, shape_of(*checked));
     }
     so_far
 }

@@ -1,5 +1,5 @@
 -- Commands worked out by hand, over CREATE TABLE t (k INTEGER PRIMARY KEY, v VARCHAR(5)) and PROCEDURE p (IN a INTEGER, OUT b INTEGER),
--- which stands behind three other procedures. All stand in line 1.
+-- which stands after three other procedures. All stand in line 1.
 use Rattle.std.proofs.Common.{◌≡◌, ℕ, true, List, [], ◌∷◌, refl, Option, Some, None}
 use Rattle.std.specs.Prelude.{pos, codes}
 use Rattle.psm_token.specs.declared.place.Place.{Place}

@@ -4,7 +4,7 @@ use Rattle.std.specs.Prelude.{if◌then◌else◌, slice_get}
 use Rattle.std.specs.List.{AllByRecursion}
 use Rattle.psm_list.specs.Several.{Several}
 use Rattle.psm_value.specs.declared.sqltype.SqlType.{SqlType}
-use Rattle.psm_scope.specs.Lookup.{named, place_named}
+use Rattle.psm_scope.specs.Lookup.{named, index_named}
 use Rattle.psm_scope.specs.Routines.{procedure}
 use Rattle.psm_scope.specs.declared.procedures.ProcedureScope.{ProcedureScope}
 use Rattle.psm_tree.specs.Names.{Names}
@@ -18,7 +18,7 @@ use Rattle.psm_rules.specs.declared.fault.Fault.{Fault}
 use Rattle.psm_rules.specs.ExprFaults.{table_fault}
 use Rattle.psm_rules.specs.Faults.{earlier, first_of}
 use Rattle.psm_rules.specs.StatementFaults.{columns_fault, inserted_types, listed_columns}
-use Rattle.psm_rules.specs.View.{Columns}
+use Rattle.psm_rules.specs.CheckerScope.{Columns}
 use Rattle.psm_rules.proofs.Earliest.{first_of_cons}
 use Rattle.psm_resolve_expr.specs.Exprs.{number_of}
 use Rattle.psm_code.specs.declared.code.Parameter.{Parameter}
@@ -29,7 +29,7 @@ use Rattle.psm_check_script.specs.Commands.{command_of, given_values, procedure_
 use Rattle.psm_check_script.specs.Known.{known_of, mode_of, parameter_of}
 use Rattle.psm_check_script.specs.ScriptFaults.{argument_fault, arguments_fault, call_fault, command_fault, insert_fault, rows_fault}
 use Rattle.psm_check_script.specs.There.{IsCall, IsThere, takes, taking}
-use Rattle.psm_check_script.proofs.Numbers.{get_there, numbered, place_within, tables_within}
+use Rattle.psm_check_script.proofs.Numbers.{get_there, numbered, index_within, tables_within}
 
 -- ---- where there is no first fault there is none
 
@@ -83,13 +83,13 @@ known_table table None e = absurd (no_fault _ e)
 known_table table (Some cs) e = refl
 
 insert_there : (c : RawCode) (table : Identifier) (names : Option Names) (rows : Several ConstantRow) → insert_fault table (named table.name (known_of c).tables) names rows ≡ None
-    → is_some (slice_get c.tables (number_of (place_named 0 table.name (known_of c).tables))) ≡ true
+    → is_some (slice_get c.tables (number_of (index_named 0 table.name (known_of c).tables))) ≡ true
 insert_there c table names rows e =
     let columns = named table.name (known_of c).tables in
     let fault = none_first (table_fault table columns) (columns_fault columns (listed_columns names) ∷ rows_fault (inserted_types columns names) rows ∷ []) e in
-    let within = place_within table.name 0 (known_of c).tables (known_table table columns fault.0) in
+    let within = index_within table.name 0 (known_of c).tables (known_table table columns fault.0) in
     let few = tables_within c.tables in
-    get_there c.tables (number_of (place_named 0 table.name (known_of c).tables)) (omega (arith, within, few))
+    get_there c.tables (number_of (index_named 0 table.name (known_of c).tables)) (omega (arith, within, few))
 
 -- ---- commands
 

@@ -3,8 +3,8 @@ use Rattle.std.proofs.Common.{ℕ, zero, suc, ◌+◌, ◌≡◌, ◌<◌, ◌�
 use Rattle.std.specs.Prelude.{slice_get, if◌then◌else◌}
 use Rattle.std.proofs.lemmas.Bool.Decides.{nat_tests}
 use Rattle.std.proofs.lemmas.List.{append_assoc}
-use Rattle.psm_scope.specs.Frames.{Spelling, is_spelled}
-use Rattle.psm_scope.specs.Lookup.{named, place_named}
+use Rattle.psm_scope.specs.Scopes.{Spelling, is_spelled}
+use Rattle.psm_scope.specs.Lookup.{named, index_named}
 use Rattle.psm_scope.specs.Routines.{Header, is_header, procedure}
 use Rattle.psm_scope.specs.declared.procedures.ProcedureScope.{ProcedureScope}
 use Rattle.psm_rules.specs.BlockFaults.{declared_once}
@@ -75,16 +75,16 @@ found_last n count (q ∷ qs) h x p e = by (is_header n count q.0) (found_last n
     by true r e = inl e
     by false r e = r e
 
--- what is known of a procedure behind others
-abbrev known_behind : List RawRoutine → RawRoutine → ProcedureScope
-known_behind rs r = record { number = length rs; parameters = map parameter_of r.parameters }
+-- what is known of a procedure after others
+abbrev known_after : List RawRoutine → RawRoutine → ProcedureScope
+known_after rs r = record { number = length rs; parameters = map parameter_of r.parameters }
 
 numbered_add : (rs : List RawRoutine) (ps : Procedures) (r : RawRoutine) → Numbered rs ps → Numbered (rs ++ r ∷ []) (with_procedure ps (length rs) r)
 numbered_add rs ps r h n count p e = by (is_some (procedure r.name (length r.parameters) ps)) e
   where
-    by : (b : Bool) → procedure n count (if b then ps else ps ++ ((r.name, length r.parameters), known_behind rs r) ∷ []) ≡ Some p → Numbers (rs ++ r ∷ []) count p
+    by : (b : Bool) → procedure n count (if b then ps else ps ++ ((r.name, length r.parameters), known_after rs r) ∷ []) ≡ Some p → Numbers (rs ++ r ∷ []) count p
     by true e = numbers_more rs (r ∷ []) count p (h n count p e)
-    by false e = elim (found_last n count ps (r.name, length r.parameters) (known_behind rs r) p e) as (λ _. Numbers (rs ++ r ∷ []) count p) [
+    by false e = elim (found_last n count ps (r.name, length r.parameters) (known_after rs r) p e) as (λ _. Numbers (rs ++ r ∷ []) count p) [
       | inl a ↦ numbers_more rs (r ∷ []) count p (h n count p a)
       | inr b ↦ record {
         routine = r;
@@ -112,15 +112,15 @@ numbered rs = numbered_from [] [] rs none_numbered
 
 -- ---- tables
 
-pub place_within : (n : Spelling) (i : ℕ) (ts : Tables) → is_some (named n ts) ≡ true → number_of (place_named i n ts) < i + length ts
-place_within n i [] e = absurd (no_true e)
+pub index_within : (n : Spelling) (i : ℕ) (ts : Tables) → is_some (named n ts) ≡ true → number_of (index_named i n ts) < i + length ts
+index_within n i [] e = absurd (no_true e)
   where
     no_true : false ≡ true → ⊥
     no_true e = cc
-place_within n i (t ∷ ts) e = by (is_spelled n t.0) (place_within n (suc i) ts) e
+index_within n i (t ∷ ts) e = by (is_spelled n t.0) (index_within n (suc i) ts) e
   where
-    by : (b : Bool) → (is_some (named n ts) ≡ true → number_of (place_named (suc i) n ts) < suc i + length ts) → is_some (if b then Some t.1 else named n ts) ≡ true
-        → number_of (if b then Some (i, t.1) else place_named (suc i) n ts) < i + suc (length ts)
+    by : (b : Bool) → (is_some (named n ts) ≡ true → number_of (index_named (suc i) n ts) < suc i + length ts) → is_some (if b then Some t.1 else named n ts) ≡ true
+        → number_of (if b then Some (i, t.1) else index_named (suc i) n ts) < i + suc (length ts)
     by true r e = omega arith
     by false r e = let lt = r e in omega (arith, lt)
 

@@ -1,6 +1,6 @@
 -- An order against the key of a table.
 use Rattle.std.proofs.Common.{suc, ◌≡◌, ◌≢◌, Bool, true, false, ◌&&◌, List, [], ◌∷◌, length, map, refl, ap, sym}
-use Rattle.psm_scope.specs.Frames.{Spelling, is_spelled}
+use Rattle.psm_scope.specs.Scopes.{Spelling, is_spelled}
 use Rattle.psm_tree.specs.declared.statement.OrderColumn.{OrderColumn}
 use Rattle.psm_rules.specs.BlockFaults.{same_names}
 

@@ -1,4 +1,4 @@
--- What the checker answers of a script: its first fault, or the commands without names that stand for it where it has none.
+-- What the checker answers of a script: its first fault, or the resolved commands that stand for it where it has none.
 use Rattle.std.specs.Prelude.{◌≡◌, None, List, map, Result, Ok, Err}
 use Rattle.psm_tree.specs.declared.script.ScriptTree.{ScriptTree}
 use Rattle.psm_rules.specs.Faults.{breaks}

@@ -1,4 +1,4 @@
--- The command without names that stands for a command of an accepted script. The number 0 stands for what nothing declares.
+-- The resolved command that stands for a command of an accepted script. The number 0 stands for what nothing declares.
 use Rattle.std.specs.Prelude.{ℕ, Option, Some, None, List, [], ◌∷◌, map, length}
 use Rattle.psm_value.specs.declared.datum.Datum.{Datum}
 use Rattle.psm_scope.specs.Rows.{columns_known}
@@ -15,12 +15,12 @@ use Rattle.psm_tree.specs.declared.script.ConstantRow.{ConstantRow}
 use Rattle.psm_rules.specs.FileFaults.{datum_of}
 use Rattle.psm_rules.specs.StatementFaults.{several}
 use Rattle.psm_resolved.specs.declared.expr.ResolvedQuery.{ResolvedQuery}
-use Rattle.psm_known.specs.Columns.{inserted}
+use Rattle.psm_symbols.specs.Columns.{inserted}
 use Rattle.psm_declare.specs.Declarations.{ordered_query}
 use Rattle.psm_resolve_expr.specs.Exprs.{number_of}
-use Rattle.psm_resolve_expr.specs.Sight.{table_at}
+use Rattle.psm_resolve_expr.specs.ResolverScope.{table_at}
 use Rattle.psm_meaning.specs.Session.{Command, Call, Insert, Select, Commit, Rollback}
-use Rattle.psm_check_script.specs.Known.{Known, sight_of}
+use Rattle.psm_check_script.specs.Known.{Known, resolver_scope_of}
 
 abbrev pub value_of : Constant → Datum
 value_of c = datum_of c.form
@@ -44,14 +44,14 @@ row_of row = map value_of (several row.values)
 -- ---- SELECT: an order is that of the key, all upwards or all downwards
 
 abbrev pub selected : Known → OrderedQuery → ResolvedQuery
-selected k q = ordered_query (sight_of k) q
+selected k q = ordered_query (resolver_scope_of k) q
 
 -- ---- commands
 
 abbrev pub command_of : Known → Written → Command
 command_of k (written.Call place name given) = Call (procedure_number (procedure name.name (length given) k.procedures)) (given_values given)
 command_of k (written.Insert place table names rows) =
-    Insert (number_of (table_at (sight_of k) table.name)) (inserted (columns_known (named table.name k.tables)) names) (map row_of (several rows))
+    Insert (number_of (table_at (resolver_scope_of k) table.name)) (inserted (columns_known (named table.name k.tables)) names) (map row_of (several rows))
 command_of k (written.Select query) = Select (selected k query)
 command_of k (written.Commit place) = Commit
 command_of k (written.Rollback place) = Rollback

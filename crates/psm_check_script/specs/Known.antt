@@ -1,15 +1,15 @@
 -- What a script may name: the tables of code with their columns and keys, and its procedures with their parameters. It names no
 -- function.
 use Rattle.std.specs.Prelude.{ℕ, suc, Option, Some, None, is_some, List, [], ◌∷◌, ◌++◌, map, length, slice_get, if◌then◌else◌}
-use Rattle.psm_scope.specs.Frames.{Spelling}
+use Rattle.psm_scope.specs.Scopes.{Spelling}
 use Rattle.psm_scope.specs.Routines.{Header, procedure}
 use Rattle.psm_scope.specs.declared.procedures.ProcedureScope.{ProcedureScope}
 use Rattle.psm_scope.specs.declared.procedures.ParameterScope.{ParameterScope}
 use Rattle.psm_scope.specs.declared.procedures.ParameterMode.{ParameterMode}
 use Rattle.psm_scope.specs.declared.procedures.ParameterMode.TheVariants as scope_modes
 use Rattle.psm_rules.specs.BlockFaults.{declared_once}
-use Rattle.psm_rules.specs.View.{Columns, View, World}
-use Rattle.psm_resolve_expr.specs.Sight.{Sight}
+use Rattle.psm_rules.specs.CheckerScope.{Columns, CheckerScope, SymbolTable}
+use Rattle.psm_resolve_expr.specs.ResolverScope.{ResolverScope}
 use Rattle.psm_table.specs.declared.definition.Column.{Column}
 use Rattle.psm_code.specs.declared.code.CodeTable.{CodeTable}
 use Rattle.psm_code.specs.declared.code.Parameter.{Parameter}
@@ -35,14 +35,14 @@ pub record Known : Type 0 where
 
 -- ---- what a query of a script sees: columns alone
 
-abbrev pub world_of : Tables → Procedures → World
-world_of tables procedures = record { tables = tables; keys = []; functions = record { signatures = []; results = [] }; procedures = procedures }
+abbrev pub symbols_of : Tables → Procedures → SymbolTable
+symbols_of tables procedures = record { tables = tables; keys = []; functions = record { signatures = []; results = [] }; procedures = procedures }
 
-abbrev pub view_of : Known → View
-view_of k = record { world = world_of k.tables k.procedures; frames = []; row = None }
+abbrev pub checker_scope_of : Known → CheckerScope
+checker_scope_of k = record { symbols = symbols_of k.tables k.procedures; scopes = []; row = None }
 
-abbrev pub sight_of : Known → Sight
-sight_of k = record { world = world_of k.tables k.procedures; frames = []; row = None }
+abbrev pub resolver_scope_of : Known → ResolverScope
+resolver_scope_of k = record { symbols = symbols_of k.tables k.procedures; scopes = []; row = None }
 
 -- ---- the tables of code. A name that is declared again stays what it is
 

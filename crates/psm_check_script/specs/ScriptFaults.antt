@@ -24,13 +24,13 @@ use Rattle.psm_tree.specs.declared.script.ScriptTree.{ScriptTree}
 use Rattle.psm_rules.specs.declared.fault.Fault.{Fault}
 use Rattle.psm_rules.specs.declared.rule.Rule.TheVariants as rule
 use Rattle.psm_rules.specs.declared.shape.Family.{Family}
-use Rattle.psm_rules.specs.BlockFaults.{found_query, order_of}
+use Rattle.psm_rules.specs.BlockFaults.{checked_query, order_of}
 use Rattle.psm_rules.specs.ExprFaults.{query_fault, table_fault}
 use Rattle.psm_rules.specs.Faults.{breaks, breaks_if, earlier, first_of}
 use Rattle.psm_rules.specs.FileFaults.{datum_of, fits_family}
 use Rattle.psm_rules.specs.StatementFaults.{columns_fault, family_due, inserted_types, listed_columns, several}
-use Rattle.psm_rules.specs.View.{Columns}
-use Rattle.psm_check_script.specs.Known.{Known, view_of}
+use Rattle.psm_rules.specs.CheckerScope.{Columns}
+use Rattle.psm_check_script.specs.Known.{Known, checker_scope_of}
 
 -- ---- constants. One that is of the family but can't be stored is no fault: it raises its condition when the script runs
 
@@ -83,14 +83,14 @@ abbrev pub insert_fault : Identifier → Option Columns → Option Names → Sev
 insert_fault table columns names rows = first_of (table_fault table columns ∷ columns_fault columns (listed_columns names)
     ∷ rows_fault (inserted_types columns names) rows ∷ [])
 
--- ---- SELECT, with exactly the key behind ORDER BY
+-- ---- SELECT, with exactly the key after ORDER BY
 
 abbrev pub order_fault : Known → Identifier → Option Order → Option Fault
 order_fault k table None = None
 order_fault k table (Some order) = order_of (named table.name k.keys) order
 
 abbrev pub select_fault : Known → OrderedQuery → Option Fault
-select_fault k q = let found = found_query (view_of k) q in earlier (query_fault found) (order_fault k found.table q.order)
+select_fault k q = let found = checked_query (checker_scope_of k) q in earlier (query_fault found) (order_fault k found.table q.order)
 
 -- ---- scripts
 

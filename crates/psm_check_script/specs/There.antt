@@ -1,4 +1,4 @@
--- What the commands without names name is there: procedures and tables of code.
+-- What the resolved commands name is there: procedures and tables of code.
 use Rattle.std.specs.Prelude.{ℕ, ◌≡◌, Bool, true, false, IsSome, Some, List, [], ◌∷◌, length, slice_get, if◌then◌else◌}
 use Rattle.psm_value.specs.declared.datum.Datum.{Datum}
 use Rattle.psm_code.specs.declared.code.Parameter.{Parameter}
@@ -23,7 +23,7 @@ abbrev pub taking : List Parameter → List Parameter
 taking [] = []
 taking (p ∷ ps) = if takes p.mode then p ∷ taking ps else taking ps
 
--- the procedure with that number takes so many values
+-- the procedure with that number takes n values
 pub record IsCall (c : RawCode) (n : ℕ) (values : List Datum) : Type 0 where
   pub routine : RawRoutine
   pub there : slice_get (procedures_in c.routines) n ≡ Some routine

@@ -72,9 +72,9 @@ fn placeholder_fault(mode: ParameterMode, place: Place) -> Option<Fault>
     }
 }
 
-// ---- the command without names
+// ---- the resolved command
 
-/// The CALL without names.
+/// The resolved CALL.
 pub(crate) fn call(
     alloc: Global,
     known: &Known,

@@ -27,7 +27,7 @@ pub enum CheckFault {
     Memory,
 }
 
-/// The commands without names that stand for a script over the tables and procedures of code (ISO/IEC 9075-4:1996, call statement, and
+/// The resolved commands that stand for a script over the tables and procedures of code (ISO/IEC 9075-4:1996, call statement, and
 /// ISO/IEC 9075:1992, 13.8, 7.9, 14.3 and 14.4).
 ///
 /// A script that breaks a rule is refused with its first fault: that of the earlier place, and at one place that of the lower code.
@@ -109,7 +109,7 @@ fn command_fault(
     }
 }
 
-// ---- the commands without names
+// ---- the resolved commands
 
 fn commands_of(
     alloc: Global,

@@ -1,9 +1,9 @@
-//! Commands without names.
+//! Resolved commands.
 use psm_list::{Boxed, List};
 use psm_resolved::ResolvedQuery;
 use psm_value::Datum;
 
-/// A command of a script without names (ISO/IEC 9075-4:1996, call statement, and ISO/IEC 9075:1992, 13.8, 14.3 and 14.4).
+/// A command of a resolved script (ISO/IEC 9075-4:1996, call statement, and ISO/IEC 9075:1992, 13.8, 14.3 and 14.4).
 #[derive(Drop)]
 pub enum ResolvedCommand {
     /// The procedure with that number among the procedures, with the values for its IN and INOUT parameters in order.

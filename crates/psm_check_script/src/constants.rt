@@ -6,8 +6,8 @@ ghost use Rattle.psm_rules.specs.StatementFaults.{family_due};
 ghost use Rattle.psm_check_script.specs.Commands.{value_of};
 ghost use Rattle.psm_check_script.specs.ScriptFaults.{constant_fault, is_due};
 
-use psm_known::signed;
 use psm_rules::{Family, Fault, Rule, breaks_if, family_of, typed};
+use psm_symbols::signed;
 use psm_tree::{Constant, ConstantForm};
 use psm_value::{Datum, SqlType};
 use std::alloc::{AllocError, Global};
@@ -60,7 +60,7 @@ fn value_of(alloc: Global, constant: &Constant) -> Result<Datum, AllocError>
     }
 }
 
-/// Puts the value of a constant behind others.
+/// Puts the value of a constant after others.
 pub(crate) fn push_value(
     alloc: Global,
     constant: &Constant,

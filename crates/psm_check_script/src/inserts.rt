@@ -1,16 +1,16 @@
 //! INSERT.
 ghost use Rattle.std.specs.Prelude.{◌≡◌, ◌++◌, ◌∷◌, [], map, Some, IfOk};
 ghost use Rattle.std.specs.Option.{option_copied};
-ghost use Rattle.psm_known.specs.Columns.{inserted};
+ghost use Rattle.psm_symbols.specs.Columns.{inserted};
 ghost use Rattle.psm_scope.specs.Rows.{columns_known};
 ghost use Rattle.psm_meaning.specs.Session.{Insert};
 ghost use Rattle.psm_resolve_expr.specs.Exprs.{number_of};
-ghost use Rattle.psm_resolve_expr.specs.Sight.{table_at};
+ghost use Rattle.psm_resolve_expr.specs.ResolverScope.{table_at};
 ghost use Rattle.psm_rules.specs.Faults.{first_of};
 ghost use Rattle.psm_rules.specs.StatementFaults.{columns_fault, inserted_types, listed_columns, several};
 ghost use Rattle.psm_scope.specs.Lookup.{named};
 ghost use Rattle.psm_check_script.specs.Commands.{row_of};
-ghost use Rattle.psm_check_script.specs.Known.{sight_of};
+ghost use Rattle.psm_check_script.specs.Known.{resolver_scope_of};
 ghost use Rattle.psm_check_script.specs.ScriptFaults.{constants_fault, insert_fault, rows_fault, values_fault};
 ghost use Rattle.psm_check_script.specs.Seen.{command_seen};
 
@@ -19,10 +19,10 @@ use crate::constants::{constant_fault, push_value};
 use crate::known::Known;
 use crate::repeated::repeated_fault;
 use psm_check_expr::{Columns, table_fault};
-use psm_known::{inserted, inserted_types, unknown_column};
 use psm_list::{Boxed, List, OneOrMore};
-use psm_resolve_expr::{Frames, table_number};
+use psm_resolve_expr::{Scopes, table_number};
 use psm_rules::{Fault, Rule, breaks, earlier};
+use psm_symbols::{inserted, inserted_types, unknown_column};
 use psm_tree::{Constant, ConstantRow, Identifier, Names};
 use psm_value::{Datum, SqlType};
 use std::alloc::{AllocError, Global};
@@ -122,9 +122,9 @@ fn constants_fault(types: &[Option<SqlType>], values: &[Constant]) -> Option<Fau
     fault
 }
 
-// ---- the command without names
+// ---- the resolved command
 
-/// The INSERT without names.
+/// The resolved INSERT.
 pub(crate) fn insert(
     alloc: Global,
     known: &Known,
@@ -132,13 +132,13 @@ pub(crate) fn insert(
     names: &Option<Boxed<Names>>,
     rows: &OneOrMore<ConstantRow>,
 ) -> Result<ResolvedCommand, AllocError>
-    ensures { IfOk result (λ c. command_seen c ≡ Insert (number_of (table_at (sight_of known.now) table.now.name)) (inserted (columns_known (named table.now.name known.now.tables)) names.now) (map row_of (several rows.now))) }
+    ensures { IfOk result (λ c. command_seen c ≡ Insert (number_of (table_at (resolver_scope_of known.now) table.now.name)) (inserted (columns_known (named table.now.name known.now.tables)) names.now) (map row_of (several rows.now))) }
 {
     let columns = inserted(alloc, known.columns(&table.name), names)?;
     let rows = rows_of(alloc, rows)?;
-    let frames = Frames::new(alloc);
+    let scopes = Scopes::new(alloc);
     Ok(ResolvedCommand::Insert {
-        table: table_number(known.sight(&frames), &table.name),
+        table: table_number(known.resolver_scope(&scopes), &table.name),
         columns,
         rows,
     })

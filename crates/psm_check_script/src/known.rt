@@ -1,18 +1,18 @@
 //! What a script may name: the tables and the procedures of code.
 ghost use Rattle.std.specs.Prelude.{◌≡◌, ◌++◌, [], map, slice_get, IfOk};
 ghost use Rattle.std.specs.Option.{option_copied};
-ghost use Rattle.psm_check_expr.specs.Seen.{seen_in_view};
+ghost use Rattle.psm_check_expr.specs.Seen.{seen_in_checker_scope};
 ghost use Rattle.psm_resolve_expr.specs.Seen.{seen_at};
 ghost use Rattle.psm_scope.specs.Lookup.{named};
 ghost use Rattle.psm_scope.specs.Routines.{procedure};
-ghost use Rattle.psm_check_script.specs.Known.{key_names, known_of, mode_of, named_column, next_procedure, parameter_of, sight_of, view_of, with_column, with_columns, with_key, with_keys, with_procedure, with_routine, with_routines, with_table, with_tables};
+ghost use Rattle.psm_check_script.specs.Known.{key_names, known_of, mode_of, named_column, next_procedure, parameter_of, resolver_scope_of, checker_scope_of, with_column, with_columns, with_key, with_keys, with_procedure, with_routine, with_routines, with_table, with_tables};
 
-use psm_check_expr::{Columns, Frames, View, World};
+use psm_check_expr::{CheckerScope, Columns, Scopes, SymbolTable};
 use psm_code::{CodeTable, Parameter, ParameterMode as CodeMode, RawCode, RawRoutine};
-use psm_known::next_number;
 use psm_list::List;
-use psm_resolve_expr::{Frames as NumberedFrames, Sight};
+use psm_resolve_expr::{ResolverScope, Scopes as NumberedScopes};
 use psm_scope::{Functions, Names, ParameterMode, ParameterScope, ProcedureScope, Procedures};
+use psm_symbols::next_number;
 use psm_table::{Column, TableDef};
 use psm_text::Name;
 use std::alloc::{AllocError, Global};
@@ -36,19 +36,19 @@ impl<'a> Model for TableKey<'a> {
 #[derive(Drop)]
 pub(crate) struct Known<'a> {
     // The tables and the procedures alone.
-    world: World<'a>,
+    symbols: SymbolTable<'a>,
     keys: Names<'a, TableKey<'a>>,
 }
 
 impl<'a> Model for Known<'a> {
     ghost use Rattle.std.specs.Prelude.{◌≡◌};
-    ghost use Rattle.psm_check_script.specs.Known.{Known as Named, world_of};
+    ghost use Rattle.psm_check_script.specs.Known.{Known as Named, symbols_of};
 
     ghost Value = { Named };
 
-    ghost view = { λ k. record { tables = k.world.tables; keys = k.keys; procedures = k.world.procedures } };
+    ghost view = { λ k. record { tables = k.symbols.tables; keys = k.keys; procedures = k.symbols.procedures } };
 
-    ghost invariant = { λ k. k.world ≡ world_of k.world.tables k.world.procedures };
+    ghost invariant = { λ k. k.symbols ≡ symbols_of k.symbols.tables k.symbols.procedures };
 }
 
 impl<'a> Known<'a> {
@@ -60,7 +60,7 @@ impl<'a> Known<'a> {
         let keys = keys_of(alloc, code.tables.items())?;
         let procedures = procedures_of(alloc, code.routines.items())?;
         Ok(Known {
-            world: World {
+            symbols: SymbolTable {
                 tables,
                 keys: Names::new(alloc),
                 functions: Functions::new(alloc),
@@ -71,25 +71,28 @@ impl<'a> Known<'a> {
     }
 
     /// What a query of a script sees, where nothing is declared around it.
-    pub(crate) fn view<'v>(&'v self, frames: &'v Frames<'a>) -> View<'v, 'a>
-        requires { frames.now ≡ [] }
-        ensures { seen_in_view result ≡ view_of self.now }
+    pub(crate) fn checker_scope<'v>(&'v self, scopes: &'v Scopes<'a>) -> CheckerScope<'v, 'a>
+        requires { scopes.now ≡ [] }
+        ensures { seen_in_checker_scope result ≡ checker_scope_of self.now }
     {
-        View {
-            world: &self.world,
-            frames,
+        CheckerScope {
+            symbols: &self.symbols,
+            scopes,
             row: None,
         }
     }
 
-    /// The same, where names are put away.
-    pub(crate) fn sight<'v>(&'v self, frames: &'v NumberedFrames<'a>) -> Sight<'v, 'a>
-        requires { frames.now ≡ [] }
-        ensures { seen_at result ≡ sight_of self.now }
+    /// The same, where names are resolved.
+    pub(crate) fn resolver_scope<'v>(
+        &'v self,
+        scopes: &'v NumberedScopes<'a>,
+    ) -> ResolverScope<'v, 'a>
+        requires { scopes.now ≡ [] }
+        ensures { seen_at result ≡ resolver_scope_of self.now }
     {
-        Sight {
-            world: &self.world,
-            frames,
+        ResolverScope {
+            symbols: &self.symbols,
+            scopes,
             row: None,
         }
     }
@@ -98,7 +101,7 @@ impl<'a> Known<'a> {
     pub(crate) fn columns(&self, table: &Name) -> Option<&Columns<'a>>
         ensures { option_copied result ≡ named table.now self.now.tables }
     {
-        self.world.columns(table)
+        self.symbols.columns(table)
     }
 
     /// The key of the table of that name.
@@ -108,11 +111,11 @@ impl<'a> Known<'a> {
         self.keys.lent(table)
     }
 
-    /// The procedure of that name with so many parameters.
+    /// The procedure of that name with n parameters.
     pub(crate) fn procedure(&self, name: &Name, count: usize) -> Option<&ProcedureScope>
         ensures { option_copied result ≡ procedure name.now count self.now.procedures }
     {
-        self.world.procedures.procedure(name, count)
+        self.symbols.procedures.procedure(name, count)
     }
 }
 
@@ -243,7 +246,7 @@ fn procedures_of<'a>(
     Ok(known)
 }
 
-// Adds a routine where so many procedures stand before it, if it is one, and gives how many there are with it.
+// Adds a routine where n procedures stand before it, if it is one, and gives how many there are with it.
 fn add_routine<'a>(
     alloc: Global,
     routine: &'a RawRoutine,

@@ -1,4 +1,4 @@
-//! The checker of scripts: the first fault of a script over the tables and procedures of code, or the commands without names that stand
+//! The checker of scripts: the first fault of a script over the tables and procedures of code, or the resolved commands that stand
 //! for it.
 #![tactic(auto)]
 

@@ -3,7 +3,7 @@ ghost use Rattle.std.specs.Prelude.{◌≡◌, ◌||◌, is_some, IfOk};
 ghost use Rattle.psm_rules.specs.declared.rule.Rule.TheVariants as rules_of;
 ghost use Rattle.psm_rules.specs.Faults.{breaks_if, earlier};
 ghost use Rattle.psm_rules.specs.StatementFaults.{repeated, several};
-ghost use Rattle.psm_scope.specs.Frames.{Spelling, is_spelled};
+ghost use Rattle.psm_scope.specs.Scopes.{Spelling, is_spelled};
 ghost use Rattle.psm_scope.specs.Lookup.{named};
 
 use psm_rules::{Fault, Rule, breaks_if, earlier};

@@ -6,13 +6,13 @@ ghost use Rattle.psm_check_script.specs.Commands.{selected};
 ghost use Rattle.psm_check_script.specs.ScriptFaults.{order_fault, select_fault};
 
 use crate::known::{Known, TableKey};
-use psm_check_expr::{Frames, query_found, same_name};
+use psm_check_expr::{Scopes, check_query, same_name};
 use psm_declare::ordered_query;
-use psm_known::is_one_way;
 use psm_list::{Boxed, OneOrMore};
-use psm_resolve_expr::Frames as NumberedFrames;
+use psm_resolve_expr::Scopes as NumberedScopes;
 use psm_resolved::ResolvedQuery;
 use psm_rules::{Fault, Rule, breaks_if, earlier};
+use psm_symbols::is_one_way;
 use psm_text::Name;
 use psm_tree::{Identifier, Order, OrderColumn, OrderedQuery};
 use std::alloc::{AllocError, Global};
@@ -20,7 +20,7 @@ use std::alloc::{AllocError, Global};
 // ---- the first fault
 
 /// The first fault of a SELECT.
-#[tactic(auto, using(psm_check_expr::proofs::Equations::found_table))]
+#[tactic(auto, using(psm_check_expr::proofs::Equations::checked_table))]
 pub(crate) fn select_fault(
     alloc: Global,
     known: &Known,
@@ -28,8 +28,8 @@ pub(crate) fn select_fault(
 ) -> Result<Option<Fault>, AllocError>
     ensures { IfOk result (λ f. f ≡ select_fault known.now query.now) }
 {
-    let frames = Frames::new(alloc);
-    let found = query_found(alloc, query.query.get(), known.view(&frames))?;
+    let scopes = Scopes::new(alloc);
+    let found = check_query(alloc, query.query.get(), known.checker_scope(&scopes))?;
     let order = order_fault(known, found.table, &query.order);
     Ok(earlier(found.fault(), order))
 }
@@ -79,9 +79,9 @@ fn same_names(names: &[&Name], columns: &[OrderColumn]) -> bool
     true
 }
 
-// ---- the query without names
+// ---- the resolved query
 
-/// The query of a SELECT without names, with the way that it goes over the keys.
+/// The resolved query of a SELECT, with the way that it goes over the keys.
 pub(crate) fn select(
     alloc: Global,
     known: &Known,
@@ -89,6 +89,6 @@ pub(crate) fn select(
 ) -> Result<Boxed<ResolvedQuery>, AllocError>
     ensures { IfOk result (λ q. q ≡ selected known.now query.now) }
 {
-    let frames = NumberedFrames::new(alloc);
-    ordered_query(alloc, known.sight(&frames), query)
+    let scopes = NumberedScopes::new(alloc);
+    ordered_query(alloc, known.resolver_scope(&scopes), query)
 }

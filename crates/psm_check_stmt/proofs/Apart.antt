@@ -6,7 +6,7 @@ use Rattle.std.specs.Cmp.Lexicographic.{pointwise, same_text}
 use Rattle.std.specs.Cow.{cow_slice_items}
 use Rattle.std.proofs.lemmas.List.Folds.{list_any-append}
 use Rattle.indexmap.specs.IndexSet.{insert_key}
-use Rattle.psm_scope.specs.Frames.{is_spelled}
+use Rattle.psm_scope.specs.Scopes.{is_spelled}
 use Rattle.psm_scope.specs.Keys.{same_function}
 use Rattle.psm_scope.specs.KindNumbers.{is_kind}
 use Rattle.psm_scope.specs.declared.key.CallKey.{CallKey}
@@ -16,8 +16,8 @@ use Rattle.psm_tree.specs.declared.file.Routine.{Routine}
 use Rattle.psm_rules.specs.declared.fault.Fault.{Fault}
 use Rattle.psm_rules.specs.declared.rule.Rule.TheVariants as rule
 use Rattle.psm_rules.specs.Faults.{breaks_if}
-use Rattle.psm_rules.specs.FileFaults.{is_function, kinds_of, repeats_function, repeats_procedure, same_functions, same_procedures, told_apart}
-use Rattle.psm_check_stmt.specs.Told.{AreTold, is_function_key}
+use Rattle.psm_rules.specs.FileFaults.{is_function, kinds_of, repeats_function, repeats_procedure, same_functions, same_procedures, distinct}
+use Rattle.psm_check_stmt.specs.SeenRoutines.{AreSeen, is_function_key}
 
 -- ---- choices
 
@@ -78,29 +78,29 @@ function_keys_same q k a e =
     ap (λ n. is_spelled q.name.name n && pointwise is_kind (kinds_of q) (cow_slice_items k.kinds)) (same_text k.name.name.now a.name.name.now (sym t.0))
     ∙ ap (λ l. is_spelled q.name.name a.name.name.now && pointwise is_kind (kinds_of q) l) ((are_kinds-Decides (cow_slice_items k.kinds) (cow_slice_items a.kinds)).0 t.1)
 
-module _ (functions : List FunctionKey) (procedures : List CallKey) (before : List Routine) (told : AreTold functions procedures before)
+module _ (functions : List FunctionKey) (procedures : List CallKey) (before : List Routine) (seen_routines : AreSeen functions procedures before)
     (r : Routine) (is : is_function r ≡ true) (k : FunctionKey) (name : k.name.name.now ≡ r.name.name) (kinds : cow_slice_items k.kinds ≡ kinds_of r) where
-  function_told : list_any (same_function k) functions ≡ repeats_function before r
-  function_told =
+  function_seen : list_any (same_function k) functions ≡ repeats_function before r
+  function_seen =
       ap (λ n. list_any (λ a. pointwise nat_eq n a.name.name.now && pointwise is_kind (cow_slice_items k.kinds) (cow_slice_items a.kinds)) functions) name
       ∙ ap (λ l. list_any (λ a. pointwise nat_eq r.name.name a.name.name.now && pointwise is_kind l (cow_slice_items a.kinds)) functions) kinds
-      ∙ told.of_functions r
+      ∙ seen_routines.of_functions r
 
   -- a function whose key is there already can't be told apart
-  pub function_apart : (added : Bool) → added ≡ not (list_any (same_function k) functions) → (fault : Option Fault) → fault ≡ breaks_if (not added) rule.FunctionsNotDistinct r.name.place → fault ≡ told_apart r before
+  pub function_apart : (added : Bool) → added ≡ not (list_any (same_function k) functions) → (fault : Option Fault) → fault ≡ breaks_if (not added) rule.FunctionsNotDistinct r.name.place → fault ≡ distinct r before
   function_apart added e fault f =
       f
-      ∙ ap (λ b. breaks_if (not b) rule.FunctionsNotDistinct r.name.place) (e ∙ ap not function_told)
+      ∙ ap (λ b. breaks_if (not b) rule.FunctionsNotDistinct r.name.place) (e ∙ ap not function_seen)
       ∙ ap (λ b. breaks_if b rule.FunctionsNotDistinct r.name.place) (not_not (repeats_function before r))
       ∙ sym (ap (λ b. if b then breaks_if (repeats_function before r) rule.FunctionsNotDistinct r.name.place else breaks_if (repeats_procedure before r) rule.ProcedureRepeated r.name.place) is)
 
-  pub function_added : (new : List FunctionKey) → new ≡ insert_key same_function functions k → AreTold new procedures (r ∷ before)
+  pub function_added : (new : List FunctionKey) → new ≡ insert_key same_function functions k → AreSeen new procedures (r ∷ before)
   function_added new e = record {
     of_functions = λ q.
         ap (list_any (is_function_key q)) e
         ∙ inserted same_function (is_function_key q) k (function_keys_same q k) functions
         ∙ ap (λ b. b || list_any (is_function_key q) functions) (function_key_is r k name kinds q)
-        ∙ ap (λ b. same_functions q r || b) (told.of_functions q)
+        ∙ ap (λ b. same_functions q r || b) (seen_routines.of_functions q)
         ∙ sym (ap (λ b. (b && same_functions q r) || repeats_function before q) is);
-    of_procedures = λ q. told.of_procedures q ∙ sym (ap (λ b. (not b && same_procedures q r) || repeats_procedure before q) is);
+    of_procedures = λ q. seen_routines.of_procedures q ∙ sym (ap (λ b. (not b && same_procedures q r) || repeats_procedure before q) is);
   }

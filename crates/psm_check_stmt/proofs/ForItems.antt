@@ -1,30 +1,30 @@
--- The layers of items and of names, and frames with the variables of items.
+-- The layers of items and of names, and scopes with the variables of items.
 use Rattle.std.proofs.Common.{◌≡◌, ℕ, ◌<◌, ◌+◌, suc, true, List, [], ◌∷◌, length, get_or, drop, Option, Some, None, map, option_map, refl, ap, sym, ◌∙◌, add-one, zero, arith}
 use Rattle.std.specs.Prelude.{slice_get}
 use Rattle.psm_scope.specs.Rows.{columns_known}
 use Rattle.psm_scope.proofs.Calls.{dropped}
 use Rattle.psm_value.specs.declared.sqltype.SqlType.{SqlType}
-use Rattle.psm_scope.specs.Frames.{Spelling}
-use Rattle.psm_scope.specs.Scopes.{can_declare_here, declared_here, redeclared}
+use Rattle.psm_scope.specs.Scopes.{Spelling}
+use Rattle.psm_scope.specs.KeptScopes.{can_declare_here, declared_here, redeclared}
 use Rattle.psm_scope.specs.declared.known.Variable.{Variable}
 use Rattle.psm_tree.specs.declared.expr.Expr.TheVariants as exprs
 use Rattle.psm_tree.specs.declared.expr.Pick.TheVariants as picked
 use Rattle.psm_scope.specs.Lookup.{RowTable}
 use Rattle.psm_tree.specs.declared.expr.Pick.{Pick}
 use Rattle.psm_tree.specs.declared.expr.Select.{Select, out-Select}
-use Rattle.psm_rules.specs.View.{Columns, Frames, View, on_row}
+use Rattle.psm_rules.specs.CheckerScope.{Columns, Scopes, CheckerScope, on_row}
 use Rattle.psm_rules.specs.StatementFaults.{several}
-use Rattle.psm_rules.specs.ExprFaults.{QueryFound, pick_found, query_found, row_of, seen, spelling}
+use Rattle.psm_rules.specs.ExprFaults.{QueryChecked, check_pick, check_query, row_of, seen, spelling}
 use Rattle.psm_rules.specs.BlockFaults.{declared_once, local_variable, with_columns, with_variable}
 use Rattle.psm_check_stmt.specs.ForItems.{variables_here, with_variables_here}
-use Rattle.psm_check_expr.proofs.Equations.{found_columns, found_query}
+use Rattle.psm_check_expr.proofs.Equations.{checked_columns, checked_query}
 use Rattle.psm_rules.proofs.Innermost.{declared_again, declared_now}
 
 pub ruleset pick_layers = (picked.outs-All, picked.outs-Expr, picked.outs-CountRows, picked.outs-Aggregate)
 
-pub ruleset expr_layers = (exprs.outs-Null, exprs.outs-Number, exprs.outs-Text, exprs.outs-Name, exprs.outs-Junction, exprs.outs-Not, exprs.outs-Compare, exprs.outs-IsNull, exprs.outs-Between, exprs.outs-In, exprs.outs-Like, exprs.outs-Chain, exprs.outs-Signed, exprs.outs-Call, exprs.outs-Parenthesized, exprs.outs-Subquery, exprs.outs-Exists, exprs.outs-Case, exprs.outs-Cast, exprs.outs-Coalesce, exprs.outs-NullIf, exprs.outs-Function, exprs.outs-Position, exprs.outs-Substring, exprs.outs-Trim)
+pub ruleset expr_layers = (exprs.outs-Null, exprs.outs-Number, exprs.outs-Text, exprs.outs-Name, exprs.outs-LogicalOperator, exprs.outs-Not, exprs.outs-Compare, exprs.outs-IsNull, exprs.outs-Between, exprs.outs-In, exprs.outs-Like, exprs.outs-OperatorChain, exprs.outs-Signed, exprs.outs-Call, exprs.outs-Parenthesized, exprs.outs-Subquery, exprs.outs-Exists, exprs.outs-Case, exprs.outs-Cast, exprs.outs-Coalesce, exprs.outs-NullIf, exprs.outs-Function, exprs.outs-Position, exprs.outs-Substring, exprs.outs-Trim)
 
--- ---- an item behind the first
+-- ---- an item after the first
 
 met_at : {A B C : Type 0} (f : A → C) (g : B → C) (xs : List A) (zs : List B) (k : ℕ) (x : A) (z : B)
     → map f xs ≡ map g zs → k < length zs → x ≡ get_or xs k x → z ≡ get_or zs k z → f x ≡ g z
@@ -53,42 +53,42 @@ column_at columns k name kind n t = rw add-one (dropped columns (name, kind) k (
 -- ---- what is found in the query
 
 -- on the rows of its table
-abbrev pub inside : Select → View → View
-inside select view = let s = out-Select select in on_row view (row_of view s.table s.alias)
+abbrev pub inside : Select → CheckerScope → CheckerScope
+inside select checker_scope = let s = out-Select select in on_row checker_scope (row_of checker_scope s.table s.alias)
 
-seen_all : (view : View) (ps : List Pick) → seen view (map pick_found ps) ≡ map (λ p. pick_found p view) ps
-seen_all view [] = refl
-seen_all view (p ∷ ps) = ap (λ l. pick_found p view ∷ l) (seen_all view ps)
+seen_all : (checker_scope : CheckerScope) (ps : List Pick) → seen checker_scope (map check_pick ps) ≡ map (λ p. check_pick p checker_scope) ps
+seen_all checker_scope [] = refl
+seen_all checker_scope (p ∷ ps) = ap (λ l. check_pick p checker_scope ∷ l) (seen_all checker_scope ps)
 
-pub found_picks : (select : Select) (view on : View) (q : QueryFound) → q ≡ query_found select view → on ≡ inside select view → q.picks ≡ map (λ p. pick_found p on) (several (out-Select select).picks)
-found_picks select view on q e i =
+pub checked_picks : (select : Select) (checker_scope on : CheckerScope) (q : QueryChecked) → q ≡ check_query select checker_scope → on ≡ inside select checker_scope → q.picks ≡ map (λ p. check_pick p on) (several (out-Select select).picks)
+checked_picks select checker_scope on q e i =
     let s = out-Select select in
-    ap (λ q. q.picks) (e ∙ found_query select view)
-    ∙ ap (λ l. pick_found s.picks.first (inside select view) ∷ l) (seen_all (inside select view) s.picks.rest)
-    ∙ ap (λ v. map (λ p. pick_found p v) (several s.picks)) (sym i)
+    ap (λ q. q.picks) (e ∙ checked_query select checker_scope)
+    ∙ ap (λ l. check_pick s.picks.first (inside select checker_scope) ∷ l) (seen_all (inside select checker_scope) s.picks.rest)
+    ∙ ap (λ v. map (λ p. check_pick p v) (several s.picks)) (sym i)
 
-pub found_inside : (select : Select) (view on : View) (q : QueryFound) (row : RowTable (Option SqlType)) → q ≡ query_found select view
-    → row ≡ record { name = (out-Select select).table.name; alias = spelling (out-Select select).alias; columns = columns_known q.columns } → on ≡ on_row view row → on ≡ inside select view
-found_inside select view on q row e r o =
+pub checked_inside : (select : Select) (checker_scope on : CheckerScope) (q : QueryChecked) (row : RowTable (Option SqlType)) → q ≡ check_query select checker_scope
+    → row ≡ record { name = (out-Select select).table.name; alias = spelling (out-Select select).alias; columns = columns_known q.columns } → on ≡ on_row checker_scope row → on ≡ inside select checker_scope
+checked_inside select checker_scope on q row e r o =
     let s = out-Select select in
-    o ∙ ap (on_row view) r ∙ ap (λ columns. on_row view (record { name = s.table.name; alias = spelling s.alias; columns = columns_known columns })) (ap (λ q. q.columns) e ∙ found_columns select view)
+    o ∙ ap (on_row checker_scope) r ∙ ap (λ columns. on_row checker_scope (record { name = s.table.name; alias = spelling s.alias; columns = columns_known columns })) (ap (λ q. q.columns) e ∙ checked_columns select checker_scope)
 
--- ---- the variables of the innermost frame
+-- ---- the variables of the innermost scope
 
--- more variables on frames that have other ones
-variables_again : (frames : Frames) (vs : List (Spelling × Variable)) (more : List (Spelling × Variable) → List (Spelling × Variable)) → can_declare_here frames ≡ true
-    → with_variables_here (with_variables_here frames vs) (more (variables_here (with_variables_here frames vs))) ≡ with_variables_here frames (more vs)
-variables_again frames vs more h =
-    let d = record (declared_here frames) { variables = vs } in
-    let e = declared_now frames d h in
-    ap (λ d. redeclared (redeclared frames (record (declared_here frames) { variables = vs })) (record d { variables = more d.variables })) e
-    ∙ declared_again frames d (record d { variables = more vs })
+-- more variables on scopes that have other ones
+variables_again : (scopes : Scopes) (vs : List (Spelling × Variable)) (more : List (Spelling × Variable) → List (Spelling × Variable)) → can_declare_here scopes ≡ true
+    → with_variables_here (with_variables_here scopes vs) (more (variables_here (with_variables_here scopes vs))) ≡ with_variables_here scopes (more vs)
+variables_again scopes vs more h =
+    let d = record (declared_here scopes) { variables = vs } in
+    let e = declared_now scopes d h in
+    ap (λ d. redeclared (redeclared scopes (record (declared_here scopes) { variables = vs })) (record d { variables = more d.variables })) e
+    ∙ declared_again scopes d (record d { variables = more vs })
 
-pub columns_next : (start frames new : Frames) (columns : Columns) (k : ℕ) (name : Spelling) (kind : Option SqlType) → can_declare_here frames ≡ true
-    → option_map (λ p. p.0) (slice_get columns k) ≡ Some name → option_map (λ p. p.1) (slice_get columns k) ≡ Some kind → new ≡ with_variable frames name (local_variable kind)
-    → with_variables_here frames (with_columns (variables_here frames) (drop k columns)) ≡ start → with_variables_here new (with_columns (variables_here new) (drop (k + 1) columns)) ≡ start
-columns_next start frames new columns k name kind can n t e so_far =
+pub columns_next : (start scopes new : Scopes) (columns : Columns) (k : ℕ) (name : Spelling) (kind : Option SqlType) → can_declare_here scopes ≡ true
+    → option_map (λ p. p.0) (slice_get columns k) ≡ Some name → option_map (λ p. p.1) (slice_get columns k) ≡ Some kind → new ≡ with_variable scopes name (local_variable kind)
+    → with_variables_here scopes (with_columns (variables_here scopes) (drop k columns)) ≡ start → with_variables_here new (with_columns (variables_here new) (drop (k + 1) columns)) ≡ start
+columns_next start scopes new columns k name kind can n t e so_far =
     ap (λ f. with_variables_here f (with_columns (variables_here f) (drop (k + 1) columns))) e
-    ∙ variables_again frames (declared_once (variables_here frames) name (local_variable kind)) (λ vs. with_columns vs (drop (k + 1) columns)) can
-    ∙ ap (λ l. with_variables_here frames (with_columns (variables_here frames) l)) (sym (column_at columns k name kind n t))
+    ∙ variables_again scopes (declared_once (variables_here scopes) name (local_variable kind)) (λ vs. with_columns vs (drop (k + 1) columns)) can
+    ∙ ap (λ l. with_variables_here scopes (with_columns (variables_here scopes) l)) (sym (column_at columns k name kind n t))
     ∙ so_far

@@ -1,11 +1,11 @@
--- What the handlers of a block handle behind more values.
+-- What the handlers of a block handle after more values.
 use Rattle.std.proofs.Common.{◌≡◌, ℕ, ◌<◌, ◌≤◌, ◌+◌, Bool, true, false, not, ◌||◌, List, [], ◌∷◌, ◌++◌, Option, Some, None, is_some, Result, Ok, Err, IfOk, map, length, take, get_or, refl, sym, ap, subst, ◌∙◌}
 use Rattle.std.specs.Prelude.{if◌then◌else◌}
 use Rattle.std.specs.declared.alloc.AllocError.{AllocError}
 use Rattle.std.proofs.lemmas.List.{map-append, take_all, take_more}
 use Rattle.std.specs.List.{list_any}
 use Rattle.std.specs.Cmp.Lexicographic.{same_text}
-use Rattle.psm_scope.specs.Frames.{Spelling, is_spelled}
+use Rattle.psm_scope.specs.Scopes.{Spelling, is_spelled}
 use Rattle.psm_scope.specs.Lookup.{named}
 use Rattle.psm_scope.specs.Names.{Adds}
 use Rattle.psm_tree.specs.declared.statement.Handler.{Handler}
@@ -13,11 +13,11 @@ use Rattle.psm_tree.specs.declared.statement.HandlerValue.{HandlerValue}
 use Rattle.psm_rules.specs.declared.fault.Fault.{Fault}
 use Rattle.psm_rules.specs.declared.rule.Rule.TheVariants as rule
 use Rattle.psm_rules.specs.Faults.{breaks_if, earlier, first_of}
-use Rattle.psm_rules.specs.View.{Frames}
+use Rattle.psm_rules.specs.CheckerScope.{Scopes}
 use Rattle.psm_rules.specs.BlockFaults.{HandlerPart, Handles, handler_part, ByState, ByName, Exceptions, Warnings, NoData, all_values, handles, is_among, more_values, same_value, value_fault, value_place, values_fault}
 use Rattle.psm_rules.proofs.Earliest.{first_of_append}
-use Rattle.psm_check_stmt.specs.declared.handled.Handled.{Handled}
-use Rattle.psm_check_stmt.specs.Handling.{AreHandled, FindsIn, Notes, NotesKnown, is_handled, values_after}
+use Rattle.psm_check_stmt.specs.declared.handled_conditions.HandledConditions.{HandledConditions}
+use Rattle.psm_check_stmt.specs.Handling.{AreHandled, FindsIn, Records, RecordsKnown, is_handled, values_after}
 
 -- ---- one more
 
@@ -73,10 +73,10 @@ not_twice : (b added : Bool) → added ≡ not b → not added ≡ b
 not_twice true added e = ap not e
 not_twice false added e = ap not e
 
-pub notes_state : (old new : Handled) (s : Spelling) (added before : Bool) → new.names ≡ old.names → new.exceptions ≡ old.exceptions → new.warnings ≡ old.warnings → new.no_data ≡ old.no_data
+pub records_state : (old new : HandledConditions) (s : Spelling) (added before : Bool) → new.names ≡ old.names → new.exceptions ≡ old.exceptions → new.warnings ≡ old.warnings → new.no_data ≡ old.no_data
     → new.states.keys ≡ (if list_any (is_spelled s) old.states.keys then old.states.keys else old.states.keys ++ s ∷ []) → added ≡ not (list_any (is_spelled s) old.states.keys) → before ≡ not added
-    → Notes (ByState s) old new before
-notes_state old new s added before n x w d k a b = record {
+    → Records (ByState s) old new before
+records_state old new s added before n x w d k a b = record {
   answer = b ∙ not_twice (list_any (is_spelled s) old.states.keys) added a;
   noted = noted;
 }
@@ -88,9 +88,9 @@ notes_state old new s added before n x w d k a b = record {
     noted Warnings = w
     noted NoData = d
 
-pub notes_name : (old new : Handled) (n : Spelling) (added before : Bool) → new.states.keys ≡ old.states.keys → new.exceptions ≡ old.exceptions → new.warnings ≡ old.warnings → new.no_data ≡ old.no_data
-    → Adds n tt old.names new.names (Ok added) → before ≡ not added → Notes (ByName n) old new before
-notes_name old new n true before k x w d a b = record {
+pub records_name : (old new : HandledConditions) (n : Spelling) (added before : Bool) → new.states.keys ≡ old.states.keys → new.exceptions ≡ old.exceptions → new.warnings ≡ old.warnings → new.no_data ≡ old.no_data
+    → Adds n tt old.names new.names (Ok added) → before ≡ not added → Records (ByName n) old new before
+records_name old new n true before k x w d a b = record {
   answer = b ∙ ap is_some (sym a.0);
   noted = noted;
 }
@@ -101,7 +101,7 @@ notes_name old new n true before k x w d a b = record {
     noted Exceptions = x
     noted Warnings = w
     noted NoData = d
-notes_name old new n false before k x w d a b = record {
+records_name old new n false before k x w d a b = record {
   answer = b ∙ sym a.0;
   noted = noted;
 }
@@ -113,39 +113,39 @@ notes_name old new n false before k x w d a b = record {
     noted Warnings = w
     noted NoData = d
 
--- ---- some values, and others behind them
+-- ---- some values, and others after them
 
-values_join : (frames : Frames) (before : List Handles) (xs ys : List HandlerValue) → values_fault frames before (xs ++ ys) ≡ values_fault frames before xs ++ values_fault frames (values_after frames before xs) ys
-values_join frames before [] ys = refl
-values_join frames before (x ∷ xs) ys =
-    ap (λ fs. earlier (value_fault frames x) (breaks_if (is_among (handles frames x) before) rule.ConditionValueRepeated (value_place x)) ∷ fs) (values_join frames (more_values (handles frames x) before) xs ys)
+values_join : (scopes : Scopes) (before : List Handles) (xs ys : List HandlerValue) → values_fault scopes before (xs ++ ys) ≡ values_fault scopes before xs ++ values_fault scopes (values_after scopes before xs) ys
+values_join scopes before [] ys = refl
+values_join scopes before (x ∷ xs) ys =
+    ap (λ fs. earlier (value_fault scopes x) (breaks_if (is_among (handles scopes x) before) rule.ConditionValueRepeated (value_place x)) ∷ fs) (values_join scopes (more_values (handles scopes x) before) xs ys)
 
-after_join : (frames : Frames) (before : List Handles) (xs ys : List HandlerValue) → values_after frames before (xs ++ ys) ≡ values_after frames (values_after frames before xs) ys
-after_join frames before [] ys = refl
-after_join frames before (x ∷ xs) ys = after_join frames (more_values (handles frames x) before) xs ys
+after_join : (scopes : Scopes) (before : List Handles) (xs ys : List HandlerValue) → values_after scopes before (xs ++ ys) ≡ values_after scopes (values_after scopes before xs) ys
+after_join scopes before [] ys = refl
+after_join scopes before (x ∷ xs) ys = after_join scopes (more_values (handles scopes x) before) xs ys
 
-finds_more : (frames : Frames) (xs ys : List HandlerValue) (old mid new : Handled) (f g : Option Fault) → FindsIn frames xs old mid f → FindsIn frames ys mid new g → FindsIn frames (xs ++ ys) old new (earlier f g)
-finds_more frames xs ys old mid new f g first second before are =
-    let now = values_after frames before xs in
+finds_more : (scopes : Scopes) (xs ys : List HandlerValue) (old mid new : HandledConditions) (f g : Option Fault) → FindsIn scopes xs old mid f → FindsIn scopes ys mid new g → FindsIn scopes (xs ++ ys) old new (earlier f g)
+finds_more scopes xs ys old mid new f g first second before are =
+    let now = values_after scopes before xs in
     let a = first before are in
     let b = second now a.1 in (
-      ap (λ f. earlier f g) a.0 ∙ ap (earlier (first_of (values_fault frames before xs))) b.0
-          ∙ sym (first_of_append (values_fault frames before xs) (values_fault frames now ys)) ∙ ap first_of (sym (values_join frames before xs ys)),
-      subst (AreHandled new) (sym (after_join frames before xs ys)) b.1,
+      ap (λ f. earlier f g) a.0 ∙ ap (earlier (first_of (values_fault scopes before xs))) b.0
+          ∙ sym (first_of_append (values_fault scopes before xs) (values_fault scopes now ys)) ∙ ap first_of (sym (values_join scopes before xs ys)),
+      subst (AreHandled new) (sym (after_join scopes before xs ys)) b.1,
     )
 
-noted_known : (x : Option Handles) (old new : Handled) (b : Bool) → NotesKnown x old new b → (before : List Handles) → AreHandled old before → (b ≡ is_among x before) × AreHandled new (more_values x before)
+noted_known : (x : Option Handles) (old new : HandledConditions) (b : Bool) → RecordsKnown x old new b → (before : List Handles) → AreHandled old before → (b ≡ is_among x before) × AreHandled new (more_values x before)
 noted_known None old new b n before are = (n.0, subst (λ k. AreHandled k before) (sym n.1) are)
 noted_known (Some x) old new b n before are = (n.answer ∙ are x, λ h. n.noted h ∙ ap (λ b. same_value h x || b) (are h))
 
-pub finds_one : (frames : Frames) (v : HandlerValue) (old new : Handled) (b : Bool) (r : Result (Option Fault) AllocError) → NotesKnown (handles frames v) old new b
-    → IfOk r (λ f. f ≡ earlier (value_fault frames v) (breaks_if b rule.ConditionValueRepeated (value_place v))) → IfOk r (λ f. FindsIn frames (v ∷ []) old new f)
-finds_one frames v old new b (Ok f) n e = λ before are.
-    let k = noted_known (handles frames v) old new b n before are in (
-      e ∙ ap (λ b. earlier (value_fault frames v) (breaks_if b rule.ConditionValueRepeated (value_place v))) k.0,
+pub finds_one : (scopes : Scopes) (v : HandlerValue) (old new : HandledConditions) (b : Bool) (r : Result (Option Fault) AllocError) → RecordsKnown (handles scopes v) old new b
+    → IfOk r (λ f. f ≡ earlier (value_fault scopes v) (breaks_if b rule.ConditionValueRepeated (value_place v))) → IfOk r (λ f. FindsIn scopes (v ∷ []) old new f)
+finds_one scopes v old new b (Ok f) n e = λ before are.
+    let k = noted_known (handles scopes v) old new b n before are in (
+      e ∙ ap (λ b. earlier (value_fault scopes v) (breaks_if b rule.ConditionValueRepeated (value_place v))) k.0,
       k.1,
     )
-finds_one frames v old new b (Err x) n e = tt
+finds_one scopes v old new b (Err x) n e = tt
 
 -- ---- the values of handlers
 
@@ -163,29 +163,29 @@ values_last (g ∷ gs) h = ap (λ l. g.values ++ l) (values_last gs h) ∙ sym (
 
 -- ---- the loops
 
-pub finds_next : (frames : Frames) (before items : List HandlerValue) (i : ℕ) (v : HandlerValue) (old mid new : Handled) (f g h : Option Fault) → i < length items → v ≡ get_or items i v
-    → FindsIn frames (before ++ take i items) old mid f → FindsIn frames (v ∷ []) mid new g → h ≡ earlier f g → FindsIn frames (before ++ take (i + 1) items) old new h
-finds_next frames before items i v old mid new f g h lt at first second e =
+pub finds_next : (scopes : Scopes) (before items : List HandlerValue) (i : ℕ) (v : HandlerValue) (old mid new : HandledConditions) (f g h : Option Fault) → i < length items → v ≡ get_or items i v
+    → FindsIn scopes (before ++ take i items) old mid f → FindsIn scopes (v ∷ []) mid new g → h ≡ earlier f g → FindsIn scopes (before ++ take (i + 1) items) old new h
+finds_next scopes before items i v old mid new f g h lt at first second e =
     let t : (before ++ take i items) ++ v ∷ [] ≡ before ++ take (i + 1) items =
     joined before (take i items) (v ∷ []) ∙ ap (λ w. before ++ (take i items ++ w ∷ [])) at ∙ ap (λ l. before ++ l) (sym (take_more items i v lt)) in
-    subst (λ (h : Option Fault). FindsIn frames (before ++ take (i + 1) items) old new h) (sym e)
-    (subst (λ (l : List HandlerValue). FindsIn frames l old new (earlier f g)) t (finds_more frames (before ++ take i items) (v ∷ []) old mid new f g first second))
+    subst (λ (h : Option Fault). FindsIn scopes (before ++ take (i + 1) items) old new h) (sym e)
+    (subst (λ (l : List HandlerValue). FindsIn scopes l old new (earlier f g)) t (finds_more scopes (before ++ take i items) (v ∷ []) old mid new f g first second))
   where
     joined : (xs ys zs : List HandlerValue) → (xs ++ ys) ++ zs ≡ xs ++ (ys ++ zs)
     joined [] ys zs = refl
     joined (x ∷ xs) ys zs = ap (λ l. x ∷ l) (joined xs ys zs)
 
-pub finds_handler : (frames : Frames) (items : List Handler) (i : ℕ) (v : Handler) (old mid new : Handled) (f g h : Option Fault) → i < length items → v ≡ get_or items i v
-    → FindsIn frames (all_values (map handler_part (take i items))) old mid f → FindsIn frames (handler_part v).values mid new g → h ≡ earlier f g
-    → FindsIn frames (all_values (map handler_part (take (i + 1) items))) old new h
-finds_handler frames items i v old mid new f g h lt at first second e =
+pub finds_handler : (scopes : Scopes) (items : List Handler) (i : ℕ) (v : Handler) (old mid new : HandledConditions) (f g h : Option Fault) → i < length items → v ≡ get_or items i v
+    → FindsIn scopes (all_values (map handler_part (take i items))) old mid f → FindsIn scopes (handler_part v).values mid new g → h ≡ earlier f g
+    → FindsIn scopes (all_values (map handler_part (take (i + 1) items))) old new h
+finds_handler scopes items i v old mid new f g h lt at first second e =
     let t : all_values (map handler_part (take i items)) ++ (handler_part v).values ≡ all_values (map handler_part (take (i + 1) items)) =
     sym (values_last (map handler_part (take i items)) (handler_part v)) ∙ ap all_values (sym (map-append handler_part (take i items) (v ∷ [])))
     ∙ ap (λ w. all_values (map handler_part (take i items ++ w ∷ []))) at ∙ ap (λ l. all_values (map handler_part l)) (sym (take_more items i v lt)) in
-    subst (λ (h : Option Fault). FindsIn frames (all_values (map handler_part (take (i + 1) items))) old new h) (sym e)
-    (subst (λ (l : List HandlerValue). FindsIn frames l old new (earlier f g)) t (finds_more frames (all_values (map handler_part (take i items))) (handler_part v).values old mid new f g first second))
+    subst (λ (h : Option Fault). FindsIn scopes (all_values (map handler_part (take (i + 1) items))) old new h) (sym e)
+    (subst (λ (l : List HandlerValue). FindsIn scopes l old new (earlier f g)) t (finds_more scopes (all_values (map handler_part (take i items))) (handler_part v).values old mid new f g first second))
 
-pub finds_all : (frames : Frames) (items : List Handler) (i : ℕ) (old new : Handled) (f : Option Fault) → length items ≤ i → AreHandled old []
-    → FindsIn frames (all_values (map handler_part (take i items))) old new f → f ≡ first_of (values_fault frames [] (all_values (map handler_part items)))
-finds_all frames items i old new f le are found =
-    (found [] are).0 ∙ ap (λ l. first_of (values_fault frames [] (all_values (map handler_part l)))) (take_all i items le)
+pub finds_all : (scopes : Scopes) (items : List Handler) (i : ℕ) (old new : HandledConditions) (f : Option Fault) → length items ≤ i → AreHandled old []
+    → FindsIn scopes (all_values (map handler_part (take i items))) old new f → f ≡ first_of (values_fault scopes [] (all_values (map handler_part items)))
+finds_all scopes items i old new f le are checked =
+    (checked [] are).0 ∙ ap (λ l. first_of (values_fault scopes [] (all_values (map handler_part l)))) (take_all i items le)

@@ -1,6 +1,6 @@
 pub mod Apart
 pub mod ForItems
-pub mod Going
+pub mod WalkSteps
 pub mod Handling
 pub mod NamesSoFar
 pub mod Noted

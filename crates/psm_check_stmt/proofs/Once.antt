@@ -1,7 +1,7 @@
 -- Names that are declared once, as maps keep them.
 use Rattle.std.proofs.Common.{◌≡◌, Bool, true, false, is_some, List, [], ◌∷◌, ◌++◌, map, refl, ap, sym, ◌∙◌}
 use Rattle.std.specs.Prelude.{Some, Ok, if◌then◌else◌}
-use Rattle.psm_scope.specs.Frames.{Spelling, is_spelled}
+use Rattle.psm_scope.specs.Scopes.{Spelling, is_spelled}
 use Rattle.psm_scope.specs.Lookup.{named}
 use Rattle.psm_scope.specs.Names.{Adds}
 use Rattle.psm_scope.specs.Routines.{Callable, Header}
@@ -9,9 +9,9 @@ use Rattle.psm_scope.specs.declared.procedures.ProcedureScope.{ProcedureScope}
 use Rattle.psm_tree.specs.declared.file.TableTree.{TableTree}
 use Rattle.psm_rules.specs.BlockFaults.{declared_once}
 use Rattle.psm_rules.specs.FileFaults.{columns_of, first_key, keys_of, table_elements, with_table}
-use Rattle.psm_rules.specs.View.{Columns, World}
+use Rattle.psm_rules.specs.CheckerScope.{Columns, SymbolTable}
 use Rattle.psm_check_expr.specs.Keys.{key_names}
-use Rattle.psm_check_expr.specs.declared.world.Key.{Key}
+use Rattle.psm_check_expr.specs.declared.symbols.Key.{Key}
 
 -- what is seen of each that is declared
 module _ {A B : Type 0} (f : A → B) where
@@ -44,15 +44,15 @@ added_once n x old new false a = a.1 ∙ sym (ap (λ b. if b then old else old +
 
 -- a table more
 module _ (functions : Callable) (procedures : List (Header × ProcedureScope)) where
-  abbrev pub known : List (Spelling × Columns) → List (Spelling × List Spelling) → World
+  abbrev pub known : List (Spelling × Columns) → List (Spelling × List Spelling) → SymbolTable
   known tables keys = record { tables = tables; keys = keys; functions = functions; procedures = procedures }
 
-  pub table_added : (world : World) (tables new_tables : List (Spelling × Columns)) (keys new_keys : List (Spelling × Key)) (t : TableTree) (columns : Columns) (key : Key) (a b : Bool)
-      → known tables (map (each key_names) keys) ≡ world → columns ≡ columns_of (table_elements t) → key_names key ≡ first_key (keys_of (table_elements t))
-      → Adds t.name.name columns tables new_tables (Ok a) → Adds t.name.name key keys new_keys (Ok b) → known new_tables (map (each key_names) new_keys) ≡ with_table world t
-  table_added world tables new_tables keys new_keys t columns key a b view c k f g =
+  pub table_added : (symbols : SymbolTable) (tables new_tables : List (Spelling × Columns)) (keys new_keys : List (Spelling × Key)) (t : TableTree) (columns : Columns) (key : Key) (a b : Bool)
+      → known tables (map (each key_names) keys) ≡ symbols → columns ≡ columns_of (table_elements t) → key_names key ≡ first_key (keys_of (table_elements t))
+      → Adds t.name.name columns tables new_tables (Ok a) → Adds t.name.name key keys new_keys (Ok b) → known new_tables (map (each key_names) new_keys) ≡ with_table symbols t
+  table_added symbols tables new_tables keys new_keys t columns key a b checker_scope c k f g =
       let n = t.name.name in
       ap (λ ts. known ts (map (each key_names) new_keys)) (added_once n columns tables new_tables a f ∙ ap (λ cs. declared_once tables n cs) c)
       ∙ ap (λ ks. known (declared_once tables n (columns_of (table_elements t))) ks)
       (ap (map (each key_names)) (added_once n key keys new_keys b g) ∙ declared_each key_names keys n key ∙ ap (λ l. declared_once (map (each key_names) keys) n l) k)
-      ∙ ap (λ w. with_table w t) view
+      ∙ ap (λ w. with_table w t) checker_scope

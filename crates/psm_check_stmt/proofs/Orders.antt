@@ -1,14 +1,14 @@
 -- An order against the key of a table.
 use Rattle.std.proofs.Common.{suc, ◌≡◌, ◌≢◌, Bool, true, false, ◌&&◌, List, [], ◌∷◌, length, map, refl, ap, sym, ◌∙◌}
 use Rattle.std.specs.Prelude.{Option, Some, option_map, if◌then◌else◌}
-use Rattle.psm_scope.specs.Frames.{Spelling, is_spelled}
+use Rattle.psm_scope.specs.Scopes.{Spelling, is_spelled}
 use Rattle.psm_scope.specs.Lookup.{named}
 use Rattle.psm_tree.specs.declared.name.Identifier.{Identifier}
 use Rattle.psm_tree.specs.declared.statement.OrderColumn.{OrderColumn}
 use Rattle.psm_tree.specs.declared.statement.Order.{Order}
 use Rattle.psm_rules.specs.BlockFaults.{order_of, same_names}
 use Rattle.psm_check_expr.specs.Keys.{key_names}
-use Rattle.psm_check_expr.specs.declared.world.Key.{Key}
+use Rattle.psm_check_expr.specs.declared.symbols.Key.{Key}
 
 and_false : (a b : Bool) → b ≡ false → false ≡ (a && b)
 and_false true b e = sym e
@@ -31,6 +31,6 @@ named_key n (p ∷ more) = by (is_spelled n p.0) (named_key n more)
     by true e = refl
     by false e = e
 
-pub kept_order : (n : Spelling) (keys : List (Spelling × Key)) (order : Order) (found : Option Key) → found ≡ named n keys
-    → order_of (named n (map (λ p. (p.0, key_names p.1)) keys)) order ≡ order_of (option_map {T = Key} {U = List Spelling} key_names found) order
-kept_order n keys order found e = ap (λ k. order_of k order) (named_key n keys ∙ ap (option_map {T = Key} {U = List Spelling} key_names) (sym e))
+pub kept_order : (n : Spelling) (keys : List (Spelling × Key)) (order : Order) (checked : Option Key) → checked ≡ named n keys
+    → order_of (named n (map (λ p. (p.0, key_names p.1)) keys)) order ≡ order_of (option_map {T = Key} {U = List Spelling} key_names checked) order
+kept_order n keys order checked e = ap (λ k. order_of k order) (named_key n keys ∙ ap (option_map {T = Key} {U = List Spelling} key_names) (sym e))

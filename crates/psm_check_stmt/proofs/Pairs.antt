@@ -9,13 +9,13 @@ use Rattle.psm_tree.specs.declared.expr.Expr.{Expr}
 use Rattle.psm_tree.specs.declared.name.Target.{Target}
 use Rattle.psm_tree.specs.Names.{Targets}
 use Rattle.psm_rules.specs.declared.fault.Fault.{Fault}
-use Rattle.psm_rules.specs.declared.found.Found.{Found}
+use Rattle.psm_rules.specs.declared.checked.Checked.{Checked}
 use Rattle.psm_rules.specs.declared.query.Item.{Item}
 use Rattle.psm_rules.specs.declared.shape.Shape.{Shape}
 use Rattle.psm_rules.specs.declared.rule.Rule.TheVariants.{CountsDiffer}
 use Rattle.psm_rules.specs.Faults.{breaks, earlier, first_of}
 use Rattle.psm_rules.specs.StatementFaults.{arguments_fault, family_due, fetch_items, fetched_into, mixed_at, pairs_fault, several, sources_fault, target_type}
-use Rattle.psm_rules.specs.View.{Frames, View}
+use Rattle.psm_rules.specs.CheckerScope.{Scopes, CheckerScope}
 use Rattle.psm_rules.proofs.Earliest.{first_from_earlier}
 
 -- ---- where one of the lists is spent, no pair is left
@@ -30,10 +30,10 @@ no_pairs f left right xs ys n h = elim (one_spent (length xs) (length ys) n h) a
   | inr b ↦ ap (λ l. f (drop n xs) l) (drop_all n ys b) ∙ right (drop n xs)
 ]
 
-pub no_fetched : (frames : Frames) (ts : List Target) (shapes : List (Option Shape)) (n : ℕ) → min (length ts) (length shapes) ≤ n → fetched_into frames (drop n ts) (drop n shapes) ≡ []
-no_fetched frames = no_pairs (fetched_into frames) (λ ys. refl) right
+pub no_fetched : (scopes : Scopes) (ts : List Target) (shapes : List (Option Shape)) (n : ℕ) → min (length ts) (length shapes) ≤ n → fetched_into scopes (drop n ts) (drop n shapes) ≡ []
+no_fetched scopes = no_pairs (fetched_into scopes) (λ ys. refl) right
   where
-    right : (ts : List Target) → fetched_into frames ts [] ≡ []
+    right : (ts : List Target) → fetched_into scopes ts [] ≡ []
     right [] = refl
     right (t ∷ ts) = refl
 
@@ -44,28 +44,28 @@ no_items = no_pairs pairs_fault (λ ys. refl) right
     right [] = refl
     right (i ∷ others) = refl
 
-pub no_sources : (kinds : List (Option SqlType)) (values : List Found) (n : ℕ) → min (length kinds) (length values) ≤ n → sources_fault (drop n kinds) (drop n values) ≡ []
+pub no_sources : (kinds : List (Option SqlType)) (values : List Checked) (n : ℕ) → min (length kinds) (length values) ≤ n → sources_fault (drop n kinds) (drop n values) ≡ []
 no_sources = no_pairs sources_fault left (λ xs. refl)
   where
-    left : (values : List Found) → sources_fault [] values ≡ []
+    left : (values : List Checked) → sources_fault [] values ≡ []
     left [] = refl
     left (v ∷ vs) = refl
 
-pub no_arguments : (view : View) (parameters : List ParameterScope) (es : List Expr) (n : ℕ) → min (length parameters) (length es) ≤ n → arguments_fault view (drop n parameters) (drop n es) ≡ []
-no_arguments view = no_pairs (arguments_fault view) (λ ys. refl) right
+pub no_arguments : (checker_scope : CheckerScope) (parameters : List ParameterScope) (es : List Expr) (n : ℕ) → min (length parameters) (length es) ≤ n → arguments_fault checker_scope (drop n parameters) (drop n es) ≡ []
+no_arguments checker_scope = no_pairs (arguments_fault checker_scope) (λ ys. refl) right
   where
-    right : (parameters : List ParameterScope) → arguments_fault view parameters [] ≡ []
+    right : (parameters : List ParameterScope) → arguments_fault checker_scope parameters [] ≡ []
     right [] = refl
     right (p ∷ ps) = refl
 
 -- ---- the first pair
 
-pub fetched_first : (frames : Frames) (targets : Targets) (shapes : List (Option Shape)) (s : Option Shape) (others : List (Option Shape)) (own more : Option Fault)
-    → shapes ≡ s ∷ others → length others ≡ length targets.rest → own ≡ mixed_at targets.first.first.place (family_due (target_type frames targets.first)) s
-    → more ≡ first_of (fetched_into frames targets.rest others) → earlier own more ≡ fetch_items frames targets (Some shapes)
-fetched_first frames targets shapes s others own more e h p q =
-    let first = mixed_at targets.first.first.place (family_due (target_type frames targets.first)) s in
+pub fetched_first : (scopes : Scopes) (targets : Targets) (shapes : List (Option Shape)) (s : Option Shape) (others : List (Option Shape)) (own more : Option Fault)
+    → shapes ≡ s ∷ others → length others ≡ length targets.rest → own ≡ mixed_at targets.first.first.place (family_due (target_type scopes targets.first)) s
+    → more ≡ first_of (fetched_into scopes targets.rest others) → earlier own more ≡ fetch_items scopes targets (Some shapes)
+fetched_first scopes targets shapes s others own more e h p q =
+    let first = mixed_at targets.first.first.place (family_due (target_type scopes targets.first)) s in
     let as_many : nat_eq (length (s ∷ others)) (length (several targets)) ≡ true = grind (arith, nat_tests) in
-    ap (λ f. earlier f more) p ∙ ap (λ f. earlier first f) q ∙ sym (first_from_earlier first (fetched_into frames targets.rest others))
-    ∙ sym (ap (λ b. if b then first_of (fetched_into frames (several targets) (s ∷ others)) else breaks CountsDiffer targets.first.first.place) as_many)
-    ∙ ap (λ l. fetch_items frames targets (Some l)) (sym e)
+    ap (λ f. earlier f more) p ∙ ap (λ f. earlier first f) q ∙ sym (first_from_earlier first (fetched_into scopes targets.rest others))
+    ∙ sym (ap (λ b. if b then first_of (fetched_into scopes (several targets) (s ∷ others)) else breaks CountsDiffer targets.first.first.place) as_many)
+    ∙ ap (λ l. fetch_items scopes targets (Some l)) (sym e)

@@ -3,7 +3,7 @@ use Rattle.std.proofs.Common.{◌≡◌, Bool, List, Option, map, ap}
 use denote.Hole.Carrier
 use Rattle.psm_list.specs.Several.{Several, several_map}
 use Rattle.psm_token.specs.declared.place.Place.{Place}
-use Rattle.psm_scope.specs.Frames.{Spelling}
+use Rattle.psm_scope.specs.Scopes.{Spelling}
 use Rattle.psm_tree.specs.declared.expr.Expr.{Expr}
 use Rattle.psm_tree.specs.declared.statement.Statement.{Statement, roll-Statement}
 use Rattle.psm_tree.specs.declared.statement.Statement.TheVariants as statements
@@ -20,8 +20,8 @@ use Rattle.psm_tree.specs.declared.statement.Declaration.{Declaration}
 use Rattle.psm_tree.specs.declared.statement.CursorDeclaration.{CursorDeclaration}
 use Rattle.psm_tree.specs.declared.statement.Simple.{Simple}
 use Rattle.psm_rules.specs.Faults.{earlier, first_of}
-use Rattle.psm_rules.specs.StatementFaults.{Context, found, inside, label_name, label_of, several, simple_fault}
-use Rattle.psm_rules.specs.BlockFaults.{BlockPart, BranchPart, HandlerPart, Part, all, block_fault, block_layer, branch_layer, branch_part, case_branches, compound_fault, handler_layer, handler_part, head_fault, head_frame, in_loop, searched, statement_fault, statement_layer, test_part, undo_fault}
+use Rattle.psm_rules.specs.StatementFaults.{Context, checked, inside, label_name, label_of, several, simple_fault}
+use Rattle.psm_rules.specs.BlockFaults.{BlockPart, BranchPart, HandlerPart, Part, all, block_fault, block_layer, branch_layer, branch_part, case_branches, compound_fault, handler_layer, handler_part, head_fault, head_scope, in_loop, searched, statement_fault, statement_layer, test_part, undo_fault}
 
 statement_rolled : (layer : Statement-F Block Statement Branch Handler) → statement_fault (roll-Statement layer) ≡ statement_layer (map-Statement Block Statement Branch Handler BlockPart Part BranchPart HandlerPart block_fault statement_fault branch_part handler_part layer)
 unfolding statement_fault block_fault branch_part handler_part
@@ -33,7 +33,7 @@ block_rolled layer = fold-roll-Block BlockPart Part BranchPart HandlerPart block
 
 -- ---- statements
 
-pub fault-Block : (label : Option Label) (block : Block) (c : Context) → statement_fault (statements.Block label block) c ≡ earlier (label_of c.view.frames label) (block_fault block (label_name label) c)
+pub fault-Block : (label : Option Label) (block : Block) (c : Context) → statement_fault (statements.Block label block) c ≡ earlier (label_of c.checker_scope.scopes label) (block_fault block (label_name label) c)
 unfolding roll-Statement Carrier.roll
 fault-Block label block c = ap (λ f. f c) (statement_rolled (layers.Block label block))
 
@@ -61,15 +61,15 @@ pub fault-Loop : (place : Place) (body : Several Statement) (label : Option Spel
 unfolding roll-Block Carrier.roll
 fault-Loop place body label c = ap (λ f. f label c) (block_rolled (layers.Loop place body))
 
-pub fault-While : (place : Place) (test : Expr) (body : Several Statement) (label : Option Spelling) (c : Context) → block_fault (blocks.While place test body) label c ≡ earlier (test_part c.view test) (all (in_loop label c) (several (several_map statement_fault body)))
+pub fault-While : (place : Place) (test : Expr) (body : Several Statement) (label : Option Spelling) (c : Context) → block_fault (blocks.While place test body) label c ≡ earlier (test_part c.checker_scope test) (all (in_loop label c) (several (several_map statement_fault body)))
 unfolding roll-Block Carrier.roll
 fault-While place test body label c = ap (λ f. f label c) (block_rolled (layers.While place test body))
 
-pub fault-Repeat : (place : Place) (body : Several Statement) (until : Expr) (label : Option Spelling) (c : Context) → block_fault (blocks.Repeat place body until) label c ≡ earlier (all (in_loop label c) (several (several_map statement_fault body))) (test_part c.view until)
+pub fault-Repeat : (place : Place) (body : Several Statement) (until : Expr) (label : Option Spelling) (c : Context) → block_fault (blocks.Repeat place body until) label c ≡ earlier (all (in_loop label c) (several (several_map statement_fault body))) (test_part c.checker_scope until)
 unfolding roll-Block Carrier.roll
 fault-Repeat place body until label c = ap (λ f. f label c) (block_rolled (layers.Repeat place body until))
 
-pub fault-For : (place : Place) (head : ForHead) (body : Several Statement) (label : Option Spelling) (c : Context) → block_fault (blocks.For place head body) label c ≡ earlier (head_fault c.view head) (all (inside c (head_frame c.view label head)) (several (several_map statement_fault body)))
+pub fault-For : (place : Place) (head : ForHead) (body : Several Statement) (label : Option Spelling) (c : Context) → block_fault (blocks.For place head body) label c ≡ earlier (head_fault c.checker_scope head) (all (inside c (head_scope c.checker_scope label head)) (several (several_map statement_fault body)))
 unfolding roll-Block Carrier.roll
 fault-For place head body label c = ap (λ f. f label c) (block_rolled (layers.For place head body))
 
@@ -77,7 +77,7 @@ pub ruleset block_equations = (fault-Compound, fault-Loop, fault-While, fault-Re
 
 -- ---- branches and handlers
 
-pub part_of_branch : (branch : Branch) (c : Context) → branch_part branch c ≡ (found c.view (out-Branch branch).test, all c (several (several_map statement_fault (out-Branch branch).statements)))
+pub part_of_branch : (branch : Branch) (c : Context) → branch_part branch c ≡ (checked c.checker_scope (out-Branch branch).test, all c (several (several_map statement_fault (out-Branch branch).statements)))
 unfolding statement_fault block_fault branch_part handler_part
 part_of_branch branch c = ap (λ f. f c) (fold_out-Branch BlockPart Part BranchPart HandlerPart block_layer statement_layer branch_layer handler_layer branch)
 

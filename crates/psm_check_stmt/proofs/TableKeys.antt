@@ -2,10 +2,10 @@
 use Rattle.std.proofs.Common.{◌≡◌, ◌<◌, ◌≤◌, ◌+◌, ℕ, suc, drop, get_or, nat_eq, false, length, List, [], ◌∷◌, ◌++◌, refl, ap, sym, ◌∙◌, arith}
 use Rattle.std.proofs.Math.ListN.{drop_of_length-le}
 use Rattle.std.proofs.lemmas.Bool.Decides.{nat_tests}
-use Rattle.psm_scope.specs.Frames.{Spelling}
+use Rattle.psm_scope.specs.Scopes.{Spelling}
 use Rattle.psm_tree.specs.declared.file.Element.{Element}
 use Rattle.psm_rules.specs.FileFaults.{element_keys, first_key, keys_of}
-use Rattle.psm_check_stmt.proofs.Going.{drop_next}
+use Rattle.psm_check_stmt.proofs.WalkSteps.{drop_next}
 use Rattle.psm_check_stmt.specs.Keys.{Kept, NoKey, MoreKeys, and_key, and_keys, first_kept, is_one}
 
 pub and_keys_append : (k : Kept) (ls ms : List (List Spelling)) → and_keys k (ls ++ ms) ≡ and_keys (and_keys k ls) ms

@@ -1,6 +1,6 @@
 -- The keys of a table as they are kept.
 use Rattle.std.specs.Prelude.{Bool, true, false, List, [], ◌∷◌}
-use Rattle.psm_scope.specs.Frames.{Spelling}
+use Rattle.psm_scope.specs.Scopes.{Spelling}
 use Rattle.psm_check_stmt.specs.declared.tables.Keys.{Keys}
 use Rattle.psm_check_stmt.specs.declared.tables.Keys.TheVariants as tables
 use Rattle.psm_check_expr.specs.Keys.{key_names}

@@ -3,4 +3,4 @@ pub mod Handling
 pub mod InRoutine
 pub mod Keys
 pub mod Listed
-pub mod Told
+pub mod SeenRoutines

@@ -1,7 +1,7 @@
 -- Names in order, of which none may stand twice.
 use Rattle.std.specs.Prelude.{◌≡◌, List, ◌++◌, is_some}
 use Rattle.std.specs.List.{list_any}
-use Rattle.psm_scope.specs.Frames.{Spelling, is_spelled}
+use Rattle.psm_scope.specs.Scopes.{Spelling, is_spelled}
 use Rattle.psm_scope.specs.Lookup.{named}
 use Rattle.psm_tree.specs.declared.name.Identifier.{Identifier}
 use Rattle.psm_rules.specs.declared.rule.Rule.{Rule}

@@ -3,22 +3,22 @@ ghost use Rattle.std.specs.Prelude.{◌≡◌, ◌∷◌, IfOk, map};
 ghost use Rattle.std.specs.Option.{option_copied};
 ghost use Rattle.psm_list.specs.Several.{several_map};
 ghost use Rattle.psm_rules.specs.Faults.{earlier, first_of};
-ghost use Rattle.psm_rules.specs.Found.{as_condition};
+ghost use Rattle.psm_rules.specs.Checked.{as_condition};
 ghost use Rattle.psm_rules.specs.ExprFaults.{simple_test};
 ghost use Rattle.psm_rules.specs.StatementFaults.{end_label_fault, inside, label_name, label_of, several};
 ghost use Rattle.psm_rules.specs.BlockFaults.{all, block_fault, branch_part, case_branches, handler_part, handlers_fault, in_loop, searched, simple, statement_fault, test_part, undo_fault};
-ghost use Rattle.psm_scope.specs.Frames.{Action};
+ghost use Rattle.psm_scope.specs.Scopes.{Action};
 ghost use Rattle.psm_check_stmt.specs.InRoutine.{context};
 
 use crate::declarations::declared_fault;
-use crate::handled::values_fault;
+use crate::handled_conditions::values_fault;
 use crate::loops::for_fault;
 use crate::statements::{Context, simple_fault};
-use psm_check_expr::{Frames, expr_found, same_name, simple_test};
-use psm_known::label_name;
+use psm_check_expr::{Scopes, check_expr, same_name, simple_test};
 use psm_list::{Boxed, List, OneOrMore};
-use psm_rules::{Fault, Found, Rule, as_condition, as_value, breaks_if, earlier, undo_fault};
-use psm_scope::FrameKind;
+use psm_rules::{Checked, Fault, Rule, as_condition, as_value, breaks_if, earlier, undo_fault};
+use psm_scope::ScopeKind;
+use psm_symbols::label_name;
 use psm_text::Name;
 use psm_tree::{Block, Branch, Expr, Handler, Identifier, Label, Statement};
 use std::alloc::AllocError;
@@ -29,15 +29,15 @@ use std::alloc::AllocError;
 pub(crate) fn statement_fault<'w, 'a>(
     statement: &'a Statement,
     c: Context<'w, 'a>,
-    frames: &mut Frames<'a>,
+    scopes: &mut Scopes<'a>,
 ) -> Result<Option<Fault>, AllocError>
-    ensures fault { IfOk result (λ f. f ≡ statement_fault statement.now (context c.entry frames.old)) }
-    ensures kept { IfOk result (λ _. frames.new ≡ frames.old) }
+    ensures fault { IfOk result (λ f. f ≡ statement_fault statement.now (context c.entry scopes.old)) }
+    ensures kept { IfOk result (λ _. scopes.new ≡ scopes.old) }
 {
     match statement {
         Statement::Block { label, block } => {
-            let own = label_fault(frames, label);
-            let fault = block_fault(block.get(), c, frames, label_name(label))?;
+            let own = label_fault(scopes, label);
+            let fault = block_fault(block.get(), c, scopes, label_name(label))?;
             Ok(earlier(own, fault))
         }
         Statement::If {
@@ -45,8 +45,8 @@ pub(crate) fn statement_fault<'w, 'a>(
             otherwise,
             ..
         } => {
-            let fault = searched(branches, c, frames)?;
-            let others = all(otherwise, c, frames)?;
+            let fault = searched(branches, c, scopes)?;
+            let others = all(otherwise, c, scopes)?;
             Ok(earlier(fault, others))
         }
         Statement::Case {
@@ -55,11 +55,11 @@ pub(crate) fn statement_fault<'w, 'a>(
             otherwise,
             ..
         } => {
-            let fault = case_fault(branches, c, frames, operand)?;
-            let others = all(otherwise, c, frames)?;
+            let fault = case_fault(branches, c, scopes, operand)?;
+            let others = all(otherwise, c, scopes)?;
             Ok(earlier(fault, others))
         }
-        Statement::Simple(simple) => simple_fault(simple.get(), c, frames),
+        Statement::Simple(simple) => simple_fault(simple.get(), c, scopes),
     }
 }
 
@@ -67,14 +67,14 @@ pub(crate) fn statement_fault<'w, 'a>(
 fn all<'w, 'a>(
     statements: &'a List<Boxed<Statement>>,
     c: Context<'w, 'a>,
-    frames: &mut Frames<'a>,
+    scopes: &mut Scopes<'a>,
 ) -> Result<Option<Fault>, AllocError>
-    ensures fault { IfOk result (λ f. f ≡ all (context c.entry frames.old) (map statement_fault statements.now)) }
-    ensures kept { IfOk result (λ _. frames.new ≡ frames.old) }
+    ensures fault { IfOk result (λ f. f ≡ all (context c.entry scopes.old) (map statement_fault statements.now)) }
+    ensures kept { IfOk result (λ _. scopes.new ≡ scopes.old) }
 {
     let mut fault = None;
     for statement in statements.items() {
-        let own = statement_fault(statement.get(), c, frames)?;
+        let own = statement_fault(statement.get(), c, scopes)?;
         fault = earlier(fault, own);
     }
     Ok(fault)
@@ -84,14 +84,14 @@ fn all<'w, 'a>(
 fn several<'w, 'a>(
     statements: &'a OneOrMore<Boxed<Statement>>,
     c: Context<'w, 'a>,
-    frames: &mut Frames<'a>,
+    scopes: &mut Scopes<'a>,
 ) -> Result<Option<Fault>, AllocError>
-    ensures fault { IfOk result (λ f. f ≡ all (context c.entry frames.old) (several (several_map statement_fault statements.now))) }
-    ensures kept { IfOk result (λ _. frames.new ≡ frames.old) }
+    ensures fault { IfOk result (λ f. f ≡ all (context c.entry scopes.old) (several (several_map statement_fault statements.now))) }
+    ensures kept { IfOk result (λ _. scopes.new ≡ scopes.old) }
 {
-    let mut fault = statement_fault(statements.first.get(), c, frames)?;
+    let mut fault = statement_fault(statements.first.get(), c, scopes)?;
     for statement in statements.rest.items() {
-        let own = statement_fault(statement.get(), c, frames)?;
+        let own = statement_fault(statement.get(), c, scopes)?;
         fault = earlier(fault, own);
     }
     Ok(fault)
@@ -99,14 +99,14 @@ fn several<'w, 'a>(
 
 // ---- labels
 
-fn label_fault(frames: &Frames, label: &Option<Label>) -> Option<Fault>
-    ensures { result ≡ label_of frames.now label.now }
+fn label_fault(scopes: &Scopes, label: &Option<Label>) -> Option<Fault>
+    ensures { result ≡ label_of scopes.now label.now }
 {
     match label {
         None => None,
         Some(label) => {
             let start = &label.start;
-            let is_seen = frames.label(&start.name).is_some();
+            let is_seen = scopes.label(&start.name).is_some();
             let repeated = breaks_if(is_seen, Rule::LabelRepeated, start.place);
             earlier(repeated, end_label_fault(start, &label.end))
         }
@@ -132,14 +132,14 @@ fn end_label_fault(start: &Identifier, end: &Option<Identifier>) -> Option<Fault
 fn searched<'w, 'a>(
     branches: &'a OneOrMore<Boxed<Branch>>,
     c: Context<'w, 'a>,
-    frames: &mut Frames<'a>,
+    scopes: &mut Scopes<'a>,
 ) -> Result<Option<Fault>, AllocError>
-    ensures fault { IfOk result (λ f. f ≡ first_of (searched (context c.entry frames.old) (several (several_map branch_part branches.now)))) }
-    ensures kept { IfOk result (λ _. frames.new ≡ frames.old) }
+    ensures fault { IfOk result (λ f. f ≡ first_of (searched (context c.entry scopes.old) (several (several_map branch_part branches.now)))) }
+    ensures kept { IfOk result (λ _. scopes.new ≡ scopes.old) }
 {
-    let mut fault = searched_branch(branches.first.get(), c, frames)?;
+    let mut fault = searched_branch(branches.first.get(), c, scopes)?;
     for branch in branches.rest.items() {
-        let own = searched_branch(branch.get(), c, frames)?;
+        let own = searched_branch(branch.get(), c, scopes)?;
         fault = earlier(fault, own);
     }
     Ok(fault)
@@ -150,13 +150,13 @@ fn searched<'w, 'a>(
 fn searched_branch<'w, 'a>(
     branch: &'a Branch,
     c: Context<'w, 'a>,
-    frames: &mut Frames<'a>,
+    scopes: &mut Scopes<'a>,
 ) -> Result<Option<Fault>, AllocError>
-    ensures fault { IfOk result (λ f. let b = branch_part branch.now (context c.entry frames.old) in f ≡ earlier (as_condition b.0).fault b.1) }
-    ensures kept { IfOk result (λ _. frames.new ≡ frames.old) }
+    ensures fault { IfOk result (λ f. let b = branch_part branch.now (context c.entry scopes.old) in f ≡ earlier (as_condition b.0).fault b.1) }
+    ensures kept { IfOk result (λ _. scopes.new ≡ scopes.old) }
 {
-    let test = expr_found(c.alloc, branch.test.get(), c.view(frames))?;
-    let fault = several(&branch.statements, c, frames)?;
+    let test = check_expr(c.alloc, branch.test.get(), c.checker_scope(scopes))?;
+    let fault = several(&branch.statements, c, scopes)?;
     Ok(earlier(as_condition(test).fault, fault))
 }
 
@@ -164,17 +164,17 @@ fn searched_branch<'w, 'a>(
 fn case_fault<'w, 'a>(
     branches: &'a OneOrMore<Boxed<Branch>>,
     c: Context<'w, 'a>,
-    frames: &mut Frames<'a>,
+    scopes: &mut Scopes<'a>,
     operand: &Option<Boxed<Expr>>,
 ) -> Result<Option<Fault>, AllocError>
-    ensures fault { IfOk result (λ f. f ≡ first_of (case_branches (context c.entry frames.old) operand.now (several (several_map branch_part branches.now)))) }
-    ensures kept { IfOk result (λ _. frames.new ≡ frames.old) }
+    ensures fault { IfOk result (λ f. f ≡ first_of (case_branches (context c.entry scopes.old) operand.now (several (several_map branch_part branches.now)))) }
+    ensures kept { IfOk result (λ _. scopes.new ≡ scopes.old) }
 {
     match operand {
-        None => searched(branches, c, frames),
+        None => searched(branches, c, scopes),
         Some(e) => {
-            let found = expr_found(c.alloc, e.get(), c.view(frames))?;
-            simple(branches, c, frames, as_value(found))
+            let checked = check_expr(c.alloc, e.get(), c.checker_scope(scopes))?;
+            simple(branches, c, scopes, as_value(checked))
         }
     }
 }
@@ -184,16 +184,16 @@ fn case_fault<'w, 'a>(
 fn simple<'w, 'a>(
     branches: &'a OneOrMore<Boxed<Branch>>,
     c: Context<'w, 'a>,
-    frames: &mut Frames<'a>,
-    operand: Found,
+    scopes: &mut Scopes<'a>,
+    operand: Checked,
 ) -> Result<Option<Fault>, AllocError>
-    ensures fault { IfOk result (λ f. f ≡ first_of (operand.fault ∷ simple (context c.entry frames.old) operand (several (several_map branch_part branches.now)))) }
-    ensures kept { IfOk result (λ _. frames.new ≡ frames.old) }
+    ensures fault { IfOk result (λ f. f ≡ first_of (operand.fault ∷ simple (context c.entry scopes.old) operand (several (several_map branch_part branches.now)))) }
+    ensures kept { IfOk result (λ _. scopes.new ≡ scopes.old) }
 {
-    let first = simple_branch(branches.first.get(), c, frames, operand)?;
+    let first = simple_branch(branches.first.get(), c, scopes, operand)?;
     let mut fault = earlier(operand.fault, first);
     for branch in branches.rest.items() {
-        let own = simple_branch(branch.get(), c, frames, operand)?;
+        let own = simple_branch(branch.get(), c, scopes, operand)?;
         fault = earlier(fault, own);
     }
     Ok(fault)
@@ -204,14 +204,14 @@ fn simple<'w, 'a>(
 fn simple_branch<'w, 'a>(
     branch: &'a Branch,
     c: Context<'w, 'a>,
-    frames: &mut Frames<'a>,
-    operand: Found,
+    scopes: &mut Scopes<'a>,
+    operand: Checked,
 ) -> Result<Option<Fault>, AllocError>
-    ensures fault { IfOk result (λ f. let b = branch_part branch.now (context c.entry frames.old) in f ≡ earlier (simple_test operand b.0).fault b.1) }
-    ensures kept { IfOk result (λ _. frames.new ≡ frames.old) }
+    ensures fault { IfOk result (λ f. let b = branch_part branch.now (context c.entry scopes.old) in f ≡ earlier (simple_test operand b.0).fault b.1) }
+    ensures kept { IfOk result (λ _. scopes.new ≡ scopes.old) }
 {
-    let test = expr_found(c.alloc, branch.test.get(), c.view(frames))?;
-    let fault = several(&branch.statements, c, frames)?;
+    let test = check_expr(c.alloc, branch.test.get(), c.checker_scope(scopes))?;
+    let fault = several(&branch.statements, c, scopes)?;
     Ok(earlier(simple_test(operand, test).fault, fault))
 }
 
@@ -222,11 +222,11 @@ fn simple_branch<'w, 'a>(
 fn block_fault<'w, 'a>(
     block: &'a Block,
     c: Context<'w, 'a>,
-    frames: &mut Frames<'a>,
+    scopes: &mut Scopes<'a>,
     label: Option<&'a Name>,
 ) -> Result<Option<Fault>, AllocError>
-    ensures fault { IfOk result (λ f. f ≡ block_fault block.now (option_copied label.entry) (context c.entry frames.old)) }
-    ensures kept { IfOk result (λ _. frames.new ≡ frames.old) }
+    ensures fault { IfOk result (λ f. f ≡ block_fault block.now (option_copied label.entry) (context c.entry scopes.old)) }
+    ensures kept { IfOk result (λ _. scopes.new ≡ scopes.old) }
 {
     match block {
         Block::Compound {
@@ -237,21 +237,21 @@ fn block_fault<'w, 'a>(
             statements,
             ..
         } => {
-            let own = declared_fault(c, frames, label, declarations, cursors)?;
-            let values = values_fault(c.alloc, frames, handlers)?;
-            let actions = handlers_fault(handlers, c, frames, *atomic)?;
-            let fault = all(statements, c, frames)?;
-            frames.pop();
+            let own = declared_fault(c, scopes, label, declarations, cursors)?;
+            let values = values_fault(c.alloc, scopes, handlers)?;
+            let actions = handlers_fault(handlers, c, scopes, *atomic)?;
+            let fault = all(statements, c, scopes)?;
+            scopes.pop();
             Ok(earlier(own, earlier(earlier(values, actions), fault)))
         }
-        Block::Loop { statements, .. } => loop_fault(statements, c, frames, label),
+        Block::Loop { statements, .. } => loop_fault(statements, c, scopes, label),
         Block::While {
             test,
             statements,
             ..
         } => {
-            let test = test_fault(c, frames, test.get())?;
-            let fault = loop_fault(statements, c, frames, label)?;
+            let test = test_fault(c, scopes, test.get())?;
+            let fault = loop_fault(statements, c, scopes, label)?;
             Ok(earlier(test, fault))
         }
         Block::Repeat {
@@ -259,8 +259,8 @@ fn block_fault<'w, 'a>(
             until,
             ..
         } => {
-            let fault = loop_fault(statements, c, frames, label)?;
-            let test = test_fault(c, frames, until.get())?;
+            let fault = loop_fault(statements, c, scopes, label)?;
+            let test = test_fault(c, scopes, until.get())?;
             Ok(earlier(fault, test))
         }
         Block::For {
@@ -268,9 +268,9 @@ fn block_fault<'w, 'a>(
             statements,
             ..
         } => {
-            let own = for_fault(c, frames, label, head.get())?;
-            let fault = several(statements, c, frames)?;
-            frames.pop();
+            let own = for_fault(c, scopes, label, head.get())?;
+            let fault = several(statements, c, scopes)?;
+            scopes.pop();
             Ok(earlier(own, fault))
         }
     }
@@ -278,28 +278,28 @@ fn block_fault<'w, 'a>(
 
 fn test_fault<'w, 'a>(
     c: Context<'w, 'a>,
-    frames: &Frames<'a>,
+    scopes: &Scopes<'a>,
     test: &Expr,
 ) -> Result<Option<Fault>, AllocError>
-    ensures { IfOk result (λ f. f ≡ test_part (context c.entry frames.now).view test.now) }
+    ensures { IfOk result (λ f. f ≡ test_part (context c.entry scopes.now).checker_scope test.now) }
 {
-    let found = expr_found(c.alloc, test, c.view(frames))?;
-    Ok(as_condition(found).fault)
+    let checked = check_expr(c.alloc, test, c.checker_scope(scopes))?;
+    Ok(as_condition(checked).fault)
 }
 
 #[cycle(statement)]
 fn loop_fault<'w, 'a>(
     statements: &'a OneOrMore<Boxed<Statement>>,
     c: Context<'w, 'a>,
-    frames: &mut Frames<'a>,
+    scopes: &mut Scopes<'a>,
     label: Option<&'a Name>,
 ) -> Result<Option<Fault>, AllocError>
-    ensures fault { IfOk result (λ f. f ≡ all (in_loop (option_copied label.entry) (context c.entry frames.old)) (several (several_map statement_fault statements.now))) }
-    ensures kept { IfOk result (λ _. frames.new ≡ frames.old) }
+    ensures fault { IfOk result (λ f. f ≡ all (in_loop (option_copied label.entry) (context c.entry scopes.old)) (several (several_map statement_fault statements.now))) }
+    ensures kept { IfOk result (λ _. scopes.new ≡ scopes.old) }
 {
-    frames.push(FrameKind::Loop(label))?;
-    let fault = several(statements, c, frames)?;
-    frames.pop();
+    scopes.push(ScopeKind::Loop(label))?;
+    let fault = several(statements, c, scopes)?;
+    scopes.pop();
     Ok(fault)
 }
 
@@ -310,15 +310,15 @@ fn loop_fault<'w, 'a>(
 fn handlers_fault<'w, 'a>(
     handlers: &'a List<Boxed<Handler>>,
     c: Context<'w, 'a>,
-    frames: &mut Frames<'a>,
+    scopes: &mut Scopes<'a>,
     atomic: bool,
 ) -> Result<Option<Fault>, AllocError>
-    ensures fault { IfOk result (λ f. f ≡ first_of (handlers_fault (context c.entry frames.old) atomic (map handler_part handlers.now))) }
-    ensures kept { IfOk result (λ _. frames.new ≡ frames.old) }
+    ensures fault { IfOk result (λ f. f ≡ first_of (handlers_fault (context c.entry scopes.old) atomic (map handler_part handlers.now))) }
+    ensures kept { IfOk result (λ _. scopes.new ≡ scopes.old) }
 {
     let mut fault = None;
     for handler in handlers.items() {
-        let own = handler_fault(handler.get(), c, frames, atomic)?;
+        let own = handler_fault(handler.get(), c, scopes, atomic)?;
         fault = earlier(fault, own);
     }
     Ok(fault)
@@ -329,15 +329,15 @@ fn handlers_fault<'w, 'a>(
 fn handler_fault<'w, 'a>(
     handler: &'a Handler,
     c: Context<'w, 'a>,
-    frames: &mut Frames<'a>,
+    scopes: &mut Scopes<'a>,
     atomic: bool,
 ) -> Result<Option<Fault>, AllocError>
-    ensures fault { IfOk result (λ f. let h = handler_part handler.now in f ≡ earlier (h.own atomic) (h.action (inside (context c.entry frames.old) Action))) }
-    ensures kept { IfOk result (λ _. frames.new ≡ frames.old) }
+    ensures fault { IfOk result (λ f. let h = handler_part handler.now in f ≡ earlier (h.own atomic) (h.action (inside (context c.entry scopes.old) Action))) }
+    ensures kept { IfOk result (λ _. scopes.new ≡ scopes.old) }
 {
     let own = undo_fault(handler.at, handler.kind, atomic);
-    frames.push(FrameKind::Action)?;
-    let fault = statement_fault(handler.action.get(), c, frames)?;
-    frames.pop();
+    scopes.push(ScopeKind::Action)?;
+    let fault = statement_fault(handler.action.get(), c, scopes)?;
+    scopes.pop();
     Ok(earlier(own, fault))
 }

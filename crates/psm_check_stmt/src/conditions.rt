@@ -2,14 +2,14 @@
 ghost use Rattle.std.specs.Prelude.{◌≡◌, IfOk, true, map};
 ghost use Rattle.psm_rules.specs.Faults.{first_of};
 ghost use Rattle.psm_rules.specs.StatementFaults.{condition_fault, condition_item_family, diagnostics_fault, is_same_family, item_fault, message_fault, number_fault, number_type_fault, several, signalled_fault, statement_item_family};
-ghost use Rattle.psm_check_expr.specs.Seen.{seen_in_view};
+ghost use Rattle.psm_check_expr.specs.Seen.{seen_in_checker_scope};
 
 use crate::sources::{assigned_type, family_due, target_fault, variable_of};
-use psm_check_expr::{Frames, View, expr_found};
-use psm_known::{condition_name_fault, state_fault};
+use psm_check_expr::{CheckerScope, Scopes, check_expr};
 use psm_list::{Boxed, OneOrMore};
 use psm_rules::{Family, Fault, Rule, as_value, breaks, breaks_if, earlier, of_family};
 use psm_scope::Variable;
+use psm_symbols::{condition_name_fault, state_fault};
 use psm_token::Place;
 use psm_tree::{
     Condition, ConditionInformation, ConditionItem, ConditionNumber, Diagnostics, Expr, Signalled,
@@ -19,13 +19,13 @@ use std::alloc::{AllocError, Global};
 
 fn condition_fault(
     alloc: Global,
-    frames: &Frames,
+    scopes: &Scopes,
     condition: &Condition,
 ) -> Result<Option<Fault>, AllocError>
-    ensures { IfOk result (λ f. f ≡ condition_fault frames.now condition.now) }
+    ensures { IfOk result (λ f. f ≡ condition_fault scopes.now condition.now) }
 {
     match condition {
-        Condition::Name(name) => Ok(condition_name_fault(frames, name)),
+        Condition::Name(name) => Ok(condition_name_fault(scopes, name)),
         Condition::State(state) => state_fault(alloc, state),
     }
 }
@@ -34,26 +34,29 @@ fn condition_fault(
 pub(crate) fn signalled_fault(
     alloc: Global,
     signalled: &Signalled,
-    view: View,
+    checker_scope: CheckerScope,
 ) -> Result<Option<Fault>, AllocError>
-    ensures { IfOk result (λ f. f ≡ signalled_fault (seen_in_view view.entry) signalled.now) }
+    ensures { IfOk result (λ f. f ≡ signalled_fault (seen_in_checker_scope checker_scope.entry) signalled.now) }
 {
-    let fault = condition_fault(alloc, view.frames, &signalled.condition)?;
-    Ok(earlier(fault, message_fault(alloc, &signalled.message, view)?))
+    let fault = condition_fault(alloc, checker_scope.scopes, &signalled.condition)?;
+    Ok(earlier(
+        fault,
+        message_fault(alloc, &signalled.message, checker_scope)?,
+    ))
 }
 
 fn message_fault(
     alloc: Global,
     message: &Option<Boxed<Expr>>,
-    view: View,
+    checker_scope: CheckerScope,
 ) -> Result<Option<Fault>, AllocError>
-    ensures { IfOk result (λ f. f ≡ message_fault (seen_in_view view.entry) message.now) }
+    ensures { IfOk result (λ f. f ≡ message_fault (seen_in_checker_scope checker_scope.entry) message.now) }
 {
     match message {
         None => Ok(None),
         Some(message) => {
-            let found = expr_found(alloc, message.get(), view)?;
-            Ok(of_family(Family::Texts, as_value(found)).fault)
+            let checked = check_expr(alloc, message.get(), checker_scope)?;
+            Ok(of_family(Family::Texts, as_value(checked)).fault)
         }
     }
 }
@@ -92,55 +95,55 @@ fn is_same_family(due: Option<Family>, family: Family) -> bool
 }
 
 // An item for a target; where they don't fit the fault is at the item.
-fn item_fault(frames: &Frames, target: &Target, place: Place, family: Family) -> Option<Fault>
-    ensures { result ≡ item_fault frames.now target.now place family }
+fn item_fault(scopes: &Scopes, target: &Target, place: Place, family: Family) -> Option<Fault>
+    ensures { result ≡ item_fault scopes.now target.now place family }
 {
-    let known = variable_of(frames, target);
+    let known = variable_of(scopes, target);
     let due = family_due(assigned_type(known));
     let mixed = breaks_if(!is_same_family(due, family), Rule::FamiliesMixed, place);
     earlier(target_fault(target.place(), known), mixed)
 }
 
-fn statement_item_fault(frames: &Frames, i: &StatementInformation) -> Option<Fault>
-    ensures { result ≡ item_fault frames.now i.now.target i.now.place (statement_item_family i.now.item) }
+fn statement_item_fault(scopes: &Scopes, i: &StatementInformation) -> Option<Fault>
+    ensures { result ≡ item_fault scopes.now i.now.target i.now.place (statement_item_family i.now.item) }
 {
-    item_fault(frames, &i.target, i.place, statement_item_family(i.item))
+    item_fault(scopes, &i.target, i.place, statement_item_family(i.item))
 }
 
-fn statement_items_fault(frames: &Frames, items: &OneOrMore<StatementInformation>) -> Option<Fault>
-    ensures { result ≡ first_of (map (λ i. item_fault frames.now i.target i.place (statement_item_family i.item)) (several items.now)) }
+fn statement_items_fault(scopes: &Scopes, items: &OneOrMore<StatementInformation>) -> Option<Fault>
+    ensures { result ≡ first_of (map (λ i. item_fault scopes.now i.target i.place (statement_item_family i.item)) (several items.now)) }
 {
-    let mut fault = statement_item_fault(frames, &items.first);
+    let mut fault = statement_item_fault(scopes, &items.first);
     for i in items.rest.items() {
-        fault = earlier(fault, statement_item_fault(frames, i));
+        fault = earlier(fault, statement_item_fault(scopes, i));
     }
     fault
 }
 
-fn condition_item_fault(frames: &Frames, i: &ConditionInformation) -> Option<Fault>
-    ensures { result ≡ item_fault frames.now i.now.target i.now.place (condition_item_family i.now.item) }
+fn condition_item_fault(scopes: &Scopes, i: &ConditionInformation) -> Option<Fault>
+    ensures { result ≡ item_fault scopes.now i.now.target i.now.place (condition_item_family i.now.item) }
 {
-    item_fault(frames, &i.target, i.place, condition_item_family(i.item))
+    item_fault(scopes, &i.target, i.place, condition_item_family(i.item))
 }
 
-fn condition_items_fault(frames: &Frames, items: &OneOrMore<ConditionInformation>) -> Option<Fault>
-    ensures { result ≡ first_of (map (λ i. item_fault frames.now i.target i.place (condition_item_family i.item)) (several items.now)) }
+fn condition_items_fault(scopes: &Scopes, items: &OneOrMore<ConditionInformation>) -> Option<Fault>
+    ensures { result ≡ first_of (map (λ i. item_fault scopes.now i.target i.place (condition_item_family i.item)) (several items.now)) }
 {
-    let mut fault = condition_item_fault(frames, &items.first);
+    let mut fault = condition_item_fault(scopes, &items.first);
     for i in items.rest.items() {
-        fault = earlier(fault, condition_item_fault(frames, i));
+        fault = earlier(fault, condition_item_fault(scopes, i));
     }
     fault
 }
 
 // The number of the condition, in a variable of a number.
-fn number_fault(frames: &Frames, number: &ConditionNumber) -> Option<Fault>
-    ensures { result ≡ number_fault frames.now number.now }
+fn number_fault(scopes: &Scopes, number: &ConditionNumber) -> Option<Fault>
+    ensures { result ≡ number_fault scopes.now number.now }
 {
     match number {
         ConditionNumber::Number { .. } => None,
         ConditionNumber::Target(target) => {
-            number_type_fault(target.place(), variable_of(frames, target))
+            number_type_fault(target.place(), variable_of(scopes, target))
         }
     }
 }
@@ -158,14 +161,14 @@ fn number_type_fault(place: Place, known: Option<Variable>) -> Option<Fault>
 }
 
 /// What GET DIAGNOSTICS asks for.
-pub(crate) fn diagnostics_fault(frames: &Frames, diagnostics: &Diagnostics) -> Option<Fault>
-    ensures { result ≡ diagnostics_fault frames.now diagnostics.now }
+pub(crate) fn diagnostics_fault(scopes: &Scopes, diagnostics: &Diagnostics) -> Option<Fault>
+    ensures { result ≡ diagnostics_fault scopes.now diagnostics.now }
 {
     match diagnostics {
-        Diagnostics::Statement { items } => statement_items_fault(frames, items),
+        Diagnostics::Statement { items } => statement_items_fault(scopes, items),
         Diagnostics::Condition { number, items } => earlier(
-            number_fault(frames, number),
-            condition_items_fault(frames, items),
+            number_fault(scopes, number),
+            condition_items_fault(scopes, items),
         ),
     }
 }

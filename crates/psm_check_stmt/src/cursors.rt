@@ -1,33 +1,37 @@
 //! Cursors, and the order of a query.
 ghost use Rattle.std.specs.Prelude.{◌≡◌, ◌∷◌, [], IfOk, Some, false, map, true};
 ghost use Rattle.std.specs.Option.{option_copied};
-ghost use Rattle.psm_rules.specs.BlockFaults.{cursor_fault, cursor_on, found_query, is_key_order, is_updatable, order_fault, same_names};
+ghost use Rattle.psm_rules.specs.BlockFaults.{cursor_fault, cursor_on, checked_query, is_key_order, is_updatable, order_fault, same_names};
 ghost use Rattle.psm_rules.specs.ExprFaults.{first_set, misplaced_set, query_fault};
 ghost use Rattle.psm_rules.specs.Faults.{first_of};
 ghost use Rattle.psm_rules.specs.StatementFaults.{family_due, fetch_fault, fetch_items, fetched_into, mixed_at, opened_fault, positioned_fault, several, target_type};
 ghost use Rattle.psm_check_expr.specs.Keys.{key_names};
-ghost use Rattle.psm_check_expr.specs.Seen.{seen_in_view};
+ghost use Rattle.psm_check_expr.specs.Seen.{seen_in_checker_scope};
 
 use crate::sources::{family_due, mixed_at, target_type};
 use psm_check_expr::{
-    CheckedCursor, Frames, Key, QueryFound, View, World, first_set, misplaced_set, query_found,
-    same_name,
+    CheckedCursor, CheckerScope, Key, QueryChecked, Scopes, SymbolTable, check_query, first_set,
+    misplaced_set, same_name,
 };
-use psm_known::is_one_way;
 use psm_list::{List, OneOrMore};
 use psm_rules::{Fault, Rule, Shape, breaks, breaks_if, earlier};
+use psm_symbols::is_one_way;
 use psm_tree::{CursorDeclaration, Identifier, Order, OrderColumn, Target, Targets, Updatability};
 use std::alloc::{AllocError, Global};
 
 // ---- the order of a query: exactly the key, all upwards or all downwards
 
 /// An order of other columns than those of the key.
-pub(crate) fn order_fault(world: &World, table: &Identifier, order: &Option<Order>) -> Option<Fault>
-    ensures { result ≡ order_fault world.now table.now order.now }
+pub(crate) fn order_fault(
+    symbols: &SymbolTable,
+    table: &Identifier,
+    order: &Option<Order>,
+) -> Option<Fault>
+    ensures { result ≡ order_fault symbols.now table.now order.now }
 {
     match order {
         None => None,
-        Some(order) => match world.keys.get(&table.name) {
+        Some(order) => match symbols.keys.get(&table.name) {
             None => None,
             Some(key) => breaks_if(!is_key_order(key, order), Rule::OrderIsNotKey, order.place),
         },
@@ -72,11 +76,11 @@ fn same_names(names: &[Identifier], columns: &[OrderColumn]) -> bool
 // ---- declarations
 
 // The first fault of a cursor's declaration: no set function stands in one.
-fn cursor_fault(world: &World, query: &QueryFound, order: &Option<Order>) -> Option<Fault>
-    ensures { result ≡ first_of (query_fault query.now ∷ misplaced_set true (first_set query.now.picks) ∷ order_fault world.now query.now.table order.now ∷ []) }
+fn cursor_fault(symbols: &SymbolTable, query: &QueryChecked, order: &Option<Order>) -> Option<Fault>
+    ensures { result ≡ first_of (query_fault query.now ∷ misplaced_set true (first_set query.now.picks) ∷ order_fault symbols.now query.now.table order.now ∷ []) }
 {
     let sets = misplaced_set(true, first_set(query.picks.as_slice()));
-    let order = order_fault(world, query.table, order);
+    let order = order_fault(symbols, query.table, order);
     earlier(earlier(query.fault(), sets), order)
 }
 
@@ -93,7 +97,7 @@ fn is_updatable(declared: &CursorDeclaration) -> bool
 pub(crate) fn cursor_on<'a>(
     alloc: Global,
     table: &'a Identifier,
-    query: &QueryFound,
+    query: &QueryChecked,
     updatable: bool,
     of_for: bool,
 ) -> Result<CheckedCursor<'a>, AllocError>
@@ -119,17 +123,17 @@ pub(crate) fn cursor_on<'a>(
 }
 
 /// The first fault of a cursor's declaration, and the cursor.
-#[tactic(auto, using(psm_check_expr::proofs::Equations::found_table))]
+#[tactic(auto, using(psm_check_expr::proofs::Equations::checked_table))]
 pub(crate) fn declared_cursor<'a>(
     alloc: Global,
     declared: &'a CursorDeclaration,
-    view: View,
+    checker_scope: CheckerScope,
 ) -> Result<(Option<Fault>, CheckedCursor<'a>), AllocError>
-    ensures fault { IfOk result (λ p. p.0 ≡ cursor_fault (seen_in_view view.entry) declared.now) }
-    ensures cursor { IfOk result (λ p. p.1 ≡ cursor_on (found_query (seen_in_view view.entry) declared.now.query) (is_updatable declared.now.insensitive declared.now.updatability) false) }
+    ensures fault { IfOk result (λ p. p.0 ≡ cursor_fault (seen_in_checker_scope checker_scope.entry) declared.now) }
+    ensures cursor { IfOk result (λ p. p.1 ≡ cursor_on (checked_query (seen_in_checker_scope checker_scope.entry) declared.now.query) (is_updatable declared.now.insensitive declared.now.updatability) false) }
 {
-    let query = query_found(alloc, declared.query.query.get(), view)?;
-    let fault = cursor_fault(view.world, &query, &declared.query.order);
+    let query = check_query(alloc, declared.query.query.get(), checker_scope)?;
+    let fault = cursor_fault(checker_scope.symbols, &query, &declared.query.order);
     let table = &declared.query.query.get().table;
     let cursor = cursor_on(alloc, table, &query, is_updatable(declared), false)?;
     Ok((fault, cursor))
@@ -166,11 +170,11 @@ pub(crate) fn positioned_fault(
 
 /// The items of a cursor that don't go into the targets of FETCH.
 pub(crate) fn fetch_fault(
-    frames: &Frames,
+    scopes: &Scopes,
     targets: &Targets,
     cursor: Option<&CheckedCursor>,
 ) -> Option<Fault>
-    ensures { result ≡ fetch_fault frames.now targets.now (option_copied cursor.entry) }
+    ensures { result ≡ fetch_fault scopes.now targets.now (option_copied cursor.entry) }
 {
     match cursor {
         None => None,
@@ -180,22 +184,22 @@ pub(crate) fn fetch_fault(
             }
             match &cursor.items {
                 None => None,
-                Some(shapes) => fetched_fault(frames, targets, shapes.items()),
+                Some(shapes) => fetched_fault(scopes, targets, shapes.items()),
             }
         }
     }
 }
 
-fn fetched_fault(frames: &Frames, targets: &Targets, shapes: &[Option<Shape>]) -> Option<Fault>
-    ensures { result ≡ fetch_items frames.now targets.now (Some shapes.now) }
+fn fetched_fault(scopes: &Scopes, targets: &Targets, shapes: &[Option<Shape>]) -> Option<Fault>
+    ensures { result ≡ fetch_items scopes.now targets.now (Some shapes.now) }
 {
     let others = targets.rest.items();
     match shapes.split_first() {
         None => breaks(Rule::CountsDiffer, targets.first.place()),
         Some((first, rest)) => {
             if rest.len() == others.len() {
-                let fault = fetched_into(frames, &targets.first, *first);
-                earlier(fault, all_fetched_into(frames, others, rest))
+                let fault = fetched_into(scopes, &targets.first, *first);
+                earlier(fault, all_fetched_into(scopes, others, rest))
             } else {
                 breaks(Rule::CountsDiffer, targets.first.place())
             }
@@ -204,25 +208,25 @@ fn fetched_fault(frames: &Frames, targets: &Targets, shapes: &[Option<Shape>]) -
 }
 
 // Where an item doesn't go into its target the fault is at the target.
-fn fetched_into(frames: &Frames, target: &Target, shape: Option<Shape>) -> Option<Fault>
-    ensures { result ≡ mixed_at target.now.first.place (family_due (target_type frames.now target.now)) shape }
+fn fetched_into(scopes: &Scopes, target: &Target, shape: Option<Shape>) -> Option<Fault>
+    ensures { result ≡ mixed_at target.now.first.place (family_due (target_type scopes.now target.now)) shape }
 {
     mixed_at(
         target.place(),
-        family_due(target_type(frames, target)),
+        family_due(target_type(scopes, target)),
         shape,
     )
 }
 
 #[tactic(auto, using(crate::proofs::Pairs::no_fetched))]
-fn all_fetched_into(frames: &Frames, targets: &[Target], shapes: &[Option<Shape>]) -> Option<Fault>
-    ensures { result ≡ first_of (fetched_into frames.now targets.now shapes.now) }
+fn all_fetched_into(scopes: &Scopes, targets: &[Target], shapes: &[Option<Shape>]) -> Option<Fault>
+    ensures { result ≡ first_of (fetched_into scopes.now targets.now shapes.now) }
 {
     let mut fault = None;
     for number in 0..targets.len().min(shapes.len()) {
         fault = earlier(
             fault,
-            fetched_into(frames, &targets[number], shapes[number]),
+            fetched_into(scopes, &targets[number], shapes[number]),
         );
     }
     fault

@@ -1,11 +1,11 @@
 //! What a block declares itself.
 ghost use Rattle.std.specs.Prelude.{◌≡◌, IfOk, IsTrue, ◌∷◌, [], drop, map};
 ghost use Rattle.std.specs.Option.{option_copied};
-ghost use Rattle.psm_scope.specs.Scopes.{can_declare_here};
+ghost use Rattle.psm_scope.specs.KeptScopes.{can_declare_here};
 ghost use Rattle.psm_rules.specs.declared.rule.Rule.TheVariants as rule;
 ghost use Rattle.psm_rules.specs.Faults.{first_of};
 ghost use Rattle.psm_rules.specs.StatementFaults.{repeated, several};
-ghost use Rattle.psm_rules.specs.BlockFaults.{behind, condition_names, conditions_of, cursors_fault, declaration_fault, declarations_fault, declared_by, declared_fault, declared_frames, default_fault, local_variable, optional_state_fault, state_of, variable_names, variables_of, with_cursors, with_variables};
+ghost use Rattle.psm_rules.specs.BlockFaults.{following, condition_names, conditions_of, cursors_fault, declaration_fault, declarations_fault, declared_by, declared_fault, declared_scopes, default_fault, local_variable, optional_state_fault, state_of, variable_names, variables_of, with_cursors, with_variables};
 ghost use Rattle.psm_check_stmt.specs.InRoutine.{context};
 ghost use Rattle.psm_check_stmt.specs.Listed.{with_names};
 
@@ -14,34 +14,34 @@ use crate::declaring::{declare_condition, declare_cursor, declare_variable};
 use crate::repeated::Repeats;
 use crate::sources::source_fault;
 use crate::statements::Context;
-use psm_check_expr::{Frames, expr_found, type_fault, type_of};
-use psm_known::{good_state, state_fault};
+use psm_check_expr::{Scopes, check_expr, type_fault, type_of};
 use psm_list::{Boxed, List};
 use psm_rules::{Fault, Rule, earlier};
-use psm_scope::FrameKind;
+use psm_scope::ScopeKind;
 use psm_sqlstate::SqlState;
+use psm_symbols::{good_state, state_fault};
 use psm_text::Name;
 use psm_tree::{CursorDeclaration, Declaration, Expr, Names, State};
 use psm_value::SqlType;
 use std::alloc::{AllocError, Global};
 
-/// The first fault of what a block declares. Goes into its frame.
+/// The first fault of what a block declares. Goes into its scope.
 pub(crate) fn declared_fault<'w, 'a>(
     c: Context<'w, 'a>,
-    frames: &mut Frames<'a>,
+    scopes: &mut Scopes<'a>,
     label: Option<&'a Name>,
     declarations: &'a List<Boxed<Declaration>>,
     cursors: &'a List<Boxed<CursorDeclaration>>,
 ) -> Result<Option<Fault>, AllocError>
-    ensures fault { IfOk result (λ f. f ≡ declared_fault (option_copied label.entry) (context c.entry frames.old).view declarations.now cursors.now) }
-    ensures frames { IfOk result (λ _. frames.new ≡ declared_frames (option_copied label.entry) (context c.entry frames.old).view declarations.now cursors.now) }
-    ensures outer { IfOk result (λ _. drop 1 frames.new ≡ frames.old) }
+    ensures fault { IfOk result (λ f. f ≡ declared_fault (option_copied label.entry) (context c.entry scopes.old).checker_scope declarations.now cursors.now) }
+    ensures scopes { IfOk result (λ _. scopes.new ≡ declared_scopes (option_copied label.entry) (context c.entry scopes.old).checker_scope declarations.now cursors.now) }
+    ensures outer { IfOk result (λ _. drop 1 scopes.new ≡ scopes.old) }
 {
-    frames.push(FrameKind::Compound(label))?;
+    scopes.push(ScopeKind::Compound(label))?;
     let repeated = repeated_fault(c.alloc, declarations, cursors)?;
-    let fault = declarations_fault(c, frames, declarations)?;
+    let fault = declarations_fault(c, scopes, declarations)?;
     let fault = earlier(repeated, fault);
-    Ok(earlier(fault, cursors_fault(c, frames, cursors)?))
+    Ok(earlier(fault, cursors_fault(c, scopes, cursors)?))
 }
 
 // ---- names that stand twice
@@ -133,19 +133,19 @@ fn repeated_cursors<'a>(
 // The faults of the declarations, each of which sees those before it.
 fn declarations_fault<'w, 'a>(
     c: Context<'w, 'a>,
-    frames: &mut Frames<'a>,
+    scopes: &mut Scopes<'a>,
     declarations: &'a List<Boxed<Declaration>>,
 ) -> Result<Option<Fault>, AllocError>
-    requires { IsTrue (can_declare_here frames.old) }
-    ensures fault { IfOk result (λ f. f ≡ first_of (declarations_fault (context c.entry frames.old).view declarations.now)) }
-    ensures frames { IfOk result (λ _. frames.new ≡ declared_by frames.old declarations.now) }
-    ensures open { IfOk result (λ _. IsTrue (can_declare_here frames.new)) }
+    requires { IsTrue (can_declare_here scopes.old) }
+    ensures fault { IfOk result (λ f. f ≡ first_of (declarations_fault (context c.entry scopes.old).checker_scope declarations.now)) }
+    ensures scopes { IfOk result (λ _. scopes.new ≡ declared_by scopes.old declarations.now) }
+    ensures open { IfOk result (λ _. IsTrue (can_declare_here scopes.new)) }
 {
     let mut fault = None;
     for declaration in declarations.items() {
-        let own = declaration_fault(c, frames, declaration.get())?;
+        let own = declaration_fault(c, scopes, declaration.get())?;
         fault = earlier(fault, own);
-        declare(c.alloc, frames, declaration.get())?;
+        declare(c.alloc, scopes, declaration.get())?;
     }
     Ok(fault)
 }
@@ -153,16 +153,16 @@ fn declarations_fault<'w, 'a>(
 // A DEFAULT sees the variables of the declarations before its own.
 fn declaration_fault<'w, 'a>(
     c: Context<'w, 'a>,
-    frames: &Frames<'a>,
+    scopes: &Scopes<'a>,
     declaration: &Declaration,
 ) -> Result<Option<Fault>, AllocError>
-    ensures { IfOk result (λ f. f ≡ declaration_fault (context c.entry frames.now).view declaration.now) }
+    ensures { IfOk result (λ f. f ≡ declaration_fault (context c.entry scopes.now).checker_scope declaration.now) }
 {
     match declaration {
         Declaration::Variables { kind, default, .. } => {
             let known = type_of(kind);
             let fault = type_fault(kind, known);
-            Ok(earlier(fault, default_fault(c, frames, known, default)?))
+            Ok(earlier(fault, default_fault(c, scopes, known, default)?))
         }
         Declaration::Condition { state, .. } => optional_state_fault(c.alloc, state),
     }
@@ -170,17 +170,17 @@ fn declaration_fault<'w, 'a>(
 
 fn default_fault<'w, 'a>(
     c: Context<'w, 'a>,
-    frames: &Frames<'a>,
+    scopes: &Scopes<'a>,
     known: Option<SqlType>,
     default: &Option<Boxed<Expr>>,
 ) -> Result<Option<Fault>, AllocError>
-    ensures { IfOk result (λ f. f ≡ default_fault (context c.entry frames.now).view known default.now) }
+    ensures { IfOk result (λ f. f ≡ default_fault (context c.entry scopes.now).checker_scope known default.now) }
 {
     match default {
         None => Ok(None),
         Some(e) => {
-            let found = expr_found(c.alloc, e.get(), c.view(frames))?;
-            Ok(source_fault(known, found))
+            let checked = check_expr(c.alloc, e.get(), c.checker_scope(scopes))?;
+            Ok(source_fault(known, checked))
         }
     }
 }
@@ -196,35 +196,35 @@ fn optional_state_fault(alloc: Global, state: &Option<State>) -> Result<Option<F
 
 fn declare<'a>(
     alloc: Global,
-    frames: &mut Frames<'a>,
+    scopes: &mut Scopes<'a>,
     declaration: &'a Declaration,
 ) -> Result<(), AllocError>
-    requires { IsTrue (can_declare_here frames.old) }
-    ensures frames { IfOk result (λ _. frames.new ≡ behind frames.old declaration.now) }
-    ensures open { IfOk result (λ _. IsTrue (can_declare_here frames.new)) }
+    requires { IsTrue (can_declare_here scopes.old) }
+    ensures scopes { IfOk result (λ _. scopes.new ≡ following scopes.old declaration.now) }
+    ensures open { IfOk result (λ _. IsTrue (can_declare_here scopes.new)) }
 {
     match declaration {
-        Declaration::Variables { names, kind, .. } => declare_all(frames, names, type_of(kind)),
+        Declaration::Variables { names, kind, .. } => declare_all(scopes, names, type_of(kind)),
         Declaration::Condition { name, state, .. } => {
             let state = state_of(alloc, state)?;
-            declare_condition(frames, &name.name, state)?;
+            declare_condition(scopes, &name.name, state)?;
             Ok(())
         }
     }
 }
 
 fn declare_all<'a>(
-    frames: &mut Frames<'a>,
+    scopes: &mut Scopes<'a>,
     names: &'a Names,
     kind: Option<SqlType>,
 ) -> Result<(), AllocError>
-    requires { IsTrue (can_declare_here frames.old) }
-    ensures frames { IfOk result (λ _. frames.new ≡ with_variables frames.old (several names.now) (local_variable kind)) }
-    ensures open { IfOk result (λ _. IsTrue (can_declare_here frames.new)) }
+    requires { IsTrue (can_declare_here scopes.old) }
+    ensures scopes { IfOk result (λ _. scopes.new ≡ with_variables scopes.old (several names.now) (local_variable kind)) }
+    ensures open { IfOk result (λ _. IsTrue (can_declare_here scopes.new)) }
 {
-    declare_variable(frames, &names.first.name, kind)?;
+    declare_variable(scopes, &names.first.name, kind)?;
     for name in names.rest.items() {
-        declare_variable(frames, &name.name, kind)?;
+        declare_variable(scopes, &name.name, kind)?;
     }
     Ok(())
 }
@@ -244,19 +244,19 @@ fn state_of(alloc: Global, state: &Option<State>) -> Result<Option<SqlState>, Al
 // The faults of the cursors, each of which sees what stands before it.
 fn cursors_fault<'w, 'a>(
     c: Context<'w, 'a>,
-    frames: &mut Frames<'a>,
+    scopes: &mut Scopes<'a>,
     cursors: &'a List<Boxed<CursorDeclaration>>,
 ) -> Result<Option<Fault>, AllocError>
-    requires { IsTrue (can_declare_here frames.old) }
-    ensures fault { IfOk result (λ f. f ≡ first_of (cursors_fault (context c.entry frames.old).view cursors.now)) }
-    ensures frames { IfOk result (λ _. frames.new ≡ with_cursors (context c.entry frames.old).view cursors.now) }
+    requires { IsTrue (can_declare_here scopes.old) }
+    ensures fault { IfOk result (λ f. f ≡ first_of (cursors_fault (context c.entry scopes.old).checker_scope cursors.now)) }
+    ensures scopes { IfOk result (λ _. scopes.new ≡ with_cursors (context c.entry scopes.old).checker_scope cursors.now) }
 {
     let mut fault = None;
     for declared in cursors.items() {
         let declared = declared.get();
-        let (own, cursor) = declared_cursor(c.alloc, declared, c.view(frames))?;
+        let (own, cursor) = declared_cursor(c.alloc, declared, c.checker_scope(scopes))?;
         fault = earlier(fault, own);
-        declare_cursor(frames, &declared.name.name, cursor)?;
+        declare_cursor(scopes, &declared.name.name, cursor)?;
     }
     Ok(fault)
 }

@@ -1,10 +1,10 @@
-//! Declares in the innermost frame. A name that is declared again stays what it is.
+//! Declares in the innermost scope. A name that is declared again stays what it is.
 ghost use Rattle.std.specs.Prelude.{◌≡◌, IfOk, IsTrue, is_some, not};
 ghost use Rattle.psm_scope.specs.Lookup.{named};
-ghost use Rattle.psm_scope.specs.Scopes.{can_declare_here, declared_here};
+ghost use Rattle.psm_scope.specs.KeptScopes.{can_declare_here, declared_here};
 ghost use Rattle.psm_rules.specs.BlockFaults.{local_variable, with_condition, with_cursor, with_variable};
 
-use psm_check_expr::{CheckedCursor, Frames};
+use psm_check_expr::{CheckedCursor, Scopes};
 use psm_scope::Variable;
 use psm_sqlstate::SqlState;
 use psm_text::Name;
@@ -24,40 +24,40 @@ fn local_variable(kind: Option<SqlType>) -> Variable
 
 /// Declares a variable, and says whether it is a new one.
 pub(crate) fn declare_variable<'a>(
-    frames: &mut Frames<'a>,
+    scopes: &mut Scopes<'a>,
     name: &'a Name,
     kind: Option<SqlType>,
 ) -> Result<bool, AllocError>
-    requires { IsTrue (can_declare_here frames.old) }
-    ensures is_new { IfOk result (λ b. b ≡ not (is_some (named name.now (declared_here frames.old).variables))) }
-    ensures frames { IfOk result (λ _. frames.new ≡ with_variable frames.old name.now (local_variable kind)) }
-    ensures open { IfOk result (λ _. IsTrue (can_declare_here frames.new)) }
+    requires { IsTrue (can_declare_here scopes.old) }
+    ensures is_new { IfOk result (λ b. b ≡ not (is_some (named name.now (declared_here scopes.old).variables))) }
+    ensures scopes { IfOk result (λ _. scopes.new ≡ with_variable scopes.old name.now (local_variable kind)) }
+    ensures open { IfOk result (λ _. IsTrue (can_declare_here scopes.new)) }
 {
-    frames.declare_variable(name, local_variable(kind))
+    scopes.declare_variable(name, local_variable(kind))
 }
 
 /// Declares a condition that is another name of an SQLSTATE, or of none.
 pub(crate) fn declare_condition<'a>(
-    frames: &mut Frames<'a>,
+    scopes: &mut Scopes<'a>,
     name: &'a Name,
     state: Option<SqlState>,
 ) -> Result<bool, AllocError>
-    requires { IsTrue (can_declare_here frames.old) }
-    ensures frames { IfOk result (λ _. frames.new ≡ with_condition frames.old name.now (record { number = 0; state = state })) }
-    ensures open { IfOk result (λ _. IsTrue (can_declare_here frames.new)) }
+    requires { IsTrue (can_declare_here scopes.old) }
+    ensures scopes { IfOk result (λ _. scopes.new ≡ with_condition scopes.old name.now (record { number = 0; state = state })) }
+    ensures open { IfOk result (λ _. IsTrue (can_declare_here scopes.new)) }
 {
-    frames.declare_condition(name, 0, state)
+    scopes.declare_condition(name, 0, state)
 }
 
 /// Declares a cursor.
 pub(crate) fn declare_cursor<'a>(
-    frames: &mut Frames<'a>,
+    scopes: &mut Scopes<'a>,
     name: &'a Name,
     known: CheckedCursor<'a>,
 ) -> Result<bool, AllocError>
-    requires { IsTrue (can_declare_here frames.old) }
-    ensures frames { IfOk result (λ _. frames.new ≡ with_cursor frames.old name.now known.entry) }
-    ensures open { IfOk result (λ _. IsTrue (can_declare_here frames.new)) }
+    requires { IsTrue (can_declare_here scopes.old) }
+    ensures scopes { IfOk result (λ _. scopes.new ≡ with_cursor scopes.old name.now known.entry) }
+    ensures open { IfOk result (λ _. IsTrue (can_declare_here scopes.new)) }
 {
-    frames.declare_cursor(name, known)
+    scopes.declare_cursor(name, known)
 }

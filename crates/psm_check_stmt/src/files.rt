@@ -3,15 +3,15 @@ ghost use Rattle.std.specs.Prelude.{◌≡◌, [], map, IfOk};
 ghost use Rattle.psm_rules.specs.declared.rule.Rule.TheVariants as rules_of;
 ghost use Rattle.psm_rules.specs.Faults.{first_of};
 ghost use Rattle.psm_rules.specs.StatementFaults.{repeated};
-ghost use Rattle.psm_rules.specs.FileFaults.{file_fault, routines_fault, table_fault, with_table, world_of};
+ghost use Rattle.psm_rules.specs.FileFaults.{file_fault, routines_fault, table_fault, with_table, symbols_of};
 
 use crate::repeated::Repeats;
 use crate::routines::{declare_routines, routine_fault};
+use crate::seen_routines::SeenRoutines;
 use crate::tables::{keys_of, table_fault};
-use crate::told::Told;
-use psm_check_expr::World;
-use psm_known::columns_of;
+use psm_check_expr::SymbolTable;
 use psm_rules::{Fault, Rule, earlier};
+use psm_symbols::columns_of;
 use psm_tree::{FileTree, Routine, TableTree};
 use std::alloc::{AllocError, Global};
 
@@ -22,8 +22,8 @@ pub fn file_fault(alloc: Global, file: &FileTree) -> Result<Option<Fault>, Alloc
 {
     let names = table_names_fault(alloc, file.tables.items())?;
     let tables = tables_fault(alloc, file.tables.items())?;
-    let world = world_of(alloc, file)?;
-    let routines = routines_fault(alloc, &world, file.module.routines.items())?;
+    let symbols = symbols_of(alloc, file)?;
+    let routines = routines_fault(alloc, &symbols, file.module.routines.items())?;
     Ok(earlier(earlier(names, tables), routines))
 }
 
@@ -51,41 +51,41 @@ fn tables_fault(alloc: Global, tables: &[TableTree]) -> Result<Option<Fault>, Al
 
 fn routines_fault<'a>(
     alloc: Global,
-    world: &World<'a>,
+    symbols: &SymbolTable<'a>,
     routines: &'a [Routine],
 ) -> Result<Option<Fault>, AllocError>
-    ensures { IfOk result (λ f. f ≡ first_of (routines_fault world.now [] routines.now)) }
+    ensures { IfOk result (λ f. f ≡ first_of (routines_fault symbols.now [] routines.now)) }
 {
-    let mut told = Told::new(alloc);
+    let mut seen_routines = SeenRoutines::new(alloc);
     let mut fault = None;
     for routine in routines {
-        let own = routine_fault(alloc, world, &mut told, routine)?;
+        let own = routine_fault(alloc, symbols, &mut seen_routines, routine)?;
         fault = earlier(fault, own);
     }
     Ok(fault)
 }
 
 // What the tables and the routines of a file declare; each routine is known in the whole module.
-fn world_of<'a>(alloc: Global, file: &'a FileTree) -> Result<World<'a>, AllocError>
-    ensures { IfOk result (λ world. world ≡ world_of file.now) }
+fn symbols_of<'a>(alloc: Global, file: &'a FileTree) -> Result<SymbolTable<'a>, AllocError>
+    ensures { IfOk result (λ symbols. symbols ≡ symbols_of file.now) }
 {
-    let mut world = World::new(alloc);
+    let mut symbols = SymbolTable::new(alloc);
     for table in file.tables.items() {
-        declare_table(alloc, table, &mut world)?;
+        declare_table(alloc, table, &mut symbols)?;
     }
-    declare_routines(alloc, file.module.routines.items(), &mut world)?;
-    Ok(world)
+    declare_routines(alloc, file.module.routines.items(), &mut symbols)?;
+    Ok(symbols)
 }
 
 fn declare_table<'a>(
     alloc: Global,
     table: &'a TableTree,
-    world: &mut World<'a>,
+    symbols: &mut SymbolTable<'a>,
 ) -> Result<(), AllocError>
-    ensures { IfOk result (λ _. world.new ≡ with_table world.old table.now) }
+    ensures { IfOk result (λ _. symbols.new ≡ with_table symbols.old table.now) }
 {
     let columns = columns_of(alloc, table)?;
-    world.tables.add(&table.name.name, columns)?;
-    world.keys.add(&table.name.name, keys_of(table).first())?;
+    symbols.tables.add(&table.name.name, columns)?;
+    symbols.keys.add(&table.name.name, keys_of(table).first())?;
     Ok(())
 }

@@ -7,15 +7,15 @@ mod cursors;
 mod declarations;
 mod declaring;
 mod files;
-mod handled;
+mod handled_conditions;
 mod logged;
 mod loops;
 mod repeated;
 mod routine_log;
 mod routines;
+mod seen_routines;
 mod sources;
 mod statements;
 mod tables;
-mod told;
 
 pub use files::file_fault;

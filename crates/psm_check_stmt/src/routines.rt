@@ -1,24 +1,25 @@
 //! The first fault of a routine, and what routines declare.
 ghost use Rattle.std.specs.Prelude.{◌≡◌, ◌∷◌, ◌<◌, [], map, true, IfOk};
-ghost use Rattle.psm_scope.specs.Scopes.{can_declare_here};
+ghost use Rattle.psm_scope.specs.KeptScopes.{can_declare_here};
 ghost use Rattle.psm_rules.specs.declared.rule.Rule.TheVariants as rules_of;
 ghost use Rattle.psm_rules.specs.Faults.{first_of};
 ghost use Rattle.psm_rules.specs.BlockFaults.{statement_fault};
 ghost use Rattle.psm_rules.specs.StatementFaults.{repeated, several};
-ghost use Rattle.psm_rules.specs.FileFaults.{block_returns, body_context, branch_returns, handler_returns, has_return, is_in, kind_of_routine, note_number, notes_fault, parameter_fault, parameter_variable, result_fault, return_fault, returns, routine_fault, routine_frames, some, with_parameter, with_routine, with_routines};
+ghost use Rattle.psm_rules.specs.FileFaults.{block_returns, body_context, branch_returns, handler_returns, has_return, is_in, kind_of_routine, characteristic_number, characteristics_fault, parameter_fault, parameter_variable, result_fault, return_fault, returns, routine_fault, routine_scopes, some, with_parameter, with_routine, with_routines};
 ghost use Rattle.psm_check_stmt.specs.InRoutine.{within_of};
 
 use crate::blocks::statement_fault;
 use crate::repeated::Repeats;
+use crate::seen_routines::SeenRoutines;
 use crate::statements::{Context, Within};
-use crate::told::Told;
-use psm_check_expr::{Frames, World, type_fault, type_of};
-use psm_known::{is_in, kinds_of, parameters_of};
+use psm_check_expr::{Scopes, SymbolTable, type_fault, type_of};
 use psm_list::{Boxed, List, OneOrMore};
 use psm_rules::{Fault, Rule, breaks_if, earlier};
-use psm_scope::{FrameKind, ProcedureScope, Variable};
+use psm_scope::{ProcedureScope, ScopeKind, Variable};
+use psm_symbols::{is_in, kinds_of, parameters_of};
 use psm_tree::{
-    Block, Branch, DataType, Handler, Note, NoteForm, Parameter, Routine, Simple, Statement,
+    Block, Branch, Characteristic, CharacteristicForm, DataType, Handler, Parameter, Routine,
+    Simple, Statement,
 };
 use std::alloc::{AllocError, Global};
 
@@ -28,12 +29,12 @@ use std::alloc::{AllocError, Global};
 pub(crate) fn declare_routines<'a>(
     alloc: Global,
     routines: &'a [Routine],
-    world: &mut World<'a>,
+    symbols: &mut SymbolTable<'a>,
 ) -> Result<(), AllocError>
-    ensures { IfOk result (λ _. world.new ≡ with_routines world.old routines.now) }
+    ensures { IfOk result (λ _. symbols.new ≡ with_routines symbols.old routines.now) }
 {
     for routine in routines {
-        declare_routine(alloc, routine, world)?;
+        declare_routine(alloc, routine, symbols)?;
     }
     Ok(())
 }
@@ -41,28 +42,28 @@ pub(crate) fn declare_routines<'a>(
 fn declare_routine<'a>(
     alloc: Global,
     routine: &'a Routine,
-    world: &mut World<'a>,
+    symbols: &mut SymbolTable<'a>,
 ) -> Result<(), AllocError>
-    ensures { IfOk result (λ _. world.new ≡ with_routine world.old routine.now routine.now.returns) }
+    ensures { IfOk result (λ _. symbols.new ≡ with_routine symbols.old routine.now routine.now.returns) }
 {
     match &routine.returns {
-        None => declare_procedure(alloc, routine, world),
-        Some(t) => declare_function(alloc, routine, t, world),
+        None => declare_procedure(alloc, routine, symbols),
+        Some(t) => declare_function(alloc, routine, t, symbols),
     }
 }
 
 fn declare_procedure<'a>(
     alloc: Global,
     routine: &'a Routine,
-    world: &mut World<'a>,
+    symbols: &mut SymbolTable<'a>,
 ) -> Result<(), AllocError>
-    ensures { IfOk result (λ _. world.new ≡ with_routine world.old routine.now None) }
+    ensures { IfOk result (λ _. symbols.new ≡ with_routine symbols.old routine.now None) }
 {
     let known = ProcedureScope {
         number: 0,
         parameters: parameters_of(alloc, routine.parameters.items())?,
     };
-    world.procedures.add(&routine.name.name, known)?;
+    symbols.procedures.add(&routine.name.name, known)?;
     Ok(())
 }
 
@@ -70,12 +71,12 @@ fn declare_function<'a>(
     alloc: Global,
     routine: &'a Routine,
     returned: &DataType,
-    world: &mut World<'a>,
+    symbols: &mut SymbolTable<'a>,
 ) -> Result<(), AllocError>
-    ensures { IfOk result (λ _. world.new ≡ with_routine world.old routine.now (Some returned.now)) }
+    ensures { IfOk result (λ _. symbols.new ≡ with_routine symbols.old routine.now (Some returned.now)) }
 {
     let kinds = kinds_of(alloc, routine.parameters.items())?;
-    world
+    symbols
         .functions
         .push(&routine.name.name, List::of(kinds), type_of(returned))?;
     Ok(())
@@ -202,32 +203,35 @@ fn block_returns(block: &Block) -> bool
     }
 }
 
-// ---- notes: an alternative stands at most once, DETERMINISTIC and NOT DETERMINISTIC being one
+// ---- characteristics: an alternative stands at most once, DETERMINISTIC and NOT DETERMINISTIC being one
 
-fn notes_fault(notes: &[Note]) -> Option<Fault>
-    ensures { result ≡ first_of (notes_fault [] notes.now) }
+fn characteristics_fault(characteristics: &[Characteristic]) -> Option<Fault>
+    ensures { result ≡ first_of (characteristics_fault [] characteristics.now) }
 {
     let mut seen = [false; 5];
     let mut fault = None;
-    for note in notes {
-        let number = note_number(note.form);
+    for characteristic in characteristics {
+        let number = characteristic_number(characteristic.form);
         let repeated = seen[number];
         seen[number] = true;
-        fault = earlier(fault, breaks_if(repeated, Rule::NoteRepeated, note.place));
+        fault = earlier(
+            fault,
+            breaks_if(repeated, Rule::CharacteristicRepeated, characteristic.place),
+        );
     }
     fault
 }
 
-fn note_number(form: NoteForm) -> usize
-    ensures number { result ≡ note_number form }
+fn characteristic_number(form: CharacteristicForm) -> usize
+    ensures number { result ≡ characteristic_number form }
     ensures few { result < 5 }
 {
     match form {
-        NoteForm::Language => 0,
-        NoteForm::Deterministic | NoteForm::NotDeterministic => 1,
-        NoteForm::ContainsSql => 2,
-        NoteForm::ReadsSqlData => 3,
-        NoteForm::ModifiesSqlData => 4,
+        CharacteristicForm::Language => 0,
+        CharacteristicForm::Deterministic | CharacteristicForm::NotDeterministic => 1,
+        CharacteristicForm::ContainsSql => 2,
+        CharacteristicForm::ReadsSqlData => 3,
+        CharacteristicForm::ModifiesSqlData => 4,
     }
 }
 
@@ -268,27 +272,27 @@ fn parameter_names_fault(
     Ok(names.fault())
 }
 
-// The frame of a routine, in which its parameters are variables.
-fn routine_frames<'a>(alloc: Global, r: &'a Routine) -> Result<Frames<'a>, AllocError>
-    ensures { IfOk result (λ frames. frames ≡ routine_frames r.now) }
+// The scope of a routine, in which its parameters are variables.
+fn routine_scopes<'a>(alloc: Global, r: &'a Routine) -> Result<Scopes<'a>, AllocError>
+    ensures { IfOk result (λ scopes. scopes ≡ routine_scopes r.now) }
 {
-    let mut frames = Frames::new(alloc);
-    frames.push(FrameKind::Routine(&r.name.name))?;
+    let mut scopes = Scopes::new(alloc);
+    scopes.push(ScopeKind::Routine(&r.name.name))?;
     for parameter in r.parameters.items() {
-        declare_parameter(&mut frames, parameter)?;
+        declare_parameter(&mut scopes, parameter)?;
     }
-    Ok(frames)
+    Ok(scopes)
 }
 
 fn declare_parameter<'a>(
-    frames: &mut Frames<'a>,
+    scopes: &mut Scopes<'a>,
     parameter: &'a Parameter,
 ) -> Result<(), AllocError>
-    requires { can_declare_here frames.old ≡ true }
-    ensures declared { IfOk result (λ _. frames.new ≡ with_parameter frames.old parameter.now) }
-    ensures inside { IfOk result (λ _. can_declare_here frames.new ≡ true) }
+    requires { can_declare_here scopes.old ≡ true }
+    ensures declared { IfOk result (λ _. scopes.new ≡ with_parameter scopes.old parameter.now) }
+    ensures inside { IfOk result (λ _. can_declare_here scopes.new ≡ true) }
 {
-    frames.declare_variable(&parameter.name.name, parameter_variable(parameter))?;
+    scopes.declare_variable(&parameter.name.name, parameter_variable(parameter))?;
     Ok(())
 }
 
@@ -307,22 +311,22 @@ fn parameter_variable(parameter: &Parameter) -> Variable
 /// The first fault of a routine.
 pub(crate) fn routine_fault<'a>(
     alloc: Global,
-    world: &World<'a>,
-    told: &mut Told<'a>,
+    symbols: &SymbolTable<'a>,
+    seen_routines: &mut SeenRoutines<'a>,
     r: &'a Routine,
 ) -> Result<Option<Fault>, AllocError>
-    ensures fault { IfOk result (λ f. f ≡ routine_fault world.now told.old r.now) }
-    ensures before { IfOk result (λ _. told.new ≡ r.now ∷ told.old) }
+    ensures fault { IfOk result (λ f. f ≡ routine_fault symbols.now seen_routines.old r.now) }
+    ensures before { IfOk result (λ _. seen_routines.new ≡ r.now ∷ seen_routines.old) }
 {
-    let apart = told.fault(alloc, r)?;
+    let apart = seen_routines.fault(alloc, r)?;
     let fault = earlier(apart, return_fault(r));
     let names = parameter_names_fault(alloc, r.parameters.items())?;
     let fault = earlier(fault, names);
     let parameters = parameters_fault(r.returns.is_some(), r.parameters.items());
     let fault = earlier(fault, parameters);
     let fault = earlier(fault, result_fault(&r.returns));
-    let fault = earlier(fault, notes_fault(r.notes.items()));
-    Ok(earlier(fault, body_fault(alloc, world, r)?))
+    let fault = earlier(fault, characteristics_fault(r.characteristics.items()));
+    Ok(earlier(fault, body_fault(alloc, symbols, r)?))
 }
 
 // A function without RETURN.
@@ -353,16 +357,16 @@ fn within(returned: &Option<DataType>) -> Within
 
 fn body_fault<'a>(
     alloc: Global,
-    world: &World<'a>,
+    symbols: &SymbolTable<'a>,
     r: &'a Routine,
 ) -> Result<Option<Fault>, AllocError>
-    ensures { IfOk result (λ f. f ≡ statement_fault r.now.body (body_context world.now r.now)) }
+    ensures { IfOk result (λ f. f ≡ statement_fault r.now.body (body_context symbols.now r.now)) }
 {
     let c = Context {
         alloc,
-        world,
+        symbols,
         within: within(&r.returns),
     };
-    let mut frames = routine_frames(alloc, r)?;
-    statement_fault(r.body.get(), c, &mut frames)
+    let mut scopes = routine_scopes(alloc, r)?;
+    statement_fault(r.body.get(), c, &mut scopes)
 }

@@ -2,9 +2,9 @@
 ghost use Rattle.std.specs.Prelude.{◌≡◌};
 ghost use Rattle.psm_rules.specs.StatementFaults.{assigned_type, family_due, mixed_at, several, source_fault, target_fault_of, target_type, targets_fault, variable_of};
 
-use psm_check_expr::{Frames, spelling};
+use psm_check_expr::{Scopes, spelling};
 use psm_rules::{
-    Family, Fault, Found, Rule, Shape, as_value, breaks, breaks_if, earlier, family_of, is_of,
+    Checked, Family, Fault, Rule, Shape, as_value, breaks, breaks_if, earlier, family_of, is_of,
     typed,
 };
 use psm_scope::Variable;
@@ -35,7 +35,7 @@ pub(crate) fn mixed_at(place: Place, due: Option<Family>, shape: Option<Shape>) 
 }
 
 /// A source for a target of a type.
-pub(crate) fn source_fault(to: Option<SqlType>, source: Found) -> Option<Fault>
+pub(crate) fn source_fault(to: Option<SqlType>, source: Checked) -> Option<Fault>
     ensures { result ≡ source_fault to source }
 {
     let value = as_value(source);
@@ -46,10 +46,10 @@ pub(crate) fn source_fault(to: Option<SqlType>, source: Found) -> Option<Fault>
 }
 
 /// The variable that a target means.
-pub(crate) fn variable_of(frames: &Frames, target: &Target) -> Option<Variable>
-    ensures { result ≡ variable_of frames.now target.now }
+pub(crate) fn variable_of(scopes: &Scopes, target: &Target) -> Option<Variable>
+    ensures { result ≡ variable_of scopes.now target.now }
 {
-    frames.meant(&target.first.name, spelling(&target.second))
+    scopes.meant(&target.first.name, spelling(&target.second))
 }
 
 /// A target that isn't known or can't be assigned.
@@ -73,20 +73,20 @@ pub(crate) fn assigned_type(known: Option<Variable>) -> Option<SqlType>
 }
 
 /// The type that a target takes.
-pub(crate) fn target_type(frames: &Frames, target: &Target) -> Option<SqlType>
-    ensures { result ≡ target_type frames.now target.now }
+pub(crate) fn target_type(scopes: &Scopes, target: &Target) -> Option<SqlType>
+    ensures { result ≡ target_type scopes.now target.now }
 {
-    assigned_type(variable_of(frames, target))
+    assigned_type(variable_of(scopes, target))
 }
 
 /// The first target that isn't known or can't be assigned.
-pub(crate) fn targets_fault(frames: &Frames, targets: &Targets) -> Option<Fault>
-    ensures { result ≡ targets_fault frames.now (several targets.now) }
+pub(crate) fn targets_fault(scopes: &Scopes, targets: &Targets) -> Option<Fault>
+    ensures { result ≡ targets_fault scopes.now (several targets.now) }
 {
     let first = &targets.first;
-    let mut fault = target_fault(first.place(), variable_of(frames, first));
+    let mut fault = target_fault(first.place(), variable_of(scopes, first));
     for target in targets.rest.items() {
-        let known = variable_of(frames, target);
+        let known = variable_of(scopes, target);
         fault = earlier(fault, target_fault(target.place(), known));
     }
     fault

@@ -3,11 +3,11 @@ ghost use Rattle.std.specs.Prelude.{◌≡◌, ◌∷◌, [], IfOk, None, length
 ghost use Rattle.std.specs.Option.{option_copied};
 ghost use Rattle.psm_scope.specs.Rows.{columns_known};
 ghost use Rattle.psm_scope.specs.Routines as routines;
-ghost use Rattle.psm_rules.specs.ExprFaults.{query_found};
+ghost use Rattle.psm_rules.specs.ExprFaults.{check_query};
 ghost use Rattle.psm_rules.specs.Faults.{first_of};
 ghost use Rattle.psm_rules.specs.StatementFaults.{argument_fault, arguments_fault, assignment_fault, call_fault, column_fault, columns_fault, cursor_of, delete_fault, family_due, fetch_fault, insert_fault, insert_source_fault, inserted_types, into_fault, is_loop_label, is_passed, is_target, items_into, label_fault, listed_columns, loop_label_fault, mixed_at, on_table, only_in_procedures, opened_fault, pairs_fault, query_for, resignal_fault, return_fault, row_fault, select_into_fault, set_fault, several, simple_fault, source_fault, sources_fault, table_of, target_type, targets_fault, type_of_column, update_fault, values_for, where_fault};
 ghost use Rattle.psm_check_stmt.specs.InRoutine.{context, within_of};
-ghost use Rattle.psm_check_expr.specs.Seen.{seen_in_view};
+ghost use Rattle.psm_check_expr.specs.Seen.{seen_in_checker_scope};
 
 use crate::conditions::{diagnostics_fault, signalled_fault};
 use crate::cursors::{fetch_fault, opened_fault, positioned_fault};
@@ -17,12 +17,13 @@ use crate::sources::{
     variable_of,
 };
 use psm_check_expr::{
-    Columns, Frames, QueryFound, View, World, expr_found, may_be, on_row, query_found, table_fault,
+    CheckerScope, Columns, QueryChecked, Scopes, SymbolTable, check_expr, check_query, may_be,
+    on_row, table_fault,
 };
-use psm_known::{column_fault, inserted_types, type_of_column, unknown_column};
 use psm_list::{Boxed, List, OneOrMore};
-use psm_rules::{Fault, Found, Item, Rule, as_condition, breaks, breaks_if, earlier, faults_in};
+use psm_rules::{Checked, Fault, Item, Rule, as_condition, breaks, breaks_if, earlier, faults_in};
 use psm_scope::{ParameterMode, ParameterScope, RowTable};
+use psm_symbols::{column_fault, inserted_types, type_of_column, unknown_column};
 use psm_token::Place;
 use psm_tree::{
     Assignment, Expr, Identifier, InsertSource, Names, Select, Signalled, Simple, Target, Targets,
@@ -43,18 +44,18 @@ pub(crate) enum Within {
 #[derive(Clone, Copy)]
 pub(crate) struct Context<'w, 'a> {
     pub(crate) alloc: Global,
-    pub(crate) world: &'w World<'a>,
+    pub(crate) symbols: &'w SymbolTable<'a>,
     pub(crate) within: Within,
 }
 
 impl<'w, 'a> Context<'w, 'a> {
-    /// What is seen in some frames.
-    pub(crate) fn view(self, frames: &'w Frames<'a>) -> View<'w, 'a>
-        ensures { seen_in_view result ≡ (context self.entry frames.now).view }
+    /// What is seen in some scopes.
+    pub(crate) fn checker_scope(self, scopes: &'w Scopes<'a>) -> CheckerScope<'w, 'a>
+        ensures { seen_in_checker_scope result ≡ (context self.entry scopes.now).checker_scope }
     {
-        View {
-            world: self.world,
-            frames,
+        CheckerScope {
+            symbols: self.symbols,
+            scopes,
             row: None,
         }
     }
@@ -64,34 +65,34 @@ impl<'w, 'a> Context<'w, 'a> {
 pub(crate) fn simple_fault<'w, 'a>(
     simple: &Simple,
     c: Context<'w, 'a>,
-    frames: &'w Frames<'a>,
+    scopes: &'w Scopes<'a>,
 ) -> Result<Option<Fault>, AllocError>
-    ensures { IfOk result (λ f. f ≡ simple_fault (context c.entry frames.now) simple.now) }
+    ensures { IfOk result (λ f. f ≡ simple_fault (context c.entry scopes.now) simple.now) }
 {
     let alloc = c.alloc;
-    let view = c.view(frames);
+    let checker_scope = c.checker_scope(scopes);
     match simple {
-        Simple::Set { target, source, .. } => set_fault(alloc, view, target, source.get()),
+        Simple::Set { target, source, .. } => set_fault(alloc, checker_scope, target, source.get()),
         Simple::Call {
             place,
             procedure,
             arguments,
         } => {
-            let fault = call_fault(alloc, view, procedure, arguments.items())?;
+            let fault = call_fault(alloc, checker_scope, procedure, arguments.items())?;
             Ok(earlier(only_in_procedures(c.within, *place), fault))
         }
         Simple::Return { place, source } => {
-            return_fault(alloc, view, c.within, *place, source.get())
+            return_fault(alloc, checker_scope, c.within, *place, source.get())
         }
-        Simple::Leave { label, .. } => Ok(label_fault(frames, label)),
-        Simple::Iterate { label, .. } => Ok(loop_label_fault(frames, label)),
-        Simple::Signal { signalled, .. } => signalled_fault(alloc, signalled.get(), view),
-        Simple::Resignal { signalled, .. } => resignal_fault(alloc, signalled, view),
+        Simple::Leave { label, .. } => Ok(label_fault(scopes, label)),
+        Simple::Iterate { label, .. } => Ok(loop_label_fault(scopes, label)),
+        Simple::Signal { signalled, .. } => signalled_fault(alloc, signalled.get(), checker_scope),
+        Simple::Resignal { signalled, .. } => resignal_fault(alloc, signalled, checker_scope),
         Simple::GetDiagnostics { diagnostics, .. } => {
-            Ok(diagnostics_fault(frames, diagnostics.get()))
+            Ok(diagnostics_fault(scopes, diagnostics.get()))
         }
         Simple::SelectInto { query, targets } => {
-            select_into_fault(alloc, view, query.get(), targets.get())
+            select_into_fault(alloc, checker_scope, query.get(), targets.get())
         }
         Simple::Insert {
             place,
@@ -99,7 +100,7 @@ pub(crate) fn simple_fault<'w, 'a>(
             columns,
             source,
         } => {
-            let fault = insert_fault(alloc, view, table, columns, source.get())?;
+            let fault = insert_fault(alloc, checker_scope, table, columns, source.get())?;
             Ok(earlier(only_in_procedures(c.within, *place), fault))
         }
         Simple::Update {
@@ -108,7 +109,7 @@ pub(crate) fn simple_fault<'w, 'a>(
             assignments,
             which,
         } => {
-            let fault = update_fault(alloc, view, table, assignments, which)?;
+            let fault = update_fault(alloc, checker_scope, table, assignments, which)?;
             Ok(earlier(only_in_procedures(c.within, *place), fault))
         }
         Simple::Delete {
@@ -116,17 +117,17 @@ pub(crate) fn simple_fault<'w, 'a>(
             table,
             which,
         } => {
-            let fault = delete_fault(alloc, view, table, which)?;
+            let fault = delete_fault(alloc, checker_scope, table, which)?;
             Ok(earlier(only_in_procedures(c.within, *place), fault))
         }
         Simple::Open { cursor, .. } | Simple::Close { cursor, .. } => {
-            Ok(opened_fault(cursor, frames.cursor(&cursor.name)))
+            Ok(opened_fault(cursor, scopes.cursor(&cursor.name)))
         }
         Simple::Fetch {
             cursor,
             targets,
             ..
-        } => Ok(fetch_from_fault(frames, cursor, targets.get())),
+        } => Ok(fetch_from_fault(scopes, cursor, targets.get())),
     }
 }
 
@@ -142,47 +143,47 @@ fn only_in_procedures(within: Within, place: Place) -> Option<Fault>
 
 fn set_fault(
     alloc: Global,
-    view: View,
+    checker_scope: CheckerScope,
     target: &Target,
     source: &Expr,
 ) -> Result<Option<Fault>, AllocError>
-    ensures { IfOk result (λ f. f ≡ set_fault (seen_in_view view.entry) target.now source.now) }
+    ensures { IfOk result (λ f. f ≡ set_fault (seen_in_checker_scope checker_scope.entry) target.now source.now) }
 {
-    let found = expr_found(alloc, source, view)?;
-    let known = variable_of(view.frames, target);
+    let checked = check_expr(alloc, source, checker_scope)?;
+    let known = variable_of(checker_scope.scopes, target);
     let fault = target_fault(target.place(), known);
-    Ok(earlier(fault, source_fault(assigned_type(known), found)))
+    Ok(earlier(fault, source_fault(assigned_type(known), checked)))
 }
 
 fn return_fault(
     alloc: Global,
-    view: View,
+    checker_scope: CheckerScope,
     within: Within,
     place: Place,
     source: &Expr,
 ) -> Result<Option<Fault>, AllocError>
-    ensures { IfOk result (λ f. f ≡ return_fault (record { view = seen_in_view view.entry; within = within_of within }) (within_of within) place source.now) }
+    ensures { IfOk result (λ f. f ≡ return_fault (record { checker_scope = seen_in_checker_scope checker_scope.entry; within = within_of within }) (within_of within) place source.now) }
 {
     match within {
         Within::Procedure => Ok(breaks(Rule::ReturnOutsideFunction, place)),
         Within::Function(result) => {
-            let found = expr_found(alloc, source, view)?;
-            Ok(source_fault(result, found))
+            let checked = check_expr(alloc, source, checker_scope)?;
+            Ok(source_fault(result, checked))
         }
     }
 }
 
-fn label_fault(frames: &Frames, label: &Identifier) -> Option<Fault>
-    ensures { result ≡ label_fault frames.now label.now }
+fn label_fault(scopes: &Scopes, label: &Identifier) -> Option<Fault>
+    ensures { result ≡ label_fault scopes.now label.now }
 {
-    let is_known = frames.label(&label.name).is_some();
+    let is_known = scopes.label(&label.name).is_some();
     breaks_if(!is_known, Rule::UnknownLabel, label.place)
 }
 
-fn loop_label_fault(frames: &Frames, label: &Identifier) -> Option<Fault>
-    ensures { result ≡ loop_label_fault frames.now label.now }
+fn loop_label_fault(scopes: &Scopes, label: &Identifier) -> Option<Fault>
+    ensures { result ≡ loop_label_fault scopes.now label.now }
 {
-    let is_loop = is_loop_label(frames.label(&label.name));
+    let is_loop = is_loop_label(scopes.label(&label.name));
     breaks_if(!is_loop, Rule::UnknownLabel, label.place)
 }
 
@@ -198,53 +199,61 @@ fn is_loop_label(label: Option<bool>) -> bool
 fn resignal_fault(
     alloc: Global,
     signalled: &Option<Boxed<Signalled>>,
-    view: View,
+    checker_scope: CheckerScope,
 ) -> Result<Option<Fault>, AllocError>
-    ensures { IfOk result (λ f. f ≡ resignal_fault (seen_in_view view.entry) signalled.now) }
+    ensures { IfOk result (λ f. f ≡ resignal_fault (seen_in_checker_scope checker_scope.entry) signalled.now) }
 {
     match signalled {
         None => Ok(None),
-        Some(signalled) => signalled_fault(alloc, signalled.get(), view),
+        Some(signalled) => signalled_fault(alloc, signalled.get(), checker_scope),
     }
 }
 
-fn fetch_from_fault(frames: &Frames, cursor: &Identifier, targets: &Targets) -> Option<Fault>
-    ensures { result ≡ first_of (opened_fault cursor.now (cursor_of frames.now cursor.now) ∷ targets_fault frames.now (several targets.now) ∷ fetch_fault frames.now targets.now (cursor_of frames.now cursor.now) ∷ []) }
+fn fetch_from_fault(scopes: &Scopes, cursor: &Identifier, targets: &Targets) -> Option<Fault>
+    ensures { result ≡ first_of (opened_fault cursor.now (cursor_of scopes.now cursor.now) ∷ targets_fault scopes.now (several targets.now) ∷ fetch_fault scopes.now targets.now (cursor_of scopes.now cursor.now) ∷ []) }
 {
-    let known = frames.cursor(&cursor.name);
-    let fault = earlier(opened_fault(cursor, known), targets_fault(frames, targets));
-    earlier(fault, fetch_fault(frames, targets, known))
+    let known = scopes.cursor(&cursor.name);
+    let fault = earlier(opened_fault(cursor, known), targets_fault(scopes, targets));
+    earlier(fault, fetch_fault(scopes, targets, known))
 }
 
 // ---- CALL
 
 fn call_fault(
     alloc: Global,
-    view: View,
+    checker_scope: CheckerScope,
     procedure: &Identifier,
     arguments: &[Boxed<Expr>],
 ) -> Result<Option<Fault>, AllocError>
-    ensures { IfOk result (λ f. f ≡ call_fault (seen_in_view view.entry) procedure.now arguments.now (routines.procedure procedure.now.name (length arguments.now) view.entry.world.now.procedures)) }
+    ensures { IfOk result (λ f. f ≡ call_fault (seen_in_checker_scope checker_scope.entry) procedure.now arguments.now (routines.procedure procedure.now.name (length arguments.now) checker_scope.entry.symbols.now.procedures)) }
 {
-    let world = view.world;
-    match world.procedures.procedure(&procedure.name, arguments.len()) {
+    let symbols = checker_scope.symbols;
+    match symbols
+        .procedures
+        .procedure(&procedure.name, arguments.len())
+    {
         None => Ok(breaks(Rule::UnknownProcedure, procedure.place)),
-        Some(known) => arguments_fault(alloc, view, known.parameters.items(), arguments),
+        Some(known) => arguments_fault(alloc, checker_scope, known.parameters.items(), arguments),
     }
 }
 
 #[tactic(auto, using(crate::proofs::Pairs::no_arguments))]
 fn arguments_fault(
     alloc: Global,
-    view: View,
+    checker_scope: CheckerScope,
     parameters: &[ParameterScope],
     arguments: &[Boxed<Expr>],
 ) -> Result<Option<Fault>, AllocError>
-    ensures { IfOk result (λ f. f ≡ first_of (arguments_fault (seen_in_view view.entry) parameters.now arguments.now)) }
+    ensures { IfOk result (λ f. f ≡ first_of (arguments_fault (seen_in_checker_scope checker_scope.entry) parameters.now arguments.now)) }
 {
     let mut fault = None;
     for number in 0..parameters.len().min(arguments.len()) {
-        let own = argument_fault(alloc, view, parameters[number], arguments[number].get())?;
+        let own = argument_fault(
+            alloc,
+            checker_scope,
+            parameters[number],
+            arguments[number].get(),
+        )?;
         fault = earlier(fault, own);
     }
     Ok(fault)
@@ -252,36 +261,36 @@ fn arguments_fault(
 
 fn argument_fault(
     alloc: Global,
-    view: View,
+    checker_scope: CheckerScope,
     parameter: ParameterScope,
     argument: &Expr,
 ) -> Result<Option<Fault>, AllocError>
-    ensures { IfOk result (λ f. f ≡ argument_fault (seen_in_view view.entry) parameter argument.now) }
+    ensures { IfOk result (λ f. f ≡ argument_fault (seen_in_checker_scope checker_scope.entry) parameter argument.now) }
 {
-    let found = expr_found(alloc, argument, view)?;
-    if is_passed(view.frames, parameter.mode, argument) {
-        Ok(source_fault(parameter.kind, found))
+    let checked = check_expr(alloc, argument, checker_scope)?;
+    if is_passed(checker_scope.scopes, parameter.mode, argument) {
+        Ok(source_fault(parameter.kind, checked))
     } else {
-        let fault = breaks(Rule::NotAssignable, found.place);
-        Ok(earlier(fault, found.fault))
+        let fault = breaks(Rule::NotAssignable, checked.place);
+        Ok(earlier(fault, checked.fault))
     }
 }
 
-fn is_passed(frames: &Frames, mode: ParameterMode, argument: &Expr) -> bool
-    ensures { result ≡ is_passed frames.now mode argument.now }
+fn is_passed(scopes: &Scopes, mode: ParameterMode, argument: &Expr) -> bool
+    ensures { result ≡ is_passed scopes.now mode argument.now }
 {
     match mode {
         ParameterMode::In => true,
-        ParameterMode::Out | ParameterMode::InOut => is_target(frames, argument),
+        ParameterMode::Out | ParameterMode::InOut => is_target(scopes, argument),
     }
 }
 
 // A variable or parameter by itself that can be assigned.
-fn is_target(frames: &Frames, argument: &Expr) -> bool
-    ensures { result ≡ is_target frames.now argument.now }
+fn is_target(scopes: &Scopes, argument: &Expr) -> bool
+    ensures { result ≡ is_target scopes.now argument.now }
 {
     match argument {
-        Expr::Name(target) => match variable_of(frames, target) {
+        Expr::Name(target) => match variable_of(scopes, target) {
             None => true,
             Some(known) => known.assignable,
         },
@@ -293,29 +302,29 @@ fn is_target(frames: &Frames, argument: &Expr) -> bool
 
 fn select_into_fault(
     alloc: Global,
-    view: View,
+    checker_scope: CheckerScope,
     query: &Select,
     targets: &Targets,
 ) -> Result<Option<Fault>, AllocError>
-    ensures { IfOk result (λ f. f ≡ select_into_fault (seen_in_view view.entry) (query_found query.now (seen_in_view view.entry)) targets.now) }
+    ensures { IfOk result (λ f. f ≡ select_into_fault (seen_in_checker_scope checker_scope.entry) (check_query query.now (seen_in_checker_scope checker_scope.entry)) targets.now) }
 {
-    let query = query_found(alloc, query, view)?;
-    let fault = earlier(query.fault(), targets_fault(view.frames, targets));
-    let kinds = target_types(alloc, view.frames, targets)?;
+    let query = check_query(alloc, query, checker_scope)?;
+    let fault = earlier(query.fault(), targets_fault(checker_scope.scopes, targets));
+    let kinds = target_types(alloc, checker_scope.scopes, targets)?;
     let into = into_fault(alloc, &query, targets.first.place(), kinds.items())?;
     Ok(earlier(fault, into))
 }
 
 fn target_types(
     alloc: Global,
-    frames: &Frames,
+    scopes: &Scopes,
     targets: &Targets,
 ) -> Result<List<Option<SqlType>>, AllocError>
-    ensures { IfOk result (λ kinds. kinds ≡ map (target_type frames.now) (several targets.now)) }
+    ensures { IfOk result (λ kinds. kinds ≡ map (target_type scopes.now) (several targets.now)) }
 {
-    let mut kinds = vec![in alloc; target_type(frames, &targets.first)]?;
+    let mut kinds = vec![in alloc; target_type(scopes, &targets.first)]?;
     for target in targets.rest.items() {
-        kinds.push(target_type(frames, target))?;
+        kinds.push(target_type(scopes, target))?;
     }
     Ok(List::of(kinds))
 }
@@ -323,7 +332,7 @@ fn target_types(
 // As many items as targets; else no pair is asked.
 fn into_fault(
     alloc: Global,
-    query: &QueryFound,
+    query: &QueryChecked,
     first: Place,
     kinds: &[Option<SqlType>],
 ) -> Result<Option<Fault>, AllocError>
@@ -382,17 +391,17 @@ pub(crate) fn columns_fault(
 
 fn insert_fault(
     alloc: Global,
-    view: View,
+    checker_scope: CheckerScope,
     table: &Identifier,
     names: &Option<Boxed<Names>>,
     source: &InsertSource,
 ) -> Result<Option<Fault>, AllocError>
-    ensures { IfOk result (λ f. f ≡ insert_fault (seen_in_view view.entry) table.now (table_of (seen_in_view view.entry) table.now) names.now source.now) }
+    ensures { IfOk result (λ f. f ≡ insert_fault (seen_in_checker_scope checker_scope.entry) table.now (table_of (seen_in_checker_scope checker_scope.entry) table.now) names.now source.now) }
 {
-    let columns = view.world.columns(&table.name);
+    let columns = checker_scope.symbols.columns(&table.name);
     let listed = listed_fault(alloc, columns, names)?;
     let kinds = inserted_types(alloc, columns, names)?;
-    let source = insert_source_fault(alloc, view, &kinds, source)?;
+    let source = insert_source_fault(alloc, checker_scope, &kinds, source)?;
     Ok(earlier(earlier(table_fault(table, columns), listed), source))
 }
 
@@ -411,16 +420,16 @@ fn listed_fault(
 
 fn insert_source_fault(
     alloc: Global,
-    view: View,
+    checker_scope: CheckerScope,
     kinds: &Option<List<Option<SqlType>>>,
     source: &InsertSource,
 ) -> Result<Option<Fault>, AllocError>
-    ensures { IfOk result (λ f. f ≡ insert_source_fault (seen_in_view view.entry) kinds.now source.now) }
+    ensures { IfOk result (λ f. f ≡ insert_source_fault (seen_in_checker_scope checker_scope.entry) kinds.now source.now) }
 {
     match source {
-        InsertSource::Values { rows } => rows_fault(alloc, view, kinds, rows),
+        InsertSource::Values { rows } => rows_fault(alloc, checker_scope, kinds, rows),
         InsertSource::Query(query) => {
-            let query = query_found(alloc, query.get(), view)?;
+            let query = check_query(alloc, query.get(), checker_scope)?;
             query_for(alloc, &query, kinds)
         }
     }
@@ -428,15 +437,15 @@ fn insert_source_fault(
 
 fn rows_fault(
     alloc: Global,
-    view: View,
+    checker_scope: CheckerScope,
     kinds: &Option<List<Option<SqlType>>>,
     rows: &OneOrMore<Values>,
 ) -> Result<Option<Fault>, AllocError>
-    ensures { IfOk result (λ f. f ≡ first_of (map (row_fault (seen_in_view view.entry) kinds.now) (several rows.now))) }
+    ensures { IfOk result (λ f. f ≡ first_of (map (row_fault (seen_in_checker_scope checker_scope.entry) kinds.now) (several rows.now))) }
 {
-    let mut fault = row_fault(alloc, view, kinds, &rows.first)?;
+    let mut fault = row_fault(alloc, checker_scope, kinds, &rows.first)?;
     for row in rows.rest.items() {
-        let own = row_fault(alloc, view, kinds, row)?;
+        let own = row_fault(alloc, checker_scope, kinds, row)?;
         fault = earlier(fault, own);
     }
     Ok(fault)
@@ -445,24 +454,24 @@ fn rows_fault(
 // A row of VALUES for columns of these types.
 fn row_fault(
     alloc: Global,
-    view: View,
+    checker_scope: CheckerScope,
     kinds: &Option<List<Option<SqlType>>>,
     row: &Values,
 ) -> Result<Option<Fault>, AllocError>
-    ensures { IfOk result (λ f. f ≡ row_fault (seen_in_view view.entry) kinds.now row.now) }
+    ensures { IfOk result (λ f. f ≡ row_fault (seen_in_checker_scope checker_scope.entry) kinds.now row.now) }
 {
-    let first = expr_found(alloc, row.values.first.get(), view)?;
+    let first = check_expr(alloc, row.values.first.get(), checker_scope)?;
     let mut values = vec![in alloc; first]?;
     for value in row.values.rest.items() {
-        let found = expr_found(alloc, value.get(), view)?;
-        values.push(found)?;
+        let checked = check_expr(alloc, value.get(), checker_scope)?;
+        values.push(checked)?;
     }
     Ok(values_for(first.place, values.as_slice(), kinds))
 }
 
 fn values_for(
     place: Place,
-    values: &[Found],
+    values: &[Checked],
     kinds: &Option<List<Option<SqlType>>>,
 ) -> Option<Fault>
     ensures { result ≡ values_for place values.now kinds.now }
@@ -480,7 +489,7 @@ fn values_for(
 }
 
 // Values for columns of which no types are known.
-fn untyped_fault(values: &[Found]) -> Option<Fault>
+fn untyped_fault(values: &[Checked]) -> Option<Fault>
     ensures { result ≡ first_of (map (source_fault None) values.now) }
 {
     let mut fault = None;
@@ -491,7 +500,7 @@ fn untyped_fault(values: &[Found]) -> Option<Fault>
 }
 
 #[tactic(auto, using(crate::proofs::Pairs::no_sources))]
-fn sources_fault(kinds: &[Option<SqlType>], values: &[Found]) -> Option<Fault>
+fn sources_fault(kinds: &[Option<SqlType>], values: &[Checked]) -> Option<Fault>
     ensures { result ≡ first_of (sources_fault kinds.now values.now) }
 {
     let mut fault = None;
@@ -504,7 +513,7 @@ fn sources_fault(kinds: &[Option<SqlType>], values: &[Found]) -> Option<Fault>
 // A query whose items go into columns of these types.
 fn query_for(
     alloc: Global,
-    query: &QueryFound,
+    query: &QueryChecked,
     kinds: &Option<List<Option<SqlType>>>,
 ) -> Result<Option<Fault>, AllocError>
     ensures { IfOk result (λ f. f ≡ query_for query.now kinds.now) }
@@ -524,18 +533,18 @@ fn query_for(
 
 fn update_fault(
     alloc: Global,
-    view: View,
+    checker_scope: CheckerScope,
     table: &Identifier,
     assignments: &OneOrMore<Assignment>,
     which: &Option<Where>,
 ) -> Result<Option<Fault>, AllocError>
-    ensures { IfOk result (λ f. f ≡ update_fault (seen_in_view view.entry) table.now (table_of (seen_in_view view.entry) table.now) assignments.now which.now) }
+    ensures { IfOk result (λ f. f ≡ update_fault (seen_in_checker_scope checker_scope.entry) table.now (table_of (seen_in_checker_scope checker_scope.entry) table.now) assignments.now which.now) }
 {
-    let columns = view.world.columns(&table.name);
+    let columns = checker_scope.symbols.columns(&table.name);
     let listed = assigned_columns_fault(alloc, columns, assignments)?;
-    let inside = on_table(view, table, columns);
+    let inside = on_table(checker_scope, table, columns);
     let sources = assignments_fault(alloc, inside, columns, assignments)?;
-    let which = where_fault(alloc, view, table, columns, which)?;
+    let which = where_fault(alloc, checker_scope, table, columns, which)?;
     let fault = earlier(table_fault(table, columns), listed);
     Ok(earlier(earlier(fault, sources), which))
 }
@@ -572,15 +581,15 @@ fn unknown_assigned_column(
 
 fn assignments_fault(
     alloc: Global,
-    view: View,
+    checker_scope: CheckerScope,
     columns: Option<&Columns>,
     assignments: &OneOrMore<Assignment>,
 ) -> Result<Option<Fault>, AllocError>
-    ensures { IfOk result (λ f. f ≡ first_of (map (assignment_fault (seen_in_view view.entry) (columns_known (option_copied columns.entry))) (several assignments.now))) }
+    ensures { IfOk result (λ f. f ≡ first_of (map (assignment_fault (seen_in_checker_scope checker_scope.entry) (columns_known (option_copied columns.entry))) (several assignments.now))) }
 {
-    let mut fault = assignment_fault(alloc, view, columns, &assignments.first)?;
+    let mut fault = assignment_fault(alloc, checker_scope, columns, &assignments.first)?;
     for a in assignments.rest.items() {
-        let own = assignment_fault(alloc, view, columns, a)?;
+        let own = assignment_fault(alloc, checker_scope, columns, a)?;
         fault = earlier(fault, own);
     }
     Ok(fault)
@@ -588,62 +597,62 @@ fn assignments_fault(
 
 fn assignment_fault(
     alloc: Global,
-    view: View,
+    checker_scope: CheckerScope,
     columns: Option<&Columns>,
     a: &Assignment,
 ) -> Result<Option<Fault>, AllocError>
-    ensures { IfOk result (λ f. f ≡ assignment_fault (seen_in_view view.entry) (columns_known (option_copied columns.entry)) a.now) }
+    ensures { IfOk result (λ f. f ≡ assignment_fault (seen_in_checker_scope checker_scope.entry) (columns_known (option_copied columns.entry)) a.now) }
 {
-    let found = expr_found(alloc, a.source.get(), view)?;
-    Ok(source_fault(type_of_column(columns, &a.column), found))
+    let checked = check_expr(alloc, a.source.get(), checker_scope)?;
+    Ok(source_fault(type_of_column(columns, &a.column), checked))
 }
 
 fn delete_fault(
     alloc: Global,
-    view: View,
+    checker_scope: CheckerScope,
     table: &Identifier,
     which: &Option<Where>,
 ) -> Result<Option<Fault>, AllocError>
-    ensures { IfOk result (λ f. f ≡ delete_fault (seen_in_view view.entry) table.now (table_of (seen_in_view view.entry) table.now) which.now) }
+    ensures { IfOk result (λ f. f ≡ delete_fault (seen_in_checker_scope checker_scope.entry) table.now (table_of (seen_in_checker_scope checker_scope.entry) table.now) which.now) }
 {
-    let columns = view.world.columns(&table.name);
-    let which = where_fault(alloc, view, table, columns, which)?;
+    let columns = checker_scope.symbols.columns(&table.name);
+    let which = where_fault(alloc, checker_scope, table, columns, which)?;
     Ok(earlier(table_fault(table, columns), which))
 }
 
 // What is seen on a row of a table that a statement changes.
 fn on_table<'v, 'a>(
-    view: View<'v, 'a>,
+    checker_scope: CheckerScope<'v, 'a>,
     table: &'v Identifier,
     columns: Option<&'v Columns<'a>>,
-) -> View<'v, 'a>
-    ensures { seen_in_view result ≡ on_table (seen_in_view view.entry) table.now (option_copied columns.entry) }
+) -> CheckerScope<'v, 'a>
+    ensures { seen_in_checker_scope result ≡ on_table (seen_in_checker_scope checker_scope.entry) table.now (option_copied columns.entry) }
 {
     let row = RowTable {
         name: &table.name,
         alias: None,
         columns,
     };
-    on_row(view, row)
+    on_row(checker_scope, row)
 }
 
 fn where_fault(
     alloc: Global,
-    view: View,
+    checker_scope: CheckerScope,
     table: &Identifier,
     columns: Option<&Columns>,
     which: &Option<Where>,
 ) -> Result<Option<Fault>, AllocError>
-    ensures { IfOk result (λ f. f ≡ where_fault (seen_in_view view.entry) table.now (option_copied columns.entry) which.now) }
+    ensures { IfOk result (λ f. f ≡ where_fault (seen_in_checker_scope checker_scope.entry) table.now (option_copied columns.entry) which.now) }
 {
     match which {
         None => Ok(None),
         Some(Where::Condition(e)) => {
-            let found = expr_found(alloc, e.get(), on_table(view, table, columns))?;
-            Ok(as_condition(found).fault)
+            let checked = check_expr(alloc, e.get(), on_table(checker_scope, table, columns))?;
+            Ok(as_condition(checked).fault)
         }
         Some(Where::Current { cursor }) => {
-            let known = view.frames.cursor(&cursor.name);
+            let known = checker_scope.scopes.cursor(&cursor.name);
             Ok(positioned_fault(table, cursor, known))
         }
     }

@@ -7,21 +7,23 @@ ghost use Rattle.psm_rules.specs.Faults.{earlier, first_from};
 ghost use Rattle.psm_rules.specs.ExprFaults.{type_fault};
 ghost use Rattle.psm_rules.specs.StatementFaults.{repeated, several};
 ghost use Rattle.psm_rules.specs.Types.{type_of};
-ghost use Rattle.psm_rules.specs.FileFaults.{alone, check_fault, column_names, column_rule_fault, column_rule_keys, columns_of, constant_fault, datum_of, default_fits, element_fault, element_keys, first_key, is_stored, key_fault, keys_of, no_world, own_keys, signed, table_elements, table_fault, table_rule_fault, too_many};
+ghost use Rattle.psm_rules.specs.FileFaults.{alone, check_fault, column_names, column_rule_fault, column_rule_keys, columns_of, constant_fault, datum_of, default_fits, element_fault, element_keys, first_key, is_stored, key_fault, keys_of, no_symbols, own_keys, signed, table_elements, table_fault, table_rule_fault, too_many};
 ghost use Rattle.psm_check_stmt.specs.Keys.{and_key, and_keys, first_kept, is_one, kept};
 ghost use Rattle.psm_check_stmt.specs.Listed.{with_names};
 ghost use Rattle.psm_check_expr.specs.Keys.{key_names};
-ghost use Rattle.psm_check_expr.specs.Seen.{seen_in_view};
+ghost use Rattle.psm_check_expr.specs.Seen.{seen_in_checker_scope};
 
 use crate::repeated::Repeats;
 use crate::statements::columns_fault;
-use psm_check_expr::{Columns, Frames, Key, View, World, expr_found, type_fault, type_of};
-use psm_known::{columns_of, signed};
+use psm_check_expr::{
+    CheckerScope, Columns, Key, Scopes, SymbolTable, check_expr, type_fault, type_of,
+};
 use psm_list::OneOrMore;
 use psm_rules::{
     Family, Fault, Rule, as_condition, breaks_if, earlier, family_of, too_many, typed,
 };
 use psm_scope::RowTable;
+use psm_symbols::{columns_of, signed};
 use psm_tree::{
     ColumnRule, ColumnRuleForm, Constant, ConstantForm, DataType, Element, Expr, Identifier,
     TableRuleForm, TableTree,
@@ -170,38 +172,38 @@ pub(crate) fn table_fault(alloc: Global, table: &TableTree) -> Result<Option<Fau
     ensures { IfOk result (λ f. f ≡ table_fault table.now) }
 {
     let columns = columns_of(alloc, table)?;
-    let world = World::new(alloc);
-    let frames = Frames::new(alloc);
+    let symbols = SymbolTable::new(alloc);
+    let scopes = Scopes::new(alloc);
     let own = own_faults(alloc, table)?;
-    elements_fault(alloc, table, &columns, &world, &frames, own)
+    elements_fault(alloc, table, &columns, &symbols, &scopes, own)
 }
 
-// A CHECK sees the columns of its table alone, of which a world and frames with nothing in them know nothing.
+// A CHECK sees the columns of its table alone, of which a symbol table and scopes with nothing in them know nothing.
 fn elements_fault<'v, 'a>(
     alloc: Global,
     table: &'v TableTree,
     columns: &'v Columns<'a>,
-    world: &'v World<'a>,
-    frames: &'v Frames<'a>,
+    symbols: &'v SymbolTable<'a>,
+    scopes: &'v Scopes<'a>,
     before: Option<Fault>,
 ) -> Result<Option<Fault>, AllocError>
-    requires nothing_known { world.now ≡ no_world }
-    requires nothing_around { frames.now ≡ [] }
+    requires nothing_known { symbols.now ≡ no_symbols }
+    requires nothing_around { scopes.now ≡ [] }
     ensures { IfOk result (λ f. f ≡ first_from before (map (element_fault (alone table.now.name.name columns.now) columns.now) (table_elements table.now))) }
 {
-    let view = View {
-        world,
-        frames,
+    let checker_scope = CheckerScope {
+        symbols,
+        scopes,
         row: Some(RowTable {
             name: &table.name.name,
             alias: None,
             columns: Some(columns),
         }),
     };
-    let first = element_fault(alloc, &table.elements.first, view, columns)?;
+    let first = element_fault(alloc, &table.elements.first, checker_scope, columns)?;
     let mut fault = earlier(before, first);
     for element in table.elements.rest.items() {
-        let next = element_fault(alloc, element, view, columns)?;
+        let next = element_fault(alloc, element, checker_scope, columns)?;
         fault = earlier(fault, next);
     }
     Ok(fault)
@@ -244,10 +246,10 @@ fn add_column<'a>(names: &mut Repeats<'a>, element: &'a Element) -> Result<(), A
 fn element_fault(
     alloc: Global,
     element: &Element,
-    view: View,
+    checker_scope: CheckerScope,
     columns: &Columns,
 ) -> Result<Option<Fault>, AllocError>
-    ensures { IfOk result (λ f. f ≡ element_fault (seen_in_view view.entry) columns.now element.now) }
+    ensures { IfOk result (λ f. f ≡ element_fault (seen_in_checker_scope checker_scope.entry) columns.now element.now) }
 {
     match element {
         Element::Column {
@@ -257,25 +259,25 @@ fn element_fault(
             ..
         } => {
             let own = column_type_fault(alloc, kind, default)?;
-            rules_fault(alloc, own, view, rules.items())
+            rules_fault(alloc, own, checker_scope, rules.items())
         }
-        Element::Rule(rule) => table_rule_fault(alloc, &rule.form, view, columns),
+        Element::Rule(rule) => table_rule_fault(alloc, &rule.form, checker_scope, columns),
     }
 }
 
 fn table_rule_fault(
     alloc: Global,
     form: &TableRuleForm,
-    view: View,
+    checker_scope: CheckerScope,
     columns: &Columns,
 ) -> Result<Option<Fault>, AllocError>
-    ensures { IfOk result (λ f. f ≡ table_rule_fault (seen_in_view view.entry) columns.now form.now) }
+    ensures { IfOk result (λ f. f ≡ table_rule_fault (seen_in_checker_scope checker_scope.entry) columns.now form.now) }
 {
     match form {
         TableRuleForm::PrimaryKey(names) | TableRuleForm::Unique(names) => {
             columns_fault(alloc, Some(columns), names)
         }
-        TableRuleForm::Check(e) => check_fault(alloc, e.get(), view),
+        TableRuleForm::Check(e) => check_fault(alloc, e.get(), checker_scope),
     }
 }
 
@@ -296,14 +298,14 @@ fn column_type_fault(
 fn rules_fault(
     alloc: Global,
     before: Option<Fault>,
-    view: View,
+    checker_scope: CheckerScope,
     rules: &[ColumnRule],
 ) -> Result<Option<Fault>, AllocError>
-    ensures { IfOk result (λ f. f ≡ first_from before (map (λ r. column_rule_fault (seen_in_view view.entry) r.form) rules.now)) }
+    ensures { IfOk result (λ f. f ≡ first_from before (map (λ r. column_rule_fault (seen_in_checker_scope checker_scope.entry) r.form) rules.now)) }
 {
     let mut fault = before;
     for rule in rules {
-        let own = column_rule_fault(alloc, &rule.form, view)?;
+        let own = column_rule_fault(alloc, &rule.form, checker_scope)?;
         fault = earlier(fault, own);
     }
     Ok(fault)
@@ -312,19 +314,23 @@ fn rules_fault(
 fn column_rule_fault(
     alloc: Global,
     form: &ColumnRuleForm,
-    view: View,
+    checker_scope: CheckerScope,
 ) -> Result<Option<Fault>, AllocError>
-    ensures { IfOk result (λ f. f ≡ column_rule_fault (seen_in_view view.entry) form.now) }
+    ensures { IfOk result (λ f. f ≡ column_rule_fault (seen_in_checker_scope checker_scope.entry) form.now) }
 {
     match form {
-        ColumnRuleForm::Check(e) => check_fault(alloc, e.get(), view),
+        ColumnRuleForm::Check(e) => check_fault(alloc, e.get(), checker_scope),
         ColumnRuleForm::NotNull | ColumnRuleForm::PrimaryKey | ColumnRuleForm::Unique => Ok(None),
     }
 }
 
-fn check_fault(alloc: Global, e: &Expr, view: View) -> Result<Option<Fault>, AllocError>
-    ensures { IfOk result (λ f. f ≡ check_fault (seen_in_view view.entry) e.now) }
+fn check_fault(
+    alloc: Global,
+    e: &Expr,
+    checker_scope: CheckerScope,
+) -> Result<Option<Fault>, AllocError>
+    ensures { IfOk result (λ f. f ≡ check_fault (seen_in_checker_scope checker_scope.entry) e.now) }
 {
-    let found = expr_found(alloc, e, view)?;
-    Ok(as_condition(found).fault)
+    let checked = check_expr(alloc, e, checker_scope)?;
+    Ok(as_condition(checked).fault)
 }

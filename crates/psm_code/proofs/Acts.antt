@@ -1,4 +1,4 @@
--- How the parts of an instruction keep what is always true of a machine, one behind another.
+-- How the parts of an instruction keep what is always true of a machine, one after another.
 use Rattle.std.proofs.Common.{◌≡◌, ◌<◌, ℕ, true, List, [], ◌∷◌, length, refl, Option, Some, Result, Ok, Err}
 use Rattle.psm_sqlstate.specs.declared.state.SqlState.{SqlState}
 use Rattle.psm_value.specs.declared.datum.Datum.{Datum}
@@ -16,7 +16,7 @@ use Rattle.psm_code.specs.declared.lines.CodeLine.{CodeLine}
 use Rattle.psm_code.specs.Calling.{most_depth}
 use Rattle.psm_code.specs.Instructions.{may_raise}
 use Rattle.psm_code.specs.Parts.{line_at, routine_at, slots_of}
-use Rattle.psm_code.specs.Sits.{are_stored, is_due, AllWait, AreCursors, AreKept, Stand}
+use Rattle.psm_code.specs.MachineInvariant.{are_stored, is_due, AllWait, AreCursors, AreKept, Stand}
 use Rattle.psm_code.specs.State.{Activation, Frame, Machine}
 use Rattle.psm_code.specs.Steps.{Act, Given, Got, Raises, Ends, go_on, pop, popped, present, tried, ◌>>=◌}
 
@@ -42,40 +42,40 @@ module _ (code : RawCode) (r : RawRoutine) (l : CodeLine) where
     pub operands : have s m.running.operands ≡ true
 
   -- an act gives what P says, raises a condition where the line may, or ends the run as is due
-  abbrev pub Comes : {A : Type 0} → (A → Machine → Type 0) → Given A → Machine → Type 0
-  Comes P (Got a) m = P a m
-  Comes P (Raises c) m = (may_raise l.instruction ≡ true) × Body m
-  Comes P (Ends e) m = (is_due e ≡ true) × AreKept code.tables m.tables
+  abbrev pub Evaluates : {A : Type 0} → (A → Machine → Type 0) → Given A → Machine → Type 0
+  Evaluates P (Got a) m = P a m
+  Evaluates P (Raises c) m = (may_raise l.instruction ≡ true) × Body m
+  Evaluates P (Ends e) m = (is_due e ≡ true) × AreKept code.tables m.tables
 
   -- the act on the machine
   pub record Does {A : Type 0} (P : A → Machine → Type 0) (act : Act A) (m : Machine) : Type 0 where
-    pub comes : Comes P (act m).given (act m).machine
+    pub evaluates : Evaluates P (act m).given (act m).machine
 
-  by_given : {A B : Type 0} (P : A → Machine → Type 0) (Q : B → Machine → Type 0) (go : A → Act B) (g : Given A) (m : Machine) → Comes P g m → ((a : A) (n : Machine) → P a n → Does Q (go a) n)
-      → Comes Q (go_on g go m).given (go_on g go m).machine
-  by_given P Q go (Got a) m h k = (k a m h).comes
+  by_given : {A B : Type 0} (P : A → Machine → Type 0) (Q : B → Machine → Type 0) (go : A → Act B) (g : Given A) (m : Machine) → Evaluates P g m → ((a : A) (n : Machine) → P a n → Does Q (go a) n)
+      → Evaluates Q (go_on g go m).given (go_on g go m).machine
+  by_given P Q go (Got a) m h k = (k a m h).evaluates
   by_given P Q go (Raises c) m h k = h
   by_given P Q go (Ends e) m h k = h
 
   pub and_then : {A B : Type 0} (P : A → Machine → Type 0) (Q : B → Machine → Type 0) (act : Act A) (go : A → Act B) (m : Machine) → Does P act m → ((a : A) (n : Machine) → P a n → Does Q (go a) n) → Does Q (◌>>=◌ act go) m
-  and_then P Q act go m h k = record { comes = by_given P Q go (act m).given (act m).machine h.comes k }
+  and_then P Q act go m h k = record { evaluates = by_given P Q go (act m).given (act m).machine h.evaluates k }
 
   -- what is there
   pub present_does : {A : Type 0} (P : A → Machine → Type 0) (o : Option A) (a : A) (m : Machine) → o ≡ Some a → P a m → Does P (present o) m
-  present_does P o a m e h = rw e (record { comes = h })
+  present_does P o a m e h = rw e (record { evaluates = h })
 
   -- a value is taken
   popped_does : (k : Letter) (s : List Letter) (m : Machine) (os : List Operand) → is_value k ≡ true → Body m → have (k ∷ s) os ≡ true → Does (λ d n. (has_letter k d ≡ true) × Has s n) (popped os) m
   popped_does k s m [] v h g = absurd (cc)
-  popped_does k s m (Value d ∷ os) v h g = record { comes = (and_first (has_letter k d) (have s os) g, record { body = h; operands = and_second (has_letter k d) (have s os) g }) }
+  popped_does k s m (Value d ∷ os) v h g = record { evaluates = (and_first (has_letter k d) (have s os) g, record { body = h; operands = and_second (has_letter k d) (have s os) g }) }
   popped_does N s m (Truth t ∷ os) v h g = absurd (cc)
   popped_does T s m (Truth t ∷ os) v h g = absurd (cc)
   popped_does B s m (Truth t ∷ os) v h g = absurd (cc)
 
   pub pop_does : (k : Letter) (s : List Letter) (m : Machine) → is_value k ≡ true → Has (k ∷ s) m → Does (λ d n. (has_letter k d ≡ true) × Has s n) pop m
-  pop_does k s m v h = record { comes = (popped_does k s m m.running.operands v h.body h.operands).comes }
+  pop_does k s m v h = record { evaluates = (popped_does k s m m.running.operands v h.body h.operands).evaluates }
 
   -- a condition is raised, or there is something of which Q holds
   pub tried_does : {A : Type 0} (Q : A → Type 0) (P : Machine → Type 0) (t : Result A SqlState) (m : Machine) → may_raise l.instruction ≡ true → Body m → P m → ((a : A) → t ≡ Ok a → Q a) → Does (λ a n. Q a × P n) (tried t) m
-  tried_does Q P (Ok a) m may b p q = record { comes = (q a refl, p) }
-  tried_does Q P (Err s) m may b p q = record { comes = (may, b) }
+  tried_does Q P (Ok a) m may b p q = record { evaluates = (q a refl, p) }
+  tried_does Q P (Err s) m may b p q = record { evaluates = (may, b) }

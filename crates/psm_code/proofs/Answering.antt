@@ -134,4 +134,4 @@ function_letter columns variables sets.Avg o vs d v h e = average_letter vs d e
 function_letter columns variables sets.Min o vs d v h e =
     ap (λ k. has_letter k d) (min_of columns variables o) ∙ least_letter (op_letter columns variables o) queries.comes_before vs d (function_of queries.Min) v h refl (λ v ws. refl) e
 function_letter columns variables sets.Max o vs d v h e =
-    ap (λ k. has_letter k d) (max_of columns variables o) ∙ least_letter (op_letter columns variables o) queries.comes_behind vs d (function_of queries.Max) v h refl (λ v ws. refl) e
+    ap (λ k. has_letter k d) (max_of columns variables o) ∙ least_letter (op_letter columns variables o) queries.comes_after vs d (function_of queries.Max) v h refl (λ v ws. refl) e

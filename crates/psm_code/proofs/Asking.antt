@@ -1,4 +1,4 @@
--- The answers of queries of right code.
+-- The answers of queries of well-formed code.
 use Rattle.std.proofs.Common.{◌≡◌, ℕ, zero, suc, ◌+◌, Bool, true, false, List, [], ◌∷◌, map, refl, ap, sym, subst, ◌∙◌, arith, Option, Some, None, Result, Ok, Err}
 use Rattle.std.specs.Prelude.{All, not, slice_get, slice_index_or}
 use Rattle.std.specs.List.{flat_map, list_all}

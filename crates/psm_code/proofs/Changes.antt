@@ -33,16 +33,16 @@ use Rattle.psm_code.specs.State.{Machine}
 use Rattle.psm_code.specs.Steps.{Act, Given, Got, Raises, Ends, pops, ◌>>=◌}
 use Rattle.psm_code.specs.Querying.{answer_of}
 use Rattle.psm_code.specs.TableRules.{is_column_list}
-use Rattle.psm_code.proofs.Acts.{Comes, Does, Has, and_then, present_does}
+use Rattle.psm_code.proofs.Acts.{Evaluates, Does, Has, and_then, present_does}
 use Rattle.psm_code.proofs.Entering.{pops_does, values_reversed}
-use Rattle.psm_code.proofs.Faults.{clean_flat, clean_head, two_hold, Clean, RightRoutine}
-use Rattle.psm_code.proofs.Fetching.{right_cursor}
-use Rattle.psm_code.proofs.Going.{bears, choose, goes_straight}
+use Rattle.psm_code.proofs.Faults.{clean_flat, clean_head, two_hold, Clean, WellFormedRoutineCode}
+use Rattle.psm_code.proofs.Fetching.{well_formed_cursor}
+use Rattle.psm_code.proofs.NextLines.{bears, choose, goes_straight}
 use Rattle.psm_code.proofs.Planning.{delete_rows_does, put_in_does, some_rows_do, update_rows_does}
 use Rattle.psm_code.proofs.Positioned.{delete_at_does, update_at_does}
-use Rattle.psm_code.proofs.Queried.{answer_does, query_does, right_query}
+use Rattle.psm_code.proofs.Queried.{answer_does, query_does, well_formed_query}
 use Rattle.psm_code.proofs.Raises.{there_some}
-use Rattle.psm_code.proofs.Simple.{right_here, with, Kept}
+use Rattle.psm_code.proofs.Simple.{well_formed_here, with, Kept}
 
 -- ---- the letters of the values of INSERT
 
@@ -113,9 +113,9 @@ unless_holds : (b : Bool) → unless b rule.Range ≡ None → b ≡ true
 unless_holds true h = refl
 unless_holds false h = absurd (cc)
 
-module _ (code : RawCode) (r : RawRoutine) (g : RightRoutine code r) (l : CodeLine) (may : may_raise l.instruction ≡ true) where
+module _ (code : RawCode) (r : RawRoutine) (g : WellFormedRoutineCode code r) (l : CodeLine) (may : may_raise l.instruction ≡ true) where
   -- less is said of what comes
-  only_has : {A : Type 0} (n : ℕ) (s : List Letter) (a : Given A) (m : Machine) → (Q : A → Type 0) → Comes code r l (λ x k. Q x × Has code r l s k) a m → Comes code r l (λ x k. Has code r l s k) a m
+  only_has : {A : Type 0} (n : ℕ) (s : List Letter) (a : Given A) (m : Machine) → (Q : A → Type 0) → Evaluates code r l (λ x k. Q x × Has code r l s k) a m → Evaluates code r l (λ x k. Has code r l s k) a m
   only_has n s (Got a) m Q h = h.1
   only_has n s (Raises c) m Q h = h
   only_has n s (Ends e) m Q h = h
@@ -133,7 +133,7 @@ module _ (code : RawCode) (r : RawRoutine) (g : RightRoutine code r) (l : CodeLi
       → Does code r l (λ u n. Has code r l s n) (planning.done code r (plans.Insert table columns rows)) m
   insert_does table columns rows t ks s m e v h =
       let popped = pops_does code r l ks s [] m v.values h in
-      let weak : Does code r l (λ ds n. Has code r l s n) (pops (length ks) []) m = record { comes = only_has (length ks) s (pops (length ks) [] m).given (pops (length ks) [] m).machine (λ (ds : List Datum). length ds ≡ length ks + length {A = Datum} []) popped.comes } in
+      let weak : Does code r l (λ ds n. Has code r l s n) (pops (length ks) []) m = record { evaluates = only_has (length ks) s (pops (length ks) [] m).given (pops (length ks) [] m).machine (λ (ds : List Datum). length ds ≡ length ks + length {A = Datum} []) popped.evaluates } in
       and_then code r l (λ ds n. Has code r l s n) _ _ _ m (subst (λ n. Does code r l (λ ds n. Has code r l s n) (pops n []) m) v.long weak) (λ ds n f.
       put_in_does code r l may table t columns (in_rows rows (length columns) ds) s n e f)
 
@@ -151,7 +151,7 @@ module _ (code : RawCode) (r : RawRoutine) (g : RightRoutine code r) (l : CodeLi
       let has = no_letters ks s m e h in
       and_then code r l _ _ _ _ m (query_does code r l may query q.0 s m q.1 has) (λ x k y.
       subst (λ (x : Query). Does code r l (λ u n. Has code r l s n) (query_put table columns x) k) (sym y.0)
-      (and_then code r l _ _ _ _ k (answer_does code r l may q.0 s k (right_query code r query q.0 g q.1) y.1) (λ a n z.
+      (and_then code r l _ _ _ _ k (answer_does code r l may q.0 s k (well_formed_query code r query q.0 g q.1) y.1) (λ a n z.
       and_then code r l _ _ _ _ n (some_rows_do code r l may a.rows s n z.1) (λ new n w. put_in_does code r l may table t.0 columns new s n t.1 w))))
   plan_does (plans.Update table sets test) ks s m c e h =
       let f = two_hold (is_there code.tables table) (is_some sets) rule.Range rule.Definition (clean_head _ (plan_parts code r (plans.Update table sets test)) c) in
@@ -164,11 +164,11 @@ module _ (code : RawCode) (r : RawRoutine) (g : RightRoutine code r) (l : CodeLi
   plan_does (plans.UpdateAt cursor sets) ks s m c e h =
       let f = two_hold (is_there r.cursors cursor) (is_some sets && is_positioned r cursor) rule.Range rule.Definition (clean_head _ (plan_parts code r (plans.UpdateAt cursor sets)) c) in
       let x = there_some (slice_get r.cursors cursor) f.0 in
-      update_at_does code r l may cursor x.0 x.1 (right_cursor code r cursor x.0 g x.1) sets s m (no_letters ks s m e h)
+      update_at_does code r l may cursor x.0 x.1 (well_formed_cursor code r cursor x.0 g x.1) sets s m (no_letters ks s m e h)
   plan_does (plans.DeleteAt cursor) ks s m c e h =
       let f = two_hold (is_there r.cursors cursor) (is_positioned r cursor) rule.Range rule.Definition (clean_head _ (plan_parts code r (plans.DeleteAt cursor)) c) in
       let x = there_some (slice_get r.cursors cursor) f.0 in
-      delete_at_does code r l may cursor x.0 x.1 (right_cursor code r cursor x.0 g x.1) s m (no_letters ks s m e h)
+      delete_at_does code r l may cursor x.0 x.1 (well_formed_cursor code r cursor x.0 g x.1) s m (no_letters ks s m e h)
 
 -- ---- the instruction
 
@@ -176,18 +176,18 @@ taken_known : (r : RawRoutine) (at : ℕ) (s : List Letter) (o : Option (List Le
 taken_known r at s None h = absurd (cc)
 taken_known r at s (Some ls) h = (ls, refl)
 
-module _ (code : RawCode) (right : first_fault code ≡ None) (r : RawRoutine) (g : RightRoutine code r) (c : ℕ) (resume : Option ℕ) (s : List Letter) where
-  pub change_kept : (n : ℕ) → Kept code right r g c resume s (instruction.Change n)
+module _ (code : RawCode) (well_formed_code : first_fault code ≡ None) (r : RawRoutine) (g : WellFormedRoutineCode code r) (c : ℕ) (resume : Option ℕ) (s : List Letter) where
+  pub change_kept : (n : ℕ) → Kept code well_formed_code r g c resume s (instruction.Data n)
   change_kept n m h =
-      let i = instruction.Change n in
-      let l = with code right r g c resume s i in
-      let line = right_here code right r g c resume s i m h in
+      let i = instruction.Data n in
+      let l = with code well_formed_code r g c resume s i in
+      let line = well_formed_here code well_formed_code r g c resume s i m h in
       let p = there_some (slice_get r.plans n) line.named in
       let put : Option (List Letter) → Option Effect = λ o. option_map (λ ls. plain (codes "DATA") ls []) o in
       let is : (o : Option Plan) → Option Effect = λ o. put (of_plan (plan_letters code) o) in
       let ch = choose code r m.running.line l line in
       let k = taken_known r m.running.line (reverse s) (plan_letters code p.0) (ap (λ o. rules.follows_with r m.running.line (reverse s) (is o)) (sym p.1) ∙ ch.follows) in
       let clean = clean_flat (plan_faults code r) r.plans n p.0 g.plans p.1 in
-      goes_straight code right r g l (planning.plan code r n) m (plain (codes "DATA") k.0 []) [] (λ j x. ap is p.1 ∙ ap put k.1) refl refl (bears code right r g l m h.body (λ e. e)) h (λ rest f.
+      goes_straight code well_formed_code r g l (planning.plan code r n) m (plain (codes "DATA") k.0 []) [] (λ j x. ap is p.1 ∙ ap put k.1) refl refl (bears code well_formed_code r g l m h.body (λ e. e)) h (λ rest f.
       and_then code r l (λ y j. (y ≡ p.0) × Has code r l (k.0 ++ rest) j) _ _ _ m (present_does code r l _ (slice_get r.plans n) p.0 m p.1 (refl, f)) (λ y j z.
       subst (λ (y : Plan). Does code r l (λ u n. Has code r l rest n) (planning.done code r y) j) (sym z.0) (plan_does code r g l refl p.0 k.0 rest j clean k.1 z.1)))

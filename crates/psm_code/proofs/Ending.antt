@@ -3,28 +3,28 @@ use Rattle.std.proofs.Common.{◌≡◌, ℕ, zero, suc, ◌+◌, List, refl, ap
 use Rattle.psm_value.specs.declared.datum.Datum.{Datum}
 use Rattle.psm_table.specs.Table.{Contents}
 use Rattle.psm_code.specs.declared.code.RawCode.{RawCode}
-use Rattle.psm_code.specs.Rows.{Ran, rows, row_on}
-use Rattle.psm_code.specs.State.{End, Machine, Turned, More, Over}
+use Rattle.psm_code.specs.Run.{Ran, steps, step_on}
+use Rattle.psm_code.specs.State.{End, Machine, Stepped, More, Over}
 use Rattle.psm_code.specs.Calling.{started}
 
-pub over_stays : (code : RawCode) (n : ℕ) (e : End) (m : Machine) → rows code n (Over e m) ≡ Over e m
+pub over_stays : (code : RawCode) (n : ℕ) (e : End) (m : Machine) → steps code n (Over e m) ≡ Over e m
 over_stays code zero e m = refl
 over_stays code (suc n) e m = over_stays code n e m
 
--- first so many rows, and then others
-pub rows-more : (code : RawCode) (n k : ℕ) (t : Turned) → rows code (n + k) t ≡ rows code k (rows code n t)
-rows-more code zero k t = let none : 0 + k ≡ k = omega arith in ap (λ j. rows code j t) none
-rows-more code (suc n) k t = let one : suc n + k ≡ suc (n + k) = omega arith in ap (λ j. rows code j t) one ∙ rows-more code n k (row_on code t)
+-- first n rows, and then others
+pub rows-more : (code : RawCode) (n k : ℕ) (t : Stepped) → steps code (n + k) t ≡ steps code k (steps code n t)
+rows-more code zero k t = let none : 0 + k ≡ k = omega arith in ap (λ j. steps code j t) none
+rows-more code (suc n) k t = let one : suc n + k ≡ suc (n + k) = omega arith in ap (λ j. steps code j t) one ∙ rows-more code n k (step_on code t)
 
--- a run that is over after so many rows is over after more
-pub over_later : (code : RawCode) (n k : ℕ) (t : Turned) (e : End) (m : Machine) → rows code n t ≡ Over e m → rows code (n + k) t ≡ Over e m
-over_later code n k t e m h = rows-more code n k t ∙ ap (rows code k) h ∙ over_stays code k e m
+-- a run that is over after n rows is over after more
+pub over_later : (code : RawCode) (n k : ℕ) (t : Stepped) (e : End) (m : Machine) → steps code n t ≡ Over e m → steps code (n + k) t ≡ Over e m
+over_later code n k t e m h = rows-more code n k t ∙ ap (steps code k) h ∙ over_stays code k e m
 
-abbrev end_of : Turned → End → End
+abbrev end_of : Stepped → End → End
 end_of (More m) e = e
 end_of (Over f m) e = f
 
-abbrev machine_of : Turned → Machine
+abbrev machine_of : Stepped → Machine
 machine_of (More m) = m
 machine_of (Over e m) = m
 
@@ -32,5 +32,5 @@ pub one_end : (code : RawCode) (routine : ℕ) (args : List Datum) (tables : Lis
 one_end code routine args tables turns e f m n r s =
     let t = started code routine args tables turns in
     let sum : r.count + s.count ≡ s.count + r.count = omega arith in
-    let same : Over e m ≡ Over f n = sym (over_later code r.count s.count t e m r.leads) ∙ ap (λ k. rows code k t) sum ∙ over_later code s.count r.count t f n s.leads in
+    let same : Over e m ≡ Over f n = sym (over_later code r.count s.count t e m r.leads) ∙ ap (λ k. steps code k t) sum ∙ over_later code s.count r.count t f n s.leads in
     (ap (λ t. end_of t e) same, ap machine_of same)

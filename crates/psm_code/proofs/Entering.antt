@@ -31,12 +31,12 @@ use Rattle.psm_code.specs.Instructions.{may_raise, parameter_letters}
 use Rattle.psm_code.specs.Parts.{line_at, routine_at, takes, taking}
 use Rattle.psm_code.specs.RoutineRules as rules
 use Rattle.psm_code.specs.Rules.{is_some, there, where_there}
-use Rattle.psm_code.specs.Sits.{are_stored, AreCursors, Keeps, StandsAt}
+use Rattle.psm_code.specs.MachineInvariant.{are_stored, AreCursors, Keeps, StandsAt}
 use Rattle.psm_code.specs.State.{Machine}
 use Rattle.psm_code.specs.Steps.{Act, Came, Given, Got, Raises, Ends, go_on, got, of_state, pops, read, spent, tried, turn, ◌>>=◌}
 use Rattle.psm_code.specs.Steps.{raises as raise_it}
-use Rattle.psm_code.proofs.Acts.{Body, Comes, Does, Has, and_then, pop_does}
-use Rattle.psm_code.proofs.Faults.{line_right, three_hold, RightRoutine}
+use Rattle.psm_code.proofs.Acts.{Body, Evaluates, Does, Has, and_then, pop_does}
+use Rattle.psm_code.proofs.Faults.{line_well_formed, three_hold, WellFormedRoutineCode}
 use Rattle.psm_code.proofs.Raises.{not_some}
 
 -- ---- parameters
@@ -114,18 +114,18 @@ some_first : {A : Type 0} (xs : List A) → is_some xs ≡ true → (x : A) × (
 some_first [] h = absurd (cc)
 some_first (x ∷ xs) h = (x, refl)
 
-pub first_line : (code : RawCode) (r : RawRoutine) → RightRoutine code r → First r
+pub first_line : (code : RawCode) (r : RawRoutine) → WellFormedRoutineCode code r → First r
 first_line code r g =
     let t = three_hold (where_there r.returns is_type) (is_some r.lines) (list_all (rules.are_apart r) g.before && rules.same_truth r.is_function (there r.returns)) rule.Range rule.Target rule.Definition g.first in
     let line = some_first r.lines t.1 in
-    let right = (line_right code r 0 line.0 g line.1).first in
+    let well_formed_code = (line_well_formed code r 0 line.0 g line.1).first in
     let own = nat_eq line.0.context 0 in
     let nothing = not (is_some line.0.stack) in
     record {
       line = line.0;
       there = line.1;
-      context = eqb-true line.0.context 0 (and_first own nothing right);
-      bare = not_some line.0.stack (and_second own nothing right);
+      context = eqb-true line.0.context 0 (and_first own nothing well_formed_code);
+      bare = not_some line.0.stack (and_second own nothing well_formed_code);
     }
 
 abbrev pub activation_stands : (code : RawCode) (n : ℕ) (r : RawRoutine) (ds : List Datum) (f : First r) → routine_at code n ≡ Some r → are_stored (map (λ p. p.kind) r.parameters) ds ≡ true → StandsAt code (activation n r ds)
@@ -157,7 +157,7 @@ argument_values ps = values_reversed (parameter_letters ps) (parameters_values p
 module _ (code : RawCode) (r : RawRoutine) (l : CodeLine) where
   pub pops_does : (ks s : List Letter) (ds : List Datum) (m : Machine) → list_all is_value ks ≡ true → Has code r l (ks ++ s) m
       → Does code r l (λ args n. (length args ≡ length ks + length ds) × Has code r l s n) (pops (length ks) ds) m
-  pops_does [] s ds m v h = let z : length ds ≡ 0 + length ds = omega arith in record { comes = (z, h) }
+  pops_does [] s ds m v h = let z : length ds ≡ 0 + length ds = omega arith in record { evaluates = (z, h) }
   pops_does (k ∷ ks) s ds m v h =
       and_then code r l _ _ _ _ m (pop_does code r l k (ks ++ s) m (and_first (is_value k) (list_all is_value ks) v) h) (λ d n f.
       let g = pops_does ks s (d ∷ ds) n (and_second (is_value k) (list_all is_value ks) v) f.1 in
@@ -165,26 +165,26 @@ module _ (code : RawCode) (r : RawRoutine) (l : CodeLine) where
       subst (λ i. Does code r l (λ args n. (length args ≡ i) × Has code r l s n) (pops (length ks) (d ∷ ds)) n) e g)
 
   module _ (may : may_raise l.instruction ≡ true) where
-    entered_by : (ts : List SqlType) (s : List Letter) (a : Given (List Datum)) (n m : Machine) → AreGiven ts a → n ≡ m → Has code r l s m → Comes code r l (λ ds k. (are_stored ts ds ≡ true) × Has code r l s k) a n
+    entered_by : (ts : List SqlType) (s : List Letter) (a : Given (List Datum)) (n m : Machine) → AreGiven ts a → n ≡ m → Has code r l s m → Evaluates code r l (λ ds k. (are_stored ts ds ≡ true) × Has code r l s k) a n
     entered_by ts s (Got ds) n m h e x = (h, subst (Has code r l s) (sym e) x)
     entered_by ts s (Raises c) n m h e x = (may, subst (Body code r l) (sym e) x.body)
     entered_by ts s (Ends z) n m h e x = absurd h
 
     pub entered_does : (ps : List Parameter) (args : List Datum) (s : List Letter) (m : Machine) → length args ≡ length (taking ps) → Has code r l s m → Does code r l (λ ds k. (are_stored (map (λ p. p.kind) ps) ds ≡ true) × Has code r l s k) (entered ps args) m
-    entered_does ps args s m e h = let k = enters ps args m e in record { comes = entered_by (map (λ p. p.kind) ps) s (entered ps args m).given (entered ps args m).machine m k.given k.machine h }
+    entered_does ps args s m e h = let k = enters ps args m e in record { evaluates = entered_by (map (λ p. p.kind) ps) s (entered ps args m).given (entered ps args m).machine m k.given k.machine h }
 
     bounded_by : (others : ℕ) (s : List Letter) (m : Machine) → others ≡ length m.callers → Has code r l s m → Does code r l (λ u k. (suc (length k.callers) < most_depth) × Has code r l s k) (if nat_lt (suc others) most_depth then got {A = Unit {0}} tt else raise_it (of_state (codes "X0001"))) m
     bounded_by others s m e h = by (nat_lt (suc others) most_depth) refl where
       by : (b : Bool) → nat_lt (suc others) most_depth ≡ b → Does code r l (λ u k. (suc (length k.callers) < most_depth) × Has code r l s k) (if b then got {A = Unit {0}} tt else raise_it (of_state (codes "X0001"))) m
-      by true q = let less : suc others < most_depth = ltb-true (suc others) most_depth q in record { comes = (omega (arith, less, e), h) }
-      by false q = record { comes = (may, h.body) }
+      by true q = let less : suc others < most_depth = ltb-true (suc others) most_depth q in record { evaluates = (omega (arith, less, e), h) }
+      by false q = record { evaluates = (may, h.body) }
 
     turns : (left : ℕ) (s : List Letter) (m : Machine) → Has code r l s m → Does code r l (λ u k. (k.callers ≡ m.callers) × Has code r l s k) (spent left) m
-    turns zero s m h = record { comes = (refl, h.body.tables) }
-    turns (suc left) s m h = record { comes = (refl, record { body = h.body; operands = h.operands }) }
+    turns zero s m h = record { evaluates = (refl, h.body.tables) }
+    turns (suc left) s m h = record { evaluates = (refl, record { body = h.body; operands = h.operands }) }
 
     pub turn_does : (s : List Letter) (m : Machine) → Has code r l s m → Does code r l (λ u k. (k.callers ≡ m.callers) × Has code r l s k) turn m
-    turn_does s m h = record { comes = (turns m.turns s m h).comes }
+    turn_does s m h = record { evaluates = (turns m.turns s m h).evaluates }
 
     pub bounded_does : (s : List Letter) (m : Machine) → Has code r l s m → Does code r l (λ u k. (suc (length k.callers) < most_depth) × Has code r l s k) bounded m
-    bounded_does s m h = and_then code r l (λ n k. (n ≡ length k.callers) × Has code r l s k) _ (read (λ m. length m.callers)) _ m (record { comes = (refl, h) }) (λ n k f. bounded_by n s k f.0 f.1)
+    bounded_does s m h = and_then code r l (λ n k. (n ≡ length k.callers) × Has code r l s k) _ (read (λ m. length m.callers)) _ m (record { evaluates = (refl, h) }) (λ n k f. bounded_by n s k f.0 f.1)

@@ -1,4 +1,4 @@
--- Expressions of right code, over rows and variables of the letters that they see, come to values of the letters with which they end.
+-- Expressions of well-formed code, over rows and variables of the letters that they see, end in values of the letters with which they end.
 use Rattle.std.proofs.Common.{◌≡◌, ℕ, suc, Bool, true, false, ◌&&◌, List, [], ◌∷◌, refl, ap, sym, ◌∙◌, Option, Some, None, Result, Ok, Err}
 use Rattle.std.specs.Prelude.{IsSome, if◌then◌else◌}
 use Rattle.psm_num.proofs.Literals.{and_first, and_second}
@@ -9,7 +9,7 @@ use Rattle.psm_exprcode.specs.declared.op.Letter.TheVariants.{N, T, B}
 use Rattle.psm_exprcode.specs.declared.op.Line.{Line}
 use Rattle.psm_exprcode.specs.declared.operand.Operand.{Operand}
 use Rattle.psm_exprcode.specs.declared.operand.Operand.TheVariants.{Value, Truth}
-use Rattle.psm_exprcode.specs.Evaluated.{evaluated, Outcome, Suits}
+use Rattle.psm_exprcode.specs.Evaluated.{evaluated, Outcome, TypeChecks}
 use Rattle.psm_exprcode.specs.Kinds.{are_of, has_letter, is_of, is_truths, is_value}
 use Rattle.psm_exprcode.specs.WellFormed.{are_lines, does_fit, ends_with, is_line, is_of_kind, lands, of_any_kind}
 use Rattle.psm_exprcode.proofs.Running.{evaluated_letter, evaluated_some}
@@ -66,11 +66,11 @@ unless_holds : (b : Bool) → unless b Stack ≡ None → b ≡ true
 unless_holds true h = refl
 unless_holds false h = absurd (cc)
 
-lines_right : (columns variables : List Letter) (end : Letter) (at : ℕ) (lines : List Line) → Clean (expr_line_faults columns variables end at lines) → are_lines (is_of_kind columns variables) end at lines ≡ true
-lines_right columns variables end at [] h = refl
-lines_right columns variables end at (l ∷ after) h =
+lines_well_formed : (columns variables : List Letter) (end : Letter) (at : ℕ) (lines : List Line) → Clean (expr_line_faults columns variables end at lines) → are_lines (is_of_kind columns variables) end at lines ≡ true
+lines_well_formed columns variables end at [] h = refl
+lines_well_formed columns variables end at (l ∷ after) h =
     let t = two_hold (names_there columns variables l.op) (is_line (is_of_kind columns variables) end at l after) Range Stack (clean_head _ (expr_line_faults columns variables end (suc at) after) h) in
-    both_true (is_line (is_of_kind columns variables) end at l after) (are_lines (is_of_kind columns variables) end (suc at) after) t.1 (lines_right columns variables end (suc at) after (clean_tail _ (expr_line_faults columns variables end (suc at) after) h))
+    both_true (is_line (is_of_kind columns variables) end at l after) (are_lines (is_of_kind columns variables) end (suc at) after) t.1 (lines_well_formed columns variables end (suc at) after (clean_tail _ (expr_line_faults columns variables end (suc at) after) h))
 
 expr_by : (columns variables : List Letter) (due : Letter → Bool) (lines : List Line) (found other : Option Letter) → known_end columns variables lines ≡ found → possible_end due lines ≡ other
     → Clean (expr_at columns variables due lines found other) → Fits columns variables due lines
@@ -83,7 +83,7 @@ expr_by columns variables due lines (Some end) other e f h = record {
 expr_by columns variables due lines None (Some end) e f h =
     let any = that_some (λ e. due e && ends_with of_any_kind lines e) end f in
     let first = and_first (lands end lines 0 []) (are_lines of_any_kind end 0 lines) (and_second (due end) (ends_with of_any_kind lines end) any) in
-    let fits : does_fit columns variables lines end ≡ true = both_true (lands end lines 0 []) (are_lines (is_of_kind columns variables) end 0 lines) first (lines_right columns variables end 0 lines h) in
+    let fits : does_fit columns variables lines end ≡ true = both_true (lands end lines 0 []) (are_lines (is_of_kind columns variables) end 0 lines) first (lines_well_formed columns variables end 0 lines h) in
     let no = that_none (λ e. does_fit columns variables lines e) end e in
     absurd (cc)
 expr_by columns variables due lines None None e f h = absurd h
@@ -112,8 +112,8 @@ value_by end (Some (Err state)) d v s h e = absurd (cc)
 pub value_letter : (columns variables : List Letter) (row vars : List Datum) (lines : List Line) (end : Letter) (d : Datum) → are_of columns row ≡ true → are_of variables vars ≡ true → does_fit columns variables lines end ≡ true → is_value end ≡ true
     → value_in (evaluated lines row vars) ≡ Ok d → has_letter end d ≡ true
 value_letter columns variables row vars lines end d r s f v e =
-    let suits : Suits lines row vars end = record { columns = columns; variables = variables; fits = f; row_kinds = r; variable_kinds = s } in
-    value_by end (evaluated lines row vars) d v (evaluated_some lines row vars end suits) (λ x q. evaluated_letter lines row vars end x suits q) e
+    let type_checks : TypeChecks lines row vars end = record { columns = columns; variables = variables; fits = f; row_kinds = r; variable_kinds = s } in
+    value_by end (evaluated lines row vars) d v (evaluated_some lines row vars end type_checks) (λ x q. evaluated_letter lines row vars end x type_checks q) e
 
 -- ---- values of each of some
 

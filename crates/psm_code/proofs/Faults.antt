@@ -1,4 +1,4 @@
--- What is known of code that breaks no rule, line by line of its listing.
+-- What is known of well-formed code, line by line of its listing.
 use Rattle.std.proofs.Common.{◌≡◌, ℕ, zero, suc, ◌+◌, Bool, true, false, ◌&&◌, List, [], ◌∷◌, ◌++◌, length, map, refl, ap, sym, subst, ◌∙◌, arith, Option, Some, None, length-append}
 use Rattle.std.specs.Prelude.{slice_get}
 use Rattle.std.specs.List.{flat_map}
@@ -94,16 +94,16 @@ four_hold false b c d p q s t e = absurd (cc)
 
 -- ---- lines
 
-pub record RightLine (code : RawCode) (r : RawRoutine) (at : ℕ) (l : CodeLine) : Type 0 where
+pub record WellFormedLine (code : RawCode) (r : RawRoutine) (at : ℕ) (l : CodeLine) : Type 0 where
   pub named : rules.names_there code r l.instruction ≡ true
   pub inside : rules.context_there r l.context ≡ true
   pub targets : rules.are_targets code r at l ≡ true
   pub bare : rules.is_bare l ≡ true
   pub stack : rules.stack_follows code r at l ≡ true
-  pub first : rules.is_first_right at l ≡ true
-  pub stands : rules.stands_right r l l.instruction ≡ true
+  pub first : rules.is_first_well_formed at l ≡ true
+  pub stands : rules.stands_well_formed r l l.instruction ≡ true
   pub contexts : rules.contexts_follow code r at l ≡ true
-  pub resumes : rules.resumes_right r at l ≡ true
+  pub resumes : rules.resumes_well_formed r at l ≡ true
   pub place : rules.may_stand code r l.instruction ≡ true
 
 seven_hold : (a b c d e f g : Bool) → first_of (unless a Range ∷ unless b Target ∷ unless c Stack ∷ unless d InContext ∷ unless e Resume ∷ unless f Turn ∷ unless g Place ∷ []) ≡ None
@@ -117,22 +117,22 @@ seven_hold true true true true false f g h = absurd (cc)
 seven_hold true true true true true false g h = absurd (cc)
 seven_hold true true true true true true false h = absurd (cc)
 
-pub right_line : (code : RawCode) (r : RawRoutine) (at : ℕ) (l : CodeLine) → line_fault code r at l ≡ None → RightLine code r at l
-right_line code r at l e =
+pub well_formed_line : (code : RawCode) (r : RawRoutine) (at : ℕ) (l : CodeLine) → line_fault code r at l ≡ None → WellFormedLine code r at l
+well_formed_line code r at l e =
     let inside = rules.context_there r l.context in
-    let around = rules.stands_right r l l.instruction && rules.contexts_follow code r at l in
-    let h = seven_hold (inside && rules.names_there code r l.instruction) (rules.are_targets code r at l) (rules.is_bare l && rules.stack_follows code r at l) (rules.is_first_right at l && around)
-    (rules.resumes_right r at l) (where_there (rules.jump_of l.instruction) (rules.uses_turn r at)) (rules.may_stand code r l.instruction) e in
-    let rest = and_second (rules.is_first_right at l) around h.3 in
+    let enclosing = rules.stands_well_formed r l l.instruction && rules.contexts_follow code r at l in
+    let h = seven_hold (inside && rules.names_there code r l.instruction) (rules.are_targets code r at l) (rules.is_bare l && rules.stack_follows code r at l) (rules.is_first_well_formed at l && enclosing)
+    (rules.resumes_well_formed r at l) (where_there (rules.jump_of l.instruction) (rules.uses_turn r at)) (rules.may_stand code r l.instruction) e in
+    let rest = and_second (rules.is_first_well_formed at l) enclosing h.3 in
     record {
       named = and_second inside (rules.names_there code r l.instruction) h.0;
       inside = and_first inside (rules.names_there code r l.instruction) h.0;
       targets = h.1;
       bare = and_first (rules.is_bare l) (rules.stack_follows code r at l) h.2;
       stack = and_second (rules.is_bare l) (rules.stack_follows code r at l) h.2;
-      first = and_first (rules.is_first_right at l) around h.3;
-      stands = and_first (rules.stands_right r l l.instruction) (rules.contexts_follow code r at l) rest;
-      contexts = and_second (rules.stands_right r l l.instruction) (rules.contexts_follow code r at l) rest;
+      first = and_first (rules.is_first_well_formed at l) enclosing h.3;
+      stands = and_first (rules.stands_well_formed r l l.instruction) (rules.contexts_follow code r at l) rest;
+      contexts = and_second (rules.stands_well_formed r l l.instruction) (rules.contexts_follow code r at l) rest;
       resumes = h.4;
       place = h.6;
     }
@@ -159,7 +159,7 @@ contexts_at r n (x ∷ cs) (suc i) c h e =
 
 -- ---- routines
 
-pub record RightRoutine (code : RawCode) (r : RawRoutine) : Type 0 where
+pub record WellFormedRoutineCode (code : RawCode) (r : RawRoutine) : Type 0 where
   pub before : List RawRoutine
   pub first : routine_fault before r ≡ None
   pub parameters : Clean (each_after (parameter_fault r) [] r.parameters)
@@ -171,8 +171,8 @@ pub record RightRoutine (code : RawCode) (r : RawRoutine) : Type 0 where
   pub handlers : Clean (each_after (handler_fault r) [] r.handlers.handlers)
   pub lines : Clean (line_faults code r 0 r.lines)
 
-right_routine : (code : RawCode) (before : List RawRoutine) (r : RawRoutine) → Clean (routine_faults code before r) → RightRoutine code r
-right_routine code before r h =
+well_formed_routine : (code : RawCode) (before : List RawRoutine) (r : RawRoutine) → Clean (routine_faults code before r) → WellFormedRoutineCode code r
+well_formed_routine code before r h =
     let t1 = each_after (parameter_fault r) [] r.parameters in
     let t2 = t1 ++ map type_fault r.variables in
     let t3 = t2 ++ flat_map (query_faults code r) r.queries in
@@ -207,24 +207,24 @@ right_routine code before r h =
 code_clean : (code : RawCode) → first_fault code ≡ None → Clean (each_after table_faults [] code.tables ++ each_after (routine_faults code) [] code.routines)
 code_clean code e = clean_of 1 (code_faults code) e
 
-pub routine_right : (code : RawCode) (n : ℕ) (r : RawRoutine) → first_fault code ≡ None → routine_at code n ≡ Some r → RightRoutine code r
-routine_right code n r e g =
+pub routine_well_formed : (code : RawCode) (n : ℕ) (r : RawRoutine) → first_fault code ≡ None → routine_at code n ≡ Some r → WellFormedRoutineCode code r
+routine_well_formed code n r e g =
     let h = clean_each (routine_faults code) [] code.routines n r (clean_second (each_after table_faults [] code.tables) (each_after (routine_faults code) [] code.routines) (code_clean code e)) g in
-    right_routine code h.before r h.clean
+    well_formed_routine code h.before r h.clean
 
-pub table_right : (code : RawCode) (n : ℕ) (t : CodeTable) → first_fault code ≡ None → slice_get code.tables n ≡ Some t → (before : List CodeTable) × Clean (table_faults before t)
-table_right code n t e g =
+pub table_well_formed : (code : RawCode) (n : ℕ) (t : CodeTable) → first_fault code ≡ None → slice_get code.tables n ≡ Some t → (before : List CodeTable) × Clean (table_faults before t)
+table_well_formed code n t e g =
     let h = clean_each table_faults [] code.tables n t (clean_first (each_after table_faults [] code.tables) (each_after (routine_faults code) [] code.routines) (code_clean code e)) g in
     (h.before, h.clean)
 
-pub line_right : (code : RawCode) (r : RawRoutine) (at : ℕ) (l : CodeLine) → RightRoutine code r → line_at r at ≡ Some l → RightLine code r at l
-line_right code r at l h g = let z : 0 + at ≡ at = omega arith in right_line code r at l (ap (λ j. line_fault code r j l) (sym z) ∙ lines_at code r 0 r.lines at l h.lines g)
+pub line_well_formed : (code : RawCode) (r : RawRoutine) (at : ℕ) (l : CodeLine) → WellFormedRoutineCode code r → line_at r at ≡ Some l → WellFormedLine code r at l
+line_well_formed code r at l h g = let z : 0 + at ≡ at = omega arith in well_formed_line code r at l (ap (λ j. line_fault code r j l) (sym z) ∙ lines_at code r 0 r.lines at l h.lines g)
 
-pub context_right : (code : RawCode) (r : RawRoutine) (i : ℕ) (c : Context) → RightRoutine code r → slice_get r.handlers.contexts i ≡ Some c → context_fault r (suc i) c.parent c.kind ≡ None
-context_right code r i c h g = let s : 1 + i ≡ suc i = omega arith in ap (λ j. context_fault r j c.parent c.kind) (sym s) ∙ contexts_at r 1 r.handlers.contexts i c h.contexts g
+pub context_well_formed : (code : RawCode) (r : RawRoutine) (i : ℕ) (c : Context) → WellFormedRoutineCode code r → slice_get r.handlers.contexts i ≡ Some c → context_fault r (suc i) c.parent c.kind ≡ None
+context_well_formed code r i c h g = let s : 1 + i ≡ suc i = omega arith in ap (λ j. context_fault r j c.parent c.kind) (sym s) ∙ contexts_at r 1 r.handlers.contexts i c h.contexts g
 
-pub handler_right : (code : RawCode) (r : RawRoutine) (n : ℕ) (h : Handler) → RightRoutine code r → handler_at r n ≡ Some h → Reached (handler_fault r) n h
-handler_right code r n h g e =
+pub handler_well_formed : (code : RawCode) (r : RawRoutine) (n : ℕ) (h : Handler) → WellFormedRoutineCode code r → handler_at r n ≡ Some h → Reached (handler_fault r) n h
+handler_well_formed code r n h g e =
     let k = clean_each (handler_fault r) [] r.handlers.handlers n h g.handlers e in
     let z : 0 + n ≡ n = omega arith in
     record { before = k.before; long = k.long ∙ z; clean = k.clean }

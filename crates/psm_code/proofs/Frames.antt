@@ -17,7 +17,7 @@ use Rattle.psm_code.specs.declared.code.RawRoutine.{RawRoutine}
 use Rattle.psm_code.specs.Parts.{block_at, block_of_context, block_of_kind, handler_at}
 use Rattle.psm_code.specs.Raising.{frames_from, is_block}
 use Rattle.psm_code.specs.RoutineRules.{is_action_context, is_action_kind}
-use Rattle.psm_code.specs.Sits.{Ends, IsEntered, Stand}
+use Rattle.psm_code.specs.MachineInvariant.{Ends, IsEntered, Stand}
 use Rattle.psm_code.specs.State.{Frame, InBlock, InAction}
 
 -- ---- the handler that is chosen is declared where it is asked
@@ -124,11 +124,11 @@ module _ (code : RawCode) (r : RawRoutine) where
   -- a handler that is there, and its block is among the frames
   pub record Around (p : Numbered) (frames : List Frame) : Type 0 where
     pub there : handler_at r p.0 ≡ Some p.1
-    pub around : list_any (is_block p.1.context) frames ≡ true
+    pub enclosing : list_any (is_block p.1.context) frames ≡ true
 
-  from_around : (j i : ℕ) (frames : List Frame) → list_any (is_block i) (frames_from j frames) ≡ true → list_any (is_block i) frames ≡ true
-  from_around j i [] e = e
-  from_around j i (f ∷ rest) e = by (is_block j f) e (λ g. from_around j i rest g) where
+  from_enclosing : (j i : ℕ) (frames : List Frame) → list_any (is_block i) (frames_from j frames) ≡ true → list_any (is_block i) frames ≡ true
+  from_enclosing j i [] e = e
+  from_enclosing j i (f ∷ rest) e = by (is_block j f) e (λ g. from_enclosing j i rest g) where
     by : (t : Bool) → list_any (is_block i) (if t then f ∷ rest else frames_from j rest) ≡ true → (list_any (is_block i) (frames_from j rest) ≡ true → list_any (is_block i) rest ≡ true) → list_any (is_block i) (f ∷ rest) ≡ true
     by true g rec = g
     by false g rec = or_later (is_block i f) (list_any (is_block i) rest) (rec g)
@@ -136,7 +136,7 @@ module _ (code : RawCode) (r : RawRoutine) where
   module _ (blocks : (n : ℕ) (h : Handler) → handler_at r n ≡ Some h → (b : Block) × (block_at r h.context ≡ Some b)) where
     -- the block of a handler is among the frames below its action
     pub below_action : (h : Handler) (n : ℕ) (kind : HandlerKind) (resume : Option ℕ) (rest : List Frame) → handler_at r n ≡ Some h → Ends r h kind resume rest (Stand code r rest) → list_any (is_block h.context) rest ≡ true
-    below_action h n Continue resume rest e f = f.around
+    below_action h n Continue resume rest e f = f.enclosing
     below_action h n Exit resume rest e f = let b = blocks n h e in block_among rest h.context b.0 f b.1
     below_action h n Undo resume rest e f = let b = blocks n h e in block_among rest h.context b.0 f b.1
 
@@ -149,10 +149,10 @@ module _ (code : RawCode) (r : RawRoutine) where
           → or_else o (chosen rank (scopes_within r.handlers n parent)) ≡ Some p → Around p (InBlock j found ∷ rest)
       own_or None k j n found rest parent s h rec st e =
           let f = rec parent rest st e in
-          record { there = f.there; around = or_later (nat_eq p.1.context j) (list_any (is_block p.1.context) rest) f.around }
+          record { there = f.there; enclosing = or_later (nat_eq p.1.context j) (list_any (is_block p.1.context) rest) f.enclosing }
       own_or (Some q) k j n found rest parent s h rec st e =
           let f = h e in
-          record { there = f.0; around = or_first (nat_eq p.1.context j) (list_any (is_block p.1.context) rest) (eq-eqb p.1.context j (f.1 ∙ sym s)) }
+          record { there = f.0; enclosing = or_first (nat_eq p.1.context j) (list_any (is_block p.1.context) rest) (eq-eqb p.1.context j (f.1 ∙ sym s)) }
 
       at_block : (n k parent : ℕ) (b : Block) (frames : List Frame) → Found n → Stand code r frames k → (c : Context) → context_at r.handlers k ≡ Some c → c.kind ≡ kinds.Block b → parent ≡ c.parent
           → chosen rank (own_handlers r.handlers k ∷ scopes_within r.handlers n parent) ≡ Some p → Around p frames
@@ -182,8 +182,8 @@ module _ (code : RawCode) (r : RawRoutine) where
           let from = from_block rest s.0 h.handler.context s.1 (below_action h.handler m h.handler.kind resume rest h.there h.ends) in
           let f = rec (outside r.handlers i) from.rest (subst (Stand code r from.rest) (sym out) from.stand) e in
           let deep : list_any (is_block p.1.context) (frames_from h.handler.context rest) ≡ true =
-          ap (list_any (is_block p.1.context)) from.is ∙ or_later (nat_eq p.1.context from.number) (list_any (is_block p.1.context) from.rest) f.around in
-          record { there = f.there; around = from_around h.handler.context p.1.context rest deep }
+          ap (list_any (is_block p.1.context)) from.is ∙ or_later (nat_eq p.1.context from.number) (list_any (is_block p.1.context) from.rest) f.enclosing in
+          record { there = f.there; enclosing = from_enclosing h.handler.context p.1.context rest deep }
 
       by_kind : (n k : ℕ) (frames : List Frame) (kind : ContextKind) → Found n → Stand code r frames k → (c : Context) → context_at r.handlers k ≡ Some c → c.kind ≡ kind
           → chosen rank (scopes_of_kind r.handlers (scopes_within r.handlers n) k c.parent kind) ≡ Some p → Around p frames

@@ -27,16 +27,16 @@ use Rattle.psm_code.specs.Raising as raising
 use Rattle.psm_code.specs.RoutineRules as rules
 use Rattle.psm_code.specs.RoutineRules.{first_fault}
 use Rattle.psm_code.specs.Rules.{is_some, is_there, there, where_there}
-use Rattle.psm_code.specs.Sits.{is_call_of, AllWait, AreCursors, AreKept, Ends, Finds, Keeps, Resumes, Sits, Stand, StaysRight}
-use Rattle.psm_code.specs.State.{Activation, Frame, InBlock, InAction, Machine, Over, Raised, Turned, closed_cursors, holding}
+use Rattle.psm_code.specs.MachineInvariant.{is_call_of, AllWait, AreCursors, AreKept, Ends, Finds, Keeps, Resumes, MachineInvariant, Stand, StaysWellFormed}
+use Rattle.psm_code.specs.State.{Activation, Frame, InBlock, InAction, Machine, Over, Raised, Stepped, closed_cursors, holding}
 use Rattle.psm_code.proofs.Acts.{Body}
-use Rattle.psm_code.proofs.Faults.{line_right, routine_right, RightLine, RightRoutine}
+use Rattle.psm_code.proofs.Faults.{line_well_formed, routine_well_formed, WellFormedLine, WellFormedRoutineCode}
 use Rattle.psm_code.proofs.Frames.{ends_stand, from_block, walk, From}
 use Rattle.psm_code.proofs.Raises.{begins, blocks, not_some, there_some, where_some}
 
 -- ---- where the run goes on
 
--- a line at which the run goes on behind a condition
+-- a line at which the run goes on after a condition
 pub record GoesOn (r : RawRoutine) (l : CodeLine) : Type 0 where
   pub at : ℕ
   pub line : CodeLine
@@ -45,7 +45,7 @@ pub record GoesOn (r : RawRoutine) (l : CodeLine) : Type 0 where
   pub bare : line.stack ≡ []
   pub same : line.context ≡ l.context
 
--- the run goes on behind a condition of the line, or the line is the routine's own and the condition is an exception
+-- the run goes on after a condition of the line, or the line is the routine's own and the condition is an exception
 abbrev pub Bears : RawRoutine → CodeLine → Entries → Type 0
 Bears r l c = GoesOn r l ⊎ ((l.context ≡ 0) × (is_exception (kind_of c.first.state) ≡ true))
 
@@ -129,11 +129,11 @@ module _ (code : RawCode) where
 
       -- ---- actions
 
-      module _ (right : RightRoutine code r) where
+      module _ (well_formed_code : WellFormedRoutineCode code r) where
         acts : (m : Machine) (n : ℕ) (h : Handler) (resume : Option ℕ) (frames : List Frame) (tables : List Contents) → handler_at r n ≡ Some h → Body code r l m → AreKept code.tables tables
-            → Ends r h h.kind resume frames (Stand code r frames) → Sits code (acting n resume h (record m { running = record m.running { frames = frames }; tables = tables }))
+            → Ends r h h.kind resume frames (Stand code r frames) → MachineInvariant code (acting n resume h (record m { running = record m.running { frames = frames }; tables = tables }))
         acts m n h resume frames tables e b k f =
-            let g = begins code r right n h e in
+            let g = begins code r well_formed_code n h e in
             record {
               running = record {
                 routine = r;
@@ -166,10 +166,10 @@ module _ (code : RawCode) where
         inside_left : (undo : Bool) (h : Handler) (m : Machine) → Body code r l m → Body code r l (frames_left r undo (frames_inside h.context m.running.frames) m)
         inside_left undo h m b = left_keeps undo (frames_inside h.context m.running.frames) m (inside_found h.context m.running.frames (stand_found m.running.frames l.context b.frames)) b
 
-        handles : (undo : Bool) (n : ℕ) (h : Handler) (kind : HandlerKind) (m : Machine) → h.kind ≡ kind → handler_at r n ≡ Some h → Body code r l m → Among h m → GoesOn r l → Sits code (handled r undo l.resume n h kind m)
+        handles : (undo : Bool) (n : ℕ) (h : Handler) (kind : HandlerKind) (m : Machine) → h.kind ≡ kind → handler_at r n ≡ Some h → Body code r l m → Among h m → GoesOn r l → MachineInvariant code (handled r undo l.resume n h kind m)
         handles undo n h Continue m q e b a g =
             let resumes : Resumes r h l.resume m.running.frames (Stand code r m.running.frames) =
-            record { at = g.at; line = g.line; some = g.some; there = g.there; bare = g.bare; around = a; stands = subst (Stand code r m.running.frames) (sym g.same) b.frames } in
+            record { at = g.at; line = g.line; some = g.some; there = g.there; bare = g.bare; enclosing = a; stands = subst (Stand code r m.running.frames) (sym g.same) b.frames } in
             acts m n h l.resume m.running.frames m.tables e b b.tables (subst (λ k. Ends r h k l.resume m.running.frames (Stand code r m.running.frames)) (sym q) resumes)
         handles undo n h Exit m q e b a g =
             let left = frames_left r undo (frames_inside h.context m.running.frames) m in
@@ -186,21 +186,21 @@ module _ (code : RawCode) where
 
         -- ---- the choice
 
-        turned : (t : ℕ) (go : Machine → Machine) (m : Machine) → AreKept code.tables m.tables → ((left : ℕ) → Sits code (go (record m { turns = left }))) → StaysRight code (at_turn t go m)
+        turned : (t : ℕ) (go : Machine → Machine) (m : Machine) → AreKept code.tables m.tables → ((left : ℕ) → MachineInvariant code (go (record m { turns = left }))) → StaysWellFormed code (at_turn t go m)
         turned zero go m k h = (refl, k)
         turned (suc left) go m k h = h left
 
-        chooses : (undo : Bool) (n : ℕ) (h : Handler) (m : Machine) → handler_at r n ≡ Some h → Body code r l m → Among h m → GoesOn r l → StaysRight code (raising.chosen r undo l.resume n (handler_at r n) m)
+        chooses : (undo : Bool) (n : ℕ) (h : Handler) (m : Machine) → handler_at r n ≡ Some h → Body code r l m → Among h m → GoesOn r l → StaysWellFormed code (raising.chosen r undo l.resume n (handler_at r n) m)
         chooses undo n h m e b a g =
-            subst (λ o. StaysRight code (raising.chosen r undo l.resume n o m)) (sym e)
+            subst (λ o. StaysWellFormed code (raising.chosen r undo l.resume n o m)) (sym e)
             (turned m.turns (handled r undo l.resume n h h.kind) m b.tables (λ left. handles undo n h h.kind (record m { turns = left }) refl e b a g))
 
         number_found : (o : Option Numbered) (n : ℕ) → number_of o ≡ Some n → (p : Numbered) × (o ≡ Some p) × (p.0 ≡ n)
         number_found None n e = absurd (cc)
         number_found (Some p) n e = (p, refl, cc)
 
-        passes : (m : Machine) → Body code r l m → GoesOn r l → StaysRight code (passed_over l.resume m)
-        passes m b g = subst (λ o. StaysRight code (passed_over o m)) (sym g.some) (record {
+        passes : (m : Machine) → Body code r l m → GoesOn r l → StaysWellFormed code (passed_over l.resume m)
+        passes m b g = subst (λ o. StaysWellFormed code (passed_over o m)) (sym g.some) (record {
           running = record {
             routine = r;
             line = g.line;
@@ -216,24 +216,24 @@ module _ (code : RawCode) where
           tables = b.tables;
         })
 
-        meets : (c : Entries) (o : Option ℕ) (outside : Machine → Turned) (m : Machine) → choice r.handlers l.context c.first ≡ o → Body code r l m → Bears r l c
-            → ((n : Machine) → Body code r l n → StaysRight code (outside n)) → StaysRight code (met r l c o outside m)
+        meets : (c : Entries) (o : Option ℕ) (outside : Machine → Stepped) (m : Machine) → choice r.handlers l.context c.first ≡ o → Body code r l m → Bears r l c
+            → ((n : Machine) → Body code r l n → StaysWellFormed code (outside n)) → StaysWellFormed code (met r l c o outside m)
         meets c (Some n) outside m e b (inl g) k =
             let f = number_found (chosen (handler_rank c.first) (scopes r.handlers l.context)) n e in
-            let w = walk code r (blocks code r right) (handler_rank c.first) f.0 l.context l.context m.running.frames b.frames f.1 in
-            chooses (is_exception (kind_of c.first.state)) n f.0.1 m (ap (handler_at r) (sym f.2) ∙ w.there) b w.around g
+            let w = walk code r (blocks code r well_formed_code) (handler_rank c.first) f.0 l.context l.context m.running.frames b.frames f.1 in
+            chooses (is_exception (kind_of c.first.state)) n f.0.1 m (ap (handler_at r) (sym f.2) ∙ w.there) b w.enclosing g
         meets c (Some n) outside m e b (inr x) k = let none : choice r.handlers l.context c.first ≡ None = ap (λ k. choice r.handlers k c.first) x.0 in absurd (cc)
         meets c None outside m e b g k = by (is_exception (kind_of c.first.state)) refl g where
-          by : (t : Bool) → is_exception (kind_of c.first.state) ≡ t → Bears r l c → StaysRight code (if t then outside (frames_left r true m.running.frames m) else passed_over l.resume m)
+          by : (t : Bool) → is_exception (kind_of c.first.state) ≡ t → Bears r l c → StaysWellFormed code (if t then outside (frames_left r true m.running.frames m) else passed_over l.resume m)
           by true q g = k (frames_left r true m.running.frames m) (all_left true m b)
           by false q (inl g) = passes m b g
           by false q (inr x) = absurd (cc (x.1))
 
-        pub asks : (c : Entries) (outside : Machine → Turned) (m : Machine) → Body code r l m → Bears r l c → ((n : Machine) → Body code r l n → StaysRight code (outside n))
-            → StaysRight code (asked (routine_at code m.running.routine) c outside m)
+        pub asks : (c : Entries) (outside : Machine → Stepped) (m : Machine) → Body code r l m → Bears r l c → ((n : Machine) → Body code r l n → StaysWellFormed code (outside n))
+            → StaysWellFormed code (asked (routine_at code m.running.routine) c outside m)
         asks c outside m b g k =
-            subst (λ o. StaysRight code (asked o c outside m)) (sym b.routine)
-            (subst (λ o. StaysRight code (asked_at r o c outside m)) (sym b.line) (meets c (choice r.handlers l.context c.first) outside (holding c m) refl b g k))
+            subst (λ o. StaysWellFormed code (asked o c outside m)) (sym b.routine)
+            (subst (λ o. StaysWellFormed code (asked_at r o c outside m)) (sym b.line) (meets c (choice r.handlers l.context c.first) outside (holding c m) refl b g k))
 
 -- ---- a line whose instruction wants a resume has one
 
@@ -247,37 +247,37 @@ resumes_by r at l (Some n) q h t w =
     let is = and_second (not (rules.wants_resume l.instruction) || true) (rules.is_resume r at l n) h in
     let test : CodeLine → Bool = λ m. nat_eq m.context l.context && not (is_some m.stack) in
     let line = there_some (line_at r n) t in
-    let right = where_some (line_at r n) test line.0 (and_second (nat_lt at n) (where_there (line_at r n) test) is) line.1 in
+    let well_formed_code = where_some (line_at r n) test line.0 (and_second (nat_lt at n) (where_there (line_at r n) test) is) line.1 in
     record {
       at = n;
       line = line.0;
       some = q;
       there = line.1;
-      bare = not_some line.0.stack (and_second (nat_eq line.0.context l.context) (not (is_some line.0.stack)) right);
-      same = eqb-true line.0.context l.context (and_first (nat_eq line.0.context l.context) (not (is_some line.0.stack)) right);
+      bare = not_some line.0.stack (and_second (nat_eq line.0.context l.context) (not (is_some line.0.stack)) well_formed_code);
+      same = eqb-true line.0.context l.context (and_first (nat_eq line.0.context l.context) (not (is_some line.0.stack)) well_formed_code);
     }
 
-pub goes_on : (code : RawCode) (r : RawRoutine) (at : ℕ) (l : CodeLine) → RightLine code r at l → rules.wants_resume l.instruction ≡ true → GoesOn r l
+pub goes_on : (code : RawCode) (r : RawRoutine) (at : ℕ) (l : CodeLine) → WellFormedLine code r at l → rules.wants_resume l.instruction ≡ true → GoesOn r l
 goes_on code r at l h w =
     resumes_by r at l l.resume refl h.resumes
-    (and_first (where_there l.resume (is_there r.lines)) (where_there (rules.jump_of l.instruction) (is_there r.lines) && (not (rules.line_goes_ahead code r l.instruction) || is_there r.lines (suc at))) h.targets) w
+    (and_first (where_there l.resume (is_there r.lines)) (where_there (rules.jump_of l.instruction) (is_there r.lines) && (not (rules.line_falls_through code r l.instruction) || is_there r.lines (suc at))) h.targets) w
 
 call_wants : (n : ℕ) (i : Instruction) → is_call_of n i ≡ true → rules.wants_resume i ≡ true
 call_wants n (instruction.Call k) h = refl
-call_wants n (instruction.CallFunction k) h = refl
+call_wants n (instruction.FunctionCall k) h = refl
 call_wants n i h = absurd (cc)
 
-module _ (code : RawCode) (right : first_fault code ≡ None) where
+module _ (code : RawCode) (well_formed_code : first_fault code ≡ None) where
   -- in the activation that runs, and then in those that called it
-  raises_in : (callers : List Activation) (c : Entries) (m : Machine) (r : RawRoutine) (l : CodeLine) (g : RightRoutine code r) (k : ℕ) → Body code r l m → Bears r l c → AllWait code k callers → length callers < most_depth
-      → StaysRight code (raised_in code c callers m)
+  raises_in : (callers : List Activation) (c : Entries) (m : Machine) (r : RawRoutine) (l : CodeLine) (g : WellFormedRoutineCode code r) (k : ℕ) → Body code r l m → Bears r l c → AllWait code k callers → length callers < most_depth
+      → StaysWellFormed code (raised_in code c callers m)
   raises_in [] c m r l g k b x w d = asks code r l g c (λ n. Over (Raised (by_state c)) n) m b x (λ n h. (refl, h.tables))
   raises_in (a ∷ callers) c m r l g k b x w d =
       asks code r l g c (λ n. raised_in code (by_state c) callers (record n { running = a; callers = callers })) m b x (λ n h.
       let s = w.0.stands in
       let q = s.routine in
       let less : length callers < most_depth = omega (arith, d) in
-      let called = routine_right code a.routine q right s.routine_there in
+      let called = routine_well_formed code a.routine q well_formed_code s.routine_there in
       raises_in callers (by_state c) (record n { running = a; callers = callers }) q s.line called a.routine (record {
         routine = s.routine_there;
         line = s.line_there;
@@ -287,7 +287,7 @@ module _ (code : RawCode) (right : first_fault code ≡ None) where
         callers = w.1;
         depth = less;
         tables = h.tables;
-      }) (inl (goes_on code q a.line s.line (line_right code q a.line s.line called s.line_there) (call_wants k s.line.instruction w.0.calls))) w.1 less)
+      }) (inl (goes_on code q a.line s.line (line_well_formed code q a.line s.line called s.line_there) (call_wants k s.line.instruction w.0.calls))) w.1 less)
 
-  pub raises : (c : Entries) (m : Machine) (r : RawRoutine) (l : CodeLine) (g : RightRoutine code r) → Body code r l m → Bears r l c → StaysRight code (raised code c m)
+  pub raises : (c : Entries) (m : Machine) (r : RawRoutine) (l : CodeLine) (g : WellFormedRoutineCode code r) → Body code r l m → Bears r l c → StaysWellFormed code (raised code c m)
   raises c m r l g b x = raises_in m.callers c m r l g m.running.routine b x b.callers b.depth

@@ -30,7 +30,7 @@ lines_push old new lines more n letters h k e g =
 pub stated_there : (stacks : List (List Letter)) (lines : List NumberedLine) (at : ℕ) (l : NumberedLine) → AreStatedIn stacks lines → at < length lines → l ≡ get_or lines at l → l.stack < length stacks
 stated_there stacks lines at l h k e = let P : NumberedLine → Type 0 = λ x. x.stack < length stacks in subst P (sym e) (h at l k)
 
--- ---- lines that stay where letters are put behind them
+-- ---- lines that stay where letters are put after them
 
 abbrev written : List CodeLine → List Letter → Writing
 written lines stack = record { lines = lines; stack = stack }

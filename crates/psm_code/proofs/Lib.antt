@@ -7,7 +7,7 @@ pub mod Faults
 pub mod Frames
 pub mod Raises
 pub mod Handling
-pub mod Going
+pub mod NextLines
 pub mod Signals
 pub mod Simple
 pub mod Blocks
@@ -26,6 +26,6 @@ pub mod Legally
 pub mod Planning
 pub mod Positioned
 pub mod Changes
-pub mod Sound
-pub mod Suiting
-pub mod Sounding
+pub mod NeverStuck
+pub mod Guarantees
+pub mod HandlerTables

@@ -20,10 +20,10 @@ use Rattle.psm_code.specs.declared.code.RawRoutine.{RawRoutine}
 use Rattle.psm_code.specs.declared.lines.CodeLine.{CodeLine}
 use Rattle.psm_code.specs.Instructions.{may_raise}
 use Rattle.psm_code.specs.Plans.{delete_rows, leave_row, leaves, left_by, plain, put_in, row_of_cursor, schema_at, schema_of, set_item, some_row, some_rows, standing_on, unless_failed, update_rows}
-use Rattle.psm_code.specs.Sits.{AreKept, IsKept, Keeps}
+use Rattle.psm_code.specs.MachineInvariant.{AreKept, IsKept, Keeps}
 use Rattle.psm_code.specs.State.{Machine}
 use Rattle.psm_code.proofs.Acts.{Does, Has, and_then, present_does}
-use Rattle.psm_code.proofs.Fetching.{with_cursor_has, RightCursor}
+use Rattle.psm_code.proofs.Fetching.{with_cursor_has, WellFormedCursorCode}
 use Rattle.psm_code.proofs.Legally.{stands_on}
 use Rattle.psm_code.proofs.Queried.{table_does, variables_do}
 use Rattle.psm_code.proofs.Rowing.{deleted_rows, inserted_rows, updated_rows}
@@ -46,17 +46,17 @@ module _ (code : RawCode) (r : RawRoutine) (l : CodeLine) (may : may_raise l.ins
   schema_does i t s m e h = present_does code r l (λ x n. (x ≡ schema_of t) × Has code r l s n) (slice_get (map schema_of code.tables) i) (schema_of t) m (schema_there code.tables i t e) (refl, h)
 
   pub failed_does : {A : Type 0} (Q : A → Type 0) (def : TableDef) (x : Result A Failure) (s : List Letter) (m : Machine) → Has code r l s m → ((a : A) → x ≡ Ok a → Q a) → Does code r l (λ a n. Q a × Has code r l s n) (unless_failed def x) m
-  failed_does Q def (Ok a) s m h k = record { comes = (k a refl, h) }
-  failed_does Q def (Err (Raised x)) s m h k = record { comes = (may, h.body) }
-  failed_does Q def (Err (OfTable x)) s m h k = record { comes = (may, h.body) }
+  failed_does Q def (Ok a) s m h k = record { evaluates = (k a refl, h) }
+  failed_does Q def (Err (Raised x)) s m h k = record { evaluates = (may, h.body) }
+  failed_does Q def (Err (OfTable x)) s m h k = record { evaluates = (may, h.body) }
 
   some_row_does : (n : ℕ) (s : List Letter) (m : Machine) → Has code r l s m → Does code r l (λ u k. Has code r l s k) (some_row n) m
-  some_row_does zero s m h = record { comes = (may, h.body) }
-  some_row_does (suc n) s m h = record { comes = h }
+  some_row_does zero s m h = record { evaluates = (may, h.body) }
+  some_row_does (suc n) s m h = record { evaluates = h }
 
   pub some_rows_do : (rows : List (List Datum)) (s : List Letter) (m : Machine) → Has code r l s m → Does code r l (λ a k. Has code r l s k) (some_rows rows) m
-  some_rows_do [] s m h = record { comes = (may, h.body) }
-  some_rows_do (row ∷ rows) s m h = record { comes = h }
+  some_rows_do [] s m h = record { evaluates = (may, h.body) }
+  some_rows_do (row ∷ rows) s m h = record { evaluates = h }
 
   -- rows that fit the table and keep its rules
   pub record Fine (t : CodeTable) (rows : List (List Datum)) : Type 0 where
@@ -66,7 +66,7 @@ module _ (code : RawCode) (r : RawRoutine) (l : CodeLine) (may : may_raise l.ins
   pub leaves_does : (i : ℕ) (t : CodeTable) (c : Contents) (rows : List (List Datum)) (count : ℕ) (s : List Letter) (m : Machine) → slice_get code.tables i ≡ Some t → c.def ≡ t.definition → Fine t rows → Has code r l s m
       → Does code r l (λ u n. Has code r l s n) (leaves i c rows count) m
   leaves_does i t c rows count s m e q f h = record {
-    comes = record {
+    evaluates = record {
       body = record {
         routine = h.body.routine;
         line = h.body.line;
@@ -115,16 +115,16 @@ module _ (code : RawCode) (r : RawRoutine) (l : CodeLine) (may : may_raise l.ins
 
   -- ---- positioned statements
 
-  module _ (number : ℕ) (x : CodeCursor) (declared : slice_get r.cursors number ≡ Some x) (g : RightCursor code r x) where
+  module _ (number : ℕ) (x : CodeCursor) (declared : slice_get r.cursors number ≡ Some x) (g : WellFormedCursorCode code r x) where
     standing_does : (P : List Datum → Type 0) (o : Option (List Datum)) (s : List Letter) (m : Machine) → ((row : List Datum) → o ≡ Some row → P row) → Has code r l s m → Does code r l (λ row n. P row × Has code r l s n) (standing_on x o) m
-    standing_does P None s m k h = record { comes = (may, h.body) }
-    standing_does P (Some row) s m k h = record { comes = (k row refl, h) }
+    standing_does P None s m k h = record { evaluates = (may, h.body) }
+    standing_does P (Some row) s m k h = record { evaluates = (k row refl, h) }
 
-    pub row_does : (c : Contents) (cursor : Cursor) (s : List Letter) (m : Machine) → IsKept g.right.table c → Has code r l s m → Does code r l (λ row n. IsRow g.right.table.definition row × Has code r l s n) (row_of_cursor x c cursor) m
-    row_does c Closed s m k h = record { comes = (may, h.body) }
-    row_does c (Insensitive rows) s m k h = record { comes = (may, h.body) }
+    pub row_does : (c : Contents) (cursor : Cursor) (s : List Letter) (m : Machine) → IsKept g.well_formed_code.table c → Has code r l s m → Does code r l (λ row n. IsRow g.well_formed_code.table.definition row × Has code r l s n) (row_of_cursor x c cursor) m
+    row_does c Closed s m k h = record { evaluates = (may, h.body) }
+    row_does c (Insensitive rows) s m k h = record { evaluates = (may, h.body) }
     row_does c (Plain p vs) s m k h =
-        standing_does (IsRow g.right.table.definition) (current c.def.key c.rows p) s m (λ row e. stands_on (IsRow g.right.table.definition) c.def.key p c.rows row k.rows e) h
+        standing_does (IsRow g.well_formed_code.table.definition) (current c.def.key c.rows p) s m (λ row e. stands_on (IsRow g.well_formed_code.table.definition) c.def.key p c.rows row k.rows e) h
 
     left_kept : (c : Cursor) → Keeps code r g.query c → Keeps code r g.query (left_by c)
     left_kept Closed h = h
@@ -132,5 +132,5 @@ module _ (code : RawCode) (r : RawRoutine) (l : CodeLine) (may : may_raise l.ins
     left_kept (Insensitive rows) h = h
 
     pub leave_does : (b : Bool) (c : Cursor) (s : List Letter) (m : Machine) → Keeps code r g.query c → Has code r l s m → Does code r l (λ u n. Has code r l s n) (leave_row b number c) m
-    leave_does true c s m k h = record { comes = with_cursor_has code r l number x declared g (left_by c) s m (left_kept c k) h }
-    leave_does false c s m k h = record { comes = h }
+    leave_does true c s m k h = record { evaluates = with_cursor_has code r l number x declared g (left_by c) s m (left_kept c k) h }
+    leave_does false c s m k h = record { evaluates = h }

@@ -19,14 +19,14 @@ use Rattle.psm_code.specs.Plans.{delete_at, leave_row, leaves, plain, row_of_cur
 use Rattle.psm_code.specs.State.{Machine}
 use Rattle.psm_code.specs.Steps.{Act, read, table_now, ◌>>=◌, ◌>>◌}
 use Rattle.psm_code.proofs.Acts.{Does, Has, and_then}
-use Rattle.psm_code.proofs.Fetching.{cursor_does, declared_does, RightCursor}
+use Rattle.psm_code.proofs.Fetching.{cursor_does, declared_does, WellFormedCursorCode}
 use Rattle.psm_code.proofs.Legally.{legal_but}
 use Rattle.psm_code.proofs.Queried.{query_does, table_does, variables_do}
 use Rattle.psm_code.proofs.Rowing.{but_all, updated_at_rows}
 use Rattle.psm_code.specs.Querying.{cursor_now, query_at}
 use Rattle.psm_code.proofs.Planning.{failed_does, leave_does, leaves_does, row_does, schema_does, Fine}
 
-module _ (code : RawCode) (r : RawRoutine) (l : CodeLine) (may : may_raise l.instruction ≡ true) (number : ℕ) (x : CodeCursor) (declared : slice_get r.cursors number ≡ Some x) (g : RightCursor code r x) where
+module _ (code : RawCode) (r : RawRoutine) (l : CodeLine) (may : may_raise l.instruction ≡ true) (number : ℕ) (x : CodeCursor) (declared : slice_get r.cursors number ≡ Some x) (g : WellFormedCursorCode code r x) where
   abbrev Same : List Letter → Unit {0} → Machine → Type 0
   Same s u n = Has code r l s n
 
@@ -50,9 +50,9 @@ module _ (code : RawCode) (r : RawRoutine) (l : CodeLine) (may : may_raise l.ins
 
   update_query_does : (sets : List set_code.SetItem) (s : List Letter) (m : Machine) → Has code r l s m → Does code r l (Same s) (update_query sets x g.query) m
   update_query_does sets s m h =
-      let t = g.right.table in
-      and_then code r l _ _ _ _ m (schema_does code r l may g.query.table t s m g.right.there h) (λ y n f.
-      and_then code r l _ _ _ _ n (table_does code r l g.query.table t s n g.right.there f.1) (λ c k z.
+      let t = g.well_formed_code.table in
+      and_then code r l _ _ _ _ m (schema_does code r l may g.query.table t s m g.well_formed_code.there h) (λ y n f.
+      and_then code r l _ _ _ _ n (table_does code r l g.query.table t s n g.well_formed_code.there f.1) (λ c k z.
       and_then code r l _ _ _ _ k (cursor_does code r l number x declared g s k z.1) (λ cursor k w.
       and_then code r l _ _ _ _ k (row_does code r l may number x declared g c cursor s k z.0 w.1) (λ row k v.
       and_then code r l _ _ _ _ k (variables_do code r l s k v.1) (λ vs k u.
@@ -60,7 +60,7 @@ module _ (code : RawCode) (r : RawRoutine) (l : CodeLine) (may : may_raise l.ins
       (failed_does code r l may (λ (a : Moved). Fine code r l may t a.rows) y.def (updated_at (over vs) plain y (map set_item sets) row c.rows) s k u.1 (λ a q.
       let q2 : updated_at (over vs) plain (schema_of t) (map set_item sets) row c.rows ≡ Ok a = ap (λ (y : Schema (List Line)). updated_at (over vs) plain y (map set_item sets) row c.rows) (sym f.0) ∙ q in
       record { fit = updated_at_rows (over vs) plain (schema_of t) (map set_item sets) row c.rows a v.0 z.0.rows q2; legal = legal_updated_at (over vs) plain (schema_of t) (map set_item sets) row c.rows a q2 })) (λ a j e.
-      and_then code r l _ _ _ _ j (leaves_does code r l may g.query.table t c a.rows 1 s j g.right.there z.0.same e.0 e.1) (λ u j b. leave_does code r l may number x declared g a.moved cursor s j w.0 b)))))))
+      and_then code r l _ _ _ _ j (leaves_does code r l may g.query.table t c a.rows 1 s j g.well_formed_code.there z.0.same e.0 e.1) (λ u j b. leave_does code r l may number x declared g a.moved cursor s j w.0 b)))))))
 
   pub update_at_does : (sets : List set_code.SetItem) (s : List Letter) (m : Machine) → Has code r l s m → Does code r l (Same s) (update_at code r number sets) m
   update_at_does sets s m h =
@@ -86,13 +86,13 @@ module _ (code : RawCode) (r : RawRoutine) (l : CodeLine) (may : may_raise l.ins
 
   delete_query_does : (s : List Letter) (m : Machine) → Has code r l s m → Does code r l (Same s) (delete_query x g.query) m
   delete_query_does s m h =
-      let t = g.right.table in
-      and_then code r l _ _ _ _ m (table_does code r l g.query.table t s m g.right.there h) (λ c k z.
+      let t = g.well_formed_code.table in
+      and_then code r l _ _ _ _ m (table_does code r l g.query.table t s m g.well_formed_code.there h) (λ c k z.
       and_then code r l _ _ _ _ k (cursor_does code r l number x declared g s k z.1) (λ cursor k w.
       and_then code r l _ _ _ _ k (row_does code r l may number x declared g c cursor s k z.0 w.1) (λ row k v.
       let fine : Fine code r l may t (rows_but c.def row c.rows) = subst (λ (d : TableDef). Fine code r l may t (rows_but d row c.rows)) (sym z.0.same)
       (record { fit = but_all (IsRow t.definition) t.definition row c.rows z.0.rows; legal = legal_but plain (schema_of t) row c.rows z.0.legal }) in
-      and_then code r l _ _ _ _ k (leaves_does code r l may g.query.table t c (rows_but c.def row c.rows) 1 s k g.right.there z.0.same fine v.1) (λ u j b. leave_does code r l may number x declared g true cursor s j w.0 b))))
+      and_then code r l _ _ _ _ k (leaves_does code r l may g.query.table t c (rows_but c.def row c.rows) 1 s k g.well_formed_code.there z.0.same fine v.1) (λ u j b. leave_does code r l may number x declared g true cursor s j w.0 b))))
 
   pub delete_at_does : (s : List Letter) (m : Machine) → Has code r l s m → Does code r l (Same s) (delete_at r number) m
   delete_at_does s m h =

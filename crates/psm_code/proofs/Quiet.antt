@@ -9,14 +9,14 @@ use Rattle.psm_exprcode.specs.declared.op.Op.TheVariants as op
 use Rattle.psm_exprcode.specs.declared.operand.Operand.{Operand}
 use Rattle.psm_exprcode.specs.declared.operand.Operand.TheVariants.{Value, Truth}
 use Rattle.psm_exprcode.specs.declared.operand.Next.TheVariants.{Ahead, Jump}
-use Rattle.psm_exprcode.specs.Applied.{Applied, Went, Raised, Lacking, applied, nipped, on_many, on_three, on_truth, on_two, on_value, set_at, unless_true, with_named}
+use Rattle.psm_exprcode.specs.Applied.{Applied, Went, Raised, Stuck, applied, nipped, on_many, on_three, on_truth, on_two, on_value, set_at, unless_true, with_named}
 use Rattle.psm_exprcode.specs.Comparison.{is_null}
 use Rattle.psm_code.specs.Instructions.{operation_raises}
 
 abbrev pub Quiet : Applied → Type 0
 Quiet (Went next os) = Unit {0}
 Quiet (Raised state) = ⊥
-Quiet Lacking = Unit {0}
+Quiet Stuck = Unit {0}
 
 one : (f : Datum → List Operand → Applied) (os : List Operand) → ((a : Datum) (below : List Operand) → Quiet (f a below)) → Quiet (on_value f os)
 one f [] h = tt

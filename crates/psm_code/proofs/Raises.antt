@@ -1,4 +1,4 @@
--- A condition that is raised at a line of right code finds a handler, a line at which the run goes on, or a caller.
+-- A condition that is raised at a line of well-formed code finds a handler, a line at which the run goes on, or a caller.
 use Rattle.std.proofs.Common.{◌≡◌, ℕ, zero, suc, ◌-◌, Bool, true, ◌&&◌, nat_eq, List, [], ◌∷◌, length, refl, ap, sym, ◌∙◌, arith, eqb-true, Option, Some, None}
 use Rattle.std.specs.Prelude.{slice_get, not, nat_lt}
 use Rattle.std.specs.List.{list_all}
@@ -19,7 +19,7 @@ use Rattle.psm_code.specs.Parts.{block_at, block_of_context, block_of_kind, hand
 use Rattle.psm_code.specs.RoutineRules as rules
 use Rattle.psm_code.specs.Rules.{is_some, is_there, there, where_there}
 use Rattle.psm_code.specs.TableRules.{are_there}
-use Rattle.psm_code.proofs.Faults.{context_right, four_hold, handler_right, clean_head, line_right, two_hold, three_hold, RightRoutine}
+use Rattle.psm_code.proofs.Faults.{context_well_formed, four_hold, handler_well_formed, clean_head, line_well_formed, two_hold, three_hold, WellFormedRoutineCode}
 
 -- ---- what is there
 
@@ -64,9 +64,9 @@ exit_is : (k : ℕ) (i : Instruction) → rules.exits k i ≡ true → i ≡ ins
 exit_is k (instruction.Exit c) h = ap (λ j. instruction.Exit j) (sym (eqb-true k c h))
 exit_is k i h = absurd (cc)
 
-module _ (code : RawCode) (r : RawRoutine) (right : RightRoutine code r) where
+module _ (code : RawCode) (r : RawRoutine) (well_formed_code : WellFormedRoutineCode code r) where
   context_fault_none : (k : ℕ) (c : Context) → context_at r.handlers k ≡ Some c → rules.context_fault r k c.parent c.kind ≡ None
-  context_fault_none k c e = let p = place_of r k c e in ap (λ j. rules.context_fault r j c.parent c.kind) p.1 ∙ context_right code r p.0 c right p.2
+  context_fault_none k c e = let p = place_of r k c e in ap (λ j. rules.context_fault r j c.parent c.kind) p.1 ∙ context_well_formed code r p.0 c well_formed_code p.2
 
   -- the line at which the action of a handler begins
   pub record Begins (n : ℕ) (h : Handler) : Type 0 where
@@ -77,10 +77,10 @@ module _ (code : RawCode) (r : RawRoutine) (right : RightRoutine code r) where
 
   pub begins : (n : ℕ) (h : Handler) → handler_at r n ≡ Some h → Begins n h
   begins n h e =
-      let f = handler_right code r n h right e in
+      let f = handler_well_formed code r n h well_formed_code e in
       let values = rules.values_of h in
       let t = four_hold (rules.context_there r h.context && list_all (rules.value_there r) values) (is_there r.lines h.pc) (where_there (line_at r h.pc) (rules.is_action_line r (length f.before)))
-      (rules.may_undo r h && (list_all (rules.is_value_right r) values && rules.are_new (rules.values_in h.context f.before) values)) rule.Range rule.Target rule.Context rule.Definition
+      (rules.may_undo r h && (list_all (rules.is_value_well_formed r) values && rules.are_new (rules.values_in h.context f.before) values)) rule.Range rule.Target rule.Context rule.Definition
       (clean_head _ [] f.clean) in
       let line = there_some (line_at r h.pc) t.1 in
       let is : rules.is_action_line r n line.0 ≡ true = ap (λ i. rules.is_action_line r i line.0) (sym f.long) ∙ where_some (line_at r h.pc) (rules.is_action_line r (length f.before)) line.0 t.2 line.1 in
@@ -117,5 +117,5 @@ module _ (code : RawCode) (r : RawRoutine) (right : RightRoutine code r) where
       let t = three_hold (nat_lt c.0.parent k && are_there r.cursors b.cursors) (is_there r.lines b.exit) (rules.is_exit_of k (line_at r b.exit)) rule.Range rule.Target rule.Context none in
       let line = there_some (line_at r b.exit) t.1 in
       let is = exit_is k line.0.instruction (ap (rules.is_exit_of k) (sym line.1) ∙ t.2) in
-      let stands : rules.stands_right r line.0 (instruction.Exit k) ≡ true = ap (rules.stands_right r line.0) (sym is) ∙ (line_right code r b.exit line.0 right line.1).stands in
+      let stands : rules.stands_well_formed r line.0 (instruction.Exit k) ≡ true = ap (rules.stands_well_formed r line.0) (sym is) ∙ (line_well_formed code r b.exit line.0 well_formed_code line.1).stands in
       record { line = line.0; there = line.1; is = is; same = eqb-true line.0.context k (and_second (there (block_at r k)) (nat_eq line.0.context k) stands) }

@@ -27,10 +27,10 @@ use Rattle.psm_code.proofs.Acts.{Does, Has, and_then, pop_does, present_does}
 module _ (code : RawCode) (r : RawRoutine) (l : CodeLine) where
   -- an operand more
   pub put_does : (x : Operand) (k : Letter) (s : List Letter) (m : Machine) → is_of k x ≡ true → Has code r l s m → Does code r l (λ u n. Has code r l (k ∷ s) n) (put x) m
-  put_does x k s m f h = record { comes = record { body = h.body; operands = both_true (is_of k x) (have s m.running.operands) f h.operands } }
+  put_does x k s m f h = record { evaluates = record { body = h.body; operands = both_true (is_of k x) (have s m.running.operands) f h.operands } }
 
   pub put_value_does : (d : Datum) (k : Letter) (s : List Letter) (m : Machine) → has_letter k d ≡ true → Has code r l s m → Does code r l (λ u n. Has code r l (k ∷ s) n) (put_value d) m
-  put_value_does d k s m f h = record { comes = record { body = h.body; operands = both_true (has_letter k d) (have s m.running.operands) f h.operands } }
+  put_value_does d k s m f h = record { evaluates = record { body = h.body; operands = both_true (has_letter k d) (have s m.running.operands) f h.operands } }
 
   -- ---- GET DIAGNOSTICS
 
@@ -50,17 +50,17 @@ module _ (code : RawCode) (r : RawRoutine) (l : CodeLine) where
 
   pub statement_does : (i : StatementItem) (s : List Letter) (m : Machine) → Has code r l s m → Does code r l (λ u n. Has code r l (statement_letter i ∷ s) n) (item_of_statement i) m
   statement_does i s m h =
-      and_then code r l (λ a n. Has code r l s n) _ (read (λ m. m.area)) _ m (record { comes = h }) (λ a n f.
+      and_then code r l (λ a n. Has code r l s n) _ (read (λ m. m.area)) _ m (record { evaluates = h }) (λ a n f.
       put_value_does (statement_item (length (entries_of a.entries)) a.entries.more a.rows i) (statement_letter i) s n (statement_letters (length (entries_of a.entries)) a.entries.more a.rows i) f)
 
   module _ (may : may_raise l.instruction ≡ true) where
     numbered_does : (o : Option (ℕ × Entry)) (s : List Letter) (m : Machine) → Has code r l s m → Does code r l (λ e n. Has code r l s n) (numbered o) m
-    numbered_does None s m h = record { comes = (may, h.body) }
-    numbered_does (Some e) s m h = record { comes = h }
+    numbered_does None s m h = record { evaluates = (may, h.body) }
+    numbered_does (Some e) s m h = record { evaluates = h }
 
     pub condition_does : (i : ConditionItem) (s : List Letter) (m : Machine) → Has code r l (N ∷ s) m → Does code r l (λ u n. Has code r l (condition_letter i ∷ s) n) (item_of_condition i) m
     condition_does i s m h =
-        and_then code r l (λ a n. Has code r l (N ∷ s) n) _ (read (λ m. m.area)) _ m (record { comes = h }) (λ a n f.
+        and_then code r l (λ a n. Has code r l (N ∷ s) n) _ (read (λ m. m.area)) _ m (record { evaluates = h }) (λ a n f.
         and_then code r l _ _ _ _ _ (pop_does code r l N s n refl f) (λ d n f.
         and_then code r l _ _ _ _ _ (numbered_does (entry_numbered 1 (entries_of a.entries) d) s n f.1) (λ e n f.
         put_value_does (entry_item e.0 e.1 i) (condition_letter i) s n (condition_letters e.0 e.1 i) f)))
@@ -68,41 +68,41 @@ module _ (code : RawCode) (r : RawRoutine) (l : CodeLine) where
     -- ---- SIGNAL
 
     declared_does : (n : ℕ) (x : Declared) (s : List Letter) (m : Machine) → slice_get r.handlers.declared n ≡ Some x → Has code r l s m → Does code r l (λ e k. Has code r l s k) (declared r n) m
-    declared_does n x s m e h = and_then code r l (λ y k. Has code r l s k) _ _ _ m (present_does code r l _ (slice_get r.handlers.declared n) x m e h) (λ y k f. record { comes = f })
+    declared_does n x s m e h = and_then code r l (λ y k. Has code r l s k) _ _ _ m (present_does code r l _ (slice_get r.handlers.declared n) x m e h) (λ y k f. record { evaluates = f })
 
     pub signal_does : (n : ℕ) (x : Declared) (s t : List Letter) (m : Machine) → slice_get r.handlers.declared n ≡ Some x → Has code r l s m → Does code r l (λ u k. Has code r l t k) (signal r n) m
-    signal_does n x s t m e h = and_then code r l _ _ _ _ m (declared_does n x s m e h) (λ y k f. record { comes = (may, f.body) })
+    signal_does n x s t m e h = and_then code r l _ _ _ _ m (declared_does n x s m e h) (λ y k f. record { evaluates = (may, f.body) })
 
     text_does : (d : Datum) (s : List Letter) (m : Machine) → has_letter T d ≡ true → Has code r l s m → Does code r l (λ t n. Has code r l s n) (message_text d) m
-    text_does Null s m f h = record { comes = h }
+    text_does Null s m f h = record { evaluates = h }
     text_does (Num n) s m f h = absurd (cc)
-    text_does (Text t) s m f h = record { comes = h }
+    text_does (Text t) s m f h = record { evaluates = h }
 
     message_does : (e : Entry) (s : List Letter) (m : Machine) → Has code r l (T ∷ s) m → Does code r l (λ e n. Has code r l s n) (with_message e) m
     message_does e s m h =
         and_then code r l _ _ _ _ m (pop_does code r l T s m refl h) (λ d n f.
-        and_then code r l _ _ _ _ n (text_does d s n f.0 f.1) (λ t n f. record { comes = f }))
+        and_then code r l _ _ _ _ n (text_does d s n f.0 f.1) (λ t n f. record { evaluates = f }))
 
     pub signal_message_does : (n : ℕ) (x : Declared) (s t : List Letter) (m : Machine) → slice_get r.handlers.declared n ≡ Some x → Has code r l (T ∷ s) m → Does code r l (λ u k. Has code r l t k) (signal_message r n) m
     signal_message_does n x s t m e h =
         and_then code r l _ _ _ _ m (declared_does n x (T ∷ s) m e h) (λ y k f.
-        and_then code r l _ _ _ _ k (message_does y s k f) (λ e k f. record { comes = (may, f.body) }))
+        and_then code r l _ _ _ _ k (message_does y s k f) (λ e k f. record { evaluates = (may, f.body) }))
 
     -- ---- RESIGNAL
 
     activating_does : (frames : List Frame) (s : List Letter) (m : Machine) → Has code r l s m → Does code r l (λ c n. Has code r l s n) (activating frames) m
-    activating_does [] s m h = record { comes = (may, h.body) }
+    activating_does [] s m h = record { evaluates = (may, h.body) }
     activating_does (InBlock k found ∷ frames) s m h = activating_does frames s m h
-    activating_does (InAction n resume area ∷ frames) s m h = record { comes = h }
+    activating_does (InAction n resume area ∷ frames) s m h = record { evaluates = h }
 
     handling_does : (s : List Letter) (m : Machine) → Has code r l s m → Does code r l (λ c n. Has code r l s n) handling m
-    handling_does s m h = and_then code r l (λ a n. Has code r l s n) _ (read (λ m. m.running.frames)) activating m (record { comes = h }) (λ frames n f. activating_does frames s n f)
+    handling_does s m h = and_then code r l (λ a n. Has code r l s n) _ (read (λ m. m.running.frames)) activating m (record { evaluates = h }) (λ frames n f. activating_does frames s n f)
 
     pub resignal_does : (s t : List Letter) (m : Machine) → Has code r l s m → Does code r l (λ u n. Has code r l t n) resignal m
-    resignal_does s t m h = and_then code r l _ _ _ _ m (handling_does s m h) (λ c n f. record { comes = (may, f.body) })
+    resignal_does s t m h = and_then code r l _ _ _ _ m (handling_does s m h) (λ c n f. record { evaluates = (may, f.body) })
 
     resignal_with_does : (e : Entry) (s t : List Letter) (m : Machine) → Has code r l s m → Does code r l (λ u n. Has code r l t n) (resignal_with e) m
-    resignal_with_does e s t m h = and_then code r l _ _ _ _ m (handling_does s m h) (λ c n f. record { comes = (may, f.body) })
+    resignal_with_does e s t m h = and_then code r l _ _ _ _ m (handling_does s m h) (λ c n f. record { evaluates = (may, f.body) })
 
     pub resignal_condition_does : (n : ℕ) (x : Declared) (s t : List Letter) (m : Machine) → slice_get r.handlers.declared n ≡ Some x → Has code r l s m → Does code r l (λ u k. Has code r l t k) (resignal_condition r n) m
     resignal_condition_does n x s t m e h = and_then code r l _ _ _ _ m (declared_does n x s m e h) (λ y k f. resignal_with_does y s t k f)

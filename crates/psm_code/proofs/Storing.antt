@@ -17,8 +17,8 @@ use Rattle.psm_code.specs.declared.code.RawRoutine.{RawRoutine}
 use Rattle.psm_code.specs.declared.lines.CodeLine.{CodeLine}
 use Rattle.psm_code.specs.Instructions.{may_raise}
 use Rattle.psm_code.specs.Parts.{slots_of}
-use Rattle.psm_code.specs.Rows.{losing, retrieve, store, warn, warned}
-use Rattle.psm_code.specs.Sits.{are_stored}
+use Rattle.psm_code.specs.Run.{losing, retrieve, store, warn, warned}
+use Rattle.psm_code.specs.MachineInvariant.{are_stored}
 use Rattle.psm_code.specs.State.{Machine, with_variable}
 use Rattle.psm_code.specs.Steps.{change}
 use Rattle.psm_code.proofs.Acts.{Has, Does, and_then, pop_does, present_does, tried_does}
@@ -52,11 +52,11 @@ module _ (code : RawCode) (r : RawRoutine) (l : CodeLine) (may : may_raise l.ins
       and_then code r l (λ u n. (u ≡ t) × Has code r l (letter_of t ∷ s) n) _ _ _ _ (present_does code r l _ _ t m e (refl, h)) (λ u n g.
       and_then code r l _ _ _ _ _ (pop_does code r l (letter_of t) s n (letter_of-value t) g.1) (λ d k f.
       and_then code r l _ _ _ _ _ (tried_does code r l (λ v. is_stored t v ≡ true) (Has code r l s) (stored u d) k may f.1.body f.1 (λ v q. stored-as_stored t d v (ap (λ x. stored x d) (sym g.0) ∙ q))) (λ v j i.
-      record { comes = with_stored slot t s v j e i.0 i.1 })))
+      record { evaluates = with_stored slot t s v j e i.0 i.1 })))
 
   losing_does : (s : List Letter) (lost : Bool) (m : Machine) → Has code r l s m → Does code r l (λ u n. Has code r l s n) (losing lost) m
-  losing_does s true m h = record { comes = record { body = h.body; operands = h.operands } }
-  losing_does s false m h = record { comes = h }
+  losing_does s true m h = record { evaluates = record { body = h.body; operands = h.operands } }
+  losing_does s false m h = record { evaluates = h }
 
   pub retrieve_does : (slot : ℕ) (t : SqlType) (s : List Letter) (m : Machine) → slice_get (slots_of r) slot ≡ Some t → Has code r l (letter_of t ∷ s) m
       → Does code r l (λ u n. Has code r l s n) (retrieve r slot) m
@@ -64,12 +64,12 @@ module _ (code : RawCode) (r : RawRoutine) (l : CodeLine) (may : may_raise l.ins
       and_then code r l (λ u n. (u ≡ t) × Has code r l (letter_of t ∷ s) n) _ _ _ _ (present_does code r l _ _ t m e (refl, h)) (λ u n g.
       and_then code r l _ _ _ _ _ (pop_does code r l (letter_of t) s n (letter_of-value t) g.1) (λ d k f.
       and_then code r l _ _ _ _ _ (tried_does code r l (λ v. is_stored t v.0 ≡ true) (Has code r l s) (fetched u d) k may f.1.body f.1 (λ v q. fetched-as_stored t d v.0 v.1 (ap (λ x. fetched x d) (sym g.0) ∙ q))) (λ v j i.
-      and_then code r l (λ u n. Has code r l s n) _ (change (with_variable slot v.0)) _ _ (record { comes = with_stored slot t s v.0 j e i.0 i.1 }) (λ u n x.
+      and_then code r l (λ u n. Has code r l s n) _ (change (with_variable slot v.0)) _ _ (record { evaluates = with_stored slot t s v.0 j e i.0 i.1 }) (λ u n x.
       losing_does s v.1 n x))))
 
   warned_does : (s : List Letter) (w : Option SqlState) (m : Machine) → Has code r l s m → Does code r l (λ u n. Has code r l s n) (warned w) m
-  warned_does s None m h = record { comes = h }
-  warned_does s (Some w) m h = record { comes = (may, h.body) }
+  warned_does s None m h = record { evaluates = h }
+  warned_does s (Some w) m h = record { evaluates = (may, h.body) }
 
   pub warn_does : (s : List Letter) (m : Machine) → Has code r l s m → Does code r l (λ u n. Has code r l s n) warn m
-  warn_does s m h = record { comes = (warned_does s m.pending m h).comes }
+  warn_does s m h = record { evaluates = (warned_does s m.pending m h).evaluates }

@@ -16,14 +16,14 @@ use Rattle.psm_code.specs.declared.code.ParameterMode.TheVariants.{In, Out, InOu
 use Rattle.psm_code.specs.declared.code.RawCode.{RawCode}
 use Rattle.psm_code.specs.declared.code.RawRoutine.{RawRoutine}
 use Rattle.psm_code.specs.Parts.{given_back, routine_at, slots_of, taking}
-use Rattle.psm_code.specs.State.{Activation, Machine, Lacking, Ended, Raised, Turned, More, Over, cleared}
+use Rattle.psm_code.specs.State.{Activation, Machine, Stuck, Ended, Raised, Stepped, More, Over, cleared}
 use Rattle.psm_code.specs.Steps.{Act, Given, Got, Raises, Ends, got, ends, raises, change, of_state, pop, pops, present, read, tried, turn, ◌>>=◌, ◌>>◌}
 
 -- what a parameter begins with, and the arguments that are left: an argument is stored in its type, and OUT begins null
 abbrev pub passed : ParameterMode → SqlType → List Datum → Act (Datum × List Datum)
 passed Out t args = got (Null, args)
-passed In t [] = ends Lacking
-passed InOut t [] = ends Lacking
+passed In t [] = ends Stuck
+passed InOut t [] = ends Stuck
 passed In t (a ∷ args) = do
   d ← tried (stored t a)
   got (d, args)
@@ -34,7 +34,7 @@ passed InOut t (a ∷ args) = do
 -- what all parameters begin with, from one argument for each IN and INOUT parameter in order
 abbrev pub entered : List Parameter → List Datum → Act (List Datum)
 entered [] [] = got []
-entered [] (a ∷ args) = ends Lacking
+entered [] (a ∷ args) = ends Stuck
 entered (p ∷ ps) args = do
   first ← passed p.mode p.kind args
   others ← entered ps first.1
@@ -93,20 +93,20 @@ abbrev pub with_values : List Datum → Activation → Activation
 with_values ds a = record a { operands = on_top ds a.operands }
 
 -- values are left where the routine was called, the first of them on top
-abbrev pub left_values : List Datum → List Activation → Machine → Turned
+abbrev pub left_values : List Datum → List Activation → Machine → Stepped
 left_values ds [] m = Over (Ended ds) m
 left_values ds (a ∷ callers) m = More (returned_to (with_values ds a) callers m)
 
-abbrev pub end_of : Option RawRoutine → Machine → Turned
-end_of None m = Over Lacking m
+abbrev pub end_of : Option RawRoutine → Machine → Stepped
+end_of None m = Over Stuck m
 end_of (Some r) m = left_values (given_back r.parameters m.running.variables) m.callers (cleared m)
 
 -- a procedure ends, and leaves success in the area
-abbrev pub «end» : RawCode → Machine → Turned
+abbrev pub «end» : RawCode → Machine → Stepped
 «end» code m = end_of (routine_at code m.running.routine) m
 
 -- a function returns a value, and leaves success in the area
-abbrev pub returning : Datum → Machine → Turned
+abbrev pub returning : Datum → Machine → Stepped
 returning d m = left_values (d ∷ []) m.callers (cleared m)
 
 -- the value of RETURN is stored in the type of the function's result
@@ -133,11 +133,11 @@ nowhere = record { routine = 0; line = 0; variables = []; cursors = []; operands
 abbrev pub before_start : ℕ → List Contents → Machine
 before_start turns tables = record { running = nowhere; callers = []; area = clear; pending = None; turns = turns; tables = tables }
 
-abbrev pub begun : Given Activation → Machine → Turned
+abbrev pub begun : Given Activation → Machine → Stepped
 begun (Got a) m = More (record m { running = a })
 begun (Raises c) m = Over (Raised (by_state c)) m
 begun (Ends e) m = Over e m
 
 -- a routine with arguments for its IN and INOUT parameters, over these tables
-abbrev pub started : RawCode → ℕ → List Datum → List Contents → ℕ → Turned
+abbrev pub started : RawCode → ℕ → List Datum → List Contents → ℕ → Stepped
 started code n args tables turns = let r = beginning code n args (before_start turns tables) in begun r.given r.machine

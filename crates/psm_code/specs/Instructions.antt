@@ -110,7 +110,7 @@ abbrev pub letters_in : List ℕ → Option (List Letter) → Option (List Lette
 letters_in columns None = None
 letters_in columns (Some letters) = letters_at letters columns
 
--- so many rows of values, the last one first
+-- n rows of values, the last one first
 abbrev pub values_letters : ℕ → Option (List Letter) → Option (List Letter)
 values_letters rows None = None
 values_letters rows (Some ls) = Some (reverse (flat_map (λ xs. xs) (replicate rows ls)))
@@ -146,7 +146,7 @@ condition_letter of_condition.CursorName = T
 
 -- one that never goes on at the line that follows
 abbrev pub last : List ℕ → List Letter → Effect
-last name takes = record { mnemonic = name; takes = takes; ahead = None; away = None }
+last name takes = record { mnemonic = name; takes = takes; fall_through = None; branching = None }
 
 abbrev pub taking_from : List ℕ → Option Letter → Option Effect
 taking_from name letter = option_map (λ l. plain name (l ∷ []) []) letter
@@ -189,21 +189,21 @@ abbrev pub instruction_effect : RawCode → RawRoutine → Instruction → Lette
 instruction_effect code r (instruction.Operation o) k x = operation_effect r o k x
 instruction_effect code r instruction.Clear k x = Some (plain (codes "CLEAR") [] [])
 instruction_effect code r (instruction.Store slot) k x = taking_from (codes "STORE") (slot_letter r slot)
-instruction_effect code r (instruction.Retrieve slot) k x = taking_from (codes "FSTORE") (slot_letter r slot)
+instruction_effect code r (instruction.FetchStore slot) k x = taking_from (codes "FSTORE") (slot_letter r slot)
 instruction_effect code r instruction.Warn k x = Some (plain (codes "WARN") [] [])
 instruction_effect code r instruction.Turn k x = Some (plain (codes "TURN") [] [])
 instruction_effect code r (instruction.Enter c) k x = Some (plain (codes "ENTER") [] [])
 instruction_effect code r (instruction.Exit c) k x = Some (plain (codes "EXIT") [] [])
 instruction_effect code r (instruction.EndAction h) k x = Some (last (codes "ENDACT") [])
 instruction_effect code r (instruction.Call n) k x = of_routine (λ p. Some (procedure_effect p)) (routine_at code n)
-instruction_effect code r (instruction.CallFunction n) k x = of_routine function_effect (routine_at code n)
-instruction_effect code r instruction.Return k x = option_map (λ t. last (codes "RETV") (letter_of t ∷ [])) r.returns
+instruction_effect code r (instruction.FunctionCall n) k x = of_routine function_effect (routine_at code n)
+instruction_effect code r instruction.ReturnValue k x = option_map (λ t. last (codes "RETV") (letter_of t ∷ [])) r.returns
 instruction_effect code r instruction.End k x = Some (last (codes "END") [])
 instruction_effect code r instruction.NoReturn k x = Some (last (codes "NORET") [])
 instruction_effect code r (instruction.Exists q) k x = Some (plain (codes "EXISTS") [] (B ∷ []))
 instruction_effect code r (instruction.Scalar q) k x = scalar_effect (query_letters code r q)
-instruction_effect code r (instruction.SelectRow q) k x = putting (codes "ROW") (query_letters code r q)
-instruction_effect code r (instruction.Change p) k x = option_map (λ ls. plain (codes "DATA") ls []) (of_plan (plan_letters code) (slice_get r.plans p))
+instruction_effect code r (instruction.Row q) k x = putting (codes "ROW") (query_letters code r q)
+instruction_effect code r (instruction.Data p) k x = option_map (λ ls. plain (codes "DATA") ls []) (of_plan (plan_letters code) (slice_get r.plans p))
 instruction_effect code r (instruction.Open c) k x = Some (plain (codes "OPEN") [] [])
 instruction_effect code r (instruction.Close c) k x = Some (plain (codes "CLOSE") [] [])
 instruction_effect code r (instruction.Fetch c) k x = putting (codes "FETCH") (cursor_letters code r c)

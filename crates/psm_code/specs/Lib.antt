@@ -8,10 +8,10 @@ pub mod Calling
 pub mod Querying
 pub mod Plans
 pub mod Signalling
-pub mod Rows
+pub mod Run
 pub mod Rules
 pub mod TableRules
 pub mod PlanRules
 pub mod RoutineRules
-pub mod Sits
+pub mod MachineInvariant
 pub mod Writing

@@ -38,7 +38,7 @@ unless_failed def (Ok a) = got a
 unless_failed def (Err (Raised s)) = raises (of_state s)
 unless_failed def (Err (OfTable s)) = raises (alone (record (entry_of s) { table = name_text def.name }))
 
--- the table has these rows now, and the statement was about so many
+-- the table has these rows now, and the statement was about n
 abbrev pub leaves : ℕ → Contents → List (List Datum) → ℕ → Act (Unit {0})
 leaves table c rows count = change (with_rows table (record c { rows = rows }) count)
 
@@ -49,7 +49,7 @@ some_row (suc n) = got tt
 
 -- ---- INSERT
 
--- so many rows of so many values each
+-- n rows of n values each
 abbrev pub in_rows : ℕ → ℕ → List Datum → List (List Datum)
 in_rows zero width ds = []
 in_rows (suc n) width ds = take width ds ∷ in_rows n width (drop width ds)

@@ -15,7 +15,7 @@ use Rattle.psm_table.specs.Queries.{Answer, answer}
 use Rattle.psm_tablecode.specs.Codes.{over, query_of}
 use Rattle.psm_code.specs.declared.code.CodeCursor.{CodeCursor}
 use Rattle.psm_code.specs.declared.code.RawRoutine.{RawRoutine}
-use Rattle.psm_code.specs.State.{Lacking, warning, with_cursor}
+use Rattle.psm_code.specs.State.{Stuck, warning, with_cursor}
 use Rattle.psm_code.specs.Steps.{Act, got, ends, raises, change, of_state, present, put, put_value, put_values, read, table_now, tried, ◌>>=◌, ◌>>◌}
 
 -- the answer of a query over its table and the variables as they are now
@@ -43,7 +43,7 @@ exists r n = do
 -- no row gives null; of one row it is the one item
 abbrev pub scalar_of : List (List Datum) → Act (Unit {0})
 scalar_of [] = put_value Null
-scalar_of ([] ∷ []) = ends Lacking
+scalar_of ([] ∷ []) = ends Stuck
 scalar_of ((d ∷ ds) ∷ []) = put_value d
 scalar_of (row ∷ other ∷ rows) = raises (of_state (codes "21000"))
 
@@ -123,7 +123,7 @@ close r number = do
 -- the items of a row on which a cursor stands
 abbrev pub items_on : Items → List Datum → List Datum → Act (List Datum)
 items_on (Rows codes) vars row = tried (values_of (over vars) codes row)
-items_on (Sets sets) vars row = ends Lacking
+items_on (Sets sets) vars row = ends Stuck
 
 abbrev pub items_of_found : Query → List Datum → Option (List Datum) → Act (Option (List Datum))
 items_of_found query vars None = got None

@@ -13,7 +13,7 @@ use Rattle.psm_code.specs.declared.code.RawCode.{RawCode}
 use Rattle.psm_code.specs.declared.code.RawRoutine.{RawRoutine}
 use Rattle.psm_code.specs.declared.lines.CodeLine.{CodeLine}
 use Rattle.psm_code.specs.Parts.{block_at, handler_at, line_at, routine_at}
-use Rattle.psm_code.specs.State.{Activation, Frame, InBlock, InAction, Machine, Lacking, NoTurns, Raised, Turned, More, Over, closed_cursors, holding, with_running}
+use Rattle.psm_code.specs.State.{Activation, Frame, InBlock, InAction, Machine, Stuck, NoTurns, Raised, Stepped, More, Over, closed_cursors, holding, with_running}
 
 -- ---- frames that are left
 
@@ -80,39 +80,39 @@ handled r undo resume n h Exit m = acting n None h (arrived r undo h m)
 handled r undo resume n h Undo m = acting n None h (undone (arrived r undo h m))
 
 -- a handler uses a turn
-abbrev pub at_turn : ℕ → (Machine → Machine) → Machine → Turned
+abbrev pub at_turn : ℕ → (Machine → Machine) → Machine → Stepped
 at_turn zero go m = Over NoTurns m
 at_turn (suc left) go m = More (go (record m { turns = left }))
 
-abbrev pub chosen : RawRoutine → Bool → Option ℕ → ℕ → Option Handler → Machine → Turned
-chosen r undo resume n None m = Over Lacking m
+abbrev pub chosen : RawRoutine → Bool → Option ℕ → ℕ → Option Handler → Machine → Stepped
+chosen r undo resume n None m = Over Stuck m
 chosen r undo resume n (Some h) m = at_turn m.turns (handled r undo resume n h h.kind) m
 
--- ---- without a handler a completion condition goes on behind the statement
+-- ---- without a handler a completion condition goes on after the statement
 
-abbrev pub passed_over : Option ℕ → Machine → Turned
-passed_over None m = Over Lacking m
+abbrev pub passed_over : Option ℕ → Machine → Stepped
+passed_over None m = Over Stuck m
 passed_over (Some line) m = More (with_running (λ a. record a { line = line; operands = [] }) m)
 
 -- ---- an exception leaves the activation, and is raised again where the routine was called
 
 -- what the condition meets in one activation: a handler, or what is outside
-abbrev pub met : RawRoutine → CodeLine → Entries → Option ℕ → (Machine → Turned) → Machine → Turned
+abbrev pub met : RawRoutine → CodeLine → Entries → Option ℕ → (Machine → Stepped) → Machine → Stepped
 met r l c (Some n) outside m = chosen r (is_exception (kind_of c.first.state)) l.resume n (handler_at r n) m
 met r l c None outside m = if is_exception (kind_of c.first.state) then outside (frames_left r true m.running.frames m) else passed_over l.resume m
 
-abbrev pub asked_at : RawRoutine → Option CodeLine → Entries → (Machine → Turned) → Machine → Turned
-asked_at r None c outside m = Over Lacking m
+abbrev pub asked_at : RawRoutine → Option CodeLine → Entries → (Machine → Stepped) → Machine → Stepped
+asked_at r None c outside m = Over Stuck m
 asked_at r (Some l) c outside m = met r l c (choice r.handlers l.context c.first) outside (holding c m)
 
-abbrev pub asked : Option RawRoutine → Entries → (Machine → Turned) → Machine → Turned
-asked None c outside m = Over Lacking m
+abbrev pub asked : Option RawRoutine → Entries → (Machine → Stepped) → Machine → Stepped
+asked None c outside m = Over Stuck m
 asked (Some r) c outside m = asked_at r (line_at r m.running.line) c outside m
 
 -- in the activation that runs, and then in those that called it
-abbrev pub raised_in : RawCode → Entries → List Activation → Machine → Turned
+abbrev pub raised_in : RawCode → Entries → List Activation → Machine → Stepped
 raised_in code c [] m = asked (routine_at code m.running.routine) c (λ n. Over (Raised (by_state c)) n) m
 raised_in code c (a ∷ callers) m = asked (routine_at code m.running.routine) c (λ n. raised_in code (by_state c) callers (record n { running = a; callers = callers })) m
 
-abbrev pub raised : RawCode → Entries → Machine → Turned
+abbrev pub raised : RawCode → Entries → Machine → Stepped
 raised code c m = raised_in code c m.callers m

@@ -182,12 +182,12 @@ value_there r SqlException = true
 value_there r SqlWarning = true
 value_there r NotFound = true
 
-abbrev pub is_value_right : RawRoutine → ConditionValue → Bool
-is_value_right r (Named n) = where_there (slice_get r.handlers.declared n) is_named
-is_value_right r (State s) = is_condition s
-is_value_right r SqlException = true
-is_value_right r SqlWarning = true
-is_value_right r NotFound = true
+abbrev pub is_value_well_formed : RawRoutine → ConditionValue → Bool
+is_value_well_formed r (Named n) = where_there (slice_get r.handlers.declared n) is_named
+is_value_well_formed r (State s) = is_condition s
+is_value_well_formed r SqlException = true
+is_value_well_formed r SqlWarning = true
+is_value_well_formed r NotFound = true
 
 abbrev pub context_there : RawRoutine → ℕ → Bool
 context_there r k = nat_le k (length r.handlers.contexts)
@@ -197,7 +197,7 @@ handler_fault r before h = first_of (
     unless (context_there r h.context && list_all (value_there r) (values_of h)) Range
     ∷ unless (is_there r.lines h.pc) Target
     ∷ unless (where_there (line_at r h.pc) (is_action_line r (length before))) Context
-    ∷ unless (may_undo r h && (list_all (is_value_right r) (values_of h) && are_new (values_in h.context before) (values_of h))) Definition ∷ []) ∷ []
+    ∷ unless (may_undo r h && (list_all (is_value_well_formed r) (values_of h) && are_new (values_in h.context before) (values_of h))) Definition ∷ []) ∷ []
 
 -- ---- lines
 
@@ -215,16 +215,16 @@ abbrev pub names_there : RawCode → RawRoutine → Instruction → Bool
 names_there code r (instruction.Operation (op.Variable slot)) = slot_there r slot
 names_there code r (instruction.Operation o) = is_in_bounds o
 names_there code r (instruction.Store slot) = slot_there r slot
-names_there code r (instruction.Retrieve slot) = slot_there r slot
+names_there code r (instruction.FetchStore slot) = slot_there r slot
 names_there code r (instruction.Enter k) = there (context_at r.handlers k)
 names_there code r (instruction.Exit k) = there (context_at r.handlers k)
 names_there code r (instruction.EndAction n) = is_there r.handlers.handlers n
 names_there code r (instruction.Call n) = is_there code.routines n
-names_there code r (instruction.CallFunction n) = is_there code.routines n
+names_there code r (instruction.FunctionCall n) = is_there code.routines n
 names_there code r (instruction.Exists q) = is_there r.queries q
 names_there code r (instruction.Scalar q) = is_there r.queries q
-names_there code r (instruction.SelectRow q) = is_there r.queries q
-names_there code r (instruction.Change p) = is_there r.plans p
+names_there code r (instruction.Row q) = is_there r.queries q
+names_there code r (instruction.Data p) = is_there r.plans p
 names_there code r (instruction.Open c) = is_there r.cursors c
 names_there code r (instruction.Close c) = is_there r.cursors c
 names_there code r (instruction.Fetch c) = is_there r.cursors c
@@ -243,39 +243,39 @@ jump_of (instruction.Operation (op.JumpUnlessNull p)) = Some p
 jump_of (instruction.Next c end) = Some end
 jump_of i = None
 
-abbrev pub goes_ahead : Option Effect → Bool
-goes_ahead None = false
-goes_ahead (Some e) = there e.ahead
+abbrev pub falls_through : Option Effect → Bool
+falls_through None = false
+falls_through (Some e) = there e.fall_through
 
-abbrev pub line_goes_ahead : RawCode → RawRoutine → Instruction → Bool
-line_goes_ahead code r i = goes_ahead (instruction_effect code r i N N)
+abbrev pub line_falls_through : RawCode → RawRoutine → Instruction → Bool
+line_falls_through code r i = falls_through (instruction_effect code r i N N)
 
 abbrev pub are_targets : RawCode → RawRoutine → ℕ → CodeLine → Bool
 are_targets code r at l =
     where_there l.resume (is_there r.lines) && (where_there (jump_of l.instruction) (is_there r.lines)
-    && (not (line_goes_ahead code r l.instruction) || is_there r.lines (suc at)))
+    && (not (line_falls_through code r l.instruction) || is_there r.lines (suc at)))
 
 -- the operands, the last one first, are those that a line states
 abbrev pub is_stated : Option CodeLine → List Letter → Bool
 is_stated None s = true
 is_stated (Some l) s = same_stack s (reverse l.stack)
 
-abbrev pub stated_ahead : RawRoutine → ℕ → Option (List Letter) → List Letter → Bool
-stated_ahead r at None rest = true
-stated_ahead r at (Some puts) rest = is_stated (line_at r (suc at)) (puts ++ rest)
+abbrev pub stated_fall_through : RawRoutine → ℕ → Option (List Letter) → List Letter → Bool
+stated_fall_through r at None rest = true
+stated_fall_through r at (Some puts) rest = is_stated (line_at r (suc at)) (puts ++ rest)
 
-abbrev pub stated_away : RawRoutine → Option (ℕ × List Letter) → List Letter → Bool
-stated_away r None rest = true
-stated_away r (Some jump) rest = is_stated (line_at r jump.0) (jump.1 ++ rest)
+abbrev pub stated_branch : RawRoutine → Option (ℕ × List Letter) → List Letter → Bool
+stated_branch r None rest = true
+stated_branch r (Some jump) rest = is_stated (line_at r jump.0) (jump.1 ++ rest)
 
-abbrev pub stated_behind : RawRoutine → ℕ → Effect → Option (List Letter) → Bool
-stated_behind r at e None = false
-stated_behind r at e (Some rest) = stated_ahead r at e.ahead rest && stated_away r e.away rest
+abbrev pub stated_after : RawRoutine → ℕ → Effect → Option (List Letter) → Bool
+stated_after r at e None = false
+stated_after r at e (Some rest) = stated_fall_through r at e.fall_through rest && stated_branch r e.branching rest
 
 -- an instruction whose operands aren't known breaks another rule
 abbrev pub follows_with : RawRoutine → ℕ → List Letter → Option Effect → Bool
 follows_with r at s None = false
-follows_with r at s (Some e) = stated_behind r at e (left_of e.takes s)
+follows_with r at s (Some e) = stated_after r at e (left_of e.takes s)
 
 abbrev pub constant_fits : Instruction → Bool
 constant_fits (instruction.Operation (op.Constant k d)) = has_letter k d
@@ -316,28 +316,28 @@ parent_of_context None = 0
 parent_of_context (Some c) = c.parent
 
 -- the context in which an instruction goes on
-abbrev pub context_behind : RawRoutine → CodeLine → Instruction → ℕ
-context_behind r l (instruction.Enter k) = k
-context_behind r l (instruction.Exit k) = parent_of_context (context_at r.handlers k)
-context_behind r l i = l.context
+abbrev pub context_after : RawRoutine → CodeLine → Instruction → ℕ
+context_after r l (instruction.Enter k) = k
+context_after r l (instruction.Exit k) = parent_of_context (context_at r.handlers k)
+context_after r l i = l.context
 
 abbrev pub contexts_follow : RawCode → RawRoutine → ℕ → CodeLine → Bool
 contexts_follow code r at l =
-    (not (line_goes_ahead code r l.instruction) || is_in (context_behind r l l.instruction) (line_at r (suc at)))
+    (not (line_falls_through code r l.instruction) || is_in (context_after r l l.instruction) (line_at r (suc at)))
     && where_there (jump_of l.instruction) (λ p. is_in l.context (line_at r p))
 
 -- where the instructions about contexts may stand
-abbrev pub stands_right : RawRoutine → CodeLine → Instruction → Bool
-stands_right r l (instruction.Enter k) = there (block_at r k) && nat_eq (parent_of_context (context_at r.handlers k)) l.context
-stands_right r l (instruction.Exit k) = there (block_at r k) && nat_eq l.context k
-stands_right r l (instruction.EndAction n) = is_action_context n (context_at r.handlers l.context)
-stands_right r l instruction.End = nat_eq l.context 0
-stands_right r l instruction.NoReturn = nat_eq l.context 0
-stands_right r l i = true
+abbrev pub stands_well_formed : RawRoutine → CodeLine → Instruction → Bool
+stands_well_formed r l (instruction.Enter k) = there (block_at r k) && nat_eq (parent_of_context (context_at r.handlers k)) l.context
+stands_well_formed r l (instruction.Exit k) = there (block_at r k) && nat_eq l.context k
+stands_well_formed r l (instruction.EndAction n) = is_action_context n (context_at r.handlers l.context)
+stands_well_formed r l instruction.End = nat_eq l.context 0
+stands_well_formed r l instruction.NoReturn = nat_eq l.context 0
+stands_well_formed r l i = true
 
 -- the first line is the routine's own and states no operand
-abbrev pub is_first_right : ℕ → CodeLine → Bool
-is_first_right at l = not (nat_eq at 0) || (nat_eq l.context 0 && not (is_some l.stack))
+abbrev pub is_first_well_formed : ℕ → CodeLine → Bool
+is_first_well_formed at l = not (nat_eq at 0) || (nat_eq l.context 0 && not (is_some l.stack))
 
 -- ---- resume
 
@@ -348,8 +348,8 @@ wants_resume i = may_raise i
 abbrev pub is_resume : RawRoutine → ℕ → CodeLine → ℕ → Bool
 is_resume r at l n = nat_lt at n && where_there (line_at r n) (λ m. nat_eq m.context l.context && not (is_some m.stack))
 
-abbrev pub resumes_right : RawRoutine → ℕ → CodeLine → Bool
-resumes_right r at l = (not (wants_resume l.instruction) || there l.resume) && where_there l.resume (is_resume r at l)
+abbrev pub resumes_well_formed : RawRoutine → ℕ → CodeLine → Bool
+resumes_well_formed r at l = (not (wants_resume l.instruction) || there l.resume) && where_there l.resume (is_resume r at l)
 
 -- ---- jumps back
 
@@ -363,12 +363,12 @@ uses_turn r at p = nat_lt at p || where_there (line_at r p) (λ l. is_turn l.ins
 -- ---- what may stand where
 
 abbrev pub may_stand : RawCode → RawRoutine → Instruction → Bool
-may_stand code r instruction.Return = r.is_function
+may_stand code r instruction.ReturnValue = r.is_function
 may_stand code r instruction.NoReturn = r.is_function
 may_stand code r instruction.End = not r.is_function
-may_stand code r (instruction.Change p) = not r.is_function
+may_stand code r (instruction.Data p) = not r.is_function
 may_stand code r (instruction.Call n) = not r.is_function && where_there (routine_at code n) (λ q. not q.is_function)
-may_stand code r (instruction.CallFunction n) = where_there (routine_at code n) (λ q. q.is_function)
+may_stand code r (instruction.FunctionCall n) = where_there (routine_at code n) (λ q. q.is_function)
 may_stand code r (instruction.Operation (op.Column i)) = false
 may_stand code r i = true
 
@@ -377,8 +377,8 @@ line_fault code r at l = first_of (
     unless (context_there r l.context && names_there code r l.instruction) Range
     ∷ unless (are_targets code r at l) Target
     ∷ unless (is_bare l && stack_follows code r at l) Stack
-    ∷ unless (is_first_right at l && (stands_right r l l.instruction && contexts_follow code r at l)) Context
-    ∷ unless (resumes_right r at l) Resume
+    ∷ unless (is_first_well_formed at l && (stands_well_formed r l l.instruction && contexts_follow code r at l)) Context
+    ∷ unless (resumes_well_formed r at l) Resume
     ∷ unless (where_there (jump_of l.instruction) (uses_turn r at)) Turn
     ∷ unless (may_stand code r l.instruction) Place ∷ [])
 

@@ -5,7 +5,7 @@ use Rattle.std.specs.declared.cmp.Ordering.{Ordering}
 use Rattle.psm_value.specs.declared.datum.Datum.{Datum}
 use Rattle.psm_value.specs.declared.datum.Datum.TheVariants.{Null, Num, Text}
 use Rattle.psm_value.specs.Order.{compared}
-use Rattle.psm_cond.specs.Condition.{Entries, alone, «behind» as in_front}
+use Rattle.psm_cond.specs.Condition.{Entries, alone, «following» as in_front}
 use Rattle.psm_cond.specs.Entry.{entry_of, name_text}
 use Rattle.psm_cond.specs.Item.{entries_of, entry_item, statement_item, whole}
 use Rattle.psm_cond.specs.declared.entry.Entry.{Entry}
@@ -14,7 +14,7 @@ use Rattle.psm_cond.specs.declared.handlers.Declared.TheVariants.{OfState, Named
 use Rattle.psm_cond.specs.declared.item.ConditionItem.{ConditionItem}
 use Rattle.psm_cond.specs.declared.item.StatementItem.{StatementItem}
 use Rattle.psm_code.specs.declared.code.RawRoutine.{RawRoutine}
-use Rattle.psm_code.specs.State.{Frame, InBlock, InAction, Lacking}
+use Rattle.psm_code.specs.State.{Frame, InBlock, InAction, Stuck}
 use Rattle.psm_code.specs.Steps.{Act, got, raises, ends, of_state, pop, present, put_value, read, ◌>>=◌}
 
 -- ---- the condition that is signalled
@@ -32,7 +32,7 @@ declared r n = do
 -- a null text counts as empty
 abbrev pub message_text : Datum → Act (List ℕ)
 message_text Null = got []
-message_text (Num n) = ends Lacking
+message_text (Num n) = ends Stuck
 message_text (Text t) = got t
 
 -- the message is the last operand

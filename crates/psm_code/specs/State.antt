@@ -35,16 +35,16 @@ pub record Machine : Type 0 where
   pub tables : List Contents
 
 -- how a run ends: with the values of the OUT and INOUT parameters; with an exception; where a turn is due and none is left; or,
--- which code that keeps its rules never comes to, where something isn't there that an instruction names
+-- which code that keeps its rules never ends in, where something isn't there that an instruction names
 pub data End : Type 0 where
   Ended : List Datum → End
   Raised : Entries → End
-  NoTurns Lacking : End
+  NoTurns Stuck : End
 
 -- what one instruction leads to
-pub data Turned : Type 0 where
-  More : Machine → Turned
-  Over : End → Machine → Turned
+pub data Stepped : Type 0 where
+  More : Machine → Stepped
+  Over : End → Machine → Stepped
 
 -- ---- changes
 
@@ -65,7 +65,7 @@ with_variable slot d m = with_running (λ a. record a { variables = slice_set a.
 abbrev pub with_cursor : ℕ → Cursor → Machine → Machine
 with_cursor number c m = with_running (λ a. record a { cursors = slice_set a.cursors number c }) m
 
--- the rows of a table after a statement about so many of them
+-- the rows of a table after a statement about n of them
 abbrev pub with_rows : ℕ → Contents → ℕ → Machine → Machine
 with_rows table c count m = record m { tables = slice_set m.tables table c; area = record m.area { rows = count } }
 

@@ -1,4 +1,4 @@
--- How the parts of an instruction go on one behind another.
+-- How the parts of an instruction go on one after another.
 use Rattle.std.specs.Prelude.{ℕ, zero, suc, List, [], ◌∷◌, slice_get, Option, Some, None, Result, Ok, Err}
 use Rattle.psm_sqlstate.specs.declared.state.SqlState.{SqlState}
 use Rattle.psm_value.specs.declared.datum.Datum.{Datum}
@@ -7,7 +7,7 @@ use Rattle.psm_cond.specs.Entry.{entry_of}
 use Rattle.psm_exprcode.specs.declared.operand.Operand.{Operand}
 use Rattle.psm_exprcode.specs.declared.operand.Operand.TheVariants.{Value, Truth}
 use Rattle.psm_table.specs.Table.{Contents}
-use Rattle.psm_code.specs.State.{Machine, End, NoTurns, Lacking, with_running}
+use Rattle.psm_code.specs.State.{Machine, End, NoTurns, Stuck, with_running}
 
 -- what a part gives: something, or a condition that is to be raised at the line
 pub data Given (A : Type 0) : Type 0 where
@@ -51,7 +51,7 @@ change f m = record { given = Got tt; machine = f m }
 
 -- what is there
 abbrev pub present : {A : Type 0} → Option A → Act A
-present None = ends Lacking
+present None = ends Stuck
 present (Some a) = got a
 
 -- the condition of an SQLSTATE alone
@@ -89,11 +89,11 @@ abbrev pub left_with : List Operand → Act (Unit {0})
 left_with os = change (with_running (λ a. record a { operands = os }))
 
 abbrev pub popped : List Operand → Act Datum
-popped [] = ends Lacking
+popped [] = ends Stuck
 popped (Value d ∷ os) = do
   left_with os
   got d
-popped (Truth t ∷ os) = ends Lacking
+popped (Truth t ∷ os) = ends Stuck
 
 -- the last operand, which is a value
 abbrev pub pop : Act Datum
@@ -101,7 +101,7 @@ pop = do
   os ← read (λ m. m.running.operands)
   popped os
 
--- so many values in front of others: the last operand becomes the one behind all
+-- n values in front of others: the last operand becomes the one after all
 abbrev pub pops : ℕ → List Datum → Act (List Datum)
 pops zero ds = got ds
 pops (suc n) ds = do

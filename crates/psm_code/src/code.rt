@@ -43,7 +43,7 @@ pub struct CodeCursor {
 /// What a statement changes (ISO/IEC 9075:1992, 13.6 to 13.10). Columns are places among those of the table.
 #[derive(Debug, Drop)]
 pub enum Plan {
-    /// So many rows are put in, of which the columns have values that stand among the operands, the first of all the lowest.
+    /// N rows are put in, of which the columns have values that stand among the operands, the first of all the lowest.
     Insert {
         table: u32,
         columns: List<u32>,
@@ -86,7 +86,7 @@ pub struct RawRoutine {
     pub parameters: List<Parameter>,
     /// The type of a function's result.
     pub returns: Option<SqlType>,
-    /// The types of the slots behind those of the parameters.
+    /// The types of the slots after those of the parameters.
     pub variables: List<SqlType>,
     pub queries: List<Query>,
     pub cursors: List<CodeCursor>,

@@ -14,7 +14,7 @@ pub enum Instruction {
     /// Stores a value in a variable.
     Store(u32),
     /// Retrieves a value into a variable: a text may be cut, which makes a warning pending unless there is one.
-    Retrieve(u32),
+    FetchStore(u32),
     /// Raises the pending warning, if there is one.
     Warn,
     /// Uses a turn.
@@ -28,9 +28,9 @@ pub enum Instruction {
     /// Calls a procedure.
     Call(u32),
     /// Calls a function.
-    CallFunction(u32),
+    FunctionCall(u32),
     /// Returns a value from a function.
-    Return,
+    ReturnValue,
     /// Ends a procedure.
     End,
     /// The end of a function, which comes without a RETURN statement.
@@ -40,9 +40,9 @@ pub enum Instruction {
     /// The value of a query of at most one row.
     Scalar(u32),
     /// The items of a query's one row.
-    SelectRow(u32),
+    Row(u32),
     /// Changes rows as a plan says.
-    Change(u32),
+    Data(u32),
     /// Opens a cursor.
     Open(u32),
     /// Closes a cursor.

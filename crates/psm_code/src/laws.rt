@@ -7,8 +7,8 @@ ghost use Rattle.psm_code.specs.declared.code.RawRoutine.{RawRoutine};
 ghost use Rattle.psm_code.specs.Calling.{started};
 ghost use Rattle.psm_code.specs.Parts.{routine_at, taking};
 ghost use Rattle.psm_code.specs.RoutineRules.{first_fault};
-ghost use Rattle.psm_code.specs.Rows.{row, Ran};
-ghost use Rattle.psm_code.specs.Sits.{is_due, AreKept, Sits, StaysRight};
+ghost use Rattle.psm_code.specs.Run.{step, Ran};
+ghost use Rattle.psm_code.specs.MachineInvariant.{is_due, AreKept, MachineInvariant, StaysWellFormed};
 ghost use Rattle.psm_code.specs.State.{End, Machine};
 
 /// A run of a routine has one end at most, and one machine at that end.
@@ -16,16 +16,16 @@ pub fn runs_have_one_end()
     ensures end { (code : RawCode) (routine : ℕ) (args : List Datum) (tables : List Contents) (turns : ℕ) (e f : End) (m n : Machine) → Ran code routine args tables turns e m → Ran code routine args tables turns f n → (e ≡ f) × (m ≡ n) }
 {}
 
-/// Code without tables and routines breaks no rule.
-pub fn empty_code_is_right()
+/// Code without tables and routines is well-formed.
+pub fn empty_code_is_well_formed()
     ensures { first_fault (record { tables = []; routines = [] }) ≡ None }
 {}
 
-/// Code that breaks no rule lacks nothing: no instruction names what isn't there, and none finds other operands than it takes. What
-/// is always true of a machine is true where a run begins, and each row keeps it. So a run that comes to an end ends with values,
-/// with an exception or for want of turns, and its tables are legal then. The arguments need not be of the parameters' types: where one can't be stored, that is the run's exception.
-pub fn right_code_lacks_nothing()
-    ensures kept { (code : RawCode) → first_fault code ≡ None → (m : Machine) → Sits code m → StaysRight code (row code m) }
-    ensures start { (code : RawCode) → first_fault code ≡ None → (routine : ℕ) (r : RawRoutine) → routine_at code routine ≡ Some r → (args : List Datum) (tables : List Contents) (turns : ℕ) → length args ≡ length (taking r.parameters) → AreKept code.tables tables → StaysRight code (started code routine args tables turns) }
+/// Well-formed code is never stuck: no instruction names what isn't there, and none finds other operands than it takes. What
+/// is always true of a machine is true where a run begins, and each row keeps it. So a run that ends ends with values,
+/// with an exception or because turns ran out, and its tables are legal then. The arguments need not be of the parameters' types: where one can't be stored, that is the run's exception.
+pub fn well_formed_code_never_gets_stuck()
+    ensures kept { (code : RawCode) → first_fault code ≡ None → (m : Machine) → MachineInvariant code m → StaysWellFormed code (step code m) }
+    ensures start { (code : RawCode) → first_fault code ≡ None → (routine : ℕ) (r : RawRoutine) → routine_at code routine ≡ Some r → (args : List Datum) (tables : List Contents) (turns : ℕ) → length args ≡ length (taking r.parameters) → AreKept code.tables tables → StaysWellFormed code (started code routine args tables turns) }
     ensures run { (code : RawCode) → first_fault code ≡ None → (routine : ℕ) (r : RawRoutine) → routine_at code routine ≡ Some r → (args : List Datum) (tables : List Contents) (turns : ℕ) → length args ≡ length (taking r.parameters) → AreKept code.tables tables → (e : End) (last : Machine) → Ran code routine args tables turns e last → IsTrue (is_due e) × AreKept code.tables last.tables }
 {}

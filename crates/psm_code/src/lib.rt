@@ -1,5 +1,5 @@
 //! Code of routines (ISO/IEC 9075-4:1996): the instructions of a stack machine, what each takes from the operands and leaves on
-//! them, and what a run of the code comes to.
+//! them, and what a run of the code ends in.
 #![tactic(auto)]
 
 mod code;
@@ -11,7 +11,7 @@ mod writing;
 
 pub use code::{CodeCursor, CodeTable, Parameter, ParameterMode, Plan, RawCode, RawRoutine};
 pub use instruction::Instruction;
-pub use laws::{empty_code_is_right, right_code_lacks_nothing, runs_have_one_end};
+pub use laws::{empty_code_is_well_formed, runs_have_one_end, well_formed_code_never_gets_stuck};
 pub use lines::{CodeLine, Lines};
 pub use rule::CodeRule;
 pub use writing::LinesWriter;

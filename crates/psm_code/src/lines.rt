@@ -10,7 +10,7 @@ use psm_list::List;
 use std::alloc::{AllocError, Global};
 use std::marker::Model;
 
-/// A line of a routine, as contracts see it: its context, the line at which the run goes on behind a condition that it raises, the
+/// A line of a routine, as contracts see it: its context, the line at which the run goes on after a condition that it raises, the
 /// operands that stand before the instruction, the last one at the end, and the instruction.
 #[derive(Debug, Drop)]
 pub struct CodeLine {
@@ -68,7 +68,7 @@ impl Lines {
         Lines { stacks, lines }
     }
 
-    /// Puts a line behind the others, with the letters of the operands that stand before its instruction, the last one at the end.
+    /// Puts a line after the others, with the letters of the operands that stand before its instruction, the last one at the end.
     pub fn push(
         &mut self,
         context: u32,
@@ -118,7 +118,7 @@ impl Lines {
         }
     }
 
-    /// The line at which the run goes on behind a condition that the line of that number raises.
+    /// The line at which the run goes on after a condition that the line of that number raises.
     pub fn resume(&self, at: usize) -> Option<Option<u32>>
         ensures { result ≡ option_map (λ l. l.resume) (slice_get self.now at) }
     {
@@ -147,7 +147,7 @@ impl Lines {
         }
     }
 
-    /// Sets where the run goes on behind a condition of the line of that number. Where there is no such line nothing is changed.
+    /// Sets where the run goes on after a condition of the line of that number. Where there is no such line nothing is changed.
     #[tactic(auto, using(crate::proofs::Replacing::resume_set, crate::proofs::Replacing::resume_beyond, crate::proofs::Replacing::stated_set))]
     pub fn set_resume(&mut self, at: usize, resume: Option<u32>)
         ensures { self.new ≡ with_resume_at self.old at resume }

@@ -5,13 +5,13 @@
 pub enum CodeRule {
     /// A number names something that isn't there, or is out of its bounds.
     Range,
-    /// A line that is named isn't there, or the run would go on behind the last one.
+    /// A line that is named isn't there, or the run would go on after the last one.
     Target,
     /// The operands aren't those that are stated.
     Stack,
     /// A line stands in another context than the run comes from.
     Context,
-    /// The line behind a statement isn't one at which the run can go on.
+    /// The line after a statement isn't one at which the run can go on.
     Resume,
     /// A jump back leads to a line that uses no turn.
     Turn,

@@ -1,4 +1,4 @@
-//! Lines of a routine that are written one behind another.
+//! Lines of a routine that are written one after another.
 ghost use Rattle.std.specs.Prelude.{◌≡◌, ◌∷◌, [], ◌++◌, drop, length, reverse, slice_get, IfOk};
 
 use crate::instruction::Instruction;
@@ -7,7 +7,7 @@ use psm_exprcode::{Letter, LetterStack};
 use std::alloc::{AllocError, Global};
 use std::marker::Model;
 
-/// The lines so far, and the letters of the operands behind them. A line takes no time for the letters on which it stands: only the
+/// The lines so far, and the letters of the operands after them. A line takes no time for the letters on which it stands: only the
 /// letters that are put and taken off between two lines count.
 #[derive(Debug, Drop)]
 pub struct LinesWriter {
@@ -57,7 +57,7 @@ impl LinesWriter {
         Ok(())
     }
 
-    /// Takes so many letters off, or all that there are.
+    /// Takes n letters off, or all that there are.
     pub fn take(&mut self, count: usize)
         ensures { self.new ≡ record { lines = self.old.lines; stack = drop count self.old.stack } }
     {
@@ -78,7 +78,7 @@ impl LinesWriter {
         self.stack.put_all(letters)
     }
 
-    /// The letter that so many others stand on. Takes the time of those.
+    /// The letter that n others stand on. Takes the time of those.
     pub fn letter_below(&self, others: usize) -> Option<Letter>
         ensures { result ≡ slice_get self.now.stack others }
     {

@@ -3,5 +3,5 @@ pub mod Fronts
 pub mod MostSpecific
 pub mod Messages
 pub mod Numbers
-pub mod Sounds
+pub mod Contexts
 pub mod Texts

@@ -18,8 +18,8 @@ abbrev pub most_entries : ℕ
 most_entries = 4
 
 -- an entry in front of those of a condition: of all of them the first four are kept, and whether one was ever dropped
-abbrev pub behind : Entry → Entries → Entries
-behind e c = record {
+abbrev pub following : Entry → Entries → Entries
+following e c = record {
   first = e;
   others = take (most_entries - 1) (c.first ∷ c.others);
   more = c.more || nat_lt most_entries (length (e ∷ c.first ∷ c.others));

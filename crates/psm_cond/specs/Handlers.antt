@@ -51,7 +51,7 @@ abbrev pub scopes_from : HandlerTable → (ℕ → List (List Numbered)) → ℕ
 scopes_from t around k None = []
 scopes_from t around k (Some c) = scopes_of_kind t around k c.parent c.kind
 
--- the scopes through at most so many contexts
+-- the scopes through at most n contexts
 abbrev pub scopes_within : HandlerTable → ℕ → ℕ → List (List Numbered)
 scopes_within t zero k = []
 scopes_within t (suc n) k = scopes_from t (scopes_within t n) k (context_at t k)

@@ -21,7 +21,7 @@ whole n = Num (record { coef = pos n; scale = 0 })
 abbrev pub entries_of : Entries → List Entry
 entries_of c = c.first ∷ c.others
 
--- an item of a statement with so many entries, of which more were dropped, and so many rows
+-- an item of a statement with n entries, of which more were dropped, and n rows
 abbrev pub statement_item : ℕ → Bool → ℕ → StatementItem → Datum
 statement_item entries more rows Number = whole entries
 statement_item entries more rows More = Text (if more then codes "Y" else codes "N")

@@ -4,4 +4,4 @@ pub mod Condition
 pub mod Entry
 pub mod Handlers
 pub mod Item
-pub mod Sound
+pub mod WellFormed

@@ -2,7 +2,7 @@
 ghost use Rattle.std.specs.Prelude.{◌≡◌, ◌<◌, nat_eq, nat_lt, IsTrue, Some, if◌then◌else◌};
 ghost use Rattle.psm_cond.specs.Choice.{chosen_in, is_exception, is_match, is_no_data, is_warning, rank, rank_of_values, specificity};
 ghost use Rattle.psm_cond.specs.Handlers.{Asks, choice, handler_rank, number_of, outside, own_handlers};
-ghost use Rattle.psm_cond.specs.Sound.{is_sound};
+ghost use Rattle.psm_cond.specs.WellFormed.{is_well_formed_table};
 
 use crate::condition::Condition;
 use crate::entry::Entry;
@@ -24,7 +24,7 @@ enum Asked {
 /// SQLSTATE, then for an SQLSTATE, then for a class; of several that are as specific it is the first. `None`
 /// comes exactly where no scope of the context has a match. It takes no memory.
 pub fn choose(table: &HandlerTable, context: u32, condition: &Condition) -> Option<u32>
-    requires { IsTrue (is_sound table.now) }
+    requires { IsTrue (is_well_formed_table table.now) }
     ensures { result ≡ choice table.now context condition.now.first }
 {
     let mut at = context;
@@ -38,7 +38,7 @@ pub fn choose(table: &HandlerTable, context: u32, condition: &Condition) -> Opti
 }
 
 fn ask(table: &HandlerTable, context: u32, entry: &Entry) -> Asked
-    requires sound { IsTrue (is_sound table.now) }
+    requires well_formed_handlers { IsTrue (is_well_formed_table table.now) }
     requires inside { 0 < context }
     ensures { Asks table.now context entry.now result }
 {
@@ -69,7 +69,7 @@ fn outside(table: &HandlerTable, handler: u32) -> u32
 
 /// The number of the handler that is chosen among those that the block of a context declares.
 fn chosen_in(table: &HandlerTable, context: u32, entry: &Entry) -> Option<u32>
-    requires { IsTrue (is_sound table.now) }
+    requires { IsTrue (is_well_formed_table table.now) }
     ensures { result ≡ number_of (chosen_in (handler_rank entry.now) (own_handlers table.now context)) }
 {
     let mut best = Best {

@@ -2,7 +2,7 @@
 ghost use Rattle.std.specs.Prelude.{◌≡◌, ◌↔◌, ◌≤◌, IfOk, IsTrue, length, map};
 ghost use Rattle.psm_sqlstate.specs.Kind.{kind_of};
 ghost use Rattle.psm_cond.specs.Entry.{entry_of, name_text, without_own};
-ghost use Rattle.psm_cond.specs.Condition.{alone, behind, by_state};
+ghost use Rattle.psm_cond.specs.Condition.{alone, following, by_state};
 ghost use Rattle.psm_cond.specs.Item.{GivesItem, IsNumber, entries_of, statement_item};
 
 use crate::entry::{Entry, text_of};
@@ -16,7 +16,7 @@ use std::alloc::{AllocError, Global};
 use std::cmp::Ordering;
 use std::marker::Model;
 
-/// As many entries as a condition keeps behind its first one.
+/// As many entries as a condition keeps after its first one.
 const MOST_OTHERS: usize = 3;
 
 /// A condition that a statement raises: one to four entries, of which the first decides, and whether entries
@@ -91,7 +91,7 @@ impl Condition {
         &self.first
     }
 
-    /// The entries behind the first one, in order.
+    /// The entries after the first one, in order.
     pub fn others(&self) -> &[Entry]
         ensures entries { result.now ≡ self.now.others }
         ensures bound { length result.now ≤ 3 }
@@ -125,8 +125,8 @@ impl Condition {
     /// The condition with an entry in front of its own entries (RESIGNAL with a condition, ISO/IEC
     /// 9075-4:1996). Four entries are kept; a fifth is dropped from the end, and `more` tells of it from
     /// then on.
-    pub fn behind(self, entry: Entry) -> Result<Condition, AllocError>
-        ensures { IfOk result (λ c. c ≡ behind entry self) }
+    pub fn following(self, entry: Entry) -> Result<Condition, AllocError>
+        ensures { IfOk result (λ c. c ≡ following entry self) }
     {
         let Condition {
             first,
@@ -172,7 +172,7 @@ impl Condition {
         })
     }
 
-    /// An item of the statement that raised it, with so many rows.
+    /// An item of the statement that raised it, with n rows.
     pub fn statement_item(
         &self,
         alloc: Global,

@@ -33,7 +33,7 @@ pub enum ConditionItem {
 }
 
 impl StatementItem {
-    /// The item, where there are so many entries and rows.
+    /// The item, where there are n entries and rows.
     pub(crate) fn of(
         self,
         alloc: Global,

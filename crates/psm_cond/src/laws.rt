@@ -7,7 +7,7 @@ ghost use Rattle.psm_cond.specs.declared.handlers.ContextKind.TheVariants as kin
 ghost use Rattle.psm_cond.specs.declared.handlers.HandlerTable.{HandlerTable};
 ghost use Rattle.psm_cond.specs.Choice.{HasNoMatch, IsMostSpecific, chosen, chosen_in};
 ghost use Rattle.psm_cond.specs.Handlers.{Numbered, context_at, outside, own_handlers, scopes};
-ghost use Rattle.psm_cond.specs.Sound.{is_sound};
+ghost use Rattle.psm_cond.specs.WellFormed.{is_well_formed_table};
 
 /// The handler that is chosen in a scope stands in it and matches, and none of the scope is more specific. None
 /// is chosen exactly where none matches.
@@ -28,6 +28,6 @@ pub fn choice_is_innermost()
 /// the scopes outside the block that declares its handler.
 pub fn scopes_go_outward()
     ensures routine { (t : HandlerTable) → scopes t 0 ≡ [] }
-    ensures block { (t : HandlerTable) (k : ℕ) (c : Context) (b : Block) → IsTrue (is_sound t) → context_at t k ≡ Some c → c.kind ≡ kind.Block b → scopes t k ≡ own_handlers t k ∷ scopes t c.parent }
-    ensures action { (t : HandlerTable) (k : ℕ) (c : Context) (handler : ℕ) → IsTrue (is_sound t) → context_at t k ≡ Some c → c.kind ≡ kind.Action handler → scopes t k ≡ scopes t (outside t handler) }
+    ensures block { (t : HandlerTable) (k : ℕ) (c : Context) (b : Block) → IsTrue (is_well_formed_table t) → context_at t k ≡ Some c → c.kind ≡ kind.Block b → scopes t k ≡ own_handlers t k ∷ scopes t c.parent }
+    ensures action { (t : HandlerTable) (k : ℕ) (c : Context) (handler : ℕ) → IsTrue (is_well_formed_table t) → context_at t k ≡ Some c → c.kind ≡ kind.Action handler → scopes t k ≡ scopes t (outside t handler) }
 {}

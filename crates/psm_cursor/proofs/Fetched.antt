@@ -14,7 +14,7 @@ use Rattle.psm_value.specs.declared.fault.ValueFault.TheVariants as value_fault
 use Rattle.psm_table.specs.Cursors.{Cursor, Plain, Insensitive, Position}
 use Rattle.psm_table.specs.Table.{Contents}
 use Rattle.psm_tablecode.specs.Faults.{IsRaised, Tells}
-use Rattle.psm_tablecode.specs.Suits.{Runs, RunItems}
+use Rattle.psm_tablecode.specs.TypeChecks.{Runs, RunItems}
 use Rattle.psm_cursor.specs.Fetching.{Fetch, Fetches, Moves, fetched, moved}
 
 pub fetches_fault : {P : Type 0} (f : Fetch P) (old new : P) (fault : ValueFault) (told : DataFault) → Moves f old new (Err fault) → Tells fault told → Fetches f old new (Err told)

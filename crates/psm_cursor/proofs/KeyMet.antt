@@ -150,8 +150,8 @@ module _ (t : Contents) (vars : List Datum) (test : Option (List Line)) (downwar
   is_due : (b : Bool) (o : Option (List Datum)) → b ≡ is_past downward bound key → o ≡ keyed t key → due ≡ due_at b o
   is_due b o e f = met_by_key t vars test downward bound key up asked ∙ sym (ap (due_at b) f ∙ ap (λ c. due_at c (keyed t key)) e)
 
-  pub due_not_behind : false ≡ is_past downward bound key → due ≡ Ok None
-  due_not_behind e = is_due false (keyed t key) e refl
+  pub due_not_after : false ≡ is_past downward bound key → due ≡ Ok None
+  due_not_after e = is_due false (keyed t key) e refl
 
   pub due_none : true ≡ is_past downward bound key → None ≡ keyed t key → due ≡ Ok None
   due_none e f = is_due true None e f

@@ -1,4 +1,4 @@
--- The first row that meets a test, of those behind a key.
+-- The first row that meets a test, of those after a key.
 use Rattle.std.proofs.Common.{◌≡◌, Bool, true, false, List, ◌∷◌, ap, Option, Some, Result, Ok, Err}
 use Rattle.std.specs.Prelude.{IfSome, if◌then◌else◌}
 use Rattle.psm_sqlstate.specs.declared.state.SqlState.{SqlState}

@@ -13,7 +13,7 @@ use Rattle.psm_table.specs.Table.{keyed, Contents}
 use Rattle.psm_table.specs.declared.definition.TableDef.{TableDef}
 use Rattle.psm_table.proofs.KeyLaws.{key_order-total}
 use Rattle.psm_cursor.specs.Current.{current_key, current_row, off_row}
-use Rattle.psm_cursor.specs.Suits.{StandsIn, SuitsCursor}
+use Rattle.psm_cursor.specs.TypeChecks.{StandsIn, TypeChecksCursor}
 
 equal-turned : (o : Ordering) → is_eq (ordering_reverse o) ≡ is_eq o
 equal-turned Less = refl
@@ -37,12 +37,12 @@ current_found t (Plain p vars) key e = found_there t key p.is_on_row p.bound e
 current_found t (Insensitive rows) key e = absurd cc
 
 -- a cursor that may be moved over a table stands in it, and so does one that leaves its row
-pub suits_stands : (query : Query) (def : TableDef) (c : Cursor) → SuitsCursor query def c → StandsIn def c
-suits_stands query def Closed s = tt
-suits_stands query def (Plain p vars) s = s.1
-suits_stands query def (Insensitive rows) s = tt
+pub type_checks_stands : (query : Query) (def : TableDef) (c : Cursor) → TypeChecksCursor query def c → StandsIn def c
+type_checks_stands query def Closed s = tt
+type_checks_stands query def (Plain p vars) s = s.1
+type_checks_stands query def (Insensitive rows) s = tt
 
-pub suits_off_row : (query : Query) (def : TableDef) (c : Cursor) → SuitsCursor query def c → SuitsCursor query def (off_row c)
-suits_off_row query def Closed s = tt
-suits_off_row query def (Plain p vars) s = s
-suits_off_row query def (Insensitive rows) s = tt
+pub type_checks_off_row : (query : Query) (def : TableDef) (c : Cursor) → TypeChecksCursor query def c → TypeChecksCursor query def (off_row c)
+type_checks_off_row query def Closed s = tt
+type_checks_off_row query def (Plain p vars) s = s
+type_checks_off_row query def (Insensitive rows) s = tt

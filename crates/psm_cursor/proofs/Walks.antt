@@ -1,4 +1,4 @@
--- The rows behind a key, one after another.
+-- The rows after a key, one after another.
 use Rattle.std.proofs.Common.{◌≡◌, ℕ, ◌-◌, Bool, true, false, List, [], ◌∷◌, length, get_or, refl, ap, sym, subst, ◌∙◌, arith, Option, Some, None}
 use Rattle.std.specs.Prelude.{All, AllPairs, cond, filter, reverse, slice_get}
 use Rattle.std.specs.Ordering.{is_gt, is_lt, ordering_reverse}
@@ -15,10 +15,10 @@ use Rattle.psm_table.proofs.Filters.{AllPairs-first, AllPairs-rest, filter-whole
 use Rattle.psm_table.proofs.KeyLaws.{key_order-total}
 use Rattle.psm_table.proofs.Searches.{less_before_less, turned_greater, turned_less}
 use Rattle.psm_table.proofs.Walks.{last-append}
-use Rattle.psm_tablecode.proofs.Turned.{filter-reverse}
+use Rattle.psm_tablecode.proofs.Stepped.{filter-reverse}
 use Rattle.psm_cursor.specs.Walking.{rows_onward}
 
--- ---- the first row behind a key
+-- ---- the first row after a key
 
 filter-same : {X : Type 0} (p q : X → Bool) → ((x : X) → p x ≡ q x) → (xs : List X) → filter p xs ≡ filter q xs
 filter-same p q h [] = refl
@@ -65,14 +65,14 @@ module _ (key : List ℕ) where
   first_downward None rows = ap (λ (l : List (List Datum)). slice_get l 0) (past-all true rows) ∙ first-reverse rows
   first_downward (Some bound) rows = ap (λ (l : List (List Datum)). slice_get l 0) (past-below bound rows) ∙ first-reverse (rows_below key bound rows)
 
--- ---- the rows behind it
+-- ---- the rows after it
 
 module _ (key : List ℕ) (downward : Bool) where
-  -- b lies behind a
-  abbrev Behind : List Datum → List Datum → Type 0
-  Behind a b = lies_past key downward (Some (values_at key a)) b ≡ true
+  -- b lies after a
+  abbrev After : List Datum → List Datum → Type 0
+  After a b = lies_past key downward (Some (values_at key a)) b ≡ true
 
-not_ahead : (key : List ℕ) (downward : Bool) (a b : List Datum) → Behind key downward a b → lies_past key downward (Some (values_at key b)) a ≡ false
+not_ahead : (key : List ℕ) (downward : Bool) (a b : List Datum) → After key downward a b → lies_past key downward (Some (values_at key b)) a ≡ false
 not_ahead key true a b h =
     ap is_gt (turned_less (values_at key a) (values_at key b) (greater_is (key_order (values_at key a) (values_at key b)) h))
 not_ahead key false a b h =
@@ -82,7 +82,7 @@ not_itself : (key : List ℕ) (downward : Bool) (a : List Datum) (b : Bool) → 
 not_itself key downward a true e = not_ahead key downward a a e
 not_itself key downward a false e = e
 
-further : (key : List ℕ) (downward : Bool) (bound : Option (List Datum)) (a b : List Datum) → lies_past key downward bound a ≡ true → Behind key downward a b → lies_past key downward bound b ≡ true
+further : (key : List ℕ) (downward : Bool) (bound : Option (List Datum)) (a b : List Datum) → lies_past key downward bound a ≡ true → After key downward a b → lies_past key downward bound b ≡ true
 further key downward None a b h g = refl
 further key true (Some k) a b h g =
     let x : key_order (values_at key a) k ≡ Less = turned_less k (values_at key a) (greater_is (key_order k (values_at key a)) h) in
@@ -91,8 +91,8 @@ further key true (Some k) a b h g =
 further key false (Some k) a b h g =
     ap is_lt (less_before_less k (values_at key a) (values_at key b) (less_is (key_order k (values_at key a)) h) (less_is (key_order (values_at key a) (values_at key b)) g))
 
--- each row of a walk lies behind those before it
-walk_rises : (key : List ℕ) (downward : Bool) (rows : List (List Datum)) → IsAscending key rows → AllPairs (Behind key downward) (in_walk downward rows)
+-- each row of a walk lies after those before it
+walk_rises : (key : List ℕ) (downward : Bool) (rows : List (List Datum)) → IsAscending key rows → AllPairs (After key downward) (in_walk downward rows)
 walk_rises key false rows up = λ i j d l m. ap is_lt (up i j d l m)
 walk_rises key true rows up = λ i j d l m.
     let n : length (reverse rows) ≡ length rows = length-reverse rows in
@@ -111,32 +111,32 @@ module _ (key : List ℕ) (downward : Bool) (bound : Option (List Datum)) (x : L
   abbrev PastX : List Datum → Bool
   PastX row = lies_past key downward (Some (values_at key x)) row
 
-  step_first : (row : List Datum) (rows : List (List Datum)) (b : Bool) → AllPairs (Behind key downward) (row ∷ rows) → Past row ≡ b
+  step_first : (row : List Datum) (rows : List (List Datum)) (b : Bool) → AllPairs (After key downward) (row ∷ rows) → Past row ≡ b
       → (filter Past rows ≡ x ∷ r → filter PastX rows ≡ r) → cond b (row ∷ filter Past rows) (filter Past rows) ≡ x ∷ r → filter PastX (row ∷ rows) ≡ r
   step_first row rows true up e h f =
-      let whole : filter Past rows ≡ rows = filter-whole Past rows (λ k d l. further key downward bound row (get_or rows k d) e (AllPairs-first (Behind key downward) row rows up k d l)) in
+      let whole : filter Past rows ≡ rows = filter-whole Past rows (λ k d l. further key downward bound row (get_or rows k d) e (AllPairs-first (After key downward) row rows up k d l)) in
       let same : row ≡ x = cc in
       let rest : filter Past rows ≡ r = cc in
       let itself : lies_past key downward (Some (values_at key row)) row ≡ false = not_itself key downward row (lies_past key downward (Some (values_at key row)) row) refl in
-      let all : filter (lies_past key downward (Some (values_at key row))) rows ≡ rows = filter-whole (lies_past key downward (Some (values_at key row))) rows (AllPairs-first (Behind key downward) row rows up) in
+      let all : filter (lies_past key downward (Some (values_at key row))) rows ≡ rows = filter-whole (lies_past key downward (Some (values_at key row))) rows (AllPairs-first (After key downward) row rows up) in
       subst (λ z. filter (lies_past key downward (Some (values_at key z))) (row ∷ rows) ≡ r) same
       (ap (λ c. cond c (row ∷ filter (lies_past key downward (Some (values_at key row))) rows) (filter (lies_past key downward (Some (values_at key row))) rows)) itself
       ∙ all ∙ sym whole ∙ rest)
   step_first row rows false up e h f =
-      let later : All (Behind key downward row) (x ∷ r) = subst (All (Behind key downward row)) f (All-filter Past (Behind key downward row) rows (AllPairs-first (Behind key downward) row rows up)) in
-      let behind : Behind key downward row x = All-head (Behind key downward row) x r later in
-      ap (λ c. cond c (row ∷ filter PastX rows) (filter PastX rows)) (not_ahead key downward row x behind) ∙ h f
+      let later : All (After key downward row) (x ∷ r) = subst (All (After key downward row)) f (All-filter Past (After key downward row) rows (AllPairs-first (After key downward) row rows up)) in
+      let following : After key downward row x = All-head (After key downward row) x r later in
+      ap (λ c. cond c (row ∷ filter PastX rows) (filter PastX rows)) (not_ahead key downward row x following) ∙ h f
 
-  step : (rows : List (List Datum)) → AllPairs (Behind key downward) rows → filter Past rows ≡ x ∷ r → filter PastX rows ≡ r
+  step : (rows : List (List Datum)) → AllPairs (After key downward) rows → filter Past rows ≡ x ∷ r → filter PastX rows ≡ r
   step [] up e = cc
-  step (row ∷ rows) up e = step_first row rows (Past row) up refl (step rows (AllPairs-rest (Behind key downward) row rows up)) e
+  step (row ∷ rows) up e = step_first row rows (Past row) up refl (step rows (AllPairs-rest (After key downward) row rows up)) e
 
 onward_list : (key : List ℕ) (downward : Bool) (bound : Option (List Datum)) (rows l : List (List Datum)) → IsAscending key rows → rows_past key downward bound rows ≡ l
     → rows_onward key downward rows (slice_get l 0) ≡ l
 onward_list key downward bound rows [] up e = refl
 onward_list key downward bound rows (x ∷ r) up e = ap (λ rest. x ∷ rest) (step key downward bound x r (in_walk downward rows) (walk_rises key downward rows up) e)
 
--- the first row behind a key and those behind it are all that are behind the key
+-- the first row after a key and those after it are all that are after the key
 pub onward_upward : (key : List ℕ) (downward : Bool) (bound o : Option (List Datum)) (rows : List (List Datum)) → downward ≡ false → IsAscending key rows → o ≡ row_after key bound rows
     → rows_onward key downward rows o ≡ rows_past key downward bound rows
 onward_upward key true bound o rows e up h = cc

@@ -21,7 +21,7 @@ pub record Fetch (P : Type 0) : Type 0 where
   pub due : Result (Option (List Datum)) SqlState
   pub place : P
 
--- the cursor has moved so, and its answer is the one that is due, but for want of memory, which may come before the move or
+-- the cursor has moved so, and its answer is the one that is due, unless memory runs out, which may come before the move or
 -- after it
 abbrev pub Fetches : {P : Type 0} → Fetch P → P → P → Result (Option (List Datum)) DataFault → Type 0
 Fetches f old new (Ok row) = (f.due ≡ Ok row) × (new ≡ f.place)
@@ -48,7 +48,7 @@ moved_by query vars p (Err state) = record { due = Err state; place = p }
 abbrev pub moved : Query → Contents → List Datum → Position → Fetch Position
 moved query t vars p = moved_by query vars p (advanced (over vars) (query_of query) t.def.key t.rows p)
 
--- the row is the one that is due, but for want of memory
+-- the row is the one that is due, unless memory runs out
 abbrev pub Finds : Result (Option (List Datum)) SqlState → Result (Option (Bor (List Datum))) ValueFault → Type 0
 Finds due (Ok row) = due ≡ Ok (option_copied row)
 Finds due (Err (value_fault.Condition state)) = due ≡ Err state

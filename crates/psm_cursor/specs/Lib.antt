@@ -3,5 +3,5 @@ pub mod Fetching
 pub mod Opened
 pub mod Places
 pub mod States
-pub mod Suits
+pub mod TypeChecks
 pub mod Walking

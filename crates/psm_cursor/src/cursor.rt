@@ -4,10 +4,10 @@ ghost use Rattle.std.specs.Option.{option_copied};
 ghost use Rattle.psm_table.specs.Cursors.{Closed, Insensitive, Plain, before_first};
 ghost use Rattle.psm_table.specs.Definition.{IsRow};
 ghost use Rattle.psm_tablecode.specs.Faults.{Answers};
-ghost use Rattle.psm_tablecode.specs.Suits.{SuitsTable};
+ghost use Rattle.psm_tablecode.specs.TypeChecks.{TypeChecksTable};
 ghost use Rattle.psm_cursor.specs.Current.{current_key, current_row, off_row};
 ghost use Rattle.psm_cursor.specs.Fetching.{fetched, Fetches};
-ghost use Rattle.psm_cursor.specs.Suits.{StandsIn, SuitsCursor};
+ghost use Rattle.psm_cursor.specs.TypeChecks.{StandsIn, TypeChecksCursor};
 ghost use Rattle.psm_cursor.specs.Opened.{is_opened, opened_over};
 
 use crate::fetching::fetch;
@@ -79,7 +79,7 @@ impl Cursor {
         vars: &[Datum],
     ) -> Result<Cursor, DataFault>
         requires exists { query.now.table < length (S.tables store.now) }
-        requires suits { IfSome (slice_get (S.tables store.now) query.now.table) (λ t. SuitsTable query.now vars.now t.def) }
+        requires type_checks { IfSome (slice_get (S.tables store.now) query.now.table) (λ t. TypeChecksTable query.now vars.now t.def) }
         ensures { IfSome (slice_get (S.tables store.now) query.now.table) (λ t. Answers (opened_over query.now vars.now t) result) }
     {
         match rows(alloc, store, query, vars) {
@@ -106,7 +106,7 @@ impl Cursor {
     ///
     /// A plain cursor goes over the rows of the table as they are now, and stands on the row that meets the test before
     /// the row's items are evaluated: a condition of the test leaves the cursor where it was, and one of an item leaves
-    /// it on the row. Behind the last row it stays there. The condition is that of the SQLSTATE alone. Memory may run
+    /// it on the row. After the last row it stays there. The condition is that of the SQLSTATE alone. Memory may run
     /// out at any time, before the cursor is moved or after it.
     ///
     /// The table of the query has to be there. The query of a plain cursor has to fit the table and the variables that
@@ -119,9 +119,9 @@ impl Cursor {
         query: &Query,
     ) -> Result<Option<Row>, DataFault>
         requires exists { query.now.table < length (S.tables store.now) }
-        requires suits { IfSome (slice_get (S.tables store.now) query.now.table) (λ t. SuitsCursor query.now t.def self.old) }
+        requires type_checks { IfSome (slice_get (S.tables store.now) query.now.table) (λ t. TypeChecksCursor query.now t.def self.old) }
         ensures fetches { IfSome (slice_get (S.tables store.now) query.now.table) (λ t. Fetches (fetched query.now t self.old) self.old self.new result) }
-        ensures suits { IfSome (slice_get (S.tables store.now) query.now.table) (λ t. SuitsCursor query.now t.def self.new) }
+        ensures type_checks { IfSome (slice_get (S.tables store.now) query.now.table) (λ t. TypeChecksCursor query.now t.def self.new) }
     {
         self.next_of(alloc, store.table(query.table), query)
     }
@@ -175,9 +175,9 @@ impl Cursor {
         table: &Table,
         query: &Query,
     ) -> Result<Option<Row>, DataFault>
-        requires { SuitsCursor query.now table.now.contents.def self.old }
+        requires { TypeChecksCursor query.now table.now.contents.def self.old }
         ensures fetches { Fetches (fetched query.now table.now.contents self.old) self.old self.new result }
-        ensures suits { SuitsCursor query.now table.now.contents.def self.new }
+        ensures type_checks { TypeChecksCursor query.now table.now.contents.def self.new }
     {
         match &mut self.state {
             State::Closed => Ok(None),

@@ -2,9 +2,9 @@
 ghost use Rattle.std.specs.Prelude.{IfSome};
 ghost use Rattle.psm_value.specs.Answer.{Gives};
 ghost use Rattle.psm_tablecode.specs.Rows.{values_for};
-ghost use Rattle.psm_tablecode.specs.Suits.{RunItems};
+ghost use Rattle.psm_tablecode.specs.TypeChecks.{RunItems};
 ghost use Rattle.psm_cursor.specs.Fetching.{moved, Fetches, Moves};
-ghost use Rattle.psm_cursor.specs.Suits.{HasRows, IsPlace, SuitsPlain};
+ghost use Rattle.psm_cursor.specs.TypeChecks.{HasRows, IsPlace, TypeChecksPlain};
 
 use crate::place::Place;
 use crate::walking::next_met;
@@ -24,7 +24,7 @@ pub(crate) fn fetch(
     query: &Query,
     vars: &[Datum],
 ) -> Result<Option<Row>, DataFault>
-    requires suits { SuitsPlain query.now vars.now table.now.contents.def }
+    requires type_checks { TypeChecksPlain query.now vars.now table.now.contents.def }
     requires place { IsPlace table.now.contents.def place.old }
     ensures fetches { Fetches (moved query.now table.now.contents vars.now place.old) place.old place.new result }
     ensures place { IsPlace table.now.contents.def place.new }
@@ -43,7 +43,7 @@ fn advance(
     query: &Query,
     vars: &[Datum],
 ) -> Result<Option<Row>, ValueFault>
-    requires suits { SuitsPlain query.now vars.now table.now.contents.def }
+    requires type_checks { TypeChecksPlain query.now vars.now table.now.contents.def }
     requires place { IsPlace table.now.contents.def place.old }
     ensures moves { Moves (moved query.now table.now.contents vars.now place.old) place.old place.new result }
     ensures place { IsPlace table.now.contents.def place.new }

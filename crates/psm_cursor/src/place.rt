@@ -14,7 +14,7 @@ enum Standing {
     OnRow,
     /// On none, before the row that follows.
     OffRow,
-    /// Behind the last row, where it stays.
+    /// After the last row, where it stays.
     PastLast,
 }
 
@@ -62,7 +62,7 @@ impl Place {
         }
     }
 
-    /// Whether it is behind the last row.
+    /// Whether it is after the last row.
     pub(crate) fn is_past_last(&self) -> bool
         ensures { result ≡ self.now.is_past_last }
     {
@@ -80,7 +80,7 @@ impl Place {
         self.standing = Standing::OnRow;
     }
 
-    /// Moves behind the last row.
+    /// Moves after the last row.
     pub(crate) fn pass_last(&mut self)
         ensures { self.new ≡ record self.old { is_on_row = false; is_past_last = true } }
     {

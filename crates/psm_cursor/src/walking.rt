@@ -1,4 +1,4 @@
-//! The rows of a table behind a key. No row before it is looked at.
+//! The rows of a table after a key. No row before it is looked at.
 ghost use Rattle.std.specs.Prelude.{◌≡◌, Some, IfOk, IfSome};
 ghost use Rattle.std.specs.Option.{option_copied, ForSome};
 ghost use Rattle.psm_table.specs.Cursors.{first_met, rows_past};
@@ -8,7 +8,7 @@ ghost use Rattle.psm_table.specs.Key.{values_at};
 ghost use Rattle.psm_table.specs.Table.{IsTable};
 ghost use Rattle.psm_tablecode.specs.Asked.{key_asked};
 ghost use Rattle.psm_tablecode.specs.Codes.{over};
-ghost use Rattle.psm_tablecode.specs.Suits.{SuitsTable};
+ghost use Rattle.psm_tablecode.specs.TypeChecks.{TypeChecksTable};
 ghost use Rattle.psm_cursor.specs.Fetching.{Finds};
 ghost use Rattle.psm_cursor.specs.Walking.{is_past, rows_onward};
 
@@ -18,7 +18,7 @@ use psm_tablecode::{meets, walk_of};
 use psm_value::{Datum, ValueFault};
 use std::alloc::Global;
 
-/// The first row behind a key that meets the test of a query, in the order of its walk; without a key, of all rows. Where
+/// The first row after a key that meets the test of a query, in the order of its walk; without a key, of all rows. Where
 /// the test asks for a key of its own, no other row is looked at.
 pub(crate) fn next_met<'a>(
     alloc: Global,
@@ -27,7 +27,7 @@ pub(crate) fn next_met<'a>(
     vars: &[Datum],
     key: Option<&Key>,
 ) -> Result<Option<&'a Row>, ValueFault>
-    requires suits { SuitsTable query.now vars.now table.now.contents.def }
+    requires type_checks { TypeChecksTable query.now vars.now table.now.contents.def }
     requires key { ForSome key (λ k. IsKey table.now.contents.def k.now) }
     ensures row { Finds (first_met (test_of (over vars.now) query.now.test) (rows_past table.now.contents.def.key query.now.downward (option_copied key.entry) table.now.contents.rows)) result }
     ensures fits { IfOk result (λ o. IfSome o (λ row. IsRow table.now.contents.def row.now)) }
@@ -35,12 +35,12 @@ pub(crate) fn next_met<'a>(
     let walk = walk_of(alloc, table, query.downward, query.test.as_ref(), vars)?;
     match &walk.key {
         Some(asked) => met_at_key(alloc, table, query, vars, key, asked),
-        None => met_behind(alloc, table, query, vars, key),
+        None => met_after(alloc, table, query, vars, key),
     }
 }
 
-// The row of the key for which the test asks, if it is behind the other key and meets the test.
-#[tactic(auto, using(crate::proofs::KeyMet::due_not_behind, crate::proofs::KeyMet::due_none, crate::proofs::KeyMet::due_passed, crate::proofs::KeyMet::due_met, crate::proofs::KeyMet::due_fault))]
+// The row of the key for which the test asks, if it is after the other key and meets the test.
+#[tactic(auto, using(crate::proofs::KeyMet::due_not_after, crate::proofs::KeyMet::due_none, crate::proofs::KeyMet::due_passed, crate::proofs::KeyMet::due_met, crate::proofs::KeyMet::due_fault))]
 fn met_at_key<'a>(
     alloc: Global,
     table: &'a Table,
@@ -49,14 +49,14 @@ fn met_at_key<'a>(
     key: Option<&Key>,
     asked: &Key,
 ) -> Result<Option<&'a Row>, ValueFault>
-    requires suits { SuitsTable query.now vars.now table.now.contents.def }
+    requires type_checks { TypeChecksTable query.now vars.now table.now.contents.def }
     requires asked { key_asked table.now.contents.def.key vars.now query.now.test ≡ Some asked.now }
     requires fits { IsKey table.now.contents.def asked.now }
     ensures row { Finds (first_met (test_of (over vars.now) query.now.test) (rows_past table.now.contents.def.key query.now.downward (option_copied key.entry) table.now.contents.rows)) result }
     ensures fits { IfOk result (λ o. IfSome o (λ row. IsRow table.now.contents.def row.now)) }
 {
     ascends(table);
-    if !is_behind(query.downward, key, asked) {
+    if !is_after(query.downward, key, asked) {
         return Ok(None);
     }
     let Some(row) = table.get(asked) else {
@@ -70,8 +70,8 @@ fn met_at_key<'a>(
     }
 }
 
-// Whether a key is behind another in the order of a walk; without the other each is.
-fn is_behind(downward: bool, key: Option<&Key>, asked: &Key) -> bool
+// Whether a key is after another in the order of a walk; without the other each is.
+fn is_after(downward: bool, key: Option<&Key>, asked: &Key) -> bool
     ensures { result ≡ is_past downward (option_copied key.entry) asked.now }
 {
     match key {
@@ -81,15 +81,15 @@ fn is_behind(downward: bool, key: Option<&Key>, asked: &Key) -> bool
     }
 }
 
-// The same over the rows behind the key, one after another.
-fn met_behind<'a>(
+// The same over the rows after the key, one after another.
+fn met_after<'a>(
     alloc: Global,
     table: &'a Table,
     query: &Query,
     vars: &[Datum],
     key: Option<&Key>,
 ) -> Result<Option<&'a Row>, ValueFault>
-    requires suits { SuitsTable query.now vars.now table.now.contents.def }
+    requires type_checks { TypeChecksTable query.now vars.now table.now.contents.def }
     requires key { ForSome key (λ k. IsKey table.now.contents.def k.now) }
     ensures row { Finds (first_met (test_of (over vars.now) query.now.test) (rows_past table.now.contents.def.key query.now.downward (option_copied key.entry) table.now.contents.rows)) result }
     ensures fits { IfOk result (λ o. IfSome o (λ row. IsRow table.now.contents.def row.now)) }
@@ -100,12 +100,12 @@ fn met_behind<'a>(
         if meets(alloc, &mut stack, &query.test, row.values(), vars)? {
             return Ok(Some(row));
         }
-        next = first_behind(table, query.downward, row);
+        next = first_after(table, query.downward, row);
     }
     Ok(None)
 }
 
-// The first row behind a key; without a key the first of all.
+// The first row after a key; without a key the first of all.
 #[tactic(auto, using(crate::proofs::Walks::onward_upward, crate::proofs::Walks::onward_downward))]
 fn first_past<'a>(table: &'a Table, downward: bool, key: Option<&Key>) -> Option<&'a Row>
     requires { ForSome key (λ k. IsKey table.now.contents.def k.now) }
@@ -120,9 +120,9 @@ fn first_past<'a>(table: &'a Table, downward: bool, key: Option<&Key>) -> Option
     }
 }
 
-// The first row behind a row.
+// The first row after a row.
 #[tactic(auto, using(crate::proofs::Walks::onward_upward, crate::proofs::Walks::onward_downward))]
-fn first_behind<'a>(table: &'a Table, downward: bool, row: &Row) -> Option<&'a Row>
+fn first_after<'a>(table: &'a Table, downward: bool, row: &Row) -> Option<&'a Row>
     requires { IsRow table.now.contents.def row.now }
     ensures rows { rows_onward table.now.contents.def.key downward table.now.contents.rows (option_copied result) ≡ rows_past table.now.contents.def.key downward (Some (values_at table.now.contents.def.key row.now)) table.now.contents.rows }
     ensures fits { IfSome result (λ row. IsRow table.now.contents.def row.now) }
@@ -131,7 +131,7 @@ fn first_behind<'a>(table: &'a Table, downward: bool, row: &Row) -> Option<&'a R
     if downward {
         table.row_before_row(row)
     } else {
-        table.row_behind(row)
+        table.row_following(row)
     }
 }
 

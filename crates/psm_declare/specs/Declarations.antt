@@ -1,13 +1,13 @@
--- What the declarations of a compound statement come to, with slots and numbers for their names, and what is declared and numbered
--- behind them (ISO/IEC 9075-4:1996, compound statement).
+-- What the declarations of a compound statement end in, with slots and numbers for their names, and what is declared and numbered
+-- after them (ISO/IEC 9075-4:1996, compound statement).
 use Rattle.std.specs.Prelude.{ℕ, suc, Bool, true, false, Option, Some, None, List, [], ◌∷◌, ◌++◌, option_map, if◌then◌else◌}
 use Rattle.psm_value.specs.declared.sqltype.SqlType.{SqlType}
-use Rattle.psm_scope.specs.Frames.{Spelling, undeclared}
-use Rattle.psm_scope.specs.Frames as frame
-use Rattle.psm_scope.specs.Scopes.{declared_here, redeclared}
+use Rattle.psm_scope.specs.Scopes.{Spelling, undeclared}
+use Rattle.psm_scope.specs.Scopes as scope
+use Rattle.psm_scope.specs.KeptScopes.{declared_here, redeclared}
 use Rattle.psm_scope.specs.declared.known.Variable.{Variable}
 use Rattle.psm_scope.specs.declared.known.DeclaredCondition.{DeclaredCondition}
-use Rattle.psm_rules.specs.View.{World}
+use Rattle.psm_rules.specs.CheckerScope.{SymbolTable}
 use Rattle.psm_rules.specs.BlockFaults.{declared_once, is_updatable}
 use Rattle.psm_rules.specs.StatementFaults.{several, good_state}
 use Rattle.psm_rules.specs.Types.{type_of}
@@ -22,71 +22,71 @@ use Rattle.psm_resolved.specs.declared.expr.ResolvedQuery.{ResolvedQuery, out-Re
 use Rattle.psm_resolved.specs.declared.statement.ResolvedCondition.TheVariants as conditions
 use Rattle.psm_resolved.specs.declared.statement.ResolvedCursor.{ResolvedCursor}
 use Rattle.psm_resolved.specs.declared.statement.ResolvedDeclaration.{ResolvedDeclaration}
-use Rattle.psm_resolve_expr.specs.Exprs.{query_made, type_known}
-use Rattle.psm_resolve_expr.specs.Sight.{Sight, Frames}
+use Rattle.psm_resolve_expr.specs.Exprs.{resolve_query, type_known}
+use Rattle.psm_resolve_expr.specs.ResolverScope.{ResolverScope, Scopes}
 use Rattle.psm_declare.specs.Numbering.{Numbering, with_slot, next_slot, with_cursor, with_condition, next_condition}
 use Rattle.psm_declare.specs.Seen.{expr_at}
 
 -- ---- declarations: each sees those before it, and a DEFAULT doesn't see the names of its own
 
--- what is declared so far: the frames, and what is numbered
-abbrev pub Told : Type 0
-Told = Frames × Numbering
+-- what is declared so far: the scopes, and what is numbered
+abbrev pub Numbered : Type 0
+Numbered = Scopes × Numbering
 
-abbrev pub with_variable : Frames → Spelling → Variable → Frames
-with_variable frames n x = let d = declared_here frames in redeclared frames (record d { variables = declared_once d.variables n x })
+abbrev pub with_variable : Scopes → Spelling → Variable → Scopes
+with_variable scopes n x = let d = declared_here scopes in redeclared scopes (record d { variables = declared_once d.variables n x })
 
-abbrev pub with_named_condition : Frames → Spelling → DeclaredCondition → Frames
-with_named_condition frames n x = let d = declared_here frames in redeclared frames (record d { conditions = declared_once d.conditions n x })
+abbrev pub with_named_condition : Scopes → Spelling → DeclaredCondition → Scopes
+with_named_condition scopes n x = let d = declared_here scopes in redeclared scopes (record d { conditions = declared_once d.conditions n x })
 
-abbrev pub with_numbered_cursor : Frames → Spelling → ℕ → Frames
-with_numbered_cursor frames n x = let d = declared_here frames in redeclared frames (record d { cursors = declared_once d.cursors n x })
+abbrev pub with_numbered_cursor : Scopes → Spelling → ℕ → Scopes
+with_numbered_cursor scopes n x = let d = declared_here scopes in redeclared scopes (record d { cursors = declared_once d.cursors n x })
 
 -- a variable of a type, in the next slot
 abbrev pub variable_in : SqlType → Numbering → Variable
 variable_in t n = record { kind = Some t; slot = next_slot n; assignable = true }
 
-abbrev pub told_variable : SqlType → Told → Spelling → Told
-told_variable t told name = (with_variable told.0 name (variable_in t told.1), with_slot t told.1)
+abbrev pub numbered_variable : SqlType → Numbered → Spelling → Numbered
+numbered_variable t numbered name = (with_variable numbered.0 name (variable_in t numbered.1), with_slot t numbered.1)
 
 -- the slots of variables of one declaration
-abbrev pub told_variables : SqlType → Told → List Identifier → Told
-told_variables t told [] = told
-told_variables t told (n ∷ ns) = told_variables t (told_variable t told n.name) ns
+abbrev pub numbered_variables : SqlType → Numbered → List Identifier → Numbered
+numbered_variables t numbered [] = numbered
+numbered_variables t numbered (n ∷ ns) = numbered_variables t (numbered_variable t numbered n.name) ns
 
 abbrev pub slots_from : ℕ → List Identifier → List ℕ
 slots_from slot [] = []
 slots_from slot (n ∷ ns) = slot ∷ slots_from (suc slot) ns
 
-abbrev pub own_condition : Told → Spelling → Told
-own_condition told name = (with_named_condition told.0 name (record { number = next_condition told.1; state = None }), with_condition name told.1)
+abbrev pub own_condition : Numbered → Spelling → Numbered
+own_condition numbered name = (with_named_condition numbered.0 name (record { number = next_condition numbered.1; state = None }), with_condition name numbered.1)
 
-abbrev pub named_state : Told → Spelling → State → Told
-named_state told name s = (with_named_condition told.0 name (record { number = 0; state = good_state s.text }), told.1)
+abbrev pub named_state : Numbered → Spelling → State → Numbered
+named_state numbered name s = (with_named_condition numbered.0 name (record { number = 0; state = good_state s.text }), numbered.1)
 
-abbrev pub told_condition : Told → Spelling → Option State → Told
-told_condition told name None = own_condition told name
-told_condition told name (Some s) = named_state told name s
+abbrev pub numbered_condition : Numbered → Spelling → Option State → Numbered
+numbered_condition numbered name None = own_condition numbered name
+numbered_condition numbered name (Some s) = named_state numbered name s
 
-abbrev pub told_behind : Told → Declaration → Told
-told_behind told (declarations.Variables place names kind default) = told_variables (type_known (type_of kind)) told (several names)
-told_behind told (declarations.Condition place name state) = told_condition told name.name state
+abbrev pub numbered_after : Numbered → Declaration → Numbered
+numbered_after numbered (declarations.Variables place names kind default) = numbered_variables (type_known (type_of kind)) numbered (several names)
+numbered_after numbered (declarations.Condition place name state) = numbered_condition numbered name.name state
 
--- the declaration of variables; one of a condition leaves nothing behind
-abbrev pub declaration_of : World → Told → Declaration → List ResolvedDeclaration
-declaration_of world told (declarations.Variables place names kind default) = record {
-  slots = slots_from (next_slot told.1) (several names);
-  default = option_map (expr_at (record { world = world; frames = told.0; row = None })) default;
+-- the declaration of variables; one of a condition leaves nothing after
+abbrev pub declaration_of : SymbolTable → Numbered → Declaration → List ResolvedDeclaration
+declaration_of symbols numbered (declarations.Variables place names kind default) = record {
+  slots = slots_from (next_slot numbered.1) (several names);
+  default = option_map (expr_at (record { symbols = symbols; scopes = numbered.0; row = None })) default;
 } ∷ []
-declaration_of world told (declarations.Condition place name state) = []
+declaration_of symbols numbered (declarations.Condition place name state) = []
 
-abbrev pub declarations_of : World → Told → List Declaration → List ResolvedDeclaration
-declarations_of world told [] = []
-declarations_of world told (x ∷ xs) = declaration_of world told x ++ declarations_of world (told_behind told x) xs
+abbrev pub declarations_of : SymbolTable → Numbered → List Declaration → List ResolvedDeclaration
+declarations_of symbols numbered [] = []
+declarations_of symbols numbered (x ∷ xs) = declaration_of symbols numbered x ++ declarations_of symbols (numbered_after numbered x) xs
 
-abbrev pub told_by : Told → List Declaration → Told
-told_by told [] = told
-told_by told (x ∷ xs) = told_by (told_behind told x) xs
+abbrev pub numbered_by : Numbered → List Declaration → Numbered
+numbered_by numbered [] = numbered
+numbered_by numbered (x ∷ xs) = numbered_by (numbered_after numbered x) xs
 
 -- ---- cursors
 
@@ -98,29 +98,29 @@ is_downward (Some order) = order.columns.first.descending
 abbrev pub ordered : Bool → ResolvedQuery → ResolvedQuery
 ordered downward query = let q = out-ResolvedQuery query in roll-ResolvedQuery (record { table = q.table; downward = downward; items = q.items; test = q.test })
 
-abbrev pub ordered_query : Sight → OrderedQuery → ResolvedQuery
-ordered_query sight q = ordered (is_downward q.order) (query_made q.query sight).query
+abbrev pub ordered_query : ResolverScope → OrderedQuery → ResolvedQuery
+ordered_query resolver_scope q = ordered (is_downward q.order) (resolve_query q.query resolver_scope).query
 
-abbrev pub cursor_of : World → Told → CursorDeclaration → ResolvedCursor
-cursor_of world told x = record {
-  number = told.1.cursors;
+abbrev pub cursor_of : SymbolTable → Numbered → CursorDeclaration → ResolvedCursor
+cursor_of symbols numbered x = record {
+  number = numbered.1.cursors;
   name = x.name.name;
   insensitive = x.insensitive;
   updatable = is_updatable x.insensitive x.updatability;
-  query = ordered_query (record { world = world; frames = told.0; row = None }) x.query;
+  query = ordered_query (record { symbols = symbols; scopes = numbered.0; row = None }) x.query;
 }
 
-abbrev pub told_cursor : Told → CursorDeclaration → Told
-told_cursor told x = (with_numbered_cursor told.0 x.name.name told.1.cursors, with_cursor told.1)
+abbrev pub numbered_cursor : Numbered → CursorDeclaration → Numbered
+numbered_cursor numbered x = (with_numbered_cursor numbered.0 x.name.name numbered.1.cursors, with_cursor numbered.1)
 
-abbrev pub cursors_of : World → Told → List CursorDeclaration → List ResolvedCursor
-cursors_of world told [] = []
-cursors_of world told (x ∷ xs) = cursor_of world told x ∷ cursors_of world (told_cursor told x) xs
+abbrev pub cursors_of : SymbolTable → Numbered → List CursorDeclaration → List ResolvedCursor
+cursors_of symbols numbered [] = []
+cursors_of symbols numbered (x ∷ xs) = cursor_of symbols numbered x ∷ cursors_of symbols (numbered_cursor numbered x) xs
 
-abbrev pub told_cursors : Told → List CursorDeclaration → Told
-told_cursors told [] = told
-told_cursors told (x ∷ xs) = told_cursors (told_cursor told x) xs
+abbrev pub numbered_cursors : Numbered → List CursorDeclaration → Numbered
+numbered_cursors numbered [] = numbered
+numbered_cursors numbered (x ∷ xs) = numbered_cursors (numbered_cursor numbered x) xs
 
--- the frames in which a compound statement declares
-abbrev pub opened : Option Spelling → Frames → Frames
-opened label frames = frame.Compound label undeclared ∷ frames
+-- the scopes in which a compound statement declares
+abbrev pub opened : Option Spelling → Scopes → Scopes
+opened label scopes = scope.Compound label undeclared ∷ scopes

@@ -2,7 +2,7 @@
 -- without an SQLSTATE a number of its own. Nothing is used again.
 use Rattle.std.specs.Prelude.{ℕ, suc, List, [], ◌∷◌, ◌++◌, length}
 use Rattle.psm_value.specs.declared.sqltype.SqlType.{SqlType}
-use Rattle.psm_scope.specs.Frames.{Spelling}
+use Rattle.psm_scope.specs.Scopes.{Spelling}
 
 -- what is numbered so far
 pub record Numbering : Type 0 where
@@ -13,7 +13,7 @@ pub record Numbering : Type 0 where
   -- the names of the conditions without an SQLSTATE
   pub conditions : List Spelling
 
--- what is made where so much is numbered, and what is numbered behind it
+-- what is made where so much is numbered, and what is numbered after it
 abbrev pub Step : Type 0 → Type 0
 Step A = Numbering → A × Numbering
 
@@ -33,11 +33,11 @@ with_condition name n = record n { conditions = n.conditions ++ name ∷ [] }
 abbrev pub next_condition : Numbering → ℕ
 next_condition n = length n.conditions
 
--- one thing behind another
+-- one thing after another
 abbrev pub in_turn : {A : Type 0} → List (Step A) → Step (List A)
 in_turn [] n = ([], n)
 in_turn (step ∷ steps) n = let one = step n in let others = in_turn steps one.1 in (one.0 ∷ others.0, others.1)
 
 -- what is made of a thing that is made
 abbrev pub then_as : {A B : Type 0} → (A → B) → Step A → Step B
-then_as f step n = let made = step n in (f made.0, made.1)
+then_as f step n = let resolved = step n in (f resolved.0, resolved.1)

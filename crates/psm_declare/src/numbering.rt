@@ -2,8 +2,8 @@
 ghost use Rattle.std.specs.Prelude.{◌≡◌, [], map, IfOk};
 ghost use Rattle.psm_declare.specs.Numbering.{next_condition, next_slot, with_condition, with_cursor, with_slot};
 
-use psm_known::{as_number, next_number};
 use psm_list::List;
+use psm_symbols::{as_number, next_number};
 use psm_text::Name;
 use psm_value::SqlType;
 use std::alloc::{AllocError, Global};

@@ -10,14 +10,14 @@ use Rattle.psm_exprcode.specs.Kinds.{letter_of}
 use Rattle.psm_table.specs.declared.definition.TableDef.{TableDef}
 use Rattle.psm_table.specs.Definition.{kinds_of, IsRow}
 use Rattle.psm_table.proofs.Rules.{first_true, second_true}
-use Rattle.psm_tablecode.specs.Suits.{gives_value, letters_of}
+use Rattle.psm_tablecode.specs.TypeChecks.{gives_value, letters_of}
 use Rattle.psm_tablecode.proofs.Fitting.{row_letters, value_runs}
-use Rattle.psm_dml.specs.Suits.{fits_set, Assigns, SuitSets}
+use Rattle.psm_dml.specs.TypeChecks.{fits_set, Assigns, SetsTypeCheck}
 
 letters_long : (def : TableDef) → length (letters_of def) ≡ length def.columns
 letters_long def = length-map (kinds_of def.columns) letter_of ∙ length-map def.columns (λ c. c.kind)
 
-module _ (sets : List SetItem) (vars : List Datum) (def : TableDef) (row : List Datum) (h : SuitSets sets vars def) (fits : IsRow def row) where
+module _ (sets : List SetItem) (vars : List Datum) (def : TableDef) (row : List Datum) (h : SetsTypeCheck sets vars def) (fits : IsRow def row) where
   assigns : (s : SetItem) → fits_set (letters_of def) h.variables s ≡ true → Assigns def row vars s
   assigns s e = record {
     column = omega (arith, ltb-true s.column (length (letters_of def)) (first_true (nat_lt s.column (length (letters_of def))) (gives_value (letters_of def) h.variables s.source) e), letters_long def);

@@ -22,7 +22,7 @@ mapped_true (Ok b) = refl
 mapped_true (Err s) = refl
 
 module _ {E : Type 0} (ev : Evaluator E) (checks : List E) (row : List Datum) where
-  -- with what is known, the rest of the CHECKs come to what all come to
+  -- with what is known, the rest of the CHECKs evaluate to what all evaluate to
   abbrev pub Holds : ℕ → Bool → Type 0
   Holds at kept = mapped (λ more. kept && more) (row_passes ev (drop at checks) row) ≡ row_passes ev checks row
 

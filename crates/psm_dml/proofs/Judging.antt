@@ -8,7 +8,7 @@ use Rattle.psm_value.specs.declared.datum.Datum.{Datum}
 use Rattle.psm_table.specs.Changing.{in_order, is_before, row_passes, rows_pass}
 use Rattle.psm_table.specs.Evaluator.{Evaluator, and_then, mapped}
 use Rattle.psm_table.proofs.Filters.{AllPairs-first, AllPairs-rest}
-use Rattle.psm_table.proofs.Ordered.{before_chained, in_order-last, in_order-ordered, placed_behind, AreOrdered}
+use Rattle.psm_table.proofs.Ordered.{before_chained, in_order-last, in_order-ordered, placed_after, AreOrdered}
 use Rattle.psm_dml.specs.declared.checking.Verdict.{Verdict}
 use Rattle.psm_dml.specs.declared.checking.Verdict.TheVariants.{Kept, Raised}
 use Rattle.std.specs.declared.alloc.AllocError.{AllocError}
@@ -59,48 +59,48 @@ module _ {E : Type 0} (ev : Evaluator E) (checks : List E) (key : List ℕ) wher
   abbrev Before : Row → Row → Type 0
   Before a b = is_before key a b ≡ true
 
-  -- a row behind the first stays behind it
-  behind_step : (q r y : Row) (s : SqlState) (ys : List Row) (b : Bool) → is_before key y r ≡ b → is_before key q r ≡ true → All (Before y) ys
-      → (IsFirst q s ys → IsFirst q s (placed_behind key r ys)) → IsFirst q s (y ∷ ys) → IsFirst q s (placed_behind key r (y ∷ ys))
-  behind_step q r y s ys true e f a h (inl p) = rw e (inl p)
-  behind_step q r y s ys true e f a h (inr p) = rw e (inr (p.0, p.1, h p.2))
-  behind_step q r y s ys false e f a h (inl p) = absurd (let bad : true ≡ false = sym f ∙ ap (λ z. is_before key z r) (sym p.0) ∙ e in cc)
-  behind_step q r y s ys false e f a h (inr p) =
+  -- a row after the first stays after it
+  after_step : (q r y : Row) (s : SqlState) (ys : List Row) (b : Bool) → is_before key y r ≡ b → is_before key q r ≡ true → All (Before y) ys
+      → (IsFirst q s ys → IsFirst q s (placed_after key r ys)) → IsFirst q s (y ∷ ys) → IsFirst q s (placed_after key r (y ∷ ys))
+  after_step q r y s ys true e f a h (inl p) = rw e (inl p)
+  after_step q r y s ys true e f a h (inr p) = rw e (inr (p.0, p.1, h p.2))
+  after_step q r y s ys false e f a h (inl p) = absurd (let bad : true ≡ false = sym f ∙ ap (λ z. is_before key z r) (sym p.0) ∙ e in cc)
+  after_step q r y s ys false e f a h (inr p) =
       let first : is_before key y q ≡ true = first_has (Before y) q s ys a p.2 in
       absurd (let bad : true ≡ false = sym (before_chained key y q r first f) ∙ e in cc)
 
-  behind : (q r : Row) (s : SqlState) (ys : List Row) → AreOrdered key ys → is_before key q r ≡ true → IsFirst q s ys → IsFirst q s (placed_behind key r ys)
-  behind q r s [] o f h = absurd h
-  behind q r s (y ∷ ys) o f h = behind_step q r y s ys (is_before key y r) refl f (AllPairs-first Before y ys o) (behind q r s ys (AllPairs-rest Before y ys o) f) h
+  following : (q r : Row) (s : SqlState) (ys : List Row) → AreOrdered key ys → is_before key q r ≡ true → IsFirst q s ys → IsFirst q s (placed_after key r ys)
+  following q r s [] o f h = absurd h
+  following q r s (y ∷ ys) o f h = after_step q r y s ys (is_before key y r) refl f (AllPairs-first Before y ys o) (following q r s ys (AllPairs-rest Before y ys o) f) h
 
   -- a row before the first is the first now
   ahead_step : (q r y : Row) (s t : SqlState) (ys : List Row) (b : Bool) → is_before key y r ≡ b → is_before key q r ≡ false → passes r ≡ Err t
-      → (IsFirst q s ys → IsFirst r t (placed_behind key r ys)) → IsFirst q s (y ∷ ys) → IsFirst r t (placed_behind key r (y ∷ ys))
+      → (IsFirst q s ys → IsFirst r t (placed_after key r ys)) → IsFirst q s (y ∷ ys) → IsFirst r t (placed_after key r (y ∷ ys))
   ahead_step q r y s t ys true e f g h (inl p) = absurd (let bad : true ≡ false = sym e ∙ ap (λ z. is_before key z r) p.0 ∙ f in cc)
   ahead_step q r y s t ys true e f g h (inr p) = rw e (inr (p.0, p.1, h p.2))
   ahead_step q r y s t ys false e f g h p = rw e (inl (refl, g))
 
-  ahead : (q r : Row) (s t : SqlState) (ys : List Row) → is_before key q r ≡ false → passes r ≡ Err t → IsFirst q s ys → IsFirst r t (placed_behind key r ys)
+  ahead : (q r : Row) (s t : SqlState) (ys : List Row) → is_before key q r ≡ false → passes r ≡ Err t → IsFirst q s ys → IsFirst r t (placed_after key r ys)
   ahead q r s t [] f g h = absurd h
   ahead q r s t (y ∷ ys) f g h = ahead_step q r y s t ys (is_before key y r) refl f g (ahead q r s t ys f g) h
 
   -- a row that raises none changes nothing
   quiet_step : (q r y : Row) (s : SqlState) (ys : List Row) (b c : Bool) → is_before key y r ≡ b → passes r ≡ Ok c
-      → (IsFirst q s ys → IsFirst q s (placed_behind key r ys)) → IsFirst q s (y ∷ ys) → IsFirst q s (placed_behind key r (y ∷ ys))
+      → (IsFirst q s ys → IsFirst q s (placed_after key r ys)) → IsFirst q s (y ∷ ys) → IsFirst q s (placed_after key r (y ∷ ys))
   quiet_step q r y s ys true c e g h (inl p) = rw e (inl p)
   quiet_step q r y s ys true c e g h (inr p) = rw e (inr (p.0, p.1, h p.2))
   quiet_step q r y s ys false c e g h p = rw e (inr (c, g, p))
 
-  quiet : (q r : Row) (s : SqlState) (ys : List Row) (c : Bool) → passes r ≡ Ok c → IsFirst q s ys → IsFirst q s (placed_behind key r ys)
+  quiet : (q r : Row) (s : SqlState) (ys : List Row) (c : Bool) → passes r ≡ Ok c → IsFirst q s ys → IsFirst q s (placed_after key r ys)
   quiet q r s [] c g h = absurd h
   quiet q r s (y ∷ ys) c g h = quiet_step q r y s ys (is_before key y r) c refl g (quiet q r s ys c g) h
 
   -- rows on which none is raised, and one more
   pass_step : (r y : Row) (ys : List Row) (b c d : Bool) (p rest : Result Bool SqlState) → is_before key y r ≡ d → passes r ≡ Ok c → passes y ≡ p → rows_pass ev checks ys ≡ rest
-      → ((e : Bool) → rest ≡ Ok e → rows_pass ev checks (placed_behind key r ys) ≡ Ok (e && c)) → further p rest ≡ Ok b → rows_pass ev checks (placed_behind key r (y ∷ ys)) ≡ Ok (b && c)
+      → ((e : Bool) → rest ≡ Ok e → rows_pass ev checks (placed_after key r ys) ≡ Ok (e && c)) → further p rest ≡ Ok b → rows_pass ev checks (placed_after key r (y ∷ ys)) ≡ Ok (b && c)
   pass_step r y ys b c true (Ok a) (Ok e) f g i j h k =
       let same : (a && e) ≡ b = cc in
-      rw f (ap (λ x. further x (rows_pass ev checks (placed_behind key r ys))) i ∙ ap (mapped (λ more. a && more)) (h e refl) ∙ ap Ok (and_moved a e c ∙ ap (λ x. x && c) same))
+      rw f (ap (λ x. further x (rows_pass ev checks (placed_after key r ys))) i ∙ ap (mapped (λ more. a && more)) (h e refl) ∙ ap Ok (and_moved a e c ∙ ap (λ x. x && c) same))
   pass_step r y ys b c false (Ok a) (Ok e) f g i j h k =
       let same : (a && e) ≡ b = cc in
       rw f (ap (λ x. further x (further (passes y) (rows_pass ev checks ys))) g ∙ ap (λ x. mapped (λ more. c && more) (further x (rows_pass ev checks ys))) i
@@ -108,7 +108,7 @@ module _ {E : Type 0} (ev : Evaluator E) (checks : List E) (key : List ℕ) wher
   pass_step r y ys b c d (Ok a) (Err t) f g i j h k = cc
   pass_step r y ys b c d (Err t) rest f g i j h k = cc
 
-  one_more : (r : Row) (ys : List Row) (b c : Bool) → passes r ≡ Ok c → rows_pass ev checks ys ≡ Ok b → rows_pass ev checks (placed_behind key r ys) ≡ Ok (b && c)
+  one_more : (r : Row) (ys : List Row) (b c : Bool) → passes r ≡ Ok c → rows_pass ev checks ys ≡ Ok b → rows_pass ev checks (placed_after key r ys) ≡ Ok (b && c)
   one_more r [] b c g h =
       let same : true ≡ b = cc in
       ap (λ x. further x (Ok true)) g ∙ ap Ok (and_true c) ∙ ap (λ x. Ok (x && c)) same
@@ -116,13 +116,13 @@ module _ {E : Type 0} (ev : Evaluator E) (checks : List E) (key : List ℕ) wher
 
   -- and one on which one is raised
   raise_step : (r y : Row) (ys : List Row) (b d : Bool) (t : SqlState) (p rest : Result Bool SqlState) → is_before key y r ≡ d → passes r ≡ Err t → passes y ≡ p → rows_pass ev checks ys ≡ rest
-      → ((e : Bool) → rest ≡ Ok e → IsFirst r t (placed_behind key r ys)) → further p rest ≡ Ok b → IsFirst r t (placed_behind key r (y ∷ ys))
+      → ((e : Bool) → rest ≡ Ok e → IsFirst r t (placed_after key r ys)) → further p rest ≡ Ok b → IsFirst r t (placed_after key r (y ∷ ys))
   raise_step r y ys b true t (Ok a) (Ok e) f g i j h k = rw f (inr (a, i, h e refl))
   raise_step r y ys b false t (Ok a) (Ok e) f g i j h k = rw f (inl (refl, g))
   raise_step r y ys b d t (Ok a) (Err u) f g i j h k = cc
   raise_step r y ys b d t (Err u) rest f g i j h k = cc
 
-  one_raises : (r : Row) (ys : List Row) (b : Bool) (t : SqlState) → passes r ≡ Err t → rows_pass ev checks ys ≡ Ok b → IsFirst r t (placed_behind key r ys)
+  one_raises : (r : Row) (ys : List Row) (b : Bool) (t : SqlState) → passes r ≡ Err t → rows_pass ev checks ys ≡ Ok b → IsFirst r t (placed_after key r ys)
   one_raises r [] b t g h = inl (refl, g)
   one_raises r (y ∷ ys) b t g h = raise_step r y ys b (is_before key y r) t (passes y) (rows_pass ev checks ys) refl g refl refl (λ e k. one_raises r ys e t g k) h
 
@@ -137,7 +137,7 @@ module _ {E : Type 0} (ev : Evaluator E) (checks : List E) (key : List ℕ) wher
       → Stands rows (seen ++ row ∷ []) (if b then Raised place s else Raised at t)
   place_step rows seen place at row s t true l m e g f h =
       let before : is_before key (get_or rows place []) row ≡ true = ap (is_before key (get_or rows place [])) (sym e) ∙ f in
-      (l, subst (IsFirst (get_or rows place []) s) (sym (in_order-last key seen row)) (behind (get_or rows place []) row s (in_order key seen) (in_order-ordered key seen) before h))
+      (l, subst (IsFirst (get_or rows place []) s) (sym (in_order-last key seen row)) (following (get_or rows place []) row s (in_order key seen) (in_order-ordered key seen) before h))
   place_step rows seen place at row s t false l m e g f h =
       let after : is_before key (get_or rows place []) row ≡ false = ap (is_before key (get_or rows place [])) (sym e) ∙ f in
       (m, subst (λ z. IsFirst z t (in_order key (seen ++ row ∷ []))) (sym e) (subst (IsFirst row t) (sym (in_order-last key seen row)) (ahead (get_or rows place []) row s t (in_order key seen) after g h)))

@@ -12,7 +12,7 @@ use Rattle.psm_table.specs.Key.{row_order, values_at}
 use Rattle.psm_table.specs.Rows.{put, row_with, rows_above, rows_below, without, IsAscending}
 use Rattle.psm_table.specs.Table.{with_row, Contents}
 use Rattle.psm_table.specs.Unique.{clashes, conflict, is_rival}
-use Rattle.psm_table.proofs.Ordered.{in_order-last, placed_behind, put-placed}
+use Rattle.psm_table.proofs.Ordered.{in_order-last, placed_after, put-placed}
 use Rattle.psm_table.proofs.Rules.{all-in_order, and_assoc, apart_from, keep-front, keep-new, second_true}
 use Rattle.psm_table.proofs.Tables.{ascending-put}
 use Rattle.psm_dml.specs.Rows.{fit_in, fits_in, with_rows}
@@ -99,7 +99,7 @@ put_order : (c : Contents) (xs : List Row) (row : Row) → c.rows ≡ in_order c
 put_order c xs row e up f =
     let none : row_with c.def.key (values_at c.def.key row) c.rows ≡ None =
     not_taken c.def row c.rows (row_with c.def.key (values_at c.def.key row) c.rows) refl (second_true (is_filled c.def row) (apart_from c.def row c.rows) f) in
-    put-placed c.def.key row c.rows up none ∙ ap (placed_behind c.def.key row) e ∙ sym (in_order-last c.def.key xs row)
+    put-placed c.def.key row c.rows up none ∙ ap (placed_after c.def.key row) e ∙ sym (in_order-last c.def.key xs row)
 
 -- some rows keep the rules one after another exactly where all rows together do, and then all stand in order
 pub record AreIn (rows xs : List Row) (c : Contents) : Type 0 where
@@ -147,7 +147,7 @@ pub with_rows-def : (rows : List Row) (c : Contents) → (with_rows rows c).def 
 with_rows-def [] c = refl
 with_rows-def (row ∷ rows) c = with_rows-def rows (with_row c row)
 
--- a row that doesn't keep the rules behind some that do
+-- a row that doesn't keep the rules after some that do
 pub fails_at : (xs ys : List Row) (row : Row) (c : Contents) → fit_in xs c ≡ true → fits_in row (with_rows xs c) ≡ false → fit_in (xs ++ row ∷ ys) c ≡ false
 fails_at xs ys row c f g =
     fit_in-append xs (row ∷ ys) c ∙ ap (λ b. b && fit_in (row ∷ ys) (with_rows xs c)) f ∙ ap (λ b. b && fit_in ys (with_row (with_rows xs c) row)) g

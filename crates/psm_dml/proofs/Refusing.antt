@@ -85,7 +85,7 @@ module _ (row : List Datum) (c : Contents) where
   key_there None e h = cc
   key_there (Some y) e h = and_false (is_filled c.def row) (apart_from c.def row c.rows) (key_taken c.def row c.rows y e)
 
-  -- it was refused, not for want of memory
+  -- it was refused, not because memory ran out
   pub turned_away : (fault : RowFault) → (fault ≡ Memory → ⊥) → length c.rows < most_rows → AnswersInsert row (Err fault) c → fits_in row c ≡ false
   turned_away Duplicate n l h = key_there (namesake c row) refl h.1
   turned_away Absent n l h = absurd h

@@ -19,7 +19,7 @@ use Rattle.psm_tablecode.proofs.Results.{mapped-same}
 use Rattle.psm_dml.specs.Rows.{with_option}
 
 module _ {A : Type 0} (test : List Datum → Result Truth SqlState) (take : List Datum → Result A SqlState) (order : List (List Datum)) where
-  -- with what is done, the rest comes to what all rows come to
+  -- with what is done, the rest evaluates to what all rows evaluate to
   abbrev pub Walks : ℕ → List A → Type 0
   Walks at done = mapped (λ more. done ++ more) (walked test take (drop at order)) ≡ walked test take order
 

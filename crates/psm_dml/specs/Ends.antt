@@ -25,24 +25,24 @@ IsDue def (Err failure) condition = IsOf def failure condition
 abbrev pub schema_of : TableDef → List (List Line) → Schema (List Line)
 schema_of def checks = record { def = def; checks = checks }
 
--- the fault bears the SQLSTATE and the name of the table, but for want of memory
+-- the fault bears the SQLSTATE and the name of the table, unless memory runs out
 abbrev pub Bears : List ℕ → TableDef → DataFault → Type 0
 Bears state def (fault.Raised condition) = IsOf def (OfTable state) condition
 Bears state def fault.Memory = Unit {0}
 
--- what is due where CHECKs come to that
+-- what is due where CHECKs evaluate to that
 abbrev pub checked : Result Bool SqlState → Result (Unit {0}) Failure
 checked (Ok true) = Ok tt
 checked (Ok false) = Err (OfTable (codes "23000"))
 checked (Err state) = Err (Raised state)
 
--- the CHECKs hold, or the condition is the one that is due, but for want of memory
+-- the CHECKs hold, or the condition is the one that is due, unless memory runs out
 abbrev pub Passes : TableDef → Result Bool SqlState → Result (Unit {0}) DataFault → Type 0
 Passes def passed (Ok u) = passed ≡ Ok true
 Passes def passed (Err (fault.Raised condition)) = IsDue def (checked passed) condition
 Passes def passed (Err fault.Memory) = Unit {0}
 
--- A statement on table t, which was c, is due to leave some rows and to be about so many. It does; or it raises the condition
+-- A statement on table t, which was c, is due to leave some rows and to be about n. It does; or it raises the condition
 -- that is due, or memory runs out, and then all tables are as before.
 abbrev pub Ends : Contents → Result Changed Failure → List Contents → ℕ → List Contents → Result ℕ DataFault → Type 0
 Ends c due old t new (Ok n) = (rows : List (List Datum)) × (due ≡ Ok (record { rows = rows; count = n })) × (new ≡ slice_set old t (record c { rows = rows }))

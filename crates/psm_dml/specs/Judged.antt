@@ -11,19 +11,19 @@ use Rattle.psm_dml.specs.declared.checking.Passed.TheVariants.{Held, Condition}
 use Rattle.psm_dml.specs.declared.checking.Verdict.{Verdict}
 use Rattle.psm_dml.specs.declared.checking.Verdict.TheVariants.{Kept, Raised}
 
--- what the CHECKs come to on a row
+-- what the CHECKs evaluate to on a row
 abbrev pub result_of : Passed → Result Bool SqlState
 result_of (Held b) = Ok b
 result_of (Condition state) = Err state
 
--- a condition is one of a row, and want of memory isn't
+-- a condition is one of a row, and out of memory isn't
 abbrev pub IsRefused : ValueFault → Result Passed AllocError → Type 0
 IsRefused (value_fault.Condition state) (Ok passed) = passed ≡ Condition state
 IsRefused (value_fault.Condition state) (Err error) = ⊥
 IsRefused value_fault.Memory (Ok passed) = ⊥
 IsRefused value_fault.Memory (Err error) = Unit {0}
 
--- the row whose condition counts is one of so many
+-- the row whose condition counts is one of n
 abbrev pub IsWithin : ℕ → Verdict → Type 0
 IsWithin n (Kept b) = Unit {0}
 IsWithin n (Raised place state) = place < n

@@ -2,4 +2,4 @@ pub mod Changes
 pub mod Ends
 pub mod Judged
 pub mod Rows
-pub mod Suits
+pub mod TypeChecks

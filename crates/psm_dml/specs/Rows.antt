@@ -64,7 +64,7 @@ changed_if (Ok true) change tables t = changed_at change tables t
 changed_if (Ok false) change tables t = tables
 changed_if (Err error) change tables t = tables
 
--- whether a row was put in: it wasn't for any refusal but want of memory
+-- whether a row was put in: it wasn't for any refusal but out of memory
 abbrev pub done_of : Result (Unit {0}) RowFault → Result Bool AllocError
 done_of (Ok u) = Ok true
 done_of (Err Duplicate) = Ok false

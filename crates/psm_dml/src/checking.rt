@@ -4,7 +4,7 @@ ghost use Rattle.psm_value.specs.Answer.{Gives};
 ghost use Rattle.psm_table.specs.Changing.{in_order, is_before as comes_before, is_kept as is_kept_truth, row_passes, rows_pass};
 ghost use Rattle.psm_table.specs.Key.{AreColumnsOf};
 ghost use Rattle.psm_tablecode.specs.Codes.{over};
-ghost use Rattle.psm_tablecode.specs.Suits.{Runs};
+ghost use Rattle.psm_tablecode.specs.TypeChecks.{Runs};
 ghost use Rattle.psm_dml.specs.Judged.{result_of, verdict_with, IsRefused, IsWithin};
 
 use crate::comparing::order;
@@ -25,7 +25,7 @@ pub(crate) enum Verdict {
     Raised(usize, SqlState),
 }
 
-/// What the CHECKs come to on a row.
+/// What the CHECKs evaluate to on a row.
 #[derive(Clone, Copy)]
 enum Passed {
     /// Whether each holds.

@@ -8,7 +8,7 @@ ghost use Rattle.psm_store.specs.Marks.{AnyMark, Keeps, most_marks};
 ghost use Rattle.psm_store.specs.RowCalls.{changed_at};
 ghost use Rattle.psm_tablecode.specs.Codes.{over};
 ghost use Rattle.psm_dml.specs.Ends.{Ends};
-ghost use Rattle.psm_dml.specs.Suits.{SuitsTest};
+ghost use Rattle.psm_dml.specs.TypeChecks.{TypeChecksTest};
 
 use crate::applying::{erase_row, erase_rows};
 use crate::finding::met_keys;
@@ -33,7 +33,7 @@ pub fn delete<S: Store>(
     vars: &[Datum],
 ) -> Result<u32, DataFault>
     requires exists { t < length (S.tables store.old) }
-    requires suits { IfSome (slice_get (S.tables store.old) t) (λ c. SuitsTest (option_copied test) vars.now c.def) }
+    requires type_checks { IfSome (slice_get (S.tables store.old) t) (λ c. TypeChecksTest (option_copied test) vars.now c.def) }
     requires room { S.marks store.old < most_marks }
     ensures answer { IfSome (slice_get (S.tables store.old) t) (λ c. Ends c (deleted (over vars.now) (option_copied test.entry) c.rows) (S.tables store.old) t (S.tables store.new) result) }
     ensures marks { S.marks store.new ≡ S.marks store.old }

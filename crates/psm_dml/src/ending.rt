@@ -6,7 +6,7 @@ ghost use Rattle.psm_store.specs.Marks.{AnyMark, Keeps, most_marks};
 ghost use Rattle.psm_tablecode.specs.Codes.{over};
 ghost use Rattle.psm_dml.specs.Ends.{schema_of, Bears, Ends, Passes};
 ghost use Rattle.psm_dml.specs.Rows.{without_keys, IsWhole, TakesRows};
-ghost use Rattle.psm_dml.specs.Suits.{SuitChecks};
+ghost use Rattle.psm_dml.specs.TypeChecks.{ChecksTypeCheck};
 
 use crate::applying::replace_rows;
 use crate::checking::judge;
@@ -28,7 +28,7 @@ pub(crate) fn finish<S: Store>(
     rows: Vec<Row>,
 ) -> Result<u32, DataFault>
     requires takes { TakesRows (S.tables store.old) t keys.now rows.items }
-    requires suits { IfSome (slice_get (S.tables store.old) t) (λ c. SuitChecks checks.now c.def) }
+    requires type_checks { IfSome (slice_get (S.tables store.old) t) (λ c. ChecksTypeCheck checks.now c.def) }
     requires legal { IfSome (slice_get (S.tables store.old) t) (λ c. IsLegal (over []) (schema_of c.def checks.now) (without_keys keys.now c).rows) }
     requires room { S.marks store.old < most_marks }
     ensures answer { IfSome (slice_get (S.tables store.old) t) (λ c. Ends c (counting (length rows.items) (ended (over []) (schema_of c.def checks.now) ((without_keys keys.now c).rows ++ rows.items))) (S.tables store.old) t (S.tables store.new) result) }
@@ -49,7 +49,7 @@ pub(crate) fn finish<S: Store>(
 
 // Whether the CHECKs hold on the new rows: the condition that one raises, or 23000 where one is false.
 fn check(alloc: Global, table: &Table, checks: &[ExprCode], rows: &[Row]) -> Result<(), DataFault>
-    requires suits { SuitChecks checks.now table.now.contents.def }
+    requires type_checks { ChecksTypeCheck checks.now table.now.contents.def }
     requires rows { All (IsWhole table.now.contents.def) rows.now }
     ensures passes { Passes table.now.contents.def (rows_pass (over []) checks.now (in_order table.now.contents.def.key rows.now)) result }
     ensures table { IsTable table.now.contents }

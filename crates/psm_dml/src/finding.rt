@@ -8,9 +8,9 @@ ghost use Rattle.psm_table.specs.Evaluator.{mapped, test_of};
 ghost use Rattle.psm_table.specs.Queries.{is_met, taken, walked};
 ghost use Rattle.psm_table.specs.Table.{IsTable};
 ghost use Rattle.psm_tablecode.specs.Codes.{over};
-ghost use Rattle.psm_tablecode.specs.Suits.{Runs};
+ghost use Rattle.psm_tablecode.specs.TypeChecks.{Runs};
 ghost use Rattle.psm_dml.specs.Rows.{key_in, with_option};
-ghost use Rattle.psm_dml.specs.Suits.{SuitsTest};
+ghost use Rattle.psm_dml.specs.TypeChecks.{TypeChecksTest};
 
 use psm_exprcode::{ExprCode, Operand};
 use psm_table::{Key, List, Row, Table};
@@ -25,7 +25,7 @@ pub(crate) fn met_keys(
     test: Option<&ExprCode>,
     vars: &[Datum],
 ) -> Result<List<Key>, ValueFault>
-    requires { SuitsTest (option_copied test) vars.now table.now.contents.def }
+    requires { TypeChecksTest (option_copied test) vars.now table.now.contents.def }
     ensures keys { Gives (walked (test_of (over vars.now) (option_copied test.entry)) (key_in table.now.contents.def.key) table.now.contents.rows) result }
     ensures fit { IfOk result (λ keys. All (IsKey table.now.contents.def) keys) }
     ensures bound { IfOk result (λ keys. length keys ≤ length table.now.contents.rows) }

@@ -5,7 +5,7 @@ ghost use Rattle.psm_table.specs.Definition.{HasColumns};
 ghost use Rattle.psm_store.specs.Marks.{AnyMark, Keeps, most_marks};
 ghost use Rattle.psm_tablecode.specs.Codes.{over};
 ghost use Rattle.psm_dml.specs.Ends.{schema_of, Ends};
-ghost use Rattle.psm_dml.specs.Suits.{SuitChecks};
+ghost use Rattle.psm_dml.specs.TypeChecks.{ChecksTypeCheck};
 
 use crate::ending::{at_table, finish};
 use crate::storing::stored_rows;
@@ -35,7 +35,7 @@ pub fn insert<S: Store>(
     rows: Vec<Row>,
 ) -> Result<u32, DataFault>
     requires exists { t < length (S.tables store.old) }
-    requires suits { IfSome (slice_get (S.tables store.old) t) (λ c. SuitChecks checks.now c.def) }
+    requires type_checks { IfSome (slice_get (S.tables store.old) t) (λ c. ChecksTypeCheck checks.now c.def) }
     requires legal { IfSome (slice_get (S.tables store.old) t) (λ c. IsLegal (over []) (schema_of c.def checks.now) c.rows) }
     requires rows { IfSome (slice_get (S.tables store.old) t) (λ c. All (HasColumns c.def) rows.items) }
     requires room { S.marks store.old < most_marks }

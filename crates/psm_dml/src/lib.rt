@@ -13,7 +13,7 @@ mod moving;
 mod planning;
 mod setting;
 mod storing;
-mod suiting;
+mod typing;
 mod updating;
 
 pub use deleting::{delete, delete_at};
@@ -21,5 +21,5 @@ pub use inserting::insert;
 pub use moving::update_at;
 pub use psm_cond::DataFault;
 pub use psm_exprcode::{ExprCode, SetItem};
-pub use suiting::{suit_checks, suit_sets};
+pub use typing::{suit_checks, suit_sets};
 pub use updating::update;

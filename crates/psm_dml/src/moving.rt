@@ -10,7 +10,7 @@ ghost use Rattle.psm_store.specs.Marks.{AnyMark, Keeps, most_marks};
 ghost use Rattle.psm_tablecode.specs.Codes.{over};
 ghost use Rattle.psm_dml.specs.Changes.{changing, row_set, set_of};
 ghost use Rattle.psm_dml.specs.Ends.{schema_of, EndsAtRow};
-ghost use Rattle.psm_dml.specs.Suits.{SuitChecks, SuitSets};
+ghost use Rattle.psm_dml.specs.TypeChecks.{ChecksTypeCheck, SetsTypeCheck};
 
 use crate::comparing::order;
 use crate::ending::finish;
@@ -41,9 +41,9 @@ pub fn update_at<S: Store>(
     vars: &[Datum],
 ) -> Result<bool, DataFault>
     requires exists { t < length (S.tables store.old) }
-    requires checks { IfSome (slice_get (S.tables store.old) t) (λ c. SuitChecks checks.now c.def) }
+    requires checks { IfSome (slice_get (S.tables store.old) t) (λ c. ChecksTypeCheck checks.now c.def) }
     requires fits { IfSome (slice_get (S.tables store.old) t) (λ c. IsKey c.def key.now) }
-    requires sets { IfSome (slice_get (S.tables store.old) t) (λ c. SuitSets sets.now vars.now c.def) }
+    requires sets { IfSome (slice_get (S.tables store.old) t) (λ c. SetsTypeCheck sets.now vars.now c.def) }
     requires legal { IfSome (slice_get (S.tables store.old) t) (λ c. IsLegal (over []) (schema_of c.def checks.now) c.rows) }
     requires room { S.marks store.old < most_marks }
     ensures answer { IfSome (slice_get (S.tables store.old) t) (λ c. EndsAtRow c (λ row. updated_at (over vars.now) (over []) (schema_of c.def checks.now) (map set_of sets.now) row c.rows) (keyed c key.now) (S.tables store.old) t (S.tables store.new) result) }
@@ -73,7 +73,7 @@ fn change_of_row(
     vars: &[Datum],
 ) -> Result<Change, ValueFault>
     requires row { IsRow table.now.contents.def row.now }
-    requires sets { SuitSets sets.now vars.now table.now.contents.def }
+    requires sets { SetsTypeCheck sets.now vars.now table.now.contents.def }
     ensures change { Gives (changing table.now.contents.def.key (row_set vars.now table.now.contents.def sets.now) row.now) result }
     ensures table { IsTable table.now.contents }
 {

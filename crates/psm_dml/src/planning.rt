@@ -7,10 +7,10 @@ ghost use Rattle.psm_table.specs.Evaluator.{test_of};
 ghost use Rattle.psm_table.specs.Queries.{taken, walked};
 ghost use Rattle.psm_table.specs.Table.{IsTable};
 ghost use Rattle.psm_tablecode.specs.Codes.{over};
-ghost use Rattle.psm_tablecode.specs.Suits.{Runs};
+ghost use Rattle.psm_tablecode.specs.TypeChecks.{Runs};
 ghost use Rattle.psm_dml.specs.Changes.{changing, row_set};
 ghost use Rattle.psm_dml.specs.Rows.{with_option};
-ghost use Rattle.psm_dml.specs.Suits.{Assigns, SuitSets, SuitsTest};
+ghost use Rattle.psm_dml.specs.TypeChecks.{Assigns, SetsTypeCheck, TypeChecksTest};
 
 use crate::finding::meets;
 use crate::setting::set_row;
@@ -36,8 +36,8 @@ pub(crate) fn changes(
     test: Option<&ExprCode>,
     vars: &[Datum],
 ) -> Result<List<Change>, ValueFault>
-    requires test { SuitsTest (option_copied test) vars.now table.now.contents.def }
-    requires sets { SuitSets sets.now vars.now table.now.contents.def }
+    requires test { TypeChecksTest (option_copied test) vars.now table.now.contents.def }
+    requires sets { SetsTypeCheck sets.now vars.now table.now.contents.def }
     ensures changes { Gives (walked (test_of (over vars.now) (option_copied test.entry)) (changing table.now.contents.def.key (row_set vars.now table.now.contents.def sets.now)) table.now.contents.rows) result }
     ensures table { IsTable table.now.contents }
 {

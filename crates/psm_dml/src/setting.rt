@@ -7,9 +7,9 @@ ghost use Rattle.psm_table.specs.Changing.{with_values as row_with_values};
 ghost use Rattle.psm_table.specs.Definition.{kinds_of, HasColumns};
 ghost use Rattle.psm_table.specs.Evaluator.{collected};
 ghost use Rattle.psm_tablecode.specs.Codes.{value_in};
-ghost use Rattle.psm_tablecode.specs.Suits.{Runs};
+ghost use Rattle.psm_tablecode.specs.TypeChecks.{Runs};
 ghost use Rattle.psm_dml.specs.Changes.{row_set, set_of};
-ghost use Rattle.psm_dml.specs.Suits.{Assigns};
+ghost use Rattle.psm_dml.specs.TypeChecks.{Assigns};
 
 use crate::storing::stored_value;
 use psm_exprcode::{Operand, SetItem};

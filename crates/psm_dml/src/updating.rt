@@ -6,7 +6,7 @@ ghost use Rattle.psm_store.specs.Marks.{AnyMark, Keeps, most_marks};
 ghost use Rattle.psm_tablecode.specs.Codes.{over};
 ghost use Rattle.psm_dml.specs.Changes.{set_of};
 ghost use Rattle.psm_dml.specs.Ends.{schema_of, Ends};
-ghost use Rattle.psm_dml.specs.Suits.{SuitChecks, SuitSets, SuitsTest};
+ghost use Rattle.psm_dml.specs.TypeChecks.{ChecksTypeCheck, SetsTypeCheck, TypeChecksTest};
 
 use crate::ending::finish;
 use crate::planning::{Plan, changes, split};
@@ -38,9 +38,9 @@ pub fn update<S: Store>(
     vars: &[Datum],
 ) -> Result<u32, DataFault>
     requires exists { t < length (S.tables store.old) }
-    requires checks { IfSome (slice_get (S.tables store.old) t) (λ c. SuitChecks checks.now c.def) }
-    requires sets { IfSome (slice_get (S.tables store.old) t) (λ c. SuitSets sets.now vars.now c.def) }
-    requires test { IfSome (slice_get (S.tables store.old) t) (λ c. SuitsTest (option_copied test) vars.now c.def) }
+    requires checks { IfSome (slice_get (S.tables store.old) t) (λ c. ChecksTypeCheck checks.now c.def) }
+    requires sets { IfSome (slice_get (S.tables store.old) t) (λ c. SetsTypeCheck sets.now vars.now c.def) }
+    requires test { IfSome (slice_get (S.tables store.old) t) (λ c. TypeChecksTest (option_copied test) vars.now c.def) }
     requires legal { IfSome (slice_get (S.tables store.old) t) (λ c. IsLegal (over []) (schema_of c.def checks.now) c.rows) }
     requires room { S.marks store.old < most_marks }
     ensures answer { IfSome (slice_get (S.tables store.old) t) (λ c. Ends c (updated (over vars.now) (over []) (schema_of c.def checks.now) (map set_of sets.now) (option_copied test.entry) c.rows) (S.tables store.old) t (S.tables store.new) result) }

@@ -18,11 +18,11 @@ enough_turned (suc n) [] h = absurd (cc)
 enough_turned (suc n) (Value a ∷ os) h = let e = enough_turned n os h in omega (arith, e)
 enough_turned (suc n) (Truth t ∷ os) h = absurd (cc)
 
--- so many values want so many operands
+-- n values want n operands
 pub enough : (n : ℕ) (items : List Operand) → are_values n (reverse items) ≡ true → n ≤ length items
 enough n items h = let e : n ≤ length (reverse items) = enough_turned n (reverse items) h in omega (arith, e, length-reverse items)
 
--- the operands below the last so many
+-- the operands below the last n
 pub below_is : (n p : ℕ) (items : List Operand) → p + n ≡ length items → drop n (reverse items) ≡ reverse (take p items)
 below_is n p items e =
     let turned : reverse items ≡ reverse (drop p items) ++ reverse (take p items) =
@@ -65,7 +65,7 @@ last_value (suc n) (Truth t ∷ vs) rest e h = absurd (cc)
 above_many : (n p : ℕ) (items : List Operand) → p + suc n ≡ length items → length (reverse (drop (p + 1) items)) ≡ n
 above_many n p items e = omega (arith, length-reverse (drop (p + 1) items), length-drop (p + 1) items)
 
--- the operand with so many values on it is no truth value, where it has to be one of as many and one
+-- the operand with n values on it is no truth value, where it has to be one of as many and one
 pub no_truth : (n p : ℕ) (items : List Operand) (t : Answer) → p + suc n ≡ length items → Truth t ≡ get_or items p (Truth t)
     → are_values (suc n) (reverse items) ≡ true → ⊥
 no_truth n p items t e g h =
@@ -74,7 +74,7 @@ no_truth n p items t e g h =
     let last : are_values 1 (Truth t ∷ reverse (take p items)) ≡ true = last_value n (reverse (drop (p + 1) items)) (Truth t ∷ reverse (take p items)) (above_many n p items e) shown in
     cc
 
--- IN of a value with so many others on it
+-- IN of a value with n others on it
 pub among_at : (n p : ℕ) (items : List Operand) (a : Datum) → p + suc n ≡ length items → Value a ≡ get_or items p (Value a)
     → are_values (suc n) (reverse items) ≡ true
     → on_many n (λ bs. on_value (λ a below. with_truth below (Ok (among a bs)))) (reverse items)

@@ -38,7 +38,7 @@ pub put_step : (letters s more old : List Letter) (n : ℕ) (x : Letter) → n <
 put_step letters s more old n x h e b g =
     g ∙ ap (λ k. x ∷ k) b ∙ ap (λ k. k ++ old) (ap (λ y. y ∷ drop (suc n) letters) e ∙ sym (drop-cons letters n x h))
 
--- the letter behind those that are taken off
+-- the letter after those that are taken off
 next_of : (s rest : List Letter) (l : Letter) (n : ℕ) → drop n s ≡ l ∷ rest → Some l ≡ slice_get s n
 next_of [] rest l zero e = absurd (cc)
 next_of [] rest l (suc n) e = absurd (cc)
@@ -62,7 +62,7 @@ next_none s left n e g = none_of s n (sym e ∙ g)
 abbrev written : List Line → List Letter → Writing
 written lines stack = record { lines = lines; stack = stack }
 
--- letters are put behind the lines
+-- letters are put after the lines
 pub written_put : (old new : List (List Letter)) (lines : List NumberedLine) (s more letters : List Letter) (w : Writing) → written (lines_of old lines) s ≡ w → Extends old new → AreStatedIn old lines → more ≡ letters ++ s
     → written (lines_of new lines) more ≡ written w.lines (letters ++ w.stack)
 written_put old new lines s more letters w e h k g =

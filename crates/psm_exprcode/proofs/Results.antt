@@ -1,4 +1,4 @@
--- The kinds of what operations come to.
+-- The kinds of what operations evaluate to.
 use Rattle.std.proofs.Common.{◌≡◌, ℕ, Bool, true, false, List, refl, Option, Some, None, Result, Ok, Err}
 use Rattle.std.specs.Prelude.{codes, if◌then◌else◌}
 use Rattle.psm_num.specs.declared.fault.NumFault.{NumFault}

@@ -1,4 +1,4 @@
--- Code that fits the kinds of columns and variables lacks nothing over values of those kinds, and its operands are of the
+-- Code that fits the kinds of columns and variables is never stuck over values of those kinds, and its operands are of the
 -- letters that its lines state.
 use Rattle.std.proofs.Common.{◌≡◌, ◌⊎◌, inl, inr, ℕ, zero, suc, ◌+◌, ◌-◌, ◌<◌, ◌≤◌, Bool, true, false, ◌&&◌, ◌||◌, List, [], ◌∷◌, ◌++◌, length, drop, get_or, nat_eq, nat_lt, refl, ap, sym, subst, ◌∙◌, arith, Option, Some, None, Ok, Err, Result, ltb-true, eqb-true, eq-eqb}
 use Rattle.std.specs.Prelude.{slice_get, option_map, reverse, IsSome, IsTrue, IfOk, if◌then◌else◌}
@@ -17,12 +17,12 @@ use Rattle.psm_exprcode.specs.declared.op.Op.{Op}
 use Rattle.psm_exprcode.specs.declared.operand.Operand.{Operand}
 use Rattle.psm_exprcode.specs.declared.operand.Next.{Next}
 use Rattle.psm_exprcode.specs.declared.operand.Next.TheVariants.{Ahead, Jump}
-use Rattle.psm_exprcode.specs.Applied.{Applied, Went, Raised, Lacking, applied}
-use Rattle.psm_exprcode.specs.Evaluated.{Outcome, place_after, goes_on, ended, ran, evaluated, Suits, Evaluates}
+use Rattle.psm_exprcode.specs.Applied.{Applied, Went, Raised, Stuck, applied}
+use Rattle.psm_exprcode.specs.Evaluated.{Outcome, place_after, goes_on, ended, ran, evaluated, TypeChecks, Evaluates}
 use Rattle.psm_exprcode.specs.Fits.{Fits, Refuses}
 use Rattle.psm_exprcode.specs.Kinds.{is_letter, is_value, some_value, some_letter, is_of, have}
 use Rattle.psm_exprcode.specs.Operations.{Effect, effect}
-use Rattle.psm_exprcode.specs.WellFormed.{same_stack, left_of, is_bounded, are_stated, lands, goes_ahead, goes_away, goes_on_with, leads, is_line, are_lines, is_of_kind}
+use Rattle.psm_exprcode.specs.WellFormed.{same_stack, left_of, is_bounded, are_stated, lands, falls_through, branches, goes_on_with, leads, is_line, are_lines, is_of_kind}
 use Rattle.psm_exprcode.proofs.Standing.{Leads}
 use Rattle.psm_exprcode.proofs.Stepping.{names, of_kind-names, op_leads, op_fits}
 use Rattle.psm_exprcode.proofs.Stripping.{is_letter-same, left_of-some}
@@ -72,7 +72,7 @@ letter_found test h = elim (or_cases (test N) (test T || test B) h) as (λ _. (x
 ]
 
 -- the letters in place of k and x of the table with which a line is right, and those below what it takes
-record Way (may : Op → Letter → Bool) (end : Letter) (at : ℕ) (l : Line) (after : List Line) : Type 0 where
+record Successor (may : Op → Letter → Bool) (end : Letter) (at : ℕ) (l : Line) (after : List Line) : Type 0 where
   pub kind : Letter
   pub other : Letter
   pub rest : List Letter
@@ -80,17 +80,17 @@ record Way (may : Op → Letter → Bool) (end : Letter) (at : ℕ) (l : Line) (
   pub is_kind : is_value kind ≡ true
   pub allowed : may l.op kind ≡ true
   pub below : reverse l.stack ≡ (effect l.op kind other).takes ++ rest
-  pub ahead : goes_ahead end (effect l.op kind other).ahead rest after ≡ true
-  pub away : goes_away end at (effect l.op kind other).away rest after ≡ true
+  pub fall_through : falls_through end (effect l.op kind other).fall_through rest after ≡ true
+  pub branching : branches end at (effect l.op kind other).branching rest after ≡ true
 
 left_found : (end : Letter) (at : ℕ) (e : Effect) (after : List Line) (left : Option (List Letter)) → goes_on_with end at e left after ≡ true
-    → (rest : List Letter) × (left ≡ Some rest) × (goes_ahead end e.ahead rest after ≡ true) × (goes_away end at e.away rest after ≡ true)
+    → (rest : List Letter) × (left ≡ Some rest) × (falls_through end e.fall_through rest after ≡ true) × (branches end at e.branching rest after ≡ true)
 left_found end at e after None h = absurd (cc)
 left_found end at e after (Some rest) h =
-    (rest, refl, and_first (goes_ahead end e.ahead rest after) (goes_away end at e.away rest after) h, and_second (goes_ahead end e.ahead rest after) (goes_away end at e.away rest after) h)
+    (rest, refl, and_first (falls_through end e.fall_through rest after) (branches end at e.branching rest after) h, and_second (falls_through end e.fall_through rest after) (branches end at e.branching rest after) h)
 
-way_of : (may : Op → Letter → Bool) (end : Letter) (at : ℕ) (l : Line) (after : List Line) → is_line may end at l after ≡ true → Way may end at l after
-way_of may end at l after h =
+successor_of : (may : Op → Letter → Bool) (end : Letter) (at : ℕ) (l : Line) (after : List Line) → is_line may end at l after ≡ true → Successor may end at l after
+successor_of may end at l after h =
     let for_other : Letter → Letter → Bool = λ k x. leads end at (effect l.op k x) (reverse l.stack) after in
     let for_kind : Letter → Bool = λ k. may l.op k && some_letter (for_other k) in
     let found = value_found for_kind (and_second (is_bounded l.op) (some_value for_kind) h) in
@@ -104,36 +104,36 @@ way_of may end at l after h =
       is_kind = found.1;
       allowed = and_first (may l.op found.0) (some_letter (for_other found.0)) found.2;
       below = left_of-some (effect l.op found.0 x.0).takes (reverse l.stack) left.0 left.1;
-      ahead = left.2;
-      away = left.3;
+      fall_through = left.2;
+      branching = left.3;
     }
 
-lands_ahead : (end : Letter) (at : ℕ) (puts : Option (List Letter)) (away : Option (ℕ × List Letter)) (rest : List Letter) (after : List Line) (os : List Operand) → goes_ahead end puts rest after ≡ true
-    → Leads puts away rest (Went Ahead os) → Lands end at after Ahead os
-lands_ahead end at None away rest after os h d = absurd d
-lands_ahead end at (Some puts) away rest after os h d =
+lands_fall_through : (end : Letter) (at : ℕ) (puts : Option (List Letter)) (branching : Option (ℕ × List Letter)) (rest : List Letter) (after : List Line) (os : List Operand) → falls_through end puts rest after ≡ true
+    → Leads puts branching rest (Went Ahead os) → Lands end at after Ahead os
+lands_fall_through end at None branching rest after os h d = absurd d
+lands_fall_through end at (Some puts) branching rest after os h d =
     let z : 0 ≡ suc at - suc at = omega arith in
     (omega arith, sym (ap (λ n. stands end after n os) z) ∙ lands_stands end after 0 (puts ++ rest) os h d)
 
-lands_away : (end : Letter) (at p : ℕ) (puts : Option (List Letter)) (away : Option (ℕ × List Letter)) (rest : List Letter) (after : List Line) (os : List Operand) → goes_away end at away rest after ≡ true
-    → Leads puts away rest (Went (Jump p) os) → Lands end at after (Jump p) os
-lands_away end at p puts None rest after os h d = absurd d
-lands_away end at p puts (Some jump) rest after os h d =
-    let ahead : at < jump.0 = ltb-true at jump.0 (and_first (nat_lt at jump.0) (lands end after (jump.0 - suc at) (jump.1 ++ rest)) h) in
-    (omega (arith, d.0, ahead), ap (λ q. stands end after (q - suc at) os) d.0 ∙ lands_stands end after (jump.0 - suc at) (jump.1 ++ rest) os (and_second (nat_lt at jump.0) (lands end after (jump.0 - suc at) (jump.1 ++ rest)) h) d.1)
+lands_branch : (end : Letter) (at p : ℕ) (puts : Option (List Letter)) (branching : Option (ℕ × List Letter)) (rest : List Letter) (after : List Line) (os : List Operand) → branches end at branching rest after ≡ true
+    → Leads puts branching rest (Went (Jump p) os) → Lands end at after (Jump p) os
+lands_branch end at p puts None rest after os h d = absurd d
+lands_branch end at p puts (Some jump) rest after os h d =
+    let fall_through : at < jump.0 = ltb-true at jump.0 (and_first (nat_lt at jump.0) (lands end after (jump.0 - suc at) (jump.1 ++ rest)) h) in
+    (omega (arith, d.0, fall_through), ap (λ q. stands end after (q - suc at) os) d.0 ∙ lands_stands end after (jump.0 - suc at) (jump.1 ++ rest) os (and_second (nat_lt at jump.0) (lands end after (jump.0 - suc at) (jump.1 ++ rest)) h) d.1)
 
 -- an operation goes on as P says, or raises a condition
 abbrev pub Goes : (Next → List Operand → Type 0) → Applied → Type 0
 Goes P (Went next os) = P next os
 Goes P (Raised state) = Unit {0}
-Goes P Lacking = ⊥
+Goes P Stuck = ⊥
 
-leads_goes : (end : Letter) (at : ℕ) (puts : Option (List Letter)) (away : Option (ℕ × List Letter)) (rest : List Letter) (after : List Line) (a : Applied) → goes_ahead end puts rest after ≡ true
-    → goes_away end at away rest after ≡ true → Leads puts away rest a → Goes (Lands end at after) a
-leads_goes end at puts away rest after (Went Ahead os) h g d = lands_ahead end at puts away rest after os h d
-leads_goes end at puts away rest after (Went (Jump p) os) h g d = lands_away end at p puts away rest after os g d
-leads_goes end at puts away rest after (Raised state) h g d = tt
-leads_goes end at puts away rest after Lacking h g d = absurd d
+leads_goes : (end : Letter) (at : ℕ) (puts : Option (List Letter)) (branching : Option (ℕ × List Letter)) (rest : List Letter) (after : List Line) (a : Applied) → falls_through end puts rest after ≡ true
+    → branches end at branching rest after ≡ true → Leads puts branching rest a → Goes (Lands end at after) a
+leads_goes end at puts branching rest after (Went Ahead os) h g d = lands_fall_through end at puts branching rest after os h d
+leads_goes end at puts branching rest after (Went (Jump p) os) h g d = lands_branch end at p puts branching rest after os g d
+leads_goes end at puts branching rest after (Raised state) h g d = tt
+leads_goes end at puts branching rest after Stuck h g d = absurd d
 
 -- ---- lines
 
@@ -151,19 +151,19 @@ line_here row vars end at pc l after os h e =
     ap (λ n. stands end (l ∷ after) n os) z ∙ h.stand
 
 -- what the letters of a line say of the operation's operands
-line_way : (row vars : List Datum) (end : Letter) (at pc : ℕ) (l : Line) (after : List Line) (os : List Operand) (h : Runs row vars end at pc (l ∷ after) os) → Way h.may end at l after
-line_way row vars end at pc l after os h = way_of h.may end at l after (and_first (is_line h.may end at l after) (are_lines h.may end (suc at) after) h.right)
+line_successor : (row vars : List Datum) (end : Letter) (at pc : ℕ) (l : Line) (after : List Line) (os : List Operand) (h : Runs row vars end at pc (l ∷ after) os) → Successor h.may end at l after
+line_successor row vars end at pc l after os h = successor_of h.may end at l after (and_first (is_line h.may end at l after) (are_lines h.may end (suc at) after) h.right)
 
 line_leads : (row vars : List Datum) (end : Letter) (at pc : ℕ) (l : Line) (after : List Line) (os : List Operand) → Runs row vars end at pc (l ∷ after) os → at ≡ pc
     → Goes (Lands end at after) (applied l.op os row vars)
 line_leads row vars end at pc l after os h e =
-    let w = line_way row vars end at pc l after os h in
-    leads_goes end at (effect l.op w.kind w.other).ahead (effect l.op w.kind w.other).away w.rest after (applied l.op os row vars) w.ahead w.away
+    let w = line_successor row vars end at pc l after os h in
+    leads_goes end at (effect l.op w.kind w.other).fall_through (effect l.op w.kind w.other).branching w.rest after (applied l.op os row vars) w.fall_through w.branching
     (op_leads l.op w.kind w.other w.rest os row vars w.is_kind w.bounds (h.known l.op w.kind w.allowed) (ap (λ s. have s os) (sym w.below) ∙ line_here row vars end at pc l after os h e))
 
 line_fits : (row vars : List Datum) (end : Letter) (at pc : ℕ) (l : Line) (after : List Line) (os : List Operand) → Runs row vars end at pc (l ∷ after) os → at ≡ pc → Fits l.op os row vars
 line_fits row vars end at pc l after os h e =
-    let w = line_way row vars end at pc l after os h in
+    let w = line_successor row vars end at pc l after os h in
     op_fits l.op w.kind w.other w.rest os row vars w.is_kind w.bounds (h.known l.op w.kind w.allowed) (ap (λ s. have s os) (sym w.below) ∙ line_here row vars end at pc l after os h e)
 
 -- the operands of the place to which the line goes on
@@ -212,7 +212,7 @@ last_one end (o ∷ p ∷ os) h = let e : false ≡ true = and_second (is_of end
 lines_end : (row vars : List Datum) (end : Letter) (at pc : ℕ) (os : List Operand) → Runs row vars end at pc [] os → (o : Operand) × (os ≡ o ∷ []) × (is_of end o ≡ true)
 lines_end row vars end at pc os h = last_one end os (and_second (nat_eq (pc - at) 0) (have (end ∷ []) os) h.stand)
 
-lines_begin : (lines : List Line) (row vars : List Datum) (end : Letter) → Suits lines row vars end → Runs row vars end 0 0 lines []
+lines_begin : (lines : List Line) (row vars : List Datum) (end : Letter) → TypeChecks lines row vars end → Runs row vars end 0 0 lines []
 lines_begin lines row vars end s = record {
   may = is_of_kind s.columns s.variables;
   known = λ o k. of_kind-names s.columns s.variables row vars o k s.row_kinds s.variable_kinds;
@@ -233,7 +233,7 @@ goes_due : (row vars : List Datum) (end : Letter) (at : ℕ) (after : List Line)
     → Goes (Lands end at after) a → IsDue end (goes_on a (λ next. ran row vars (suc at) (place_after at next) after))
 goes_due row vars end at after (Went next os) f h = f next os h
 goes_due row vars end at after (Raised state) f h = tt
-goes_due row vars end at after Lacking f h = absurd h
+goes_due row vars end at after Stuck f h = absurd h
 
 runs_by : (row vars : List Datum) (end : Letter) (at pc : ℕ) (l : Line) (after : List Line) (os : List Operand) (b : Bool) → nat_eq at pc ≡ b → Runs row vars end at pc (l ∷ after) os
     → ((next : Next) (us : List Operand) → Runs row vars end (suc at) (place_after at next) after us → IsDue end (ran row vars (suc at) (place_after at next) after us))
@@ -251,7 +251,7 @@ runs_due row vars end at pc [] os h =
 runs_due row vars end at pc (l ∷ after) os h =
     runs_by row vars end at pc l after os (nat_eq at pc) refl h (λ next us k. runs_due row vars end (suc at) (place_after at next) after us k) (λ k. runs_due row vars end (suc at) pc after os k)
 
-evaluated_due : (lines : List Line) (row vars : List Datum) (end : Letter) → Suits lines row vars end → IsDue end (evaluated lines row vars)
+evaluated_due : (lines : List Line) (row vars : List Datum) (end : Letter) → TypeChecks lines row vars end → IsDue end (evaluated lines row vars)
 evaluated_due lines row vars end s = runs_due row vars end 0 0 lines [] (lines_begin lines row vars end s)
 
 due_some : (end : Letter) (r : Outcome) → IsDue end r → IsSome r
@@ -261,29 +261,29 @@ due_some end (Some r) h = refl
 due_letter : (end : Letter) (r : Outcome) (o : Operand) → IsDue end r → r ≡ Some (Ok o) → is_of end o ≡ true
 due_letter end r o h e = let F : Outcome → Type 0 = λ q. IsDue end q in subst F e h
 
--- code that suits the values lacks nothing
-pub evaluated_some : (lines : List Line) (row vars : List Datum) (end : Letter) → Suits lines row vars end → IsSome (evaluated lines row vars)
+-- code that type-checks over the values is never stuck
+pub evaluated_some : (lines : List Line) (row vars : List Datum) (end : Letter) → TypeChecks lines row vars end → IsSome (evaluated lines row vars)
 evaluated_some lines row vars end s = due_some end (evaluated lines row vars) (evaluated_due lines row vars end s)
 
 -- its operand is of the letter with which it ends
-pub evaluated_letter : (lines : List Line) (row vars : List Datum) (end : Letter) (o : Operand) → Suits lines row vars end → evaluated lines row vars ≡ Some (Ok o) → is_of end o ≡ true
+pub evaluated_letter : (lines : List Line) (row vars : List Datum) (end : Letter) (o : Operand) → TypeChecks lines row vars end → evaluated lines row vars ≡ Some (Ok o) → is_of end o ≡ true
 evaluated_letter lines row vars end o s e = due_letter end (evaluated lines row vars) o (evaluated_due lines row vars end s) e
 
 -- an answer that is the one due has an operand of the letter, if any
-pub evaluates_letter : (lines : List Line) (row vars : List Datum) (end : Letter) (r : Result Operand ValueFault) → Suits lines row vars end → Evaluates (evaluated lines row vars) r
+pub evaluates_letter : (lines : List Line) (row vars : List Datum) (end : Letter) (r : Result Operand ValueFault) → TypeChecks lines row vars end → Evaluates (evaluated lines row vars) r
     → IfOk r (λ o. IsTrue (is_of end o))
 evaluates_letter lines row vars end (Ok o) s e = evaluated_letter lines row vars end o s e
 evaluates_letter lines row vars end (Err fault) s e = tt
 
 -- ---- the loop over the lines
 
--- what is left to run from a line on comes to what the whole comes to
+-- what is left to run from a line on evaluates to what the whole evaluates to
 pub record Going (row vars : List Datum) (lines : List Line) (at pc : ℕ) (os : List Operand) : Type 0 where
   pub so_far : ran row vars at pc (drop at lines) os ≡ evaluated lines row vars
   pub end : Letter
   pub runs : Runs row vars end at pc (drop at lines) os
 
-pub going_first : (lines : List Line) (row vars : List Datum) (os : List Operand) (end : Letter) → Suits lines row vars end → os ≡ [] → Going row vars lines 0 0 os
+pub going_first : (lines : List Line) (row vars : List Datum) (os : List Operand) (end : Letter) → TypeChecks lines row vars end → os ≡ [] → Going row vars lines 0 0 os
 going_first lines row vars os end s e =
     let F : List Operand → Type 0 = λ us. Going row vars lines 0 0 us in
     subst F (sym e) (record { so_far = refl; end = end; runs = lines_begin lines row vars end s })
@@ -353,7 +353,7 @@ op_none lines at e = by (slice_get lines at) refl e where
   by None g h = g
   by (Some l) g h = absurd (cc)
 
--- a place behind a line's is that of a line, or the end
+-- a place after a line's is that of a line, or the end
 reaches : (end : Letter) (lines : List Line) (d : ℕ) (os : List Operand) → stands end lines (suc d) os ≡ true → 0 < length lines
 reaches end [] d os h =
     let far : nat_eq (suc d) 0 ≡ false = ne_eqb (suc d) 0 (λ q. omega (arith, q)) in

@@ -129,7 +129,7 @@ pub record Counting (stacks : List (List Letter)) (number rest depth : ℕ) : Ty
 
 -- ---- letters that are shared
 
--- Where the rest of a stack is so many of the first letters, what was found is so many of them.
+-- Where the rest of a stack is n of the first letters, what was found is n of them.
 pub record Sharing (stacks : List (List Letter)) (letters : List Letter) (rest shared depth count : ℕ) : Type 0 where
   pub rest_there : rest < length stacks
   pub shared_there : shared < length stacks

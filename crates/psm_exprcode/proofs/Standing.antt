@@ -10,7 +10,7 @@ use Rattle.psm_exprcode.specs.declared.op.Letter.TheVariants.{N, T, B}
 use Rattle.psm_exprcode.specs.declared.operand.Operand.{Operand}
 use Rattle.psm_exprcode.specs.declared.operand.Operand.TheVariants.{Value, Truth}
 use Rattle.psm_exprcode.specs.declared.operand.Next.TheVariants.{Ahead, Jump}
-use Rattle.psm_exprcode.specs.Applied.{Applied, Went, Raised, Lacking, with_value, with_truth, with_named, on_value, on_two, on_three, on_truth, on_many}
+use Rattle.psm_exprcode.specs.Applied.{Applied, Went, Raised, Stuck, with_value, with_truth, with_named, on_value, on_two, on_three, on_truth, on_many}
 use Rattle.psm_exprcode.specs.Fits.{are_values, are_truths}
 use Rattle.psm_exprcode.specs.Kinds.{is_value, has_letter, is_of, have}
 
@@ -34,10 +34,10 @@ IsAway (Some jump) p rest os = (p ≡ jump.0) × (have (jump.1 ++ rest) os ≡ t
 
 -- an operation goes on with the operands that the table says on those below, or raises a condition
 abbrev pub Leads : Option (List Letter) → Option (ℕ × List Letter) → List Letter → Applied → Type 0
-Leads ahead away rest (Went Ahead os) = IsAhead ahead rest os
-Leads ahead away rest (Went (Jump p) os) = IsAway away p rest os
-Leads ahead away rest (Raised state) = Unit {0}
-Leads ahead away rest Lacking = ⊥
+Leads fall_through branching rest (Went Ahead os) = IsAhead fall_through rest os
+Leads fall_through branching rest (Went (Jump p) os) = IsAway branching p rest os
+Leads fall_through branching rest (Raised state) = Unit {0}
+Leads fall_through branching rest Stuck = ⊥
 
 pub value_puts : (k : Letter) (rest : List Letter) (below : List Operand) (r : Result Datum (List ℕ)) → gives k r ≡ true → have rest below ≡ true
     → Leads (Some (k ∷ [])) None rest (with_value below r)
@@ -98,7 +98,7 @@ value_first N (Truth t) v h = absurd (cc)
 value_first T (Truth t) v h = absurd (cc)
 value_first B (Truth t) v h = absurd (cc)
 
--- operands of so many letters of values are so many values
+-- operands of n letters of values are n values
 pub on-values : (s rest : List Letter) (os : List Operand) → list_all is_value s ≡ true → have (s ++ rest) os ≡ true → are_values (length s) os ≡ true
 on-values [] rest os v h = refl
 on-values (k ∷ s) rest [] v h = absurd (cc)

@@ -117,7 +117,7 @@ sets p k rest (data_of.Text t) below g h = (refl, both_true (has_letter k (data_
 
 -- over operands of the letters that it takes, an operation puts operands of the letters that the table says, or raises
 pub op_leads : (o : Op) (k x : Letter) (rest : List Letter) (os : List Operand) (row vars : List Datum) → is_value k ≡ true → is_bounded o ≡ true → names row vars o k ≡ true
-    → have ((effect o k x).takes ++ rest) os ≡ true → Leads (effect o k x).ahead (effect o k x).away rest (applied o os row vars)
+    → have ((effect o k x).takes ++ rest) os ≡ true → Leads (effect o k x).fall_through (effect o k x).branching rest (applied o os row vars)
 op_leads (op.Constant l d) k x rest os row vars v b n h = both_true (has_letter l d) (have rest os) b h
 op_leads (op.Variable i) k x rest os row vars v b n h = named_puts k rest os (slice_get vars i) n h
 op_leads (op.Column i) k x rest os row vars v b n h = named_puts k rest os (slice_get row i) n h

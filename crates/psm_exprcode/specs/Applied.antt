@@ -1,4 +1,4 @@
--- What an operation comes to, over operands with the last one first (ISO/IEC 9075:1992, clauses 6 and 8).
+-- What an operation evaluates to, over operands with the last one first (ISO/IEC 9075:1992, clauses 6 and 8).
 use Rattle.std.specs.Prelude.{ℕ, zero, suc, List, [], ◌∷◌, slice_get, Option, Some, None, Result, Ok, Err, if◌then◌else◌}
 use Rattle.psm_value.specs.declared.datum.Datum.{Datum}
 use Rattle.psm_value.specs.declared.truth.Truth.{Truth as Answer}
@@ -22,7 +22,7 @@ use Rattle.psm_exprcode.specs.Values.{rescaled, concatenated, length_of, positio
 pub data Applied : Type 0 where
   Went : Next → List Operand → Applied
   Raised : List ℕ → Applied
-  Lacking : Applied
+  Stuck : Applied
 
 -- ---- what is put on the operands below
 
@@ -37,14 +37,14 @@ with_truth below (Err state) = Raised state
 -- a slot's or a column's value
 abbrev pub with_named : List Operand → Option Datum → Applied
 with_named below (Some d) = Went Ahead (Value d ∷ below)
-with_named below None = Lacking
+with_named below None = Stuck
 
 -- ---- what is taken: values, the first of them the lowest, or truth values
 
 abbrev pub on_value : (Datum → List Operand → Applied) → List Operand → Applied
-on_value f [] = Lacking
+on_value f [] = Stuck
 on_value f (Value a ∷ below) = f a below
-on_value f (Truth t ∷ below) = Lacking
+on_value f (Truth t ∷ below) = Stuck
 
 abbrev pub on_two : (Datum → Datum → List Operand → Applied) → List Operand → Applied
 on_two f os = on_value (λ b. on_value (λ a. f a b)) os
@@ -53,11 +53,11 @@ abbrev pub on_three : (Datum → Datum → Datum → List Operand → Applied) �
 on_three f os = on_value (λ c. on_two (λ a b. f a b c)) os
 
 abbrev pub on_truth : (Answer → List Operand → Applied) → List Operand → Applied
-on_truth f [] = Lacking
-on_truth f (Value a ∷ below) = Lacking
+on_truth f [] = Stuck
+on_truth f (Value a ∷ below) = Stuck
 on_truth f (Truth t ∷ below) = f t below
 
--- so many values, the last one first
+-- n values, the last one first
 abbrev pub on_many : ℕ → (List Datum → List Operand → Applied) → List Operand → Applied
 on_many zero f os = f [] os
 on_many (suc n) f os = on_value (λ b. on_many n (λ bs. f (b ∷ bs))) os
@@ -83,7 +83,7 @@ combines f os = on_truth (λ b. on_truth (λ a below. with_truth below (Ok (f a 
 
 -- the operand below the last one is taken
 abbrev pub nipped : List Operand → Applied
-nipped [] = Lacking
+nipped [] = Stuck
 nipped (x ∷ os) = on_value (λ a below. Went Ahead (x ∷ below)) os
 
 -- a value that isn't null stands at the line p still; null is taken
@@ -94,7 +94,7 @@ set_at p a below = if is_null a then Went Ahead below else Went (Jump p) (Value 
 abbrev pub unless_true : ℕ → Answer → List Operand → Applied
 unless_true p t below = if is_certain t then Went Ahead below else Went (Jump p) below
 
--- what the operation comes to over the operands, the columns and the variables
+-- what the operation evaluates to over the operands, the columns and the variables
 abbrev pub applied : Op → List Operand → List Datum → List Datum → Applied
 applied (op.Constant k d) os row vars = Went Ahead (Value d ∷ os)
 applied (op.Variable i) os row vars = with_named os (slice_get vars i)

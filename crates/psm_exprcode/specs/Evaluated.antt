@@ -8,11 +8,11 @@ use Rattle.psm_exprcode.specs.declared.op.Letter.{Letter}
 use Rattle.psm_exprcode.specs.declared.operand.Operand.{Operand}
 use Rattle.psm_exprcode.specs.declared.operand.Next.{Next}
 use Rattle.psm_exprcode.specs.declared.operand.Next.TheVariants.{Ahead, Jump}
-use Rattle.psm_exprcode.specs.Applied.{Applied, Went, Raised, Lacking, applied}
+use Rattle.psm_exprcode.specs.Applied.{Applied, Went, Raised, Stuck, applied}
 use Rattle.psm_exprcode.specs.Kinds.{are_of}
 use Rattle.psm_exprcode.specs.WellFormed.{does_fit}
 
--- what an expression comes to: an operand, the SQLSTATE of its first condition, or nothing where something is lacking
+-- what an expression evaluates to: an operand, the SQLSTATE of its first condition, or nothing where it is stuck
 abbrev pub Outcome : Type 0
 Outcome = Option (Result Operand (List ℕ))
 
@@ -24,7 +24,7 @@ place_after at (Jump p) = p
 abbrev pub goes_on : Applied → (Next → List Operand → Outcome) → Outcome
 goes_on (Went next os) go = go next os
 goes_on (Raised state) go = Some (Err state)
-goes_on Lacking go = None
+goes_on Stuck go = None
 
 -- the one operand at the end
 abbrev pub ended : List Operand → Outcome
@@ -44,14 +44,14 @@ abbrev pub evaluated : List Line → List Datum → List Datum → Outcome
 evaluated lines row vars = ran row vars 0 0 lines []
 
 -- the columns and the variables are of kinds that the code fits, and it ends with that letter
-pub record Suits (lines : List Line) (row vars : List Datum) (end : Letter) : Type 0 where
+pub record TypeChecks (lines : List Line) (row vars : List Datum) (end : Letter) : Type 0 where
   pub columns : List Letter
   pub variables : List Letter
   pub fits : IsTrue (does_fit columns variables lines end)
   pub row_kinds : IsTrue (are_of columns row)
   pub variable_kinds : IsTrue (are_of variables vars)
 
--- the answer is the one that is due, but for want of memory
+-- the answer is the one that is due, unless memory runs out
 abbrev pub Evaluates : Outcome → Result Operand ValueFault → Type 0
 Evaluates due (Ok operand) = due ≡ Some (Ok operand)
 Evaluates due (Err (Condition state)) = due ≡ Some (Err state)

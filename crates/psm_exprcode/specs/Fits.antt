@@ -17,14 +17,14 @@ use Rattle.psm_exprcode.specs.Applied.{Applied, Went, Raised}
 use Rattle.psm_exprcode.specs.Kinds.{is_value}
 use Rattle.psm_exprcode.specs.Operations.{effect}
 
--- whether the first so many operands are values
+-- whether the first n operands are values
 abbrev pub are_values : ℕ → List Operand → Bool
 are_values zero os = true
 are_values (suc n) [] = false
 are_values (suc n) (Value a ∷ os) = are_values n os
 are_values (suc n) (Truth t ∷ os) = false
 
--- whether the first so many operands are truth values
+-- whether the first n operands are truth values
 abbrev pub are_truths : ℕ → List Operand → Bool
 are_truths zero os = true
 are_truths (suc n) [] = false
@@ -58,7 +58,7 @@ IsWithin o = Unit {0}
 abbrev pub Fits : Op → List Operand → List Datum → List Datum → Type 0
 Fits o os row vars = IsTrue (finds o os) × IsNamed o row vars × IsWithin o
 
--- a refusal is of the condition that is due; want of memory may always come
+-- a refusal is of the condition that is due; memory may always run out
 abbrev pub Refuses : Applied → ValueFault → Type 0
 Refuses due (Condition state) = due ≡ Raised state
 Refuses due Memory = Unit {0}

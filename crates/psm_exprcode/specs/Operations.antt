@@ -11,17 +11,17 @@ pub record Effect : Type 0 where
   pub mnemonic : List ℕ
   pub takes : List Letter
   -- what it puts where it goes on at the line that follows, if it ever does
-  pub ahead : Option (List Letter)
+  pub fall_through : Option (List Letter)
   -- the line at which it may go on instead, and what it puts there
-  pub away : Option (ℕ × List Letter)
+  pub branching : Option (ℕ × List Letter)
 
 -- an operation that goes on at the line that follows
 abbrev pub plain : List ℕ → List Letter → List Letter → Effect
-plain name takes puts = record { mnemonic = name; takes = takes; ahead = Some puts; away = None }
+plain name takes puts = record { mnemonic = name; takes = takes; fall_through = Some puts; branching = None }
 
 -- one that may jump
 abbrev pub jumping : List ℕ → List Letter → Option (List Letter) → ℕ → List Letter → Effect
-jumping name takes ahead p there = record { mnemonic = name; takes = takes; ahead = ahead; away = Some (p, there) }
+jumping name takes fall_through p there = record { mnemonic = name; takes = takes; fall_through = fall_through; branching = Some (p, there) }
 
 -- k is the letter of a value, N or T, and x is any letter
 abbrev pub effect : Op → Letter → Letter → Effect

@@ -17,4 +17,4 @@ abbrev pub jump_of : ℕ × Letters → ℕ × List Letter
 jump_of j = (j.0, letters_of j.1)
 
 abbrev pub effect_of : Entry → Effect
-effect_of e = record { mnemonic = e.mnemonic.now; takes = letters_of e.takes; ahead = option_map letters_of e.ahead; away = option_map jump_of e.away }
+effect_of e = record { mnemonic = e.mnemonic.now; takes = letters_of e.takes; fall_through = option_map letters_of e.fall_through; branching = option_map jump_of e.branching }

@@ -1,5 +1,5 @@
 -- POSITION, TRIM and LIKE as functions (ISO/IEC 9075:1992, 6.6, 6.7 and 8.5). Texts have them as relations; what an
--- expression comes to is a function, so here stands the one answer that each relation allows.
+-- expression evaluates to is a function, so here stands the one answer that each relation allows.
 use Rattle.std.specs.Prelude.{ℕ, suc, Bool, true, false, ◌||◌, List, [], ◌∷◌, reverse, nat_eq, Option, Result, Ok, Err, if◌then◌else◌}
 use Rattle.std.specs.List.{starts_with}
 use Rattle.psm_text.specs.declared.fault.TextFault.{TextFault}

@@ -25,7 +25,7 @@ rescaled s Null = Ok Null
 rescaled s (Num n) = as_datum (num.checked (at_scale n s))
 rescaled s (Text t) = Ok Null
 
--- the second text behind the first
+-- the second text after the first
 abbrev pub concatenated : Datum → Datum → Result Datum (List ℕ)
 concatenated (Text a) (Text b) = as_text (joined a b)
 concatenated (Text a) Null = Ok Null

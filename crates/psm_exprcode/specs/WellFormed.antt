@@ -49,23 +49,23 @@ abbrev pub are_stated : Letter → Option Line → Bool → List Letter → Bool
 are_stated end (Some l) is_end s = same_stack s (reverse l.stack)
 are_stated end None is_end s = is_end && same_stack s (end ∷ [])
 
--- the same of the line that stands so many lines below the first of these, or of their end
+-- the same of the line that stands n lines below the first of these, or of their end
 abbrev pub lands : Letter → List Line → ℕ → List Letter → Bool
 lands end after distance s = are_stated end (slice_get after distance) (nat_eq distance (length after)) s
 
 -- at the line that follows
-abbrev pub goes_ahead : Letter → Option (List Letter) → List Letter → List Line → Bool
-goes_ahead end None rest after = true
-goes_ahead end (Some puts) rest after = lands end after 0 (puts ++ rest)
+abbrev pub falls_through : Letter → Option (List Letter) → List Letter → List Line → Bool
+falls_through end None rest after = true
+falls_through end (Some puts) rest after = lands end after 0 (puts ++ rest)
 
--- at the line to which it may jump, which stands behind its own
-abbrev pub goes_away : Letter → ℕ → Option (ℕ × List Letter) → List Letter → List Line → Bool
-goes_away end at None rest after = true
-goes_away end at (Some jump) rest after = nat_lt at jump.0 && lands end after (jump.0 - suc at) (jump.1 ++ rest)
+-- at the line to which it may jump, which stands after its own
+abbrev pub branches : Letter → ℕ → Option (ℕ × List Letter) → List Letter → List Line → Bool
+branches end at None rest after = true
+branches end at (Some jump) rest after = nat_lt at jump.0 && lands end after (jump.0 - suc at) (jump.1 ++ rest)
 
 abbrev pub goes_on_with : Letter → ℕ → Effect → Option (List Letter) → List Line → Bool
 goes_on_with end at e None after = false
-goes_on_with end at e (Some rest) after = goes_ahead end e.ahead rest after && goes_away end at e.away rest after
+goes_on_with end at e (Some rest) after = falls_through end e.fall_through rest after && branches end at e.branching rest after
 
 -- an operation at a place finds what it takes among the letters, and brings what is stated wherever it goes on
 abbrev pub leads : Letter → ℕ → Effect → List Letter → List Line → Bool

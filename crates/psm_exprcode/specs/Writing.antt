@@ -13,7 +13,7 @@ pub record StackNow : Type 0 where
 abbrev pub letters_now : StackNow → List Letter
 letters_now s = stack_at s.stacks s.number
 
--- the lines so far, and the letters of the operands behind them, the last one first
+-- the lines so far, and the letters of the operands after them, the last one first
 pub record Writing : Type 0 where
   pub lines : List Line
   pub stack : List Letter

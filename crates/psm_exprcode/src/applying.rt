@@ -1,4 +1,4 @@
-//! What an operation comes to.
+//! What an operation evaluates to.
 ghost use Rattle.std.specs.Prelude.{reverse};
 ghost use Rattle.psm_exprcode.specs.Applied.{applied};
 ghost use Rattle.psm_exprcode.specs.Fits.{Fits, Carries};

@@ -8,7 +8,7 @@ ghost use Rattle.psm_exprcode.specs.Operations.{effect};
 ghost use Rattle.psm_exprcode.specs.Stacks.{stack_at};
 ghost use Rattle.psm_exprcode.specs.Table.{effect_of, letters_of, jump_of};
 ghost use Rattle.psm_exprcode.specs.Ways.{allowed};
-ghost use Rattle.psm_exprcode.specs.WellFormed.{is_type as is_type_within, is_bounded as is_op_bounded, lands as letters_land, goes_ahead as letters_go_ahead, goes_away as letters_go_away, leads as letters_lead, is_line, are_lines, ends_with as lines_end_with, is_well_formed as are_well_formed};
+ghost use Rattle.psm_exprcode.specs.WellFormed.{is_type as is_type_within, is_bounded as is_op_bounded, lands as letters_land, falls_through as letters_go_fall_through, branches as letters_go_branch, leads as letters_lead, is_line, are_lines, ends_with as lines_end_with, is_well_formed as are_well_formed};
 
 use crate::lent::NumberedLines;
 use crate::letters::{are_stated, is_known, left};
@@ -129,15 +129,16 @@ fn leads(end: Letter, at: usize, entry: Entry, stack: usize, after: &NumberedLin
 {
     match left(after.stacks, stack, entry.takes) {
         Some(rest) => {
-            goes_ahead(end, entry.ahead, rest, after) && goes_away(end, at, entry.away, rest, after)
+            falls_through(end, entry.fall_through, rest, after)
+                && branches(end, at, entry.branching, rest, after)
         }
         None => false,
     }
 }
 
-fn goes_ahead(end: Letter, puts: Option<Letters>, rest: usize, after: &NumberedLines<'_>) -> bool
+fn falls_through(end: Letter, puts: Option<Letters>, rest: usize, after: &NumberedLines<'_>) -> bool
     requires { rest < length after.now.stacks.now }
-    ensures { result ≡ letters_go_ahead end (option_map letters_of puts) (stack_at after.now.stacks.now rest) (lines_in after.now) }
+    ensures { result ≡ letters_go_fall_through end (option_map letters_of puts) (stack_at after.now.stacks.now rest) (lines_in after.now) }
 {
     match puts {
         Some(puts) => lands(end, after, 0, puts, rest),
@@ -145,7 +146,7 @@ fn goes_ahead(end: Letter, puts: Option<Letters>, rest: usize, after: &NumberedL
     }
 }
 
-fn goes_away(
+fn branches(
     end: Letter,
     at: usize,
     jump: Option<(u32, Letters)>,
@@ -153,7 +154,7 @@ fn goes_away(
     after: &NumberedLines<'_>,
 ) -> bool
     requires { rest < length after.now.stacks.now }
-    ensures { result ≡ letters_go_away end at (option_map jump_of jump) (stack_at after.now.stacks.now rest) (lines_in after.now) }
+    ensures { result ≡ letters_go_branch end at (option_map jump_of jump) (stack_at after.now.stacks.now rest) (lines_in after.now) }
 {
     match jump {
         Some((place, puts)) => jumps(end, at, place, puts, rest, after),
@@ -177,7 +178,7 @@ fn jumps(
     at < place && lands(end, after, place - at - 1, puts, rest)
 }
 
-// Whether the letters are those that a line states, so many below the first, or the one at the end.
+// Whether the letters are those that a line states, n below the first, or the one at the end.
 fn lands(
     end: Letter,
     after: &NumberedLines<'_>,

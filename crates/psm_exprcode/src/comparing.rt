@@ -127,7 +127,7 @@ pub(crate) fn test_among(operands: &mut Vec<Operand>, count: u32) -> Result<Next
     Ok(Next::Ahead)
 }
 
-// How many operands stand below a value with so many others on it.
+// How many operands stand below a value with n others on it.
 #[tactic(auto, using(crate::proofs::Among::enough))]
 fn place_below(operands: &[Operand], count: u32) -> usize
     requires { IsTrue (are_values (suc count) (reverse operands.now)) }

@@ -1,7 +1,7 @@
 //! The value of an expression.
 ghost use Rattle.std.specs.Prelude.{◌≡◌, ◌<◌, ◌^◌, [], IsTrue, IsSome, IfOk};
 ghost use Rattle.psm_exprcode.specs.declared.op.Letter.{Letter};
-ghost use Rattle.psm_exprcode.specs.Evaluated.{evaluated, place_after as place_that_follows, Evaluates, Suits};
+ghost use Rattle.psm_exprcode.specs.Evaluated.{evaluated, place_after as place_that_follows, Evaluates, TypeChecks};
 ghost use Rattle.psm_exprcode.specs.Kinds.{is_of};
 
 use crate::applying::apply;
@@ -25,10 +25,10 @@ pub fn eval(
     row: &[Datum],
     vars: &[Datum],
 ) -> Result<Operand, ValueFault>
-    requires { (end : Letter) × Suits code.now row.now vars.now end }
+    requires { (end : Letter) × TypeChecks code.now row.now vars.now end }
     ensures value { Evaluates (evaluated code.now row.now vars.now) result }
-    ensures lacks_nothing { IsSome (evaluated code.now row.now vars.now) }
-    ensures letter { (end : Letter) → Suits code.now row.now vars.now end → IfOk result (λ o. IsTrue (is_of end o)) }
+    ensures never_stuck { IsSome (evaluated code.now row.now vars.now) }
+    ensures letter { (end : Letter) → TypeChecks code.now row.now vars.now end → IfOk result (λ o. IsTrue (is_of end o)) }
 {
     eval_on(alloc, &mut Vec::new(alloc), code, row, vars)
 }
@@ -42,10 +42,10 @@ pub fn eval_on(
     row: &[Datum],
     vars: &[Datum],
 ) -> Result<Operand, ValueFault>
-    requires { (end : Letter) × Suits code.now row.now vars.now end }
+    requires { (end : Letter) × TypeChecks code.now row.now vars.now end }
     ensures value { Evaluates (evaluated code.now row.now vars.now) result }
-    ensures lacks_nothing { IsSome (evaluated code.now row.now vars.now) }
-    ensures letter { (end : Letter) → Suits code.now row.now vars.now end → IfOk result (λ o. IsTrue (is_of end o)) }
+    ensures never_stuck { IsSome (evaluated code.now row.now vars.now) }
+    ensures letter { (end : Letter) → TypeChecks code.now row.now vars.now end → IfOk result (λ o. IsTrue (is_of end o)) }
     ensures empty { operands.new.items ≡ [] }
 {
     operands.clear();
@@ -62,9 +62,9 @@ fn run(
     vars: &[Datum],
 ) -> Result<Operand, ValueFault>
     requires empty { operands.old.items ≡ [] }
-    requires suits { (end : Letter) × Suits lines.now row.now vars.now end }
+    requires type_checks { (end : Letter) × TypeChecks lines.now row.now vars.now end }
     ensures value { Evaluates (evaluated lines.now row.now vars.now) result }
-    ensures lacks_nothing { IsSome (evaluated lines.now row.now vars.now) }
+    ensures never_stuck { IsSome (evaluated lines.now row.now vars.now) }
 {
     let mut place: usize = 0;
     while let Some(op) = lines.op(place) {

@@ -59,7 +59,7 @@ impl LetterStack {
         self.stacks.depth(self.number)
     }
 
-    /// The letter that so many others stand on. Takes the time of those.
+    /// The letter that n others stand on. Takes the time of those.
     pub fn letter_below(&self, others: usize) -> Option<Letter>
         ensures { result ≡ slice_get (letters_now self.now) others }
     {
@@ -70,7 +70,7 @@ impl LetterStack {
         }
     }
 
-    /// Takes so many letters off, or all that there are.
+    /// Takes n letters off, or all that there are.
     pub fn take(&mut self, count: usize)
         ensures stacks { self.new.stacks ≡ self.old.stacks }
         ensures letters { letters_now self.new ≡ drop count (letters_now self.old) }

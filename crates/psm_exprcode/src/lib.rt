@@ -1,4 +1,4 @@
-//! Row expressions as operations over a stack of operands: what an operation comes to, code that is well
+//! Row expressions as operations over a stack of operands: what an operation evaluates to, code that is well
 //! formed by its type, and the value of an expression (ISO/IEC 9075:1992, clauses 6 and 8).
 #![tactic(auto)]
 

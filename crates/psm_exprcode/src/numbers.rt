@@ -87,7 +87,7 @@ pub(crate) fn rescale(operands: &mut Vec<Operand>, scale: u8) -> Result<Next, Va
     Ok(Next::Ahead)
 }
 
-// The number with so many digits behind the point; digits that don't fit there are cut off.
+// The number with n digits after the point; digits that don't fit there are cut off.
 fn at_scale(value: &Datum, scale: u8) -> Result<Datum, SqlState>
     requires { scale ≤ 18 }
     ensures { result ≡ rescaled scale value.now }

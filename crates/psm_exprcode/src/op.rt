@@ -81,9 +81,9 @@ pub enum Op {
     Multiply,
     /// The quotient.
     Divide,
-    /// The number with so many digits behind the point.
+    /// The number with n digits after the point.
     Rescale(u8),
-    /// The second text behind the first.
+    /// The second text after the first.
     Concatenate,
     /// The number of characters.
     CharacterLength,
@@ -125,7 +125,7 @@ pub enum Op {
     LikeEscape,
     /// Whether a value lies between two others.
     Between,
-    /// Whether a value is among so many others.
+    /// Whether a value is among n others.
     In(u32),
     /// The first value, or null where the second is equal to it.
     NullIf,

@@ -57,7 +57,7 @@ impl RawExpr {
         RawExpr { stacks, lines }
     }
 
-    /// Puts a line behind the others: the letters of the operands that stand before the operation, the last
+    /// Puts a line after the others: the letters of the operands that stand before the operation, the last
     /// one at the end, and the operation.
     pub fn push(&mut self, stack: &[Letter], op: Op) -> Result<(), AllocError>
         ensures ok { OnOk result (self.new ≡ self.old ++ record { stack = stack.now; op = op } ∷ []) }

@@ -114,7 +114,7 @@ impl Stacks {
         self.put_all(shared, &letters[count..])
     }
 
-    // The stack of the first so many of the letters, with which the other stack begins.
+    // The stack of the first n of the letters, with which the other stack begins.
     fn shared(&self, letters: &[Letter], like: usize) -> (usize, usize)
         requires { like < length self.now }
         ensures there { result.0 < length self.now }
@@ -150,7 +150,7 @@ impl Stacks {
         depth
     }
 
-    /// What is left of a stack where so many letters are taken off, or all that there are, and the stack of the
+    /// What is left of a stack where n letters are taken off, or all that there are, and the stack of the
     /// last letter that was taken.
     #[tactic(auto, using(crate::proofs::Changing::dropped_step, crate::proofs::Changing::dropped_all))]
     pub(crate) fn dropped(&self, number: usize, count: usize) -> (usize, usize)

@@ -7,7 +7,7 @@ ghost use Rattle.psm_exprcode.specs.Table.{effect_of, letters_of};
 use crate::op::{Letter, Op};
 use psm_value::SqlType;
 
-/// Letters of operands that stand on one another: so many of one letter, on one other or on none.
+/// Letters of operands that stand on one another: n of one letter, on one other or on none.
 #[derive(Clone, Copy, Debug, PartialEq, Eq)]
 pub struct Letters {
     /// The letter of those on top.
@@ -26,9 +26,9 @@ pub struct Entry {
     /// The operands that it takes.
     pub takes: Letters,
     /// What it puts in their place where it goes on at the line that follows; `None` where it never does.
-    pub ahead: Option<Letters>,
+    pub fall_through: Option<Letters>,
     /// The line at which it may go on instead, and what it puts there.
-    pub away: Option<(u32, Letters)>,
+    pub branching: Option<(u32, Letters)>,
 }
 
 impl Letters {
@@ -67,12 +67,12 @@ fn plain_entry(mnemonic: &'static str, takes: Letters, puts: Letters) -> Entry
     Entry {
         mnemonic,
         takes,
-        ahead: Some(puts),
-        away: None,
+        fall_through: Some(puts),
+        branching: None,
     }
 }
 
-// One that takes so many operands of one letter, and puts one.
+// One that takes n operands of one letter, and puts one.
 fn maps(mnemonic: &'static str, letter: Letter, count: u32, puts: Letter) -> Entry
     ensures { effect_of result ≡ plain mnemonic.now (replicate count letter ++ []) (puts ∷ []) }
 {
@@ -128,7 +128,7 @@ impl Op {
         }
     }
 
-    /// What a listing calls the operation. What stands behind it there isn't in it.
+    /// What a listing calls the operation. What stands after it there isn't in it.
     pub fn mnemonic(&self) -> &'static str
         ensures { result.now ≡ (effect self.now N N).mnemonic }
     {
@@ -156,17 +156,17 @@ fn among(kind: Letter, count: u32) -> Entry
 fn jump_entry(
     mnemonic: &'static str,
     takes: Letters,
-    ahead: Option<Letters>,
+    fall_through: Option<Letters>,
     place: u32,
     there: Letters,
 ) -> Entry
-    ensures { effect_of result ≡ jumping mnemonic.now (letters_of takes) (option_map letters_of ahead) place (letters_of there) }
+    ensures { effect_of result ≡ jumping mnemonic.now (letters_of takes) (option_map letters_of fall_through) place (letters_of there) }
 {
     Entry {
         mnemonic,
         takes,
-        ahead,
-        away: Some((place, there)),
+        fall_through,
+        branching: Some((place, there)),
     }
 }
 

@@ -1,4 +1,4 @@
-//! Lines that are written one behind another.
+//! Lines that are written one after another.
 ghost use Rattle.std.specs.Prelude.{◌≡◌, ◌∷◌, [], ◌++◌, drop, length, reverse, slice_get, IfOk};
 ghost use Rattle.psm_exprcode.specs.Numbered.{with_op_at};
 
@@ -8,7 +8,7 @@ use crate::raw::{NumberedLine, RawExpr};
 use std::alloc::{AllocError, Global};
 use std::marker::Model;
 
-/// The lines so far, and the letters of the operands behind them. A line takes no time for the letters on which it stands: only the
+/// The lines so far, and the letters of the operands after them. A line takes no time for the letters on which it stands: only the
 /// letters that are put and taken off between two lines count.
 #[derive(Debug, Drop)]
 pub struct ExprWriter {
@@ -47,7 +47,7 @@ impl ExprWriter {
         Ok(())
     }
 
-    /// Takes so many letters off, or all that there are.
+    /// Takes n letters off, or all that there are.
     pub fn take(&mut self, count: usize)
         ensures { self.new ≡ record { lines = self.old.lines; stack = drop count self.old.stack } }
     {
@@ -61,7 +61,7 @@ impl ExprWriter {
         self.stack.put(letter)
     }
 
-    /// The letter that so many others stand on. Takes the time of those.
+    /// The letter that n others stand on. Takes the time of those.
     pub fn letter_below(&self, others: usize) -> Option<Letter>
         ensures { result ≡ slice_get self.now.stack others }
     {

@@ -33,7 +33,7 @@ impl From<AllocError> for FormatFault {
 /// The text of a module file, printed anew (ISO/IEC 9075-4:1996, module definitions): without comments and
 /// words that mean nothing, each name delimited, a line for each semicolon.
 ///
-/// The text is a file whose tokens spell, places apart, exactly the tree of the file that was read.
+/// The text is a file whose tokens spell, up to positions, exactly the tree of the file that was read.
 ///
 /// # Errors
 /// `Lex` with the first fault of the file's tokens; `Parse` with the place where they stop to spell a module

@@ -5,8 +5,8 @@ use Rattle.std.proofs.lemmas.List.{map-append}
 use Rattle.psm_grammar.specs.Language.{Words, toks}
 use Rattle.psm_grammar.specs.Exact.{head, Levels}
 
-pub toks_behind : {T : Type 0} (u v : Words T) (k : List T) → toks (u ++ v) ++ k ≡ toks u ++ (toks v ++ k)
-toks_behind u v k = ap (λ ts. ts ++ k) (map-append (λ x. x.0) u v) ∙ append_assoc (toks u) (toks v) k
+pub toks_after : {T : Type 0} (u v : Words T) (k : List T) → toks (u ++ v) ++ k ≡ toks u ++ (toks v ++ k)
+toks_after u v k = ap (λ ts. ts ++ k) (map-append (λ x. x.0) u v) ∙ append_assoc (toks u) (toks v) k
 
 -- Q is known of what is left where w goes on as the rest does, and R where w ends there
 abbrev pub Alike : {T : Type 0} → (Words T → Type 0) → (Words T → Type 0) → Words T → List T → Words T → List T → Type 0
@@ -32,7 +32,7 @@ module _ {T : Type 0} where
   pub alike_left : (Q R Q' R' : Words T → Type 0) (front : Words T) (rest : List T) (u v : Words T) (k : List T)
       → ((m : Words T) → Q m → Q' (m ++ v)) → ((m : Words T) → R m → R' (m ++ v)) → Alike Q R front rest u (toks v ++ k) → Alike Q' R' front rest (u ++ v) k
   alike_left Q R Q' R' [] rest u v k g h a =
-      let same = ap head (sym (toks_behind u v k)) in
+      let same = ap head (sym (toks_after u v k)) in
       (λ e. g u (a.0 (same ∙ e)), λ e. h u (a.1 (same ∙ e)))
   alike_left Q R Q' R' (f ∷ front) rest [] [] k g h a = a
   alike_left Q R Q' R' (f ∷ front) rest [] (y ∷ v) k g h a = λ e. absurd (a (ap Some e))
@@ -42,7 +42,7 @@ module _ {T : Type 0} where
   pub alike_both : (Q R : Words T → Type 0) (E : Type 0) (one two : Words T) (rest : List T) (u v : Words T) (k : List T)
       → Alike (λ m. (m ≡ []) × E) (λ m. (m ≡ []) × E) one (toks two ++ rest) u (toks v ++ k) → (E → Alike Q R two rest v k) → Alike Q R (one ++ two) rest (u ++ v) k
   alike_both Q R E [] two rest u v k a b =
-      let same = ap head (sym (toks_behind u v k)) in
+      let same = ap head (sym (toks_after u v k)) in
       guarded Q R two rest (u ++ v) k
       (λ e. let known = a.0 (same ∙ e) in subst (λ (s : Words T). Alike Q R two rest (s ++ v) k) (sym known.0) (b known.1))
       (λ n e. let known = a.1 (same ∙ e) in subst (λ (s : Words T). R (s ++ v)) (sym known.0) (ends two n (b known.1) v (ap (λ (s : Words T). head (toks (s ++ v) ++ k)) (sym known.0) ∙ e)))

@@ -4,7 +4,7 @@ use Rattle.std.proofs.lemmas.List.{append-nil}
 use Rattle.psm_grammar.specs.Language.{Words, toks, Lang}
 use Rattle.psm_grammar.specs.Readers.{Wrong, TooDeep, Out}
 use Rattle.psm_grammar.specs.Exact.{head, Low, AtEnd, Tracks, Levels, Good, Bad, Deep, Holds}
-use Rattle.psm_grammar.proofs.Alike.{Alike, toks_behind, some_same, alike_on, alike_end}
+use Rattle.psm_grammar.proofs.Alike.{Alike, toks_after, some_same, alike_on, alike_end}
 use Rattle.psm_grammar.proofs.Runs.{Run, Done, Opens, Whatever, Never, Reads, spelled}
 
 tail : {A : Type 0} → List A → List A
@@ -128,7 +128,7 @@ module _ {T X : Type 0} (L : Lang T X) (limit : ℕ) (ts : List T) where
       → ((y : X) (x : T × ℕ) (m : Words T) → x.1 ≤ limit → E (x ∷ m) y → ⊥) → (t : T) (m : List T) → toks s.front ≡ toks r.front ++ t ∷ m → rest ≡ t ∷ (m ++ rest') → ⊥
   strict {rest} {rest'} {B} {E} {R} r s away t m e f =
       let whole : toks (s.front ++ s.more) ++ [] ≡ toks r.front ++ (t ∷ (m ++ (toks s.more ++ []))) =
-      toks_behind s.front s.more [] ∙ ap (λ k. k ++ (toks s.more ++ [])) e ∙ append_assoc (toks r.front) (t ∷ m) (toks s.more ++ []) in
+      toks_after s.front s.more [] ∙ ap (λ k. k ++ (toks s.more ++ [])) e ∙ append_assoc (toks r.front) (t ∷ m) (toks s.more ++ []) in
       let goes = alike_on (λ m. E m s.value) (λ m. R m s.value) r.front rest (s.front ++ s.more) [] (t ∷ (m ++ (toks s.more ++ []))) whole (sym (ap head f))
       (r.alike (s.front ++ s.more) s.value [] s.begins refl) in
       further limit (λ v. E v s.value) (away s.value) s.front r.front s.more goes.0 t m goes.1 s.low e goes.2
@@ -162,7 +162,7 @@ module _ {T X : Type 0} (L : Lang T X) (limit : ℕ) (ts : List T) where
       → toks s.front ≡ toks r.front → rest ≡ rest' → head (toks s.more) ≡ head rest' → E s.more s.value
   goes_on {rest} {rest'} {B} {E} {R} r s e f h =
       let whole : toks (s.front ++ s.more) ++ [] ≡ toks r.front ++ toks s.more =
-      toks_behind s.front s.more [] ∙ ap (λ k. k ++ (toks s.more ++ [])) e ∙ ap (λ k. toks r.front ++ k) (append-nil (toks s.more)) in
+      toks_after s.front s.more [] ∙ ap (λ k. k ++ (toks s.more ++ [])) e ∙ ap (λ k. toks r.front ++ k) (append-nil (toks s.more)) in
       let on = alike_on (λ m. E m s.value) (λ m. R m s.value) r.front rest (s.front ++ s.more) [] (toks s.more) whole (h ∙ sym (ap head f))
       (r.alike (s.front ++ s.more) s.value [] s.begins refl) in
       subst (λ v. E v s.value) (sym (same_back s.front r.front s.more on.0 e on.1)) on.2

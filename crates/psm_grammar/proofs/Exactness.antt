@@ -8,7 +8,7 @@ use Rattle.psm_grammar.specs.Exact.{head, Next}
 use Rattle.psm_grammar.specs.Follow.{apart, within, may_follow, leads, openers, seconds, is_long, opens_two, two_decide, fits}
 use Rattle.psm_grammar.proofs.Alike.{Alike, guarded, some_same}
 use Rattle.psm_grammar.proofs.KindLists.{and_true, not_true, true_false, decide, apart_none, within_has}
-use Rattle.psm_grammar.proofs.Firsts.{blank, begins, led, plain, second, many_behind}
+use Rattle.psm_grammar.proofs.Firsts.{blank, begins, led, plain, second, many_after}
 use Rattle.psm_grammar.proofs.Some.{Word, Begun, BegunTwo, some, begun, begun_two, not_blank, long}
 use Rattle.psm_grammar.proofs.Runs.{Run, Reads, reads_in, reads_begun, reads_image, reads_seq}
 use Rattle.psm_grammar.proofs.Parts.{reads_token, reads_opened, reads_deep, reads_followed, reads_nothing, reads_many}
@@ -29,7 +29,7 @@ module _ {T X : Type 0} (F : List T → Type 0) (limit : ℕ) (L K : Lang T X) (
   tail_same : (a b : T) (u v : List T) → a ∷ u ≡ b ∷ v → u ≡ v
   tail_same a b u v e = cc
 
-  -- a word of the other part that ends behind its first token
+  -- a word of the other part that ends after its first token
   abbrev Ends : (Words T → X → Type 0) → Type 0
   Ends R = (l : ℕ) (w : Words T) (x : X) (k : List T) → K ((t, l) ∷ w) x → F k → head (toks w ++ k) ≡ None → R w x
 
@@ -265,5 +265,5 @@ module _ {T N : Type 0} {kind : T → ℕ} {V : N → Type 0} (inner same : (n :
       let rule = and_true (not (empty p)) (apart (first p) follow) all.0 in
       reads_many kind (first p) follow (lang inner same d p) limit (read deeper readers p) (λ w x l. not_blank inner same d p w x (not_true (empty p) rule.0) l) (begins inner same d p)
       (λ t. begun inner same d after words others p (first p ++ follow) t all.1)
-      (λ n. apart_none n (first p) follow rule.1) (many_behind inner same d p follow) most (exact p (first p ++ follow) all.1) (length ts) ts (omega arith) short
+      (λ n. apart_none n (first p) follow rule.1) (many_after inner same d p follow) most (exact p (first p ++ follow) all.1) (length ts) ts (omega arith) short
   exact (image f p) follow h ts short = reads_image (lang inner same d p) (Next kind follow) limit f ts (read deeper readers p ts) (exact p follow h ts short)

@@ -6,7 +6,7 @@ use Rattle.psm_grammar.specs.Readers.{empty, first}
 use Rattle.psm_grammar.specs.Exact.{Next}
 use Rattle.psm_grammar.specs.Follow.{apart, leads, openers, seconds}
 use Rattle.psm_grammar.proofs.KindLists.{and_true, both_true, true_false, if_true, if_false, one_of, first_holds, second_holds, has_left, has_right, has_none, apart_false, next_more}
-use Rattle.psm_grammar.proofs.Alike.{toks_behind}
+use Rattle.psm_grammar.proofs.Alike.{toks_after}
 
 -- ---- lists
 
@@ -120,10 +120,10 @@ module _ {T N : Type 0} {kind : T → ℕ} {V : N → Type 0} (inner same : (n :
 
   -- ---- the second token
 
-  -- what stands behind many items
-  pub many_behind : {X : Type 0} (p : Grammar kind V X) (follow : List ℕ) (v : Words T) (xs : List X) (k : List T) → Many (lang inner same d p) v xs → Next kind follow k → Next kind (first p ++ follow) (toks v ++ k)
-  many_behind p follow [] xs k l n = next_more kind follow (first p ++ follow) k (λ m h. has_right m (first p) follow h) n
-  many_behind p follow (t ∷ v) xs k l n = has_left (kind t.0) (first p) follow (many_first (lang inner same d p) (λ s. has (kind s.0) (first p) ≡ true) (begins p) t v xs l)
+  -- what stands after many items
+  pub many_after : {X : Type 0} (p : Grammar kind V X) (follow : List ℕ) (v : Words T) (xs : List X) (k : List T) → Many (lang inner same d p) v xs → Next kind follow k → Next kind (first p ++ follow) (toks v ++ k)
+  many_after p follow [] xs k l n = next_more kind follow (first p ++ follow) k (λ m h. has_right m (first p) follow h) n
+  many_after p follow (t ∷ v) xs k l n = has_left (kind t.0) (first p) follow (many_first (lang inner same d p) (λ s. has (kind s.0) (first p) ≡ true) (begins p) t v xs l)
 
   abbrev Second : {X : Type 0} → List ℕ → Grammar kind V X → Type 0
   Second {X} ones g = (follow : List ℕ) (t : T × ℕ) (w : Words T) (x : X) (k : List T) → lang inner same d g (t ∷ w) x → Next kind follow k
@@ -135,9 +135,9 @@ module _ {T N : Type 0} {kind : T → ℕ} {V : N → Type 0} (inner same : (n :
   many_second ones p h follow t w [] k l n o c = absurd (cc l)
   many_second ones p h follow t w (x ∷ xs) k l n o c = elim (split_cons t w l.0 l.1 l.2) [
     | inl s ↦ many_second ones p h follow t w xs k (subst (λ v. Many (lang inner same d p) v xs) s.1 l.4) n o c
-    | inr s ↦ let behind = many_behind p follow l.1 xs k l.4 n in
-        let here = h (first p ++ follow) t s.0 x (toks l.1 ++ k) (subst (λ u. lang inner same d p u x) s.1 l.3) behind o c in
-        subst (λ ts. Next kind (seconds ones (first p ++ follow) p) ts) (sym (ap (λ (u : Words T). toks u ++ k) s.2 ∙ toks_behind s.0 l.1 k)) here
+    | inr s ↦ let following = many_after p follow l.1 xs k l.4 n in
+        let here = h (first p ++ follow) t s.0 x (toks l.1 ++ k) (subst (λ u. lang inner same d p u x) s.1 l.3) following o c in
+        subst (λ ts. Next kind (seconds ones (first p ++ follow) p) ts) (sym (ap (λ (u : Words T). toks u ++ k) s.2 ∙ toks_after s.0 l.1 k)) here
   ]
 
   pub second : {X : Type 0} (ones : List ℕ) (g : Grammar kind V X) → Second ones g
@@ -164,10 +164,10 @@ module _ {T N : Type 0} {kind : T → ℕ} {V : N → Type 0} (inner same : (n :
         | inl s ↦ let e : empty p ≡ true = blank p l.one (subst (λ u. lang inner same d p u l.one) s.0 l.left) in
             let here = second ones q follow t w l.two k (subst (λ v. lang inner same d q v l.two) s.1 l.right) n o (sym (ap (has (kind t.0)) (if_true (empty p) (openers q) [] e)) ∙ parts.1) in
             next_more kind (seconds ones follow q) (left ++ right) (toks w ++ k) (λ m h. has_right m left right (ap (has m) (if_true (empty p) (seconds ones follow q) [] e) ∙ h)) here
-        | inr s ↦ let behind = led q follow l.back l.two k l.right n in
-            let here = second ones p (leads q follow) t s.0 l.one (toks l.back ++ k) (subst (λ u. lang inner same d p u l.one) s.1 l.left) behind o parts.0 in
+        | inr s ↦ let following = led q follow l.back l.two k l.right n in
+            let here = second ones p (leads q follow) t s.0 l.one (toks l.back ++ k) (subst (λ u. lang inner same d p u l.one) s.1 l.left) following o parts.0 in
             next_more kind left (left ++ right) (toks w ++ k) (λ m h. has_left m left right h)
-            (subst (λ ts. Next kind left ts) (sym (ap (λ (u : Words T). toks u ++ k) s.2 ∙ toks_behind s.0 l.back k)) here)
+            (subst (λ ts. Next kind left ts) (sym (ap (λ (u : Words T). toks u ++ k) s.2 ∙ toks_after s.0 l.back k)) here)
       ]
   second ones (or p q) follow t w x k (inl l) n o c = next_more kind (seconds ones follow p) (seconds ones follow p ++ seconds ones follow q) (toks w ++ k)
       (λ m h. has_left m (seconds ones follow p) (seconds ones follow q) h) (second ones p follow t w x k l n o (has_none (kind t.0) (openers p) (openers q) c).0)

@@ -40,10 +40,10 @@ many_from L K h w (x ∷ xs) l =
     let b = many_from L K h l.1 xs l.4 in
     (a.0 + b.0, λ j e. (l.0, l.1, l.2, a.1 j (omega (arith, e)), b.1 j (omega (arith, e))))
 
-module _ {T N : Type 0} {kind : T → ℕ} {V : N → Type 0} (chain chain' : ℕ → (n : N) → Lang T (V n)) (d : ℕ)
-    (rises : (h j : ℕ) → h ≤ j → (n : N) (w : Words T) (x : V n) → chain h n w x → chain j n w x)
-    (rises' : (h j : ℕ) → h ≤ j → (n : N) (w : Words T) (x : V n) → chain' h n w x → chain' j n w x) where
-  pub lang_from : {X : Type 0} (g : Grammar kind V X) (w : Words T) (x : X) → lang (λ n. Any (λ h. chain h n)) (λ n. Any (λ h. chain' h n)) d g w x → From (λ h. lang (chain h) (chain' h) d g) w x
+module _ {T N : Type 0} {kind : T → ℕ} {V : N → Type 0} (operator_chain operator_chain' : ℕ → (n : N) → Lang T (V n)) (d : ℕ)
+    (rises : (h j : ℕ) → h ≤ j → (n : N) (w : Words T) (x : V n) → operator_chain h n w x → operator_chain j n w x)
+    (rises' : (h j : ℕ) → h ≤ j → (n : N) (w : Words T) (x : V n) → operator_chain' h n w x → operator_chain' j n w x) where
+  pub lang_from : {X : Type 0} (g : Grammar kind V X) (w : Words T) (x : X) → lang (λ n. Any (λ h. operator_chain h n)) (λ n. Any (λ h. operator_chain' h n)) d g w x → From (λ h. lang (operator_chain h) (operator_chain' h) d g) w x
   lang_from (token test) w x l = (zero, λ j a. l)
   lang_from (level n test f) w x l = (l.right.height, λ j e. record { front = l.front; back = l.back; one = l.one; two = l.two; whole = l.whole; left = l.left; right = rises l.right.height j e n l.back l.two l.right.word; made = l.made })
   lang_from (next n test f) w x l = (l.right.height, λ j e. record { front = l.front; back = l.back; one = l.one; two = l.two; whole = l.whole; left = l.left; right = rises' l.right.height j e n l.back l.two l.right.word; made = l.made })
@@ -56,7 +56,7 @@ module _ {T N : Type 0} {kind : T → ℕ} {V : N → Type 0} (chain chain' : �
   lang_from (or p q) w x (inr l) = let a = lang_from q w x l in (a.0, λ j e. inr (a.1 j e))
   lang_from (ahead ones twos p q) w x (inl l) = let a = lang_from p w x l in (a.0, λ j e. inl (a.1 j e))
   lang_from (ahead ones twos p q) w x (inr l) = let a = lang_from q w x l in (a.0, λ j e. inr (a.1 j e))
-  lang_from (many p) w x l = many_from (lang (λ n. Any (λ h. chain h n)) (λ n. Any (λ h. chain' h n)) d p) (λ h. lang (chain h) (chain' h) d p) (lang_from p) w x l
+  lang_from (many p) w x l = many_from (lang (λ n. Any (λ h. operator_chain h n)) (λ n. Any (λ h. operator_chain' h n)) d p) (λ h. lang (operator_chain h) (operator_chain' h) d p) (lang_from p) w x l
   lang_from (image f p) w x l = let a = lang_from p w l.one l.left in (a.0, λ j e. record { one = l.one; left = a.1 j e; made = l.made })
 
 -- ---- the fixed point

@@ -4,16 +4,16 @@ use Rattle.std.proofs.lemmas.List.{append-nil, length-append}
 use Rattle.psm_grammar.specs.Grammar.{Productions}
 use Rattle.psm_grammar.specs.Language.{has, Test}
 use Rattle.psm_grammar.specs.Readers.{Stop, Wrong, Out, Reader, Deeper, and_then, starts, one, enter, opened, entered, repeat, deeper, reads}
-use Rattle.psm_grammar.specs.Loop.{behind, Looping}
+use Rattle.psm_grammar.specs.Loop.{following, Looping}
 
 -- where a level is left, the readers of the nonterminals read with one less
 pub deeper_some : {T N : Type 0} {kind : T → ℕ} {V : N → Type 0} (prods : Productions kind V) (n : ℕ) → n ≢ 0 → deeper prods n ≡ Some (λ k. reads prods (n - 1) (prods k))
 deeper_some prods zero h = absurd (h refl)
 deeper_some prods (suc n) h = let e : n ≡ suc n - 1 = omega arith in ap (λ m. Some (λ k. reads prods m (prods k))) e
 
-behind_one : {T X : Type 0} (items : List X) (x : X) (o : Out T (List X)) → behind items (and_then o (λ xs end. Ok (x ∷ xs, end))) ≡ behind (items ++ x ∷ []) o
-behind_one items x (Ok r) = ap (λ xs. Ok (xs, r.1)) (sym (append_assoc items (x ∷ []) r.0))
-behind_one items x (Err s) = refl
+after_one : {T X : Type 0} (items : List X) (x : X) (o : Out T (List X)) → following items (and_then o (λ xs end. Ok (x ∷ xs, end))) ≡ following (items ++ x ∷ []) o
+after_one items x (Ok r) = ap (λ xs. Ok (xs, r.1)) (sym (append_assoc items (x ∷ []) r.0))
+after_one items x (Err s) = refl
 
 module _ {T X : Type 0} (kind : T → ℕ) (first : List ℕ) (p : Reader T X) where
   repeat_more : (n : ℕ) (rest : List T) → 0 < n → starts kind first rest ≡ true
@@ -39,16 +39,16 @@ module _ {T X : Type 0} (kind : T → ℕ) (first : List ℕ) (p : Reader T X) w
       let left : 0 < length start - length items = omega (arith, l.room, some) in
       let count : length start - length items - 1 ≡ length start - length (items ++ x ∷ []) = omega (arith, lengths) in
       record {
-        same = sym (behind_one items x (repeat kind first p (length start - length (items ++ x ∷ [])) next))
-            ∙ ap (λ m. behind items (and_then (repeat kind first p m next) (λ xs end. Ok (x ∷ xs, end)))) (sym count)
-            ∙ ap (λ o. behind items (and_then o (λ x next. and_then (repeat kind first p (length start - length items - 1) next) (λ xs end. Ok (x ∷ xs, end))))) (sym e)
-            ∙ ap (behind items) (sym (repeat_more (length start - length items) rest left s)) ∙ l.same;
+        same = sym (after_one items x (repeat kind first p (length start - length (items ++ x ∷ [])) next))
+            ∙ ap (λ m. following items (and_then (repeat kind first p m next) (λ xs end. Ok (x ∷ xs, end)))) (sym count)
+            ∙ ap (λ o. following items (and_then o (λ x next. and_then (repeat kind first p (length start - length items - 1) next) (λ xs end. Ok (x ∷ xs, end))))) (sym e)
+            ∙ ap (following items) (sym (repeat_more (length start - length items) rest left s)) ∙ l.same;
         room = omega (arith, l.room, h, lengths);
       }
 
   -- the loop is done
   pub is_done : (start : List T) (items : List X) (rest : List T) → Looping kind first p start items rest → starts kind first rest ≡ false → repeat kind first p (length start) start ≡ Ok (items, rest)
-  is_done start items rest l s = sym l.same ∙ ap (behind items) (repeat_done (length start - length items) rest s) ∙ ap (λ xs. Ok (xs, rest)) (append-nil items)
+  is_done start items rest l s = sym l.same ∙ ap (following items) (repeat_done (length start - length items) rest s) ∙ ap (λ xs. Ok (xs, rest)) (append-nil items)
 
   -- the part fails
   pub fails : (start : List T) (items : List X) (rest : List T) (stop : Stop T) → Looping kind first p start items rest → starts kind first rest ≡ true → p rest ≡ Err stop
@@ -56,7 +56,7 @@ module _ {T X : Type 0} (kind : T → ℕ) (first : List ℕ) (p : Reader T X) w
   fails start items rest stop l s e =
       let some = some_left rest s in
       let left : 0 < length start - length items = omega (arith, l.room, some) in
-      sym l.same ∙ ap (behind items) (repeat_more (length start - length items) rest left s) ∙ ap (λ o. behind items (and_then o (λ x next. and_then (repeat kind first p (length start - length items - 1) next) (λ xs end. Ok (x ∷ xs, end))))) e
+      sym l.same ∙ ap (following items) (repeat_more (length start - length items) rest left s) ∙ ap (λ o. following items (and_then o (λ x next. and_then (repeat kind first p (length start - length items - 1) next) (λ xs end. Ok (x ∷ xs, end))))) e
 
 -- a token that opens a level is read as any token is
 pub entered_same : {T N A Z : Type 0} {V : N → Type 0} (kind : T → ℕ) (test : Test T A) (n : N) (f : A → V n → Z) (deeper : Deeper T V) (ts : List T)

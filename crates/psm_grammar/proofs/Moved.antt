@@ -1,4 +1,4 @@
--- Mapped tokens spell mapped values, so that places apart tokens spell one value.
+-- Mapped tokens spell mapped values, so that up to positions tokens spell one value.
 use Rattle.std.proofs.Common.{◌≡◌, inl, inr, ℕ, zero, suc, true, List, [], ◌∷◌, ◌++◌, map, refl, sym, ap, subst, ◌∙◌, Option}
 use Rattle.std.proofs.lemmas.List.{map-append}
 use Rattle.psm_grammar.specs.Language.{Words, toks, Lang, has, Test, Token, Many}

@@ -167,7 +167,7 @@ module _ {T X : Type 0} (kind : T → ℕ) (first follow : List ℕ) (L : Lang T
     (begins : (t : T × ℕ) (w : Words T) (x : X) → L (t ∷ w) x → has (kind t.0) first ≡ true)
     (begun : (t : T) → has (kind t) first ≡ true → Begun t L)
     (stops : (n : ℕ) → has n first ≡ true → has n follow ≡ false)
-    (behind : (w : Words T) (xs : List X) (k : List T) → Many L w xs → Next kind follow k → Next kind (first ++ follow) (toks w ++ k))
+    (following : (w : Words T) (xs : List X) (k : List T) → Many L w xs → Next kind follow k → Next kind (first ++ follow) (toks w ++ k))
     (most : ℕ) (exact : (ts : List T) → length ts ≤ most → Reads L (Next kind (first ++ follow)) limit ts (p ts)) where
   many_end : (ts : List T) → starts kind first ts ≡ false → Reads (Many L) (Next kind follow) limit ts (Ok ([], ts))
   many_end ts h = record {
@@ -221,7 +221,7 @@ module _ {T X : Type 0} (kind : T → ℕ) (first follow : List ℕ) (L : Lang T
   many_more n t ts short e again = reads_begun (λ w xs. Seq cons L (Many L) w xs) (Next kind follow) limit (Many L) t ts
       (and_then (p (t ∷ ts)) (λ x rest. and_then (repeat kind first p n rest) (λ xs end. Ok (x ∷ xs, end))))
       (seq_begun t (begun t e)) tt
-      (reads_seq L (Next kind (first ++ follow)) limit cons behind (t ∷ ts) (p (t ∷ ts)) (repeat kind first p n) (exact (t ∷ ts) short) ([], [], refl)
+      (reads_seq L (Next kind (first ++ follow)) limit cons following (t ∷ ts) (p (t ∷ ts)) (repeat kind first p n) (exact (t ∷ ts) short) ([], [], refl)
       (λ u x rest s l. again rest (shorter (t ∷ ts) u rest s (some u x l))))
       into (others t e)
 

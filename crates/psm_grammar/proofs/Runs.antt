@@ -4,7 +4,7 @@ use Rattle.std.proofs.lemmas.List.{append-nil}
 use Rattle.psm_grammar.specs.Language.{Words, toks, Lang, Seq, Image}
 use Rattle.psm_grammar.specs.Readers.{Wrong, TooDeep, Out, Reader, and_then}
 use Rattle.psm_grammar.specs.Exact.{head, Low}
-use Rattle.psm_grammar.proofs.Alike.{Alike, toks_behind, guarded, alike_map, alike_left, alike_both}
+use Rattle.psm_grammar.proofs.Alike.{Alike, toks_after, guarded, alike_map, alike_left, alike_both}
 use Rattle.psm_grammar.proofs.Some.{Word, Begun}
 
 -- ts is begun as a word of L up to rest. What is left of that word is as B says, and what is left of each
@@ -136,7 +136,7 @@ module _ {T X : Type 0} {L : Lang T X} {F : List T → Type 0} {limit : ℕ} {ts
     front = r.front ++ s.front;
     more = s.more;
     value = f x s.value;
-    parts = r.parts ∙ ap (λ k. toks r.front ++ k) s.parts ∙ sym (toks_behind r.front s.front end);
+    parts = r.parts ∙ ap (λ k. toks r.front ++ k) s.parts ∙ sym (toks_after r.front s.front end);
     begins = record { front = r.front; back = s.front ++ s.more; one = x; two = s.value; whole = append_assoc r.front s.front s.more; left = spelled r; right = s.begins; made = refl };
     so = c s.more s.value s.so;
     low = low_append limit r.front s.front r.low s.low;

@@ -7,7 +7,7 @@ use Rattle.psm_grammar.specs.Follow.{IsReadable}
 use Rattle.psm_grammar.specs.Readers.{Out, Wrong, TooDeep, Reader, Deeper, and_then, starts, starts_two, one, enter, repeat, first, read, again, deeper, reads}
 use Rattle.psm_grammar.proofs.Whole.{again_enough}
 
--- what is left behind a value is no longer than this
+-- what is left after a value is no longer than this
 abbrev pub Short : {T X : Type 0} → ℕ → Out T X → Type 0
 Short n (Ok r) = length r.1 ≤ n
 Short n (Err e) = Unit {0}

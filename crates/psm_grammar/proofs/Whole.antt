@@ -137,7 +137,7 @@ module _ {T N : Type 0} {kind : T → ℕ} {V : N → Type 0} (prods : Productio
   again_at_end n d limit e m k ts short = reads_before (words prods d k) (Next kind []) limit AtEnd ts (again prods (deeper prods n) m k ts)
       (reads_again n d limit e (reads_deeper n d limit e) m k [] (may_nothing (after k)) ts short) (λ j same. subst (Next kind []) (sym same) tt)
 
-  -- a nonterminal is read alike however many productions may stand behind one another, if they are more than the tokens
+  -- a nonterminal is read alike however many productions may stand after one another, if they are more than the tokens
   pub again_enough : (n m : ℕ) (k : N) (ts : List T) → length ts < m → again prods (deeper prods n) m k ts ≡ again prods (deeper prods n) (suc (length ts)) k ts
   again_enough n m k ts short = one_answer (words prods 0 k) n ts (again prods (deeper prods n) m k ts) (again prods (deeper prods n) (suc (length ts)) k ts)
       (again_at_end n 0 n (omega arith) m k ts short) (again_at_end n 0 n (omega arith) (suc (length ts)) k ts (omega arith))

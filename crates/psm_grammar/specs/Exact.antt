@@ -22,13 +22,13 @@ abbrev pub Next : {T : Type 0} → (T → ℕ) → List ℕ → List T → Type 
 Next kind follow [] = Unit {0}
 Next kind follow (t ∷ ts) = has (kind t) follow ≡ true
 
--- w, and k behind it, begins with the tokens of front, and goes on with the token that rest begins with
+-- w, and k after it, begins with the tokens of front, and goes on with the token that rest begins with
 pub record Tracks {T : Type 0} (front w : Words T) (k rest : List T) : Type 0 where
   pub more : List T
   pub split : toks w ++ k ≡ toks front ++ more
   pub same : head more ≡ head rest
 
--- as long as w, and k behind it, has the tokens of front, it has them at the same levels, and w has not ended
+-- as long as w, and k after it, has the tokens of front, it has them at the same levels, and w has not ended
 abbrev pub Levels : {T : Type 0} → Words T → Words T → List T → Type 0
 Levels [] w k = Unit {0}
 Levels (f ∷ front) [] k = head k ≡ Some f.0 → ⊥

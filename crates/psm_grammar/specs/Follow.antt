@@ -18,7 +18,7 @@ within (m ∷ ms) ns = if has m ns then within ms ns else false
 abbrev pub leads : {T N : Type 0} {kind : T → ℕ} {V : N → Type 0} {X : Type 0} → Grammar kind V X → List ℕ → List ℕ
 leads g follow = first g ++ (if empty g then follow else [])
 
--- the kinds of first tokens that a nonterminal stands behind
+-- the kinds of first tokens that a nonterminal stands after
 abbrev pub openers : {T N : Type 0} {kind : T → ℕ} {V : N → Type 0} {X : Type 0} → Grammar kind V X → List ℕ
 openers (token test) = []
 openers (level n test f) = test.kinds
@@ -30,7 +30,7 @@ openers (ahead ones twos p q) = openers p ++ openers q
 openers (many p) = openers p
 openers (image f p) = openers p
 
--- the kinds of tokens that can stand second, behind a first one of these kinds that no nonterminal stands behind
+-- the kinds of tokens that can stand second, after a first one of these kinds that no nonterminal stands after
 abbrev pub seconds : {T N : Type 0} {kind : T → ℕ} {V : N → Type 0} {X : Type 0} → List ℕ → List ℕ → Grammar kind V X → List ℕ
 seconds ones follow (token test) = if apart ones test.kinds then [] else follow
 seconds ones follow (level n test f) = []
@@ -79,7 +79,7 @@ opens_two ones twos (many p) = opens_two ones twos p
 opens_two ones twos (image f p) = opens_two ones twos p
 
 -- The first two tokens decide between two parts: the words of p have them of these kinds, and of all these
--- kinds, and no word of q has; and no nonterminal stands behind the first of them.
+-- kinds, and no word of q has; and no nonterminal stands after the first of them.
 abbrev pub two_decide : {T N : Type 0} {kind : T → ℕ} {V : N → Type 0} {X : Type 0} → List ℕ → List ℕ → List ℕ → Grammar kind V X → Grammar kind V X → Bool
 two_decide ones twos follow p q = is_long p && (not (empty q) && (within (first p) ones && (opens_two ones twos p && (within ones (first q)
     && (apart ones (openers p) && (apart ones (openers q) && (within (seconds ones follow p) twos && apart twos (seconds ones follow q))))))))

@@ -4,11 +4,11 @@
 --   p {"," p}: listed comma p. {p ";"}: many (before_token p semicolon).
 --   "(" p ")" that opens a level: level with a nonterminal for p ")".
 -- What one or two tokens do not decide is written with the shared tokens first:
---   name | name "." name: seq f name (optional (behind_token dot name)).
+--   name | name "." name: seq f name (optional (after_token dot name)).
 --   {CREATE TABLE t ";"} CREATE MODULE m: CREATE {TABLE t ";" CREATE} MODULE m.
---   {DECLARE a ";"} {DECLARE b ";"} e, where a and b differ behind DECLARE, and e does not begin with it:
+--   {DECLARE a ";"} {DECLARE b ";"} e, where a and b differ after DECLARE, and e does not begin with it:
 --     nonterminals at the same level, A = [DECLARE A'], A' = a ";" A | b ";" B, B = [DECLARE B'], B' = b ";" B,
---     where A' and B' stand behind DECLARE by next.
+--     where A' and B' stand after DECLARE by next.
 -- Two tokens decide between parts of which none is empty, so what may be left out takes in what follows it:
 --   CHAR [VARYING "(" n ")"] e, where e can begin with the name VARYING: ahead over VARYING "(" n ")" e and e.
 use Rattle.std.specs.Prelude.{ℕ, List, ◌∷◌, Option, Some, None}
@@ -30,8 +30,8 @@ abbrev pub optional : {T N : Type 0} {kind : T → ℕ} {V : N → Type 0} {X : 
 optional p = or (image Some p) (nothing None)
 
 -- a token that has no value, and then p
-abbrev pub behind_token : {T N : Type 0} {kind : T → ℕ} {V : N → Type 0} {A X : Type 0} → Test T A → Grammar kind V X → Grammar kind V X
-behind_token test p = seq later (token test) p
+abbrev pub after_token : {T N : Type 0} {kind : T → ℕ} {V : N → Type 0} {A X : Type 0} → Test T A → Grammar kind V X → Grammar kind V X
+after_token test p = seq later (token test) p
 
 -- p, and then a token that has no value
 abbrev pub before_token : {T N : Type 0} {kind : T → ℕ} {V : N → Type 0} {A X : Type 0} → Grammar kind V X → Test T A → Grammar kind V X
@@ -39,4 +39,4 @@ before_token p test = seq earlier p (token test)
 
 -- p {"," p}
 abbrev pub listed : {T N : Type 0} {kind : T → ℕ} {V : N → Type 0} {A X : Type 0} → Test T A → Grammar kind V X → Grammar kind V (List X)
-listed comma p = seq (λ x xs. x ∷ xs) p (many (behind_token comma p))
+listed comma p = seq (λ x xs. x ∷ xs) p (many (after_token comma p))

@@ -3,7 +3,7 @@ use Rattle.std.specs.Prelude.{ℕ, zero, suc, List, ◌⊎◌}
 use Rattle.psm_grammar.specs.Language.{Lang, Test, Token, Nothing, Seq, Many, Image, Any}
 
 -- A part of a grammar over tokens whose kinds are numbered. Its words have values in the last type.
--- V n are the values of the words of nonterminal n, which stands behind a token that opens its level
+-- V n are the values of the words of nonterminal n, which stands after a token that opens its level
 -- (level), or at the same level (next).
 pub data Grammar {T N : Type 0} (kind : T → ℕ) (V : N → Type 0) : Type 0 → Type 1 where
   token : {A : Type 0} → Test T A → Grammar kind V A

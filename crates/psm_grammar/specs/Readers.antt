@@ -8,7 +8,7 @@ pub data Stop (T : Type 0) : Type 0 where
   Wrong : List T → Stop T
   TooDeep : List T → Stop T
 
--- a value and the tokens behind its word, or why there is none
+-- a value and the tokens after its word, or why there is none
 abbrev pub Out : Type 0 → Type 0 → Type 0
 Out T X = Result (X × List T) (Stop T)
 
@@ -62,7 +62,7 @@ repeat kind first p (suc n) ts = if starts kind first ts
 abbrev pub Deeper : {N : Type 0} → Type 0 → (N → Type 0) → Type 0
 Deeper {N} T V = Option ((n : N) → Reader T (V n))
 
--- a nonterminal behind the token that opens its level
+-- a nonterminal after the token that opens its level
 abbrev pub enter : {T N : Type 0} {V : N → Type 0} → Deeper T V → (n : N) → List T → List T → Out T (V n)
 enter None n opening ts = Err (TooDeep opening)
 enter (Some inner) n opening ts = inner n ts
@@ -121,7 +121,7 @@ read {kind} deeper same (ahead ones twos p q) ts = pick_two kind ones twos (read
 read {kind} deeper same (many p) ts = repeat kind (first p) (read deeper same p) (length ts) ts
 read deeper same (image f p) ts = made f (read deeper same p) ts
 
--- the readers of the nonterminals at one level, which use less than m productions one behind another
+-- the readers of the nonterminals at one level, which use less than m productions one after another
 abbrev pub again : {T N : Type 0} {kind : T → ℕ} {V : N → Type 0} → Productions kind V → Deeper T V → ℕ → (n : N) → Reader T (V n)
 again prods deeper zero n ts = Err (Wrong ts)
 again prods deeper (suc m) n ts = read deeper (again prods deeper m) (prods n) ts

@@ -12,7 +12,7 @@ Reads left most (Err Failed) = Unit {0}
 Reads left most (Err (TooLong counted)) = IfSome left (λ all. counted ≤ length all) × (counted ≡ most + 1)
 Reads left most (Err Memory) = Unit {0}
 
--- One read of at most so many bytes: what the reader had left and has left, if it tells that, and the bytes before and after.
+-- One read of at most n bytes: what the reader had left and has left, if it tells that, and the bytes before and after.
 abbrev pub Added : Option (List ℕ) → Option (List ℕ) → List ℕ → List ℕ → ℕ → Result ℕ ShelfFault → Type 0
 Added old new before after asked (Ok count) = (piece : List ℕ) × (after ≡ before ++ piece) × (length piece ≡ count)
     × (count ≤ asked) × Consumes old new piece × (count ≡ 0 → 0 < asked → IsAtEnd new)

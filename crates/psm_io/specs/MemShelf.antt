@@ -23,7 +23,7 @@ file_of file = (string_bytes file.0, file.1.items)
 abbrev pub first_named : List ℕ → List (List ℕ × List ℕ) → Option (List ℕ)
 first_named name files = option_map (λ f. f.1) (find (λ f. pointwise nat_eq f.0 name) files)
 
--- what a file gives to one who asks for at most so many bytes
+-- what a file gives to one who asks for at most n bytes
 abbrev pub at_most_of : ℕ → Option (List ℕ) → Result (List ℕ) ShelfFault
 at_most_of most None = Err Failed
 at_most_of most (Some bytes) = if nat_lt most (length bytes) then Err (TooLong (length bytes)) else Ok bytes

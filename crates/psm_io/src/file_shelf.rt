@@ -76,7 +76,7 @@ fn read_file<R: Files>(
     }
 }
 
-/// What the reader has left, if that is at most so many bytes. One byte more is read to see that.
+/// What the reader has left, if that is at most n bytes. One byte more is read to see that.
 fn read_at_most<F: Read>(file: &mut F, alloc: Global, most: usize) -> Result<Vec<u8>, ShelfFault>
     ensures { Reads (F.remaining file.old) most result }
 {

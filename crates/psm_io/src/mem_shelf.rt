@@ -122,7 +122,7 @@ fn find<'a>(files: &'a [(String, Vec<u8>)], name: &str) -> Option<&'a [u8]>
     None
 }
 
-/// A copy of the bytes, if there are at most so many.
+/// A copy of the bytes, if there are at most n.
 fn copy_at_most(alloc: Global, bytes: &[u8], most: usize) -> Result<Vec<u8>, ShelfFault>
     ensures { (given result ≡ at_most_of most (Some bytes.now)) ⊎ (result ≡ Err ShelfFault.Memory) }
 {

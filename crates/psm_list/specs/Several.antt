@@ -3,7 +3,7 @@ use Rattle.std.specs.Prelude.{List, map}
 use mathlib.Core.Path.{refl}
 use Rattle.std.specs.Coded.{Coded, code_by, coded×, coded_list}
 
--- an item, and those behind it
+-- an item, and those after it
 pub record Several (A : Type 0) : Type 0 where
   pub first : A
   pub rest : List A

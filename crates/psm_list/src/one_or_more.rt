@@ -22,7 +22,7 @@ impl<T> Model for OneOrMore<T> {
 }
 
 impl<T> OneOrMore<T> {
-    /// The list of an item and those behind it.
+    /// The list of an item and those after it.
     pub fn of(first: T, rest: List<T>) -> OneOrMore<T>
         ensures { result ≡ record { first = first; rest = rest } }
     {

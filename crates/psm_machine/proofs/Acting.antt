@@ -11,7 +11,7 @@ use Rattle.psm_unwind.specs.declared.run.Frame.TheVariants.{Block, Action}
 use Rattle.psm_unwind.specs.View.{frames_of}
 use Rattle.psm_machine.specs.declared.stop.Stop.{Stop}
 use Rattle.psm_machine.specs.declared.stop.Stop.TheVariants as stop
-use Rattle.psm_machine.specs.Coming.{Comes, StopsAt, StopsWith, activating_of}
+use Rattle.psm_machine.specs.ActResults.{Evaluates, StopsAt, StopsWith, activating_of}
 
 abbrev given_of : Option Entries → Machine → Came Entries
 given_of None m = raises (of_state (codes "0K000")) m
@@ -26,19 +26,19 @@ pub activating_found : (at : Mark → List Contents) (frames : List Frame) (m : 
 activating_found at frames m c e = activating_is at frames m ∙ ap (λ o. given_of o m) e
 
 -- a condition stops the instruction
-pub raises_with : (A : Type 0) (due : Entries) (m : Machine) (s : Stop) → StopsWith due s → Comes {A = A} (raises due m) (Err s) m
+pub raises_with : (A : Type 0) (due : Entries) (m : Machine) (s : Stop) → StopsWith due s → Evaluates {A = A} (raises due m) (Err s) m
 raises_with A due m (stop.Raises c) h = ap (λ x. raises {A = A} x m) (sym h)
 raises_with A due m stop.NoTurns h = absurd h
-raises_with A due m stop.Lacking h = absurd h
+raises_with A due m stop.Stuck h = absurd h
 raises_with A due m stop.Memory h = tt
 
 -- so does that of an SQLSTATE
-pub raises_comes : (A : Type 0) (state : List ℕ) (m : Machine) (s : Stop) → StopsAt state s → Comes {A = A} (raises (of_state state) m) (Err s) m
+pub raises_comes : (A : Type 0) (state : List ℕ) (m : Machine) (s : Stop) → StopsAt state s → Evaluates {A = A} (raises (of_state state) m) (Err s) m
 raises_comes A state m s h = raises_with A (of_state state) m s h
 
 -- an act that raises a condition comes to it
-pub raising_comes : (A : Type 0) (came : Came A) (due : Entries) (m : Machine) (s : Stop) → came ≡ raises due m → StopsWith due s → Comes came (Err s) m
-raising_comes A came due m s e h = subst (λ (x : Came A). Comes x (Err s) m) (sym e) (raises_with A due m s h)
+pub raising_comes : (A : Type 0) (came : Came A) (due : Entries) (m : Machine) (s : Stop) → came ≡ raises due m → StopsWith due s → Evaluates came (Err s) m
+raising_comes A came due m s e h = subst (λ (x : Came A). Evaluates x (Err s) m) (sym e) (raises_with A due m s h)
 
-pub activating_none : (at : Mark → List Contents) (frames : List Frame) (m : Machine) → activating_of frames ≡ None → (s : Stop) → StopsAt (codes "0K000") s → Comes (activating (frames_of at frames) m) (Err s) m
-activating_none at frames m e s h = subst (λ (x : Came Entries). Comes x (Err s) m) (sym (activating_is at frames m ∙ ap (λ o. given_of o m) e)) (raises_comes Entries (codes "0K000") m s h)
+pub activating_none : (at : Mark → List Contents) (frames : List Frame) (m : Machine) → activating_of frames ≡ None → (s : Stop) → StopsAt (codes "0K000") s → Evaluates (activating (frames_of at frames) m) (Err s) m
+activating_none at frames m e s h = subst (λ (x : Came Entries). Evaluates x (Err s) m) (sym (activating_is at frames m ∙ ap (λ o. given_of o m) e)) (raises_comes Entries (codes "0K000") m s h)

@@ -7,8 +7,8 @@ use Rattle.psm_table.specs.Table.{Contents}
 use Rattle.psm_store.specs.declared.store.Mark.{Mark}
 use Rattle.psm_code.specs.declared.code.RawRoutine.{RawRoutine}
 use Rattle.psm_code.specs.Parts.{handler_at}
-use Rattle.psm_code.specs.Rows.{Way, act_ended, action_ended, line_behind, with_frames}
-use Rattle.psm_code.specs.Rows as rows
+use Rattle.psm_code.specs.Run.{Successor, act_ended, action_ended, line_after, with_frames}
+use Rattle.psm_code.specs.Run as rows
 use Rattle.psm_code.specs.State as code
 use Rattle.psm_code.specs.State.{cleared}
 use Rattle.psm_code.specs.Steps.{Act, Came, Got, ends, go_on}
@@ -18,22 +18,22 @@ use Rattle.psm_unwind.specs.Marks.{marks_in}
 use Rattle.psm_unwind.specs.View.{frames_of}
 use Rattle.psm_machine.specs.declared.stop.Stop.{Stop}
 use Rattle.psm_machine.specs.declared.stop.Stop.TheVariants as stop
-use Rattle.psm_machine.specs.Coming.{Comes}
-use Rattle.psm_machine.specs.Going.{Goes, bare, resume_of}
-use Rattle.psm_machine.proofs.Comings.{err_is, stopped}
+use Rattle.psm_machine.specs.ActResults.{Evaluates}
+use Rattle.psm_machine.specs.Successors.{GoesTo, bare, resume_of}
+use Rattle.psm_machine.proofs.ActSequences.{err_is, stopped}
 
 -- ---- what stops a part stops the instruction
 
-goes_of : (came : Came Way) (s : Stop) (now : code.Machine) → Comes came (Err s) now → Goes came (Err s) now
-goes_of came (stop.Raises c) now h = (ap (λ (x : Came Way). x.given) h, ap (λ (x : Came Way). bare x.machine) h)
+goes_of : (came : Came Successor) (s : Stop) (now : code.Machine) → Evaluates came (Err s) now → GoesTo came (Err s) now
+goes_of came (stop.Raises c) now h = (ap (λ (x : Came Successor). x.given) h, ap (λ (x : Came Successor). bare x.machine) h)
 goes_of came stop.NoTurns now h = h
-goes_of came stop.Lacking now h = h
+goes_of came stop.Stuck now h = h
 goes_of came stop.Memory now h = h
 
-pub stopped_goes : {A : Type 0} (came : Came A) (go : A → Act Way) (now : code.Machine) (s : Stop) (r : Result Next Stop) → IsErrAnd r (λ e. e ≡ s) → Comes came (Err s) now → Goes (go_on came.given go came.machine) r now
+pub stopped_goes : {A : Type 0} (came : Came A) (go : A → Act Successor) (now : code.Machine) (s : Stop) (r : Result Next Stop) → IsErrAnd r (λ e. e ≡ s) → Evaluates came (Err s) now → GoesTo (go_on came.given go came.machine) r now
 stopped_goes came go now s r e h =
-    let all : Result Way Stop = Err s in
-    subst (λ x. Goes (go_on came.given go came.machine) x now) (sym (err_is r s e)) (goes_of (go_on came.given go came.machine) s now (stopped came go now s all refl h))
+    let all : Result Successor Stop = Err s in
+    subst (λ x. GoesTo (go_on came.given go came.machine) x now) (sym (err_is r s e)) (goes_of (go_on came.given go came.machine) s now (stopped came go now s all refl h))
 
 -- ---- the innermost frame
 
@@ -64,22 +64,22 @@ acting_first n resume (Action l other c rows ∷ frames) at e =
       is = refl;
       marks = refl;
       ended = λ r at m.
-          ap (λ b. (if b then act_ended r n other (frames_of at frames) else ends code.Lacking) m) same.0
+          ap (λ b. (if b then act_ended r n other (frames_of at frames) else ends code.Stuck) m) same.0
           ∙ ap (λ o. act_ended r n o (frames_of at frames) m) same.1;
     }
 
 pub acting : (n : ℕ) (resume : Option ℕ) (frames : List Frame) → ((at : Mark → List Contents) → Some resume ≡ resume_of n (frames_of at frames)) → Acts n resume frames
 acting n resume frames e = acting_first n resume frames (λ m. []) (e (λ m. []))
 
-no_action : (r : RawRoutine) (n : ℕ) (frames : List code.Frame) (m : code.Machine) → None ≡ resume_of n frames → action_ended r n frames m ≡ ends code.Lacking m
+no_action : (r : RawRoutine) (n : ℕ) (frames : List code.Frame) (m : code.Machine) → None ≡ resume_of n frames → action_ended r n frames m ≡ ends code.Stuck m
 no_action r n [] m e = refl
 no_action r n (code.InBlock k found ∷ frames) m e = refl
 no_action r n (code.InAction l resume area ∷ frames) m e = by (nat_eq n l) e where
-  by : (b : Bool) → None ≡ (if b then Some resume else None) → (if b then act_ended r n resume frames else ends code.Lacking) m ≡ ends code.Lacking m
+  by : (b : Bool) → None ≡ (if b then Some resume else None) → (if b then act_ended r n resume frames else ends code.Stuck) m ≡ ends code.Stuck m
   by true e = cc
   by false e = refl
 
-pub lacks_action : (r : RawRoutine) (n : ℕ) (m : code.Machine) → None ≡ resume_of n m.running.frames → rows.end_action r n m ≡ ends code.Lacking m
+pub lacks_action : (r : RawRoutine) (n : ℕ) (m : code.Machine) → None ≡ resume_of n m.running.frames → rows.end_action r n m ≡ ends code.Stuck m
 lacks_action r n m e = no_action r n m.running.frames m e
 
 -- ---- it is taken off
@@ -98,5 +98,5 @@ popped_rest xs ys k None f rest e q t h =
     absurd (omega (arith, q, long, less, some, length-take (k - 1) xs, length-reverse xs))
 
 pub act_is : (r : RawRoutine) (n : ℕ) (resume : Option ℕ) (frames : List code.Frame) (m now : code.Machine) (h : Handler) (line : ℕ) → handler_at r n ≡ Some h →
-    line_behind r h h.kind resume m ≡ record { given = Got line; machine = m } → cleared (with_frames frames m) ≡ now → act_ended r n resume frames m ≡ record { given = Got (rows.at line); machine = now }
+    line_after r h h.kind resume m ≡ record { given = Got line; machine = m } → cleared (with_frames frames m) ≡ now → act_ended r n resume frames m ≡ record { given = Got (rows.at line); machine = now }
 act_is r n resume frames m now h line e f g = rw (e, f) (ap (λ (x : code.Machine). record { given = Got (rows.at line); machine = x }) g)

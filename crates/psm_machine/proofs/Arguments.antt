@@ -10,20 +10,20 @@ use Rattle.psm_code.specs.declared.code.ParameterMode.{ParameterMode}
 use Rattle.psm_code.specs.declared.code.ParameterMode.TheVariants.{In, Out, InOut}
 use Rattle.psm_code.specs.Calling.{entered, passed}
 use Rattle.psm_code.specs.Parts.{takes, taking}
-use Rattle.psm_code.specs.State.{Lacking, Machine}
+use Rattle.psm_code.specs.State.{Stuck, Machine}
 use Rattle.psm_code.specs.Steps.{Act, Came, Given, Got, Raises, Ends, ends, go_on, got, pop, pops, tried, ◌>>=◌}
 use Rattle.psm_machine.specs.declared.stop.Stop.{Stop}
-use Rattle.psm_machine.specs.Coming.{Comes}
-use Rattle.psm_machine.proofs.Comings.{err_is, stopped}
+use Rattle.psm_machine.specs.ActResults.{Evaluates}
+use Rattle.psm_machine.proofs.ActSequences.{err_is, stopped}
 
 -- ---- what is seen as something else
 
 -- what stops an act, however it is seen
-pub seen : {B C : Type 0} (view : C → B) (came : Came B) (now : Machine) (s : Stop) (r : Result C Stop) → IsErrAnd r (λ e. e ≡ s) → Comes came (Err s) now → Comes came (result_map_both view (λ s. s) r) now
-seen view came now s r e h = subst (λ x. Comes came (result_map_both view (λ s. s) x) now) (sym (err_is r s e)) h
+pub seen : {B C : Type 0} (view : C → B) (came : Came B) (now : Machine) (s : Stop) (r : Result C Stop) → IsErrAnd r (λ e. e ≡ s) → Evaluates came (Err s) now → Evaluates came (result_map_both view (λ s. s) r) now
+seen view came now s r e h = subst (λ x. Evaluates came (result_map_both view (λ s. s) x) now) (sym (err_is r s e)) h
 
 -- what is made of something that comes
-pub made : {A B : Type 0} (f : A → B) (came : Came A) (now : Machine) (r : Result A Stop) → Comes came r now → Comes (go_on came.given (λ a. got (f a)) came.machine) (result_map_both f (λ s. s) r) now
+pub made : {A B : Type 0} (f : A → B) (came : Came A) (now : Machine) (r : Result A Stop) → Evaluates came r now → Evaluates (go_on came.given (λ a. got (f a)) came.machine) (result_map_both f (λ s. s) r) now
 made f came now (Ok a) h = ap (λ (x : Came _). go_on x.given (λ a. got (f a)) x.machine) h
 made {A} {B} f came now (Err s) h = let all : Result B Stop = Err s in stopped came (λ a. got (f a)) now s all refl h
 
@@ -53,11 +53,11 @@ passed_by ps i p ds m before l e t b =
     b ∙ ap (λ qs. pops (length (taking qs)) ds m) (next_one ps i p l e) ∙ ap (λ b. pops (length (if b then p ∷ taking (drop (i + 1) ps) else taking (drop (i + 1) ps))) ds m) t
 
 -- where the operands lack one
-pub taken_stops : (ps : List Parameter) (i : ℕ) (p : Parameter) (ds : List Datum) (m now : Machine) (s : Stop) → i < length ps → p ≡ get_or ps i p → takes p.mode ≡ true → Comes (pop m) (Err s) now →
-    Comes (pops (length (taking (drop i ps))) ds m) (Err s) now
+pub taken_stops : (ps : List Parameter) (i : ℕ) (p : Parameter) (ds : List Datum) (m now : Machine) (s : Stop) → i < length ps → p ≡ get_or ps i p → takes p.mode ≡ true → Evaluates (pop m) (Err s) now →
+    Evaluates (pops (length (taking (drop i ps))) ds m) (Err s) now
 taken_stops ps i p ds m now s l e t h =
     let all : Result (List Datum) Stop = Err s in
-    subst (λ n. Comes (pops n ds m) all now)
+    subst (λ n. Evaluates (pops n ds m) all now)
     (sym (ap (λ qs. length (taking qs)) (next_one ps i p l e) ∙ ap (λ b. length (if b then p ∷ taking (drop (i + 1) ps) else taking (drop (i + 1) ps))) t))
     (stopped (pop m) (λ d. pops (length (taking (drop (i + 1) ps))) (d ∷ ds)) now s all refl h)
 
@@ -72,16 +72,16 @@ stored_in In t a args m h = refl
 stored_in Out t a args m h = cc
 stored_in InOut t a args m h = refl
 
-pub passed_in : (mode : ParameterMode) (t : SqlType) (a : Datum) (xs ys : List Datum) (m : Machine) (r : Result Datum Stop) → takes mode ≡ true → xs ≡ ys ++ a ∷ [] → Comes (tried (stored t a) m) r m →
-    Comes (passed mode t (reverse xs) m) (result_map_both (λ d. (d, reverse ys)) (λ s. s) r) m
+pub passed_in : (mode : ParameterMode) (t : SqlType) (a : Datum) (xs ys : List Datum) (m : Machine) (r : Result Datum Stop) → takes mode ≡ true → xs ≡ ys ++ a ∷ [] → Evaluates (tried (stored t a) m) r m →
+    Evaluates (passed mode t (reverse xs) m) (result_map_both (λ d. (d, reverse ys)) (λ s. s) r) m
 passed_in mode t a xs ys m r h e c =
-    subst (λ (x : Came (Datum × List Datum)). Comes x (result_map_both (λ d. (d, reverse ys)) (λ s. s) r) m)
+    subst (λ (x : Came (Datum × List Datum)). Evaluates x (result_map_both (λ d. (d, reverse ys)) (λ s. s) r) m)
     (sym (ap (λ zs. passed mode t zs m) (ap reverse e ∙ reverse-append ys (a ∷ [])) ∙ stored_in mode t a (reverse ys) m h))
     (made (λ d. (d, reverse ys)) (tried (stored t a) m) m r c)
 
 -- ---- what all of them begin with
 
--- behind what others begin with
+-- after what others begin with
 abbrev pub entered_with : List Datum → List Parameter → List Datum → Act (List Datum)
 entered_with done ps args = ◌>>=◌ (entered ps args) (λ ds. got (done ++ ds))
 
@@ -93,13 +93,13 @@ as_it_is (Ends e) m = refl
 pub entered_first : (ps : List Parameter) (args : List Datum) (m : Machine) → entered ps args m ≡ entered_with [] ps args m
 entered_first ps args m = as_it_is (entered ps args m).given (entered ps args m).machine
 
-one_behind : (done : List Datum) (d : Datum) (g : Given (List Datum)) (m : Machine) → (let came = go_on g (λ ds. got (d ∷ ds)) m in go_on came.given (λ ds. got (done ++ ds)) came.machine) ≡ go_on g (λ ds. got ((done ++ d ∷ []) ++ ds)) m
-one_behind done d (Got ds) m = ap (λ x. got x m) (sym (append_assoc done (d ∷ []) ds))
-one_behind done d (Raises c) m = refl
-one_behind done d (Ends e) m = refl
+one_after : (done : List Datum) (d : Datum) (g : Given (List Datum)) (m : Machine) → (let came = go_on g (λ ds. got (d ∷ ds)) m in go_on came.given (λ ds. got (done ++ ds)) came.machine) ≡ go_on g (λ ds. got ((done ++ d ∷ []) ++ ds)) m
+one_after done d (Got ds) m = ap (λ x. got x m) (sym (append_assoc done (d ∷ []) ds))
+one_after done d (Raises c) m = refl
+one_after done d (Ends e) m = refl
 
-abbrev behind_first : List Parameter → List Datum → Came (Datum × List Datum) → Came (List Datum)
-behind_first ps done came =
+abbrev after_first : List Parameter → List Datum → Came (Datum × List Datum) → Came (List Datum)
+after_first ps done came =
     let all = go_on came.given (λ first. do
       others ← entered ps first.1
       got (first.0 ∷ others)) came.machine in
@@ -109,14 +109,14 @@ pub entered_next : (ps : List Parameter) (i : ℕ) (p : Parameter) (done new : L
     passed p.mode p.kind args m ≡ record { given = Got (d, rest); machine = m } → new ≡ done ++ d ∷ [] → before ≡ entered_with done (drop i ps) args m → before ≡ entered_with new (drop (i + 1) ps) rest m
 entered_next ps i p done new args rest d m before l e h q b =
     b ∙ ap (λ qs. entered_with done qs args m) (next_one ps i p l e)
-    ∙ ap (behind_first (drop (i + 1) ps) done) h
-    ∙ one_behind done d (entered (drop (i + 1) ps) rest m).given (entered (drop (i + 1) ps) rest m).machine
+    ∙ ap (after_first (drop (i + 1) ps) done) h
+    ∙ one_after done d (entered (drop (i + 1) ps) rest m).given (entered (drop (i + 1) ps) rest m).machine
     ∙ ap (λ x. entered_with x (drop (i + 1) ps) rest m) (sym q)
 
-pub entered_stops : (ps : List Parameter) (i : ℕ) (p : Parameter) (done args : List Datum) (m now : Machine) (s : Stop) → i < length ps → p ≡ get_or ps i p → Comes (passed p.mode p.kind args m) (Err s) now → Comes (entered_with done (drop i ps) args m) (Err s) now
+pub entered_stops : (ps : List Parameter) (i : ℕ) (p : Parameter) (done args : List Datum) (m now : Machine) (s : Stop) → i < length ps → p ≡ get_or ps i p → Evaluates (passed p.mode p.kind args m) (Err s) now → Evaluates (entered_with done (drop i ps) args m) (Err s) now
 entered_stops ps i p done args m now s l e h =
     let all : Result (List Datum) Stop = Err s in
-    subst (λ (qs : List Parameter). Comes (entered_with done qs args m) all now) (sym (next_one ps i p l e))
+    subst (λ (qs : List Parameter). Evaluates (entered_with done qs args m) all now) (sym (next_one ps i p l e))
     (stopped (entered (p ∷ drop (i + 1) ps) args m) (λ ds. got (done ++ ds)) now s all refl
     (stopped (passed p.mode p.kind args m) (λ first. do
       others ← entered (drop (i + 1) ps) first.1
@@ -126,9 +126,9 @@ pub entered_all : (ps : List Parameter) (done args : List Datum) (m : Machine) �
 entered_all ps done args m e f =
     ap (λ qs. entered_with done qs (reverse args) m) e ∙ ap (λ ds. entered_with done [] (reverse ds) m) f ∙ ap (λ ds. got ds m) (append-nil done)
 
-too_many : (done args : List Datum) (m : Machine) → 0 < length args → entered_with done [] args m ≡ ends Lacking m
+too_many : (done args : List Datum) (m : Machine) → 0 < length args → entered_with done [] args m ≡ ends Stuck m
 too_many done [] m h = absurd (omega (arith, h))
 too_many done (a ∷ args) m h = refl
 
-pub entered_lacks : (ps : List Parameter) (done args : List Datum) (m : Machine) → ps ≡ [] → 0 < length args → entered_with done ps (reverse args) m ≡ ends Lacking m
+pub entered_lacks : (ps : List Parameter) (done args : List Datum) (m : Machine) → ps ≡ [] → 0 < length args → entered_with done ps (reverse args) m ≡ ends Stuck m
 entered_lacks ps done args m e h = ap (λ qs. entered_with done qs (reverse args) m) e ∙ too_many done (reverse args) m (omega (arith, h, length-reverse args))

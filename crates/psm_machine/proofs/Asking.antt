@@ -18,7 +18,7 @@ use Rattle.psm_code.specs.Steps.{Came, Raises, go_on, put_value, put_values, rai
 use Rattle.psm_unwind.specs.declared.run.Run.{Run}
 use Rattle.psm_unwind.specs.View.{machine_of}
 use Rattle.psm_machine.specs.Allowed.{MayAsk}
-use Rattle.psm_machine.specs.Coming.{Comes}
+use Rattle.psm_machine.specs.ActResults.{Evaluates}
 use Rattle.psm_machine.specs.Over.{part_of}
 
 -- ---- what is there
@@ -41,13 +41,13 @@ pub raised_comes : {A : Type 0} (due : Result A SqlState) (c : Entries) (m : Mac
 raised_comes (Ok a) c m h = absurd h
 raised_comes {A} (Err s) c m h = ap (λ x. raises {A = A} x m) (sym h)
 
-pub part_comes : {A : Type 0} (due : Result A SqlState) (r : Result A DataFault) (m : Machine) → Answers due r → Comes (tried due m) (part_of r) m
+pub part_comes : {A : Type 0} (due : Result A SqlState) (r : Result A DataFault) (m : Machine) → Answers due r → Evaluates (tried due m) (part_of r) m
 part_comes due (Ok a) m h = ap (λ x. tried x m) h
 part_comes due (Err (fault.Raised c)) m h = raised_comes due c m h
 part_comes due (Err fault.Memory) m h = tt
 
 pub answer_comes : (q : Query) (tables : List Contents) (at : Mark → List Contents) (r : Run) (res : Result Answer DataFault) → MayAsk tables r.running.variables.items q
-    → IfSome (slice_get tables q.table) (λ c. Answers (answer (over r.running.variables.items) (query_of q) c.rows) res) → Comes (answer_of q (machine_of tables at r)) (part_of res) (machine_of tables at r)
+    → IfSome (slice_get tables q.table) (λ c. Answers (answer (over r.running.variables.items) (query_of q) c.rows) res) → Evaluates (answer_of q (machine_of tables at r)) (part_of res) (machine_of tables at r)
 answer_comes q tables at r res h f =
     rw h.there (part_comes (answer (over r.running.variables.items) (query_of q) h.table.rows) res (machine_of tables at r) (of_some (λ (c : Contents). Answers (answer (over r.running.variables.items) (query_of q) c.rows) res) (slice_get tables q.table) h.table h.there f))
 

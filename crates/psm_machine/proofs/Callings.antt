@@ -22,15 +22,15 @@ nulls : (ts : List SqlType) → filled ts [] ≡ replicate (length ts) Null
 nulls [] = refl
 nulls (t ∷ ts) = ap (λ ds. Null ∷ ds) (nulls ts)
 
-filled_behind : (ps : List Parameter) (ts : List SqlType) (ds : List Datum) → length ds ≡ length ps → filled (map (λ p. p.kind) ps ++ ts) ds ≡ ds ++ replicate (length ts) Null
-filled_behind [] ts [] e = nulls ts
-filled_behind [] ts (d ∷ ds) e = absurd (omega (arith, e))
-filled_behind (p ∷ ps) ts [] e = absurd (omega (arith, e))
-filled_behind (p ∷ ps) ts (d ∷ ds) e = ap (λ xs. d ∷ xs) (filled_behind ps ts ds (omega (arith, e)))
+filled_after : (ps : List Parameter) (ts : List SqlType) (ds : List Datum) → length ds ≡ length ps → filled (map (λ p. p.kind) ps ++ ts) ds ≡ ds ++ replicate (length ts) Null
+filled_after [] ts [] e = nulls ts
+filled_after [] ts (d ∷ ds) e = absurd (omega (arith, e))
+filled_after (p ∷ ps) ts [] e = absurd (omega (arith, e))
+filled_after (p ∷ ps) ts (d ∷ ds) e = ap (λ xs. d ∷ xs) (filled_after ps ts ds (omega (arith, e)))
 
 -- the other slots begin null
 pub filled_is : (r : RawRoutine) (ds : List Datum) → length ds ≡ length r.parameters → filled (slots_of r) ds ≡ ds ++ replicate (length r.variables) Null
-filled_is r ds e = filled_behind r.parameters r.variables ds e
+filled_is r ds e = filled_after r.parameters r.variables ds e
 
 types_in : (ps : List Parameter) (ts : List SqlType) → All IsType (map (λ p. p.kind) ps ++ ts) → All (λ (p : Parameter). IsType p.kind) ps
 types_in [] ts h k d l = absurd (omega (arith, l))
@@ -44,35 +44,35 @@ parameter_types r h = types_in r.parameters r.variables h
 -- ---- the parts of a call
 
 module _ (n : ℕ) (r : RawRoutine) where
-  abbrev pub behind_turn : List Datum → Act (Unit {0})
-  behind_turn ds = change (calling (activation n r ds))
+  abbrev pub after_turn : List Datum → Act (Unit {0})
+  after_turn ds = change (calling (activation n r ds))
 
-  abbrev pub behind_bound : List Datum → Act (Unit {0})
-  behind_bound ds = ◌>>◌ turn (behind_turn ds)
+  abbrev pub after_bound : List Datum → Act (Unit {0})
+  after_bound ds = ◌>>◌ turn (after_turn ds)
 
-  abbrev pub behind_parameters : List Datum → Act (Unit {0})
-  behind_parameters ds = ◌>>◌ bounded (behind_bound ds)
+  abbrev pub after_parameters : List Datum → Act (Unit {0})
+  after_parameters ds = ◌>>◌ bounded (after_bound ds)
 
-  abbrev pub behind_arguments : List Datum → Act (Unit {0})
-  behind_arguments args = ◌>>=◌ (entered r.parameters args) behind_parameters
+  abbrev pub after_arguments : List Datum → Act (Unit {0})
+  after_arguments args = ◌>>=◌ (entered r.parameters args) after_parameters
 
-  abbrev pub behind_routine : Act (Unit {0})
-  behind_routine = ◌>>=◌ (pops (length (taking r.parameters)) []) behind_arguments
+  abbrev pub after_routine : Act (Unit {0})
+  after_routine = ◌>>=◌ (pops (length (taking r.parameters)) []) after_arguments
 
-  pub with_routine : (code : RawCode) (m : Machine) → routine_at code n ≡ Some r → call code n m ≡ behind_routine m
+  pub with_routine : (code : RawCode) (m : Machine) → routine_at code n ≡ Some r → call code n m ≡ after_routine m
   with_routine code m e = rw e refl
 
-  pub with_arguments : (args : List Datum) (m k : Machine) → pops (length (taking r.parameters)) [] m ≡ record { given = Got args; machine = k } → behind_routine m ≡ behind_arguments args k
-  with_arguments args m k e = ap (λ (came : Came (List Datum)). go_on came.given behind_arguments came.machine) e
+  pub with_arguments : (args : List Datum) (m k : Machine) → pops (length (taking r.parameters)) [] m ≡ record { given = Got args; machine = k } → after_routine m ≡ after_arguments args k
+  with_arguments args m k e = ap (λ (came : Came (List Datum)). go_on came.given after_arguments came.machine) e
 
-  pub with_parameters : (args ds : List Datum) (m : Machine) → entered r.parameters args m ≡ record { given = Got ds; machine = m } → behind_arguments args m ≡ behind_parameters ds m
-  with_parameters args ds m e = ap (λ (came : Came (List Datum)). go_on came.given behind_parameters came.machine) e
+  pub with_parameters : (args ds : List Datum) (m : Machine) → entered r.parameters args m ≡ record { given = Got ds; machine = m } → after_arguments args m ≡ after_parameters ds m
+  with_parameters args ds m e = ap (λ (came : Came (List Datum)). go_on came.given after_parameters came.machine) e
 
-  pub with_bound : (ds : List Datum) (m : Machine) → bounded m ≡ record { given = Got tt; machine = m } → behind_parameters ds m ≡ behind_bound ds m
-  with_bound ds m e = ap (λ (came : Came (Unit {0})). go_on came.given (λ x. behind_bound ds) came.machine) e
+  pub with_bound : (ds : List Datum) (m : Machine) → bounded m ≡ record { given = Got tt; machine = m } → after_parameters ds m ≡ after_bound ds m
+  with_bound ds m e = ap (λ (came : Came (Unit {0})). go_on came.given (λ x. after_bound ds) came.machine) e
 
-  pub with_turn : (ds : List Datum) (m k : Machine) → turn m ≡ record { given = Got tt; machine = k } → behind_bound ds m ≡ behind_turn ds k
-  with_turn ds m k e = ap (λ (came : Came (Unit {0})). go_on came.given (λ x. behind_turn ds) came.machine) e
+  pub with_turn : (ds : List Datum) (m k : Machine) → turn m ≡ record { given = Got tt; machine = k } → after_bound ds m ≡ after_turn ds k
+  with_turn ds m k e = ap (λ (came : Came (Unit {0})). go_on came.given (λ x. after_turn ds) came.machine) e
 
 -- ---- how many routines run
 

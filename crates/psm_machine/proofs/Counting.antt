@@ -23,29 +23,29 @@ use Rattle.psm_unwind.specs.declared.run.Run.{Run}
 use Rattle.psm_unwind.specs.View.{machine_of}
 use Rattle.psm_machine.specs.declared.stop.Stop.{Stop}
 use Rattle.psm_machine.specs.Allowed.{HasTable}
-use Rattle.psm_machine.specs.Coming.{Comes}
+use Rattle.psm_machine.specs.ActResults.{Evaluates}
 use Rattle.psm_machine.specs.Inserting.{EndsIn, PutsInto, put_due}
 use Rattle.psm_machine.specs.Over.{part_of}
 use Rattle.psm_machine.proofs.Asking.{of_some, some_of}
 
--- the run of a statement about so many rows
+-- the run of a statement about n rows
 abbrev pub counting : ℕ → Run → Run
 counting n r = record r { area = record r.area { rows = n } }
 
 -- an act on a run over tables has counted rows and goes on so, or it stops as is due
 abbrev pub Counted : Act (Unit {0}) → (ℕ → Act (Unit {0})) → List Contents → (Mark → List Contents) → Run → List Contents → Result ℕ Stop → Type 0
 Counted act rest old at r new (Ok n) = act (machine_of old at r) ≡ rest n (machine_of new at (counting n r))
-Counted act rest old at r new (Err s) = Comes {A = Unit {0}} (act (machine_of old at r)) (Err s) (machine_of new at r)
+Counted act rest old at r new (Err s) = Evaluates {A = Unit {0}} (act (machine_of old at r)) (Err s) (machine_of new at r)
 
 pub as_err : {A E : Type 0} (r : Result A E) (s : E) → IsErrAnd r (λ e. e ≡ s) → Err s ≡ r
 as_err (Ok a) s h = absurd h
 as_err (Err e) s h = ap Err (sym h)
 
--- another act that comes to the same
+-- another act that ends in the same
 counted_like : (act other : Act (Unit {0})) (rest : ℕ → Act (Unit {0})) (old : List Contents) (at : Mark → List Contents) (r : Run) (new : List Contents) (p : Result ℕ Stop) → act (machine_of old at r) ≡ other (machine_of old at r)
     → Counted other rest old at r new p → Counted act rest old at r new p
 counted_like act other rest old at r new (Ok n) e h = e ∙ h
-counted_like act other rest old at r new (Err s) e h = subst (λ (came : Came (Unit {0})). Comes came (Err s) (machine_of new at r)) (sym e) h
+counted_like act other rest old at r new (Err s) e h = subst (λ (came : Came (Unit {0})). Evaluates came (Err s) (machine_of new at r)) (sym e) h
 
 -- ---- a fault of the statement
 
@@ -74,7 +74,7 @@ counted_by c due rest t old at r new (Err (fault.Raised e)) h =
     stopped_by c.def due (left_with t c rest) e (machine_of old at r) (machine_of new at r) h.0 (ap (λ tables. machine_of tables at r) (sym h.1))
 counted_by c due rest t old at r new (Err fault.Memory) h = tt
 
--- behind INSERT nothing comes
+-- after INSERT nothing comes
 abbrev pub nothing_more : ℕ → Act (Unit {0})
 nothing_more n = got tt
 

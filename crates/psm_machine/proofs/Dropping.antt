@@ -13,23 +13,23 @@ use Rattle.psm_code.specs.declared.code.RawRoutine.{RawRoutine}
 use Rattle.psm_code.specs.declared.lines.CodeLine.{CodeLine}
 use Rattle.psm_code.specs.Parts.{handler_at, line_at, routine_at}
 use Rattle.psm_code.specs.Raising.{acting, asked, asked_at, at_turn, chosen, frame_left, frames_from, frames_inside, frames_left, handled, met, passed_over, raised, raised_in, undone}
-use Rattle.psm_code.specs.Rows.{Way, settled}
-use Rattle.psm_code.specs.State.{Activation, Frame, InBlock, InAction, Machine, More, Over, Raised, Turned, holding, with_running}
+use Rattle.psm_code.specs.Run.{Successor, settled}
+use Rattle.psm_code.specs.State.{Activation, Frame, InBlock, InAction, Machine, More, Over, Raised, Stepped, holding, with_running}
 use Rattle.psm_code.specs.Steps.{Came, Given}
 use Rattle.psm_unwind.specs.declared.ending.Outcome.{Outcome}
 use Rattle.psm_unwind.specs.declared.ending.Outcome.TheVariants as outcome
 use Rattle.psm_unwind.specs.View.{LeadsTo}
 use Rattle.psm_machine.specs.declared.stop.Stop.TheVariants as stop
-use Rattle.psm_machine.specs.Going.{Turns, bare}
+use Rattle.psm_machine.specs.Successors.{StepsTo, bare}
 
 -- the same machine, or the same end with the same tables
-abbrev Like : Turned → Turned → Type 0
+abbrev Like : Stepped → Stepped → Type 0
 Like (More m) (More n) = m ≡ n
 Like (More m) (Over e n) = ⊥
 Like (Over e m) (More n) = ⊥
 Like (Over e m) (Over f n) = (e ≡ f) × (m.tables ≡ n.tables)
 
-leads_like : (t u : Turned) (o : Outcome) (now : Machine) → Like t u → LeadsTo t o now → LeadsTo u o now
+leads_like : (t u : Stepped) (o : Outcome) (now : Machine) → Like t u → LeadsTo t o now → LeadsTo u o now
 leads_like (More m) (More n) outcome.More now l h = sym l ∙ h
 leads_like (More m) (More n) (outcome.Over e) now l h = absurd h
 leads_like (More m) (Over f n) o now l h = absurd l
@@ -37,13 +37,13 @@ leads_like (Over e m) (More n) o now l h = absurd l
 leads_like (Over e m) (Over f n) outcome.More now l h = absurd h
 leads_like (Over e m) (Over f n) (outcome.Over g) now l h = (sym l.0 ∙ h.0, sym l.1 ∙ h.1)
 
-like_back : (t u : Turned) → Like t u → Like u t
+like_back : (t u : Stepped) → Like t u → Like u t
 like_back (More m) (More n) l = sym l
 like_back (More m) (Over f n) l = absurd l
 like_back (Over e m) (More n) l = absurd l
 like_back (Over e m) (Over f n) l = (sym l.0, sym l.1)
 
-like_itself : (t : Turned) → Like t t
+like_itself : (t : Stepped) → Like t t
 like_itself (More m) = refl
 like_itself (Over e m) = (refl, refl)
 
@@ -78,7 +78,7 @@ passed_bare (Some line) m = refl
 
 -- ---- what is outside doesn't depend on them either
 
-module _ (outside : Machine → Turned) (out : (m : Machine) → Like (outside m) (outside (bare m))) where
+module _ (outside : Machine → Stepped) (out : (m : Machine) → Like (outside m) (outside (bare m))) where
   none_bare : (b : Bool) (r : RawRoutine) (resume : Option ℕ) (m : Machine) → Like (if b then outside (frames_left r true m.running.frames m) else passed_over resume m) (if b then outside (frames_left r true m.running.frames (bare m)) else passed_over resume (bare m))
   none_bare true r resume m =
       subst (λ (x : Machine). Like (outside (frames_left r true m.running.frames m)) (outside x)) (sym (left_bare r true m.running.frames m)) (out (frames_left r true m.running.frames m))
@@ -110,10 +110,10 @@ raised_alike code c m n o now e h =
 
 -- ---- an instruction that is done
 
-pub settled_ok : (code : RawCode) (came : Came Way) (o : Outcome) (now : Machine) → Turns came (Ok o) now → LeadsTo (settled code came.given came.machine) o now
-settled_ok code came o now h = subst (λ (g : Given Way). LeadsTo (settled code g came.machine) o now) (sym h.1) h.2
+pub settled_ok : (code : RawCode) (came : Came Successor) (o : Outcome) (now : Machine) → StepsTo came (Ok o) now → LeadsTo (settled code came.given came.machine) o now
+settled_ok code came o now h = subst (λ (g : Given Successor). LeadsTo (settled code g came.machine) o now) (sym h.1) h.2
 
-pub settled_raises : (code : RawCode) (came : Came Way) (c : Entries) (m now : Machine) (r : Result Outcome AllocError) → Turns came (Err (stop.Raises c)) m → IfOk r (λ o. LeadsTo (raised code c m) o now) → IfOk r (λ o. LeadsTo (settled code came.given came.machine) o now)
+pub settled_raises : (code : RawCode) (came : Came Successor) (c : Entries) (m now : Machine) (r : Result Outcome AllocError) → StepsTo came (Err (stop.Raises c)) m → IfOk r (λ o. LeadsTo (raised code c m) o now) → IfOk r (λ o. LeadsTo (settled code came.given came.machine) o now)
 settled_raises code came c m now (Ok o) h l =
-    subst (λ (g : Given Way). LeadsTo (settled code g came.machine) o now) (sym h.0) (raised_alike code c came.machine m o now h.1 l)
+    subst (λ (g : Given Successor). LeadsTo (settled code g came.machine) o now) (sym h.0) (raised_alike code c came.machine m o now h.1 l)
 settled_raises code came c m now (Err e) h l = tt

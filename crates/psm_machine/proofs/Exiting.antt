@@ -7,7 +7,7 @@ use Rattle.psm_store.specs.declared.store.Mark.{Mark}
 use Rattle.psm_code.specs.declared.code.RawRoutine.{RawRoutine}
 use Rattle.psm_code.specs.Parts.{block_at}
 use Rattle.psm_code.specs.Raising.{block_left, cursors_of, found_by, is_block, put_back}
-use Rattle.psm_code.specs.Rows.{exit, exited, with_frames}
+use Rattle.psm_code.specs.Run.{exit, exited, with_frames}
 use Rattle.psm_code.specs.State as code
 use Rattle.psm_code.specs.State.{closed_cursors}
 use Rattle.psm_code.specs.Steps.{Got, change, ends}
@@ -51,17 +51,17 @@ pub exit_came : (r : RawRoutine) (k : ℕ) (f : Frame) (at : Mark → List Conte
     ts ≡ put_back false (found_by (frame_of at f)) m.tables → exit r k m ≡ record { given = Got tt; machine = with_parts cs fs callers ts m }
 exit_came r k (Block l found) at frames fs m cs callers ts b e c f p t =
     ap (λ x. exited r k x m) e
-    ∙ ap (λ x. (if x then change (λ n. with_frames frames (block_left r false k (option_map at found) n)) else ends code.Lacking) m) b
+    ∙ ap (λ x. (if x then change (λ n. with_frames frames (block_left r false k (option_map at found) n)) else ends code.Stuck) m) b
     ∙ ap (λ (x : List Cursor). record { given = Got tt; machine = with_parts x frames m.callers m.tables m }) (ap (λ j. closed_cursors (cursors_of (block_at r j)) m.running.cursors) (same_number k l b) ∙ sym c)
     ∙ ap (λ (x : List code.Frame). record { given = Got tt; machine = with_parts cs x m.callers m.tables m }) (sym f)
     ∙ ap (λ (x : List code.Activation). record { given = Got tt; machine = with_parts cs fs x m.tables m }) (sym p)
     ∙ ap (λ (x : List Contents). record { given = Got tt; machine = with_parts cs fs callers x m }) (sym t)
 exit_came r k (Action h resume c0 rows) at frames fs m cs callers ts b e c f p t = cc
 
-lacks_in : (r : RawRoutine) (k : ℕ) (frames : List code.Frame) (m : code.Machine) → is_innermost k frames ≡ false → exited r k frames m ≡ ends code.Lacking m
+lacks_in : (r : RawRoutine) (k : ℕ) (frames : List code.Frame) (m : code.Machine) → is_innermost k frames ≡ false → exited r k frames m ≡ ends code.Stuck m
 lacks_in r k [] m e = refl
-lacks_in r k (code.InBlock l found ∷ frames) m e = ap (λ x. (if x then change (λ n. with_frames frames (block_left r false k found n)) else ends code.Lacking) m) e
+lacks_in r k (code.InBlock l found ∷ frames) m e = ap (λ x. (if x then change (λ n. with_frames frames (block_left r false k found n)) else ends code.Stuck) m) e
 lacks_in r k (code.InAction h resume area ∷ frames) m e = refl
 
-pub exit_lacks : (r : RawRoutine) (k : ℕ) (m : code.Machine) → is_innermost k m.running.frames ≡ false → exit r k m ≡ ends code.Lacking m
+pub exit_lacks : (r : RawRoutine) (k : ℕ) (m : code.Machine) → is_innermost k m.running.frames ≡ false → exit r k m ≡ ends code.Stuck m
 exit_lacks r k m e = lacks_in r k m.running.frames m e

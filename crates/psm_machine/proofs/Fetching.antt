@@ -18,7 +18,7 @@ use Rattle.psm_tablecode.specs.Rows.{values_for}
 use Rattle.psm_store.specs.declared.store.Mark.{Mark}
 use Rattle.psm_cursor.specs.Fetching.{fetched, items_found, moved_by, Fetch, Fetches}
 use Rattle.psm_cursor.specs.Opened.{is_opened, opened_over}
-use Rattle.psm_cursor.specs.Suits.{HasRows}
+use Rattle.psm_cursor.specs.TypeChecks.{HasRows}
 use Rattle.psm_code.specs.declared.code.CodeCursor.{CodeCursor}
 use Rattle.psm_code.specs.declared.code.RawRoutine.{RawRoutine}
 use Rattle.psm_code.specs.Querying.{items_of_found, items_on, let_go, next, next_of, open_as}
@@ -28,8 +28,8 @@ use Rattle.psm_unwind.specs.declared.run.Run.{Run}
 use Rattle.psm_unwind.specs.View.{machine_of}
 use Rattle.psm_machine.specs.declared.stop.Stop.{Stop}
 use Rattle.psm_machine.specs.Allowed.{MayAsk, MayMove, OfCursor}
-use Rattle.psm_machine.specs.Coming.{Comes}
-use Rattle.psm_machine.specs.Over.{as_way, part_of}
+use Rattle.psm_machine.specs.ActResults.{Evaluates}
+use Rattle.psm_machine.specs.Over.{as_successor, part_of}
 use Rattle.psm_machine.proofs.Asking.{of_some, raised_comes}
 
 -- ---- OPEN and CLOSE
@@ -37,7 +37,7 @@ use Rattle.psm_machine.proofs.Asking.{of_some, raised_comes}
 -- a cursor is opened, or the instruction stops
 abbrev pub Opens : Act (Unit {0}) → ℕ → Machine → Result Cursor Stop → Type 0
 Opens act number m (Ok c) = act m ≡ change (with_cursor number c) m
-Opens act number m (Err s) = Comes {A = Unit {0}} (act m) (Err s) m
+Opens act number m (Err s) = Evaluates {A = Unit {0}} (act m) (Err s) m
 
 opens_by : (number : ℕ) (x : Result Answer SqlState) (res : Result Cursor DataFault) (m : Machine) → Answers (mapped (λ a. Insensitive a.rows) x) res
     → Opens (◌>>=◌ (tried x) (λ a. change (with_cursor number (Insensitive a.rows)))) number m (part_of res)
@@ -50,7 +50,7 @@ opens_by number (Err s) (Err fault.Memory) m h = tt
 
 opens_like : (act other : Act (Unit {0})) (number : ℕ) (m : Machine) (p : Result Cursor Stop) → act m ≡ other m → Opens other number m p → Opens act number m p
 opens_like act other number m (Ok c) e h = e ∙ h
-opens_like act other number m (Err s) e h = subst (λ (came : Came (Unit {0})). Comes came (Err s) m) (sym e) h
+opens_like act other number m (Err s) e h = subst (λ (came : Came (Unit {0})). Evaluates came (Err s) m) (sym e) h
 
 pub opens : (number : ℕ) (q : Query) (tables : List Contents) (at : Mark → List Contents) (r : Run) (res : Result Cursor DataFault) → MayAsk tables r.running.variables.items q
     → IfSome (slice_get tables q.table) (λ t. Answers (opened_over q r.running.variables.items t) res) → Opens (open_as true number q) number (machine_of tables at r) (part_of res)
@@ -104,10 +104,10 @@ next_is r number x Closed m may o e = absurd (cc)
 next_is r number x (Insensitive []) m may o e = ap (λ n. got {A = Option (List Datum)} None n) (same_cursor number (Insensitive []) m e)
 next_is r number x (Insensitive (row ∷ rows)) m may o e = refl
 next_is r number x (Plain p vars) m may o e =
-    rw (may.asked, may.there) (plain_comes number may.query p vars (advanced (over vars) (query_of may.query) may.table.def.key may.table.rows p) m may.suits.0.rows e)
+    rw (may.asked, may.there) (plain_comes number may.query p vars (advanced (over vars) (query_of may.query) may.table.def.key may.table.rows p) m may.type_checks.0.rows e)
 
 fetch_by : (act : Act (Option (List Datum))) (m : Machine) (number : ℕ) (c after : Cursor) (f : Fetch Cursor) (res : Result (Option (List Datum)) DataFault) → act m ≡ tried f.due (with_cursor number f.place m)
-    → Fetches f c after res → Comes (act m) (part_of res) (with_cursor number after m)
+    → Fetches f c after res → Evaluates (act m) (part_of res) (with_cursor number after m)
 fetch_by act m number c after f (Ok row) e h = e ∙ ap (λ d. tried d (with_cursor number f.place m)) h.0 ∙ ap (λ c. got row (with_cursor number c m)) (sym h.1)
 fetch_by act m number c after f (Err (fault.Raised x)) e h =
     e ∙ raised_comes f.due x (with_cursor number f.place m) h.0 ∙ ap (λ c. raises {A = Option (List Datum)} x (with_cursor number c m)) (sym h.1)
@@ -116,7 +116,7 @@ fetch_by act m number c after f (Err fault.Memory) e h = tt
 -- the cursor of a number is moved
 pub next_comes : (r : RawRoutine) (number : ℕ) (x : CodeCursor) (q : Query) (c before after : Cursor) (m : Machine) (res : Result (Option (List Datum)) DataFault) → OfCursor r m.running.cursors number (MayMove r m.tables)
     → slice_get r.cursors number ≡ Some x → slice_get m.running.cursors number ≡ Some c → is_opened c ≡ true → slice_get r.queries x.query ≡ Some q → before ≡ c
-    → IfSome (slice_get m.tables q.table) (λ t. Fetches (fetched q t before) before after res) → Comes (next r number m) (part_of res) (with_cursor number after m)
+    → IfSome (slice_get m.tables q.table) (λ t. Fetches (fetched q t before) before after res) → Evaluates (next r number m) (part_of res) (with_cursor number after m)
 next_comes r number x q c before after m res h d s o a b f =
     let may = of_some (MayMove r m.tables x) (slice_get m.running.cursors number) c s (of_some (λ x. IfSome (slice_get m.running.cursors number) (MayMove r m.tables x)) (slice_get r.cursors number) x d h) in
     let same : q ≡ may.query = of_same q may.query (sym a ∙ may.asked) in
@@ -128,9 +128,9 @@ next_comes r number x q c before after m res h d s o a b f =
 
 -- ---- the next row of FOR
 
-pub way_stops : (end : ℕ) (r : Result Bool Stop) (s : Stop) → IsErrAnd r (λ e. e ≡ s) → IsErrAnd (as_way end r) (λ e. e ≡ s)
-way_stops end (Ok b) s h = absurd h
-way_stops end (Err e) s h = h
+pub successor_stops : (end : ℕ) (r : Result Bool Stop) (s : Stop) → IsErrAnd r (λ e. e ≡ s) → IsErrAnd (as_successor end r) (λ e. e ≡ s)
+successor_stops end (Ok b) s h = absurd h
+successor_stops end (Err e) s h = h
 
 pub closed_is : (c : Cursor) → is_opened c ≡ false → c ≡ Closed
 closed_is Closed e = refl

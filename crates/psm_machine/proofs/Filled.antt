@@ -11,12 +11,12 @@ use Rattle.psm_table.specs.declared.definition.Column.{Column}
 use Rattle.psm_table.specs.declared.definition.TableDef.{TableDef}
 use Rattle.psm_tablecode.specs.NewRows.{new_row, row_from, value_for}
 use Rattle.psm_code.specs.Plans.{in_rows}
-use Rattle.psm_code.specs.State.{Machine, Lacking, with_running}
+use Rattle.psm_code.specs.State.{Machine, Stuck, with_running}
 use Rattle.psm_code.specs.Steps.{Came, Ends, Got, go_on, got, pop, pops}
 use Rattle.psm_machine.specs.declared.stop.Stop.{Stop}
-use Rattle.psm_machine.specs.Coming.{Comes}
+use Rattle.psm_machine.specs.ActResults.{Evaluates}
 use Rattle.psm_machine.specs.Over.{part_of}
-use Rattle.psm_machine.proofs.Comings.{stopped}
+use Rattle.psm_machine.proofs.ActSequences.{stopped}
 
 -- ---- values off the operands
 
@@ -33,16 +33,16 @@ pops_next count place vs ws d m n h w e =
     ∙ ap (λ (came : Came Datum). go_on came.given (λ d. pops (count - (place + 1)) (d ∷ reverse vs)) came.machine) e
     ∙ ap (λ ds. pops (count - (place + 1)) ds n) (sym (ap reverse w ∙ turned vs d))
 
-pub pops_stop : (count place : ℕ) (vs : List Datum) (m now : Machine) (s : Stop) (r : Result (List Datum) Stop) → place < count → IsErrAnd r (λ e. e ≡ s) → Comes (pop m) (Err s) now
-    → Comes (pops (count - place) (reverse vs) m) r now
+pub pops_stop : (count place : ℕ) (vs : List Datum) (m now : Machine) (s : Stop) (r : Result (List Datum) Stop) → place < count → IsErrAnd r (λ e. e ≡ s) → Evaluates (pop m) (Err s) now
+    → Evaluates (pops (count - place) (reverse vs) m) r now
 pops_stop count place vs m now s r h i e =
-    subst (λ k. Comes (pops k (reverse vs) m) r now) (sym (one_less count place h)) (stopped (pop m) (λ d. pops (count - (place + 1)) (d ∷ reverse vs)) now s r i e)
+    subst (λ k. Evaluates (pops k (reverse vs) m) r now) (sym (one_less count place h)) (stopped (pop m) (λ d. pops (count - (place + 1)) (d ∷ reverse vs)) now s r i e)
 
 pub pops_end : (count place : ℕ) (ds : List Datum) (m : Machine) → place ≡ count → pops (count - place) ds m ≡ got ds m
 pops_end count place ds m e = let none : count - place ≡ 0 = omega (arith, e) in ap (λ k. pops k ds m) none
 
 -- there are fewer operands
-pub pops_lack : (os : List Operand) (n : ℕ) (ds : List Datum) (m : Machine) → m.running.operands ≡ os → length os < n → ((pops n ds m).given ≡ Ends Lacking) × ((pops n ds m).machine.tables ≡ m.tables)
+pub pops_lack : (os : List Operand) (n : ℕ) (ds : List Datum) (m : Machine) → m.running.operands ≡ os → length os < n → ((pops n ds m).given ≡ Ends Stuck) × ((pops n ds m).machine.tables ≡ m.tables)
 pops_lack os zero ds m e h = absurd (omega (arith, h))
 pops_lack [] (suc n) ds m e h = rw e (refl, refl)
 pops_lack (Value d ∷ os) (suc n) ds m e h = rw e (pops_lack os n (d ∷ ds) (with_running (λ a. record a { operands = os }) m) refl (omega (arith, h)))

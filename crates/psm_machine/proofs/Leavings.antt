@@ -14,9 +14,9 @@ use Rattle.psm_code.specs.declared.code.ParameterMode.TheVariants.{In, Out, InOu
 use Rattle.psm_code.specs.declared.code.RawCode.{RawCode}
 use Rattle.psm_code.specs.Calling.{left_values, on_top, result, returning}
 use Rattle.psm_code.specs.Parts.{back, given_back, routine_at}
-use Rattle.psm_code.specs.Rows.{Way, return}
+use Rattle.psm_code.specs.Run.{Successor, return}
 use Rattle.psm_code.specs.State as code
-use Rattle.psm_code.specs.State.{Machine, Lacking, cleared}
+use Rattle.psm_code.specs.State.{Machine, Stuck, cleared}
 use Rattle.psm_code.specs.Steps.{Act, Came, Got, ends, go_on, got}
 use Rattle.psm_operands.specs.Stacked.{Stacked}
 use Rattle.psm_unwind.specs.declared.ending.Ending.TheVariants as ending
@@ -30,26 +30,26 @@ use Rattle.psm_unwind.specs.View.{LeadsTo}
 use Rattle.psm_unwind.proofs.Unwinding.{nested_unwound, unwinds_returned, unwinds_same, unwinds_then}
 use Rattle.psm_machine.specs.declared.stop.Stop.{Stop}
 use Rattle.psm_machine.specs.declared.stop.Stop.TheVariants as stop
-use Rattle.psm_machine.specs.Coming.{Comes, EndsWith}
-use Rattle.psm_machine.specs.Going.{Turns, bare, resumed}
+use Rattle.psm_machine.specs.ActResults.{Evaluates, EndsWith}
+use Rattle.psm_machine.specs.Successors.{StepsTo, bare, resumed}
 use Rattle.psm_machine.proofs.Arguments.{next_one}
-use Rattle.psm_machine.proofs.Comings.{err_is, stopped}
+use Rattle.psm_machine.proofs.ActSequences.{err_is, stopped}
 
 -- ---- values on the operands
 
-top_behind : (ys : List Datum) (d : Datum) (os : List Operand) → on_top (ys ++ d ∷ []) os ≡ on_top ys (Value d ∷ os)
-top_behind [] d os = refl
-top_behind (y ∷ ys) d os = ap (λ xs. Value y ∷ xs) (top_behind ys d os)
+top_after : (ys : List Datum) (d : Datum) (os : List Operand) → on_top (ys ++ d ∷ []) os ≡ on_top ys (Value d ∷ os)
+top_after [] d os = refl
+top_after (y ∷ ys) d os = ap (λ xs. Value y ∷ xs) (top_after ys d os)
 
 pub top_next : (xs ys : List Datum) (d : Datum) (os ps : List Operand) (before : List Operand) → xs ≡ ys ++ d ∷ [] → ps ≡ Value d ∷ os → before ≡ on_top xs os → before ≡ on_top ys ps
-top_next xs ys d os ps before e f b = b ∙ ap (λ zs. on_top zs os) e ∙ top_behind ys d os ∙ ap (on_top ys) (sym f)
+top_next xs ys d os ps before e f b = b ∙ ap (λ zs. on_top zs os) e ∙ top_after ys d os ∙ ap (on_top ys) (sym f)
 
 -- ---- values that are given back
 
-back_behind : (mode : ParameterMode) (d : Datum) (ds : List Datum) → back mode d ds ≡ back mode d [] ++ ds
-back_behind In d ds = refl
-back_behind Out d ds = refl
-back_behind InOut d ds = refl
+back_after : (mode : ParameterMode) (d : Datum) (ds : List Datum) → back mode d ds ≡ back mode d [] ++ ds
+back_after In d ds = refl
+back_after Out d ds = refl
+back_after InOut d ds = refl
 
 pub given_next : (ps : List Parameter) (vs : List Datum) (i : ℕ) (p : Parameter) (v : Datum) (done new all : List Datum) → i < length ps → p ≡ get_or ps i p → i < length vs → v ≡ get_or vs i v → new ≡ done ++ back p.mode v [] →
     all ≡ done ++ given_back (drop i ps) (drop i vs) → all ≡ new ++ given_back (drop (i + 1) ps) (drop (i + 1) vs)
@@ -57,7 +57,7 @@ given_next ps vs i p v done new all l e k f q b =
     b
     ∙ ap (λ xs. done ++ given_back xs (drop i vs)) (next_one ps i p l e)
     ∙ ap (λ xs. done ++ given_back (p ∷ drop (i + 1) ps) xs) (next_one vs i v k f)
-    ∙ ap (λ xs. done ++ xs) (back_behind p.mode v (given_back (drop (i + 1) ps) (drop (i + 1) vs)))
+    ∙ ap (λ xs. done ++ xs) (back_after p.mode v (given_back (drop (i + 1) ps) (drop (i + 1) vs)))
     ∙ sym (append_assoc done (back p.mode v []) (given_back (drop (i + 1) ps) (drop (i + 1) vs)))
     ∙ ap (λ xs. xs ++ given_back (drop (i + 1) ps) (drop (i + 1) vs)) (sym q)
 
@@ -103,18 +103,18 @@ unwinds_back h0 at0 count0 tables0 r h1 at1 count1 tables1 left caller rest oper
 
 -- ---- RETURN
 
-pub turns_of : (came : Came Way) (s : Stop) (now : Machine) → Comes came (Err s) now → Turns came (Err s) now
-turns_of came (stop.Raises c) now h = (ap (λ (x : Came Way). x.given) h, ap (λ (x : Came Way). bare x.machine) h)
+pub turns_of : (came : Came Successor) (s : Stop) (now : Machine) → Evaluates came (Err s) now → StepsTo came (Err s) now
+turns_of came (stop.Raises c) now h = (ap (λ (x : Came Successor). x.given) h, ap (λ (x : Came Successor). bare x.machine) h)
 turns_of came stop.NoTurns now h = h
-turns_of came stop.Lacking now h = h
+turns_of came stop.Stuck now h = h
 turns_of came stop.Memory now h = h
 
-pub stopped_turns : {A : Type 0} (came : Came A) (go : A → Act Way) (now : Machine) (s : Stop) (r : Result Outcome Stop) → IsErrAnd r (λ e. e ≡ s) → Comes came (Err s) now → Turns (go_on came.given go came.machine) r now
+pub stopped_turns : {A : Type 0} (came : Came A) (go : A → Act Successor) (now : Machine) (s : Stop) (r : Result Outcome Stop) → IsErrAnd r (λ e. e ≡ s) → Evaluates came (Err s) now → StepsTo (go_on came.given go came.machine) r now
 stopped_turns came go now s r e h =
-    let all : Result Way Stop = Err s in
-    subst (λ x. Turns (go_on came.given go came.machine) x now) (sym (err_is r s e)) (turns_of (go_on came.given go came.machine) s now (stopped came go now s all refl h))
+    let all : Result Successor Stop = Err s in
+    subst (λ x. StepsTo (go_on came.given go came.machine) x now) (sym (err_is r s e)) (turns_of (go_on came.given go came.machine) s now (stopped came go now s all refl h))
 
-pub returns_to : (code : RawCode) (m n now : Machine) (d : Datum) (ds : List Datum) (o : Outcome) → result code m ≡ record { given = Got d; machine = n } → ds ≡ d ∷ [] → LeadsTo (left_values ds n.callers (cleared n)) o now → Turns (return code m) (Ok o) now
+pub returns_to : (code : RawCode) (m n now : Machine) (d : Datum) (ds : List Datum) (o : Outcome) → result code m ≡ record { given = Got d; machine = n } → ds ≡ d ∷ [] → LeadsTo (left_values ds n.callers (cleared n)) o now → StepsTo (return code m) (Ok o) now
 returns_to code m n now d ds o e f h = (
   returning d,
   ap (λ (came : Came Datum). (go_on came.given (λ d. got (returning d)) came.machine).given) e,
@@ -125,7 +125,7 @@ returns_to code m n now d ds o e f h = (
 -- without the routine nothing is returned
 record Lacks (code : RawCode) (m : Machine) : Type 0 where
   last : Machine
-  is : result code m ≡ ends Lacking last
+  is : result code m ≡ ends Stuck last
   tables : last.tables ≡ m.tables
 
 lacks_result : (code : RawCode) (os : List Operand) (m : Machine) → m.running.operands ≡ os → routine_at code m.running.routine ≡ None → Lacks code m
@@ -133,7 +133,7 @@ lacks_result code [] m q e = record { last = m; is = rw q refl; tables = refl }
 lacks_result code (Value d ∷ os) m q e = record { last = record m { running = record m.running { operands = os } }; is = rw (q, e) refl; tables = refl }
 lacks_result code (Truth t ∷ os) m q e = record { last = m; is = rw q refl; tables = refl }
 
-pub no_routine : (code : RawCode) (m : Machine) → routine_at code m.running.routine ≡ None → EndsWith Lacking (return code m) m
+pub no_routine : (code : RawCode) (m : Machine) → routine_at code m.running.routine ≡ None → EndsWith Stuck (return code m) m
 no_routine code m e =
     let l = lacks_result code m.running.operands m refl e in (
       ap (λ (came : Came Datum). (go_on came.given (λ d. got (returning d)) came.machine).given) l.is,

@@ -3,7 +3,7 @@ pub mod ActionEnds
 pub mod Arguments
 pub mod Asking
 pub mod Callings
-pub mod Comings
+pub mod ActSequences
 pub mod Counting
 pub mod Doing
 pub mod Dropping
@@ -14,11 +14,11 @@ pub mod Finishing
 pub mod Leavings
 pub mod Marking
 pub mod Numbering
-pub mod OneRow
+pub mod OneStep
 pub mod Onward
 pub mod Positions
-pub mod RightCode
-pub mod Rights
+pub mod WellFormedCode
+pub mod CodeGuarantees
 pub mod Spending
 pub mod Standing
 pub mod Starting

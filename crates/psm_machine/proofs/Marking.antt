@@ -4,7 +4,7 @@ use Rattle.std.proofs.lemmas.List.{reverse-append}
 use Rattle.psm_table.specs.Table.{Contents}
 use Rattle.psm_store.specs.declared.store.Mark.{Mark}
 use Rattle.psm_store.specs.Marks.{AnyMark, IsNewMark, IsOutside, Keeps}
-use Rattle.psm_code.specs.Rows.{with_frames}
+use Rattle.psm_code.specs.Run.{with_frames}
 use Rattle.psm_code.specs.State as code
 use Rattle.psm_code.specs.Steps.{Got, change}
 use Rattle.psm_unwind.specs.declared.run.Frame.{Frame}

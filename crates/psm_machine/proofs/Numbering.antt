@@ -16,11 +16,11 @@ use Rattle.psm_cond.specs.declared.item.ConditionItem.{ConditionItem}
 use Rattle.psm_cond.specs.Condition.{Entries}
 use Rattle.psm_cond.specs.Item.{IsNumber, entries_of, entry_item, whole}
 use Rattle.psm_code.specs.Signalling.{entry_numbered, equal, item_of_condition, numbered}
-use Rattle.psm_code.specs.State.{Lacking, Machine}
+use Rattle.psm_code.specs.State.{Stuck, Machine}
 use Rattle.psm_code.specs.Steps.{Came, Ends, Got, go_on, got, pop, popped, put_value, ◌>>=◌}
 use Rattle.psm_machine.specs.declared.stop.Stop.{Stop}
-use Rattle.psm_machine.specs.Coming.{Comes, StopsAt}
-use Rattle.psm_machine.specs.Going.{item_at}
+use Rattle.psm_machine.specs.ActResults.{Evaluates, StopsAt}
+use Rattle.psm_machine.specs.Successors.{item_at}
 use Rattle.psm_machine.proofs.Acting.{raises_comes}
 
 -- ---- a value is one whole number at most
@@ -93,27 +93,27 @@ item_found c d value i m n e h g v =
       got (entry_item e.0 e.1 i)) m) (found (entries_of c) 1 n (suc n) d e (omega arith) h g)
     ∙ ap (λ (x : Datum). got x m) (sym v)
 
-pub item_missing : (c : Entries) (d : Datum) (i : ConditionItem) (m : Machine) (s : Stop) → ((n : ℕ) → IsNumber d (suc n) → length (entries_of c) ≤ n) → StopsAt (codes "35000") s → Comes (item_at c d i m) (Err s) m
+pub item_missing : (c : Entries) (d : Datum) (i : ConditionItem) (m : Machine) (s : Stop) → ((n : ℕ) → IsNumber d (suc n) → length (entries_of c) ≤ n) → StopsAt (codes "35000") s → Evaluates (item_at c d i m) (Err s) m
 item_missing c d i m s h k =
     let none : entry_numbered 1 (entries_of c) d ≡ None = missing (entries_of c) 1 d (λ n j q g. h n (subst (IsNumber d) (omega (arith, q)) g)) in
-    subst (λ (o : Option (ℕ × Entry)). Comes ((do
+    subst (λ (o : Option (ℕ × Entry)). Evaluates ((do
       e ← numbered o
       got (entry_item e.0 e.1 i)) m) (Err s) m) (sym none) (raises_comes Datum (codes "35000") m s k)
 
 -- ---- the instruction
 
-put_behind : (o : Option (ℕ × Entry)) (i : ConditionItem) (m : Machine) → (do
+put_after : (o : Option (ℕ × Entry)) (i : ConditionItem) (m : Machine) → (do
   e ← numbered o
   put_value (entry_item e.0 e.1 i)) m ≡ ◌>>=◌ (do
     e ← numbered o
     got (entry_item e.0 e.1 i)) put_value m
-put_behind None i m = refl
-put_behind (Some e) i m = refl
+put_after None i m = refl
+put_after (Some e) i m = refl
 
 popped_area : (os : List Operand) (m n : Machine) (d : Datum) → popped os m ≡ record { given = Got d; machine = n } → m.area ≡ n.area
-popped_area [] m n d e = let f : Ends Lacking ≡ Got d = ap (λ (came : Came Datum). came.given) e in cc
+popped_area [] m n d e = let f : Ends Stuck ≡ Got d = ap (λ (came : Came Datum). came.given) e in cc
 popped_area (Value x ∷ os) m n d e = ap (λ (came : Came Datum). came.machine.area) e
-popped_area (Truth t ∷ os) m n d e = let f : Ends Lacking ≡ Got d = ap (λ (came : Came Datum). came.given) e in cc
+popped_area (Truth t ∷ os) m n d e = let f : Ends Stuck ≡ Got d = ap (λ (came : Came Datum). came.given) e in cc
 
 -- the item of the entry is put in the place of its number
 pub item_then : (i : ConditionItem) (m n : Machine) (d : Datum) → pop m ≡ record { given = Got d; machine = n } → item_of_condition i m ≡ ◌>>=◌ (item_at n.area.entries d i) put_value n
@@ -121,5 +121,5 @@ item_then i m n d e =
     ap (λ (came : Came Datum). go_on came.given (λ d. do
       e ← numbered (entry_numbered 1 (entries_of m.area.entries) d)
       put_value (entry_item e.0 e.1 i)) came.machine) e
-    ∙ put_behind (entry_numbered 1 (entries_of m.area.entries) d) i n
+    ∙ put_after (entry_numbered 1 (entries_of m.area.entries) d) i n
     ∙ ap (λ (c : Entries). ◌>>=◌ (item_at c d i) put_value n) (ap (λ a. a.entries) (popped_area m.running.operands m n d e))

@@ -8,44 +8,44 @@ use Rattle.psm_code.specs.declared.instruction.Instruction.{Instruction}
 use Rattle.psm_code.specs.declared.instruction.Instruction.TheVariants as instruction
 use Rattle.psm_code.specs.declared.lines.CodeLine.{CodeLine}
 use Rattle.psm_code.specs.Parts.{line_at, routine_at}
-use Rattle.psm_code.specs.Rows.{Way, done, line_done, routine_done, row, rows, settled}
+use Rattle.psm_code.specs.Run.{Successor, done, line_done, routine_done, step, steps, settled}
 use Rattle.psm_code.specs.RoutineRules.{first_fault}
-use Rattle.psm_code.specs.Sits.{Sits}
-use Rattle.psm_code.specs.State.{Machine, More, Turned}
+use Rattle.psm_code.specs.MachineInvariant.{MachineInvariant}
+use Rattle.psm_code.specs.State.{Machine, More, Stepped}
 use Rattle.psm_code.specs.Steps.{Came}
-use Rattle.psm_ends.specs.Measure.{rows_at_most, shape}
-use Rattle.psm_ends.proofs.Rows.{row_less, rows_less}
+use Rattle.psm_termination.specs.Measure.{steps_at_most, shape}
+use Rattle.psm_termination.proofs.Rows.{step_less, steps_less}
 use Rattle.psm_unwind.specs.declared.ending.Outcome.{Outcome}
 use Rattle.psm_unwind.specs.declared.ending.Outcome.TheVariants as outcome
 use Rattle.psm_unwind.specs.View.{LeadsTo}
 use Rattle.psm_machine.specs.declared.stop.Stop.{Stop}
-use Rattle.psm_machine.specs.Going.{Turns, goes_more, is_common}
+use Rattle.psm_machine.specs.Successors.{StepsTo, goes_more, is_common}
 use Rattle.psm_machine.specs.declared.running.Finished.{Finished}
-use Rattle.psm_machine.specs.Running.{Advances, AfterRow, ended_by}
+use Rattle.psm_machine.specs.Running.{Advances, AfterStep, ended_by}
 use Rattle.psm_code.proofs.Ending.{rows-more}
-use Rattle.psm_code.proofs.Sound.{rows_right}
-use Rattle.psm_code.specs.Sits.{StaysRight}
+use Rattle.psm_code.proofs.NeverStuck.{rows_well_formed}
+use Rattle.psm_code.specs.MachineInvariant.{StaysWellFormed}
 use Rattle.psm_machine.proofs.Dropping.{settled_ok}
 use Rattle.psm_machine.proofs.Finishing.{goes_further, leads_more}
 
-line_row : (code : RawCode) (r : RawRoutine) (m : Machine) (l : Option CodeLine) (i : Instruction) → Some i ≡ option_map (λ (l : CodeLine). l.instruction) l → line_done code r l m ≡ settled code (done code r i m).given (done code r i m).machine
-line_row code r m None i e = absurd cc
-line_row code r m (Some l) i e =
+line_step : (code : RawCode) (r : RawRoutine) (m : Machine) (l : Option CodeLine) (i : Instruction) → Some i ≡ option_map (λ (l : CodeLine). l.instruction) l → line_done code r l m ≡ settled code (done code r i m).given (done code r i m).machine
+line_step code r m None i e = absurd cc
+line_step code r m (Some l) i e =
     let same : l.instruction ≡ i = cc in
     ap (λ j. let came = done code r j m in settled code came.given came.machine) same
 
--- a row is what its instruction comes to
-pub done_row : (code : RawCode) (m : Machine) (r : RawRoutine) (i : Instruction) → routine_at code m.running.routine ≡ Some r → Some i ≡ option_map (λ (l : CodeLine). l.instruction) (line_at r m.running.line)
-    → row code m ≡ settled code (done code r i m).given (done code r i m).machine
-done_row code m r i e f = ap (λ x. routine_done code x m) e ∙ line_row code r m (line_at r m.running.line) i f
+-- a row is what its instruction ends in
+pub done_step : (code : RawCode) (m : Machine) (r : RawRoutine) (i : Instruction) → routine_at code m.running.routine ≡ Some r → Some i ≡ option_map (λ (l : CodeLine). l.instruction) (line_at r m.running.line)
+    → step code m ≡ settled code (done code r i m).given (done code r i m).machine
+done_step code m r i e f = ap (λ x. routine_done code x m) e ∙ line_step code r m (line_at r m.running.line) i f
 
--- an instruction that is done, behind which another one comes
+-- an instruction that is done, after which another one comes
 pub done_more : (code : RawCode) (m now : Machine) (r : RawRoutine) (i : Instruction) (res : Result (Unit {0}) Stop) (u : Unit {0}) → routine_at code m.running.routine ≡ Some r → Some i ≡ option_map (λ (l : CodeLine). l.instruction) (line_at r m.running.line)
-    → res ≡ Ok u → Turns (done code r i m) (goes_more res) now → row code m ≡ More now
+    → res ≡ Ok u → StepsTo (done code r i m) (goes_more res) now → step code m ≡ More now
 done_more code m now r i res u e f o h =
     let came = done code r i m in
-    leads_more (row code m) outcome.More now refl
-    (subst (λ t. LeadsTo t outcome.More now) (sym (done_row code m r i e f)) (settled_ok code came outcome.More now (subst (λ r. Turns came (goes_more r) now) o h)))
+    leads_more (step code m) outcome.More now refl
+    (subst (λ t. LeadsTo t outcome.More now) (sym (done_step code m r i e f)) (settled_ok code came outcome.More now (subst (λ r. StepsTo came (goes_more r) now) o h)))
 
 -- ---- an answer that says only whether it is done
 
@@ -62,29 +62,29 @@ common_only i h n0 n1 n2 n3 = cc
 
 -- ---- some rows, and one more
 
-pub after_row : (t : Turned) (o : Outcome) (last now : Machine) (n : ℕ) → n ≡ last.turns → LeadsTo t o now → AfterRow t (ended_by n o) last now
-after_row t outcome.More last now n e h = h
-after_row t (outcome.Over x) last now n e h = (h, e)
+pub after_step : (t : Stepped) (o : Outcome) (last now : Machine) (n : ℕ) → n ≡ last.turns → LeadsTo t o now → AfterStep t (ended_by n o) last now
+after_step t outcome.More last now n e h = h
+after_step t (outcome.Over x) last now n e h = (h, e)
 
-pub advances : (code : RawCode) (m last now : Machine) (k : ℕ) (r : Result (Option Finished) AllocError) → rows code k (More m) ≡ More last → IfOk r (λ f. AfterRow (row code last) f last now) → IfOk r (λ f. Advances code m f now)
+pub advances : (code : RawCode) (m last now : Machine) (k : ℕ) (r : Result (Option Finished) AllocError) → steps code k (More m) ≡ More last → IfOk r (λ f. AfterStep (step code last) f last now) → IfOk r (λ f. Advances code m f now)
 advances code m last now k (Ok f) e h = record { count = k; last = last; leads = e; next = h }
 advances code m last now k (Err x) e h = tt
 
 -- ---- where a run is then
 
-pub onward : (code : RawCode) (from : Turned) (m last : Machine) (k n : ℕ) → rows code k from ≡ More m → rows code n (More m) ≡ More last → rows code (k + n) from ≡ More last
-onward code from m last k n e f = rows-more code k n from ∙ ap (rows code n) e ∙ f
+pub onward : (code : RawCode) (from : Stepped) (m last : Machine) (k n : ℕ) → steps code k from ≡ More m → steps code n (More m) ≡ More last → steps code (k + n) from ≡ More last
+onward code from m last k n e f = rows-more code k n from ∙ ap (steps code n) e ∙ f
 
-pub sits_there : (code : RawCode) → first_fault code ≡ None → (m last : Machine) (n : ℕ) → Sits code m → rows code n (More m) ≡ More last → Sits code last
-sits_there code right m last n h e = subst (StaysRight code) e (rows_right code right n (More m) h)
+pub machine_invariant_there : (code : RawCode) → first_fault code ≡ None → (m last : Machine) (n : ℕ) → MachineInvariant code m → steps code n (More m) ≡ More last → MachineInvariant code last
+machine_invariant_there code well_formed_code m last n h e = subst (StaysWellFormed code) e (rows_well_formed code well_formed_code n (More m) h)
 
 -- ---- some rows, and one more that goes on
 
-pub advance_leads : (code : RawCode) (m now : Machine) (a : Advances code m None now) → rows code (a.count + 1) (More m) ≡ More now
-advance_leads code m now a = goes_further code (More m) a.count a.last now a.leads (leads_more (row code a.last) outcome.More now refl a.next)
+pub advance_leads : (code : RawCode) (m now : Machine) (a : Advances code m None now) → steps code (a.count + 1) (More m) ≡ More now
+advance_leads code m now a = goes_further code (More m) a.count a.last now a.leads (leads_more (step code a.last) outcome.More now refl a.next)
 
-pub advance_less : (code : RawCode) → first_fault code ≡ None → (m now : Machine) → Sits code m → Advances code m None now → rows_at_most code (shape now) < rows_at_most code (shape m)
-advance_less code right m now h a =
-    let most = rows_less code right a.count m a.last h a.leads in
-    let less = row_less code right a.last now (sits_there code right m a.last a.count h a.leads) (leads_more (row code a.last) outcome.More now refl a.next) in
+pub advance_less : (code : RawCode) → first_fault code ≡ None → (m now : Machine) → MachineInvariant code m → Advances code m None now → steps_at_most code (shape now) < steps_at_most code (shape m)
+advance_less code well_formed_code m now h a =
+    let most = steps_less code well_formed_code a.count m a.last h a.leads in
+    let less = step_less code well_formed_code a.last now (machine_invariant_there code well_formed_code m a.last a.count h a.leads) (leads_more (step code a.last) outcome.More now refl a.next) in
     omega (arith, most, less)

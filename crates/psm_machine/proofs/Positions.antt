@@ -30,7 +30,7 @@ use Rattle.psm_unwind.specs.declared.run.Run.{Run}
 use Rattle.psm_unwind.specs.View.{machine_of}
 use Rattle.psm_machine.specs.declared.stop.Stop.{Stop}
 use Rattle.psm_machine.specs.Allowed.{HasTable, MayChangeAt, OfCursor, OverQuery}
-use Rattle.psm_machine.specs.Coming.{Comes}
+use Rattle.psm_machine.specs.ActResults.{Evaluates}
 use Rattle.psm_machine.specs.Over.{part_of}
 use Rattle.psm_machine.proofs.Asking.{of_some}
 use Rattle.psm_machine.proofs.Counting.{counting, schema_same, schema_there, stopped_by}
@@ -83,12 +83,12 @@ may_change_at code r tables vars cursors number sets x q t c d a b s h =
 -- a positioned UPDATE is done and leaves the row where the key has changed, or it stops as is due
 abbrev pub Moves : Act (Unit {0}) → ℕ → Cursor → List Contents → (Mark → List Contents) → Run → List Contents → Result Bool Stop → Type 0
 Moves act number c old at r new (Ok b) = act (machine_of old at r) ≡ leave_row b number c (machine_of new at (counting 1 r))
-Moves act number c old at r new (Err s) = Comes {A = Unit {0}} (act (machine_of old at r)) (Err s) (machine_of new at r)
+Moves act number c old at r new (Err s) = Evaluates {A = Unit {0}} (act (machine_of old at r)) (Err s) (machine_of new at r)
 
 moves_like : (act other : Act (Unit {0})) (number : ℕ) (c : Cursor) (old : List Contents) (at : Mark → List Contents) (r : Run) (new : List Contents) (p : Result Bool Stop) → act (machine_of old at r) ≡ other (machine_of old at r)
     → Moves other number c old at r new p → Moves act number c old at r new p
 moves_like act other number c old at r new (Ok b) e h = e ∙ h
-moves_like act other number c old at r new (Err s) e h = subst (λ (came : Came (Unit {0})). Comes came (Err s) (machine_of new at r)) (sym e) h
+moves_like act other number c old at r new (Err s) e h = subst (λ (came : Came (Unit {0})). Evaluates came (Err s) (machine_of new at r)) (sym e) h
 
 abbrev then_leaves : ℕ → Contents → ℕ → Cursor → Moved → Act (Unit {0})
 then_leaves n t number c moved = do

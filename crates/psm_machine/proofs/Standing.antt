@@ -7,7 +7,7 @@ use Rattle.psm_unwind.specs.declared.run.Run.{Run}
 use Rattle.psm_unwind.specs.Marks.{Around, Nested, SameFrames, Stays, Unwinds, marks_in, marks_of, open_marks}
 use Rattle.psm_unwind.proofs.Nestings.{each_right}
 use Rattle.psm_unwind.proofs.Unwinding.{stand_unwound}
-use Rattle.psm_machine.specs.Going.{SameMarks, StandStill}
+use Rattle.psm_machine.specs.Successors.{SameMarks, StandStill}
 
 pub marks_same : (r new : Run) → SameFrames r new → SameMarks r new
 marks_same r new s = record {

@@ -15,12 +15,12 @@ use Rattle.psm_code.specs.declared.code.RawCode.{RawCode}
 use Rattle.psm_code.specs.declared.code.RawRoutine.{RawRoutine}
 use Rattle.psm_code.specs.Calling.{activation, before_start, begun, entered, passed, started}
 use Rattle.psm_code.specs.Parts.{routine_at}
-use Rattle.psm_code.specs.State.{Activation, Machine, End, NoTurns, Raised, Turned, More, Over}
+use Rattle.psm_code.specs.State.{Activation, Machine, End, NoTurns, Raised, Stepped, More, Over}
 use Rattle.psm_code.specs.Steps.{Act, Came, Given, Got, Raises, Ends, ends, go_on, got, present, raises, spent, tried, turn, ◌>>=◌, ◌>>◌}
 use Rattle.psm_machine.specs.declared.stop.Stop.{Stop}
-use Rattle.psm_machine.specs.Coming.{Comes}
+use Rattle.psm_machine.specs.ActResults.{Evaluates}
 use Rattle.psm_machine.specs.Running.{first_activation}
-use Rattle.psm_machine.proofs.Comings.{err_is, stopped}
+use Rattle.psm_machine.proofs.ActSequences.{err_is, stopped}
 
 -- ---- what arguments are stored in changes no machine
 
@@ -38,17 +38,17 @@ passed_keeps InOut t [] m = refl
 passed_keeps In t (a ∷ args) m = tried_keeps (stored t a) args m
 passed_keeps InOut t (a ∷ args) m = tried_keeps (stored t a) args m
 
-behind_keeps : {A B : Type 0} (g : Given A) (go : A → Act B) (k m : Machine) → k ≡ m → ((a : A) (x : Machine) → (go a x).machine ≡ x) → (go_on g go k).machine ≡ m
-behind_keeps (Got a) go k m e h = h a k ∙ e
-behind_keeps (Raises c) go k m e h = e
-behind_keeps (Ends x) go k m e h = e
+after_keeps : {A B : Type 0} (g : Given A) (go : A → Act B) (k m : Machine) → k ≡ m → ((a : A) (x : Machine) → (go a x).machine ≡ x) → (go_on g go k).machine ≡ m
+after_keeps (Got a) go k m e h = h a k ∙ e
+after_keeps (Raises c) go k m e h = e
+after_keeps (Ends x) go k m e h = e
 
 entered_keeps : (ps : List Parameter) (args : List Datum) (m : Machine) → (entered ps args m).machine ≡ m
 entered_keeps [] [] m = refl
 entered_keeps [] (a ∷ args) m = refl
 entered_keeps (p ∷ ps) args m =
-    behind_keeps (passed p.mode p.kind args m).given (λ first. ◌>>=◌ (entered ps first.1) (λ others. got (first.0 ∷ others))) (passed p.mode p.kind args m).machine m (passed_keeps p.mode p.kind args m)
-    (λ first x. behind_keeps (entered ps first.1 x).given (λ others. got (first.0 ∷ others)) (entered ps first.1 x).machine x (entered_keeps ps first.1 x) (λ others y. refl))
+    after_keeps (passed p.mode p.kind args m).given (λ first. ◌>>=◌ (entered ps first.1) (λ others. got (first.0 ∷ others))) (passed p.mode p.kind args m).machine m (passed_keeps p.mode p.kind args m)
+    (λ first x. after_keeps (entered ps first.1 x).given (λ others. got (first.0 ∷ others)) (entered ps first.1 x).machine x (entered_keeps ps first.1 x) (λ others y. refl))
 
 -- ---- the first activation, and then its turn
 
@@ -76,7 +76,7 @@ module _ (code : RawCode) (n : ℕ) (args : List Datum) where
 
   routine_keeps : (o : Option RawRoutine) (m : Machine) → (◌>>=◌ (present o) entering m).machine ≡ m
   routine_keeps None m = refl
-  routine_keeps (Some r) m = behind_keeps (entered r.parameters args m).given (λ ps. got (activation n r ps)) (entered r.parameters args m).machine m (entered_keeps r.parameters args m) (λ ps x. refl)
+  routine_keeps (Some r) m = after_keeps (entered r.parameters args m).given (λ ps. got (activation n r ps)) (entered r.parameters args m).machine m (entered_keeps r.parameters args m) (λ ps x. refl)
 
   pub first_keeps : (m : Machine) → (first_activation code n args m).machine ≡ m
   first_keeps m = routine_keeps (routine_at code n) m
@@ -85,7 +85,7 @@ module _ (code : RawCode) (n : ℕ) (args : List Datum) where
     abbrev before : Machine
     before = before_start turns tables
 
-    abbrev turned : Given Activation → Turned
+    abbrev turned : Given Activation → Stepped
     turned g = let c = with_turn g before in begun c.given c.machine
 
     began : (g : Given Activation) → (first_activation code n args before).given ≡ g → started code n args tables turns ≡ turned g
@@ -121,6 +121,6 @@ with_values code n args ds r m e = ap (λ (came : Came (List Datum)). go_on came
 
 -- what stops a part stops what it is a part of, however that is seen
 pub shown_stopped : {A B C : Type 0} (view : B → A) (came : Came C) (go : C → Act A) (m : Machine) (s : Stop) (r : Result B Stop) →
-    IsErrAnd r (λ e. e ≡ s) → Comes came (Err s) m → Comes (go_on came.given go came.machine) (result_map_both view (λ x. x) r) m
+    IsErrAnd r (λ e. e ≡ s) → Evaluates came (Err s) m → Evaluates (go_on came.given go came.machine) (result_map_both view (λ x. x) r) m
 shown_stopped view came go m s r e h =
-    subst (λ x. Comes (go_on came.given go came.machine) (result_map_both view (λ x. x) x) m) (sym (err_is r s e)) (stopped came go m s (Err s) refl h)
+    subst (λ x. Evaluates (go_on came.given go came.machine) (result_map_both view (λ x. x) x) m) (sym (err_is r s e)) (stopped came go m s (Err s) refl h)

@@ -6,9 +6,9 @@ use Rattle.psm_exprcode.specs.declared.set_item.SetItem.{SetItem}
 use Rattle.psm_value.specs.declared.datum.Datum.{Datum}
 use Rattle.psm_table.specs.Cursors.{Cursor}
 use Rattle.psm_table.specs.Table.{Contents}
-use Rattle.psm_tablecode.specs.Suits.{SuitsTable}
-use Rattle.psm_cursor.specs.Suits.{StandsIn, SuitsCursor}
-use Rattle.psm_dml.specs.Suits.{SuitChecks, SuitSets, SuitsTest}
+use Rattle.psm_tablecode.specs.TypeChecks.{TypeChecksTable}
+use Rattle.psm_cursor.specs.TypeChecks.{StandsIn, TypeChecksCursor}
+use Rattle.psm_dml.specs.TypeChecks.{ChecksTypeCheck, SetsTypeCheck, TypeChecksTest}
 use Rattle.psm_code.specs.declared.code.CodeCursor.{CodeCursor}
 use Rattle.psm_code.specs.declared.code.CodeTable.{CodeTable}
 use Rattle.psm_code.specs.declared.code.Plan.{Plan}
@@ -17,7 +17,7 @@ use Rattle.psm_code.specs.declared.code.RawCode.{RawCode}
 use Rattle.psm_code.specs.declared.code.RawRoutine.{RawRoutine}
 use Rattle.psm_code.specs.Parts.{routine_at, slots_of}
 use Rattle.psm_code.specs.RoutineRules.{first_fault}
-use Rattle.psm_code.specs.Sits.{are_stored, AreCursors, AreKept, IsKept}
+use Rattle.psm_code.specs.MachineInvariant.{are_stored, AreCursors, AreKept, IsKept}
 
 -- ---- queries
 
@@ -25,7 +25,7 @@ use Rattle.psm_code.specs.Sits.{are_stored, AreCursors, AreKept, IsKept}
 pub record MayAsk (tables : List Contents) (vars : List Datum) (q : Query) : Type 0 where
   pub table : Contents
   pub there : slice_get tables q.table ≡ Some table
-  pub fits : SuitsTable q vars table.def
+  pub fits : TypeChecksTable q vars table.def
 
 -- ---- cursors
 
@@ -39,7 +39,7 @@ pub record MayMove (r : RawRoutine) (tables : List Contents) (x : CodeCursor) (c
   pub asked : slice_get r.queries x.query ≡ Some query
   pub table : Contents
   pub there : slice_get tables query.table ≡ Some table
-  pub suits : SuitsCursor query table.def c
+  pub type_checks : TypeChecksCursor query table.def c
 
 -- the same of the cursor of a number, if it is declared and there
 abbrev pub OfCursor : RawRoutine → List Cursor → ℕ → (CodeCursor → Cursor → Type 0) → Type 0
@@ -52,7 +52,7 @@ pub record HasTable (t : CodeTable) (tables : List Contents) (n : ℕ) : Type 0 
   pub contents : Contents
   pub there : slice_get tables n ≡ Some contents
   pub kept : IsKept t contents
-  pub checks : SuitChecks t.checks contents.def
+  pub checks : ChecksTypeCheck t.checks contents.def
 
 -- rows may be put in
 abbrev pub MayPut : RawCode → List Contents → ℕ → Type 0
@@ -61,18 +61,18 @@ MayPut code tables n = IfSome (slice_get code.tables n) (λ t. HasTable t tables
 -- rows that meet a test may be changed: the assignments and the test fit the table and the variables
 pub record MayChange (tables : List Contents) (n : ℕ) (vars : List Datum) (sets : List SetItem) (test : Option (List Line)) (t : CodeTable) : Type 0 where
   pub table : HasTable t tables n
-  pub setting : SuitSets sets vars table.contents.def
-  pub testing : SuitsTest test vars table.contents.def
+  pub setting : SetsTypeCheck sets vars table.contents.def
+  pub testing : TypeChecksTest test vars table.contents.def
 
 -- rows that meet a test may be taken out
 pub record MayErase (tables : List Contents) (n : ℕ) (vars : List Datum) (test : Option (List Line)) (t : CodeTable) : Type 0 where
   pub table : HasTable t tables n
-  pub testing : SuitsTest test vars table.contents.def
+  pub testing : TypeChecksTest test vars table.contents.def
 
 -- the row on which a cursor over the table stands may be changed
 pub record MayChangeAt (tables : List Contents) (n : ℕ) (vars : List Datum) (sets : List SetItem) (c : Cursor) (t : CodeTable) : Type 0 where
   pub table : HasTable t tables n
-  pub setting : SuitSets sets vars table.contents.def
+  pub setting : SetsTypeCheck sets vars table.contents.def
   pub stands : StandsIn table.contents.def c
 
 -- the same row may be taken out
@@ -94,11 +94,11 @@ MayDo code r tables vars cursors (Delete table test) = IfSome (slice_get code.ta
 MayDo code r tables vars cursors (UpdateAt cursor sets) = OfCursor r cursors cursor (λ x c. OverQuery r x (λ n. IfSome (slice_get code.tables n) (MayChangeAt tables n vars sets c)))
 MayDo code r tables vars cursors (DeleteAt cursor) = OfCursor r cursors cursor (λ x c. OverQuery r x (λ n. MayEraseAt tables n c))
 
--- ---- right code
+-- ---- well-formed code
 
--- a routine of code that breaks no rule, over tables, variables and cursors that are as the code declares them
-pub record RunsRight (code : RawCode) (r : RawRoutine) (tables : List Contents) (vars : List Datum) (cursors : List Cursor) : Type 0 where
-  pub right : first_fault code ≡ None
+-- a routine of well-formed code, over tables, variables and cursors that are as the code declares them
+pub record RunsWellFormed (code : RawCode) (r : RawRoutine) (tables : List Contents) (vars : List Datum) (cursors : List Cursor) : Type 0 where
+  pub well_formed_code : first_fault code ≡ None
   pub routine : ℕ
   pub there : routine_at code routine ≡ Some r
   pub kept : AreKept code.tables tables

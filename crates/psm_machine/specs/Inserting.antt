@@ -14,7 +14,7 @@ use Rattle.psm_code.specs.Plans.{in_rows, plain, put_in, schema_of, some_rows}
 use Rattle.psm_code.specs.Querying.{answer_of, query_at}
 use Rattle.psm_code.specs.Steps.{Act, pops, ◌>>=◌}
 
--- Table n, which was c, is due to have some rows and the statement to be about so many. It does, and the other tables stay; or the
+-- Table n, which was c, is due to have some rows and the statement to be about n. It does, and the other tables stay; or the
 -- condition that is due is raised, which bears the name of the table where it is one of the table, or memory runs out, and then all
 -- tables stay.
 abbrev pub EndsIn : CodeTable → Contents → Result Changed Failure → List Contents → ℕ → List Contents → Result ℕ DataFault → Type 0
@@ -34,7 +34,7 @@ PutsInto t n columns rows old new result = IfSome (slice_get old n) (λ c. EndsI
 abbrev pub PutsRows : RawCode → ℕ → List ℕ → List (List Datum) → List Contents → List Contents → Result ℕ DataFault → Type 0
 PutsRows code n columns rows old new result = IfSome (slice_get code.tables n) (λ t. PutsInto t n columns rows old new result)
 
--- of so many rows, whose values stand among the operands
+-- of n rows, whose values stand among the operands
 abbrev pub put_operands : RawCode → ℕ → List ℕ → ℕ → Act (Unit {0})
 put_operands code table columns rows = do
   ds ← pops (rows * length columns) []

@@ -1,6 +1,6 @@
 pub mod Allowed
-pub mod Coming
-pub mod Going
+pub mod ActResults
+pub mod Successors
 pub mod Innermost
 pub mod Inserting
 pub mod Over

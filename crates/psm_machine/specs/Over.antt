@@ -1,4 +1,4 @@
--- What an instruction comes to over the tables of a store.
+-- What an instruction ends in over the tables of a store.
 use Rattle.std.specs.Prelude.{◌≡◌, ℕ, Bool, true, false, List, codes, Result, Ok, Err}
 use Rattle.psm_cond.specs.Condition.{alone}
 use Rattle.psm_cond.specs.Entry.{entry_of, name_text}
@@ -7,17 +7,17 @@ use Rattle.psm_cond.specs.declared.fault.DataFault.TheVariants as fault
 use Rattle.psm_table.specs.Table.{Contents}
 use Rattle.psm_store.specs.declared.store.Mark.{Mark}
 use Rattle.psm_code.specs.declared.code.CodeCursor.{CodeCursor}
-use Rattle.psm_code.specs.Rows.{Way, ahead, at}
+use Rattle.psm_code.specs.Run.{Successor, fall_through, at}
 use Rattle.psm_code.specs.Steps.{Act}
 use Rattle.psm_unwind.specs.declared.run.Run.{Run}
 use Rattle.psm_unwind.specs.View.{machine_of}
 use Rattle.psm_machine.specs.declared.stop.Stop.{Stop}
 use Rattle.psm_machine.specs.declared.stop.Stop.TheVariants as stop
-use Rattle.psm_machine.specs.Coming.{Comes}
+use Rattle.psm_machine.specs.ActResults.{Evaluates}
 
--- an act on a run over tables comes to what is due, with the run and the tables as they are now, whatever the marks stand for
+-- an act on a run over tables ends in what is due, with the run and the tables as they are now, whatever the marks stand for
 abbrev pub DoesOver : {A : Type 0} → List Contents → Act A → Run → Result A Stop → List Contents → Run → Type 0
-DoesOver tables act r result now new = (at : Mark → List Contents) → Comes (act (machine_of tables at r)) result (machine_of now at new)
+DoesOver tables act r result now new = (at : Mark → List Contents) → Evaluates (act (machine_of tables at r)) result (machine_of now at new)
 
 -- what the fault of a statement on tables stops
 abbrev pub stop_of : DataFault → Stop
@@ -35,14 +35,14 @@ part_of (Err f) = Err (stop_of f)
 abbrev pub StopsIn : CodeCursor → Stop → Type 0
 StopsIn x (stop.Raises c) = c ≡ alone (record (entry_of (codes "24000")) { cursor = name_text x.name })
 StopsIn x stop.NoTurns = ⊥
-StopsIn x stop.Lacking = ⊥
+StopsIn x stop.Stuck = ⊥
 StopsIn x stop.Memory = Unit {0}
 
--- where the run goes on behind the next row of FOR: at the line that follows, or at that of the instruction where there is no row
-abbrev pub way_for : ℕ → Bool → Way
-way_for end true = ahead
-way_for end false = at end
+-- where the run goes on after the next row of FOR: at the line that follows, or at that of the instruction where there is no row
+abbrev pub successor_for : ℕ → Bool → Successor
+successor_for end true = fall_through
+successor_for end false = at end
 
-abbrev pub as_way : ℕ → Result Bool Stop → Result Way Stop
-as_way end (Ok b) = Ok (way_for end b)
-as_way end (Err s) = Err s
+abbrev pub as_successor : ℕ → Result Bool Stop → Result Successor Stop
+as_successor end (Ok b) = Ok (successor_for end b)
+as_successor end (Err s) = Err s

@@ -8,8 +8,8 @@ use Rattle.psm_code.specs.declared.code.RawCode.{RawCode}
 use Rattle.psm_code.specs.declared.code.RawRoutine.{RawRoutine}
 use Rattle.psm_code.specs.Calling.{activation, before_start, entered}
 use Rattle.psm_code.specs.Parts.{routine_at, taking}
-use Rattle.psm_code.specs.Rows.{Ran, row, rows}
-use Rattle.psm_code.specs.Sits.{AreKept, Sits}
+use Rattle.psm_code.specs.Run.{Ran, step, steps}
+use Rattle.psm_code.specs.MachineInvariant.{AreKept, MachineInvariant}
 use Rattle.psm_code.specs.State as state
 use Rattle.psm_code.specs.Steps.{Act, got, present, ◌>>=◌}
 use Rattle.psm_unwind.specs.declared.ending.Ending.{Ending}
@@ -33,16 +33,16 @@ first_activation code n args = do
   got (activation n r parameters)
 
 -- whatever the tables are, a run begins as is due; or it is over, before anything has changed
-abbrev pub Begins : (List Contents → state.Turned) → ℕ → Beginning → Type 0
+abbrev pub Begins : (List Contents → state.Stepped) → ℕ → Beginning → Type 0
 Begins due turns (Runs r) = (tables : List Contents) (at : Mark → List Contents) → due tables ≡ state.More (machine_of tables at r)
 Begins due turns (Over e) = (tables : List Contents) → due tables ≡ state.Over (end_of e) (before_start turns tables)
 
 -- what is always true of a machine is true where a run begins over the tables of the code
-abbrev pub BeginsRight : RawCode → Beginning → Type 0
-BeginsRight code (Runs r) = (tables : List Contents) (at : Mark → List Contents) → AreKept code.tables tables → Sits code (machine_of tables at r)
-BeginsRight code (Over e) = Unit {0}
+abbrev pub BeginsWellFormed : RawCode → Beginning → Type 0
+BeginsWellFormed code (Runs r) = (tables : List Contents) (at : Mark → List Contents) → AreKept code.tables tables → MachineInvariant code (machine_of tables at r)
+BeginsWellFormed code (Over e) = Unit {0}
 
--- a run that begins has no mark open, in a store that has so many at most
+-- a run that begins has no mark open, in a store that has n at most
 abbrev pub HasNoMarks : ℕ → Beginning → Type 0
 HasNoMarks marks (Runs r) = (open_marks r ≡ []) × (r.marks ≡ marks)
 HasNoMarks marks (Over e) = Unit {0}
@@ -55,54 +55,54 @@ pub record Takes (code : RawCode) (n : ℕ) (args : List Datum) : Type 0 where
 
 -- ---- the end
 
--- a run comes to its end from there on, with these tables and turns left
-pub record Finishes (code : RawCode) (from : state.Turned) (f : Finished) (tables : List Contents) : Type 0 where
+-- a run reaches its end from there on, with these tables and turns left
+pub record Finishes (code : RawCode) (from : state.Stepped) (f : Finished) (tables : List Contents) : Type 0 where
   pub count : ℕ
   pub last : state.Machine
-  pub leads : rows code count from ≡ state.Over (end_of f.ending) last
+  pub leads : steps code count from ≡ state.Over (end_of f.ending) last
   pub left : f.turns ≡ last.turns
   pub tables_left : last.tables ≡ tables
 
--- how a run has ended that had so many turns before its last row, if it has
+-- how a run has ended that had n turns before its last row, if it has
 abbrev pub ended_by : ℕ → Outcome → Option Finished
 ended_by turns outcome.More = None
 ended_by turns (outcome.Over e) = Some (record { ending = e; turns = turns })
 
 -- a row leads on, or to an end, with the turns that there were before it
-abbrev pub AfterRow : state.Turned → Option Finished → state.Machine → state.Machine → Type 0
-AfterRow t None last now = LeadsTo t outcome.More now
-AfterRow t (Some f) last now = LeadsTo t (outcome.Over f.ending) now × (f.turns ≡ last.turns)
+abbrev pub AfterStep : state.Stepped → Option Finished → state.Machine → state.Machine → Type 0
+AfterStep t None last now = LeadsTo t outcome.More now
+AfterStep t (Some f) last now = LeadsTo t (outcome.Over f.ending) now × (f.turns ≡ last.turns)
 
 -- a run goes on by some rows, and then by one more
 pub record Advances (code : RawCode) (m : state.Machine) (f : Option Finished) (now : state.Machine) : Type 0 where
   pub count : ℕ
   pub last : state.Machine
-  pub leads : rows code count (state.More m) ≡ state.More last
-  pub next : AfterRow (row code last) f last now
+  pub leads : steps code count (state.More m) ≡ state.More last
+  pub next : AfterStep (step code last) f last now
 
--- the tables behind a run: those that it found, where it ended for want of turns
-abbrev pub behind : state.End → List Contents → List Contents → List Contents
-behind (state.Ended ds) found last = last
-behind (state.Raised c) found last = last
-behind state.NoTurns found last = found
-behind state.Lacking found last = found
+-- the tables after a run: those that it found, where it ended because turns ran out
+abbrev pub following : state.End → List Contents → List Contents → List Contents
+following (state.Ended ds) found last = last
+following (state.Raised c) found last = last
+following state.NoTurns found last = found
+following state.Stuck found last = found
 
--- a run of a routine comes to that end, with so many turns left, and leaves the tables that are due
+-- a run of a routine reaches that end, with n turns left, and leaves the tables that are due
 pub record RunsTo (code : RawCode) (n : ℕ) (args : List Datum) (found : List Contents) (turns : ℕ) (f : Finished) (now : List Contents) : Type 0 where
   pub last : state.Machine
   pub ran : Ran code n args found turns (end_of f.ending) last
   pub left : f.turns ≡ last.turns
-  pub tables : now ≡ behind (end_of f.ending) found last.tables
+  pub tables : now ≡ following (end_of f.ending) found last.tables
 
 -- whether what a run did to the tables stays
-abbrev pub stays_behind : Ending → Bool
-stays_behind (ending.Ended ds) = true
-stays_behind (ending.Raised c) = true
-stays_behind ending.NoTurns = false
-stays_behind ending.Lacking = false
+abbrev pub stays_after : Ending → Bool
+stays_after (ending.Ended ds) = true
+stays_after (ending.Raised c) = true
+stays_after ending.NoTurns = false
+stays_after ending.Stuck = false
 
 abbrev pub leaves_tables : Result Finished AllocError → Bool
-leaves_tables (Ok f) = stays_behind f.ending
+leaves_tables (Ok f) = stays_after f.ending
 leaves_tables (Err e) = false
 
 -- marks outside all that a run has open stay

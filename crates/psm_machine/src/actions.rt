@@ -2,10 +2,10 @@
 ghost use Rattle.std.specs.Prelude.{◌≡◌, [], ◌∷◌, reverse, List};
 ghost use Rattle.psm_table.specs.Table.{Contents};
 ghost use Rattle.psm_store.specs.declared.store.Mark.{Mark as MarkValue};
-ghost use Rattle.psm_code.specs.Rows.{end_action, line_behind};
+ghost use Rattle.psm_code.specs.Run.{end_action, line_after};
 ghost use Rattle.psm_unwind.specs.View.{frame_of, frames_of};
-ghost use Rattle.psm_machine.specs.Coming.{Finds};
-ghost use Rattle.psm_machine.specs.Going.{GoesOn, SameMarks, exit_of, resume_of};
+ghost use Rattle.psm_machine.specs.ActResults.{Finds};
+ghost use Rattle.psm_machine.specs.Successors.{GoesOn, SameMarks, exit_of, resume_of};
 
 use crate::stop::Stop;
 use crate::turns::clear;
@@ -14,7 +14,7 @@ use psm_cond::{Handler, HandlerKind};
 use psm_exprcode::Next;
 use psm_unwind::{Frame, Run, block_at, handler_at};
 
-/// Ends the action of a handler, whose frame has to be the innermost one, and tells where the run goes on: behind the statement for
+/// Ends the action of a handler, whose frame has to be the innermost one, and tells where the run goes on: after the statement for
 /// CONTINUE, and at the end of the handler's block for EXIT and UNDO. The area is success then.
 pub fn end_action(routine: &RawRoutine, run: &mut Run, number: u32) -> Result<Next, Stop>
     ensures due { GoesOn (end_action routine.now number) run.old result run.new }
@@ -22,12 +22,12 @@ pub fn end_action(routine: &RawRoutine, run: &mut Run, number: u32) -> Result<Ne
     ensures callers { run.new.callers ≡ run.old.callers }
 {
     let Some(resume) = innermost_resume(number, run.running.frames.as_slice()) else {
-        return Err(Stop::Lacking);
+        return Err(Stop::Stuck);
     };
     let Some(handler) = handler_at(routine, number) else {
-        return Err(Stop::Lacking);
+        return Err(Stop::Stuck);
     };
-    let line = line_behind(routine, handler, resume)?;
+    let line = line_after(routine, handler, resume)?;
     run.running.frames.pop();
     clear(run);
     Ok(Next::Jump(line))
@@ -56,13 +56,13 @@ fn resume_of(number: u32, frame: &Frame) -> Option<Option<u32>>
     }
 }
 
-// The line at which the run goes on behind the action of a handler.
-fn line_behind(routine: &RawRoutine, handler: &Handler, resume: Option<u32>) -> Result<u32, Stop>
-    ensures { Finds (line_behind routine.now handler.now handler.now.kind resume) result }
+// The line at which the run goes on after the action of a handler.
+fn line_after(routine: &RawRoutine, handler: &Handler, resume: Option<u32>) -> Result<u32, Stop>
+    ensures { Finds (line_after routine.now handler.now handler.now.kind resume) result }
 {
     match handler.kind {
         HandlerKind::Continue => match resume {
-            None => Err(Stop::Lacking),
+            None => Err(Stop::Stuck),
             Some(line) => Ok(line),
         },
         HandlerKind::Exit | HandlerKind::Undo => exit_of(routine, handler),
@@ -74,7 +74,7 @@ fn exit_of(routine: &RawRoutine, handler: &Handler) -> Result<u32, Stop>
     ensures { Finds (exit_of routine.now handler.now) result }
 {
     match block_at(routine, handler.context) {
-        None => Err(Stop::Lacking),
+        None => Err(Stop::Stuck),
         Some(block) => Ok(block.exit),
     }
 }

@@ -1,23 +1,23 @@
 //! A run that goes on by several lines.
 ghost use Rattle.std.specs.Prelude.{◌≡◌, true, None, All, IfOk, IsTrue};
 ghost use Rattle.psm_value.specs.SqlType.{IsType};
-ghost use Rattle.psm_cond.specs.Sound.{is_numbered};
+ghost use Rattle.psm_cond.specs.WellFormed.{is_numbered};
 ghost use Rattle.psm_code.specs.declared.code.RawCode.{RawCode as CodeValue};
 ghost use Rattle.psm_code.specs.Parts.{slots_of};
 ghost use Rattle.psm_code.specs.RoutineRules.{first_fault};
-ghost use Rattle.psm_code.specs.Rows.{done, row};
-ghost use Rattle.psm_code.specs.Sits.{Sits};
+ghost use Rattle.psm_code.specs.Run.{done, step};
+ghost use Rattle.psm_code.specs.MachineInvariant.{MachineInvariant};
 ghost use Rattle.psm_unwind.specs.Marks.{MarksStand, SameFrames};
 ghost use Rattle.psm_unwind.specs.View.{machine_of};
-ghost use Rattle.psm_machine.specs.Going.{FindsNeeds, StandStill, TurnsOn, goes_more, is_common};
-ghost use Rattle.psm_machine.specs.Running.{Advances, AfterRow, ended_by};
+ghost use Rattle.psm_machine.specs.Successors.{FindsNeeds, StandStill, StepsOn, goes_more, is_common};
+ghost use Rattle.psm_machine.specs.Running.{Advances, AfterStep, ended_by};
 
-use crate::going::go_to;
+use crate::completion::settle;
 use crate::operations::operation;
 use crate::running::Finished;
-use crate::settling::settle;
 use crate::stepping::step;
 use crate::stop::Stop;
+use crate::successors::go_to;
 use crate::turns::{clear, turn};
 use crate::variables::store as store_in;
 use psm_code::{Instruction, RawCode, RawRoutine};
@@ -39,9 +39,9 @@ pub fn advance<S: Store>(
     run: &mut Run,
     store: &mut S,
 ) -> Result<Option<Finished>, AllocError>
-    requires right { first_fault code.now ≡ None }
+    requires well_formed_code { first_fault code.now ≡ None }
     requires numbered { All (λ r. IsTrue (is_numbered r.handlers)) code.now.routines }
-    requires sits { Sits code.now (machine_of (S.tables store.old) (S.at store.old) run.old) }
+    requires machine_invariant { MachineInvariant code.now (machine_of (S.tables store.old) (S.at store.old) run.old) }
     requires stand { MarksStand (S.holds store.old) (S.marks store.old) run.old }
     ensures due { IfOk result (λ f. Advances code.now (machine_of (S.tables store.old) (S.at store.old) run.old) f (machine_of (S.tables store.new) (S.at store.new) run.new)) }
     ensures still { StandStill (S.holds store.old) (S.at store.old) (S.marks store.old) run.old (S.holds store.new) (S.at store.new) (S.marks store.new) run.new }
@@ -70,11 +70,11 @@ fn one_more<S: Store>(
     run: &mut Run,
     store: &mut S,
 ) -> Result<Option<Finished>, AllocError>
-    requires right { first_fault code.now ≡ None }
+    requires well_formed_code { first_fault code.now ≡ None }
     requires numbered { All (λ r. IsTrue (is_numbered r.handlers)) code.now.routines }
-    requires sits { Sits code.now (machine_of (S.tables store.old) (S.at store.old) run.old) }
+    requires machine_invariant { MachineInvariant code.now (machine_of (S.tables store.old) (S.at store.old) run.old) }
     requires stand { MarksStand (S.holds store.old) (S.marks store.old) run.old }
-    ensures due { IfOk result (λ f. AfterRow (row code.now (machine_of (S.tables store.old) (S.at store.old) run.old)) f (machine_of (S.tables store.old) (S.at store.old) run.old) (machine_of (S.tables store.new) (S.at store.new) run.new)) }
+    ensures due { IfOk result (λ f. AfterStep (step code.now (machine_of (S.tables store.old) (S.at store.old) run.old)) f (machine_of (S.tables store.old) (S.at store.old) run.old) (machine_of (S.tables store.new) (S.at store.new) run.new)) }
     ensures still { StandStill (S.holds store.old) (S.at store.old) (S.marks store.old) run.old (S.holds store.new) (S.at store.new) (S.marks store.new) run.new }
 {
     let turns = run.turns;
@@ -103,7 +103,7 @@ fn is_common(instruction: &Instruction) -> bool
     }
 }
 
-// A common instruction. What it comes to is small, since it is looked at behind each of them.
+// A common instruction. What it ends in is small, since it is looked at after each of them.
 #[inline(always)]
 fn follow(
     alloc: Global,
@@ -114,7 +114,7 @@ fn follow(
     requires common { is_common instruction.now ≡ true }
     requires types { All IsType (slots_of routine.now) }
     requires needs { FindsNeeds instruction.now run.old.operands.own run.old.running.variables.items }
-    ensures due { (code : CodeValue) → TurnsOn (done code routine.now instruction.now) run.old (goes_more result) run.new }
+    ensures due { (code : CodeValue) → StepsOn (done code routine.now instruction.now) run.old (goes_more result) run.new }
     ensures same { SameFrames run.old run.new }
     ensures routine { run.new.running.routine ≡ run.old.running.routine }
 {
@@ -135,6 +135,6 @@ fn follow(
             turn(run)?;
             go_to(run, Next::Ahead)
         }
-        _ => Err(Stop::Lacking),
+        _ => Err(Stop::Stuck),
     }
 }

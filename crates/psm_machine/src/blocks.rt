@@ -4,13 +4,13 @@ ghost use Rattle.psm_table.specs.Table.{Contents};
 ghost use Rattle.psm_store.specs.declared.store.Mark.{Mark as MarkValue};
 ghost use Rattle.psm_store.specs.Marks.{AnyMark, Keeps};
 ghost use Rattle.psm_code.specs.Raising.{is_block};
-ghost use Rattle.psm_code.specs.Rows.{enter, exit, with_frames};
+ghost use Rattle.psm_code.specs.Run.{enter, exit, with_frames};
 ghost use Rattle.psm_code.specs.State.{InBlock};
 ghost use Rattle.psm_code.specs.Steps.{change};
 ghost use Rattle.psm_unwind.specs.Marks.{Around, MarksStand, Nested, Stays, Unwinds, open_marks};
 ghost use Rattle.psm_unwind.specs.View.{frame_of, frames_of, machine_of};
-ghost use Rattle.psm_machine.specs.Coming.{Comes, Does};
-ghost use Rattle.psm_machine.specs.Going.{SameMarks, StandStill};
+ghost use Rattle.psm_machine.specs.ActResults.{Evaluates, Does};
+ghost use Rattle.psm_machine.specs.Successors.{SameMarks, StandStill};
 ghost use Rattle.psm_machine.specs.Innermost.{is_innermost};
 
 use crate::stop::Stop;
@@ -19,7 +19,7 @@ use psm_store::Store;
 use psm_unwind::{Frame, Run, block_at, leave_frame};
 use std::alloc::Global;
 
-/// So many marks are open in a store whose run opens another one, at most.
+/// N marks are open in a store whose run opens another one, at most.
 const MOST_OPEN: u128 = 633_825_300_114_114_700_748_351_602_688;
 
 /// Enters the block of a context. An ATOMIC one finds the tables as they are now, to which a mark puts them back.
@@ -33,14 +33,14 @@ pub fn enter<S: Store>(
     context: u32,
 ) -> Result<(), Stop>
     requires { MarksStand (S.holds store.old) (S.marks store.old) run.old }
-    ensures due { Comes (enter routine.now context (machine_of (S.tables store.old) (S.at store.old) run.old)) result (machine_of (S.tables store.new) (S.at store.new) run.new) }
+    ensures due { Evaluates (enter routine.now context (machine_of (S.tables store.old) (S.at store.old) run.old)) result (machine_of (S.tables store.new) (S.at store.new) run.new) }
     ensures stand { MarksStand (S.holds store.new) (S.marks store.new) run.new }
     ensures keeps { Keeps AnyMark (S.holds store.old) (S.at store.old) (S.holds store.new) (S.at store.new) }
     ensures still { StandStill (S.holds store.old) (S.at store.old) (S.marks store.old) run.old (S.holds store.new) (S.at store.new) (S.marks store.new) run.new }
     ensures callers { run.new.callers ≡ run.old.callers }
 {
     match block_at(routine, context) {
-        None => Err(Stop::Lacking),
+        None => Err(Stop::Stuck),
         Some(block) => {
             if block.atomic {
                 enter_atomic(alloc, run, store, context)
@@ -72,7 +72,7 @@ fn enter_atomic<S: Store>(
     context: u32,
 ) -> Result<(), Stop>
     requires { MarksStand (S.holds store.old) (S.marks store.old) run.old }
-    ensures due { Comes (change (λ m. with_frames (InBlock context (Some m.tables) ∷ m.running.frames) m) (machine_of (S.tables store.old) (S.at store.old) run.old)) result (machine_of (S.tables store.new) (S.at store.new) run.new) }
+    ensures due { Evaluates (change (λ m. with_frames (InBlock context (Some m.tables) ∷ m.running.frames) m) (machine_of (S.tables store.old) (S.at store.old) run.old)) result (machine_of (S.tables store.new) (S.at store.new) run.new) }
     ensures stand { MarksStand (S.holds store.new) (S.marks store.new) run.new }
     ensures keeps { Keeps AnyMark (S.holds store.old) (S.at store.old) (S.holds store.new) (S.at store.new) }
     ensures outer { (m : MarkValue) → S.holds store.old m → Around (open_marks run.old) m → Stays (S.at store.old) (S.holds store.new) (S.at store.new) m × Around (open_marks run.new) m }
@@ -98,12 +98,12 @@ pub fn exit<S: Store>(
     context: u32,
 ) -> Result<(), Stop>
     requires { Nested (S.holds store.old) (open_marks run.old) }
-    ensures due { Comes (exit routine.now context (machine_of (S.tables store.old) (S.at store.old) run.old)) result (machine_of (S.tables store.new) (S.at store.new) run.new) }
+    ensures due { Evaluates (exit routine.now context (machine_of (S.tables store.old) (S.at store.old) run.old)) result (machine_of (S.tables store.new) (S.at store.new) run.new) }
     ensures unwinds { Unwinds (S.holds store.old) (S.at store.old) (S.marks store.old) (S.tables store.old) run.old (S.holds store.new) (S.at store.new) (S.marks store.new) (S.tables store.new) run.new }
     ensures still { StandStill (S.holds store.old) (S.at store.old) (S.marks store.old) run.old (S.holds store.new) (S.at store.new) (S.marks store.new) run.new }
 {
     match pop_block(context, &mut run.running.frames) {
-        None => Err(Stop::Lacking),
+        None => Err(Stop::Stuck),
         Some(frame) => {
             leave_frame(routine, false, frame, &mut run.running.cursors, store);
             Ok(())

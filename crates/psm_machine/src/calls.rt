@@ -9,8 +9,8 @@ ghost use Rattle.psm_code.specs.Parts.{slots_of, takes, taking};
 ghost use Rattle.psm_code.specs.Steps.{change, pops};
 ghost use Rattle.psm_unwind.specs.Marks.{SameFrames};
 ghost use Rattle.psm_unwind.specs.View.{activation_of, machine_of};
-ghost use Rattle.psm_machine.specs.Coming.{Comes, Does};
-ghost use Rattle.psm_machine.specs.Going.{Gives, SameMarks, Shows};
+ghost use Rattle.psm_machine.specs.ActResults.{Evaluates, Does};
+ghost use Rattle.psm_machine.specs.Successors.{Gives, SameMarks, Shows};
 
 use crate::operands::pop;
 use crate::stop::{Stop, stop_at};
@@ -35,7 +35,7 @@ pub fn call(alloc: Global, code: &RawCode, run: &mut Run, number: u32) -> Result
     ensures marks { SameMarks run.old run.new }
 {
     let Some(routine) = routine_at(code, number) else {
-        return Err(Stop::Lacking);
+        return Err(Stop::Stuck);
     };
     let declared = routine.parameters.items();
     let arguments = arguments(alloc, declared, run)?;
@@ -86,7 +86,7 @@ pub(crate) fn entered(
     if arguments.is_empty() {
         Ok(values)
     } else {
-        Err(Stop::Lacking)
+        Err(Stop::Stuck)
     }
 }
 
@@ -98,7 +98,7 @@ fn passed(alloc: Global, parameter: &Parameter, arguments: &mut Vec<Datum>) -> R
     match parameter.mode {
         ParameterMode::Out => Ok(Datum::Null),
         ParameterMode::In | ParameterMode::InOut => match arguments.pop() {
-            None => Err(Stop::Lacking),
+            None => Err(Stop::Stuck),
             Some(value) => stored(alloc, parameter.kind, value),
         },
     }
@@ -153,7 +153,7 @@ pub(crate) fn activation(
     })
 }
 
-// One value for each slot: those behind the parameters begin null.
+// One value for each slot: those after the parameters begin null.
 fn filled(routine: &RawRoutine, parameters: Vec<Datum>) -> Result<Vec<Datum>, AllocError>
     requires { length parameters.items ≡ length routine.now.parameters }
     ensures { IfOk result (λ v. v.items ≡ filled (slots_of routine.now) parameters.items) }
@@ -178,7 +178,7 @@ fn closed(alloc: Global, routine: &RawRoutine) -> Result<Vec<Cursor>, AllocError
 
 // An activation runs, and the one that ran waits for it.
 fn go_into(run: &mut Run, activation: Activation) -> Result<(), Stop>
-    ensures due { (tables : List Contents) (at : MarkValue → List Contents) → Comes (change (calling (activation_of at [] activation)) (machine_of tables at run.old)) result (machine_of tables at run.new) }
+    ensures due { (tables : List Contents) (at : MarkValue → List Contents) → Evaluates (change (calling (activation_of at [] activation)) (machine_of tables at run.old)) result (machine_of tables at run.new) }
     ensures marks { activation.frames.items ≡ [] → SameMarks run.old run.new }
 {
     run.operands.begin()?;

@@ -3,17 +3,17 @@ ghost use Rattle.std.specs.Prelude.{◌≡◌, false, true, ℕ, Ok, slice_get, 
 ghost use Rattle.std.specs.Option.{option_copied};
 ghost use Rattle.psm_exprcode.specs.declared.query.Query.{Query as QueryValue};
 ghost use Rattle.psm_code.specs.Querying.{close, fetch, next, «open», open_as};
-ghost use Rattle.psm_code.specs.Rows.{next_or_end};
+ghost use Rattle.psm_code.specs.Run.{next_or_end};
 ghost use Rattle.psm_code.specs.State.{with_cursor};
 ghost use Rattle.psm_code.specs.Steps.{change};
 ghost use Rattle.psm_unwind.specs.Marks.{SameFrames};
 ghost use Rattle.psm_machine.specs.Allowed.{MayAsk, MayMove, MayOpen, OfCursor};
-ghost use Rattle.psm_machine.specs.Coming.{Does};
-ghost use Rattle.psm_machine.specs.Over.{DoesOver, StopsIn, as_way};
+ghost use Rattle.psm_machine.specs.ActResults.{Does};
+ghost use Rattle.psm_machine.specs.Over.{DoesOver, StopsIn, as_successor};
 
-use crate::parting::part_of;
 use crate::queries::{put_values, query_at};
 use crate::stop::{Stop, stop_at};
+use crate::table_statements::part_of;
 use psm_code::{CodeCursor, RawRoutine};
 use psm_cond::Condition;
 use psm_cursor::Cursor;
@@ -37,16 +37,16 @@ pub fn open<S: Store>(
     ensures same { SameFrames run.old run.new }
 {
     let Some(declared) = declared_at(routine, number) else {
-        return Err(Stop::Lacking);
+        return Err(Stop::Stuck);
     };
     let Some(cursor) = cursor_at(run, number) else {
-        return Err(Stop::Lacking);
+        return Err(Stop::Stuck);
     };
     if cursor.is_open() {
         return Err(wrong_state(alloc, declared));
     }
     let Some(query) = query_at(routine, declared.query) else {
-        return Err(Stop::Lacking);
+        return Err(Stop::Stuck);
     };
     if declared.insensitive {
         open_insensitive(alloc, run, store, number, query)
@@ -87,10 +87,10 @@ pub fn close(alloc: Global, routine: &RawRoutine, run: &mut Run, number: u32) ->
     ensures same { SameFrames run.old run.new }
 {
     let Some(declared) = declared_at(routine, number) else {
-        return Err(Stop::Lacking);
+        return Err(Stop::Stuck);
     };
     let Some(cursor) = cursor_at(run, number) else {
-        return Err(Stop::Lacking);
+        return Err(Stop::Stuck);
     };
     if !cursor.is_open() {
         return Err(wrong_state(alloc, declared));
@@ -128,7 +128,7 @@ pub fn next<S: Store>(
     number: u32,
 ) -> Result<bool, Stop>
     requires { OfCursor routine.now run.old.running.cursors.items number (MayMove routine.now (S.tables store.now)) }
-    ensures due { (end : ℕ) → DoesOver (S.tables store.now) (next_or_end routine.now number end) run.old (as_way end result) (S.tables store.now) run.new }
+    ensures due { (end : ℕ) → DoesOver (S.tables store.now) (next_or_end routine.now number end) run.old (as_successor end result) (S.tables store.now) run.new }
     ensures same { SameFrames run.old run.new }
 {
     match next_row(alloc, routine, run, store, number)? {
@@ -153,16 +153,16 @@ fn next_row<S: Store>(
     ensures same { SameFrames run.old run.new }
 {
     let Some(declared) = declared_at(routine, number) else {
-        return Err(Stop::Lacking);
+        return Err(Stop::Stuck);
     };
     let Some(cursor) = cursor_at(run, number) else {
-        return Err(Stop::Lacking);
+        return Err(Stop::Stuck);
     };
     if !cursor.is_open() {
         return Err(wrong_state(alloc, declared));
     }
     let Some(query) = query_at(routine, declared.query) else {
-        return Err(Stop::Lacking);
+        return Err(Stop::Stuck);
     };
     let cursor = &mut run.running.cursors[number as usize];
     part_of(cursor.next(alloc, store, query))

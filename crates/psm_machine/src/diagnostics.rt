@@ -1,7 +1,7 @@
 //! GET DIAGNOSTICS (ISO/IEC 9075:1992, 18.1), which leaves the area as it is.
 ghost use Rattle.psm_code.specs.Signalling.{item_of_statement};
 ghost use Rattle.psm_unwind.specs.Marks.{SameFrames};
-ghost use Rattle.psm_machine.specs.Coming.{Does};
+ghost use Rattle.psm_machine.specs.ActResults.{Does};
 
 use crate::operands::put;
 use crate::stop::Stop;

@@ -5,11 +5,11 @@ ghost use Rattle.psm_table.specs.Table.{Contents};
 ghost use Rattle.psm_store.specs.declared.store.Mark.{Mark as MarkValue};
 ghost use Rattle.psm_code.specs.Calling.{«end», left_values, on_top};
 ghost use Rattle.psm_code.specs.Parts.{back, given_back, gives};
-ghost use Rattle.psm_code.specs.Rows.{return};
+ghost use Rattle.psm_code.specs.Run.{return};
 ghost use Rattle.psm_code.specs.State.{cleared};
 ghost use Rattle.psm_unwind.specs.Marks.{Nested, SameFrames, Unwinds, open_marks};
 ghost use Rattle.psm_unwind.specs.View.{LeadsTo, machine_of};
-ghost use Rattle.psm_machine.specs.Going.{StandStill, Turns, resumed};
+ghost use Rattle.psm_machine.specs.Successors.{StandStill, StepsTo, resumed};
 
 use crate::returning::returned;
 use crate::stop::Stop;
@@ -24,7 +24,7 @@ use psm_value::Datum;
 use std::alloc::{AllocError, Global};
 
 /// The end of a procedure: the values of its OUT and INOUT parameters are left on the operands of the activation that called it,
-/// which goes on behind the call. Where nothing called it, the run is over.
+/// which goes on after the call. Where nothing called it, the run is over.
 ///
 /// The store has to hold the marks of the run. Those of the blocks that are left are closed.
 pub fn end_procedure<S: Store>(
@@ -39,7 +39,7 @@ pub fn end_procedure<S: Store>(
     ensures still { StandStill (S.holds store.old) (S.at store.old) (S.marks store.old) run.old (S.holds store.new) (S.at store.new) (S.marks store.new) run.new }
 {
     match routine_at(code, run.running.routine) {
-        None => Ok(Outcome::Over(Ending::Lacking)),
+        None => Ok(Outcome::Over(Ending::Stuck)),
         Some(routine) => {
             let variables = run.running.variables.as_slice();
             let values = given_back(alloc, routine.parameters.items(), variables)?;
@@ -49,7 +49,7 @@ pub fn end_procedure<S: Store>(
 }
 
 /// RETURN: the value is the last operand, as the type of the function's result stores it. It is left on the operands of the
-/// activation that called the function, which goes on behind the call. Where nothing called it, the run is over.
+/// activation that called the function, which goes on after the call. Where nothing called it, the run is over.
 ///
 /// The store has to hold the marks of the run. Those of the blocks that are left are closed.
 pub fn return_value<S: Store>(
@@ -60,12 +60,12 @@ pub fn return_value<S: Store>(
 ) -> Result<Outcome, Stop>
     requires types { All (λ r. IfSome r.returns IsType) code.now.routines }
     requires nested { Nested (S.holds store.old) (open_marks run.old) }
-    ensures due { Turns (return code.now (machine_of (S.tables store.old) (S.at store.old) run.old)) result (machine_of (S.tables store.new) (S.at store.new) run.new) }
+    ensures due { StepsTo (return code.now (machine_of (S.tables store.old) (S.at store.old) run.old)) result (machine_of (S.tables store.new) (S.at store.new) run.new) }
     ensures unwinds { Unwinds (S.holds store.old) (S.at store.old) (S.marks store.old) (S.tables store.old) run.old (S.holds store.new) (S.at store.new) (S.marks store.new) (S.tables store.new) run.new }
     ensures still { StandStill (S.holds store.old) (S.at store.old) (S.marks store.old) run.old (S.holds store.new) (S.at store.new) (S.marks store.new) run.new }
 {
     match routine_at(code, run.running.routine) {
-        None => Err(Stop::Lacking),
+        None => Err(Stop::Stuck),
         Some(routine) => {
             let value = returned(alloc, code, run)?;
             let mut values = Vec::new(alloc);
@@ -109,7 +109,7 @@ fn leave<S: Store>(
     }
 }
 
-// The activation that runs goes on behind its call, with these values.
+// The activation that runs goes on after its call, with these values.
 fn resume(run: &mut Run, values: Vec<Datum>) -> Result<(), AllocError>
     ensures due { OnOk result ((tables : List Contents) (at : MarkValue → List Contents) → resumed values.items (machine_of tables at run.old) ≡ machine_of tables at run.new) }
     ensures same { SameFrames run.old run.new }
@@ -152,7 +152,7 @@ fn given_back(
     Ok(values)
 }
 
-// The value of a parameter is put behind others, if it gives it back.
+// The value of a parameter is put after others, if it gives it back.
 fn give(
     alloc: Global,
     mode: ParameterMode,

@@ -1,8 +1,8 @@
 //! GET DIAGNOSTICS of one condition (ISO/IEC 9075:1992, 18.1), which leaves the area as it is.
 ghost use Rattle.psm_code.specs.Signalling.{item_of_condition};
 ghost use Rattle.psm_unwind.specs.Marks.{SameFrames};
-ghost use Rattle.psm_machine.specs.Coming.{Does, Finds};
-ghost use Rattle.psm_machine.specs.Going.{item_at};
+ghost use Rattle.psm_machine.specs.ActResults.{Does, Finds};
+ghost use Rattle.psm_machine.specs.Successors.{item_at};
 
 use crate::operands::{pop, put};
 use crate::stop::{Stop, stop_at};

@@ -2,7 +2,7 @@
 ghost use Rattle.std.specs.Prelude.{◌≡◌};
 ghost use Rattle.psm_code.specs.Steps.{pop, put, put_value};
 ghost use Rattle.psm_unwind.specs.Marks.{SameFrames};
-ghost use Rattle.psm_machine.specs.Coming.{Does};
+ghost use Rattle.psm_machine.specs.ActResults.{Does};
 
 use crate::stop::Stop;
 use psm_exprcode::Operand;
@@ -18,7 +18,7 @@ pub fn pop(run: &mut Run) -> Result<Datum, Stop>
 {
     match run.operands.pop() {
         Some(Operand::Value(value)) => Ok(value),
-        Some(Operand::Truth(_)) | None => Err(Stop::Lacking),
+        Some(Operand::Truth(_)) | None => Err(Stop::Stuck),
     }
 }
 

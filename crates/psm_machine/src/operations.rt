@@ -1,9 +1,9 @@
 //! Operations of expressions among the instructions (ISO/IEC 9075:1992, clauses 6 and 8).
 ghost use Rattle.std.specs.Prelude.{◌≡◌, []};
 ghost use Rattle.psm_exprcode.specs.Fits.{Fits};
-ghost use Rattle.psm_code.specs.Rows.{operation};
+ghost use Rattle.psm_code.specs.Run.{operation};
 ghost use Rattle.psm_unwind.specs.Marks.{SameFrames};
-ghost use Rattle.psm_machine.specs.Going.{GoesOn};
+ghost use Rattle.psm_machine.specs.Successors.{GoesOn};
 
 use crate::stop::{Stop, failed};
 use psm_exprcode::{Next, Op};

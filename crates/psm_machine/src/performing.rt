@@ -2,11 +2,11 @@
 ghost use Rattle.std.specs.Prelude.{◌≡◌, false, All, IfSome};
 ghost use Rattle.psm_value.specs.SqlType.{IsType};
 ghost use Rattle.psm_code.specs.Parts.{slots_of};
-ghost use Rattle.psm_code.specs.Rows.{call_from, done, end_action as action_end};
+ghost use Rattle.psm_code.specs.Run.{call_from, done, end_action as action_end};
 ghost use Rattle.psm_unwind.specs.Marks.{MarksStand, SameFrames};
 ghost use Rattle.psm_unwind.specs.View.{machine_of};
-ghost use Rattle.psm_machine.specs.Coming.{Comes, Does};
-ghost use Rattle.psm_machine.specs.Going.{IsNoOperation, SameMarks, StandStill, Turns, TurnsOn, is_of_data, plain_act, signal_act, within_act};
+ghost use Rattle.psm_machine.specs.ActResults.{Evaluates, Does};
+ghost use Rattle.psm_machine.specs.Successors.{IsNoOperation, SameMarks, StandStill, StepsTo, StepsOn, is_of_data, plain_act, signal_act, within_act};
 
 use crate::actions::end_action;
 use crate::blocks::{enter, exit};
@@ -14,10 +14,10 @@ use crate::calls::call;
 use crate::diagnostics::item_of_statement;
 use crate::ends::{end_procedure, return_value};
 use crate::entries::item_of_condition;
-use crate::going::{behind, go};
 use crate::returning::{no_case, no_return};
 use crate::signalling::{resignal, resignal_condition, resignal_message, signal, signal_message};
 use crate::stop::Stop;
+use crate::successors::{following, go};
 use crate::turns::{clear, turn};
 use crate::variables::{retrieve, store as store_in, warn};
 use psm_code::{Instruction, RawCode, RawRoutine};
@@ -43,24 +43,24 @@ pub fn perform<S: Store>(
     requires results { All (λ r. IfSome r.returns IsType) code.now.routines }
     requires other { IsNoOperation instruction.now }
     requires stand { MarksStand (S.holds store.old) (S.marks store.old) run.old }
-    ensures due { Turns (done code.now routine.now instruction.now (machine_of (S.tables store.old) (S.at store.old) run.old)) result (machine_of (S.tables store.new) (S.at store.new) run.new) }
+    ensures due { StepsTo (done code.now routine.now instruction.now (machine_of (S.tables store.old) (S.at store.old) run.old)) result (machine_of (S.tables store.new) (S.at store.new) run.new) }
     ensures still { StandStill (S.holds store.old) (S.at store.old) (S.marks store.old) run.old (S.holds store.new) (S.at store.new) (S.marks store.new) run.new }
 {
     match instruction {
         Instruction::EndAction(number) => finish_action(routine, run, *number),
         Instruction::Call(number) => call_on(alloc, code, run, *number),
-        Instruction::CallFunction(number) => call_on(alloc, code, run, *number),
-        Instruction::Return => return_value(alloc, code, run, store),
+        Instruction::FunctionCall(number) => call_on(alloc, code, run, *number),
+        Instruction::ReturnValue => return_value(alloc, code, run, store),
         Instruction::End => Ok(end_procedure(alloc, code, run, store)?),
         _ => {
             let done = plain(alloc, routine, instruction, run, store);
-            behind(run, done)
+            following(run, done)
         }
     }
 }
 
 fn finish_action(routine: &RawRoutine, run: &mut Run, number: u32) -> Result<Outcome, Stop>
-    ensures due { TurnsOn (action_end routine.now number) run.old result run.new }
+    ensures due { StepsOn (action_end routine.now number) run.old result run.new }
     ensures marks { SameMarks run.old run.new }
 {
     let next = end_action(routine, run, number)?;
@@ -69,7 +69,7 @@ fn finish_action(routine: &RawRoutine, run: &mut Run, number: u32) -> Result<Out
 
 fn call_on(alloc: Global, code: &RawCode, run: &mut Run, number: u32) -> Result<Outcome, Stop>
     requires { All (λ r. All IsType (slots_of r)) code.now.routines }
-    ensures due { TurnsOn (call_from code.now number) run.old result run.new }
+    ensures due { StepsOn (call_from code.now number) run.old result run.new }
     ensures marks { SameMarks run.old run.new }
 {
     call(alloc, code, run, number)?;
@@ -86,7 +86,7 @@ fn plain<S: Store>(
 ) -> Result<(), Stop>
     requires own { All IsType (slots_of routine.now) }
     requires stand { MarksStand (S.holds store.old) (S.marks store.old) run.old }
-    ensures due { Comes (plain_act routine.now instruction.now (machine_of (S.tables store.old) (S.at store.old) run.old)) result (machine_of (S.tables store.new) (S.at store.new) run.new) }
+    ensures due { Evaluates (plain_act routine.now instruction.now (machine_of (S.tables store.old) (S.at store.old) run.old)) result (machine_of (S.tables store.new) (S.at store.new) run.new) }
     ensures still { StandStill (S.holds store.old) (S.at store.old) (S.marks store.old) run.old (S.holds store.new) (S.at store.new) (S.marks store.new) run.new }
 {
     match instruction {
@@ -110,7 +110,7 @@ fn within(
     match instruction {
         Instruction::Clear => Ok(clear(run)),
         Instruction::Store(slot) => store_in(alloc, routine, run, *slot),
-        Instruction::Retrieve(slot) => retrieve(alloc, routine, run, *slot),
+        Instruction::FetchStore(slot) => retrieve(alloc, routine, run, *slot),
         Instruction::Warn => warn(alloc, run),
         Instruction::Turn => turn(run),
         Instruction::NoReturn => no_return(alloc),
@@ -137,6 +137,6 @@ fn raise_anew(
         Instruction::Resignal => resignal(alloc, run),
         Instruction::ResignalCondition(number) => resignal_condition(alloc, routine, run, *number),
         Instruction::ResignalMessage(number) => resignal_message(alloc, routine, run, *number),
-        _ => Err(Stop::Lacking),
+        _ => Err(Stop::Stuck),
     }
 }

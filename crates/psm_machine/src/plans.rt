@@ -6,13 +6,13 @@ ghost use Rattle.psm_code.specs.Plans.{delete_rows, done, plan, some_row, update
 ghost use Rattle.psm_unwind.specs.Marks.{MarksStand, SameFrames};
 ghost use Rattle.psm_unwind.specs.View.{machine_of};
 ghost use Rattle.psm_machine.specs.Allowed.{MayChange, MayDo, MayErase};
-ghost use Rattle.psm_machine.specs.Coming.{Comes, Finds};
+ghost use Rattle.psm_machine.specs.ActResults.{Evaluates, Finds};
 ghost use Rattle.psm_machine.specs.Over.{DoesOver};
 
-use crate::parting::part_of;
 use crate::positioned::{delete_at, update_at};
 use crate::putting::{put_operands, put_query};
 use crate::stop::{Stop, stop_at};
+use crate::table_statements::part_of;
 use psm_code::{CodeTable, Plan, RawCode, RawRoutine};
 use psm_dml::{delete, update};
 use psm_exprcode::{ExprCode, SetItem};
@@ -35,13 +35,13 @@ pub fn change<S: Store>(
 ) -> Result<(), Stop>
     requires stand { MarksStand (S.holds store.old) (S.marks store.old) run.old }
     requires may { IfSome (slice_get routine.now.plans number) (MayDo code.now routine.now (S.tables store.old) run.old.running.variables.items run.old.running.cursors.items) }
-    ensures due { Comes (plan code.now routine.now number (machine_of (S.tables store.old) (S.at store.old) run.old)) result (machine_of (S.tables store.new) (S.at store.new) run.new) }
+    ensures due { Evaluates (plan code.now routine.now number (machine_of (S.tables store.old) (S.at store.old) run.old)) result (machine_of (S.tables store.new) (S.at store.new) run.new) }
     ensures stand { MarksStand (S.holds store.new) (S.marks store.new) run.new }
     ensures keeps { Keeps AnyMark (S.holds store.old) (S.at store.old) (S.holds store.new) (S.at store.new) }
     ensures same { SameFrames run.old run.new }
 {
     match plan_at(routine, number) {
-        None => Err(Stop::Lacking),
+        None => Err(Stop::Stuck),
         Some(plan) => carry_out(alloc, code, routine, run, store, plan),
     }
 }
@@ -124,7 +124,7 @@ fn update_rows<S: Store>(
     ensures same { SameFrames run.old run.new }
 {
     let Some(declared) = table_at(code, table) else {
-        return Err(Stop::Lacking);
+        return Err(Stop::Stuck);
     };
     let vars = run.running.variables.as_slice();
     let count = part_of(update(
@@ -156,7 +156,7 @@ fn delete_rows<S: Store>(
     ensures same { SameFrames run.old run.new }
 {
     let Some(_declared) = table_at(code, table) else {
-        return Err(Stop::Lacking);
+        return Err(Stop::Stuck);
     };
     let vars = run.running.variables.as_slice();
     let count = part_of(delete(alloc, store, table, test, vars))?;

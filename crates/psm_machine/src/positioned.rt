@@ -5,18 +5,18 @@ ghost use Rattle.psm_table.specs.Definition.{IsKey};
 ghost use Rattle.psm_table.specs.Table.{keyed};
 ghost use Rattle.psm_store.specs.Marks.{AnyMark, Keeps, most_marks};
 ghost use Rattle.psm_cursor.specs.Current.{current_key, current_row};
-ghost use Rattle.psm_cursor.specs.Suits.{StandsIn};
+ghost use Rattle.psm_cursor.specs.TypeChecks.{StandsIn};
 ghost use Rattle.psm_code.specs.Plans.{delete_at, leave_row, update_at};
 ghost use Rattle.psm_unwind.specs.Marks.{SameFrames};
 ghost use Rattle.psm_machine.specs.Allowed.{MayChangeAt, MayEraseAt, OfCursor, OverQuery};
-ghost use Rattle.psm_machine.specs.Coming.{Does};
+ghost use Rattle.psm_machine.specs.ActResults.{Does};
 ghost use Rattle.psm_machine.specs.Over.{DoesOver};
 
 use crate::cursors::{cursor_at, declared_at, wrong_state};
-use crate::parting::part_of;
 use crate::plans::table_at;
 use crate::queries::query_at;
 use crate::stop::Stop;
+use crate::table_statements::part_of;
 use psm_code::{RawCode, RawRoutine};
 use psm_cursor::Cursor;
 use psm_exprcode::SetItem;
@@ -43,16 +43,16 @@ pub(crate) fn update_at<S: Store>(
     ensures same { SameFrames run.old run.new }
 {
     let Some(declared) = declared_at(routine, number) else {
-        return Err(Stop::Lacking);
+        return Err(Stop::Stuck);
     };
     let Some(query) = query_at(routine, declared.query) else {
-        return Err(Stop::Lacking);
+        return Err(Stop::Stuck);
     };
     let Some(table) = table_at(code, query.table) else {
-        return Err(Stop::Lacking);
+        return Err(Stop::Stuck);
     };
     let Some(cursor) = cursor_at(run, number) else {
-        return Err(Stop::Lacking);
+        return Err(Stop::Stuck);
     };
     let Some(key) = key_on(cursor, store.table(query.table)) else {
         return Err(wrong_state(alloc, declared));
@@ -106,13 +106,13 @@ pub(crate) fn delete_at<S: Store>(
     ensures same { SameFrames run.old run.new }
 {
     let Some(declared) = declared_at(routine, number) else {
-        return Err(Stop::Lacking);
+        return Err(Stop::Stuck);
     };
     let Some(query) = query_at(routine, declared.query) else {
-        return Err(Stop::Lacking);
+        return Err(Stop::Stuck);
     };
     let Some(cursor) = cursor_at(run, number) else {
-        return Err(Stop::Lacking);
+        return Err(Stop::Stuck);
     };
     let table = store.table(query.table);
     let Some(row) = cursor.current(table) else {

@@ -6,15 +6,15 @@ ghost use Rattle.psm_code.specs.Plans.{in_rows, put_in};
 ghost use Rattle.psm_code.specs.Steps.{pops};
 ghost use Rattle.psm_unwind.specs.Marks.{SameFrames};
 ghost use Rattle.psm_machine.specs.Allowed.{HasTable, MayAsk, MayPut};
-ghost use Rattle.psm_machine.specs.Coming.{Does};
+ghost use Rattle.psm_machine.specs.ActResults.{Does};
 ghost use Rattle.psm_machine.specs.Inserting.{PutsInto, PutsRows, put_operands, put_query};
 ghost use Rattle.psm_machine.specs.Over.{DoesOver};
 
 use crate::operands::pop;
-use crate::parting::part_of;
 use crate::plans::table_at;
 use crate::queries::{answer_of, query_at};
 use crate::stop::{Stop, stop_at};
+use crate::table_statements::part_of;
 use psm_code::{CodeTable, RawCode, RawRoutine};
 use psm_cond::DataFault;
 use psm_dml::insert;
@@ -26,7 +26,7 @@ use psm_unwind::Run;
 use psm_value::Datum;
 use std::alloc::{AllocError, Global};
 
-/// Puts in so many rows, whose values stand among the operands, the first of all the lowest.
+/// Puts in n rows, whose values stand among the operands, the first of all the lowest.
 pub(crate) fn put_operands<S: Store>(
     alloc: Global,
     code: &RawCode,
@@ -68,7 +68,7 @@ pub(crate) fn put_query<S: Store>(
     ensures same { SameFrames run.old run.new }
 {
     let Some(query) = query_at(routine, number) else {
-        return Err(Stop::Lacking);
+        return Err(Stop::Stuck);
     };
     let answer = answer_of(alloc, run, store, query)?;
     let rows = answer.rows();
@@ -96,7 +96,7 @@ fn put_in<S: Store>(
     ensures same { SameFrames run.old run.new }
 {
     let Some(declared) = table_at(code, table) else {
-        return Err(Stop::Lacking);
+        return Err(Stop::Stuck);
     };
     let count = part_of(put_into(alloc, declared, store, table, columns, rows))?;
     run.area.set_rows(count);
@@ -145,19 +145,19 @@ fn put_into<S: Store>(
     insert(alloc, store, table, declared.checks.items(), new)
 }
 
-// Takes so many rows of so many values off the operands, the first of all the lowest.
+// Takes n rows of n values off the operands, the first of all the lowest.
 fn take_values(alloc: Global, run: &mut Run, rows: u32, width: usize) -> Result<List<Datum>, Stop>
     ensures due { Does (pops (rows * width) []) run.old result run.new }
     ensures same { SameFrames run.old run.new }
 {
     let count = u128::from(rows) * width as u128;
     if count > run.operands.len() as u128 {
-        return Err(Stop::Lacking);
+        return Err(Stop::Stuck);
     }
     pops(alloc, run, count)
 }
 
-// Takes so many values off the operands.
+// Takes n values off the operands.
 fn pops(alloc: Global, run: &mut Run, count: u128) -> Result<List<Datum>, Stop>
     ensures due { Does (pops count []) run.old result run.new }
     ensures same { SameFrames run.old run.new }
@@ -170,7 +170,7 @@ fn pops(alloc: Global, run: &mut Run, count: u128) -> Result<List<Datum>, Stop>
     Ok(List::of(values))
 }
 
-// The values in so many rows of the same width.
+// The values in n rows of the same width.
 fn in_rows(
     alloc: Global,
     rows: u32,
@@ -188,7 +188,7 @@ fn in_rows(
     Ok(List::of(made))
 }
 
-// So many of the values that stand in reverse order, of which the first is the last.
+// N of the values that stand in reverse order, of which the first is the last.
 fn first_values(alloc: Global, width: usize, rest: &mut Vec<Datum>) -> Result<Row, AllocError>
     ensures taken { IfOk result (λ row. row ≡ take width (reverse rest.old.items)) }
     ensures left { IfOk result (λ row. reverse rest.new.items ≡ drop width (reverse rest.old.items)) }

@@ -6,12 +6,12 @@ ghost use Rattle.psm_code.specs.Querying.{answer_of, exists, is_any, only_row, s
 ghost use Rattle.psm_code.specs.Steps.{put_values};
 ghost use Rattle.psm_unwind.specs.Marks.{SameFrames};
 ghost use Rattle.psm_machine.specs.Allowed.{MayAsk};
-ghost use Rattle.psm_machine.specs.Coming.{Does, Finds};
+ghost use Rattle.psm_machine.specs.ActResults.{Does, Finds};
 ghost use Rattle.psm_machine.specs.Over.{DoesOver};
 
 use crate::operands::put;
-use crate::parting::part_of;
 use crate::stop::{Stop, stop_at};
+use crate::table_statements::part_of;
 use crate::variables::warn_of;
 use psm_code::RawRoutine;
 use psm_exprcode::{Operand, Query};
@@ -35,7 +35,7 @@ pub fn exists<S: Store>(
     ensures same { SameFrames run.old run.new }
 {
     let Some(query) = query_at(routine, number) else {
-        return Err(Stop::Lacking);
+        return Err(Stop::Stuck);
     };
     let answer = answer_of(alloc, run, store, query)?;
     put(run, Operand::Truth(exist(answer.rows())))
@@ -54,7 +54,7 @@ pub fn scalar<S: Store>(
     ensures same { SameFrames run.old run.new }
 {
     let Some(query) = query_at(routine, number) else {
-        return Err(Stop::Lacking);
+        return Err(Stop::Stuck);
     };
     let answer = answer_of(alloc, run, store, query)?;
     put_scalar(alloc, run, answer.into_rows())
@@ -74,7 +74,7 @@ pub fn select_row<S: Store>(
     ensures same { SameFrames run.old run.new }
 {
     let Some(query) = query_at(routine, number) else {
-        return Err(Stop::Lacking);
+        return Err(Stop::Stuck);
     };
     let answer = answer_of(alloc, run, store, query)?;
     let skipped = answer.skipped();
@@ -126,7 +126,7 @@ fn put_scalar(alloc: Global, run: &mut Run, rows: Vec<Row>) -> Result<(), Stop>
                 return Err(stop_at(alloc, SqlState::CARDINALITY_VIOLATION));
             }
             match first_of(row) {
-                None => Err(Stop::Lacking),
+                None => Err(Stop::Stuck),
                 Some(value) => put(run, Operand::Value(value)),
             }
         }

@@ -4,7 +4,7 @@ ghost use Rattle.psm_value.specs.SqlType.{IsType};
 ghost use Rattle.psm_code.specs.Calling.{result as result_of};
 ghost use Rattle.psm_code.specs.Steps.{of_state, raises};
 ghost use Rattle.psm_unwind.specs.Marks.{SameFrames};
-ghost use Rattle.psm_machine.specs.Coming.{Does, Finds};
+ghost use Rattle.psm_machine.specs.ActResults.{Does, Finds};
 
 use crate::operands::pop;
 use crate::stop::{Stop, stop_at};
@@ -23,10 +23,10 @@ pub fn returned(alloc: Global, code: &RawCode, run: &mut Run) -> Result<Datum, S
 {
     let value = pop(run)?;
     let Some(routine) = routine_at(code, run.running.routine) else {
-        return Err(Stop::Lacking);
+        return Err(Stop::Stuck);
     };
     let Some(kind) = routine.returns else {
-        return Err(Stop::Lacking);
+        return Err(Stop::Stuck);
     };
     stored(alloc, kind, value)
 }

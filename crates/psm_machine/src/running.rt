@@ -1,19 +1,19 @@
 //! A run of a routine, from its beginning to its end.
 ghost use Rattle.std.specs.Prelude.{◌≡◌, ◌<◌, ◌≤◌, ◌+◌, [], None, All, IfErr, IfOk, IsTrue, List};
 ghost use Rattle.psm_value.specs.SqlType.{IsType};
-ghost use Rattle.psm_cond.specs.Sound.{is_numbered};
+ghost use Rattle.psm_cond.specs.WellFormed.{is_numbered};
 ghost use Rattle.psm_table.specs.Table.{Contents};
 ghost use Rattle.psm_store.specs.declared.store.Mark.{Mark as MarkValue};
 ghost use Rattle.psm_store.specs.Marks.{AnyMark, Keeps};
 ghost use Rattle.psm_code.specs.Calling.{started};
 ghost use Rattle.psm_code.specs.Parts.{slots_of};
 ghost use Rattle.psm_code.specs.RoutineRules.{first_fault};
-ghost use Rattle.psm_code.specs.Sits.{AreKept, Sits, is_due};
+ghost use Rattle.psm_code.specs.MachineInvariant.{AreKept, MachineInvariant, is_due};
 ghost use Rattle.psm_code.specs.State.{More};
 ghost use Rattle.psm_unwind.specs.Marks.{MarksStand, most_open};
 ghost use Rattle.psm_unwind.specs.View.{activation_of, end_of, machine_of};
-ghost use Rattle.psm_machine.specs.Going.{Shows};
-ghost use Rattle.psm_machine.specs.Running.{Begins, BeginsRight, Finishes, HasNoMarks, RunsTo, StayAround, Takes, first_activation, leaves_tables};
+ghost use Rattle.psm_machine.specs.Successors.{Shows};
+ghost use Rattle.psm_machine.specs.Running.{Begins, BeginsWellFormed, Finishes, HasNoMarks, RunsTo, StayAround, Takes, first_activation, leaves_tables};
 
 use crate::advancing::advance;
 use crate::calls::{activation, entered};
@@ -43,8 +43,8 @@ pub struct Finished {
     pub turns: u64,
 }
 
-/// Begins a run of a routine, with one argument for each of its IN and INOUT parameters and so many turns. The store over which it
-/// runs has no more than so many marks.
+/// Begins a run of a routine, with one argument for each of its IN and INOUT parameters and n turns. The store over which it
+/// runs has no more than n marks.
 pub fn start(
     alloc: Global,
     code: &RawCode,
@@ -55,7 +55,7 @@ pub fn start(
 ) -> Result<Beginning, AllocError>
     requires { All (λ r. All IsType (slots_of r)) code.now.routines }
     ensures due { IfOk result (Begins (λ tables. started code.now number arguments.items tables turns) turns) }
-    ensures sits { first_fault code.now ≡ None → Takes code.now number arguments.items → IfOk result (BeginsRight code.now) }
+    ensures machine_invariant { first_fault code.now ≡ None → Takes code.now number arguments.items → IfOk result (BeginsWellFormed code.now) }
     ensures marks { IfOk result (HasNoMarks marks) }
 {
     match first(alloc, code, number, arguments) {
@@ -78,7 +78,7 @@ pub fn start(
             Ok(Beginning::Over(Ending::Raised(condition)))
         }
         Err(Stop::NoTurns) => Ok(Beginning::Over(Ending::NoTurns)),
-        Err(Stop::Lacking) => Ok(Beginning::Over(Ending::Lacking)),
+        Err(Stop::Stuck) => Ok(Beginning::Over(Ending::Stuck)),
         Err(Stop::Memory) => Err(AllocError),
     }
 }
@@ -95,7 +95,7 @@ fn first(
     ensures frames { IfOk result (λ a. a.frames.items ≡ []) }
 {
     let Some(routine) = routine_at(code, number) else {
-        return Err(Stop::Lacking);
+        return Err(Stop::Stuck);
     };
     let mut arguments = arguments;
     arguments.reverse();
@@ -104,10 +104,10 @@ fn first(
 }
 
 /// Runs a routine of code over the tables of a store, from the beginning to the end, with one argument for each of its IN and INOUT
-/// parameters and so many turns. Gives back how the run ended, and how many turns it left.
+/// parameters and n turns. Gives back how the run ended, and how many turns it left.
 ///
-/// The tables are those that the run leaves, or, where it ended for want of turns or memory ran out, those that it found. All marks
-/// that the store held stay. The code has to break no rule, with handlers that 32 bits are enough to number, and the tables have to be
+/// The tables are those that the run leaves, or, where it ended because turns or memory ran out, those that it found. All marks
+/// that the store held stay. The code has to be well-formed, with handlers that 32 bits are enough to number, and the tables have to be
 /// those of the code.
 ///
 /// It ends, whatever the code does: at each instruction that goes on, the turns that are left fall; or else the number of running
@@ -120,7 +120,7 @@ pub fn run<S: Store>(
     store: &mut S,
     turns: u64,
 ) -> Result<Finished, AllocError>
-    requires right { first_fault code.now ≡ None }
+    requires well_formed_code { first_fault code.now ≡ None }
     requires numbered { All (λ r. IsTrue (is_numbered r.handlers)) code.now.routines }
     requires takes { Takes code.now number arguments.items }
     requires kept { AreKept code.now.tables (S.tables store.old) }
@@ -133,7 +133,7 @@ pub fn run<S: Store>(
     ensures keeps { Keeps AnyMark (S.holds store.old) (S.at store.old) (S.holds store.new) (S.at store.new) }
 {
     let mark = store.mark(alloc)?;
-    let finished = run_behind(alloc, code, number, arguments, store, turns, mark.depth + 1);
+    let finished = run_after(alloc, code, number, arguments, store, turns, mark.depth + 1);
     if leaves_tables(&finished) {
         store.release(mark);
     } else {
@@ -161,8 +161,8 @@ fn leaves_tables(finished: &Result<Finished, AllocError>) -> bool
     }
 }
 
-// Runs a routine in a store that has no more than so many marks.
-fn run_behind<S: Store>(
+// Runs a routine in a store that has no more than n marks.
+fn run_after<S: Store>(
     alloc: Global,
     code: &RawCode,
     number: u32,
@@ -171,7 +171,7 @@ fn run_behind<S: Store>(
     turns: u64,
     marks: u128,
 ) -> Result<Finished, AllocError>
-    requires right { first_fault code.now ≡ None }
+    requires well_formed_code { first_fault code.now ≡ None }
     requires numbered { All (λ r. IsTrue (is_numbered r.handlers)) code.now.routines }
     requires takes { Takes code.now number arguments.items }
     requires kept { AreKept code.now.tables (S.tables store.old) }
@@ -193,12 +193,12 @@ fn go_through<S: Store>(
     run: Run,
     store: &mut S,
 ) -> Result<Finished, AllocError>
-    requires right { first_fault code.now ≡ None }
+    requires well_formed_code { first_fault code.now ≡ None }
     requires numbered { All (λ r. IsTrue (is_numbered r.handlers)) code.now.routines }
-    requires sits { Sits code.now (machine_of (S.tables store.old) (S.at store.old) run) }
+    requires machine_invariant { MachineInvariant code.now (machine_of (S.tables store.old) (S.at store.old) run) }
     requires stand { MarksStand (S.holds store.old) (S.marks store.old) run }
     ensures due { IfOk result (λ f. Finishes code.now (More (machine_of (S.tables store.old) (S.at store.old) run)) f (S.tables store.new)) }
-    ensures around { StayAround (S.holds store.old) (S.at store.old) run (S.holds store.new) (S.at store.new) }
+    ensures enclosing { StayAround (S.holds store.old) (S.at store.old) run (S.holds store.new) (S.at store.new) }
 {
     let mut run = run;
     'rows: loop {

@@ -5,7 +5,7 @@ ghost use Rattle.std.specs.Str.{chars};
 ghost use Rattle.psm_cond.specs.Entry.{name_text};
 ghost use Rattle.psm_code.specs.Signalling.{declared, entry_for, handling, message_text, resignal, resignal_condition, resignal_message, resignal_with, signal, signal_message, with_message};
 ghost use Rattle.psm_unwind.specs.Marks.{SameFrames};
-ghost use Rattle.psm_machine.specs.Coming.{Does, Finds, activating_by, activating_of};
+ghost use Rattle.psm_machine.specs.ActResults.{Does, Finds, activating_by, activating_of};
 
 use crate::operands::pop;
 use crate::stop::{Stop, stop_at, stop_with};
@@ -80,7 +80,7 @@ fn resignal_with(alloc: Global, run: &Run, entry: Entry) -> Result<(), Stop>
     ensures { Does (resignal_with entry) run.now result run.now }
 {
     let condition = handling(alloc, run)?;
-    Err(stop_with(alloc, condition.behind(entry)?))
+    Err(stop_with(alloc, condition.following(entry)?))
 }
 
 // The condition that activated the innermost running action.
@@ -118,7 +118,7 @@ fn declared(alloc: Global, routine: &RawRoutine, number: u32) -> Result<Entry, S
     ensures { Finds (declared routine.now number) result }
 {
     match declared_at(routine, number) {
-        None => Err(Stop::Lacking),
+        None => Err(Stop::Stuck),
         Some(declared) => Ok(entry_for(alloc, number, declared)?),
     }
 }
@@ -176,7 +176,7 @@ fn message_text(alloc: Global, value: Datum) -> Result<Text, Stop>
 {
     match value {
         Datum::Null => Ok(spelled(alloc, "")?),
-        Datum::Num(_) => Err(Stop::Lacking),
+        Datum::Num(_) => Err(Stop::Stuck),
         Datum::Text(text) => Ok(text),
     }
 }

@@ -1,35 +1,35 @@
 //! One instruction of a run after another.
 ghost use Rattle.std.specs.Prelude.{◌≡◌, [], None, All, IfOk, IsTrue};
-ghost use Rattle.psm_cond.specs.Sound.{is_numbered};
+ghost use Rattle.psm_cond.specs.WellFormed.{is_numbered};
 ghost use Rattle.psm_exprcode.specs.Fits.{Fits};
 ghost use Rattle.psm_code.specs.RoutineRules.{first_fault};
-ghost use Rattle.psm_code.specs.Rows.{done, next_or_end, operation as operated, row, way_of};
-ghost use Rattle.psm_code.specs.Sits.{Sits};
+ghost use Rattle.psm_code.specs.Run.{done, next_or_end, operation as operated, step, successor_of};
+ghost use Rattle.psm_code.specs.MachineInvariant.{MachineInvariant};
 ghost use Rattle.psm_unwind.specs.Marks.{MarksStand, SameFrames};
 ghost use Rattle.psm_unwind.specs.View.{LeadsTo, machine_of};
-ghost use Rattle.psm_machine.specs.Allowed.{MayMove, OfCursor, RunsRight};
-ghost use Rattle.psm_machine.specs.Coming.{Comes};
-ghost use Rattle.psm_machine.specs.Going.{FindsNeeds, StandStill, Turns, TurnsOn, is_of_data};
-ghost use Rattle.psm_machine.specs.Over.{way_for};
+ghost use Rattle.psm_machine.specs.Allowed.{MayMove, OfCursor, RunsWellFormed};
+ghost use Rattle.psm_machine.specs.ActResults.{Evaluates};
+ghost use Rattle.psm_machine.specs.Successors.{FindsNeeds, StandStill, StepsTo, StepsOn, is_of_data};
+ghost use Rattle.psm_machine.specs.Over.{successor_for};
 ghost use Rattle.psm_machine.specs.Stepping.{data_act};
 
+use crate::completion::settle;
 use crate::cursors::{close, fetch, next, open};
-use crate::going::{behind, go};
 use crate::operations::operation;
 use crate::performing::perform;
 use crate::plans::change;
 use crate::queries::{exists, scalar, select_row};
-use crate::settling::settle;
 use crate::stop::Stop;
+use crate::successors::{following, go};
 use psm_code::{Instruction, RawCode, RawRoutine};
 use psm_exprcode::{Next, Op};
 use psm_store::Store;
 use psm_unwind::{Ending, Outcome, Run, routine_at};
 use std::alloc::{AllocError, Global};
 
-/// One instruction of a run: the line that comes next is done, and the condition that it may come to is raised at it.
+/// One instruction of a run: the line that comes next is done, and the condition that it may end in is raised at it.
 ///
-/// The code has to break no rule, with handlers that 32 bits are enough to number; the machine has to be as it always is, and the marks
+/// The code has to be well-formed, with handlers that 32 bits are enough to number; the machine has to be as it always is, and the marks
 /// of the run to stand. They stand afterwards too, also where memory runs out, so that who began the run can put the tables back.
 pub fn step<S: Store>(
     alloc: Global,
@@ -37,18 +37,18 @@ pub fn step<S: Store>(
     run: &mut Run,
     store: &mut S,
 ) -> Result<Outcome, AllocError>
-    requires right { first_fault code.now ≡ None }
+    requires well_formed_code { first_fault code.now ≡ None }
     requires numbered { All (λ r. IsTrue (is_numbered r.handlers)) code.now.routines }
-    requires sits { Sits code.now (machine_of (S.tables store.old) (S.at store.old) run.old) }
+    requires machine_invariant { MachineInvariant code.now (machine_of (S.tables store.old) (S.at store.old) run.old) }
     requires stand { MarksStand (S.holds store.old) (S.marks store.old) run.old }
-    ensures due { IfOk result (λ o. LeadsTo (row code.now (machine_of (S.tables store.old) (S.at store.old) run.old)) o (machine_of (S.tables store.new) (S.at store.new) run.new)) }
+    ensures due { IfOk result (λ o. LeadsTo (step code.now (machine_of (S.tables store.old) (S.at store.old) run.old)) o (machine_of (S.tables store.new) (S.at store.new) run.new)) }
     ensures still { StandStill (S.holds store.old) (S.at store.old) (S.marks store.old) run.old (S.holds store.new) (S.at store.new) (S.marks store.new) run.new }
 {
     let Some(routine) = routine_at(code, run.running.routine) else {
-        return Ok(Outcome::Over(Ending::Lacking));
+        return Ok(Outcome::Over(Ending::Stuck));
     };
     let Some(instruction) = routine.lines.instruction(run.running.line) else {
-        return Ok(Outcome::Over(Ending::Lacking));
+        return Ok(Outcome::Over(Ending::Stuck));
     };
     let done = obey(alloc, code, routine, instruction, run, store);
     settle(alloc, code, run, store, done)
@@ -56,7 +56,7 @@ pub fn step<S: Store>(
 
 /// Does an instruction, and goes on where the table of instructions says.
 ///
-/// The tables, the variables and the cursors have to be as right code declares them, an operation has to find what it needs, and the
+/// The tables, the variables and the cursors have to be as well-formed code declares them, an operation has to find what it needs, and the
 /// marks of the run have to stand. They stand afterwards too, also where memory runs out.
 pub fn obey<S: Store>(
     alloc: Global,
@@ -66,10 +66,10 @@ pub fn obey<S: Store>(
     run: &mut Run,
     store: &mut S,
 ) -> Result<Outcome, Stop>
-    requires runs { RunsRight code.now routine.now (S.tables store.old) run.old.running.variables.items run.old.running.cursors.items }
+    requires runs { RunsWellFormed code.now routine.now (S.tables store.old) run.old.running.variables.items run.old.running.cursors.items }
     requires needs { FindsNeeds instruction.now run.old.operands.own run.old.running.variables.items }
     requires stand { MarksStand (S.holds store.old) (S.marks store.old) run.old }
-    ensures due { Turns (done code.now routine.now instruction.now (machine_of (S.tables store.old) (S.at store.old) run.old)) result (machine_of (S.tables store.new) (S.at store.new) run.new) }
+    ensures due { StepsTo (done code.now routine.now instruction.now (machine_of (S.tables store.old) (S.at store.old) run.old)) result (machine_of (S.tables store.new) (S.at store.new) run.new) }
     ensures still { StandStill (S.holds store.old) (S.at store.old) (S.marks store.old) run.old (S.holds store.new) (S.at store.new) (S.marks store.new) run.new }
 {
     match instruction {
@@ -78,7 +78,7 @@ pub fn obey<S: Store>(
         _ => {
             if is_of_data(instruction) {
                 let done = on_tables(alloc, code, routine, instruction, run, store);
-                behind(run, done)
+                following(run, done)
             } else {
                 perform(alloc, code, routine, instruction, run, store)
             }
@@ -90,7 +90,7 @@ pub fn obey<S: Store>(
 #[inline(never)]
 fn operate(alloc: Global, run: &mut Run, op: &Op) -> Result<Outcome, Stop>
     requires { Fits op.now run.old.operands.own [] run.old.running.variables.items }
-    ensures due { TurnsOn (operated op.now) run.old result run.new }
+    ensures due { StepsOn (operated op.now) run.old result run.new }
     ensures same { SameFrames run.old run.new }
 {
     let next = operation(alloc, run, op)?;
@@ -107,7 +107,7 @@ fn take_next<S: Store>(
     end: u32,
 ) -> Result<Outcome, Stop>
     requires { OfCursor routine.now run.old.running.cursors.items cursor (MayMove routine.now (S.tables store.now)) }
-    ensures due { Turns (next_or_end routine.now cursor end (machine_of (S.tables store.now) (S.at store.now) run.old)) result (machine_of (S.tables store.now) (S.at store.now) run.new) }
+    ensures due { StepsTo (next_or_end routine.now cursor end (machine_of (S.tables store.now) (S.at store.now) run.old)) result (machine_of (S.tables store.now) (S.at store.now) run.new) }
     ensures same { SameFrames run.old run.new }
 {
     let there = next(alloc, routine, run, store, cursor)?;
@@ -115,7 +115,7 @@ fn take_next<S: Store>(
 }
 
 fn next_of(there: bool, end: u32) -> Next
-    ensures { way_of result ≡ way_for end there }
+    ensures { successor_of result ≡ successor_for end there }
 {
     if there { Next::Ahead } else { Next::Jump(end) }
 }
@@ -126,8 +126,8 @@ fn is_of_data(instruction: &Instruction) -> bool
     match instruction {
         Instruction::Exists(_)
         | Instruction::Scalar(_)
-        | Instruction::SelectRow(_)
-        | Instruction::Change(_)
+        | Instruction::Row(_)
+        | Instruction::Data(_)
         | Instruction::Open(_)
         | Instruction::Close(_)
         | Instruction::Fetch(_)
@@ -145,19 +145,19 @@ fn on_tables<S: Store>(
     run: &mut Run,
     store: &mut S,
 ) -> Result<(), Stop>
-    requires runs { RunsRight code.now routine.now (S.tables store.old) run.old.running.variables.items run.old.running.cursors.items }
+    requires runs { RunsWellFormed code.now routine.now (S.tables store.old) run.old.running.variables.items run.old.running.cursors.items }
     requires stand { MarksStand (S.holds store.old) (S.marks store.old) run.old }
-    ensures due { Comes (data_act code.now routine.now instruction.now (machine_of (S.tables store.old) (S.at store.old) run.old)) result (machine_of (S.tables store.new) (S.at store.new) run.new) }
+    ensures due { Evaluates (data_act code.now routine.now instruction.now (machine_of (S.tables store.old) (S.at store.old) run.old)) result (machine_of (S.tables store.new) (S.at store.new) run.new) }
     ensures still { StandStill (S.holds store.old) (S.at store.old) (S.marks store.old) run.old (S.holds store.new) (S.at store.new) (S.marks store.new) run.new }
 {
     match instruction {
         Instruction::Exists(number) => exists(alloc, routine, run, store, *number),
         Instruction::Scalar(number) => scalar(alloc, routine, run, store, *number),
-        Instruction::SelectRow(number) => select_row(alloc, routine, run, store, *number),
-        Instruction::Change(number) => change(alloc, code, routine, run, store, *number),
+        Instruction::Row(number) => select_row(alloc, routine, run, store, *number),
+        Instruction::Data(number) => change(alloc, code, routine, run, store, *number),
         Instruction::Open(number) => open(alloc, routine, run, store, *number),
         Instruction::Close(number) => close(alloc, routine, run, *number),
         Instruction::Fetch(number) => fetch(alloc, routine, run, store, *number),
-        _ => Err(Stop::Lacking),
+        _ => Err(Stop::Stuck),
     }
 }

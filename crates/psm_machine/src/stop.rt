@@ -1,5 +1,5 @@
 //! Why a part of an instruction gives nothing.
-ghost use Rattle.psm_machine.specs.Coming.{Fails, StopsAt, StopsWith};
+ghost use Rattle.psm_machine.specs.ActResults.{Fails, StopsAt, StopsWith};
 
 use psm_cond::Condition;
 use psm_list::Boxed;
@@ -7,7 +7,7 @@ use psm_sqlstate::SqlState;
 use psm_value::ValueFault;
 use std::alloc::{AllocError, AllocFailed, Global};
 
-/// Why a part of an instruction gives nothing. A condition is boxed: what each part comes to is returned through several calls, so it
+/// Why a part of an instruction gives nothing. A condition is boxed: what each part ends in is returned through several calls, so it
 /// has to be two or three words.
 #[derive(Debug, Drop)]
 pub enum Stop {
@@ -16,7 +16,7 @@ pub enum Stop {
     /// A turn is due and none is left.
     NoTurns,
     /// Something isn't there that the instruction names.
-    Lacking,
+    Stuck,
     /// Memory ran out.
     Memory,
 }
@@ -43,7 +43,7 @@ impl<T: Drop> From<AllocFailed<T>> for Stop {
     }
 }
 
-/// The condition of an SQLSTATE alone, or want of memory.
+/// The condition of an SQLSTATE alone, or out of memory.
 pub(crate) fn stop_at(alloc: Global, state: SqlState) -> Stop
     ensures { StopsAt state result }
 {
@@ -53,7 +53,7 @@ pub(crate) fn stop_at(alloc: Global, state: SqlState) -> Stop
     }
 }
 
-/// That a condition is to be raised at the line, or want of memory.
+/// That a condition is to be raised at the line, or out of memory.
 pub(crate) fn stop_with(alloc: Global, condition: Condition) -> Stop
     ensures { StopsWith condition result }
 {
@@ -63,7 +63,7 @@ pub(crate) fn stop_with(alloc: Global, condition: Condition) -> Stop
     }
 }
 
-/// What a fault of an operation on values comes to.
+/// What a fault of an operation on values ends in.
 pub(crate) fn failed(alloc: Global, fault: ValueFault) -> Stop
     ensures { Fails fault result }
 {

@@ -3,7 +3,7 @@ ghost use Rattle.std.specs.Prelude.{◌≡◌, Ok};
 ghost use Rattle.psm_code.specs.State.{cleared};
 ghost use Rattle.psm_code.specs.Steps.{change, turn};
 ghost use Rattle.psm_unwind.specs.Marks.{SameFrames};
-ghost use Rattle.psm_machine.specs.Coming.{Does};
+ghost use Rattle.psm_machine.specs.ActResults.{Does};
 
 use crate::stop::Stop;
 use psm_unwind::{Run, spend};

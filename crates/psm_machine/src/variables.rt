@@ -4,11 +4,11 @@ ghost use Rattle.psm_value.specs.Fetched.{fetched};
 ghost use Rattle.psm_value.specs.SqlType.{IsType};
 ghost use Rattle.psm_value.specs.Stored.{stored};
 ghost use Rattle.psm_code.specs.Parts.{slots_of};
-ghost use Rattle.psm_code.specs.Rows.{losing, retrieve, store, warn};
+ghost use Rattle.psm_code.specs.Run.{losing, retrieve, store, warn};
 ghost use Rattle.psm_code.specs.Steps.{change};
 ghost use Rattle.psm_code.specs.State.{warning, with_variable};
 ghost use Rattle.psm_unwind.specs.Marks.{SameFrames};
-ghost use Rattle.psm_machine.specs.Coming.{Does, Tries};
+ghost use Rattle.psm_machine.specs.ActResults.{Does, Tries};
 
 use crate::operands::pop;
 use crate::stop::{Stop, failed, stop_at};
@@ -27,7 +27,7 @@ pub fn store(alloc: Global, routine: &RawRoutine, run: &mut Run, slot: u32) -> R
     ensures routine { run.new.running.routine ≡ run.old.running.routine }
 {
     let Some(kind) = slot_type(routine, slot) else {
-        return Err(Stop::Lacking);
+        return Err(Stop::Stuck);
     };
     let value = pop(run)?;
     // Most values are stored as they are, and go to the variable from where they stand.
@@ -48,7 +48,7 @@ pub fn retrieve(alloc: Global, routine: &RawRoutine, run: &mut Run, slot: u32) -
     ensures same { SameFrames run.old run.new }
 {
     let Some(kind) = slot_type(routine, slot) else {
-        return Err(Stop::Lacking);
+        return Err(Stop::Stuck);
     };
     let value = pop(run)?;
     let (fetched, is_cut) = fetched(alloc, kind, &value)?;

@@ -1,10 +1,10 @@
--- What height is enough for: evaluations and what is done, from at most so many turns on, under a meaning of their parts.
+-- What fuel is enough for: evaluations and what is done, from at most n turns on, under a meaning of their parts.
 use Rattle.std.proofs.Common.{arith, ◌≡◌, ◌≤◌, ℕ, zero, suc, Bool, true, false, Option, Some, None, IfSome, List, [], ◌∷◌, refl, if◌then◌else◌}
 use Rattle.psm_resolved.specs.declared.expr.ResolvedExpr.{ResolvedExpr}
 use Rattle.psm_resolved.specs.declared.file.ResolvedFile.{ResolvedFile}
-use Rattle.psm_meaning.specs.State.{State, Place}
+use Rattle.psm_meaning.specs.State.{State, EvalContext}
 use Rattle.psm_meaning.specs.Acts.{Given, Got, Raises, Ends, Evaluated, Outcome, Normal, Leave, Iterate, Return, Raised, Away, Stopped, Task, Meaning, Act, go_on, ◌>>=◌, ◌>>◌, present, spent, turn, operand, value_of, truth_of, values, Deed}
-use Rattle.psm_meaning.specs.Heights.{expr_size, exprs_size, file_size}
+use Rattle.psm_meaning.specs.Fuel.{expr_size, exprs_size, file_size}
 use Rattle.psm_meaning.specs.Enough.{AreWithin, IsActionWithin}
 use Rattle.psm_meaning.proofs.Pure.{IsHigh, High, Pure, pure-as_value, pure-as_truth, pure-got}
 use Rattle.psm_meaning.proofs.Sizes.{task_size}
@@ -40,7 +40,7 @@ pub keeps-present : {m : Meaning} {turns : ℕ} {A B : Type 0} (P : A → Type 0
 keeps-present P None i h = record { well = λ st p. record { high = tt; left = omega arith } }
 keeps-present P (Some a) i h = record { well = λ st p. (h a i).well st p }
 
--- behind a turn there are fewer
+-- after a turn there are fewer
 well-spent : {m : Meaning} {turns : ℕ} {A : Type 0} {next : Act A} → ((left : ℕ) → suc left ≤ turns → Keeps m left next) → (n : ℕ) (st : State) → n ≤ turns → st.turns ≡ n → Well n (go_on (spent n m st).given (λ u. next) m (spent n m st).state)
 well-spent h zero st p e = record { high = tt; left = omega (arith, e) }
 well-spent h (suc left) st p e = well-more (omega arith) ((h left p).well (record st { turns = left }) (omega arith))
@@ -79,7 +79,7 @@ pub record Pays (file : ResolvedFile) (m : Meaning) (turns : ℕ) (deed : Deed) 
 
 pub record Parts (file : ResolvedFile) (m : Meaning) (turns size : ℕ) : Type 0 where
   pub value : (e : ResolvedExpr) → expr_size e ≤ size → Keeps m turns (operand e)
-  pub done : (t : Task) (place : Place) → AreWithin file place.scopes → task_size t ≤ size → Pays file m turns (λ n st. n.done t place st)
+  pub done : (t : Task) (eval_context : EvalContext) → AreWithin file eval_context.scopes → task_size t ≤ size → Pays file m turns (λ n st. n.done t eval_context st)
 
 -- what is no greater than the file, wherever a turn was used
 abbrev pub Later : ResolvedFile → Meaning → ℕ → Type 0

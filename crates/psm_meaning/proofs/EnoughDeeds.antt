@@ -11,11 +11,11 @@ use Rattle.psm_cond.specs.declared.handlers.HandlerKind.TheVariants.{Continue, E
 use Rattle.psm_resolved.specs.declared.file.ResolvedFile.{ResolvedFile}
 use Rattle.psm_resolved.specs.declared.statement.ResolvedHandler.{ResolvedHandler, out-ResolvedHandler}
 use Rattle.psm_resolved.specs.declared.statement.ResolvedStatement.{ResolvedStatement}
-use Rattle.psm_meaning.specs.State.{State, Scope, Place, holding}
-use Rattle.psm_meaning.specs.Acts.{Given, Got, Raises, Ends, Outcome, Normal, Leave, Iterate, Return, Raised, Away, Stopped, Do, Meaning, Act, Deed, ends_as, behind, changing, part, if_normal, all, spending, at_turn}
+use Rattle.psm_meaning.specs.State.{State, Scope, EvalContext, holding}
+use Rattle.psm_meaning.specs.Acts.{Given, Got, Raises, Ends, Outcome, Normal, Leave, Iterate, Return, Raised, Away, Stopped, Do, Meaning, Act, Deed, ends_as, following, changing, part, if_normal, all, spending, at_turn}
 use Rattle.psm_meaning.specs.Raising.{Candidate, candidates, candidate_rank, choice, after_action, action, handled, answered, raised, settled, after, stated}
-use Rattle.psm_meaning.specs.Heights.{file_size, statement_size}
-use Rattle.psm_meaning.specs.Enough.{AreWithin, IsActionWithin, IsScopeWithin}
+use Rattle.psm_meaning.specs.Fuel.{file_size, statement_size}
+use Rattle.psm_meaning.specs.Enough.{AreWithin, IsActionWithin, IsHandlerScopeWithin}
 use Rattle.psm_meaning.proofs.Pure.{High}
 use Rattle.psm_meaning.proofs.Sizes.{statements_size}
 use Rattle.psm_meaning.proofs.Enough.{Keeps, Paid, paid-more, Pays, Parts, Later}
@@ -45,10 +45,10 @@ paid-own file false l before now p = p
 pub record Follows (file : ResolvedFile) (m : Meaning) (turns : ℕ) (go : Outcome → Deed) : Type 0 where
   pub paid : (o : Outcome) (before : ℕ) (st : State) → before ≤ turns → Paid file before st.turns o → Paid file before (go o m st).state.turns (go o m st).outcome
 
-pub pays-behind : {file : ResolvedFile} {m : Meaning} {turns : ℕ} {deed : Deed} {go : Outcome → Deed} → Pays file m turns deed → Follows file m turns go → Pays file m turns (behind deed go)
-pays-behind {m = m} {deed = deed} h k = record { paid = λ st p. k.paid (deed m st).outcome st.turns (deed m st).state p (h.paid st p) }
+pub pays-following : {file : ResolvedFile} {m : Meaning} {turns : ℕ} {deed : Deed} {go : Outcome → Deed} → Pays file m turns deed → Follows file m turns go → Pays file m turns (following deed go)
+pays-following {m = m} {deed = deed} h k = record { paid = λ st p. k.paid (deed m st).outcome st.turns (deed m st).state p (h.paid st p) }
 
--- what is done behind an outcome that left so many turns
+-- what is done after an outcome that left n turns
 pub paid-then : {file : ResolvedFile} {m : Meaning} {turns before : ℕ} {deed : Deed} → Pays file m turns deed → (st : State) → before ≤ turns → st.turns ≤ before → Paid file before (deed m st).state.turns (deed m st).outcome
 paid-then {file = file} {m = m} {deed = deed} h st p q = paid-more file (deed m st).state.turns q (deed m st).outcome (h.paid st (omega (arith, p, q)))
 
@@ -66,12 +66,12 @@ follows-if_normal h = record { paid = each h }
     each h (Away level k c) before st p q = q
     each h (Stopped stop) before st p q = q
 
-pub pays-part : {file : ResolvedFile} {m : Meaning} {turns size : ℕ} → Parts file m turns size → (place : Place) → AreWithin file place.scopes → (s : ResolvedStatement) → statement_size s ≤ size → Pays file m turns (part place s)
-pays-part parts place w s p = parts.done (Do s) place w p
+pub pays-part : {file : ResolvedFile} {m : Meaning} {turns size : ℕ} → Parts file m turns size → (eval_context : EvalContext) → AreWithin file eval_context.scopes → (s : ResolvedStatement) → statement_size s ≤ size → Pays file m turns (part eval_context s)
+pays-part parts eval_context w s p = parts.done (Do s) eval_context w p
 
-pub pays-all : {file : ResolvedFile} {m : Meaning} {turns size : ℕ} → Parts file m turns size → (place : Place) → AreWithin file place.scopes → (ss : List ResolvedStatement) → statements_size ss ≤ size → Pays file m turns (all place ss)
-pays-all parts place w [] p = pays-normal
-pays-all parts place w (s ∷ ss) p = pays-behind (pays-part parts place w s (omega (arith, p))) (follows-if_normal (pays-all parts place w ss (omega (arith, p))))
+pub pays-all : {file : ResolvedFile} {m : Meaning} {turns size : ℕ} → Parts file m turns size → (eval_context : EvalContext) → AreWithin file eval_context.scopes → (ss : List ResolvedStatement) → statements_size ss ≤ size → Pays file m turns (all eval_context ss)
+pays-all parts eval_context w [] p = pays-normal
+pays-all parts eval_context w (s ∷ ss) p = pays-following (pays-part parts eval_context w s (omega (arith, p))) (follows-if_normal (pays-all parts eval_context w ss (omega (arith, p))))
 
 -- ---- turns: what is done at one owes it
 
@@ -102,8 +102,8 @@ follows-after_action {file = file} {m = m} {turns = turns} = record { paid = eac
     each file m turns (Away level k c) before st p q = q
     each file m turns (Stopped stop) before st p q = q
 
-pub pays-action : {file : ResolvedFile} {m : Meaning} {turns : ℕ} → Parts file m turns (file_size file) → (place : Place) → AreWithin file place.scopes → (h : ResolvedHandler) → IsActionWithin file h → Pays file m turns (action place h)
-pays-action {m = m} parts place w h p = pays-behind (record { paid = λ st q. (parts.done (Do (out-ResolvedHandler h).action) (record place { acting = st.area ∷ place.acting }) w p).paid st q }) follows-after_action
+pub pays-action : {file : ResolvedFile} {m : Meaning} {turns : ℕ} → Parts file m turns (file_size file) → (eval_context : EvalContext) → AreWithin file eval_context.scopes → (h : ResolvedHandler) → IsActionWithin file h → Pays file m turns (action eval_context h)
+pays-action {m = m} parts eval_context w h p = pays-following (record { paid = λ st q. (parts.done (Do (out-ResolvedHandler h).action) (record eval_context { acting = st.area ∷ eval_context.acting }) w p).paid st q }) follows-after_action
 
 -- ---- the choice of a handler
 
@@ -138,39 +138,39 @@ in_scope file s outer w (k ∷ ks) h = All-cons (IsCandidate file) _ _ (All-head
 
 every_candidate : (file : ResolvedFile) (scopes : List Scope) → AreWithin file scopes → Every (IsCandidate file) (candidates scopes)
 every_candidate file [] w = tt
-every_candidate file (s ∷ outer) w = (in_scope file s outer (All-tail (IsScopeWithin file) s outer w) s.handlers (All-head (IsScopeWithin file) s outer w), every_candidate file outer (All-tail (IsScopeWithin file) s outer w))
+every_candidate file (s ∷ outer) w = (in_scope file s outer (All-tail (IsHandlerScopeWithin file) s outer w) s.handlers (All-head (IsHandlerScopeWithin file) s outer w), every_candidate file outer (All-tail (IsHandlerScopeWithin file) s outer w))
 
 some_choice : (file : ResolvedFile) (e : Entry) (scopes : List Scope) → AreWithin file scopes → IfSome (choice e scopes) (IsCandidate file)
 some_choice file e scopes w = some_chosen (IsCandidate file) (candidate_rank e) (candidates scopes) (every_candidate file scopes w)
 
 -- ---- conditions
 
-owes-handled : {file : ResolvedFile} {m : Meaning} {turns : ℕ} → Parts file m turns (file_size file) → (place : Place) (c : Entries) (k : Candidate) → IsCandidate file k → (kind : HandlerKind) → Owes file m turns (handled place c k kind)
-owes-handled parts place c k w Continue = owes-pays (pays-action parts (record place { cursors = k.scope.cursors; scopes = k.outside }) w.1 k.handler w.0)
-owes-handled parts place c k w Exit = record { paid = λ st p. (omega arith, w.0) }
-owes-handled parts place c k w Undo = record { paid = λ st p. (omega arith, w.0) }
+owes-handled : {file : ResolvedFile} {m : Meaning} {turns : ℕ} → Parts file m turns (file_size file) → (eval_context : EvalContext) (c : Entries) (k : Candidate) → IsCandidate file k → (kind : HandlerKind) → Owes file m turns (handled eval_context c k kind)
+owes-handled parts eval_context c k w Continue = owes-pays (pays-action parts (record eval_context { cursors = k.scope.cursors; scopes = k.outside }) w.1 k.handler w.0)
+owes-handled parts eval_context c k w Exit = record { paid = λ st p. (omega arith, w.0) }
+owes-handled parts eval_context c k w Undo = record { paid = λ st p. (omega arith, w.0) }
 
 paid-unanswered : (file : ResolvedFile) (b : Bool) (c : Entries) (left : ℕ) → Paid file left left (if b then Raised c else Normal)
 paid-unanswered file true c left = omega arith
 paid-unanswered file false c left = omega arith
 
-pays-answered : {file : ResolvedFile} {m : Meaning} {turns : ℕ} → Later file m turns → (place : Place) (c : Entries) (k : Option Candidate) → IfSome k (IsCandidate file) → Pays file m turns (answered place c k)
-pays-answered {file = file} later place c None w = pays-ends_as _ (paid-unanswered file (is_exception (kind_of c.first.state)) c)
-pays-answered later place c (Some k) w = pays-at_turn (λ left p. owes-handled (later left p) place c k w _)
+pays-answered : {file : ResolvedFile} {m : Meaning} {turns : ℕ} → Later file m turns → (eval_context : EvalContext) (c : Entries) (k : Option Candidate) → IfSome k (IsCandidate file) → Pays file m turns (answered eval_context c k)
+pays-answered {file = file} later eval_context c None w = pays-ends_as _ (paid-unanswered file (is_exception (kind_of c.first.state)) c)
+pays-answered later eval_context c (Some k) w = pays-at_turn (λ left p. owes-handled (later left p) eval_context c k w _)
 
-pub pays-raised : {file : ResolvedFile} {m : Meaning} {turns : ℕ} → Later file m turns → (place : Place) → AreWithin file place.scopes → (c : Entries) → Pays file m turns (raised place c)
-pays-raised {file = file} later place w c = pays-changing (holding c) (λ st. refl) (pays-answered later place c (choice c.first place.scopes) (some_choice file c.first place.scopes w))
+pub pays-raised : {file : ResolvedFile} {m : Meaning} {turns : ℕ} → Later file m turns → (eval_context : EvalContext) → AreWithin file eval_context.scopes → (c : Entries) → Pays file m turns (raised eval_context c)
+pays-raised {file = file} later eval_context w c = pays-changing (holding c) (λ st. refl) (pays-answered later eval_context c (choice c.first eval_context.scopes) (some_choice file c.first eval_context.scopes w))
 
-paid-settled : {file : ResolvedFile} {m : Meaning} {turns : ℕ} {A : Type 0} → Later file m turns → (place : Place) → AreWithin file place.scopes → (g : Given A) (go : A → Deed) (before : ℕ) (st : State) → before ≤ turns → st.turns ≤ before → High g → ((a : A) → Pays file m turns (go a)) → Paid file before (settled place g go m st).state.turns (settled place g go m st).outcome
-paid-settled later place w (Got a) go before st p q g h = paid-then (h a) st p q
-paid-settled later place w (Raises c) go before st p q g h = paid-then (pays-raised later place w c) st p q
-paid-settled later place w (Ends stop) go before st p q g h = (q, g)
+paid-settled : {file : ResolvedFile} {m : Meaning} {turns : ℕ} {A : Type 0} → Later file m turns → (eval_context : EvalContext) → AreWithin file eval_context.scopes → (g : Given A) (go : A → Deed) (before : ℕ) (st : State) → before ≤ turns → st.turns ≤ before → High g → ((a : A) → Pays file m turns (go a)) → Paid file before (settled eval_context g go m st).state.turns (settled eval_context g go m st).outcome
+paid-settled later eval_context w (Got a) go before st p q g h = paid-then (h a) st p q
+paid-settled later eval_context w (Raises c) go before st p q g h = paid-then (pays-raised later eval_context w c) st p q
+paid-settled later eval_context w (Ends stop) go before st p q g h = (q, g)
 
-pub pays-after : {file : ResolvedFile} {m : Meaning} {turns : ℕ} → Later file m turns → (place : Place) → AreWithin file place.scopes → {A : Type 0} {act : Act A} {go : A → Deed} → Keeps m turns act → ((a : A) → Pays file m turns (go a)) → Pays file m turns (after place act go)
-pays-after {m = m} later place w {act = act} {go = go} k h = record {
+pub pays-after : {file : ResolvedFile} {m : Meaning} {turns : ℕ} → Later file m turns → (eval_context : EvalContext) → AreWithin file eval_context.scopes → {A : Type 0} {act : Act A} {go : A → Deed} → Keeps m turns act → ((a : A) → Pays file m turns (go a)) → Pays file m turns (after eval_context act go)
+pays-after {m = m} later eval_context w {act = act} {go = go} k h = record {
   paid = λ st p. let r = k.well st p in
-      paid-settled later place w (act m st).given go st.turns (act m st).state p r.left r.high h;
+      paid-settled later eval_context w (act m st).given go st.turns (act m st).state p r.left r.high h;
 }
 
-pub pays-stated : {file : ResolvedFile} {m : Meaning} {turns : ℕ} → Later file m turns → (place : Place) → AreWithin file place.scopes → {act : Act (Unit {0})} → Keeps m turns act → Pays file m turns (stated place act)
-pays-stated later place w k = pays-after later place w k (λ u. pays-normal)
+pub pays-stated : {file : ResolvedFile} {m : Meaning} {turns : ℕ} → Later file m turns → (eval_context : EvalContext) → AreWithin file eval_context.scopes → {act : Act (Unit {0})} → Keeps m turns act → Pays file m turns (stated eval_context act)
+pays-stated later eval_context w k = pays-after later eval_context w k (λ u. pays-normal)

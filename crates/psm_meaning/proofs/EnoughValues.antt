@@ -10,13 +10,13 @@ use Rattle.psm_exprcode.specs.declared.operand.Operand.{Operand}
 use Rattle.psm_exprcode.specs.declared.operand.Operand.TheVariants.{Value}
 use Rattle.psm_exprcode.specs.Comparison.{is_null}
 use Rattle.psm_exprcode.specs.Evaluated as rows
-use Rattle.psm_resolved.specs.declared.expr.Junction.{Junction}
+use Rattle.psm_resolved.specs.declared.expr.LogicalOperator.{LogicalOperator}
 use Rattle.psm_resolved.specs.declared.expr.ResolvedExpr.{ResolvedExpr}
 use Rattle.psm_resolved.specs.declared.expr.ResolvedExpr.TheOpen.{ResolvedExpr-F}
 use Rattle.psm_resolved.specs.declared.expr.ResolvedExpr.TheOpen as layers
 use Rattle.psm_resolved.specs.declared.expr.ResolvedItem.{ResolvedItem}
 use Rattle.psm_resolved.specs.declared.expr.ResolvedItems.{ResolvedItems}
-use Rattle.psm_resolved.specs.declared.expr.ResolvedLink.{ResolvedLink, out-ResolvedLink}
+use Rattle.psm_resolved.specs.declared.expr.ResolvedOperation.{ResolvedOperation, out-ResolvedOperation}
 use Rattle.psm_resolved.specs.declared.expr.ResolvedQuery.{ResolvedQuery}
 use Rattle.psm_resolved.specs.declared.expr.ResolvedWhen.{ResolvedWhen, out-ResolvedWhen}
 use Rattle.psm_resolved.specs.declared.file.ResolvedFile.{ResolvedFile}
@@ -24,12 +24,12 @@ use Rattle.psm_resolved.specs.declared.file.ResolvedRoutine.{ResolvedRoutine}
 use Rattle.psm_resolved.specs.RowValue.{listed}
 use Rattle.psm_meaning.specs.State.{State}
 use Rattle.psm_meaning.specs.Acts.{Outcome, Normal, Leave, Iterate, Return, Raised, Away, Stopped, Do, Meaning, Act}
-use Rattle.psm_meaning.specs.Calls.{returns, function_at, ending, run_body, apart, activated, called, body_place, begun}
+use Rattle.psm_meaning.specs.Calls.{returns, function_at, ending, run_body, apart, activated, called, body_eval_context, begun}
 use Rattle.psm_meaning.specs.Values.{Layer, there, of_one, of_two, of_three, operands, joined, linked, among, else_of, is_equal, chosen, cased, first_set, evaluated}
-use Rattle.psm_meaning.specs.Heights.{total, expr_size, exprs_size, option_size, statement_size, file_size}
+use Rattle.psm_meaning.specs.Fuel.{total, expr_size, exprs_size, option_size, statement_size, file_size}
 use Rattle.psm_meaning.proofs.Pure.{pure, pure-got}
 use Rattle.psm_meaning.proofs.PureActs.{pure-answer_of, pure-entered, pure-bounded, pure-result_of, pure-worked, pure-scaled, pure-scalar}
-use Rattle.psm_meaning.proofs.Sizes.{BodyWithin, size_of, link_size, link_size-out, when_size, when_size-out, body_of-le}
+use Rattle.psm_meaning.proofs.Sizes.{BodyWithin, size_of, chain_link_size, chain_link_size-out, when_size, when_size-out, body_of-le}
 use Rattle.psm_meaning.proofs.Enough.{Well, Keeps, keeps-pure, keeps-bind, keeps-present, keeps-turn, keeps-if, Paid, Parts, Later, Values, keeps-value_of, keeps-truth_of, keeps-values}
 
 -- ---- activations
@@ -45,8 +45,8 @@ well-ending file m turns (Stopped stop) st p = record { high = p.1; left = p.0 }
 
 keeps-run_body : {file : ResolvedFile} {m : Meaning} {turns : ℕ} → Parts file m turns (file_size file) → (r : ResolvedRoutine) → statement_size r.body ≤ file_size file → (ds : List Datum) → Keeps m turns (run_body r ds)
 keeps-run_body {file = file} {m = m} parts r p ds = record {
-  well = λ st q. let d = m.done (Do r.body) (body_place r) (begun r ds st) in
-      well-ending file m st.turns d.outcome d.state ((parts.done (Do r.body) (body_place r) (All-nil _) p).paid (begun r ds st) q);
+  well = λ st q. let d = m.done (Do r.body) (body_eval_context r) (begun r ds st) in
+      well-ending file m st.turns d.outcome d.state ((parts.done (Do r.body) (body_eval_context r) (All-nil _) p).paid (begun r ds st) q);
 }
 
 keeps-apart : {m : Meaning} {turns : ℕ} {A : Type 0} {act : Act A} → Keeps m turns act → Keeps m turns (apart act)
@@ -75,13 +75,13 @@ keeps-operands : {m : Meaning} {turns size : ℕ} → Values m turns size → (e
 keeps-operands v [] p = keeps-pure (pure-got [])
 keeps-operands v (e ∷ es) p = keeps-bind (v e (omega (arith, p))) (λ x. keeps-bind (keeps-operands v es (omega (arith, p))) (λ xs. keeps-pure (pure-got (x ∷ xs))))
 
-keeps-joined : {m : Meaning} {turns size : ℕ} → Values m turns size → (j : Junction) (x : Operand) (es : List ResolvedExpr) → exprs_size es ≤ size → Keeps m turns (joined j x es)
+keeps-joined : {m : Meaning} {turns size : ℕ} → Values m turns size → (j : LogicalOperator) (x : Operand) (es : List ResolvedExpr) → exprs_size es ≤ size → Keeps m turns (joined j x es)
 keeps-joined v j x [] p = keeps-pure (pure-got x)
-keeps-joined v j x (e ∷ es) p = keeps-bind (keeps-of_one v e (λ b. layers.Junction j (record { first = there x; rest = b ∷ [] })) (omega (arith, p))) (λ both. keeps-joined v j both es (omega (arith, p)))
+keeps-joined v j x (e ∷ es) p = keeps-bind (keeps-of_one v e (λ b. layers.LogicalOperator j (record { first = there x; rest = b ∷ [] })) (omega (arith, p))) (λ both. keeps-joined v j both es (omega (arith, p)))
 
-keeps-linked : {m : Meaning} {turns size : ℕ} → Values m turns size → (x : Operand) (links : List ResolvedLink) → total (map link_size links) ≤ size → Keeps m turns (linked x links)
+keeps-linked : {m : Meaning} {turns size : ℕ} → Values m turns size → (x : Operand) (chain_links : List ResolvedOperation) → total (map chain_link_size chain_links) ≤ size → Keeps m turns (linked x chain_links)
 keeps-linked v x [] p = keeps-pure (pure-got x)
-keeps-linked v x (l ∷ links) p = keeps-bind (keeps-of_one v (out-ResolvedLink l).operand (λ b. layers.Chain (there x) (((out-ResolvedLink l).operator, b) ∷ [])) (omega (arith, p, link_size-out l))) (λ y. keeps-linked v y links (omega (arith, p)))
+keeps-linked v x (l ∷ chain_links) p = keeps-bind (keeps-of_one v (out-ResolvedOperation l).operand (λ b. layers.OperatorChain (there x) (((out-ResolvedOperation l).operator, b) ∷ [])) (omega (arith, p, chain_link_size-out l))) (λ y. keeps-linked v y chain_links (omega (arith, p)))
 
 keeps-among : {m : Meaning} {turns size : ℕ} → Values m turns size → (negated : Bool) (e : ResolvedExpr) (list : Several ResolvedExpr) → expr_size e ≤ size → expr_size list.first ≤ size → exprs_size list.rest ≤ size → Keeps m turns (among negated e list)
 keeps-among v negated e list p q r = keeps-bind (v e p) (λ x. keeps-bind (v list.first q) (λ first. keeps-bind (keeps-operands v list.rest r) (λ others. keeps-pure (pure-worked (layers.In negated (there x) (record { first = there first; rest = map there others }))))))
@@ -114,13 +114,13 @@ keeps-first_set v e (f ∷ es) p q = keeps-bind (keeps-value_of v e p) (λ d. ke
 
 -- ---- expressions
 
-pub keeps-evaluated : {file : ResolvedFile} {m : Meaning} {turns size : ℕ} → Values m turns size → Later file m turns → (layer : ResolvedExpr-F ResolvedExpr ResolvedItems ResolvedItem ResolvedLink ResolvedQuery ResolvedWhen) → size_of layer ≤ suc size → Keeps m turns (evaluated file layer)
+pub keeps-evaluated : {file : ResolvedFile} {m : Meaning} {turns size : ℕ} → Values m turns size → Later file m turns → (layer : ResolvedExpr-F ResolvedExpr ResolvedItems ResolvedItem ResolvedOperation ResolvedQuery ResolvedWhen) → size_of layer ≤ suc size → Keeps m turns (evaluated file layer)
 keeps-evaluated v later layers.Null p = keeps-pure (pure-worked layers.Null)
 keeps-evaluated v later (layers.Number n) p = keeps-pure (pure-worked (layers.Number n))
 keeps-evaluated v later (layers.Text t) p = keeps-pure (pure-worked (layers.Text t))
 keeps-evaluated v later (layers.Column i) p = keeps-pure (pure-worked (layers.Column i))
 keeps-evaluated v later (layers.Variable i) p = keeps-pure (pure-worked (layers.Variable i))
-keeps-evaluated v later (layers.Junction j es) p = keeps-bind (v es.first (omega (arith, p))) (λ x. keeps-joined v j x es.rest (omega (arith, p)))
+keeps-evaluated v later (layers.LogicalOperator j es) p = keeps-bind (v es.first (omega (arith, p))) (λ x. keeps-joined v j x es.rest (omega (arith, p)))
 keeps-evaluated v later (layers.Not condition) p = keeps-of_one v condition (λ a. layers.Not a) (omega (arith, p))
 keeps-evaluated v later (layers.Compare operator left right) p = keeps-of_two v left right (λ a b. layers.Compare operator a b) (omega (arith, p)) (omega (arith, p))
 keeps-evaluated v later (layers.IsNull negated value) p = keeps-of_one v value (λ a. layers.IsNull negated a) (omega (arith, p))
@@ -128,7 +128,7 @@ keeps-evaluated v later (layers.Between negated value low high) p = keeps-of_thr
 keeps-evaluated v later (layers.In negated value list) p = keeps-among v negated value list (omega (arith, p)) (omega (arith, p)) (omega (arith, p))
 keeps-evaluated v later (layers.Like negated value pattern None) p = keeps-of_two v value pattern (λ a b. layers.Like negated a b None) (omega (arith, p)) (omega (arith, p))
 keeps-evaluated v later (layers.Like negated value pattern (Some escape)) p = keeps-of_three v value pattern escape (λ a b c. layers.Like negated a b (Some c)) (omega (arith, p)) (omega (arith, p)) (omega (arith, p))
-keeps-evaluated v later (layers.Chain first links) p = keeps-bind (v first (omega (arith, p))) (λ x. keeps-linked v x links (omega (arith, p)))
+keeps-evaluated v later (layers.OperatorChain first chain_links) p = keeps-bind (v first (omega (arith, p))) (λ x. keeps-linked v x chain_links (omega (arith, p)))
 keeps-evaluated v later (layers.Negated e) p = keeps-of_one v e (λ a. layers.Negated a) (omega (arith, p))
 keeps-evaluated v later (layers.Call f arguments) p = keeps-bind (keeps-values v arguments (omega (arith, p))) (λ args. keeps-called later f args)
 keeps-evaluated v later (layers.Scalar query) p = keeps-pure (search (pure, pure-answer_of, pure-scalar))

@@ -1,4 +1,4 @@
--- Evaluations under two meanings of their parts, of which the second is to more height.
+-- Evaluations under two meanings of their parts, of which the second has more fuel.
 use Rattle.std.proofs.Common.{inl, inr, ℕ, zero, suc, Bool, true, false, List, [], ◌∷◌, refl, ap, subst, if◌then◌else◌}
 use Rattle.psm_resolved.specs.declared.expr.ResolvedExpr.{ResolvedExpr}
 use Rattle.psm_meaning.specs.State.{State}
@@ -6,7 +6,7 @@ use Rattle.psm_meaning.specs.Acts.{Given, Got, Raises, Ends, Evaluated, Meaning,
 use Rattle.psm_meaning.specs.Fits.{Same, Fits}
 use Rattle.psm_meaning.proofs.Pure.{Pure, pure-as_value, pure-as_truth, pure-got}
 
--- wherever the height was great enough for an evaluation under the first meaning, it is the same under the second
+-- wherever the fuel was enough for an evaluation under the first meaning, it is the same under the second
 pub record Grows (m n : Meaning) {A : Type 0} (act : Act A) : Type 0 where
   pub same : (st : State) → Same (act m st) (act n st)
 

@@ -9,20 +9,20 @@ use Rattle.psm_exprcode.specs.declared.operand.Operand.{Operand}
 use Rattle.psm_exprcode.specs.declared.operand.Operand.TheVariants.{Value}
 use Rattle.psm_exprcode.specs.Comparison.{is_null}
 use Rattle.psm_exprcode.specs.Evaluated as rows
-use Rattle.psm_resolved.specs.declared.expr.Junction.{Junction}
+use Rattle.psm_resolved.specs.declared.expr.LogicalOperator.{LogicalOperator}
 use Rattle.psm_resolved.specs.declared.expr.ResolvedExpr.{ResolvedExpr}
 use Rattle.psm_resolved.specs.declared.expr.ResolvedExpr.TheOpen.{ResolvedExpr-F}
 use Rattle.psm_resolved.specs.declared.expr.ResolvedExpr.TheOpen as layers
 use Rattle.psm_resolved.specs.declared.expr.ResolvedItem.{ResolvedItem}
 use Rattle.psm_resolved.specs.declared.expr.ResolvedItems.{ResolvedItems}
-use Rattle.psm_resolved.specs.declared.expr.ResolvedLink.{ResolvedLink, out-ResolvedLink}
+use Rattle.psm_resolved.specs.declared.expr.ResolvedOperation.{ResolvedOperation, out-ResolvedOperation}
 use Rattle.psm_resolved.specs.declared.expr.ResolvedQuery.{ResolvedQuery}
 use Rattle.psm_resolved.specs.declared.expr.ResolvedWhen.{ResolvedWhen}
 use Rattle.psm_resolved.specs.declared.file.ResolvedFile.{ResolvedFile}
 use Rattle.psm_resolved.specs.declared.file.ResolvedRoutine.{ResolvedRoutine}
 use Rattle.psm_meaning.specs.State.{State, returned_to}
 use Rattle.psm_meaning.specs.Acts.{Evaluated, Outcome, Normal, Leave, Iterate, Return, Raised, Away, Stopped, Done, Meaning, Act}
-use Rattle.psm_meaning.specs.Calls.{function_at, ending, run_body, apart, activated, called, body_place, begun}
+use Rattle.psm_meaning.specs.Calls.{function_at, ending, run_body, apart, activated, called, body_eval_context, begun}
 use Rattle.psm_meaning.specs.Values.{Layer, there, of_one, of_two, of_three, operands, joined, linked, among, else_of, is_equal, chosen, cased, first_set, evaluated}
 use Rattle.psm_meaning.specs.Fits.{Same, SameEnd, Fits}
 use Rattle.psm_meaning.proofs.Pure.{pure-got, pure-present, pure}
@@ -45,7 +45,7 @@ ended_same m n r s (inl e) = inl (ap (λ o. (ending o m r.state).given) e)
 ended_same m n r s (inr p) = subst (λ x. Same (ending r.outcome m r.state) (ending x.outcome n x.state)) p ((grows-ending r.outcome).same r.state)
 
 grows-run_body : {m n : Meaning} → Fits m n → (r : ResolvedRoutine) (ds : List Datum) → Grows m n (run_body r ds)
-grows-run_body fits r ds = record { same = λ st. ended_same _ _ _ _ (fits.done _ (body_place r) (begun r ds st)) }
+grows-run_body fits r ds = record { same = λ st. ended_same _ _ _ _ (fits.done _ (body_eval_context r) (begun r ds st)) }
 
 same_with : {A : Type 0} (f : State → State) (r s : Evaluated A) → Same r s → Same (record { given = r.given; state = f r.state }) (record { given = s.given; state = f s.state })
 same_with f r s (inl e) = inl e
@@ -76,13 +76,13 @@ grows-operands : {m n : Meaning} → Fits m n → (es : List ResolvedExpr) → G
 grows-operands fits [] = grows-pure (pure-got [])
 grows-operands fits (e ∷ es) = grows-bind (grows-operand fits e) (λ x. grows-bind (grows-operands fits es) (λ xs. grows-pure (pure-got (x ∷ xs))))
 
-grows-joined : {m n : Meaning} → Fits m n → (j : Junction) (x : Operand) (es : List ResolvedExpr) → Grows m n (joined j x es)
+grows-joined : {m n : Meaning} → Fits m n → (j : LogicalOperator) (x : Operand) (es : List ResolvedExpr) → Grows m n (joined j x es)
 grows-joined fits j x [] = grows-pure (pure-got x)
-grows-joined fits j x (e ∷ es) = grows-bind (grows-of_one fits e (λ b. layers.Junction j (record { first = there x; rest = b ∷ [] }))) (λ both. grows-joined fits j both es)
+grows-joined fits j x (e ∷ es) = grows-bind (grows-of_one fits e (λ b. layers.LogicalOperator j (record { first = there x; rest = b ∷ [] }))) (λ both. grows-joined fits j both es)
 
-grows-linked : {m n : Meaning} → Fits m n → (x : Operand) (links : List ResolvedLink) → Grows m n (linked x links)
+grows-linked : {m n : Meaning} → Fits m n → (x : Operand) (chain_links : List ResolvedOperation) → Grows m n (linked x chain_links)
 grows-linked fits x [] = grows-pure (pure-got x)
-grows-linked fits x (l ∷ links) = grows-bind (grows-of_one fits (out-ResolvedLink l).operand (λ b. layers.Chain (there x) (((out-ResolvedLink l).operator, b) ∷ []))) (λ y. grows-linked fits y links)
+grows-linked fits x (l ∷ chain_links) = grows-bind (grows-of_one fits (out-ResolvedOperation l).operand (λ b. layers.OperatorChain (there x) (((out-ResolvedOperation l).operator, b) ∷ []))) (λ y. grows-linked fits y chain_links)
 
 grows-among : {m n : Meaning} → Fits m n → (negated : Bool) (e : ResolvedExpr) (list : Several ResolvedExpr) → Grows m n (among negated e list)
 grows-among fits negated e list = grows-bind (grows-operand fits e) (λ x. grows-bind (grows-operand fits list.first) (λ first. grows-bind (grows-operands fits list.rest) (λ others.
@@ -111,13 +111,13 @@ grows-first_set fits e (f ∷ es) = grows-bind (grows-value_of fits e) (λ d. gr
 
 -- ---- expressions
 
-pub grows-evaluated : {m n : Meaning} → Fits m n → (file : ResolvedFile) (layer : ResolvedExpr-F ResolvedExpr ResolvedItems ResolvedItem ResolvedLink ResolvedQuery ResolvedWhen) → Grows m n (evaluated file layer)
+pub grows-evaluated : {m n : Meaning} → Fits m n → (file : ResolvedFile) (layer : ResolvedExpr-F ResolvedExpr ResolvedItems ResolvedItem ResolvedOperation ResolvedQuery ResolvedWhen) → Grows m n (evaluated file layer)
 grows-evaluated fits file layers.Null = grows-pure (pure-worked layers.Null)
 grows-evaluated fits file (layers.Number n) = grows-pure (pure-worked (layers.Number n))
 grows-evaluated fits file (layers.Text t) = grows-pure (pure-worked (layers.Text t))
 grows-evaluated fits file (layers.Column i) = grows-pure (pure-worked (layers.Column i))
 grows-evaluated fits file (layers.Variable i) = grows-pure (pure-worked (layers.Variable i))
-grows-evaluated fits file (layers.Junction j es) = grows-bind (grows-operand fits es.first) (λ x. grows-joined fits j x es.rest)
+grows-evaluated fits file (layers.LogicalOperator j es) = grows-bind (grows-operand fits es.first) (λ x. grows-joined fits j x es.rest)
 grows-evaluated fits file (layers.Not condition) = grows-of_one fits condition (λ a. layers.Not a)
 grows-evaluated fits file (layers.Compare operator left right) = grows-of_two fits left right (λ a b. layers.Compare operator a b)
 grows-evaluated fits file (layers.IsNull negated value) = grows-of_one fits value (λ a. layers.IsNull negated a)
@@ -125,7 +125,7 @@ grows-evaluated fits file (layers.Between negated value low high) = grows-of_thr
 grows-evaluated fits file (layers.In negated value list) = grows-among fits negated value list
 grows-evaluated fits file (layers.Like negated value pattern None) = grows-of_two fits value pattern (λ a b. layers.Like negated a b None)
 grows-evaluated fits file (layers.Like negated value pattern (Some escape)) = grows-of_three fits value pattern escape (λ a b c. layers.Like negated a b (Some c))
-grows-evaluated fits file (layers.Chain first links) = grows-bind (grows-operand fits first) (λ x. grows-linked fits x links)
+grows-evaluated fits file (layers.OperatorChain first chain_links) = grows-bind (grows-operand fits first) (λ x. grows-linked fits x chain_links)
 grows-evaluated fits file (layers.Negated e) = grows-of_one fits e (λ a. layers.Negated a)
 grows-evaluated fits file (layers.Call f arguments) = grows-bind (grows-values fits arguments) (λ args. grows-called fits file f args)
 grows-evaluated fits file (layers.Scalar query) = grows-pure (search (pure, pure-answer_of, pure-scalar))

@@ -1,4 +1,4 @@
--- Evaluations that rest on no meaning of expressions and statements: they are the same under every one, want no height and use no
+-- Evaluations that rest on no meaning of expressions and statements: they are the same under every one, want no fuel and use no
 -- turn.
 use Rattle.std.proofs.Common.{◌≡◌, ℕ, Bool, true, false, Option, Some, None, Result, Ok, Err, refl, subst, ◌∙◌, if◌then◌else◌}
 use Rattle.psm_value.specs.declared.datum.Datum.{Datum}
@@ -9,13 +9,13 @@ use Rattle.psm_cond.specs.Condition.{Entries}
 use Rattle.psm_table.specs.Cursors.{Cursor}
 use Rattle.psm_table.specs.Table.{Contents}
 use Rattle.psm_meaning.specs.State.{State, cleared, with_cursor, with_rows, with_variable}
-use Rattle.psm_meaning.specs.Acts.{Stop, NoTurns, NoHeight, Lacking, Given, Got, Raises, Ends, Meaning, Act, got, raises, ends, go_on, ◌>>=◌, read, change, present, tried, as_value, as_truth, variable}
+use Rattle.psm_meaning.specs.Acts.{Stop, NoTurns, OutOfFuel, Stuck, Given, Got, Raises, Ends, Meaning, Act, got, raises, ends, go_on, ◌>>=◌, read, change, present, tried, as_value, as_truth, variable}
 
--- ends that aren't for want of height
+-- ends that aren't out of fuel
 abbrev pub IsHigh : Stop → Type 0
 IsHigh NoTurns = Unit {0}
-IsHigh NoHeight = ⊥
-IsHigh Lacking = Unit {0}
+IsHigh OutOfFuel = ⊥
+IsHigh Stuck = Unit {0}
 
 abbrev pub High : {A : Type 0} → Given A → Type 0
 High (Got a) = Unit {0}
@@ -55,8 +55,8 @@ pure-got a = record { same = λ m n st. refl; high = λ m st. tt; turns = λ m s
 pub pure-raises : {A : Type 0} (c : Entries) → Pure (raises {A = A} c)
 pure-raises c = record { same = λ m n st. refl; high = λ m st. tt; turns = λ m st. refl }
 
-pub pure-lacking : {A : Type 0} → Pure (ends {A = A} Lacking)
-pure-lacking = record { same = λ m n st. refl; high = λ m st. tt; turns = λ m st. refl }
+pub pure-stuck : {A : Type 0} → Pure (ends {A = A} Stuck)
+pure-stuck = record { same = λ m n st. refl; high = λ m st. tt; turns = λ m st. refl }
 
 pub pure-read : {A : Type 0} (f : State → A) → Pure (read f)
 pure-read f = record { same = λ m n st. refl; high = λ m st. tt; turns = λ m st. refl }
@@ -77,7 +77,7 @@ pub pure-with_rows : (table : ℕ) (c : Contents) (count : ℕ) → Pure (change
 pure-with_rows table c count = pure-change (with_rows table c count) (λ st. refl)
 
 pub pure-present : {A : Type 0} (a : Option A) → Pure (present a)
-pure-present None = pure-lacking
+pure-present None = pure-stuck
 pure-present (Some a) = pure-got a
 
 pub pure-tried : {A : Type 0} (r : Result A SqlState) → Pure (tried r)
@@ -91,13 +91,13 @@ pure-if false h k = k
 
 pub pure-as_value : (x : Operand) → Pure (as_value x)
 pure-as_value (Value d) = pure-got d
-pure-as_value (Truth t) = pure-lacking
+pure-as_value (Truth t) = pure-stuck
 
 pub pure-as_truth : (x : Operand) → Pure (as_truth x)
-pure-as_truth (Value d) = pure-lacking
+pure-as_truth (Value d) = pure-stuck
 pure-as_truth (Truth t) = pure-got t
 
-pub ruleset pure = (pure-bind, pure-got, pure-raises, pure-lacking, pure-read, pure-cleared, pure-with_variable, pure-with_cursor, pure-with_rows, pure-present, pure-tried, pure-if, pure-as_value, pure-as_truth)
+pub ruleset pure = (pure-bind, pure-got, pure-raises, pure-stuck, pure-read, pure-cleared, pure-with_variable, pure-with_cursor, pure-with_rows, pure-present, pure-tried, pure-if, pure-as_value, pure-as_truth)
 
 pub pure-variable : (slot : ℕ) → Pure (variable slot)
 pure-variable slot = search pure

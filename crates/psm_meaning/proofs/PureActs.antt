@@ -32,7 +32,7 @@ use Rattle.psm_resolved.specs.declared.statement.ResolvedNumber.TheVariants.{Con
 use Rattle.psm_resolved.specs.declared.statement.ResolvedSet.{ResolvedSet}
 use Rattle.psm_resolved.specs.declared.statement.ResolvedWhere.{ResolvedWhere}
 use Rattle.psm_resolved.specs.declared.statement.ResolvedWhere.TheVariants.{All, Test, Current}
-use Rattle.psm_meaning.specs.State.{Place}
+use Rattle.psm_meaning.specs.State.{EvalContext}
 use Rattle.psm_meaning.specs.Rows.{table_now, answer_of}
 use Rattle.psm_meaning.specs.Calls.{passed, entered, bounded, result_of}
 use Rattle.psm_meaning.specs.Values.{Layer, came, worked, scaled, scalar}
@@ -42,7 +42,7 @@ use Rattle.psm_meaning.specs.Cursors.{cursor_now, open_as, opened, «open», let
 use Rattle.psm_meaning.specs.Data.{unless_failed, some_row, some_rows, put_in, update_rows, delete_rows, standing_on, row_of_cursor, leave_row, update_at, delete_at, update, delete}
 use Rattle.psm_meaning.specs.Flow.{kept, row_of_for}
 use Rattle.psm_meaning.specs.Session.{call_lines, inserted, answer_lines, selected}
-use Rattle.psm_meaning.proofs.Pure.{Pure, pure-bind, pure-got, pure-raises, pure-lacking, pure-variable, pure}
+use Rattle.psm_meaning.proofs.Pure.{Pure, pure-bind, pure-got, pure-raises, pure-stuck, pure-variable, pure}
 
 -- ---- queries
 
@@ -94,34 +94,34 @@ pure-scalar (r ∷ s ∷ rs) = search pure
 
 -- ---- assignments
 
-pub pure-assign : (place : Place) (slot : ℕ) (d : Datum) → Pure (assign place slot d)
-pure-assign place slot d = search pure
+pub pure-assign : (eval_context : EvalContext) (slot : ℕ) (d : Datum) → Pure (assign eval_context slot d)
+pure-assign eval_context slot d = search pure
 
-pub pure-assign_each : (place : Place) (slots : List ℕ) (d : Datum) → Pure (assign_each place slots d)
-pure-assign_each place [] d = search pure
-pure-assign_each place (slot ∷ slots) d = pure-bind (pure-assign place slot d) (λ u. pure-assign_each place slots d)
+pub pure-assign_each : (eval_context : EvalContext) (slots : List ℕ) (d : Datum) → Pure (assign_each eval_context slots d)
+pure-assign_each eval_context [] d = search pure
+pure-assign_each eval_context (slot ∷ slots) d = pure-bind (pure-assign eval_context slot d) (λ u. pure-assign_each eval_context slots d)
 
-pub pure-assign_all : (place : Place) (slots : List ℕ) (ds : List Datum) → Pure (assign_all place slots ds)
-pure-assign_all place [] [] = search pure
-pure-assign_all place [] (d ∷ ds) = search pure
-pure-assign_all place (slot ∷ slots) [] = search pure
-pure-assign_all place (slot ∷ slots) (d ∷ ds) = pure-bind (pure-assign place slot d) (λ u. pure-assign_all place slots ds)
+pub pure-assign_all : (eval_context : EvalContext) (slots : List ℕ) (ds : List Datum) → Pure (assign_all eval_context slots ds)
+pure-assign_all eval_context [] [] = search pure
+pure-assign_all eval_context [] (d ∷ ds) = search pure
+pure-assign_all eval_context (slot ∷ slots) [] = search pure
+pure-assign_all eval_context (slot ∷ slots) (d ∷ ds) = pure-bind (pure-assign eval_context slot d) (λ u. pure-assign_all eval_context slots ds)
 
-pure-retrieve : (place : Place) (slot : ℕ) (d : Datum) → Pure (retrieve place slot d)
-pure-retrieve place slot d = search pure
+pure-retrieve : (eval_context : EvalContext) (slot : ℕ) (d : Datum) → Pure (retrieve eval_context slot d)
+pure-retrieve eval_context slot d = search pure
 
-pure-retrieve_all : (place : Place) (slots : List ℕ) (ds : List Datum) → Pure (retrieve_all place slots ds)
-pure-retrieve_all place [] [] = search pure
-pure-retrieve_all place [] (d ∷ ds) = search pure
-pure-retrieve_all place (slot ∷ slots) [] = search pure
-pure-retrieve_all place (slot ∷ slots) (d ∷ ds) = pure-bind (pure-retrieve place slot d) (λ lost. pure-bind (pure-retrieve_all place slots ds) (λ more. pure-got _))
+pure-retrieve_all : (eval_context : EvalContext) (slots : List ℕ) (ds : List Datum) → Pure (retrieve_all eval_context slots ds)
+pure-retrieve_all eval_context [] [] = search pure
+pure-retrieve_all eval_context [] (d ∷ ds) = search pure
+pure-retrieve_all eval_context (slot ∷ slots) [] = search pure
+pure-retrieve_all eval_context (slot ∷ slots) (d ∷ ds) = pure-bind (pure-retrieve eval_context slot d) (λ lost. pure-bind (pure-retrieve_all eval_context slots ds) (λ more. pure-got _))
 
-pub pure-given_back : (place : Place) (args : List ResolvedArgument) (ds : List Datum) → Pure (given_back place args ds)
-pure-given_back place [] ds = search pure
-pure-given_back place (a ∷ args) [] = search pure
-pure-given_back place (In e ∷ args) (d ∷ ds) = pure-given_back place args ds
-pure-given_back place (Out slot ∷ args) (d ∷ ds) = pure-bind (pure-assign place slot d) (λ u. pure-given_back place args ds)
-pure-given_back place (InOut slot ∷ args) (d ∷ ds) = pure-bind (pure-assign place slot d) (λ u. pure-given_back place args ds)
+pub pure-given_back : (eval_context : EvalContext) (args : List ResolvedArgument) (ds : List Datum) → Pure (given_back eval_context args ds)
+pure-given_back eval_context [] ds = search pure
+pure-given_back eval_context (a ∷ args) [] = search pure
+pure-given_back eval_context (In e ∷ args) (d ∷ ds) = pure-given_back eval_context args ds
+pure-given_back eval_context (Out slot ∷ args) (d ∷ ds) = pure-bind (pure-assign eval_context slot d) (λ u. pure-given_back eval_context args ds)
+pure-given_back eval_context (InOut slot ∷ args) (d ∷ ds) = pure-bind (pure-assign eval_context slot d) (λ u. pure-given_back eval_context args ds)
 
 pub pure-ended_well : (d : Option Datum) → Pure (ended_well d)
 pure-ended_well None = search pure
@@ -129,9 +129,9 @@ pure-ended_well (Some d) = search pure
 
 -- ---- SIGNAL, RESIGNAL and GET DIAGNOSTICS
 
-pub pure-entry_for : (place : Place) (c : ResolvedCondition) → Pure (entry_for place c)
-pure-entry_for place (State s) = search pure
-pure-entry_for place (Own k) = search pure
+pub pure-entry_for : (eval_context : EvalContext) (c : ResolvedCondition) → Pure (entry_for eval_context c)
+pure-entry_for eval_context (State s) = search pure
+pure-entry_for eval_context (Own k) = search pure
 
 pub pure-message_text : (d : Datum) → Pure (message_text d)
 pure-message_text Null = search pure
@@ -142,9 +142,9 @@ pub pure-activating : (areas : List Diagnostics) → Pure (activating areas)
 pure-activating [] = search pure
 pure-activating (a ∷ areas) = search pure
 
-pure-assign_items : {I : Type 0} (place : Place) (item : I → Datum) (items : List (ℕ × I)) → Pure (assign_items place item items)
-pure-assign_items place item [] = search pure
-pure-assign_items place item (i ∷ items) = pure-bind (pure-assign place _ _) (λ u. pure-assign_items place item items)
+pure-assign_items : {I : Type 0} (eval_context : EvalContext) (item : I → Datum) (items : List (ℕ × I)) → Pure (assign_items eval_context item items)
+pure-assign_items eval_context item [] = search pure
+pure-assign_items eval_context item (i ∷ items) = pure-bind (pure-assign eval_context _ _) (λ u. pure-assign_items eval_context item items)
 
 pure-numbered : (e : Option (ℕ × Entry)) → Pure (numbered e)
 pure-numbered None = search pure
@@ -154,9 +154,9 @@ pure-number_given : (number : ResolvedNumber) → Pure (number_given number)
 pure-number_given (Constant k) = search pure
 pure-number_given (Variable slot) = pure-variable slot
 
-pub pure-get_diagnostics : (place : Place) (d : ResolvedDiagnostics) → Pure (get_diagnostics place d)
-pure-get_diagnostics place (Statement items) = search (pure, pure-assign_items)
-pure-get_diagnostics place (Condition number items) = search (pure, pure-assign_items, pure-numbered, pure-number_given)
+pub pure-get_diagnostics : (eval_context : EvalContext) (d : ResolvedDiagnostics) → Pure (get_diagnostics eval_context d)
+pure-get_diagnostics eval_context (Statement items) = search (pure, pure-assign_items)
+pure-get_diagnostics eval_context (Condition number items) = search (pure, pure-assign_items, pure-numbered, pure-number_given)
 
 -- ---- cursors
 
@@ -175,16 +175,16 @@ pure-opened x Closed = pure-open_cursor x
 pure-opened x (Plain p vars) = search pure
 pure-opened x (Insensitive rows) = search pure
 
-pub pure-open : (place : Place) (number : ℕ) → Pure («open» place number)
-pure-open place number = search (pure, pure-cursor_now, pure-opened)
+pub pure-open : (eval_context : EvalContext) (number : ℕ) → Pure («open» eval_context number)
+pure-open eval_context number = search (pure, pure-cursor_now, pure-opened)
 
 pure-let_go : (x : ResolvedCursor) (c : Cursor) → Pure (let_go x c)
 pure-let_go x Closed = search pure
 pure-let_go x (Plain p vars) = search pure
 pure-let_go x (Insensitive rows) = search pure
 
-pub pure-close : (place : Place) (number : ℕ) → Pure (close place number)
-pure-close place number = search (pure, pure-cursor_now, pure-let_go)
+pub pure-close : (eval_context : EvalContext) (number : ℕ) → Pure (close eval_context number)
+pure-close eval_context number = search (pure, pure-cursor_now, pure-let_go)
 
 pure-items_on : (items : Items ResolvedExpr) (vars row : List Datum) → Pure (items_on items vars row)
 pure-items_on (Rows es) vars row = search pure
@@ -208,20 +208,20 @@ pure-warned true b = search pure
 pure-warned false true = search pure
 pure-warned false false = search pure
 
-pure-fetched_into : (place : Place) (slots : List ℕ) (row : Option (List Datum)) → Pure (fetched_into place slots row)
-pure-fetched_into place slots None = search pure
-pure-fetched_into place slots (Some ds) = search (pure, pure-retrieve_all, pure-warned)
+pure-fetched_into : (eval_context : EvalContext) (slots : List ℕ) (row : Option (List Datum)) → Pure (fetched_into eval_context slots row)
+pure-fetched_into eval_context slots None = search pure
+pure-fetched_into eval_context slots (Some ds) = search (pure, pure-retrieve_all, pure-warned)
 
-pub pure-fetch : (place : Place) (number : ℕ) (slots : List ℕ) → Pure (fetch place number slots)
-pure-fetch place number slots = search (pure, pure-next, pure-fetched_into)
+pub pure-fetch : (eval_context : EvalContext) (number : ℕ) (slots : List ℕ) → Pure (fetch eval_context number slots)
+pure-fetch eval_context number slots = search (pure, pure-next, pure-fetched_into)
 
 pure-only_row : (rows : List (List Datum)) → Pure (only_row rows)
 pure-only_row [] = search pure
 pure-only_row (r ∷ []) = search pure
 pure-only_row (r ∷ s ∷ rows) = search pure
 
-pub pure-select_into : (place : Place) (query : ResolvedQuery) (slots : List ℕ) → Pure (select_into place query slots)
-pure-select_into place query slots = search (pure, pure-answer_of, pure-only_row, pure-retrieve_all, pure-warned) depth 7
+pub pure-select_into : (eval_context : EvalContext) (query : ResolvedQuery) (slots : List ℕ) → Pure (select_into eval_context query slots)
+pure-select_into eval_context query slots = search (pure, pure-answer_of, pure-only_row, pure-retrieve_all, pure-warned) depth 7
 
 -- ---- data
 
@@ -260,36 +260,36 @@ pure-leave_row : (b : Bool) (x : ResolvedCursor) (c : Cursor) → Pure (leave_ro
 pure-leave_row true x c = search pure
 pure-leave_row false x c = search pure
 
-pure-update_at : (file : ResolvedFile) (place : Place) (table : ℕ) (sets : List ResolvedSet) (cursor : ℕ) → Pure (update_at file place table sets cursor)
-pure-update_at file place table sets cursor = search (pure, pure-table_now, pure-cursor_now, pure-found, pure-unless_failed, pure-leave_row) depth 12
+pure-update_at : (file : ResolvedFile) (eval_context : EvalContext) (table : ℕ) (sets : List ResolvedSet) (cursor : ℕ) → Pure (update_at file eval_context table sets cursor)
+pure-update_at file eval_context table sets cursor = search (pure, pure-table_now, pure-cursor_now, pure-found, pure-unless_failed, pure-leave_row) depth 12
 
-pure-delete_at : (file : ResolvedFile) (place : Place) (table cursor : ℕ) → Pure (delete_at file place table cursor)
-pure-delete_at file place table cursor = search (pure, pure-table_now, pure-cursor_now, pure-found) depth 9
+pure-delete_at : (file : ResolvedFile) (eval_context : EvalContext) (table cursor : ℕ) → Pure (delete_at file eval_context table cursor)
+pure-delete_at file eval_context table cursor = search (pure, pure-table_now, pure-cursor_now, pure-found) depth 9
 
-pub pure-update : (file : ResolvedFile) (place : Place) (table : ℕ) (sets : List ResolvedSet) (which : ResolvedWhere) → Pure (update file place table sets which)
-pure-update file place table sets All = search (pure, pure-update_rows)
-pure-update file place table sets (Test e) = search (pure, pure-update_rows)
-pure-update file place table sets (Current cursor) = search (pure, pure-update_at)
+pub pure-update : (file : ResolvedFile) (eval_context : EvalContext) (table : ℕ) (sets : List ResolvedSet) (which : ResolvedWhere) → Pure (update file eval_context table sets which)
+pure-update file eval_context table sets All = search (pure, pure-update_rows)
+pure-update file eval_context table sets (Test e) = search (pure, pure-update_rows)
+pure-update file eval_context table sets (Current cursor) = search (pure, pure-update_at)
 
-pub pure-delete : (file : ResolvedFile) (place : Place) (table : ℕ) (which : ResolvedWhere) → Pure (delete file place table which)
-pure-delete file place table All = search (pure, pure-delete_rows)
-pure-delete file place table (Test e) = search (pure, pure-delete_rows)
-pure-delete file place table (Current cursor) = search (pure, pure-delete_at)
+pub pure-delete : (file : ResolvedFile) (eval_context : EvalContext) (table : ℕ) (which : ResolvedWhere) → Pure (delete file eval_context table which)
+pure-delete file eval_context table All = search (pure, pure-delete_rows)
+pure-delete file eval_context table (Test e) = search (pure, pure-delete_rows)
+pure-delete file eval_context table (Current cursor) = search (pure, pure-delete_at)
 
 -- ---- FOR
 
-pure-kept : (place : Place) (slots : List ℕ) (row : Option (List Datum)) → Pure (kept place slots row)
-pure-kept place slots None = pure-got None
-pure-kept place slots (Some ds) = pure-bind (pure-assign_all place slots ds) (λ u. pure-got (Some ds))
+pure-kept : (eval_context : EvalContext) (slots : List ℕ) (row : Option (List Datum)) → Pure (kept eval_context slots row)
+pure-kept eval_context slots None = pure-got None
+pure-kept eval_context slots (Some ds) = pure-bind (pure-assign_all eval_context slots ds) (λ u. pure-got (Some ds))
 
-pub pure-row_of_for : (place : Place) (head : ResolvedFor) → Pure (row_of_for place head)
-pure-row_of_for place head = pure-bind (pure-next head.cursor) (λ row. pure-kept place head.slots row)
+pub pure-row_of_for : (eval_context : EvalContext) (head : ResolvedFor) → Pure (row_of_for eval_context head)
+pure-row_of_for eval_context head = pure-bind (pure-next head.cursor) (λ row. pure-kept eval_context head.slots row)
 
 -- ---- commands of scripts
 
 pub pure-call_lines : (r : ResolvedRoutine) (d : Option Datum) (vars : List Datum) → Pure (call_lines r d vars)
 pure-call_lines r None vars = pure-got _
-pure-call_lines r (Some d) vars = pure-lacking
+pure-call_lines r (Some d) vars = pure-stuck
 
 pub pure-inserted : (file : ResolvedFile) (table : ℕ) (columns : List ℕ) (rows : List (List Datum)) → Pure (inserted file table columns rows)
 pure-inserted file table columns rows = pure-bind (pure-put_in file table columns rows) (λ u. pure-got _)

@@ -4,10 +4,10 @@ use Rattle.std.proofs.lemmas.List.Elements.{All-nil, All-head, All-tail, All-con
 use Rattle.psm_resolved.specs.declared.expr.ResolvedExpr.{ResolvedExpr, out-ResolvedExpr}
 use Rattle.psm_resolved.specs.declared.expr.ResolvedExpr.TheOpen.{ResolvedExpr-F}
 use Rattle.psm_resolved.specs.declared.expr.ResolvedExpr.TheOpen as exprs
-use Rattle.psm_resolved.specs.declared.expr.ResolvedExpr.TheFolds.{map-ResolvedExpr, fold-ResolvedItems, fold-ResolvedItem, fold-ResolvedLink, fold-ResolvedWhen, fold_out-ResolvedExpr, fold_out-ResolvedLink, fold_out-ResolvedWhen}
+use Rattle.psm_resolved.specs.declared.expr.ResolvedExpr.TheFolds.{map-ResolvedExpr, fold-ResolvedItems, fold-ResolvedItem, fold-ResolvedOperation, fold-ResolvedWhen, fold_out-ResolvedExpr, fold_out-ResolvedOperation, fold_out-ResolvedWhen}
 use Rattle.psm_resolved.specs.declared.expr.ResolvedItems.{ResolvedItems}
 use Rattle.psm_resolved.specs.declared.expr.ResolvedItem.{ResolvedItem}
-use Rattle.psm_resolved.specs.declared.expr.ResolvedLink.{ResolvedLink, out-ResolvedLink}
+use Rattle.psm_resolved.specs.declared.expr.ResolvedOperation.{ResolvedOperation, out-ResolvedOperation}
 use Rattle.psm_resolved.specs.declared.expr.ResolvedQuery.{ResolvedQuery}
 use Rattle.psm_resolved.specs.declared.expr.ResolvedWhen.{ResolvedWhen, out-ResolvedWhen}
 use Rattle.psm_resolved.specs.declared.file.ResolvedFile.{ResolvedFile}
@@ -20,34 +20,34 @@ use Rattle.psm_resolved.specs.declared.statement.ResolvedStatement.TheOpen.{Reso
 use Rattle.psm_resolved.specs.declared.statement.ResolvedStatement.TheOpen as statements
 use Rattle.psm_resolved.specs.declared.statement.ResolvedStatement.TheFolds.{map-ResolvedStatement, fold-ResolvedBlock, fold-ResolvedBranch, fold-ResolvedHandler, fold_out-ResolvedStatement, fold_out-ResolvedBlock, fold_out-ResolvedBranch, fold_out-ResolvedHandler}
 use Rattle.psm_meaning.specs.Acts.{Task, Do, Round}
-use Rattle.psm_meaning.specs.Heights.{total, expr_layer, items_layer, item_layer, link_layer, query_layer, when_layer, expr_size, query_size, declaration_size, cursor_size, for_size, statement_layer, block_layer, branch_layer, handler_layer, statement_size, routine_size, file_size}
+use Rattle.psm_meaning.specs.Fuel.{total, expr_layer, items_layer, item_layer, chain_link_layer, query_layer, when_layer, expr_size, query_size, declaration_size, cursor_size, for_size, statement_layer, block_layer, branch_layer, handler_layer, statement_size, routine_size, file_size}
 
 -- ---- expressions
 
 abbrev pub items_size : ResolvedItems → ℕ
-items_size = fold-ResolvedItems ℕ ℕ ℕ ℕ ℕ ℕ expr_layer items_layer item_layer link_layer query_layer when_layer
+items_size = fold-ResolvedItems ℕ ℕ ℕ ℕ ℕ ℕ expr_layer items_layer item_layer chain_link_layer query_layer when_layer
 
 abbrev pub item_size : ResolvedItem → ℕ
-item_size = fold-ResolvedItem ℕ ℕ ℕ ℕ ℕ ℕ expr_layer items_layer item_layer link_layer query_layer when_layer
+item_size = fold-ResolvedItem ℕ ℕ ℕ ℕ ℕ ℕ expr_layer items_layer item_layer chain_link_layer query_layer when_layer
 
-abbrev pub link_size : ResolvedLink → ℕ
-link_size = fold-ResolvedLink ℕ ℕ ℕ ℕ ℕ ℕ expr_layer items_layer item_layer link_layer query_layer when_layer
+abbrev pub chain_link_size : ResolvedOperation → ℕ
+chain_link_size = fold-ResolvedOperation ℕ ℕ ℕ ℕ ℕ ℕ expr_layer items_layer item_layer chain_link_layer query_layer when_layer
 
 abbrev pub when_size : ResolvedWhen → ℕ
-when_size = fold-ResolvedWhen ℕ ℕ ℕ ℕ ℕ ℕ expr_layer items_layer item_layer link_layer query_layer when_layer
+when_size = fold-ResolvedWhen ℕ ℕ ℕ ℕ ℕ ℕ expr_layer items_layer item_layer chain_link_layer query_layer when_layer
 
 -- the size of an expression whose layer it is
-abbrev pub size_of : ResolvedExpr-F ResolvedExpr ResolvedItems ResolvedItem ResolvedLink ResolvedQuery ResolvedWhen → ℕ
-size_of layer = expr_layer (map-ResolvedExpr ResolvedExpr ResolvedItems ResolvedItem ResolvedLink ResolvedQuery ResolvedWhen ℕ ℕ ℕ ℕ ℕ ℕ expr_size items_size item_size link_size query_size when_size layer)
+abbrev pub size_of : ResolvedExpr-F ResolvedExpr ResolvedItems ResolvedItem ResolvedOperation ResolvedQuery ResolvedWhen → ℕ
+size_of layer = expr_layer (map-ResolvedExpr ResolvedExpr ResolvedItems ResolvedItem ResolvedOperation ResolvedQuery ResolvedWhen ℕ ℕ ℕ ℕ ℕ ℕ expr_size items_size item_size chain_link_size query_size when_size layer)
 
 pub expr_size-out : (e : ResolvedExpr) → expr_size e ≡ size_of (out-ResolvedExpr e)
-expr_size-out e = fold_out-ResolvedExpr ℕ ℕ ℕ ℕ ℕ ℕ expr_layer items_layer item_layer link_layer query_layer when_layer e
+expr_size-out e = fold_out-ResolvedExpr ℕ ℕ ℕ ℕ ℕ ℕ expr_layer items_layer item_layer chain_link_layer query_layer when_layer e
 
-pub link_size-out : (l : ResolvedLink) → link_size l ≡ expr_size (out-ResolvedLink l).operand + 1
-link_size-out l = fold_out-ResolvedLink ℕ ℕ ℕ ℕ ℕ ℕ expr_layer items_layer item_layer link_layer query_layer when_layer l
+pub chain_link_size-out : (l : ResolvedOperation) → chain_link_size l ≡ expr_size (out-ResolvedOperation l).operand + 1
+chain_link_size-out l = fold_out-ResolvedOperation ℕ ℕ ℕ ℕ ℕ ℕ expr_layer items_layer item_layer chain_link_layer query_layer when_layer l
 
 pub when_size-out : (w : ResolvedWhen) → when_size w ≡ expr_size (out-ResolvedWhen w).test + expr_size (out-ResolvedWhen w).result + 1
-when_size-out w = fold_out-ResolvedWhen ℕ ℕ ℕ ℕ ℕ ℕ expr_layer items_layer item_layer link_layer query_layer when_layer w
+when_size-out w = fold_out-ResolvedWhen ℕ ℕ ℕ ℕ ℕ ℕ expr_layer items_layer item_layer chain_link_layer query_layer when_layer w
 
 -- ---- statements
 
@@ -86,20 +86,20 @@ task_size (Round level head ss) = for_size head + statements_size ss
 
 -- ---- no tree is empty
 
-layer-pos : (layer : ResolvedExpr-F ResolvedExpr ResolvedItems ResolvedItem ResolvedLink ResolvedQuery ResolvedWhen) → 1 ≤ size_of layer
+layer-pos : (layer : ResolvedExpr-F ResolvedExpr ResolvedItems ResolvedItem ResolvedOperation ResolvedQuery ResolvedWhen) → 1 ≤ size_of layer
 layer-pos exprs.Null = omega arith
 layer-pos (exprs.Number n) = omega arith
 layer-pos (exprs.Text t) = omega arith
 layer-pos (exprs.Column i) = omega arith
 layer-pos (exprs.Variable i) = omega arith
-layer-pos (exprs.Junction j operands) = omega arith
+layer-pos (exprs.LogicalOperator j operands) = omega arith
 layer-pos (exprs.Not condition) = omega arith
 layer-pos (exprs.Compare operator left right) = omega arith
 layer-pos (exprs.IsNull negated value) = omega arith
 layer-pos (exprs.Between negated value low high) = omega arith
 layer-pos (exprs.In negated value list) = omega arith
 layer-pos (exprs.Like negated value pattern escape) = omega arith
-layer-pos (exprs.Chain first links) = omega arith
+layer-pos (exprs.OperatorChain first chain_links) = omega arith
 layer-pos (exprs.Negated e) = omega arith
 layer-pos (exprs.Call function arguments) = omega arith
 layer-pos (exprs.Scalar query) = omega arith

@@ -1,4 +1,4 @@
--- How an evaluation and how a statement ends, and how one goes on behind another.
+-- How an evaluation and how a statement ends, and how one goes on after another.
 use Rattle.std.specs.Prelude.{ℕ, zero, suc, List, [], ◌∷◌, slice_get, Option, Some, None, Result, Ok, Err}
 use Rattle.psm_sqlstate.specs.declared.state.SqlState.{SqlState}
 use Rattle.psm_value.specs.declared.datum.Datum.{Datum}
@@ -11,14 +11,14 @@ use Rattle.psm_resolved.specs.declared.expr.ResolvedExpr.{ResolvedExpr}
 use Rattle.psm_resolved.specs.declared.statement.ResolvedFor.{ResolvedFor}
 use Rattle.psm_resolved.specs.declared.statement.ResolvedHandler.{ResolvedHandler}
 use Rattle.psm_resolved.specs.declared.statement.ResolvedStatement.{ResolvedStatement}
-use Rattle.psm_meaning.specs.State.{State, Place}
+use Rattle.psm_meaning.specs.State.{State, EvalContext}
 
 -- ---- ends
 
--- why a run ends where it stands: a turn is due and none is left; or, which an accepted file never comes to, something that a
--- tree names isn't there. NoHeight stands for nothing in the standard: the meaning was taken to too small a height
+-- why a run ends where it stands: a turn is due and none is left; or, which an accepted file never ends in, something that a
+-- tree names isn't there. OutOfFuel stands for nothing in the standard: the meaning was taken with too little fuel
 pub data Stop : Type 0 where
-  NoTurns NoHeight Lacking : Stop
+  NoTurns OutOfFuel Stuck : Stop
 
 -- what an evaluation gives: something, or a condition that is to be raised at the statement
 pub data Given (A : Type 0) : Type 0 where
@@ -52,7 +52,7 @@ pub data Task : Type 0 where
 -- what parts mean: expressions outside of rows, and statements
 pub record Meaning : Type 0 where
   pub value : ResolvedExpr → State → Evaluated Operand
-  pub done : Task → Place → State → Done
+  pub done : Task → EvalContext → State → Done
 
 -- ---- evaluations, where it is known what parts mean
 
@@ -73,7 +73,7 @@ go_on (Got a) go m st = go a m st
 go_on (Raises c) go m st = raises c m st
 go_on (Ends stop) go m st = ends stop m st
 
--- one behind the other, unless there is a condition or the run ends
+-- one after the other, unless there is a condition or the run ends
 abbrev pub ◌>>=◌ : {A B : Type 0} → Act A → (A → Act B) → Act B
 ◌>>=◌ act go m st = let r = act m st in go_on r.given go m r.state
 
@@ -90,7 +90,7 @@ change f m st = record { given = Got tt; state = f st }
 
 -- what is there
 abbrev pub present : {A : Type 0} → Option A → Act A
-present None = ends Lacking
+present None = ends Stuck
 present (Some a) = got a
 
 -- the condition of an SQLSTATE alone
@@ -116,10 +116,10 @@ operand e m st = m.value e st
 
 abbrev pub as_value : Operand → Act Datum
 as_value (Value d) = got d
-as_value (Truth t) = ends Lacking
+as_value (Truth t) = ends Stuck
 
 abbrev pub as_truth : Operand → Act truth.Truth
-as_truth (Value d) = ends Lacking
+as_truth (Value d) = ends Stuck
 as_truth (Truth t) = got t
 
 abbrev pub value_of : ResolvedExpr → Act Datum
@@ -155,25 +155,25 @@ abbrev pub ends_as : Outcome → Deed
 ends_as o m st = record { outcome = o; state = st }
 
 -- what follows an outcome
-abbrev pub behind : Deed → (Outcome → Deed) → Deed
-behind deed go m st = let r = deed m st in go r.outcome m r.state
+abbrev pub following : Deed → (Outcome → Deed) → Deed
+following deed go m st = let r = deed m st in go r.outcome m r.state
 
--- behind a change of the state
+-- after a change of the state
 abbrev pub changing : (State → State) → Deed → Deed
 changing f deed m st = deed m (f st)
 
 -- a statement at a place
-abbrev pub part : Place → ResolvedStatement → Deed
-part place s m st = m.done (Do s) place st
+abbrev pub part : EvalContext → ResolvedStatement → Deed
+part eval_context s m st = m.done (Do s) eval_context st
 
 abbrev pub if_normal : Outcome → Deed → Deed
 if_normal Normal next = next
 if_normal o next = ends_as o
 
--- a list of statements: each behind one that ended normally
-abbrev pub all : Place → List ResolvedStatement → Deed
-all place [] = ends_as Normal
-all place (s ∷ ss) = behind (part place s) (λ o. if_normal o (all place ss))
+-- a list of statements: each after one that ended normally
+abbrev pub all : EvalContext → List ResolvedStatement → Deed
+all eval_context [] = ends_as Normal
+all eval_context (s ∷ ss) = following (part eval_context s) (λ o. if_normal o (all eval_context ss))
 
 -- a turn is used, and then it is done
 abbrev pub spending : ℕ → Deed → Deed

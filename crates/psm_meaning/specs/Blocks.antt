@@ -15,8 +15,8 @@ use Rattle.psm_resolved.specs.declared.statement.ResolvedDeclaration.{ResolvedDe
 use Rattle.psm_resolved.specs.declared.statement.ResolvedHandler.{ResolvedHandler, out-ResolvedHandler}
 use Rattle.psm_resolved.specs.declared.statement.ResolvedStatement.{ResolvedStatement}
 use Rattle.psm_resolved.specs.declared.statement.ResolvedStatement.TheOpen.{ResolvedBlock-F}
-use Rattle.psm_meaning.specs.State.{Place, in_scope, seeing, with_tables}
-use Rattle.psm_meaning.specs.Acts.{Outcome, Normal, Leave, Iterate, Return, Raised, Away, Stopped, Act, got, value_of, ◌>>=◌, ◌>>◌, Deed, all, behind, changing, ends_as}
+use Rattle.psm_meaning.specs.State.{EvalContext, in_scope, seeing, with_tables}
+use Rattle.psm_meaning.specs.Acts.{Outcome, Normal, Leave, Iterate, Return, Raised, Away, Stopped, Act, got, value_of, ◌>>=◌, ◌>>◌, Deed, all, following, changing, ends_as}
 use Rattle.psm_meaning.specs.Assigning.{assign_each}
 use Rattle.psm_meaning.specs.Cursors.{closed}
 use Rattle.psm_meaning.specs.Raising.{action, after}
@@ -28,17 +28,17 @@ abbrev pub default_of : Option ResolvedExpr → Act Datum
 default_of None = got Null
 default_of (Some e) = value_of e
 
-abbrev pub declared : Place → ResolvedDeclaration → Act (Unit {0})
-declared place x = do
+abbrev pub declared : EvalContext → ResolvedDeclaration → Act (Unit {0})
+declared eval_context x = do
   d ← default_of x.default
-  assign_each place x.slots d
+  assign_each eval_context x.slots d
 
 -- in order, so that a DEFAULT sees the variables before it
-abbrev pub all_declared : Place → List ResolvedDeclaration → Act (Unit {0})
-all_declared place [] = got tt
-all_declared place (x ∷ xs) = do
-  declared place x
-  all_declared place xs
+abbrev pub all_declared : EvalContext → List ResolvedDeclaration → Act (Unit {0})
+all_declared eval_context [] = got tt
+all_declared eval_context (x ∷ xs) = do
+  declared eval_context x
+  all_declared eval_context xs
 
 -- ---- handlers of the block that were chosen for EXIT or UNDO
 
@@ -48,18 +48,18 @@ undone Continue found run = run
 undone Exit found run = run
 undone Undo found run = changing (with_tables found) run
 
-abbrev pub taken_over : Place → List Contents → ResolvedHandler → Deed
-taken_over place found h = undone (out-ResolvedHandler h).kind found (action place h)
+abbrev pub taken_over : EvalContext → List Contents → ResolvedHandler → Deed
+taken_over eval_context found h = undone (out-ResolvedHandler h).kind found (action eval_context h)
 
 -- the action of a handler runs at the block that declares it, outside its scope
-abbrev pub arrived : ℕ → Place → List Contents → Outcome → Deed
-arrived level place found Normal = ends_as Normal
-arrived level place found (Leave l) = ends_as (Leave l)
-arrived level place found (Iterate l) = ends_as (Iterate l)
-arrived level place found (Return d) = ends_as (Return d)
-arrived level place found (Raised c) = ends_as (Raised c)
-arrived level place found (Away l h c) = if nat_eq l level then taken_over place found h else ends_as (Away l h c)
-arrived level place found (Stopped stop) = ends_as (Stopped stop)
+abbrev pub arrived : ℕ → EvalContext → List Contents → Outcome → Deed
+arrived level eval_context found Normal = ends_as Normal
+arrived level eval_context found (Leave l) = ends_as (Leave l)
+arrived level eval_context found (Iterate l) = ends_as (Iterate l)
+arrived level eval_context found (Return d) = ends_as (Return d)
+arrived level eval_context found (Raised c) = ends_as (Raised c)
+arrived level eval_context found (Away l h c) = if nat_eq l level then taken_over eval_context found h else ends_as (Away l h c)
+arrived level eval_context found (Stopped stop) = ends_as (Stopped stop)
 
 -- ---- the end of a block
 
@@ -97,17 +97,17 @@ abbrev pub Block : Type 0
 Block = ResolvedBlock-F ResolvedStatement ResolvedBlock ResolvedBranch ResolvedHandler
 
 -- its statement list, in which its handlers are in scope
-abbrev pub listed : ℕ → Block → Place → Deed
-listed level b place = all (in_scope level b.handlers b.cursors place) b.statements
+abbrev pub listed : ℕ → Block → EvalContext → Deed
+listed level b eval_context = all (in_scope level b.handlers b.cursors eval_context) b.statements
 
 -- its list, then the action of a handler of its own that was chosen there, and then its end
-abbrev pub entered : ℕ → Block → Place → List Contents → Deed
-entered level b place found = behind (behind (listed level b place) (arrived level (seeing b.cursors place) found)) (ended level b.atomic b.cursors found)
+abbrev pub entered : ℕ → Block → EvalContext → List Contents → Deed
+entered level b eval_context found = following (following (listed level b eval_context) (arrived level (seeing b.cursors eval_context) found)) (ended level b.atomic b.cursors found)
 
 -- the tables as they are now are those that the block finds
 abbrev pub finding : (List Contents → Deed) → Deed
 finding go m st = go st.tables m st
 
 -- a condition of a DEFAULT is raised at the whole statement, before its scope opens
-abbrev pub compound : ℕ → Block → Place → Deed
-compound level b place = after place (all_declared place b.declarations) (λ _. changing (closed b.cursors) (finding (entered level b place)))
+abbrev pub compound : ℕ → Block → EvalContext → Deed
+compound level b eval_context = after eval_context (all_declared eval_context b.declarations) (λ _. changing (closed b.cursors) (finding (entered level b eval_context)))

@@ -13,8 +13,8 @@ use Rattle.psm_resolved.specs.declared.file.ParameterMode.TheVariants.{In, Out, 
 use Rattle.psm_resolved.specs.declared.file.ResolvedFile.{ResolvedFile}
 use Rattle.psm_resolved.specs.declared.file.ResolvedParameter.{ResolvedParameter}
 use Rattle.psm_resolved.specs.declared.file.ResolvedRoutine.{ResolvedRoutine}
-use Rattle.psm_meaning.specs.State.{State, Place, cleared, returned_to}
-use Rattle.psm_meaning.specs.Acts.{Lacking, Outcome, Normal, Leave, Iterate, Return, Raised, Away, Stopped, Do, Act, got, raises, ends, change, read, present, of_state, tried, turn, ◌>>=◌, ◌>>◌}
+use Rattle.psm_meaning.specs.State.{State, EvalContext, cleared, returned_to}
+use Rattle.psm_meaning.specs.Acts.{Stuck, Outcome, Normal, Leave, Iterate, Return, Raised, Away, Stopped, Do, Act, got, raises, ends, change, read, present, of_state, tried, turn, ◌>>=◌, ◌>>◌}
 
 -- ---- routines by their numbers
 
@@ -34,8 +34,8 @@ procedure_at file n = slice_get (filter (λ r. not (returns r.returns)) file.rou
 -- what a parameter begins with, and the arguments that are left: an argument is stored in its type, and OUT begins null
 abbrev pub passed : ParameterMode → SqlType → List Datum → Act (Datum × List Datum)
 passed Out t args = got (Null, args)
-passed In t [] = ends Lacking
-passed InOut t [] = ends Lacking
+passed In t [] = ends Stuck
+passed InOut t [] = ends Stuck
 passed In t (a ∷ args) = do
   d ← tried (stored t a)
   got (d, args)
@@ -46,7 +46,7 @@ passed InOut t (a ∷ args) = do
 -- what all parameters begin with, from one argument for each IN and INOUT parameter in order
 abbrev pub entered : List ResolvedParameter → List Datum → Act (List Datum)
 entered [] [] = got []
-entered [] (a ∷ args) = ends Lacking
+entered [] (a ∷ args) = ends Stuck
 entered (p ∷ ps) args = do
   first ← passed p.mode p.kind args
   others ← entered ps first.1
@@ -73,8 +73,8 @@ abbrev pub begun : ResolvedRoutine → List Datum → State → State
 begun r parameters st = record st { depth = suc st.depth; variables = filled r.slots parameters; cursors = replicate r.cursors Closed }
 
 -- no handler of the caller is in scope in the routine, and none of its actions runs there
-abbrev pub body_place : ResolvedRoutine → Place
-body_place r = record { routine = r; cursors = []; scopes = []; acting = [] }
+abbrev pub body_eval_context : ResolvedRoutine → EvalContext
+body_eval_context r = record { routine = r; cursors = []; scopes = []; acting = [] }
 
 -- how a routine ended: with the value of its RETURN statement or without, and the variables that it had then
 pub record Ended : Type 0 where
@@ -91,12 +91,12 @@ ending (Return d) = do
   got (record { returned = Some d; variables = vars })
 ending (Raised c) = raises (by_state c)
 ending (Stopped stop) = ends stop
-ending (Leave level) = ends Lacking
-ending (Iterate level) = ends Lacking
-ending (Away level h c) = ends Lacking
+ending (Leave level) = ends Stuck
+ending (Iterate level) = ends Stuck
+ending (Away level h c) = ends Stuck
 
 abbrev pub run_body : ResolvedRoutine → List Datum → Act Ended
-run_body r parameters m st = let r = m.done (Do r.body) (body_place r) (begun r parameters st) in ending r.outcome m r.state
+run_body r parameters m st = let r = m.done (Do r.body) (body_eval_context r) (begun r parameters st) in ending r.outcome m r.state
 
 -- what is done in a routine: afterwards the caller's variables and cursors stand again
 abbrev pub apart : {A : Type 0} → Act A → Act A

@@ -9,15 +9,15 @@ use Rattle.psm_table.specs.Queries.{Items, Rows, Sets}
 use Rattle.psm_resolved.specs.declared.expr.ResolvedExpr.{ResolvedExpr}
 use Rattle.psm_resolved.specs.declared.expr.ResolvedQuery.{ResolvedQuery}
 use Rattle.psm_resolved.specs.declared.statement.ResolvedCursor.{ResolvedCursor}
-use Rattle.psm_meaning.specs.State.{State, Place, cleared, with_cursor}
-use Rattle.psm_meaning.specs.Acts.{Lacking, Act, got, raises, ends, change, read, present, of_state, tried, ◌>>=◌, ◌>>◌}
+use Rattle.psm_meaning.specs.State.{State, EvalContext, cleared, with_cursor}
+use Rattle.psm_meaning.specs.Acts.{Stuck, Act, got, raises, ends, change, read, present, of_state, tried, ◌>>=◌, ◌>>◌}
 use Rattle.psm_meaning.specs.Assigning.{retrieve_all}
 use Rattle.psm_meaning.specs.Rows.{answer_of, over, query_of, table_now}
 
 -- ---- cursors by their numbers
 
-abbrev pub declared_at : Place → ℕ → Act ResolvedCursor
-declared_at place number = present (find (λ x. nat_eq x.number number) place.cursors)
+abbrev pub declared_at : EvalContext → ℕ → Act ResolvedCursor
+declared_at eval_context number = present (find (λ x. nat_eq x.number number) eval_context.cursors)
 
 abbrev pub cursor_now : ℕ → Act Cursor
 cursor_now number = do
@@ -52,10 +52,10 @@ opened x Closed = open_cursor x
 opened x (Plain p vars) = wrong_state x
 opened x (Insensitive rows) = wrong_state x
 
-abbrev pub «open» : Place → ℕ → Act (Unit {0})
-«open» place number = do
+abbrev pub «open» : EvalContext → ℕ → Act (Unit {0})
+«open» eval_context number = do
   change cleared
-  x ← declared_at place number
+  x ← declared_at eval_context number
   c ← cursor_now number
   opened x c
 
@@ -64,10 +64,10 @@ let_go x Closed = wrong_state x
 let_go x (Plain p vars) = change (with_cursor x.number Closed)
 let_go x (Insensitive rows) = change (with_cursor x.number Closed)
 
-abbrev pub close : Place → ℕ → Act (Unit {0})
-close place number = do
+abbrev pub close : EvalContext → ℕ → Act (Unit {0})
+close eval_context number = do
   change cleared
-  x ← declared_at place number
+  x ← declared_at eval_context number
   c ← cursor_now number
   let_go x c
 
@@ -76,7 +76,7 @@ close place number = do
 -- the items of a row on which a cursor stands
 abbrev pub items_on : Items ResolvedExpr → List Datum → List Datum → Act (List Datum)
 items_on (Rows es) vars row = tried (values_of (over vars) es row)
-items_on (Sets sets) vars row = ends Lacking
+items_on (Sets sets) vars row = ends Stuck
 
 abbrev pub items_of_found : ResolvedQuery → List Datum → Option (List Datum) → Act (Option (List Datum))
 items_of_found query vars None = got None
@@ -108,18 +108,18 @@ warned true lost = raises (of_state (codes "01003"))
 warned false true = raises (of_state (codes "01004"))
 warned false false = got tt
 
-abbrev pub fetched_into : Place → List ℕ → Option (List Datum) → Act (Unit {0})
-fetched_into place slots None = raises (of_state (codes "02000"))
-fetched_into place slots (Some ds) = do
-  lost ← retrieve_all place slots ds
+abbrev pub fetched_into : EvalContext → List ℕ → Option (List Datum) → Act (Unit {0})
+fetched_into eval_context slots None = raises (of_state (codes "02000"))
+fetched_into eval_context slots (Some ds) = do
+  lost ← retrieve_all eval_context slots ds
   warned false lost
 
-abbrev pub fetch : Place → ℕ → List ℕ → Act (Unit {0})
-fetch place number slots = do
+abbrev pub fetch : EvalContext → ℕ → List ℕ → Act (Unit {0})
+fetch eval_context number slots = do
   change cleared
-  x ← declared_at place number
+  x ← declared_at eval_context number
   row ← next x
-  fetched_into place slots row
+  fetched_into eval_context slots row
 
 -- ---- SELECT INTO
 
@@ -128,10 +128,10 @@ only_row [] = raises (of_state (codes "02000"))
 only_row (r ∷ []) = got r
 only_row (r ∷ s ∷ rows) = raises (of_state (codes "21000"))
 
-abbrev pub select_into : Place → ResolvedQuery → List ℕ → Act (Unit {0})
-select_into place query slots = do
+abbrev pub select_into : EvalContext → ResolvedQuery → List ℕ → Act (Unit {0})
+select_into eval_context query slots = do
   change cleared
   a ← answer_of query
   row ← only_row a.rows
-  lost ← retrieve_all place slots row
+  lost ← retrieve_all eval_context slots row
   warned a.skipped lost

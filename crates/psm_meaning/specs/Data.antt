@@ -18,7 +18,7 @@ use Rattle.psm_resolved.specs.declared.statement.ResolvedRows.TheVariants.{Value
 use Rattle.psm_resolved.specs.declared.statement.ResolvedSet.{ResolvedSet}
 use Rattle.psm_resolved.specs.declared.statement.ResolvedWhere.{ResolvedWhere}
 use Rattle.psm_resolved.specs.declared.statement.ResolvedWhere.TheVariants.{All, Test, Current}
-use Rattle.psm_meaning.specs.State.{Place, cleared, with_cursor, with_rows}
+use Rattle.psm_meaning.specs.State.{EvalContext, cleared, with_cursor, with_rows}
 use Rattle.psm_meaning.specs.Acts.{Act, got, raises, change, read, present, of_state, values, ◌>>=◌, ◌>>◌}
 use Rattle.psm_meaning.specs.Cursors.{cursor_now, declared_at, wrong_state}
 use Rattle.psm_meaning.specs.Rows.{answer_of, over, table_now}
@@ -41,7 +41,7 @@ unless_failed def (Ok a) = got a
 unless_failed def (Err (Raised s)) = raises (of_state s)
 unless_failed def (Err (OfTable s)) = raises (alone (record (entry_of s) { table = name_text def.name }))
 
--- the table has these rows now, and the statement was about so many
+-- the table has these rows now, and the statement was about n
 abbrev pub leaves : ℕ → Contents → List (List Datum) → ℕ → Act (Unit {0})
 leaves table c rows count = change (with_rows table (record c { rows = rows }) count)
 
@@ -131,11 +131,11 @@ leave_row true x c = change (with_cursor x.number (left_by c))
 leave_row false x c = got tt
 
 -- the cursor's state is tested before anything is evaluated
-abbrev pub update_at : ResolvedFile → Place → ℕ → List ResolvedSet → ℕ → Act (Unit {0})
-update_at file place table sets cursor = do
+abbrev pub update_at : ResolvedFile → EvalContext → ℕ → List ResolvedSet → ℕ → Act (Unit {0})
+update_at file eval_context table sets cursor = do
   s ← schema_at file table
   t ← table_now table
-  x ← declared_at place cursor
+  x ← declared_at eval_context cursor
   c ← cursor_now cursor
   row ← row_of_cursor x t c
   vars ← read (λ st. st.variables)
@@ -143,10 +143,10 @@ update_at file place table sets cursor = do
   leaves table t m.rows 1
   leave_row m.moved x c
 
-abbrev pub delete_at : ResolvedFile → Place → ℕ → ℕ → Act (Unit {0})
-delete_at file place table cursor = do
+abbrev pub delete_at : ResolvedFile → EvalContext → ℕ → ℕ → Act (Unit {0})
+delete_at file eval_context table cursor = do
   t ← table_now table
-  x ← declared_at place cursor
+  x ← declared_at eval_context cursor
   c ← cursor_now cursor
   row ← row_of_cursor x t c
   leaves table t (rows_but t.def row t.rows) 1
@@ -154,24 +154,24 @@ delete_at file place table cursor = do
 
 -- ---- UPDATE and DELETE
 
-abbrev pub update : ResolvedFile → Place → ℕ → List ResolvedSet → ResolvedWhere → Act (Unit {0})
-update file place table sets All = do
+abbrev pub update : ResolvedFile → EvalContext → ℕ → List ResolvedSet → ResolvedWhere → Act (Unit {0})
+update file eval_context table sets All = do
   change cleared
   update_rows file table sets None
-update file place table sets (Test e) = do
+update file eval_context table sets (Test e) = do
   change cleared
   update_rows file table sets (Some e)
-update file place table sets (Current cursor) = do
+update file eval_context table sets (Current cursor) = do
   change cleared
-  update_at file place table sets cursor
+  update_at file eval_context table sets cursor
 
-abbrev pub delete : ResolvedFile → Place → ℕ → ResolvedWhere → Act (Unit {0})
-delete file place table All = do
+abbrev pub delete : ResolvedFile → EvalContext → ℕ → ResolvedWhere → Act (Unit {0})
+delete file eval_context table All = do
   change cleared
   delete_rows file table None
-delete file place table (Test e) = do
+delete file eval_context table (Test e) = do
   change cleared
   delete_rows file table (Some e)
-delete file place table (Current cursor) = do
+delete file eval_context table (Current cursor) = do
   change cleared
-  delete_at file place table cursor
+  delete_at file eval_context table cursor

@@ -15,5 +15,5 @@ pub mod Meaning
 pub mod Lines
 pub mod Session
 pub mod Fits
-pub mod Heights
+pub mod Fuel
 pub mod Enough

@@ -37,7 +37,7 @@ value_lines [] ds = []
 value_lines (p ∷ ps) [] = []
 value_lines (p ∷ ps) (d ∷ ds) = value_line p.mode p.name d ++ value_lines ps ds
 
--- values behind the first one, each behind a comma
+-- values after the first one, each after a comma
 abbrev pub further_values : List Datum → List ℕ
 further_values [] = []
 further_values (d ∷ ds) = codes ", " ++ printed d ++ further_values ds
@@ -61,14 +61,14 @@ ok_line = line (codes "OK")
 abbrev pub turns_used_line : List ℕ
 turns_used_line = line (codes "TURNS USED")
 
--- a message behind a blank, or nothing where it is empty
-abbrev pub behind_blank : List ℕ → List ℕ
-behind_blank [] = []
-behind_blank (c ∷ message) = codes " " ++ encode_utf8_all (c ∷ message)
+-- a message after a blank, or nothing where it is empty
+abbrev pub after_blank : List ℕ → List ℕ
+after_blank [] = []
+after_blank (c ∷ message) = codes " " ++ encode_utf8_all (c ∷ message)
 
 -- `SQLSTATE sssss message`
 abbrev pub entry_line : Entry → List ℕ
-entry_line e = line (codes "SQLSTATE " ++ e.state ++ behind_blank e.message)
+entry_line e = line (codes "SQLSTATE " ++ e.state ++ after_blank e.message)
 
 -- one for each entry of a condition
 abbrev pub condition_lines : Entries → List ℕ

@@ -7,8 +7,8 @@ use Rattle.psm_cond.specs.declared.entry.Entry.{Entry}
 use Rattle.psm_cond.specs.declared.handlers.HandlerKind.{HandlerKind}
 use Rattle.psm_cond.specs.declared.handlers.HandlerKind.TheVariants.{Continue, Exit, Undo}
 use Rattle.psm_resolved.specs.declared.statement.ResolvedHandler.{ResolvedHandler, out-ResolvedHandler}
-use Rattle.psm_meaning.specs.State.{Scope, Place, cleared, holding}
-use Rattle.psm_meaning.specs.Acts.{Given, Got, Raises, Ends, Outcome, Normal, Raised, Away, Stopped, Do, Act, Deed, ends_as, behind, changing, at_turn}
+use Rattle.psm_meaning.specs.State.{Scope, EvalContext, cleared, holding}
+use Rattle.psm_meaning.specs.Acts.{Given, Got, Raises, Ends, Outcome, Normal, Raised, Away, Stopped, Do, Act, Deed, ends_as, following, changing, at_turn}
 
 -- ---- the choice
 
@@ -39,38 +39,38 @@ after_action Normal = changing cleared (ends_as Normal)
 after_action o = ends_as o
 
 -- the action of a handler at a place, for the condition that is in the area
-abbrev pub action : Place → ResolvedHandler → Deed
-action place h = behind (λ m st. m.done (Do (out-ResolvedHandler h).action) (record place { acting = st.area ∷ place.acting }) st) after_action
+abbrev pub action : EvalContext → ResolvedHandler → Deed
+action eval_context h = following (λ m st. m.done (Do (out-ResolvedHandler h).action) (record eval_context { acting = st.area ∷ eval_context.acting }) st) after_action
 
 -- ---- raising
 
 -- CONTINUE runs its action where the condition was raised, at the place outside the handler's block; EXIT and UNDO leave the blocks
 -- inside their own first
-abbrev pub handled : Place → Entries → Candidate → HandlerKind → Deed
-handled place c k Continue = action (record place { cursors = k.scope.cursors; scopes = k.outside }) k.handler
-handled place c k Exit = ends_as (Away k.scope.level k.handler c)
-handled place c k Undo = ends_as (Away k.scope.level k.handler c)
+abbrev pub handled : EvalContext → Entries → Candidate → HandlerKind → Deed
+handled eval_context c k Continue = action (record eval_context { cursors = k.scope.cursors; scopes = k.outside }) k.handler
+handled eval_context c k Exit = ends_as (Away k.scope.level k.handler c)
+handled eval_context c k Undo = ends_as (Away k.scope.level k.handler c)
 
 -- a handler uses a turn; without one an exception leaves, and a completion condition changes nothing in the flow
-abbrev pub answered : Place → Entries → Option Candidate → Deed
-answered place c None = ends_as (if is_exception (kind_of c.first.state) then Raised c else Normal)
-answered place c (Some k) = at_turn (handled place c k (out-ResolvedHandler k.handler).kind)
+abbrev pub answered : EvalContext → Entries → Option Candidate → Deed
+answered eval_context c None = ends_as (if is_exception (kind_of c.first.state) then Raised c else Normal)
+answered eval_context c (Some k) = at_turn (handled eval_context c k (out-ResolvedHandler k.handler).kind)
 
 -- a condition is raised at a place: the area takes it, and then a handler is looked for
-abbrev pub raised : Place → Entries → Deed
-raised place c = changing (holding c) (answered place c (choice c.first place.scopes))
+abbrev pub raised : EvalContext → Entries → Deed
+raised eval_context c = changing (holding c) (answered eval_context c (choice c.first eval_context.scopes))
 
 -- ---- evaluations that stand in a statement
 
-abbrev pub settled : {A : Type 0} → Place → Given A → (A → Deed) → Deed
-settled place (Got a) go = go a
-settled place (Raises c) go = raised place c
-settled place (Ends stop) go = ends_as (Stopped stop)
+abbrev pub settled : {A : Type 0} → EvalContext → Given A → (A → Deed) → Deed
+settled eval_context (Got a) go = go a
+settled eval_context (Raises c) go = raised eval_context c
+settled eval_context (Ends stop) go = ends_as (Stopped stop)
 
--- what is done behind an evaluation; a condition of it is raised at the statement, which is passed over then
-abbrev pub after : {A : Type 0} → Place → Act A → (A → Deed) → Deed
-after place act go m st = let r = act m st in settled place r.given go m r.state
+-- what is done after an evaluation; a condition of it is raised at the statement, which is passed over then
+abbrev pub after : {A : Type 0} → EvalContext → Act A → (A → Deed) → Deed
+after eval_context act go m st = let r = act m st in settled eval_context r.given go m r.state
 
 -- a statement that is an evaluation alone
-abbrev pub stated : Place → Act (Unit {0}) → Deed
-stated place act = after place act (λ _. ends_as Normal)
+abbrev pub stated : EvalContext → Act (Unit {0}) → Deed
+stated eval_context act = after eval_context act (λ _. ends_as Normal)

@@ -11,7 +11,7 @@ use Rattle.psm_resolved.specs.declared.expr.ResolvedExpr.TheOpen.{ResolvedItems-
 use Rattle.psm_resolved.specs.declared.expr.ResolvedExpr.TheOpen as layers
 use Rattle.psm_resolved.specs.declared.expr.ResolvedItem.{ResolvedItem, out-ResolvedItem}
 use Rattle.psm_resolved.specs.declared.expr.ResolvedItems.{ResolvedItems, out-ResolvedItems}
-use Rattle.psm_resolved.specs.declared.expr.ResolvedLink.{ResolvedLink}
+use Rattle.psm_resolved.specs.declared.expr.ResolvedOperation.{ResolvedOperation}
 use Rattle.psm_resolved.specs.declared.expr.ResolvedQuery.{ResolvedQuery, out-ResolvedQuery}
 use Rattle.psm_resolved.specs.declared.expr.ResolvedWhen.{ResolvedWhen}
 use Rattle.psm_resolved.specs.RowValue.{row_value}
@@ -24,7 +24,7 @@ over vars = record { value = λ e row. value_in (row_value row vars e); truth = 
 abbrev pub set_of : ResolvedItem → Aggregate ResolvedExpr
 set_of i = record { function = set_function (out-ResolvedItem i).function; operand = (out-ResolvedItem i).operand }
 
-abbrev pub items_of : ResolvedItems-F ResolvedExpr ResolvedItems ResolvedItem ResolvedLink ResolvedQuery ResolvedWhen → Items ResolvedExpr
+abbrev pub items_of : ResolvedItems-F ResolvedExpr ResolvedItems ResolvedItem ResolvedOperation ResolvedQuery ResolvedWhen → Items ResolvedExpr
 items_of (layers.Rows es) = q.Rows es
 items_of (layers.Sets sets) = q.Sets (map set_of sets)
 

@@ -8,7 +8,7 @@ use Rattle.psm_resolved.specs.declared.file.ResolvedFile.{ResolvedFile}
 use Rattle.psm_resolved.specs.declared.file.ResolvedRoutine.{ResolvedRoutine}
 use Rattle.psm_resolved.specs.declared.file.ResolvedTable.{ResolvedTable}
 use Rattle.psm_meaning.specs.State.{State}
-use Rattle.psm_meaning.specs.Acts.{Stop, NoTurns, NoHeight, Lacking, Given, Got, Raises, Ends, Meaning, Act, got, raises, ends, of_state, present, ◌>>=◌, ◌>>◌}
+use Rattle.psm_meaning.specs.Acts.{Stop, NoTurns, OutOfFuel, Stuck, Given, Got, Raises, Ends, Meaning, Act, got, raises, ends, of_state, present, ◌>>=◌, ◌>>◌}
 use Rattle.psm_meaning.specs.Calls.{activated, procedure_at}
 use Rattle.psm_meaning.specs.Data.{put_in}
 use Rattle.psm_meaning.specs.Lines.{condition_lines, first_line, naming, ok_line, row_lines, turns_used_line, value_lines}
@@ -36,12 +36,12 @@ pub record Standing : Type 0 where
 abbrev pub at_command : Standing → State
 at_command s = record { tables = s.tables; area = clear; turns = s.turns; depth = 0; variables = []; cursors = [] }
 
--- ---- commands: the lines behind the first one
+-- ---- commands: the lines after the first one
 
 -- a procedure that ended well prints its OUT and INOUT parameters
 abbrev pub call_lines : ResolvedRoutine → Option Datum → List Datum → Act (List ℕ)
 call_lines r None vars = got (value_lines r.parameters vars ++ ok_line)
-call_lines r (Some d) vars = ends Lacking
+call_lines r (Some d) vars = ends Stuck
 
 abbrev pub called : ResolvedFile → ℕ → List Datum → Act (List ℕ)
 called file procedure args = do
@@ -54,7 +54,7 @@ inserted file table columns rows = do
   put_in file table columns rows
   got ok_line
 
--- nulls that a set function skipped are a warning behind the rows
+-- nulls that a set function skipped are a warning after the rows
 abbrev pub end_of_rows : Bool → List ℕ
 end_of_rows true = condition_lines (of_state (codes "01003"))
 end_of_rows false = ok_line
@@ -86,34 +86,34 @@ command_name file Commit = codes "COMMIT"
 command_name file Rollback = codes "ROLLBACK"
 
 -- a command that ended, with its piece; or one that stopped, with a piece where the turns were used up
-pub data Played : Type 0 where
-  Went : List ℕ → Standing → Played
-  Stopped : Stop → List (List ℕ) → Played
+pub data CommandResult : Type 0 where
+  Went : List ℕ → Standing → CommandResult
+  Stopped : Stop → List (List ℕ) → CommandResult
 
 -- the tables and turns as an evaluation left them
 abbrev pub standing_after : Standing → State → Standing
 standing_after s st = record s { tables = st.tables; turns = st.turns }
 
-abbrev pub stopped_at : Stop → List ℕ → Played
+abbrev pub stopped_at : Stop → List ℕ → CommandResult
 stopped_at NoTurns first = Stopped NoTurns ((first ++ turns_used_line) ∷ [])
-stopped_at NoHeight first = Stopped NoHeight []
-stopped_at Lacking first = Stopped Lacking []
+stopped_at OutOfFuel first = Stopped OutOfFuel []
+stopped_at Stuck first = Stopped Stuck []
 
-abbrev pub ended : List ℕ → Standing → Given (List ℕ) → State → Played
+abbrev pub ended : List ℕ → Standing → Given (List ℕ) → State → CommandResult
 ended first s (Got lines) st = Went (first ++ lines) (standing_after s st)
 ended first s (Raises c) st = Went (first ++ condition_lines c) (standing_after s st)
 ended first s (Ends stop) st = stopped_at stop first
 
-abbrev pub run : List ℕ → Standing → Act (List ℕ) → Meaning → Played
+abbrev pub run : List ℕ → Standing → Act (List ℕ) → Meaning → CommandResult
 run first s act m = let r = act m (at_command s) in ended first s r.given r.state
 
 -- COMMIT keeps the tables as they are, and ROLLBACK puts them back as the last COMMIT left them
-abbrev pub played : ResolvedFile → Meaning → List ℕ → Standing → Command → Played
-played file m first s (Call procedure args) = run first s (called file procedure args) m
-played file m first s (Insert table columns rows) = run first s (inserted file table columns rows) m
-played file m first s (Select query) = run first s (selected query) m
-played file m first s Commit = Went (first ++ ok_line) (record s { committed = s.tables })
-played file m first s Rollback = Went (first ++ ok_line) (record s { tables = s.committed })
+abbrev pub command_result : ResolvedFile → Meaning → List ℕ → Standing → Command → CommandResult
+command_result file m first s (Call procedure args) = run first s (called file procedure args) m
+command_result file m first s (Insert table columns rows) = run first s (inserted file table columns rows) m
+command_result file m first s (Select query) = run first s (selected query) m
+command_result file m first s Commit = Went (first ++ ok_line) (record s { committed = s.tables })
+command_result file m first s Rollback = Went (first ++ ok_line) (record s { tables = s.committed })
 
 -- ---- sessions
 
@@ -135,18 +135,18 @@ finished s = record { pieces = []; tables = s.tables; turns = s.turns; end = Don
 -- the turns that are left where a command stopped: none where it was for want of one
 abbrev pub turns_at : Stop → ℕ → ℕ
 turns_at NoTurns turns = 0
-turns_at NoHeight turns = turns
-turns_at Lacking turns = turns
+turns_at OutOfFuel turns = turns
+turns_at Stuck turns = turns
 
 -- a command that stops is the last, and the tables are as before it
-abbrev pub going_on : Standing → Played → (Standing → Session) → Session
+abbrev pub going_on : Standing → CommandResult → (Standing → Session) → Session
 going_on s (Went piece next) later = let rest = later next in record rest { pieces = piece ∷ rest.pieces }
 going_on s (Stopped stop pieces) later = record { pieces = pieces; tables = s.tables; turns = turns_at stop s.turns; end = Cut stop }
 
 -- the commands from the one with that number on
 abbrev pub commands_from : ResolvedFile → Meaning → ℕ → List Command → Standing → Session
 commands_from file m k [] s = finished s
-commands_from file m k (c ∷ cs) s = going_on s (played file m (first_line k (command_name file c)) s c) (commands_from file m (suc k) cs)
+commands_from file m k (c ∷ cs) s = going_on s (command_result file m (first_line k (command_name file c)) s c) (commands_from file m (suc k) cs)
 
 -- the tables of a file, all empty
 abbrev pub empty_tables : ResolvedFile → List Contents
@@ -155,6 +155,6 @@ empty_tables file = map (λ t. empty_table t.definition) file.tables
 abbrev pub at_start : ResolvedFile → ℕ → Standing
 at_start file turns = record { tables = empty_tables file; turns = turns; committed = empty_tables file }
 
--- the session to a height
+-- the session with some fuel
 abbrev pub session_to : ResolvedFile → ℕ → List Command → ℕ → Session
 session_to file h commands turns = commands_from file (meaning file h) 1 commands (at_start file turns)

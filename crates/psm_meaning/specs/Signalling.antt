@@ -6,7 +6,7 @@ use Rattle.psm_value.specs.declared.datum.Datum.{Datum}
 use Rattle.psm_value.specs.declared.datum.Datum.TheVariants.{Null, Num, Text}
 use Rattle.psm_value.specs.Order.{compared}
 use Rattle.psm_cond.specs.Area.{Diagnostics}
-use Rattle.psm_cond.specs.Condition.{Entries, alone, «behind» as in_front}
+use Rattle.psm_cond.specs.Condition.{Entries, alone, «following» as in_front}
 use Rattle.psm_cond.specs.Entry.{entry_of, name_text}
 use Rattle.psm_cond.specs.Item.{entries_of, entry_item, statement_item, whole}
 use Rattle.psm_cond.specs.declared.entry.Entry.{Entry}
@@ -18,23 +18,23 @@ use Rattle.psm_resolved.specs.declared.statement.ResolvedDiagnostics.TheVariants
 use Rattle.psm_resolved.specs.declared.statement.ResolvedNumber.{ResolvedNumber}
 use Rattle.psm_resolved.specs.declared.statement.ResolvedNumber.TheVariants.{Constant, Variable}
 use Rattle.psm_resolved.specs.declared.statement.ResolvedSignal.{ResolvedSignal}
-use Rattle.psm_meaning.specs.State.{Place, cleared}
-use Rattle.psm_meaning.specs.Acts.{Lacking, Act, got, raises, ends, change, read, present, of_state, value_of, variable, ◌>>=◌, ◌>>◌}
+use Rattle.psm_meaning.specs.State.{EvalContext, cleared}
+use Rattle.psm_meaning.specs.Acts.{Stuck, Act, got, raises, ends, change, read, present, of_state, value_of, variable, ◌>>=◌, ◌>>◌}
 use Rattle.psm_meaning.specs.Assigning.{assign}
 
 -- ---- the condition that is signalled
 
 -- a condition without an SQLSTATE is 45000 and keeps its name
-abbrev pub entry_for : Place → ResolvedCondition → Act Entry
-entry_for place (State s) = got (entry_of s)
-entry_for place (Own n) = do
-  name ← present (slice_get place.routine.conditions n)
+abbrev pub entry_for : EvalContext → ResolvedCondition → Act Entry
+entry_for eval_context (State s) = got (entry_of s)
+entry_for eval_context (Own n) = do
+  name ← present (slice_get eval_context.routine.conditions n)
   got (record (entry_of (codes "45000")) { own = Some n; identifier = name_text name })
 
 -- a null text counts as empty
 abbrev pub message_text : Datum → Act (List ℕ)
 message_text Null = got []
-message_text (Num n) = ends Lacking
+message_text (Num n) = ends Stuck
 message_text (Text t) = got t
 
 -- the message that is set, or that of the SQLSTATE
@@ -45,15 +45,15 @@ with_message (Some x) e = do
   t ← message_text d
   got (record e { message = t })
 
-abbrev pub signalled : Place → ResolvedSignal → Act Entry
-signalled place s = do
-  e ← entry_for place s.condition
+abbrev pub signalled : EvalContext → ResolvedSignal → Act Entry
+signalled eval_context s = do
+  e ← entry_for eval_context s.condition
   with_message s.message e
 
-abbrev pub signal : Place → ResolvedSignal → Act (Unit {0})
-signal place s = do
+abbrev pub signal : EvalContext → ResolvedSignal → Act (Unit {0})
+signal eval_context s = do
   change cleared
-  e ← signalled place s
+  e ← signalled eval_context s
   raises (alone e)
 
 -- ---- RESIGNAL
@@ -64,25 +64,25 @@ activating [] = raises (of_state (codes "0K000"))
 activating (a ∷ outer) = got a.entries
 
 -- alone it raises that condition again; with a condition, whose message is evaluated first, it puts that one in front
-abbrev pub resignal : Place → Option ResolvedSignal → Act (Unit {0})
-resignal place None = do
+abbrev pub resignal : EvalContext → Option ResolvedSignal → Act (Unit {0})
+resignal eval_context None = do
   change cleared
-  c ← activating place.acting
+  c ← activating eval_context.acting
   raises c
-resignal place (Some s) = do
+resignal eval_context (Some s) = do
   change cleared
-  e ← signalled place s
-  c ← activating place.acting
+  e ← signalled eval_context s
+  c ← activating eval_context.acting
   raises (in_front e c)
 
 -- ---- GET DIAGNOSTICS, which leaves the area as it is
 
 -- items go into their variables in order
-abbrev pub assign_items : {I : Type 0} → Place → (I → Datum) → List (ℕ × I) → Act (Unit {0})
-assign_items place item [] = got tt
-assign_items place item (i ∷ items) = do
-  assign place i.0 (item i.1)
-  assign_items place item items
+abbrev pub assign_items : {I : Type 0} → EvalContext → (I → Datum) → List (ℕ × I) → Act (Unit {0})
+assign_items eval_context item [] = got tt
+assign_items eval_context item (i ∷ items) = do
+  assign eval_context i.0 (item i.1)
+  assign_items eval_context item items
 
 abbrev pub equal : Option Ordering → Bool
 equal None = false
@@ -101,12 +101,12 @@ abbrev pub number_given : ResolvedNumber → Act Datum
 number_given (Constant n) = got (Num n)
 number_given (Variable slot) = variable slot
 
-abbrev pub get_diagnostics : Place → ResolvedDiagnostics → Act (Unit {0})
-get_diagnostics place (Statement items) = do
+abbrev pub get_diagnostics : EvalContext → ResolvedDiagnostics → Act (Unit {0})
+get_diagnostics eval_context (Statement items) = do
   a ← read (λ st. st.area)
-  assign_items place (statement_item (length (entries_of a.entries)) a.entries.more a.rows) items
-get_diagnostics place (Condition number items) = do
+  assign_items eval_context (statement_item (length (entries_of a.entries)) a.entries.more a.rows) items
+get_diagnostics eval_context (Condition number items) = do
   a ← read (λ st. st.area)
   d ← number_given number
   e ← numbered (entry_numbered 1 (entries_of a.entries) d)
-  assign_items place (entry_item e.0 e.1) items
+  assign_items eval_context (entry_item e.0 e.1) items

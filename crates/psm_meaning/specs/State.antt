@@ -38,7 +38,7 @@ with_cursor number c st = record st { cursors = slice_set st.cursors number c }
 abbrev pub with_tables : List Contents → State → State
 with_tables tables st = record st { tables = tables }
 
--- the rows of a table after a statement about so many of them
+-- the rows of a table after a statement about n of them
 abbrev pub with_rows : ℕ → Contents → ℕ → State → State
 with_rows table c count st = record st { tables = slice_set st.tables table c; area = record st.area { rows = count } }
 
@@ -57,19 +57,19 @@ pub record Scope : Type 0 where
 
 -- where a statement stands: its routine, the cursors that it sees, the handlers in scope, innermost first, and the areas that
 -- activated the actions which are running, innermost first
-pub record Place : Type 0 where
+pub record EvalContext : Type 0 where
   pub routine : ResolvedRoutine
   pub cursors : List ResolvedCursor
   pub scopes : List Scope
   pub acting : List Diagnostics
 
 -- the same place with more cursors
-abbrev pub seeing : List ResolvedCursor → Place → Place
-seeing cursors place = record place { cursors = cursors ++ place.cursors }
+abbrev pub seeing : List ResolvedCursor → EvalContext → EvalContext
+seeing cursors eval_context = record eval_context { cursors = cursors ++ eval_context.cursors }
 
 -- the place of a block's statement list
-abbrev pub in_scope : ℕ → List ResolvedHandler → List ResolvedCursor → Place → Place
-in_scope level handlers cursors place = record place {
-  cursors = cursors ++ place.cursors;
-  scopes = record { level = level; handlers = handlers; cursors = cursors ++ place.cursors } ∷ place.scopes;
+abbrev pub in_scope : ℕ → List ResolvedHandler → List ResolvedCursor → EvalContext → EvalContext
+in_scope level handlers cursors eval_context = record eval_context {
+  cursors = cursors ++ eval_context.cursors;
+  scopes = record { level = level; handlers = handlers; cursors = cursors ++ eval_context.cursors } ∷ eval_context.scopes;
 }

@@ -1,4 +1,4 @@
--- What an expression outside of rows comes to (ISO/IEC 9075:1992, clauses 6 and 8, and 9075-4:1996): operands are evaluated from the
+-- What an expression outside of rows ends in (ISO/IEC 9075:1992, clauses 6 and 8, and 9075-4:1996): operands are evaluated from the
 -- left, and each goes on with the state that the one before it left. What is made of operands that are there is that of a
 -- row expression.
 use Rattle.std.specs.Prelude.{ℕ, Bool, true, false, List, [], ◌∷◌, codes, map, Option, Some, None, Ok, Err, if◌then◌else◌}
@@ -12,20 +12,20 @@ use Rattle.psm_exprcode.specs.declared.operand.Operand.TheVariants.{Value, Truth
 use Rattle.psm_exprcode.specs.Comparison.{is_null, truth_of as decided}
 use Rattle.psm_exprcode.specs.Evaluated as rows
 use Rattle.psm_resolved.specs.declared.expr.Comparison.TheVariants as comparisons
-use Rattle.psm_resolved.specs.declared.expr.Junction.{Junction}
+use Rattle.psm_resolved.specs.declared.expr.LogicalOperator.{LogicalOperator}
 use Rattle.psm_resolved.specs.declared.expr.Operator.{Operator}
 use Rattle.psm_resolved.specs.declared.expr.ResolvedExpr.{ResolvedExpr}
 use Rattle.psm_resolved.specs.declared.expr.ResolvedExpr.TheOpen.{ResolvedExpr-F}
 use Rattle.psm_resolved.specs.declared.expr.ResolvedExpr.TheOpen as layers
 use Rattle.psm_resolved.specs.declared.expr.ResolvedItem.{ResolvedItem}
 use Rattle.psm_resolved.specs.declared.expr.ResolvedItems.{ResolvedItems}
-use Rattle.psm_resolved.specs.declared.expr.ResolvedLink.{ResolvedLink, out-ResolvedLink}
+use Rattle.psm_resolved.specs.declared.expr.ResolvedOperation.{ResolvedOperation, out-ResolvedOperation}
 use Rattle.psm_resolved.specs.declared.expr.ResolvedQuery.{ResolvedQuery}
 use Rattle.psm_resolved.specs.declared.expr.ResolvedWhen.{ResolvedWhen, out-ResolvedWhen}
 use Rattle.psm_resolved.specs.declared.file.ResolvedFile.{ResolvedFile}
 use Rattle.psm_resolved.specs.Outcomes.{at_scale}
 use Rattle.psm_resolved.specs.RowValue.{listed, tested, value_layer}
-use Rattle.psm_meaning.specs.Acts.{Lacking, Act, got, raises, ends, of_state, operand, value_of, truth_of, values, ◌>>=◌}
+use Rattle.psm_meaning.specs.Acts.{Stuck, Act, got, raises, ends, of_state, operand, value_of, truth_of, values, ◌>>=◌}
 use Rattle.psm_meaning.specs.Calls.{called}
 use Rattle.psm_meaning.specs.Rows.{answer_of}
 
@@ -35,7 +35,7 @@ abbrev pub there : Operand → rows.Outcome
 there x = Some (Ok x)
 
 abbrev pub came : rows.Outcome → Act Operand
-came None = ends Lacking
+came None = ends Stuck
 came (Some (Err s)) = raises (of_state s)
 came (Some (Ok x)) = got x
 
@@ -72,18 +72,18 @@ operands (e ∷ es) = do
 -- ---- several operands
 
 -- each condition is joined with what those before it came to
-abbrev pub joined : Junction → Operand → List ResolvedExpr → Act Operand
+abbrev pub joined : LogicalOperator → Operand → List ResolvedExpr → Act Operand
 joined j x [] = got x
 joined j x (e ∷ others) = do
-  both ← of_one e (λ b. layers.Junction j (record { first = there x; rest = b ∷ [] }))
+  both ← of_one e (λ b. layers.LogicalOperator j (record { first = there x; rest = b ∷ [] }))
   joined j both others
 
 -- each operator works on what those before it came to
-abbrev pub linked : Operand → List ResolvedLink → Act Operand
+abbrev pub linked : Operand → List ResolvedOperation → Act Operand
 linked x [] = got x
-linked x (l ∷ links) = do
-  y ← of_one (out-ResolvedLink l).operand (λ b. layers.Chain (there x) (((out-ResolvedLink l).operator, b) ∷ []))
-  linked y links
+linked x (l ∷ chain_links) = do
+  y ← of_one (out-ResolvedOperation l).operand (λ b. layers.OperatorChain (there x) (((out-ResolvedOperation l).operator, b) ∷ []))
+  linked y chain_links
 
 abbrev pub among : Bool → ResolvedExpr → Several ResolvedExpr → Act Operand
 among negated e list = do
@@ -102,13 +102,13 @@ abbrev pub else_of : Option ResolvedExpr → Act Operand
 else_of None = got (Value Null)
 else_of (Some e) = operand e
 
--- whether a value is equal to what an expression comes to
+-- whether a value is equal to what an expression ends in
 abbrev pub is_equal : Datum → ResolvedExpr → Act truth.Truth
 is_equal d e = do
   c ← value_of e
   got (tested comparisons.Equal d c)
 
--- the result of the first WHEN that holds; what stands behind it isn't evaluated
+-- the result of the first WHEN that holds; what stands after it isn't evaluated
 abbrev pub chosen : (ResolvedExpr → Act truth.Truth) → List ResolvedWhen → Option ResolvedExpr → Act Operand
 chosen test [] otherwise = else_of otherwise
 chosen test (w ∷ whens) otherwise = do
@@ -134,7 +134,7 @@ first_set e (f ∷ others) = do
 -- no row gives null; of one row it is the one item
 abbrev pub scalar : List (List Datum) → Act Operand
 scalar [] = got (Value Null)
-scalar ([] ∷ []) = ends Lacking
+scalar ([] ∷ []) = ends Stuck
 scalar ((d ∷ ds) ∷ []) = got (Value d)
 scalar (r ∷ s ∷ rows) = raises (of_state (codes "21000"))
 
@@ -144,13 +144,13 @@ is_any (r ∷ rows) = true
 
 -- ---- expressions
 
-abbrev pub evaluated : ResolvedFile → ResolvedExpr-F ResolvedExpr ResolvedItems ResolvedItem ResolvedLink ResolvedQuery ResolvedWhen → Act Operand
+abbrev pub evaluated : ResolvedFile → ResolvedExpr-F ResolvedExpr ResolvedItems ResolvedItem ResolvedOperation ResolvedQuery ResolvedWhen → Act Operand
 evaluated file layers.Null = worked layers.Null
 evaluated file (layers.Number n) = worked (layers.Number n)
 evaluated file (layers.Text t) = worked (layers.Text t)
 evaluated file (layers.Column i) = worked (layers.Column i)
 evaluated file (layers.Variable i) = worked (layers.Variable i)
-evaluated file (layers.Junction j operands) = do
+evaluated file (layers.LogicalOperator j operands) = do
   x ← operand operands.first
   joined j x operands.rest
 evaluated file (layers.Not condition) = of_one condition (λ a. layers.Not a)
@@ -160,9 +160,9 @@ evaluated file (layers.Between negated value low high) = of_three value low high
 evaluated file (layers.In negated value list) = among negated value list
 evaluated file (layers.Like negated value pattern None) = of_two value pattern (λ a b. layers.Like negated a b None)
 evaluated file (layers.Like negated value pattern (Some escape)) = of_three value pattern escape (λ a b c. layers.Like negated a b (Some c))
-evaluated file (layers.Chain first links) = do
+evaluated file (layers.OperatorChain first chain_links) = do
   x ← operand first
-  linked x links
+  linked x chain_links
 evaluated file (layers.Negated e) = of_one e (λ a. layers.Negated a)
 evaluated file (layers.Call function arguments) = do
   args ← values arguments

@@ -56,10 +56,10 @@ pub and_second : (a b : Bool) → (a && b) ≡ true → b ≡ true
 and_second true b h = h
 and_second false b h = cc
 
--- the digits before the point, whether there is one, and the digits behind it
-record IsSplit (t before : List ℕ) (pointed : Bool) (behind : List ℕ) : Type 0 where
+-- the digits before the point, whether there is one, and the digits after it
+record IsSplit (t before : List ℕ) (pointed : Bool) (following : List ℕ) : Type 0 where
   before_is : before_first is_point t ≡ before
-  behind_is : after_first is_point t ≡ behind
+  after_is : after_first is_point t ≡ following
   pointed_is : list_any is_point t ≡ pointed
 
 split_more_by : (b : Bool) (c n : ℕ) (t ds fs : List ℕ) (p q : Bool) → b ≡ false → take n t ≡ ds → drop (n + 1) t ≡ fs → p ≡ q
@@ -73,12 +73,12 @@ split_more_by false c n t ds fs p q e f g h =
 split_more : (c : ℕ) (t ds fs : List ℕ) (p : Bool) → (c == 46) ≡ false → IsSplit t ds p fs → IsSplit (c ∷ t) (c ∷ ds) p fs
 split_more c t ds fs p e s =
     let r : (take (cond (not (c == 46)) (1 + position_or_len is_point t) 0) (c ∷ t) ≡ c ∷ ds) × (drop (cond (not (c == 46)) (1 + position_or_len is_point t) 0 + 1) (c ∷ t) ≡ fs) × (((c == 46) || list_any is_point t) ≡ p)
-    = split_more_by (c == 46) c (position_or_len is_point t) t ds fs (list_any is_point t) p e s.before_is s.behind_is s.pointed_is in
-    record { before_is = r.0; behind_is = r.1; pointed_is = r.2 }
+    = split_more_by (c == 46) c (position_or_len is_point t) t ds fs (list_any is_point t) p e s.before_is s.after_is s.pointed_is in
+    record { before_is = r.0; after_is = r.1; pointed_is = r.2 }
 
 split_at_point : (ds fs : List ℕ) (b : Bool) → list_all is_ascii_digit ds ≡ true → (b ≡ false → fs ≡ []) → IsSplit (ds ++ (point_text b ++ fs)) ds b fs
-split_at_point [] fs true h none = record { before_is = refl; behind_is = refl; pointed_is = refl }
-split_at_point [] [] false h none = record { before_is = refl; behind_is = refl; pointed_is = refl }
+split_at_point [] fs true h none = record { before_is = refl; after_is = refl; pointed_is = refl }
+split_at_point [] [] false h none = record { before_is = refl; after_is = refl; pointed_is = refl }
 split_at_point [] (c ∷ fs) false h none = let e : c ∷ fs ≡ [] = none refl in absurd (cc)
 split_at_point (c ∷ ds) fs b h none =
     split_more c (ds ++ (point_text b ++ fs)) ds fs b (digit_alone c (and_first (is_ascii_digit c) (list_all is_ascii_digit ds) h)).2
@@ -100,7 +100,7 @@ unsigned (c ∷ ds) fs b h none =
     let d : ((c == 43) ≡ false) × ((c == 45) ≡ false) × ((c == 46) ≡ false) = digit_alone c (and_first (is_ascii_digit c) (list_all is_ascii_digit ds) h) in
     unsigned_by (c == 43) (c == 45) c (ds ++ (point_text b ++ fs)) d.0 d.1
 
--- the sign of a signed text, and what stands behind it
+-- the sign of a signed text, and what stands after it
 sign_found : (s : Option Sign) (u : List ℕ) → (sign_of u ≡ None) → after_sign u ≡ u → (sign_of (sign_text s ++ u) ≡ s) × (after_sign (sign_text s ++ u) ≡ u)
 sign_found None u e f = (e, f)
 sign_found (Some Plus) u e f = (refl, refl)
@@ -121,7 +121,7 @@ literal_of-literal_text l good =
     l.sign l.whole l.fraction l.pointed
     found.0
     (ap (before_first is_point) found.1 ∙ parts.before_is)
-    (ap (after_first is_point) found.1 ∙ parts.behind_is)
+    (ap (after_first is_point) found.1 ∙ parts.after_is)
     (ap (list_any is_point) found.1 ∙ parts.pointed_is)
 
 -- ---- the form of a literal, and the test of it
@@ -133,9 +133,9 @@ has_digits-literal l good =
     let fraction : list_all is_ascii_digit l.fraction ≡ true = good.fraction_digits in
     rw (whole, fraction, some)
 
-none_behind : (t : List ℕ) → list_any is_point t ≡ false → after_first is_point t ≡ []
-none_behind [] h = refl
-none_behind (c ∷ t) h = none_by (c == 46) c (position_or_len is_point t) t (list_any is_point t) h (λ e. none_behind t e)
+none_after : (t : List ℕ) → list_any is_point t ≡ false → after_first is_point t ≡ []
+none_after [] h = refl
+none_after (c ∷ t) h = none_by (c == 46) c (position_or_len is_point t) t (list_any is_point t) h (λ e. none_after t e)
   where
     none_by : (b : Bool) (c n : ℕ) (t : List ℕ) (a : Bool) → (b || a) ≡ false → (a ≡ false → drop (n + 1) t ≡ []) → drop (cond (not b) (1 + n) 0 + 1) (c ∷ t) ≡ []
     none_by true c n t a h k = absurd (cc)
@@ -151,7 +151,7 @@ is_literal t h =
       whole_digits = and_first (list_all is_ascii_digit l.whole) (list_all is_ascii_digit l.fraction) both;
       fraction_digits = and_second (list_all is_ascii_digit l.whole) (list_all is_ascii_digit l.fraction) both;
       some_digit = ltb-true 0 (literal_digits l) (and_second (list_all is_ascii_digit l.whole && list_all is_ascii_digit l.fraction) (nat_lt 0 (literal_digits l)) h);
-      no_fraction = none_behind (after_sign t);
+      no_fraction = none_after (after_sign t);
     }
 
 -- ---- what a text's number says of its literals

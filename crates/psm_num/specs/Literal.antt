@@ -12,7 +12,7 @@ pub data Sign : Type 0 where
   Plus : Sign
   Minus : Sign
 
--- a sign or none, the digits before the point, those behind it, and whether there is a point
+-- a sign or none, the digits before the point, those after it, and whether there is a point
 pub record Literal : Type 0 where
   pub sign : Option Sign
   pub whole : List ℕ
@@ -23,7 +23,7 @@ pub record Literal : Type 0 where
 abbrev pub literal_digits : Literal → ℕ
 literal_digits l = length l.whole + length l.fraction
 
--- digits, at least one, and none behind a point that isn't there
+-- digits, at least one, and none after a point that isn't there
 pub record IsLiteral (l : Literal) : Type 0 where
   pub whole_digits : IsTrue (list_all is_ascii_digit l.whole)
   pub fraction_digits : IsTrue (list_all is_ascii_digit l.fraction)
@@ -55,7 +55,7 @@ is_minus (Some Minus) = true
 abbrev pub signed : Bool → ℕ → ℤ
 signed negative n = if negative then neg_ℤ (pos n) else pos n
 
--- the number that all its digits spell, at the scale of those behind the point
+-- the number that all its digits spell, at the scale of those after the point
 abbrev pub literal_value : Literal → Num
 literal_value l = record { coef = signed (is_minus l.sign) (digits_value 10 (l.whole ++ l.fraction)); scale = length l.fraction }
 

@@ -8,7 +8,7 @@ pub record Num : Type 0 where
   pub coef : ℤ
   pub scale : ℕ
 
--- at most 18 digits, and at most 18 of them behind the point
+-- at most 18 digits, and at most 18 of them after the point
 abbrev pub is_within : Num → Bool
 is_within n = nat_le n.scale 18 && nat_lt (unsigned_abs n.coef) 1000000000000000000
 

@@ -1,4 +1,4 @@
--- The parts of a text that may be a literal: its sign, and what stands before and behind its first point.
+-- The parts of a text that may be a literal: its sign, and what stands before and after its first point.
 use Rattle.std.specs.Prelude.{ℕ, Bool, ◌&&◌, ◌==◌, List, drop, slice_index, nat_lt, Option, Some, None, is_some, Result, Err, if◌then◌else◌}
 use Rattle.std.specs.List.{list_all, list_any, before_first, after_first}
 use Rattle.std.specs.Char.{is_ascii_digit}
@@ -11,7 +11,7 @@ use Rattle.psm_num.specs.Literal.{Literal, Sign, Plus, Minus, literal_digits, li
 abbrev pub sign_of : List ℕ → Option Sign
 sign_of t = if slice_index t 0 == 43 then Some Plus else if slice_index t 0 == 45 then Some Minus else None
 
--- what stands behind the sign
+-- what stands after the sign
 abbrev pub after_sign : List ℕ → List ℕ
 after_sign t = if is_some (sign_of t) then drop 1 t else t
 

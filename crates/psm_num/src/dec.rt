@@ -62,7 +62,7 @@ impl Dec {
         self.coef
     }
 
-    /// How many of the digits stand behind the point.
+    /// How many of the digits stand after the point.
     pub fn scale(self) -> u8
         ensures value { result ≡ self.scale }
         ensures bound { result ≤ 18 }

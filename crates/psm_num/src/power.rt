@@ -10,7 +10,7 @@ pub fn power(n: u8) -> i128
     10_u128.pow(n as u32) as i128
 }
 
-/// The coefficient with `shift` zeros behind it.
+/// The coefficient with `shift` zeros after it.
 pub fn raised(coef: i64, shift: u8) -> i128
     requires shift_fits { shift ≤ 36 }
     requires small { unsigned_abs coef * 10 ^ shift < 10 ^ 36 }

@@ -11,7 +11,7 @@ use crate::fault::NumFault;
 
 impl Dec {
     /// The number that a text spells: an optional sign, and digits with at most one point before, among or
-    /// behind them (ISO/IEC 9075:1992, 5.3). More than 18 digits as written are `Range`, and every other
+    /// after them (ISO/IEC 9075:1992, 5.3). More than 18 digits as written are `Range`, and every other
     /// text is `NotNumber`.
     pub fn read(text: &str) -> Result<Dec, NumFault>
         ensures ok { IfOk result (λ d.
@@ -93,7 +93,7 @@ fn size_of(whole: &[u8], fraction: &[u8]) -> i64
     digits_after(digits_after(0, whole), fraction) as i64
 }
 
-// The number that the digits spell when they are written behind another number's.
+// The number that the digits spell when they are written after another number's.
 #[tactic(auto, using(crate::proofs::Digits::steps))]
 fn digits_after(number: u64, digits: &[u8]) -> u64
     requires digits { IsTrue (list_all is_ascii_digit digits.now) }

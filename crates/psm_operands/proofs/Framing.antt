@@ -14,7 +14,7 @@ use Rattle.psm_exprcode.specs.declared.operand.Operand.{Operand}
 use Rattle.psm_exprcode.specs.declared.operand.Operand.TheVariants.{Value, Truth}
 use Rattle.psm_exprcode.specs.declared.operand.Next.{Next}
 use Rattle.psm_exprcode.specs.declared.operand.Next.TheVariants.{Ahead, Jump}
-use Rattle.psm_exprcode.specs.Applied.{Applied, Went, Raised, Lacking, applied, nipped, on_many, on_truth, on_value, set_at, unless_true, with_named, with_truth, with_value}
+use Rattle.psm_exprcode.specs.Applied.{Applied, Went, Raised, Stuck, applied, nipped, on_many, on_truth, on_value, set_at, unless_true, with_named, with_truth, with_value}
 use Rattle.psm_exprcode.specs.Comparison.{is_null}
 use Rattle.psm_exprcode.specs.Fits.{Applies, Fits, Refuses, are_truths, are_values, finds, is_over_value}
 use Rattle.psm_exprcode.specs.Operations.{taken}
@@ -25,9 +25,9 @@ use Rattle.psm_operands.proofs.Levels.{over, parts}
 abbrev pub on_those : List Operand → Applied → Applied
 on_those low (Went next os) = Went next (os ++ low)
 on_those low (Raised state) = Raised state
-on_those low Lacking = Lacking
+on_those low Stuck = Stuck
 
--- an operation that takes so many of these operands, and does the same over others
+-- an operation that takes n of these operands, and does the same over others
 pub record Framed (o : Op) (os low : List Operand) (row vars : List Datum) : Type 0 where
   pub there : IsTrue (finds o (os ++ low))
   pub due : applied o (os ++ low) row vars ≡ on_those low (applied o os row vars)
@@ -84,7 +84,7 @@ module _ (low : List Operand) where
 
   -- ---- what is taken
 
-  -- so many values that are there are taken, and then it does the same
+  -- n values that are there are taken, and then it does the same
   by_value : (n : ℕ) (f : Datum → List Operand → Applied) → ((a : Datum) (os : List Operand) → IsTrue (are_values n os) → f a (os ++ low) ≡ on_those low (f a os))
       → (os : List Operand) → IsTrue (are_values (suc n) os) → on_value f (os ++ low) ≡ on_those low (on_value f os)
   by_value n f same [] h = absurd cc
@@ -178,12 +178,12 @@ went_on low (Went n os) next new e = (os, ap (λ k. Went k os) (first e), sym (s
     second : {n next : Next} {os new : List Operand} → Went n os ≡ Went next new → os ≡ new
     second e = cc
 went_on low (Raised s) next new e = absurd cc
-went_on low Lacking next new e = absurd cc
+went_on low Stuck next new e = absurd cc
 
 raised_on : (low : List Operand) (due : Applied) (state : List ℕ) → on_those low due ≡ Raised state → due ≡ Raised state
 raised_on low (Went n os) state e = absurd cc
 raised_on low (Raised s) state e = e
-raised_on low Lacking state e = absurd cc
+raised_on low Stuck state e = absurd cc
 
 refuses_on : (low : List Operand) (due : Applied) (fault : ValueFault) → Refuses (on_those low due) fault → Refuses due fault
 refuses_on low due (Condition state) h = raised_on low due state h

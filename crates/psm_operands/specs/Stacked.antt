@@ -7,7 +7,7 @@ pub record Stacked : Type 0 where
   pub own : List Operand
   pub callers : List (List Operand)
 
--- those above the lowest so many, and the lowest so many
+-- those above the lowest n, and the lowest n
 abbrev pub above : ℕ → List Operand → List Operand
 above n os = take (length os - n) os
 
@@ -27,7 +27,7 @@ callers_of (n ∷ bases) os = above (below bases) (lowest n os) ∷ callers_of b
 abbrev pub stacked : List ℕ → List Operand → Stacked
 stacked bases os = record { own = above (below bases) os; callers = callers_of bases os }
 
--- there are so many, and those of a caller don't begin above those of what it called
+-- there are n, and those of a caller don't begin above those of what it called
 abbrev pub Falls : ℕ → List ℕ → Type 0
 Falls count [] = Unit {0}
 Falls count (n ∷ bases) = (n ≤ count) × Falls n bases

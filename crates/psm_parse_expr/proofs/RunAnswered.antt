@@ -34,8 +34,8 @@ module _ {X : Type 0} {g : Gram X} {follow : List ℕ} (fit : Fit after follow g
   from_token : (read : Result X Halt) (rest : List Placed) → Takes (reading levels g (drop at tokens.tokens)) read rest → ReadsRun (Spells productions depth g) (λ x. x) tokens at (numbered tokens (length rest) read)
   from_token (Ok x) rest takes =
       let good : Good (Spells productions depth g) AtEnd most_levels (drop at tokens.tokens) x rest = subst (Holds (Spells productions depth g) AtEnd most_levels (drop at tokens.tokens)) takes (exact (drop at tokens.tokens)) in
-      let behind : length (drop at tokens.tokens) ≡ length (toks good.front) + length rest = ap length good.parts ∙ length-append (toks good.front) rest in
-      run_read (Spells productions depth g) (λ x. x) tokens at (reading levels g (drop at tokens.tokens)) (exact (drop at tokens.tokens)) x (length tokens.tokens - length rest) rest takes (omega (arith, behind, length-drop at tokens.tokens))
+      let following : length (drop at tokens.tokens) ≡ length (toks good.front) + length rest = ap length good.parts ∙ length-append (toks good.front) rest in
+      run_read (Spells productions depth g) (λ x. x) tokens at (reading levels g (drop at tokens.tokens)) (exact (drop at tokens.tokens)) x (length tokens.tokens - length rest) rest takes (omega (arith, following, length-drop at tokens.tokens))
   from_token (Err e) rest takes = run_halted (Spells productions depth g) (λ x. x) tokens at (reading levels g (drop at tokens.tokens)) (exact (drop at tokens.tokens)) e takes
 
   -- a slice from a token on

@@ -74,7 +74,7 @@ pub fn sources(
     Ok(OneOrMore::of(first, rest))
 }
 
-/// `[source {"," source}] ")"`: the arguments of a call behind their opening parenthesis, at their own level.
+/// `[source {"," source}] ")"`: the arguments of a call after their opening parenthesis, at their own level.
 #[cycle(expressions)]
 #[tactic(auto, using(psm_tree::proofs::Reading::steps), unfolding(psm_tree::specs::ExprGrammar::arguments, psm_tree::specs::ExprGrammar::argument_list))]
 pub fn arguments(alloc: Global, tokens: &mut Tokens, levels: u32) -> Result<List<Boxed<Expr>>, Halt>
@@ -90,7 +90,7 @@ pub fn arguments(alloc: Global, tokens: &mut Tokens, levels: u32) -> Result<List
     Ok(in_front(first, rest)?)
 }
 
-/// The list of an item and those behind it.
+/// The list of an item and those after it.
 fn in_front(first: Boxed<Expr>, rest: List<Boxed<Expr>>) -> Result<List<Boxed<Expr>>, AllocError>
     ensures { IfOk result (λ l. l ≡ first ∷ rest) }
 {

@@ -99,7 +99,7 @@ pub(crate) fn whens(
     Ok((whens, otherwise))
 }
 
-/// `[expr] whens`: the operand, the branches, and what stands behind ELSE.
+/// `[expr] whens`: the operand, the branches, and what stands after ELSE.
 #[cycle(expressions)]
 #[tactic(auto, using(psm_tree::proofs::Reading::steps, psm_tree::proofs::Firsts::first_whens), unfolding(psm_tree::specs::ExprGrammar::case_rest))]
 pub(crate) fn case_rest(

@@ -9,7 +9,7 @@ use psm_grammar::Halt;
 use psm_list::{Boxed, List, OneOrMore};
 use psm_parse_token::Tokens;
 use psm_token::Word;
-use psm_tree::{Expr, Junction};
+use psm_tree::{Expr, LogicalOperator};
 use std::alloc::{AllocError, Global};
 
 /// `[NOT] predicate`
@@ -73,7 +73,7 @@ pub(crate) fn conjunction(
 {
     let first = negation(alloc, tokens, levels)?;
     let rest = next_negations(alloc, tokens, levels)?;
-    Ok(joined(alloc, Junction::And, first, rest)?)
+    Ok(joined(alloc, LogicalOperator::And, first, rest)?)
 }
 
 /// `OR conjunction`
@@ -119,22 +119,28 @@ pub fn expr(alloc: Global, tokens: &mut Tokens, levels: u32) -> Result<Boxed<Exp
 {
     let first = conjunction(alloc, tokens, levels)?;
     let rest = next_conjunctions(alloc, tokens, levels)?;
-    Ok(joined(alloc, Junction::Or, first, rest)?)
+    Ok(joined(alloc, LogicalOperator::Or, first, rest)?)
 }
 
 /// Conditions with AND, or with OR, between them; a lone one is itself.
 #[tactic(auto, using(crate::proofs::Built::joined_some))]
 fn joined(
     alloc: Global,
-    junction: Junction,
+    logical_operator: LogicalOperator,
     first: Boxed<Expr>,
     rest: List<Boxed<Expr>>,
 ) -> Result<Boxed<Expr>, AllocError>
-    ensures { IfOk result (λ e. e ≡ joined_by junction first rest) }
+    ensures { IfOk result (λ e. e ≡ joined_by logical_operator first rest) }
 {
     if rest.items().is_empty() {
         return Ok(first);
     }
     let operands = OneOrMore::of(first, rest);
-    Boxed::new(alloc, Expr::Junction { junction, operands })
+    Boxed::new(
+        alloc,
+        Expr::LogicalOperator {
+            logical_operator,
+            operands,
+        },
+    )
 }

@@ -175,7 +175,7 @@ pub(crate) fn compare(alloc: Global, tokens: &mut Tokens, levels: u32) -> Result
     Ok(Test::Compare { operator, right })
 }
 
-/// `between | in_list | like`, behind NOT.
+/// `between | in_list | like`, after NOT.
 #[cycle(expressions)]
 #[tactic(auto, using(psm_tree::proofs::Reading::steps, psm_tree::proofs::Firsts::first_between, psm_tree::proofs::Firsts::first_in_list), unfolding(psm_tree::specs::ExprGrammar::negatable))]
 pub(crate) fn negatable(alloc: Global, tokens: &mut Tokens, levels: u32) -> Result<Test, Halt>

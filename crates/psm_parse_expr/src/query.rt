@@ -30,7 +30,7 @@ pub(crate) enum UnnamedItem {
     },
 }
 
-/// `"*" | expr`, behind COUNT.
+/// `"*" | expr`, after COUNT.
 #[cycle(expressions)]
 #[tactic(auto, using(psm_tree::proofs::Reading::steps), unfolding(psm_tree::specs::ExprGrammar::counted))]
 pub(crate) fn counted(

@@ -1,7 +1,7 @@
 //! Values: sums, terms and factors (ISO/IEC 9075:1992, 6.11 to 6.13).
 ghost use Rattle.std.specs.Prelude.{◌≡◌, IfOk};
 ghost use Rattle.psm_tree.specs.ExprGrammar.{factor as factor_part, next_factor as next_factor_part, next_factors as next_factors_part, term as term_part, next_term as next_term_part, next_terms as next_terms_part, sum as sum_part};
-ghost use Rattle.psm_tree.specs.ExprValues.{chain_of};
+ghost use Rattle.psm_tree.specs.ExprValues.{operator_chain_of};
 ghost use Rattle.psm_tree.specs.Readers.{Takes, reading};
 
 use crate::operator::{sum_operator, term_operator};
@@ -10,7 +10,7 @@ use psm_grammar::Halt;
 use psm_list::{Boxed, List};
 use psm_parse_token::{Tokens, plus_minus};
 use psm_token::Sign;
-use psm_tree::{Expr, Link};
+use psm_tree::{ChainLink, Expr};
 use std::alloc::{AllocError, Global};
 
 const PLUS_MINUS: [Sign; 2] = [Sign::Plus, Sign::Minus];
@@ -43,12 +43,16 @@ pub(crate) fn factor(alloc: Global, tokens: &mut Tokens, levels: u32) -> Result<
 /// `("*" | "/") factor`
 #[cycle(expressions)]
 #[tactic(auto, using(psm_tree::proofs::Reading::steps), unfolding(psm_tree::specs::ExprGrammar::next_factor))]
-pub(crate) fn next_factor(alloc: Global, tokens: &mut Tokens, levels: u32) -> Result<Link, Halt>
+pub(crate) fn next_factor(
+    alloc: Global,
+    tokens: &mut Tokens,
+    levels: u32,
+) -> Result<ChainLink, Halt>
     ensures { Takes (reading levels next_factor_part tokens.old.rest.now) result tokens.new.rest.now }
 {
     let operator = term_operator(tokens)?;
     let operand = factor(alloc, tokens, levels)?;
-    Ok(Link { operator, operand })
+    Ok(ChainLink { operator, operand })
 }
 
 /// `{("*" | "/") factor}`
@@ -58,18 +62,18 @@ pub(crate) fn next_factors(
     alloc: Global,
     tokens: &mut Tokens,
     levels: u32,
-) -> Result<List<Link>, Halt>
+) -> Result<List<ChainLink>, Halt>
     ensures { Takes (reading levels next_factors_part tokens.old.rest.now) result tokens.new.rest.now }
 {
-    let mut links = Vec::new(alloc);
+    let mut chain_links = Vec::new(alloc);
     for _turn in 0..tokens.left() {
         if !tokens.at_one_sign_of(&TERM_OPERATORS) {
             break;
         }
-        let link = next_factor(alloc, tokens, levels)?;
-        links.push(link)?;
+        let chain_link = next_factor(alloc, tokens, levels)?;
+        chain_links.push(chain_link)?;
     }
-    Ok(List::of(links))
+    Ok(List::of(chain_links))
 }
 
 /// `factor {("*" | "/") factor}`
@@ -79,19 +83,19 @@ pub(crate) fn term(alloc: Global, tokens: &mut Tokens, levels: u32) -> Result<Bo
     ensures { Takes (reading levels term_part tokens.old.rest.now) result tokens.new.rest.now }
 {
     let first = factor(alloc, tokens, levels)?;
-    let links = next_factors(alloc, tokens, levels)?;
-    Ok(chained(alloc, first, links)?)
+    let chain_links = next_factors(alloc, tokens, levels)?;
+    Ok(chained(alloc, first, chain_links)?)
 }
 
 /// `("+" | "-" | "||") term`
 #[cycle(expressions)]
 #[tactic(auto, using(psm_tree::proofs::Reading::steps), unfolding(psm_tree::specs::ExprGrammar::next_term))]
-pub(crate) fn next_term(alloc: Global, tokens: &mut Tokens, levels: u32) -> Result<Link, Halt>
+pub(crate) fn next_term(alloc: Global, tokens: &mut Tokens, levels: u32) -> Result<ChainLink, Halt>
     ensures { Takes (reading levels next_term_part tokens.old.rest.now) result tokens.new.rest.now }
 {
     let operator = sum_operator(tokens)?;
     let operand = term(alloc, tokens, levels)?;
-    Ok(Link { operator, operand })
+    Ok(ChainLink { operator, operand })
 }
 
 /// `{("+" | "-" | "||") term}`
@@ -101,18 +105,18 @@ pub(crate) fn next_terms(
     alloc: Global,
     tokens: &mut Tokens,
     levels: u32,
-) -> Result<List<Link>, Halt>
+) -> Result<List<ChainLink>, Halt>
     ensures { Takes (reading levels next_terms_part tokens.old.rest.now) result tokens.new.rest.now }
 {
-    let mut links = Vec::new(alloc);
+    let mut chain_links = Vec::new(alloc);
     for _turn in 0..tokens.left() {
         if !tokens.at_one_sign_of(&SUM_OPERATORS) {
             break;
         }
-        let link = next_term(alloc, tokens, levels)?;
-        links.push(link)?;
+        let chain_link = next_term(alloc, tokens, levels)?;
+        chain_links.push(chain_link)?;
     }
-    Ok(List::of(links))
+    Ok(List::of(chain_links))
 }
 
 /// `term {("+" | "-" | "||") term}`
@@ -122,17 +126,21 @@ pub(crate) fn sum(alloc: Global, tokens: &mut Tokens, levels: u32) -> Result<Box
     ensures { Takes (reading levels sum_part tokens.old.rest.now) result tokens.new.rest.now }
 {
     let first = term(alloc, tokens, levels)?;
-    let links = next_terms(alloc, tokens, levels)?;
-    Ok(chained(alloc, first, links)?)
+    let chain_links = next_terms(alloc, tokens, levels)?;
+    Ok(chained(alloc, first, chain_links)?)
 }
 
 /// Operands with operators of one level between them; a lone one is itself.
-#[tactic(auto, using(crate::proofs::Built::chain_some))]
-fn chained(alloc: Global, first: Boxed<Expr>, links: List<Link>) -> Result<Boxed<Expr>, AllocError>
-    ensures { IfOk result (λ e. e ≡ chain_of first links) }
+#[tactic(auto, using(crate::proofs::Built::operator_chain_some))]
+fn chained(
+    alloc: Global,
+    first: Boxed<Expr>,
+    chain_links: List<ChainLink>,
+) -> Result<Boxed<Expr>, AllocError>
+    ensures { IfOk result (λ e. e ≡ operator_chain_of first chain_links) }
 {
-    if links.items().is_empty() {
+    if chain_links.items().is_empty() {
         return Ok(first);
     }
-    Boxed::new(alloc, Expr::Chain { first, links })
+    Boxed::new(alloc, Expr::OperatorChain { first, chain_links })
 }

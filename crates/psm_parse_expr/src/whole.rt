@@ -15,7 +15,7 @@ use psm_token::TokenList;
 use psm_tree::{DataType, Expr, ParseFault, Pick, Target};
 use std::alloc::Global;
 
-/// The expression that begins at token `at`, where `depth` levels are open, and the number of the token behind
+/// The expression that begins at token `at`, where `depth` levels are open, and the number of the token after
 /// it (ISO/IEC 9075:1992, 6.1 to 8.12).
 ///
 /// # Errors
@@ -38,7 +38,7 @@ pub fn parse_expr(
 }
 
 /// The items of a query that begin at token `at`, where `depth` levels are open, and the number of the token
-/// behind them (ISO/IEC 9075:1992, 7.9).
+/// after them (ISO/IEC 9075:1992, 7.9).
 ///
 /// # Errors
 /// `Syntax` at the first token that no spelling goes on with, or at the end; `Deep` at the token that opens
@@ -59,7 +59,7 @@ pub fn parse_picks(
     numbered(tokens, rest.len(), read)
 }
 
-/// The target that begins at token `at`, where `depth` levels are open, and the number of the token behind it
+/// The target that begins at token `at`, where `depth` levels are open, and the number of the token after it
 /// (ISO/IEC 9075:1992, 6.2).
 ///
 /// # Errors
@@ -80,7 +80,7 @@ pub fn parse_target(
     numbered(tokens, rest.len(), read)
 }
 
-/// The data type that begins at token `at`, where `depth` levels are open, and the number of the token behind
+/// The data type that begins at token `at`, where `depth` levels are open, and the number of the token after
 /// it (ISO/IEC 9075:1992, 6.1).
 ///
 /// # Errors
@@ -106,7 +106,7 @@ pub fn parse_type(
     }
 }
 
-/// What was read of a list of tokens, with the number of the token behind it, where so many tokens are left.
+/// What was read of a list of tokens, with the number of the token after it, where n tokens are left.
 fn numbered<X: Drop>(
     tokens: &TokenList,
     left: usize,

@@ -72,11 +72,11 @@ module _ (levels : ℕ) (place : Place) (start : List Placed) (tables : List Tab
 
 pub ruleset creating = (creating_begin, creating_go_on, creating_end, creating_run_out, creating_halt)
 
--- the file of tables and a module behind the last CREATE
+-- the file of tables and a module after the last CREATE
 abbrev pub file_with : List TableTree × Place → ModuleRest → FileTree
 file_with ts m = record { tables = ts.0; «module» = record { place = ts.1; name = m.name; routines = m.routines } }
 
--- a table stands at the CREATE before it: placed as it is read, or with what is behind
+-- a table stands at the CREATE before it: placed as it is read, or with what is after
 placed_file : (p : Reader Placed (List (TableRest × Place))) (q : Reader Placed ModuleRest) (o : Out Placed Place)
     → and_then o (λ place rest. and_then (both pair p q rest) (λ y end. Ok (file_of place y, end))) ≡ and_then o (λ place rest. both file_with (made (placed_tables place) p) q rest)
 placed_file p q (Err e) = refl

@@ -8,14 +8,14 @@ use Rattle.psm_tree.specs.FileValues.{TableRest, tables_from, last_place}
 use Rattle.psm_tree.specs.Readers.{reading, Repeating}
 use Rattle.psm_tree.specs.declared.file.TableTree.{TableTree}
 
--- the tables behind a CREATE at the place, and the place of the last CREATE
+-- the tables after a CREATE at the place, and the place of the last CREATE
 abbrev pub placed_tables : Place → List (TableRest × Place) → List TableTree × Place
 placed_tables place ts = (tables_from place ts, last_place place ts)
 
 unfoldable pub tables_reading : ℕ → Place → Reader Placed (List TableTree × Place)
 tables_reading levels place = made (placed_tables place) (reading levels created_tables)
 
--- what the loop over the tables keeps: those that were read in so many turns are these, up to this last CREATE
+-- what the loop over the tables keeps: those that were read in n turns are these, up to this last CREATE
 pub record Creating (levels : ℕ) (place : Place) (start : List Placed) (tables : List TableTree) (last : Place) (turns : ℕ) (rest : List Placed) : Type 0 where
   pub read : List (TableRest × Place)
   pub repeating : Repeating levels created_table start read turns rest

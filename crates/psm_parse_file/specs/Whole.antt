@@ -7,7 +7,7 @@ use Rattle.psm_grammar.specs.declared.halt.Halt.TheVariants as halt
 use Rattle.psm_tree.specs.declared.fault.ParseFault.{ParseFault}
 use Rattle.psm_parse_token.specs.Fault.{fault_at}
 
--- the tree that was read, if no token is left behind it
+-- the tree that was read, if no token is left after it
 abbrev pub whole : {X : Type 0} → Tokens → Result X Halt → List Placed → Result X ParseFault
 whole tokens (Ok x) [] = Ok x
 whole tokens (Ok x) (t ∷ ts) = Err (fault_at tokens (halt.Syntax (length (t ∷ ts))))

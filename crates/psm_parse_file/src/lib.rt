@@ -5,10 +5,10 @@
 #![tactic(auto)]
 
 mod call;
+mod characteristics;
 mod command;
 mod insert;
 mod module_file;
-mod notes;
 mod optional;
 mod parameters;
 mod parse;

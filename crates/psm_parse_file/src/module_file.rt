@@ -3,7 +3,7 @@ ghost use Rattle.psm_tree.specs.FileGrammar.{module_body as module_body_part, mo
 ghost use Rattle.psm_tree.specs.Readers.{Takes, TakesAs, reading};
 ghost use Rattle.psm_parse_file.specs.Creating.{tables_reading};
 
-use crate::notes::perhaps_language;
+use crate::characteristics::perhaps_language;
 use crate::optional::perhaps_sign;
 use crate::routine::ended_routines;
 use crate::table::table;
@@ -55,7 +55,7 @@ fn last_module(
     Ok(module)
 }
 
-/// `TABLE table ";" CREATE`: the table's name and elements, and the place of the `CREATE` behind it.
+/// `TABLE table ";" CREATE`: the table's name and elements, and the place of the `CREATE` after it.
 #[tactic(auto, using(psm_tree::proofs::Reading::steps), unfolding(psm_tree::specs::FileGrammar::created_table))]
 fn created_table(
     alloc: Global,
@@ -71,7 +71,7 @@ fn created_table(
     Ok((table, place))
 }
 
-/// `{TABLE table ";" CREATE}`, behind a `CREATE` at the place: the tables, each at the `CREATE` before it,
+/// `{TABLE table ";" CREATE}`, after a `CREATE` at the place: the tables, each at the `CREATE` before it,
 /// and the place of the last `CREATE`.
 #[tactic(auto, using(crate::proofs::Creating::creating))]
 fn created_tables(
@@ -88,13 +88,13 @@ fn created_tables(
         if !tokens.at(Word::Table) {
             break;
         }
-        let ((name, elements), behind) = created_table(alloc, tokens, levels)?;
+        let ((name, elements), following) = created_table(alloc, tokens, levels)?;
         tables.push(TableTree {
             place,
             name,
             elements,
         })?;
-        place = behind;
+        place = following;
     }
     Ok((List::of(tables), place))
 }

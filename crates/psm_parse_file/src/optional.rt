@@ -1,4 +1,4 @@
-//! Tokens that may be left out, a test of two tokens, and a list behind its first item.
+//! Tokens that may be left out, a test of two tokens, and a list after its first item.
 ghost use Rattle.std.specs.Prelude.{◌≡◌, ◌∷◌, [], IfOk};
 ghost use Rattle.psm_grammar.specs.Forms.{optional};
 ghost use Rattle.psm_grammar.specs.Grammar.{token};
@@ -45,7 +45,7 @@ pub(crate) fn perhaps_sign(
     Ok(Some(tokens.sign(sign)?))
 }
 
-/// Whether the word stands at the front, and the sign behind it.
+/// Whether the word stands at the front, and the sign after it.
 pub(crate) fn at_word_and_sign(tokens: &Tokens, word: Word, sign: Sign) -> bool
     ensures { result ≡ starts_two kind (word_kind word ∷ []) (sign_kind sign ∷ []) tokens.now.rest.now }
 {
@@ -58,7 +58,7 @@ pub(crate) fn at_word_and_sign(tokens: &Tokens, word: Word, sign: Sign) -> bool
     }
 }
 
-/// The list of an item and those behind it.
+/// The list of an item and those after it.
 pub(crate) fn in_front<X: Drop>(first: X, others: List<X>) -> Result<List<X>, AllocError>
     ensures { IfOk result (λ items. items ≡ first ∷ others) }
 {

@@ -20,7 +20,7 @@ const MOST_LEVELS: u32 = 100;
 /// The tree of a module file, which all the tokens spell (ISO/IEC 9075-4:1996, module definitions).
 ///
 /// `Syntax` comes exactly where no file begins with the tokens and goes on as they do: at the first token
-/// that no file has behind those before it, or at the end of the tokens where a file needs more. `Deep`
+/// that no file has after those before it, or at the end of the tokens where a file needs more. `Deep`
 /// comes where each file that begins with the tokens before it opens level 101 of nesting there. `Memory`
 /// may come at any tokens, where memory runs out.
 pub fn parse_file(alloc: Global, tokens: &TokenList) -> Result<FileTree, ParseFault>
@@ -35,7 +35,7 @@ pub fn parse_file(alloc: Global, tokens: &TokenList) -> Result<FileTree, ParseFa
 /// The tree of a script, which all the tokens spell.
 ///
 /// `Syntax` comes exactly where no script begins with the tokens and goes on as they do: at the first token
-/// that no script has behind those before it, or at the end of the tokens where a script needs more. `Deep`
+/// that no script has after those before it, or at the end of the tokens where a script needs more. `Deep`
 /// comes where each script that begins with the tokens before it opens level 101 of nesting there. `Memory`
 /// may come at any tokens, where memory runs out.
 pub fn parse_script(alloc: Global, tokens: &TokenList) -> Result<ScriptTree, ParseFault>
@@ -47,7 +47,7 @@ pub fn parse_script(alloc: Global, tokens: &TokenList) -> Result<ScriptTree, Par
     whole(tokens, read, rest)
 }
 
-/// The tree that was read, if no token is left behind it; else the fault.
+/// The tree that was read, if no token is left after it; else the fault.
 fn whole<X: Drop>(
     tokens: &TokenList,
     read: Result<X, Halt>,

@@ -2,7 +2,7 @@
 ghost use Rattle.psm_tree.specs.FileGrammar.{noted_statement as noted_statement_part, procedure as procedure_part, char_returned as char_returned_part, returned as returned_part, function as function_part, plain_routine as plain_routine_part, routine as routine_part, ended_routine as ended_routine_part, ended_routines as ended_routines_part};
 ghost use Rattle.psm_tree.specs.Readers.{Takes, reading};
 
-use crate::notes::note_list;
+use crate::characteristics::characteristic_list;
 use crate::optional::at_word_and_sign;
 use crate::parameters::params;
 use psm_grammar::Halt;
@@ -10,28 +10,28 @@ use psm_list::{Boxed, List};
 use psm_parse_stmt::statement;
 use psm_parse_token::{Tokens, char_length, plain_type, varying};
 use psm_token::{Sign, Word};
-use psm_tree::{DataType, Note, Routine, Statement, TypeForm};
+use psm_tree::{Characteristic, DataType, Routine, Statement, TypeForm};
 use std::alloc::Global;
 
 const CHAR_WORDS: [Word; 2] = [Word::Char, Word::Character];
 
 const ROUTINE_WORDS: [Word; 3] = [Word::Declare, Word::Procedure, Word::Function];
 
-/// `{note} statement`
+/// `{characteristic} statement`
 #[tactic(auto, using(psm_tree::proofs::Reading::steps), unfolding(psm_tree::specs::FileGrammar::noted_statement))]
 fn noted_statement(
     alloc: Global,
     tokens: &mut Tokens,
     levels: u32,
-) -> Result<(List<Note>, Boxed<Statement>), Halt>
+) -> Result<(List<Characteristic>, Boxed<Statement>), Halt>
     ensures { Takes (reading levels noted_statement_part tokens.old.rest.now) result tokens.new.rest.now }
 {
-    let notes = note_list(alloc, tokens, levels)?;
+    let characteristics = characteristic_list(alloc, tokens, levels)?;
     let body = statement(alloc, tokens, levels)?;
-    Ok((notes, body))
+    Ok((characteristics, body))
 }
 
-/// `PROCEDURE name params {note} statement`
+/// `PROCEDURE name params {characteristic} statement`
 #[tactic(auto, using(psm_tree::proofs::Reading::steps), unfolding(psm_tree::specs::FileGrammar::procedure))]
 fn procedure(alloc: Global, tokens: &mut Tokens, levels: u32) -> Result<Routine, Halt>
     ensures { Takes (reading levels procedure_part tokens.old.rest.now) result tokens.new.rest.now }
@@ -39,25 +39,25 @@ fn procedure(alloc: Global, tokens: &mut Tokens, levels: u32) -> Result<Routine,
     let place = tokens.word(Word::Procedure)?;
     let name = tokens.name(alloc)?;
     let parameters = params(alloc, tokens, levels)?;
-    let (notes, body) = noted_statement(alloc, tokens, levels)?;
+    let (characteristics, body) = noted_statement(alloc, tokens, levels)?;
     Ok(Routine {
         place,
         name,
         parameters,
         returns: None,
-        notes,
+        characteristics,
         body,
     })
 }
 
-/// What stands behind `RETURNS CHAR`: `VARYING` belongs to the type where a parenthesis follows, and is
+/// What stands after `RETURNS CHAR`: `VARYING` belongs to the type where a parenthesis follows, and is
 /// else the label of the statement.
 #[tactic(auto, using(psm_tree::proofs::Reading::steps), unfolding(psm_tree::specs::FileGrammar::char_returned))]
 fn char_returned(
     alloc: Global,
     tokens: &mut Tokens,
     levels: u32,
-) -> Result<(TypeForm, (List<Note>, Boxed<Statement>)), Halt>
+) -> Result<(TypeForm, (List<Characteristic>, Boxed<Statement>)), Halt>
     ensures { Takes (reading levels char_returned_part tokens.old.rest.now) result tokens.new.rest.now }
 {
     if at_word_and_sign(tokens, Word::Varying, Sign::LeftParen) {
@@ -70,13 +70,13 @@ fn char_returned(
     Ok((form, noted))
 }
 
-/// `type {note} statement`, behind `RETURNS`.
+/// `type {characteristic} statement`, after `RETURNS`.
 #[tactic(auto, using(psm_tree::proofs::Reading::steps), unfolding(psm_tree::specs::FileGrammar::returned))]
 fn returned(
     alloc: Global,
     tokens: &mut Tokens,
     levels: u32,
-) -> Result<(DataType, (List<Note>, Boxed<Statement>)), Halt>
+) -> Result<(DataType, (List<Characteristic>, Boxed<Statement>)), Halt>
     ensures { Takes (reading levels returned_part tokens.old.rest.now) result tokens.new.rest.now }
 {
     if tokens.at_one_of(&CHAR_WORDS) {
@@ -89,7 +89,7 @@ fn returned(
     Ok((kind, noted))
 }
 
-/// `FUNCTION name params RETURNS type {note} statement`
+/// `FUNCTION name params RETURNS type {characteristic} statement`
 #[tactic(auto, using(psm_tree::proofs::Reading::steps), unfolding(psm_tree::specs::FileGrammar::function))]
 fn function(alloc: Global, tokens: &mut Tokens, levels: u32) -> Result<Routine, Halt>
     ensures { Takes (reading levels function_part tokens.old.rest.now) result tokens.new.rest.now }
@@ -98,13 +98,13 @@ fn function(alloc: Global, tokens: &mut Tokens, levels: u32) -> Result<Routine, 
     let name = tokens.name(alloc)?;
     let parameters = params(alloc, tokens, levels)?;
     tokens.word(Word::Returns)?;
-    let (kind, (notes, body)) = returned(alloc, tokens, levels)?;
+    let (kind, (characteristics, body)) = returned(alloc, tokens, levels)?;
     Ok(Routine {
         place,
         name,
         parameters,
         returns: Some(kind),
-        notes,
+        characteristics,
         body,
     })
 }

@@ -18,8 +18,8 @@ use Rattle.psm_parse_stmt.specs.declared.item.Item.{Item}
 use Rattle.psm_parse_stmt.specs.declared.item.Item.TheVariants as item
 use Rattle.psm_parse_stmt.specs.declared.item.Stage.{Stage}
 use Rattle.psm_parse_stmt.specs.declared.item.Heads.{Heads}
-use Rattle.psm_parse_stmt.specs.Declaring.{declaration_item, phase_of, stage_behind, with_item, after_heads, with_heads, Adds, heads_body, statements_end, Declaring}
-use Rattle.psm_parse_stmt.proofs.Bodies.{behind_item, declares, declares_nothing}
+use Rattle.psm_parse_stmt.specs.Declaring.{declaration_item, phase_of, stage_after, with_item, after_heads, with_heads, Adds, heads_body, statements_end, Declaring}
+use Rattle.psm_parse_stmt.proofs.Bodies.{after_item, declares, declares_nothing}
 use Rattle.psm_parse_stmt.proofs.Shorter.{item_takes}
 
 -- ---- declarations before others
@@ -41,10 +41,10 @@ body_same : (o : Out Placed Body) → and_then o (λ b end. Ok (b, end)) ≡ o
 body_same (Ok r) = refl
 body_same (Err s) = refl
 
-none_behind : (heads : Heads) (o : Out Placed (List Statement))
+none_after : (heads : Heads) (o : Out Placed (List Statement))
     → and_then (and_then o (λ ss end. Ok (undeclared ss, end))) (λ b end. Ok (with_heads heads b, end)) ≡ and_then o (λ ss end. Ok (heads_body heads ss, end))
-none_behind heads (Ok r) = λ i. Ok (record { declarations = append-nil heads.declarations.items i; cursors = append-nil heads.cursors.items i; handlers = append-nil heads.handlers.items i; statements = r.0 }, r.1)
-none_behind heads (Err s) = refl
+none_after heads (Ok r) = λ i. Ok (record { declarations = append-nil heads.declarations.items i; cursors = append-nil heads.cursors.items i; handlers = append-nil heads.handlers.items i; statements = r.0 }, r.1)
+none_after heads (Err s) = refl
 
 -- ---- the loop
 
@@ -59,12 +59,12 @@ module _ (levels : ℕ) (start : List Placed) (s : Stage) (heads : Heads) where
 
   -- one declaration more
   pub declares_go_on : (turns left : ℕ) (rest : List Placed) (x : Item) (next : List Placed) (new : Heads) (t : Stage) → Declaring levels start s heads turns rest → left + 1 ≡ turns
-      → starts kind (word_kind w.Declare ∷ []) rest ≡ true → declaration_item (phase_of s) levels rest ≡ Ok (x, next) → t ≡ stage_behind x → Adds heads x new
+      → starts kind (word_kind w.Declare ∷ []) rest ≡ true → declaration_item (phase_of s) levels rest ≡ Ok (x, next) → t ≡ stage_after x → Adds heads x new
       → Declaring levels start t new left next
   declares_go_on turns left rest x next new t l h d e st a = record {
     same = (λ i. made (with_heads new) (reading levels (body_rest (phase_of (st i)))) next)
-        ∙ adds_made heads x new a (reading levels (body_rest (phase_of (stage_behind x))) next)
-        ∙ ap (λ o. and_then (and_then o (behind_item levels)) (λ b end. Ok (with_heads heads b, end))) (sym e)
+        ∙ adds_made heads x new a (reading levels (body_rest (phase_of (stage_after x))) next)
+        ∙ ap (λ o. and_then (and_then o (after_item levels)) (λ b end. Ok (with_heads heads b, end))) (sym e)
         ∙ ap (λ o. and_then o (λ b end. Ok (with_heads heads b, end))) (sym (declares levels (phase_of s) rest d)) ∙ l.same;
     room = omega (arith, h, l.room, item_takes (phase_of s) levels rest (x, next) e);
   }
@@ -74,7 +74,7 @@ module _ (levels : ℕ) (start : List Placed) (s : Stage) (heads : Heads) where
       → reading levels (body_rest Declarations) start ≡ made (heads_body heads) (reading levels statements_end) rest
   unfolding reading ending
   declares_end turns rest l d = sym l.same ∙ ap (λ o. and_then o (λ b end. Ok (with_heads heads b, end))) (declares_nothing levels (phase_of s) rest d)
-      ∙ none_behind heads (reading levels statements_end rest)
+      ∙ none_after heads (reading levels statements_end rest)
 
   none_starts : (rest : List Placed) → length rest ≤ 0 → starts kind (word_kind w.Declare ∷ []) rest ≡ false
   none_starts [] h = refl
@@ -88,7 +88,7 @@ module _ (levels : ℕ) (start : List Placed) (s : Stage) (heads : Heads) where
   fails : (turns : ℕ) (rest : List Placed) (stop : Stop Placed) → Declaring levels start s heads turns rest → starts kind (word_kind w.Declare ∷ []) rest ≡ true
       → declaration_item (phase_of s) levels rest ≡ Err stop → reading levels (body_rest Declarations) start ≡ Err stop
   fails turns rest stop l d e = sym l.same
-      ∙ ap (λ o. and_then o (λ b end. Ok (with_heads heads b, end))) (declares levels (phase_of s) rest d ∙ ap (λ o. and_then o (behind_item levels)) e)
+      ∙ ap (λ o. and_then o (λ b end. Ok (with_heads heads b, end))) (declares levels (phase_of s) rest d ∙ ap (λ o. and_then o (after_item levels)) e)
 
   -- a declaration stops
   pub declares_halt : (turns : ℕ) (rest : List Placed) (e : Halt) → Declaring levels start s heads turns rest → starts kind (word_kind w.Declare ∷ []) rest ≡ true

@@ -1,4 +1,4 @@
--- What is left behind a part is no longer than what it was read from.
+-- What is left after a part is no longer than what it was read from.
 use Rattle.std.proofs.Common.{◌≡◌, ℕ, Bool, cond, zero, suc, ◌<◌, true, false, List, [], ◌∷◌, length, Ok, Err, subst, arith}
 use Rattle.psm_token.specs.declared.word.Word.TheVariants as w
 use Rattle.psm_token.specs.declared.sign.Sign.TheVariants as s

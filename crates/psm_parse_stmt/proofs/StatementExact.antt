@@ -34,13 +34,13 @@ module _ (tokens : Tokens) (at depth : ℕ) (nested : depth ≤ 100) (items give
   read_here : (x : Statement) (rest : List Placed) → reading (100 - depth) statement given ≡ Ok (x, rest) → reading (100 - depth) statement (drop at tokens.tokens) ≡ Ok (x, rest)
   read_here x rest e = ap (reading (100 - depth) statement) (sym from_here) ∙ e
 
-  -- the tokens behind a statement are some of all
+  -- the tokens after a statement are some of all
   pub statement_left : (x : Statement) (rest : List Placed) → reading (100 - depth) statement given ≡ Ok (x, rest) → length rest ≤ length items
   statement_left x rest e =
       let good : Good (Spells productions depth statement) AtEnd most_levels (drop at tokens.tokens) x rest = subst (Holds (Spells productions depth statement) AtEnd most_levels (drop at tokens.tokens)) (read_here x rest e) exact_here in
       omega (arith, ap length good.parts, length-append (toks good.front) rest, ap length same, length-drop at tokens.tokens)
 
-  -- a statement, and the number of the token behind it
+  -- a statement, and the number of the token after it
   pub statement_run : (x : Statement) (rest : List Placed) → reading (100 - depth) statement given ≡ Ok (x, rest) → ReadsRun (Spells productions depth statement) (λ t. t) tokens at (Ok (x, length items - length rest))
   statement_run x rest e = run_read (Spells productions depth statement) (λ t. t) tokens at (reading (100 - depth) statement (drop at tokens.tokens)) exact_here x (length items - length rest) rest
       (read_here x rest e) (omega (arith, statement_left x rest e, ap length same))

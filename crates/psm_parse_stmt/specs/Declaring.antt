@@ -32,37 +32,37 @@ use Rattle.psm_parse_stmt.specs.declared.item.Heads.{Heads}
 
 -- ---- one declaration
 
--- what stands behind DECLARE and a name
+-- what stands after DECLARE and a name
 abbrev pub named_item : Place → Identifier → NamedRest → Item
 named_item place name (Variables others kind default) = item.Declaration (declarations.Variables place (several name others) kind default)
 named_item place name (Condition state) = item.Declaration (declarations.Condition place name state)
 named_item place name (Cursor insensitive query updatability) = item.Cursor (record { place = place; name = name; insensitive = insensitive; query = query; updatability = updatability })
 
--- what stands behind DECLARE and the kind of a handler
+-- what stands after DECLARE and the kind of a handler
 abbrev pub handled_item : Place → At HandlerKind → HandlerParts → Item
 handled_item place kind p = item.Handler (roll-Handler (record { place = place; «at» = kind.place; kind = kind.value; values = p.values; action = p.action }))
 
--- CONDITION [FOR state], behind a name
+-- CONDITION [FOR state], after a name
 abbrev pub condition_rest : Gram NamedRest
 condition_rest = seq condition_of (token (word w.Condition)) (optional for_state)
 
--- {"," name} type [DEFAULT source], behind a name
+-- {"," name} type [DEFAULT source], after a name
 abbrev pub variables_rest : Gram NamedRest
 variables_rest = or (seq variables_of other_variables typed) (seq one_variable data_type (optional default_source))
 
--- a handler, behind DECLARE
+-- a handler, after DECLARE
 abbrev pub handler_item : Place → Gram Item
 handler_item place = level HandlerRest handler_kind (handled_item place)
 
--- a name and what is declared of it, behind DECLARE
+-- a name and what is declared of it, after DECLARE
 abbrev pub named : Place → Gram NamedRest → Gram Item
 named place rest = seq (named_item place) (token name) rest
 
--- variables, a condition or a cursor, behind a name
+-- variables, a condition or a cursor, after a name
 abbrev pub any_rest : Gram NamedRest
 any_rest = or cursor_rest declaration_rest
 
--- what is declared behind DECLARE
+-- what is declared after DECLARE
 unfoldable pub declared_item : Place → Phase → Gram Item
 declared_item place Declarations = or (handler_item place) (named place any_rest)
 declared_item place Cursors = or (handler_item place) (named place cursor_rest)
@@ -80,11 +80,11 @@ phase_of stage.Declarations = Declarations
 phase_of stage.Cursors = Cursors
 phase_of stage.Handlers = Handlers
 
--- the stage behind a declaration
-abbrev pub stage_behind : Item → Stage
-stage_behind (item.Declaration d) = stage.Declarations
-stage_behind (item.Cursor c) = stage.Cursors
-stage_behind (item.Handler h) = stage.Handlers
+-- the stage after a declaration
+abbrev pub stage_after : Item → Stage
+stage_after (item.Declaration d) = stage.Declarations
+stage_after (item.Cursor c) = stage.Cursors
+stage_after (item.Handler h) = stage.Handlers
 
 -- ---- the declarations that were read
 
@@ -107,7 +107,7 @@ Adds old (item.Declaration d) new = (new.declarations.items ≡ old.declarations
 Adds old (item.Cursor c) new = (new.declarations.items ≡ old.declarations.items) × (new.cursors.items ≡ old.cursors.items ++ c ∷ []) × (new.handlers.items ≡ old.handlers.items)
 Adds old (item.Handler h) new = (new.declarations.items ≡ old.declarations.items) × (new.cursors.items ≡ old.cursors.items) × (new.handlers.items ≡ old.handlers.items ++ h ∷ [])
 
--- the declarations that were read, and the statements behind them
+-- the declarations that were read, and the statements after them
 abbrev pub heads_body : Heads → List Statement → Body
 heads_body heads statements = record { declarations = heads.declarations.items; cursors = heads.cursors.items; handlers = heads.handlers.items; statements = statements }
 

@@ -14,10 +14,10 @@ use psm_token::Word;
 use psm_tree::{Branch, Expr, Statement};
 use std::alloc::{AllocError, Global};
 
-/// The branches of IF or CASE, and the statements behind ELSE.
+/// The branches of IF or CASE, and the statements after ELSE.
 type Branches = (OneOrMore<Boxed<Branch>>, List<Boxed<Statement>>);
 
-/// The statements behind ELSE, or none; want of memory is the one refusal.
+/// The statements after ELSE, or none; out of memory is the one refusal.
 fn listed(
     alloc: Global,
     otherwise: Option<OneOrMore<Boxed<Statement>>>,

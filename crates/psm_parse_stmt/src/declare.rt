@@ -34,7 +34,7 @@ pub(crate) fn declarations(alloc: Global, tokens: &mut Tokens, levels: u32) -> R
             break;
         }
         let item = declaration(alloc, tokens, levels, stage)?;
-        stage = item.stage_behind();
+        stage = item.stage_after();
         heads.add(item)?;
     }
     Ok(heads)
@@ -52,7 +52,7 @@ fn declaration(alloc: Global, tokens: &mut Tokens, levels: u32, stage: Stage) ->
     Ok(item)
 }
 
-/// What stands behind DECLARE: at the last stage a handler alone.
+/// What stands after DECLARE: at the last stage a handler alone.
 #[cycle(statements)]
 #[tactic(auto, using(psm_tree::proofs::Reading::steps), unfolding(crate::specs::Declaring::declared_item))]
 fn declared(

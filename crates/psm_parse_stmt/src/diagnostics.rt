@@ -225,7 +225,7 @@ fn exception_diagnostics(
     Ok(Boxed::new(alloc, Diagnostics::Condition { number, items })?)
 }
 
-/// What stands behind DIAGNOSTICS: `information {"," information}`, or with EXCEPTION and a number.
+/// What stands after DIAGNOSTICS: `information {"," information}`, or with EXCEPTION and a number.
 #[tactic(auto, using(psm_tree::proofs::Reading::steps, psm_tree::proofs::Firsts::first_exception_diagnostics), unfolding(psm_tree::specs::StatementGrammar::diagnostics))]
 fn diagnostics(alloc: Global, tokens: &mut Tokens, levels: u32) -> Result<Boxed<Diagnostics>, Halt>
     ensures { Takes (reading levels diagnostics_part tokens.old.rest.now) result tokens.new.rest.now }

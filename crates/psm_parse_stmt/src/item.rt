@@ -30,11 +30,11 @@ pub(crate) struct Heads {
 }
 
 impl Item {
-    ghost use Rattle.psm_parse_stmt.specs.Declaring.{stage_behind};
+    ghost use Rattle.psm_parse_stmt.specs.Declaring.{stage_after};
 
-    /// Which declarations may come behind this one.
-    pub(crate) fn stage_behind(&self) -> Stage
-        ensures { result ≡ stage_behind self.now }
+    /// Which declarations may come after this one.
+    pub(crate) fn stage_after(&self) -> Stage
+        ensures { result ≡ stage_after self.now }
     {
         match self {
             Item::Declaration(_) => Stage::Declarations,
@@ -47,7 +47,7 @@ impl Item {
 impl Heads {
     ghost use Rattle.psm_parse_stmt.specs.Declaring.{Adds};
 
-    /// Puts a declaration behind the others of its kind. Want of memory is the one refusal.
+    /// Puts a declaration after the others of its kind. Out of memory is the one refusal.
     pub(crate) fn add(&mut self, item: Item) -> Result<(), AllocError>
         ensures { IfOk result (λ _. Adds self.old item self.new) }
     {

@@ -40,7 +40,7 @@ pub(crate) fn iterate_statement(
     Ok(Boxed::new(alloc, Simple::Iterate { place, label })?)
 }
 
-/// `[name]`, the label behind END.
+/// `[name]`, the label after END.
 #[tactic(auto, using(psm_tree::proofs::Reading::steps))]
 pub(crate) fn end_label(
     alloc: Global,

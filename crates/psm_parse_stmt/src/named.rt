@@ -1,4 +1,4 @@
-//! What stands behind DECLARE and a name (ISO/IEC 9075-4:1996, declarations; ISO/IEC 9075:1992, 13.1).
+//! What stands after DECLARE and a name (ISO/IEC 9075-4:1996, declarations; ISO/IEC 9075:1992, 13.1).
 ghost use Rattle.psm_grammar.specs.Forms.{optional};
 ghost use Rattle.psm_grammar.specs.Readers.{made};
 ghost use Rattle.psm_tree.specs.Parts.{Condition, Cursor, Variables};
@@ -19,7 +19,7 @@ use psm_tree::{
 };
 use std::alloc::Global;
 
-/// The words that stand behind the name of a cursor.
+/// The words that stand after the name of a cursor.
 const CURSOR_WORDS: [Word; 2] = [Word::Insensitive, Word::Cursor];
 
 /// `DEFAULT source`
@@ -60,7 +60,7 @@ fn typed(
     Ok((kind, default))
 }
 
-/// `{"," name} type [DEFAULT source]`, behind the first name.
+/// `{"," name} type [DEFAULT source]`, after the first name.
 #[tactic(auto, using(psm_tree::proofs::Reading::steps), unfolding(psm_tree::specs::StatementGrammar::typed, psm_tree::specs::StatementGrammar::other_variables))]
 fn variables_rest(
     alloc: Global,
@@ -78,7 +78,7 @@ fn variables_rest(
     Ok((List::of(Vec::new(alloc)), kind, default))
 }
 
-/// Variables, behind the name of the first of them.
+/// Variables, after the name of the first of them.
 #[tactic(auto, using(psm_tree::proofs::Reading::steps))]
 fn variables(
     alloc: Global,
@@ -99,7 +99,7 @@ fn variables(
     Ok(Item::Declaration(Boxed::new(alloc, variables)?))
 }
 
-/// `CONDITION [FOR state]`, behind its name.
+/// `CONDITION [FOR state]`, after its name.
 #[tactic(auto, using(psm_tree::proofs::Reading::steps))]
 fn condition_rest(alloc: Global, tokens: &mut Tokens, levels: u32) -> Result<Option<State>, Halt>
     ensures { TakesAs (λ x. Condition x) (reading levels condition_rest_part tokens.old.rest.now) result tokens.new.rest.now }
@@ -108,7 +108,7 @@ fn condition_rest(alloc: Global, tokens: &mut Tokens, levels: u32) -> Result<Opt
     perhaps_state(alloc, tokens, levels)
 }
 
-/// A condition, behind its name.
+/// A condition, after its name.
 #[tactic(auto, using(psm_tree::proofs::Reading::steps))]
 fn condition(
     alloc: Global,
@@ -124,7 +124,7 @@ fn condition(
     Ok(Item::Declaration(Boxed::new(alloc, condition)?))
 }
 
-/// What declares variables or a condition, behind the first name.
+/// What declares variables or a condition, after the first name.
 #[tactic(auto, using(psm_tree::proofs::Reading::steps), unfolding(psm_tree::specs::StatementGrammar::declaration_rest))]
 fn declaration_rest(
     alloc: Global,
@@ -141,7 +141,7 @@ fn declaration_rest(
     variables(alloc, place, name, tokens, levels)
 }
 
-/// `[INSENSITIVE] CURSOR FOR select [order] [FOR (READ ONLY | UPDATE)]`, behind its name.
+/// `[INSENSITIVE] CURSOR FOR select [order] [FOR (READ ONLY | UPDATE)]`, after its name.
 #[tactic(auto, using(psm_tree::proofs::Reading::steps), unfolding(psm_tree::specs::StatementGrammar::cursor_rest, psm_tree::specs::StatementGrammar::cursor_query))]
 fn cursor_rest(
     alloc: Global,
@@ -158,7 +158,7 @@ fn cursor_rest(
     Ok((insensitive, query, updatability))
 }
 
-/// A cursor, behind its name.
+/// A cursor, after its name.
 #[tactic(auto, using(psm_tree::proofs::Reading::steps))]
 fn cursor(
     alloc: Global,
@@ -180,7 +180,7 @@ fn cursor(
     Ok(Item::Cursor(Boxed::new(alloc, cursor)?))
 }
 
-/// A cursor, behind DECLARE.
+/// A cursor, after DECLARE.
 #[tactic(auto, using(psm_tree::proofs::Reading::steps))]
 pub(crate) fn named_cursor(
     alloc: Global,
@@ -194,7 +194,7 @@ pub(crate) fn named_cursor(
     cursor(alloc, place, name, tokens, levels)
 }
 
-/// What declares a cursor, variables or a condition, behind DECLARE.
+/// What declares a cursor, variables or a condition, after DECLARE.
 #[tactic(auto, using(psm_tree::proofs::Reading::steps, psm_tree::proofs::Firsts::first_cursor_rest))]
 pub(crate) fn named(
     alloc: Global,

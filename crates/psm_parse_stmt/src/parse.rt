@@ -15,7 +15,7 @@ use std::alloc::Global;
 /// The most levels of nesting.
 const MOST_LEVELS: u32 = 100;
 
-/// The statement that begins at token `at`, where `depth` levels are open, and the number of the token behind
+/// The statement that begins at token `at`, where `depth` levels are open, and the number of the token after
 /// it (ISO/IEC 9075-4:1996).
 ///
 /// # Errors

@@ -100,7 +100,7 @@ fn unlabelled_statement(
     Ok(Boxed::new(alloc, Statement::Block { label: None, block })?)
 }
 
-/// `":" block [name]`, behind the label.
+/// `":" block [name]`, after the label.
 #[cycle(statements)]
 #[tactic(auto, using(psm_tree::proofs::Reading::steps), unfolding(psm_tree::specs::StatementGrammar::labelled_block))]
 fn labelled_block(

@@ -24,7 +24,7 @@ module _ {X Y : Type 0} (L : Lang Placed Y) (view : X → Y) (tokens : Tokens) w
   pub all_read : (o : Out Placed Y) → Holds L AtEnd most_levels tokens.tokens o → (x : X) → o ≡ Ok (view x, []) → ReadsAll L view tokens (Ok x)
   all_read o exact x e = subst (Holds L AtEnd most_levels tokens.tokens) e exact
 
-  -- tokens are left behind a tree
+  -- tokens are left after a tree
   pub more_left : (o : Out Placed Y) → Holds L AtEnd most_levels tokens.tokens o → (y : Y) (rest : List Placed) → o ≡ Ok (y, rest) → rest ≢ [] → ReadsAll L view tokens (Err (fault_at tokens (halt.Syntax (length rest))))
   more_left o exact y rest e some =
       let good : Good L AtEnd most_levels tokens.tokens y rest = subst (Holds L AtEnd most_levels tokens.tokens) e exact in
@@ -41,10 +41,10 @@ module _ {X Y : Type 0} (L : Lang Placed Y) (view : X → Y) (tokens : Tokens) w
   all_halted o exact halt.Memory h = tt
 
   module _ (at : ℕ) (o : Out Placed Y) (exact : Holds L AtEnd most_levels (drop at tokens.tokens) o) where
-    behind_front : (front rest : List Placed) → drop at tokens.tokens ≡ front ++ rest → tokens.tokens ≡ (take at tokens.tokens ++ front) ++ rest
-    behind_front front rest e = sym (take-append-drop at tokens.tokens) ∙ ap (λ ts. take at tokens.tokens ++ ts) e ∙ sym (append_assoc (take at tokens.tokens) front rest)
+    after_front : (front rest : List Placed) → drop at tokens.tokens ≡ front ++ rest → tokens.tokens ≡ (take at tokens.tokens ++ front) ++ rest
+    after_front front rest e = sym (take-append-drop at tokens.tokens) ∙ ap (λ ts. take at tokens.tokens ++ ts) e ∙ sym (append_assoc (take at tokens.tokens) front rest)
 
-    -- the tree of a run, and the number of the token behind it
+    -- the tree of a run, and the number of the token after it
     pub run_read : (x : X) (n : ℕ) (rest : List Placed) → o ≡ Ok (view x, rest) → n + length rest ≡ length tokens.tokens → ReadsRun L view tokens at (Ok (x, n))
     run_read x n rest e count = (rest, subst (Holds L AtEnd most_levels (drop at tokens.tokens)) e exact, count)
 
@@ -52,8 +52,8 @@ module _ {X Y : Type 0} (L : Lang Placed Y) (view : X → Y) (tokens : Tokens) w
     pub run_halted : (e : Halt) → Halts e o → ReadsRun L view tokens at (Err (fault_at tokens e))
     run_halted (halt.Syntax n) h =
         let bad : Bad L AtEnd most_levels (drop at tokens.tokens) h.0 = subst (Holds L AtEnd most_levels (drop at tokens.tokens)) h.1 exact in
-        (h.0, bad, ap (place_left tokens) h.2 ∙ place_so tokens (take at tokens.tokens ++ toks bad.front) h.0 (behind_front (toks bad.front) h.0 bad.parts))
+        (h.0, bad, ap (place_left tokens) h.2 ∙ place_so tokens (take at tokens.tokens ++ toks bad.front) h.0 (after_front (toks bad.front) h.0 bad.parts))
     run_halted (halt.Deep n) h =
         let deep : Deep L AtEnd most_levels (drop at tokens.tokens) h.0 = subst (Holds L AtEnd most_levels (drop at tokens.tokens)) h.1 exact in
-        (h.0, deep, ap (place_left tokens) h.2 ∙ place_so tokens (take at tokens.tokens ++ toks deep.front) h.0 (behind_front (toks deep.front) h.0 deep.parts))
+        (h.0, deep, ap (place_left tokens) h.2 ∙ place_so tokens (take at tokens.tokens ++ toks deep.front) h.0 (after_front (toks deep.front) h.0 deep.parts))
     run_halted halt.Memory h = tt

@@ -23,7 +23,7 @@ pub fn plus_minus(tokens: &mut Tokens) -> Result<(Place, Sign), Halt>
     Ok((place, Sign::Plus))
 }
 
-/// `["+" | "-"] num | text | NULL`. The fault is at a first token that begins none of these, or behind the
+/// `["+" | "-"] num | text | NULL`. The fault is at a first token that begins none of these, or after the
 /// sign.
 #[tactic(auto, using(psm_tree::proofs::Reading::steps), unfolding(psm_tree::specs::ExprGrammar::constant))]
 pub fn constant(alloc: Global, tokens: &mut Tokens, levels: u32) -> Result<Constant, Halt>

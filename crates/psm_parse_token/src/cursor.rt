@@ -78,7 +78,7 @@ impl<'a> Tokens<'a> {
         }
     }
 
-    /// Whether one of the words stands at the front, and the other word behind it.
+    /// Whether one of the words stands at the front, and the other word after it.
     pub fn at_two(&self, words: &[Word], second: Word) -> bool
         ensures { result ≡ starts_two kind (kinds_of words.now) (word_kind second ∷ []) self.now.rest.now }
     {
@@ -138,7 +138,7 @@ impl<'a> Tokens<'a> {
         }
     }
 
-    /// Takes END and the word behind it, which end a statement; `Syntax` where another token or none stands at one of the two.
+    /// Takes END and the word after it, which end a statement; `Syntax` where another token or none stands at one of the two.
     #[tactic(auto, unfolding(crate::specs::Ended::two))]
     pub fn end_of(&mut self, word: Word) -> Result<(), Halt>
         ensures { Takes (ended word self.old.rest.now) result self.new.rest.now }

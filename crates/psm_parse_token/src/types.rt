@@ -110,7 +110,7 @@ pub fn plain_type(tokens: &mut Tokens, levels: u32) -> Result<DataType, Halt>
     varchar_type(tokens, levels)
 }
 
-/// `VARYING "(" num ")"`, behind `CHAR`.
+/// `VARYING "(" num ")"`, after `CHAR`.
 #[tactic(auto, using(psm_tree::proofs::Reading::steps), unfolding(psm_tree::specs::ExprGrammar::varying))]
 pub fn varying(tokens: &mut Tokens, levels: u32) -> Result<TypeForm, Halt>
     ensures { Takes (reading levels varying_part tokens.old.rest.now) result tokens.new.rest.now }
@@ -120,7 +120,7 @@ pub fn varying(tokens: &mut Tokens, levels: u32) -> Result<TypeForm, Halt>
     Ok(TypeForm::VarChar(most))
 }
 
-/// `["(" num ")"]`, behind `CHAR`.
+/// `["(" num ")"]`, after `CHAR`.
 #[tactic(auto, using(psm_tree::proofs::Reading::steps, psm_tree::proofs::Firsts::first_type_length), unfolding(psm_tree::specs::ExprGrammar::char_length))]
 pub fn char_length(tokens: &mut Tokens, levels: u32) -> Result<TypeForm, Halt>
     ensures { Takes (reading levels char_length_part tokens.old.rest.now) result tokens.new.rest.now }
@@ -132,7 +132,7 @@ pub fn char_length(tokens: &mut Tokens, levels: u32) -> Result<TypeForm, Halt>
     Ok(TypeForm::Char(Some(most)))
 }
 
-/// `VARYING "(" num ")" | ["(" num ")"]`, behind `CHAR`.
+/// `VARYING "(" num ")" | ["(" num ")"]`, after `CHAR`.
 #[tactic(auto, using(psm_tree::proofs::Reading::steps, psm_tree::proofs::Firsts::first_varying), unfolding(psm_tree::specs::ExprGrammar::char_rest))]
 pub fn char_rest(tokens: &mut Tokens, levels: u32) -> Result<TypeForm, Halt>
     ensures { Takes (reading levels char_rest_part tokens.old.rest.now) result tokens.new.rest.now }

@@ -18,8 +18,8 @@ use Rattle.psm_print.specs.StatementTokens.{state_tokens, ordered_query_tokens, 
 use Rattle.psm_print.proofs.PartTokens.{handler_parts_tokens, body_tokens, named_rest_tokens, declared_tokens, part_tokens, Late, Comes, Ordered}
 use Rattle.psm_print.proofs.Regrouped.{before2, before3}
 use Rattle.psm_print.proofs.Equations.{handler_rolled}
-use Rattle.psm_print.proofs.Into.{Setting, Into, into_told_if, into_seq, into_or, into_image, into_perhaps}
-use Rattle.psm_print.proofs.Tokens.{says_word, says_sign, into_level, into_next, into_word, behind_word, behind_sign, before_word}
+use Rattle.psm_print.proofs.Into.{PrintContext, Into, into_told_if, into_seq, into_or, into_image, into_perhaps}
+use Rattle.psm_print.proofs.Tokens.{says_word, says_sign, into_level, into_next, into_word, after_word, after_sign, before_word}
 use Rattle.psm_print.proofs.Chosen.{into_name, says_handler, handler_told}
 use Rattle.psm_print.proofs.TypesInto.{next_names_into, data_type_into}
 use Rattle.psm_print.proofs.ExprInto.{source_into}
@@ -27,11 +27,11 @@ use Rattle.psm_print.proofs.PartsInto.{ordered_into, for_state_into, insensitive
 use Rattle.psm_print.proofs.StatementInto.{ended_statements_into}
 use Rattle.psm_print.proofs.Phases.{only_comes}
 
--- ---- behind the name
+-- ---- after the name
 
-default_into : {z : Setting} → Into z typed typed (λ p. type_tokens p.0 ++ perhaps (word w.Default) (option_map expr_tokens p.1))
+default_into : {z : PrintContext} → Into z typed typed (λ p. type_tokens p.0 ++ perhaps (word w.Default) (option_map expr_tokens p.1))
 unfolding StatementGrammar.all_statements
-default_into = into_seq (λ p. type_tokens p.0 ++ perhaps (word w.Default) (option_map expr_tokens p.1)) data_type_into (into_perhaps (word w.Default) expr_tokens (behind_word w.Default source_into) (λ x. refl)) (λ x y. refl)
+default_into = into_seq (λ p. type_tokens p.0 ++ perhaps (word w.Default) (option_map expr_tokens p.1)) data_type_into (into_perhaps (word w.Default) expr_tokens (after_word w.Default source_into) (λ x. refl)) (λ x y. refl)
 
 -- names with a comma between two of them
 abbrev apart : List Identifier → Spelling
@@ -41,41 +41,41 @@ apart (name ∷ names) = name_tokens name ++ each (sign s.Comma) (map name_token
 abbrev Begins : List Identifier → Type 0
 Begins names = sign s.Comma ++ apart names ≡ each (sign s.Comma) (map name_tokens names)
 
-others_into : {z : Setting} → Into z other_variables other_variables (λ xs. each (sign s.Comma) (map name_tokens xs))
+others_into : {z : PrintContext} → Into z other_variables other_variables (λ xs. each (sign s.Comma) (map name_tokens xs))
 unfolding StatementGrammar.all_statements
-others_into = into_told_if (λ xs. each (sign s.Comma) (map name_tokens xs)) (λ u x l. subst Begins (sym (l.made ∙ l.right.made)) refl) (behind_sign s.Comma (into_seq apart into_name next_names_into (λ x y. refl)))
+others_into = into_told_if (λ xs. each (sign s.Comma) (map name_tokens xs)) (λ u x l. subst Begins (sym (l.made ∙ l.right.made)) refl) (after_sign s.Comma (into_seq apart into_name next_names_into (λ x y. refl)))
 
-declaration_into : {z : Setting} → Into z declaration_rest declaration_rest named_rest_tokens
+declaration_into : {z : PrintContext} → Into z declaration_rest declaration_rest named_rest_tokens
 unfolding StatementGrammar.all_statements
 declaration_into = into_or (into_seq named_rest_tokens (into_word w.Condition) (into_perhaps (word w.For) state_tokens for_state_into (λ x. refl)) (λ x y. refl))
     (into_or (into_seq named_rest_tokens others_into default_into (λ x y. before2 (each (sign s.Comma) (map name_tokens x)) (type_tokens y.0) (perhaps (word w.Default) (option_map expr_tokens y.1))))
-    (into_seq named_rest_tokens data_type_into (into_perhaps (word w.Default) expr_tokens (behind_word w.Default source_into) (λ x. refl)) (λ x y. refl)))
+    (into_seq named_rest_tokens data_type_into (into_perhaps (word w.Default) expr_tokens (after_word w.Default source_into) (λ x. refl)) (λ x y. refl)))
 
-cursor_query_into : {z : Setting} → Into z cursor_query cursor_query (λ p. word w.For ++ (ordered_query_tokens p.0 ++ perhaps (word w.For) (option_map updatability_tokens p.1)))
+cursor_query_into : {z : PrintContext} → Into z cursor_query cursor_query (λ p. word w.For ++ (ordered_query_tokens p.0 ++ perhaps (word w.For) (option_map updatability_tokens p.1)))
 unfolding StatementGrammar.all_statements
-cursor_query_into = behind_word w.For (into_seq (λ p. ordered_query_tokens p.0 ++ perhaps (word w.For) (option_map updatability_tokens p.1)) ordered_into (into_perhaps (word w.For) updatability_tokens updatability_into (λ x. refl)) (λ x y. refl))
+cursor_query_into = after_word w.For (into_seq (λ p. ordered_query_tokens p.0 ++ perhaps (word w.For) (option_map updatability_tokens p.1)) ordered_into (into_perhaps (word w.For) updatability_tokens updatability_into (λ x. refl)) (λ x y. refl))
 
-cursor_into : {z : Setting} → Into z cursor_rest cursor_rest named_rest_tokens
+cursor_into : {z : PrintContext} → Into z cursor_rest cursor_rest named_rest_tokens
 unfolding StatementGrammar.all_statements
 cursor_into = into_seq named_rest_tokens (before_word w.Cursor insensitive_into) cursor_query_into (λ x y. before3 (insensitive_tokens x ++ word w.Cursor) (word w.For) (ordered_query_tokens y.0) (perhaps (word w.For) (option_map updatability_tokens y.1)))
 
--- ---- behind DECLARE
+-- ---- after DECLARE
 
 abbrev named_tokens : NamedRest × Body → Spelling
 named_tokens p = named_rest_tokens p.0 ++ (sign s.Semicolon ++ body_tokens p.1)
 
-declared_cursor_into : {z : Setting} → Into z declared_cursor declared_cursor named_tokens
+declared_cursor_into : {z : PrintContext} → Into z declared_cursor declared_cursor named_tokens
 unfolding StatementGrammar.all_statements
 declared_cursor_into = into_seq named_tokens cursor_into (into_next (λ b. sign s.Semicolon ++ body_tokens b) (says_sign s.Semicolon) (λ a y h. refl)) (λ x y. refl)
 
-declared_variables_into : {z : Setting} → Into z declared_variables declared_variables named_tokens
+declared_variables_into : {z : PrintContext} → Into z declared_variables declared_variables named_tokens
 unfolding StatementGrammar.all_statements
 declared_variables_into = into_seq named_tokens declaration_into (into_next (λ b. sign s.Semicolon ++ body_tokens b) (says_sign s.Semicolon) (λ a y h. refl)) (λ x y. refl)
 
 abbrev declare_tokens : Declared × Body → Spelling
 declare_tokens p = declared_tokens p.0 ++ sign s.Semicolon ++ body_tokens p.1
 
-declared_handler_into : {z : Setting} → Into z declared_handler declared_handler declare_tokens
+declared_handler_into : {z : PrintContext} → Into z declared_handler declared_handler declare_tokens
 unfolding StatementGrammar.all_statements
 declared_handler_into = into_seq declare_tokens (into_level declared_tokens says_handler (λ a y. ap (λ ts. ts ++ handler_parts_tokens y) (handler_told a.value)))
     (into_next (λ b. sign s.Semicolon ++ body_tokens b) (says_sign s.Semicolon) (λ a y h. refl)) (λ x y. before2 (declared_tokens x) (sign s.Semicolon) (body_tokens y))
@@ -83,7 +83,7 @@ declared_handler_into = into_seq declare_tokens (into_level declared_tokens says
 named_told : (name : Identifier) (p : NamedRest × Body) → name_tokens name ++ named_tokens p ≡ declare_tokens (Named name p.0, p.1)
 named_told name p = before2 (name_tokens name ++ named_rest_tokens p.0) (sign s.Semicolon) (body_tokens p.1)
 
-pub declare_into : {z : Setting} (phase : Phase) → Into z (declare_rest phase) (declare_rest phase) declare_tokens
+pub declare_into : {z : PrintContext} (phase : Phase) → Into z (declare_rest phase) (declare_rest phase) declare_tokens
 unfolding StatementGrammar.all_statements
 declare_into Declarations = into_or declared_handler_into (into_seq declare_tokens into_name (into_or declared_cursor_into declared_variables_into) named_told)
 declare_into Cursors = into_or declared_handler_into (into_seq declare_tokens into_name declared_cursor_into named_told)
@@ -133,10 +133,10 @@ declared_told Declarations place (Named name x) b h = named_first place name x b
 declared_told Cursors place (Named name x) b h = named_first place name x b (only_comes x b h)
 declared_told Handlers place (Named name x) b h = absurd h
 
-pub body_into : {z : Setting} (phase : Phase) → Into z (body_rest phase) (body_rest phase) body_tokens
+pub body_into : {z : PrintContext} (phase : Phase) → Into z (body_rest phase) (body_rest phase) body_tokens
 unfolding StatementGrammar.all_statements
 body_into phase = into_or (into_next body_tokens (says_word w.Declare) (λ a y h. declared_told phase a y.0 y.1 h)) (into_image body_tokens (before_word w.End ended_statements_into) (λ x. refl))
 
-pub begin_into : {z : Setting} → Into z begin_rest begin_rest (part_tokens BeginRest)
+pub begin_into : {z : PrintContext} → Into z begin_rest begin_rest (part_tokens BeginRest)
 unfolding StatementGrammar.all_statements
 begin_into = into_seq (part_tokens BeginRest) atomic_into (body_into Declarations) (λ x y. refl)

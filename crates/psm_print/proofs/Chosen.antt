@@ -36,7 +36,7 @@ use Rattle.psm_tree.specs.declared.file.Mode.TheVariants as modes
 use Rattle.psm_print.specs.ExprTokens.{name_tokens, number_tokens, plus_minus_tokens, comparison_tokens, operator_tokens, text_function_tokens, set_function_tokens}
 use Rattle.psm_print.specs.StatementTokens.{handler_kind_tokens, statement_item_tokens, condition_item_tokens}
 use Rattle.psm_print.specs.FileTokens.{mode_tokens}
-use Rattle.psm_print.proofs.Into.{Setting, Into, into_told}
+use Rattle.psm_print.proofs.Into.{PrintContext, Into, into_told}
 use Rattle.psm_print.proofs.Tokens.{Says, says_all, into_token}
 
 -- the place of a token whose place no tree keeps
@@ -68,37 +68,37 @@ word_no_text _ = refl
 not_both : {b : Bool} {A : Type 0} → b ≡ true → b ≡ false → A
 not_both p q = cc
 
-name_kept : (z : Setting) (y : Token) → has (token_kind y) name_kinds ≡ true → z.good y → z.good (t.Name (spelled y))
+name_kept : (z : PrintContext) (y : Token) → has (token_kind y) name_kinds ≡ true → z.good y → z.good (t.Name (spelled y))
 name_kept z (t.Word x) e g = z.kept.of_spelled x e
 name_kept z (t.Name n) e g = g
 name_kept z (t.Number n) e g = not_both e refl
 name_kept z (t.Text n) e g = not_both e refl
 name_kept z (t.Sign x) e g = not_both e (sign_no_name x)
 
-number_kept : (z : Setting) (y : Token) → has (token_kind y) (number_kind ∷ []) ≡ true → z.good y → z.good (t.Number (number_of y))
+number_kept : (z : PrintContext) (y : Token) → has (token_kind y) (number_kind ∷ []) ≡ true → z.good y → z.good (t.Number (number_of y))
 number_kept z (t.Word x) e g = not_both e (word_no_number x)
 number_kept z (t.Name n) e g = not_both e refl
 number_kept z (t.Number n) e g = g
 number_kept z (t.Text n) e g = not_both e refl
 number_kept z (t.Sign x) e g = not_both e (sign_no_number x)
 
-text_kept : (z : Setting) (y : Token) → has (token_kind y) (text_kind ∷ []) ≡ true → z.good y → z.good (t.Text (characters_of y))
+text_kept : (z : PrintContext) (y : Token) → has (token_kind y) (text_kind ∷ []) ≡ true → z.good y → z.good (t.Text (characters_of y))
 text_kept z (t.Word x) e g = not_both e (word_no_text x)
 text_kept z (t.Name n) e g = not_both e refl
 text_kept z (t.Number n) e g = not_both e refl
 text_kept z (t.Text n) e g = g
 text_kept z (t.Sign x) e g = not_both e (sign_no_text x)
 
-pub says_name : {z : Setting} → Says z name name (λ i. t.Name i.name)
+pub says_name : {z : PrintContext} → Says z name name (λ i. t.Name i.name)
 says_name {z} = record { place = λ i. i.place; known = λ y e. refl; again = λ y e. refl; kept = λ y e g. name_kept z y.token e g }
 
-pub into_name : {z : Setting} → Into z (token name) (token name) name_tokens
+pub into_name : {z : PrintContext} → Into z (token name) (token name) name_tokens
 into_name = into_token says_name
 
-pub into_number : {z : Setting} → Into z (token number) (token number) (λ n. number_tokens n.value)
+pub into_number : {z : PrintContext} → Into z (token number) (token number) (λ n. number_tokens n.value)
 into_number {z} = into_token (says_all (λ n. n.place) (λ n. refl) (λ n. refl) (λ y. number_kept z y.token))
 
-pub into_text : {z : Setting} → Into z (token text) (token text) (λ n. t.Text n.value ∷ [])
+pub into_text : {z : PrintContext} → Into z (token text) (token text) (λ n. t.Text n.value ∷ [])
 into_text {z} = into_token (says_all (λ n. n.place) (λ n. refl) (λ n. refl) (λ y. text_kept z y.token))
 
 -- ---- operators
@@ -119,7 +119,7 @@ plus_minus_told : (a : PlusMinus) → t.Sign (plus_minus_sign a) ∷ [] ≡ plus
 plus_minus_told signs.Plus = refl
 plus_minus_told signs.Minus = refl
 
-pub into_plus_minus : {z : Setting} → Into z (token plus_minus) (token plus_minus) (λ a. plus_minus_tokens a.value)
+pub into_plus_minus : {z : PrintContext} → Into z (token plus_minus) (token plus_minus) (λ a. plus_minus_tokens a.value)
 into_plus_minus {z} = into_told _ (λ a. plus_minus_told a.value) (into_token {tok = λ a. t.Sign (plus_minus_sign a.value)} (says_all (λ a. a.place) (λ a. plus_minus_known a.value)
     (λ a. ap (λ v. record { place = a.place; value = v }) (plus_minus_again a.value)) (λ y e g. z.kept.of_sign _)))
 
@@ -143,7 +143,7 @@ comparison_told : (a : Comparison) → t.Sign (comparison_sign a) ∷ [] ≡ com
 comparison_told comparisons.Equal = refl
 comparison_told _ = refl
 
-pub into_comparison : {z : Setting} → Into z (token comparison) (token comparison) comparison_tokens
+pub into_comparison : {z : PrintContext} → Into z (token comparison) (token comparison) comparison_tokens
 into_comparison {z} = into_told _ comparison_told (into_token {tok = λ a. t.Sign (comparison_sign a)} (says_all (λ a. start) comparison_known comparison_again (λ y e g. z.kept.of_sign _)))
 
 abbrev operator_sign : Operator → Sign
@@ -167,7 +167,7 @@ sum_operator_again (t.Sign s.Minus) = refl
 sum_operator_again (t.Sign s.Concatenation) = refl
 sum_operator_again _ = refl
 
-pub into_sum_operator : {z : Setting} → Into z (token sum_operator) (token sum_operator) operator_tokens
+pub into_sum_operator : {z : PrintContext} → Into z (token sum_operator) (token sum_operator) operator_tokens
 into_sum_operator {z} = into_told _ operator_told (into_token {tok = λ a. t.Sign (operator_sign a)} (record { place = λ a. start; known = λ y e. sum_operator_known y.token; again = λ y e. sum_operator_again y.token; kept = λ y e g. z.kept.of_sign _ }))
 
 term_operator_known : (y : Token) → has (sign_kind (operator_sign (term_operator_of y))) term_operator.kinds ≡ true
@@ -178,7 +178,7 @@ term_operator_again : (y : Token) → term_operator_of (t.Sign (operator_sign (t
 term_operator_again (t.Sign s.Solidus) = refl
 term_operator_again _ = refl
 
-pub into_term_operator : {z : Setting} → Into z (token term_operator) (token term_operator) operator_tokens
+pub into_term_operator : {z : PrintContext} → Into z (token term_operator) (token term_operator) operator_tokens
 into_term_operator {z} = into_told _ operator_told (into_token {tok = λ a. t.Sign (operator_sign a)} (record { place = λ a. start; known = λ y e. term_operator_known y.token; again = λ y e. term_operator_again y.token; kept = λ y e g. z.kept.of_sign _ }))
 
 -- ---- words that choose
@@ -200,7 +200,7 @@ pub text_function_told : (a : TextFunction) → t.Word (text_function_word a) �
 text_function_told functions.CharLength = refl
 text_function_told _ = refl
 
-pub says_text_function : {z : Setting} → Says z text_function text_function (λ a. t.Word (text_function_word a.value))
+pub says_text_function : {z : PrintContext} → Says z text_function text_function (λ a. t.Word (text_function_word a.value))
 says_text_function {z} = says_all (λ a. a.place) (λ a. text_function_known a.value) (λ a. ap (λ v. record { place = a.place; value = v }) (text_function_again a.value)) (λ y e g. z.kept.of_word _)
 
 abbrev set_function_word : SetFunction → Word
@@ -226,7 +226,7 @@ set_function_told : (a : SetFunction) → t.Word (set_function_word a) ∷ [] �
 set_function_told sets.Count = refl
 set_function_told _ = refl
 
-pub into_set_function : {z : Setting} → Into z (token set_function) (token set_function) (λ a. set_function_tokens a.value)
+pub into_set_function : {z : PrintContext} → Into z (token set_function) (token set_function) (λ a. set_function_tokens a.value)
 into_set_function {z} = into_told _ (λ a. set_function_told a.value) (into_token {tok = λ a. t.Word (set_function_word a.value)} (record {
   place = λ a. a.place;
   known = λ y e. set_function_known y.token;
@@ -248,23 +248,23 @@ side_again sides.Leading = refl
 side_again _ = refl
 
 -- the side, also where both sides are said
-pub into_side : {z : Setting} → Into z (token trim_side) (token trim_side) (λ a. t.Word (side_word a) ∷ [])
+pub into_side : {z : PrintContext} → Into z (token trim_side) (token trim_side) (λ a. t.Word (side_word a) ∷ [])
 into_side {z} = into_token {tok = λ a. t.Word (side_word a)} (says_all (λ a. start) side_known side_again (λ y e g. z.kept.of_word _))
 
-pub into_integer : {z : Setting} → Into z (token integer_word) (token integer_word) (λ a. t.Word w.Integer ∷ [])
+pub into_integer : {z : PrintContext} → Into z (token integer_word) (token integer_word) (λ a. t.Word w.Integer ∷ [])
 into_integer {z} = into_token (says_all (λ a. a) (λ a. refl) (λ a. refl) (λ y e g. z.kept.of_word _))
 
-pub into_numeric : {z : Setting} → Into z (token numeric_word) (token numeric_word) (λ a. t.Word w.Numeric ∷ [])
+pub into_numeric : {z : PrintContext} → Into z (token numeric_word) (token numeric_word) (λ a. t.Word w.Numeric ∷ [])
 into_numeric {z} = into_token (says_all (λ a. a) (λ a. refl) (λ a. refl) (λ y e g. z.kept.of_word _))
 
-pub into_char : {z : Setting} → Into z (token char_word) (token char_word) (λ a. t.Word w.Char ∷ [])
+pub into_char : {z : PrintContext} → Into z (token char_word) (token char_word) (λ a. t.Word w.Char ∷ [])
 into_char {z} = into_token (says_all (λ a. a) (λ a. refl) (λ a. refl) (λ y e g. z.kept.of_word _))
 
 -- CHAR or CHARACTER before VARYING becomes VARCHAR
-pub char_into_varchar : {z : Setting} → Into z (token char_word) (token (word w.VarChar)) (λ a. t.Word w.VarChar ∷ [])
+pub char_into_varchar : {z : PrintContext} → Into z (token char_word) (token (word w.VarChar)) (λ a. t.Word w.VarChar ∷ [])
 char_into_varchar {z} = into_token (says_all (λ a. a) (λ a. refl) (λ a. refl) (λ y e g. z.kept.of_word _))
 
-pub into_exception : {z : Setting} → Into z (token exception_word) (token exception_word) (λ a. t.Word w.Exception ∷ [])
+pub into_exception : {z : PrintContext} → Into z (token exception_word) (token exception_word) (λ a. t.Word w.Exception ∷ [])
 into_exception {z} = into_token (says_all (λ a. a) (λ a. refl) (λ a. refl) (λ y e g. z.kept.of_word _))
 
 abbrev pub handler_word : HandlerKind → Word
@@ -284,7 +284,7 @@ pub handler_told : (a : HandlerKind) → t.Word (handler_word a) ∷ [] ≡ hand
 handler_told handlers.Continue = refl
 handler_told _ = refl
 
-pub says_handler : {z : Setting} → Says z handler_kind handler_kind (λ a. t.Word (handler_word a.value))
+pub says_handler : {z : PrintContext} → Says z handler_kind handler_kind (λ a. t.Word (handler_word a.value))
 says_handler {z} = says_all (λ a. a.place) (λ a. handler_known a.value) (λ a. ap (λ v. record { place = a.place; value = v }) (handler_again a.value)) (λ y e g. z.kept.of_word _)
 
 abbrev item_word : StatementItem → Word
@@ -304,7 +304,7 @@ item_told : (a : StatementItem) → t.Word (item_word a) ∷ [] ≡ statement_it
 item_told items.Number = refl
 item_told _ = refl
 
-pub into_statement_item : {z : Setting} → Into z (token statement_item) (token statement_item) (λ a. statement_item_tokens a.value)
+pub into_statement_item : {z : PrintContext} → Into z (token statement_item) (token statement_item) (λ a. statement_item_tokens a.value)
 into_statement_item {z} = into_told _ (λ a. item_told a.value) (into_token {tok = λ a. t.Word (item_word a.value)} (says_all (λ a. a.place) (λ a. item_known a.value)
     (λ a. ap (λ v. record { place = a.place; value = v }) (item_again a.value)) (λ y e g. z.kept.of_word _)))
 
@@ -329,7 +329,7 @@ condition_told : (a : ConditionItem) → t.Word (condition_word a) ∷ [] ≡ co
 condition_told conditions.ConditionNumber = refl
 condition_told _ = refl
 
-pub into_condition_item : {z : Setting} → Into z (token condition_item) (token condition_item) (λ a. condition_item_tokens a.value)
+pub into_condition_item : {z : PrintContext} → Into z (token condition_item) (token condition_item) (λ a. condition_item_tokens a.value)
 into_condition_item {z} = into_told _ (λ a. condition_told a.value) (into_token {tok = λ a. t.Word (condition_word a.value)} (says_all (λ a. a.place) (λ a. condition_known a.value)
     (λ a. ap (λ v. record { place = a.place; value = v }) (condition_again a.value)) (λ y e g. z.kept.of_word _)))
 
@@ -350,6 +350,6 @@ mode_told : (a : Mode) → t.Word (mode_word a) ∷ [] ≡ mode_tokens a
 mode_told modes.In = refl
 mode_told _ = refl
 
-pub into_mode : {z : Setting} → Into z (token mode) (token mode) (λ a. mode_tokens a.value)
+pub into_mode : {z : PrintContext} → Into z (token mode) (token mode) (λ a. mode_tokens a.value)
 into_mode {z} = into_told _ (λ a. mode_told a.value) (into_token {tok = λ a. t.Word (mode_word a.value)} (says_all (λ a. a.place) (λ a. mode_known a.value)
     (λ a. ap (λ v. record { place = a.place; value = v }) (mode_again a.value)) (λ y e g. z.kept.of_word _)))

@@ -13,15 +13,15 @@ use Rattle.psm_tree.specs.declared.types.Sign.{Sign as PlusMinus}
 use Rattle.psm_tree.specs.declared.types.DataType.{DataType}
 use Rattle.psm_tree.specs.declared.expr.Expr.{Expr, roll-Expr}
 use Rattle.psm_tree.specs.declared.expr.Expr.TheVariants as exprs
-use Rattle.psm_tree.specs.declared.expr.Expr.TheOpen.{Expr-F, Pick-F, Link-F, Select-F, When-F}
+use Rattle.psm_tree.specs.declared.expr.Expr.TheOpen.{Expr-F, Pick-F, ChainLink-F, Select-F, When-F}
 use Rattle.psm_tree.specs.declared.expr.Expr.TheOpen as layers
-use Rattle.psm_tree.specs.declared.expr.Expr.TheFolds.{map-Expr, map-Pick, map-Link, map-Select, map-When, fold-roll-Expr, fold-roll-Pick, fold-roll-Link, fold-roll-Select, fold-roll-When, fold_out-Link, fold_out-Select, fold_out-When}
-use Rattle.psm_tree.specs.declared.expr.Junction.{Junction}
+use Rattle.psm_tree.specs.declared.expr.Expr.TheFolds.{map-Expr, map-Pick, map-ChainLink, map-Select, map-When, fold-roll-Expr, fold-roll-Pick, fold-roll-ChainLink, fold-roll-Select, fold-roll-When, fold_out-ChainLink, fold_out-Select, fold_out-When}
+use Rattle.psm_tree.specs.declared.expr.LogicalOperator.{LogicalOperator}
 use Rattle.psm_tree.specs.declared.expr.Comparison.{Comparison}
 use Rattle.psm_tree.specs.declared.expr.TextFunction.{TextFunction}
 use Rattle.psm_tree.specs.declared.expr.SetFunction.{SetFunction}
 use Rattle.psm_tree.specs.declared.expr.TrimSide.{TrimSide}
-use Rattle.psm_tree.specs.declared.expr.Link.{Link, out-Link, roll-Link}
+use Rattle.psm_tree.specs.declared.expr.ChainLink.{ChainLink, out-ChainLink, roll-ChainLink}
 use Rattle.psm_tree.specs.declared.expr.When.{When, out-When, roll-When}
 use Rattle.psm_tree.specs.declared.expr.Select.{Select, out-Select, roll-Select}
 use Rattle.psm_tree.specs.declared.expr.Pick.{Pick, roll-Pick}
@@ -41,23 +41,23 @@ use Rattle.psm_tree.specs.declared.statement.Declaration.{Declaration}
 use Rattle.psm_tree.specs.declared.statement.CursorDeclaration.{CursorDeclaration}
 use Rattle.psm_tree.specs.declared.statement.Simple.{Simple}
 use Rattle.psm_print.specs.Spelling.{Spelling, word, sign, perhaps, each, separated, listed, ended, all_of, in_parens}
-use Rattle.psm_print.specs.ExprTokens.{name_tokens, target_tokens, number_tokens, type_tokens, plus_minus_tokens, junction_tokens, comparison_tokens, operator_tokens, text_function_tokens, set_function_tokens, side_tokens, not_tokens, alias_tokens, table_tokens, expr_layer_tokens, pick_layer_tokens, link_layer_tokens, select_layer_tokens, when_layer_tokens, expr_tokens, pick_tokens, link_tokens, select_tokens, when_tokens}
+use Rattle.psm_print.specs.ExprTokens.{name_tokens, target_tokens, number_tokens, type_tokens, plus_minus_tokens, logical_operator_tokens, comparison_tokens, operator_tokens, text_function_tokens, set_function_tokens, side_tokens, not_tokens, alias_tokens, table_tokens, expr_layer_tokens, pick_layer_tokens, chain_link_layer_tokens, select_layer_tokens, when_layer_tokens, expr_tokens, pick_tokens, chain_link_tokens, select_tokens, when_tokens}
 use Rattle.psm_print.specs.StatementTokens.{declaration_tokens, cursor_tokens, handler_kind_tokens, handled_tokens, for_head_tokens, start_tokens, end_tokens, atomic_tokens, simple_tokens, else_tokens, block_layer_tokens, statement_layer_tokens, branch_layer_tokens, handler_layer_tokens, block_tokens, statement_tokens, branch_tokens, handler_tokens}
 
-pub expr_rolled : (layer : Expr-F Expr Pick Link Select When) → expr_tokens (roll-Expr layer) ≡ expr_layer_tokens (map-Expr Expr Pick Link Select When Spelling Spelling Spelling Spelling Spelling expr_tokens pick_tokens link_tokens select_tokens when_tokens layer)
-expr_rolled layer = fold-roll-Expr Spelling Spelling Spelling Spelling Spelling expr_layer_tokens pick_layer_tokens link_layer_tokens select_layer_tokens when_layer_tokens layer
+pub expr_rolled : (layer : Expr-F Expr Pick ChainLink Select When) → expr_tokens (roll-Expr layer) ≡ expr_layer_tokens (map-Expr Expr Pick ChainLink Select When Spelling Spelling Spelling Spelling Spelling expr_tokens pick_tokens chain_link_tokens select_tokens when_tokens layer)
+expr_rolled layer = fold-roll-Expr Spelling Spelling Spelling Spelling Spelling expr_layer_tokens pick_layer_tokens chain_link_layer_tokens select_layer_tokens when_layer_tokens layer
 
-pub pick_rolled : (layer : Pick-F Expr Pick Link Select When) → pick_tokens (roll-Pick layer) ≡ pick_layer_tokens (map-Pick Expr Pick Link Select When Spelling Spelling Spelling Spelling Spelling expr_tokens pick_tokens link_tokens select_tokens when_tokens layer)
-pick_rolled layer = fold-roll-Pick Spelling Spelling Spelling Spelling Spelling expr_layer_tokens pick_layer_tokens link_layer_tokens select_layer_tokens when_layer_tokens layer
+pub pick_rolled : (layer : Pick-F Expr Pick ChainLink Select When) → pick_tokens (roll-Pick layer) ≡ pick_layer_tokens (map-Pick Expr Pick ChainLink Select When Spelling Spelling Spelling Spelling Spelling expr_tokens pick_tokens chain_link_tokens select_tokens when_tokens layer)
+pick_rolled layer = fold-roll-Pick Spelling Spelling Spelling Spelling Spelling expr_layer_tokens pick_layer_tokens chain_link_layer_tokens select_layer_tokens when_layer_tokens layer
 
-pub link_rolled : (layer : Link-F Expr Pick Link Select When) → link_tokens (roll-Link layer) ≡ link_layer_tokens (map-Link Expr Pick Link Select When Spelling Spelling Spelling Spelling Spelling expr_tokens pick_tokens link_tokens select_tokens when_tokens layer)
-link_rolled layer = fold-roll-Link Spelling Spelling Spelling Spelling Spelling expr_layer_tokens pick_layer_tokens link_layer_tokens select_layer_tokens when_layer_tokens layer
+pub chain_link_rolled : (layer : ChainLink-F Expr Pick ChainLink Select When) → chain_link_tokens (roll-ChainLink layer) ≡ chain_link_layer_tokens (map-ChainLink Expr Pick ChainLink Select When Spelling Spelling Spelling Spelling Spelling expr_tokens pick_tokens chain_link_tokens select_tokens when_tokens layer)
+chain_link_rolled layer = fold-roll-ChainLink Spelling Spelling Spelling Spelling Spelling expr_layer_tokens pick_layer_tokens chain_link_layer_tokens select_layer_tokens when_layer_tokens layer
 
-pub select_rolled : (layer : Select-F Expr Pick Link Select When) → select_tokens (roll-Select layer) ≡ select_layer_tokens (map-Select Expr Pick Link Select When Spelling Spelling Spelling Spelling Spelling expr_tokens pick_tokens link_tokens select_tokens when_tokens layer)
-select_rolled layer = fold-roll-Select Spelling Spelling Spelling Spelling Spelling expr_layer_tokens pick_layer_tokens link_layer_tokens select_layer_tokens when_layer_tokens layer
+pub select_rolled : (layer : Select-F Expr Pick ChainLink Select When) → select_tokens (roll-Select layer) ≡ select_layer_tokens (map-Select Expr Pick ChainLink Select When Spelling Spelling Spelling Spelling Spelling expr_tokens pick_tokens chain_link_tokens select_tokens when_tokens layer)
+select_rolled layer = fold-roll-Select Spelling Spelling Spelling Spelling Spelling expr_layer_tokens pick_layer_tokens chain_link_layer_tokens select_layer_tokens when_layer_tokens layer
 
-pub when_rolled : (layer : When-F Expr Pick Link Select When) → when_tokens (roll-When layer) ≡ when_layer_tokens (map-When Expr Pick Link Select When Spelling Spelling Spelling Spelling Spelling expr_tokens pick_tokens link_tokens select_tokens when_tokens layer)
-when_rolled layer = fold-roll-When Spelling Spelling Spelling Spelling Spelling expr_layer_tokens pick_layer_tokens link_layer_tokens select_layer_tokens when_layer_tokens layer
+pub when_rolled : (layer : When-F Expr Pick ChainLink Select When) → when_tokens (roll-When layer) ≡ when_layer_tokens (map-When Expr Pick ChainLink Select When Spelling Spelling Spelling Spelling Spelling expr_tokens pick_tokens chain_link_tokens select_tokens when_tokens layer)
+when_rolled layer = fold-roll-When Spelling Spelling Spelling Spelling Spelling expr_layer_tokens pick_layer_tokens chain_link_layer_tokens select_layer_tokens when_layer_tokens layer
 
 pub block_rolled : (layer : Block-F Block Statement Branch Handler) → block_tokens (roll-Block layer) ≡ block_layer_tokens (map-Block Block Statement Branch Handler Spelling Spelling Spelling Spelling block_tokens statement_tokens branch_tokens handler_tokens layer)
 block_rolled layer = fold-roll-Block Spelling Spelling Spelling Spelling block_layer_tokens statement_layer_tokens branch_layer_tokens handler_layer_tokens layer
@@ -89,9 +89,9 @@ pub tokens-Name : (target : Target) → expr_tokens (exprs.Name target) ≡ targ
 unfolding roll-Expr Carrier.roll
 tokens-Name target = expr_rolled (layers.Name target)
 
-pub tokens-Junction : (junction : Junction) (operands : Several Expr) → expr_tokens (exprs.Junction junction operands) ≡ separated (junction_tokens junction) (several_map expr_tokens operands)
+pub tokens-LogicalOperator : (logical_operator : LogicalOperator) (operands : Several Expr) → expr_tokens (exprs.LogicalOperator logical_operator operands) ≡ separated (logical_operator_tokens logical_operator) (several_map expr_tokens operands)
 unfolding roll-Expr Carrier.roll
-tokens-Junction junction operands = expr_rolled (layers.Junction junction operands)
+tokens-LogicalOperator logical_operator operands = expr_rolled (layers.LogicalOperator logical_operator operands)
 
 pub tokens-Not : (place : Place) (condition : Expr) → expr_tokens (exprs.Not place condition) ≡ word w.Not ++ expr_tokens condition
 unfolding roll-Expr Carrier.roll
@@ -118,9 +118,9 @@ unfolding roll-Expr Carrier.roll
 tokens-Like negated value pattern None = expr_rolled (layers.Like negated value pattern None)
 tokens-Like negated value pattern (Some escape) = expr_rolled (layers.Like negated value pattern (Some escape))
 
-pub tokens-Chain : (first : Expr) (links : List Link) → expr_tokens (exprs.Chain first links) ≡ expr_tokens first ++ each [] (map link_tokens links)
+pub tokens-OperatorChain : (first : Expr) (chain_links : List ChainLink) → expr_tokens (exprs.OperatorChain first chain_links) ≡ expr_tokens first ++ each [] (map chain_link_tokens chain_links)
 unfolding roll-Expr Carrier.roll
-tokens-Chain first links = expr_rolled (layers.Chain first links)
+tokens-OperatorChain first chain_links = expr_rolled (layers.OperatorChain first chain_links)
 
 pub tokens-Signed : (place : Place) (plus_minus : PlusMinus) (operand : Expr) → expr_tokens (exprs.Signed place plus_minus operand) ≡ plus_minus_tokens plus_minus ++ expr_tokens operand
 unfolding roll-Expr Carrier.roll
@@ -178,7 +178,7 @@ pub tokens-Trim : (place : Place) (side : TrimSide) (text : Expr) → expr_token
 unfolding roll-Expr Carrier.roll
 tokens-Trim place side text = expr_rolled (layers.Trim place side text)
 
-pub ruleset expr_equations = (tokens-Null, tokens-Number, tokens-Text, tokens-Name, tokens-Junction, tokens-Not, tokens-Compare, tokens-IsNull, tokens-Between, tokens-In, tokens-Like, tokens-Chain, tokens-Signed, tokens-Call, tokens-Parenthesized, tokens-Subquery, tokens-Exists, tokens-Case, tokens-Cast, tokens-Coalesce, tokens-NullIf, tokens-Function, tokens-Position, tokens-Substring, tokens-Trim)
+pub ruleset expr_equations = (tokens-Null, tokens-Number, tokens-Text, tokens-Name, tokens-LogicalOperator, tokens-Not, tokens-Compare, tokens-IsNull, tokens-Between, tokens-In, tokens-Like, tokens-OperatorChain, tokens-Signed, tokens-Call, tokens-Parenthesized, tokens-Subquery, tokens-Exists, tokens-Case, tokens-Cast, tokens-Coalesce, tokens-NullIf, tokens-Function, tokens-Position, tokens-Substring, tokens-Trim)
 
 -- ---- queries
 
@@ -200,22 +200,22 @@ pick-Aggregate place function argument alias = pick_rolled (layers.Aggregate pla
 
 pub ruleset pick_equations = (pick-All, pick-Expr, pick-CountRows, pick-Aggregate)
 
-pub tokens_link : (link : Link) → link_tokens link ≡ operator_tokens (out-Link link).operator ++ expr_tokens (out-Link link).operand
-tokens_link link = fold_out-Link Spelling Spelling Spelling Spelling Spelling expr_layer_tokens pick_layer_tokens link_layer_tokens select_layer_tokens when_layer_tokens link
+pub tokens_chain_link : (chain_link : ChainLink) → chain_link_tokens chain_link ≡ operator_tokens (out-ChainLink chain_link).operator ++ expr_tokens (out-ChainLink chain_link).operand
+tokens_chain_link chain_link = fold_out-ChainLink Spelling Spelling Spelling Spelling Spelling expr_layer_tokens pick_layer_tokens chain_link_layer_tokens select_layer_tokens when_layer_tokens chain_link
 
 pub tokens_when : (when : When) → when_tokens when ≡ word w.When ++ expr_tokens (out-When when).test ++ word w.Then ++ expr_tokens (out-When when).result
-tokens_when when = fold_out-When Spelling Spelling Spelling Spelling Spelling expr_layer_tokens pick_layer_tokens link_layer_tokens select_layer_tokens when_layer_tokens when
+tokens_when when = fold_out-When Spelling Spelling Spelling Spelling Spelling expr_layer_tokens pick_layer_tokens chain_link_layer_tokens select_layer_tokens when_layer_tokens when
 
-query_tokens : (place : Place) (picks : Several Pick) (table : Identifier) (alias : Option Identifier) (condition : Option Expr) → select_layer_tokens (map-Select Expr Pick Link Select When Spelling Spelling Spelling Spelling Spelling expr_tokens pick_tokens link_tokens select_tokens when_tokens (record { place = place; picks = picks; table = table; alias = alias; condition = condition }))
+query_tokens : (place : Place) (picks : Several Pick) (table : Identifier) (alias : Option Identifier) (condition : Option Expr) → select_layer_tokens (map-Select Expr Pick ChainLink Select When Spelling Spelling Spelling Spelling Spelling expr_tokens pick_tokens chain_link_tokens select_tokens when_tokens (record { place = place; picks = picks; table = table; alias = alias; condition = condition }))
     ≡ word w.Select ++ separated (sign s.Comma) (several_map pick_tokens picks) ++ table_tokens table alias (option_map expr_tokens condition)
 query_tokens place picks table alias None = refl
 query_tokens place picks table alias (Some condition) = refl
 
-pub select_told : (q : Select-F Expr Pick Link Select When) → select_tokens (roll-Select q) ≡ word w.Select ++ separated (sign s.Comma) (several_map pick_tokens q.picks) ++ table_tokens q.table q.alias (option_map expr_tokens q.condition)
+pub select_told : (q : Select-F Expr Pick ChainLink Select When) → select_tokens (roll-Select q) ≡ word w.Select ++ separated (sign s.Comma) (several_map pick_tokens q.picks) ++ table_tokens q.table q.alias (option_map expr_tokens q.condition)
 select_told q = select_rolled q ∙ query_tokens q.place q.picks q.table q.alias q.condition
 
 pub tokens_select : (q : Select) → select_tokens q ≡ word w.Select ++ separated (sign s.Comma) (several_map pick_tokens (out-Select q).picks) ++ table_tokens (out-Select q).table (out-Select q).alias (option_map expr_tokens (out-Select q).condition)
-tokens_select q = let o = out-Select q in fold_out-Select Spelling Spelling Spelling Spelling Spelling expr_layer_tokens pick_layer_tokens link_layer_tokens select_layer_tokens when_layer_tokens q ∙ query_tokens o.place o.picks o.table o.alias o.condition
+tokens_select q = let o = out-Select q in fold_out-Select Spelling Spelling Spelling Spelling Spelling expr_layer_tokens pick_layer_tokens chain_link_layer_tokens select_layer_tokens when_layer_tokens q ∙ query_tokens o.place o.picks o.table o.alias o.condition
 
 -- ---- statements
 

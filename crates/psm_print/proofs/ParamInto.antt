@@ -22,14 +22,14 @@ use Rattle.psm_print.specs.ExprTokens.{name_tokens, type_tokens}
 use Rattle.psm_print.specs.FileTokens.{same_place, mode_tokens, said_tokens, parameter_tokens}
 use Rattle.psm_print.proofs.Printed.{AllGood, Printed}
 use Rattle.psm_print.proofs.Regrouped.{before2}
-use Rattle.psm_print.proofs.Into.{Setting, Into, said, good_back, retold, shorter, reread, into_seq, or_from, or_left, or_right, into_image}
+use Rattle.psm_print.proofs.Into.{PrintContext, Into, said, good_back, retold, shorter, reread, into_seq, or_from, or_left, or_right, into_image}
 use Rattle.psm_print.proofs.Chosen.{into_name, into_mode}
 use Rattle.psm_print.proofs.TypesInto.{data_type_into}
 
 abbrev named_tokens : Identifier × DataType → Spelling
 named_tokens p = name_tokens p.0 ++ type_tokens p.1
 
-named_type_into : {z : Setting} → Into z named_type named_type named_tokens
+named_type_into : {z : PrintContext} → Into z named_type named_type named_tokens
 unfolding FileGrammar.all_files
 named_type_into = into_seq named_tokens into_name data_type_into (λ x y. refl)
 
@@ -39,11 +39,11 @@ same_true p q h =
     λ i. record { line = eqb-true p.line q.line e.0 i; column = eqb-true p.column q.column e.1 i }
 
 -- with its mode
-moded_into : {z : Setting} → Into z (seq moded (token mode) named_type) param (λ x. mode_tokens x.mode ++ (name_tokens x.name ++ type_tokens x.kind))
+moded_into : {z : PrintContext} → Into z (seq moded (token mode) named_type) param (λ x. mode_tokens x.mode ++ (name_tokens x.name ++ type_tokens x.kind))
 unfolding FileGrammar.all_files
 moded_into = or_left (into_seq (λ x. mode_tokens x.mode ++ (name_tokens x.name ++ type_tokens x.kind)) into_mode named_type_into (λ x y. refl))
 
-module _ (z : Setting) (place : Place) (p : Identifier × DataType) (n : ℕ) (alone : Printed z.good (said z named_type) p (named_tokens p) n) where
+module _ (z : PrintContext) (place : Place) (p : Identifier × DataType) (n : ℕ) (alone : Printed z.good (said z named_type) p (named_tokens p) n) where
   mode_at : (m : Mode) (same : Bool) → same_place place p.0.place ≡ same → Printed z.good (said z param) (moded (record { place = place; value = m }) p) (mode_tokens m ++ named_tokens p) n
       → Printed z.good (said z param) (moded (record { place = place; value = m }) p) (said_tokens m same ++ named_tokens p) n
   unfolding FileGrammar.all_files
@@ -61,7 +61,7 @@ same_refl p = λ i. eq-eqb p.line p.line refl i && eq-eqb p.column p.column refl
 unmoded_told : (p : Identifier × DataType) → named_tokens p ≡ parameter_tokens (unmoded p)
 unmoded_told p = ap (λ b. said_tokens modes.In b ++ name_tokens p.0 ++ type_tokens p.1) (sym (same_refl p.0.place))
 
-said_into : (z : Setting) (u : Words Placed) (x : Parameter) → said z (seq moded (token mode) named_type) u x → AllGood z.good u → Printed z.good (said z param) x (parameter_tokens x) (length u)
+said_into : (z : PrintContext) (u : Words Placed) (x : Parameter) → said z (seq moded (token mode) named_type) u x → AllGood z.good u → Printed z.good (said z param) x (parameter_tokens x) (length u)
 unfolding FileGrammar.all_files
 said_into z u x l a =
     let alone = (named_type_into {z = z}).into l.back l.two l.right (good_back z.good l.front l.back (subst (AllGood z.good) l.whole a)) in
@@ -69,6 +69,6 @@ said_into z u x l a =
     let q : Printed z.good (said z param) (moded l.one l.two) (mode_tokens l.one.value ++ named_tokens l.two) (length u) = subst (λ y. Printed z.good (said z param) y (mode_tokens y.mode ++ (name_tokens y.name ++ type_tokens y.kind)) (length u)) l.made ((moded_into {z = z}).into u x l a) in
     subst (λ y. Printed z.good (said z param) y (parameter_tokens y) (length u)) (sym l.made) (retold (said_told l.one.value (same_place l.one.place l.two.0.place) l.two) (mode_at z l.one.place l.two (length u) (shorter n alone) l.one.value (same_place l.one.place l.two.0.place) refl q))
 
-pub param_into : {z : Setting} → Into z param param parameter_tokens
+pub param_into : {z : PrintContext} → Into z param param parameter_tokens
 unfolding FileGrammar.all_files
 param_into {z} = or_from (record { into = said_into z }) (or_right (into_image parameter_tokens named_type_into unmoded_told))

@@ -1,4 +1,4 @@
--- The tokens that are printed for the parts of the grammar that stand behind a token of their own.
+-- The tokens that are printed for the parts of the grammar that stand after a token of their own.
 use Rattle.std.proofs.Common.{◌≡◌, List, [], ◌++◌, map, option_map}
 use Rattle.psm_list.specs.Several.{several_map}
 use Rattle.psm_token.specs.declared.word.Word.TheVariants as w
@@ -19,7 +19,7 @@ cases_tokens c = perhaps [] (option_map expr_tokens c.operand) ++ separated [] (
 
 -- ---- statements
 
--- one statement or more, each with a semicolon behind it
+-- one statement or more, each with a semicolon after it
 abbrev pub statements_tokens : Statements → Spelling
 statements_tokens statements = ended (all_of (several_map statement_tokens statements))
 

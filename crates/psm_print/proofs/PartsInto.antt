@@ -16,8 +16,8 @@ use Rattle.psm_print.specs.Spelling.{Spelling, word, sign, separated}
 use Rattle.psm_print.specs.ExprTokens.{name_tokens, target_tokens, expr_tokens}
 use Rattle.psm_print.specs.StatementTokens.{state_tokens, direction_tokens, column_order_tokens, order_tokens, ordered_query_tokens, condition_tokens, signalled_tokens, where_tokens, values_tokens, rows_tokens, insert_source_tokens, assignment_tokens, statement_item_tokens, condition_item_tokens, statement_info_tokens, condition_info_tokens, condition_number_tokens, diagnostics_tokens, updatability_tokens, insensitive_tokens, handler_value_tokens, handled_tokens, atomic_tokens}
 use Rattle.psm_print.proofs.Regrouped.{before2}
-use Rattle.psm_print.proofs.Into.{Setting, Into, into_told, into_told_if, into_seq, left_out, or_from, or_right, into_or, into_gone, into_image, into_nothing, into_perhaps}
-use Rattle.psm_print.proofs.Tokens.{into_word, into_sign, behind_word, behind_sign, into_closed, into_commas}
+use Rattle.psm_print.proofs.Into.{PrintContext, Into, into_told, into_told_if, into_seq, left_out, or_from, or_right, into_or, into_gone, into_image, into_nothing, into_perhaps}
+use Rattle.psm_print.proofs.Tokens.{into_word, into_sign, after_word, after_sign, into_closed, into_commas}
 use Rattle.psm_print.proofs.Chosen.{into_name, into_number, into_text, into_statement_item, into_condition_item, into_exception}
 use Rattle.psm_print.proofs.TypesInto.{target_into}
 use Rattle.psm_print.proofs.ExprInto.{expr_into, source_into, sources_into}
@@ -26,24 +26,24 @@ use Rattle.psm_print.proofs.QueryInto.{select_into}
 -- ---- conditions and orders
 
 -- VALUE is left out
-pub state_into : {z : Setting} → Into z state state state_tokens
+pub state_into : {z : PrintContext} → Into z state state state_tokens
 unfolding StatementGrammar.all_statements
 state_into = into_seq state_tokens (into_word w.SqlState) (or_from (or_right (left_out into_text)) (or_right into_text)) (λ x y. refl)
 
 -- ASC is left out
-direction_into : {z : Setting} → Into z direction direction direction_tokens
+direction_into : {z : PrintContext} → Into z direction direction direction_tokens
 unfolding StatementGrammar.all_statements
 direction_into = into_or (into_image direction_tokens (into_word w.Desc) (λ x. refl)) (or_from (or_right (into_gone direction_tokens refl (λ u x l. l.made))) (or_right (into_nothing direction_tokens refl)))
 
-column_order_into : {z : Setting} → Into z column_order column_order column_order_tokens
+column_order_into : {z : PrintContext} → Into z column_order column_order column_order_tokens
 unfolding StatementGrammar.all_statements
 column_order_into = into_seq column_order_tokens into_name direction_into (λ x y. refl)
 
-order_into : {z : Setting} → Into z order order order_tokens
+order_into : {z : PrintContext} → Into z order order order_tokens
 unfolding StatementGrammar.all_statements
-order_into = into_seq order_tokens (into_word w.Order) (behind_word w.By (into_commas column_order_tokens column_order_into)) (λ x y. refl)
+order_into = into_seq order_tokens (into_word w.Order) (after_word w.By (into_commas column_order_tokens column_order_into)) (λ x y. refl)
 
-pub ordered_into : {z : Setting} → Into z ordered_select ordered_select ordered_query_tokens
+pub ordered_into : {z : PrintContext} → Into z ordered_select ordered_select ordered_query_tokens
 unfolding StatementGrammar.all_statements
 ordered_into = into_seq ordered_query_tokens select_into (into_perhaps [] order_tokens order_into (λ x. refl)) (λ x y. refl)
 
@@ -52,23 +52,23 @@ ordered_into = into_seq ordered_query_tokens select_into (into_perhaps [] order_
 abbrev message_words : Spelling
 message_words = word w.Set ++ word w.MessageText ++ sign s.Equal
 
-message_into : {z : Setting} → Into z message message (λ e. message_words ++ expr_tokens e)
+message_into : {z : PrintContext} → Into z message message (λ e. message_words ++ expr_tokens e)
 unfolding StatementGrammar.all_statements
-message_into = behind_word w.Set (behind_word w.MessageText (behind_sign s.Equal expr_into))
+message_into = after_word w.Set (after_word w.MessageText (after_sign s.Equal expr_into))
 
-pub state_signalled_into : {z : Setting} → Into z state_signalled state_signalled signalled_tokens
+pub state_signalled_into : {z : PrintContext} → Into z state_signalled state_signalled signalled_tokens
 unfolding StatementGrammar.all_statements
 state_signalled_into = into_seq signalled_tokens (into_image condition_tokens state_into (λ x. refl)) (into_perhaps message_words expr_tokens message_into (λ x. refl)) (λ x y. refl)
 
-pub name_signalled_into : {z : Setting} → Into z name_signalled name_signalled signalled_tokens
+pub name_signalled_into : {z : PrintContext} → Into z name_signalled name_signalled signalled_tokens
 unfolding StatementGrammar.all_statements
 name_signalled_into = into_seq signalled_tokens (into_image condition_tokens into_name (λ x. refl)) (into_perhaps message_words expr_tokens message_into (λ x. refl)) (λ x y. refl)
 
-pub signalled_into : {z : Setting} → Into z signalled signalled signalled_tokens
+pub signalled_into : {z : PrintContext} → Into z signalled signalled signalled_tokens
 unfolding StatementGrammar.all_statements
 signalled_into = into_or state_signalled_into name_signalled_into
 
--- which rows, behind WHERE
+-- which rows, after WHERE
 abbrev which_tokens : Where → Spelling
 which_tokens (wheres.Condition condition) = expr_tokens condition
 which_tokens (wheres.Current cursor) = word w.Current ++ word w.Of ++ name_tokens cursor
@@ -80,19 +80,19 @@ cursor_name (wheres.Current cursor) = name_tokens cursor
 abbrev IsCurrent : Where → Type 0
 IsCurrent x = word w.Current ++ word w.Of ++ cursor_name x ≡ which_tokens x
 
-current_into : {z : Setting} → Into z current current which_tokens
+current_into : {z : PrintContext} → Into z current current which_tokens
 unfolding StatementGrammar.all_statements
-current_into = into_told_if which_tokens (λ u x l. subst IsCurrent (sym (l.made ∙ l.right.made ∙ l.right.right.made)) refl) (behind_word w.Current (behind_word w.Of (into_image cursor_name into_name (λ x. refl))))
+current_into = into_told_if which_tokens (λ u x l. subst IsCurrent (sym (l.made ∙ l.right.made ∙ l.right.right.made)) refl) (after_word w.Current (after_word w.Of (into_image cursor_name into_name (λ x. refl))))
 
 where_told : (x : Where) → word w.Where ++ which_tokens x ≡ where_tokens x
 where_told (wheres.Condition condition) = refl
 where_told (wheres.Current cursor) = refl
 
-pub where_into : {z : Setting} → Into z where_part where_part where_tokens
+pub where_into : {z : PrintContext} → Into z where_part where_part where_tokens
 unfolding StatementGrammar.all_statements
-where_into = into_told where_tokens where_told (behind_word w.Where (into_or current_into (into_image which_tokens expr_into (λ x. refl))))
+where_into = into_told where_tokens where_told (after_word w.Where (into_or current_into (into_image which_tokens expr_into (λ x. refl))))
 
-pub values_into : {z : Setting} → Into z values values values_tokens
+pub values_into : {z : PrintContext} → Into z values values values_tokens
 unfolding StatementGrammar.all_statements
 values_into = into_seq values_tokens (into_sign s.LeftParen) (into_closed sources_into) (λ x y. refl)
 
@@ -103,30 +103,30 @@ inserted_tokens (inserted.Query query) = []
 abbrev AreRows : InsertSource → Type 0
 AreRows x = word w.Values ++ inserted_tokens x ≡ insert_source_tokens x
 
-insert_values_into : {z : Setting} → Into z insert_values insert_values insert_source_tokens
+insert_values_into : {z : PrintContext} → Into z insert_values insert_values insert_source_tokens
 unfolding StatementGrammar.all_statements
 insert_values_into = into_told_if insert_source_tokens (λ u x l. subst AreRows (sym (l.made ∙ l.right.made)) refl)
-    (behind_word w.Values (into_image inserted_tokens (into_commas values_tokens values_into) (λ x. refl)))
+    (after_word w.Values (into_image inserted_tokens (into_commas values_tokens values_into) (λ x. refl)))
 
-pub insert_source_into : {z : Setting} → Into z insert_source insert_source insert_source_tokens
+pub insert_source_into : {z : PrintContext} → Into z insert_source insert_source insert_source_tokens
 unfolding StatementGrammar.all_statements
 insert_source_into = into_or insert_values_into (into_image insert_source_tokens select_into (λ x. refl))
 
-pub assignment_into : {z : Setting} → Into z assignment assignment assignment_tokens
+pub assignment_into : {z : PrintContext} → Into z assignment assignment assignment_tokens
 unfolding StatementGrammar.all_statements
-assignment_into = into_seq assignment_tokens into_name (behind_sign s.Equal source_into) (λ x y. refl)
+assignment_into = into_seq assignment_tokens into_name (after_sign s.Equal source_into) (λ x y. refl)
 
 -- ---- GET DIAGNOSTICS
 
-statement_info_into : {z : Setting} → Into z statement_info statement_info statement_info_tokens
+statement_info_into : {z : PrintContext} → Into z statement_info statement_info statement_info_tokens
 unfolding StatementGrammar.all_statements
-statement_info_into = into_seq statement_info_tokens target_into (behind_sign s.Equal into_statement_item) (λ x y. before2 (target_tokens x) (sign s.Equal) (statement_item_tokens y.value))
+statement_info_into = into_seq statement_info_tokens target_into (after_sign s.Equal into_statement_item) (λ x y. before2 (target_tokens x) (sign s.Equal) (statement_item_tokens y.value))
 
-condition_info_into : {z : Setting} → Into z condition_info condition_info condition_info_tokens
+condition_info_into : {z : PrintContext} → Into z condition_info condition_info condition_info_tokens
 unfolding StatementGrammar.all_statements
-condition_info_into = into_seq condition_info_tokens target_into (behind_sign s.Equal into_condition_item) (λ x y. before2 (target_tokens x) (sign s.Equal) (condition_item_tokens y.value))
+condition_info_into = into_seq condition_info_tokens target_into (after_sign s.Equal into_condition_item) (λ x y. before2 (target_tokens x) (sign s.Equal) (condition_item_tokens y.value))
 
-condition_number_into : {z : Setting} → Into z condition_number condition_number condition_number_tokens
+condition_number_into : {z : PrintContext} → Into z condition_number condition_number condition_number_tokens
 unfolding StatementGrammar.all_statements
 condition_number_into = into_or (into_image condition_number_tokens into_number (λ x. refl)) (into_image condition_number_tokens target_into (λ x. refl))
 
@@ -137,46 +137,46 @@ exception_tokens (diagnostic.Condition number items) = condition_number_tokens n
 abbrev IsException : Diagnostics → Type 0
 IsException x = word w.Exception ++ exception_tokens x ≡ diagnostics_tokens x
 
-exception_into : {z : Setting} → Into z exception_diagnostics exception_diagnostics diagnostics_tokens
+exception_into : {z : PrintContext} → Into z exception_diagnostics exception_diagnostics diagnostics_tokens
 unfolding StatementGrammar.all_statements
 exception_into = into_told_if diagnostics_tokens (λ u x l. subst IsException (sym (l.made ∙ l.right.made)) refl)
     (into_seq (λ x. word w.Exception ++ exception_tokens x) into_exception (into_seq exception_tokens condition_number_into (into_commas condition_info_tokens condition_info_into) (λ x y. refl)) (λ x y. refl))
 
-pub diagnostics_into : {z : Setting} → Into z diagnostics diagnostics diagnostics_tokens
+pub diagnostics_into : {z : PrintContext} → Into z diagnostics diagnostics diagnostics_tokens
 unfolding StatementGrammar.all_statements
 diagnostics_into = into_or exception_into (into_image diagnostics_tokens (into_commas statement_info_tokens statement_info_into) (λ x. refl))
 
 -- ---- parts of declarations
 
-pub for_state_into : {z : Setting} → Into z for_state for_state (λ x. word w.For ++ state_tokens x)
+pub for_state_into : {z : PrintContext} → Into z for_state for_state (λ x. word w.For ++ state_tokens x)
 unfolding StatementGrammar.all_statements
-for_state_into = behind_word w.For state_into
+for_state_into = after_word w.For state_into
 
-pub insensitive_into : {z : Setting} → Into z insensitive insensitive insensitive_tokens
+pub insensitive_into : {z : PrintContext} → Into z insensitive insensitive insensitive_tokens
 unfolding StatementGrammar.all_statements
 insensitive_into = into_or (into_image insensitive_tokens (into_word w.Insensitive) (λ x. refl)) (into_nothing insensitive_tokens refl)
 
 abbrev IsReadOnly : Updatability → Type 0
 IsReadOnly x = word w.Read ++ word w.Only ≡ updatability_tokens x
 
-read_only_into : {z : Setting} → Into z read_only_part read_only_part updatability_tokens
+read_only_into : {z : PrintContext} → Into z read_only_part read_only_part updatability_tokens
 unfolding StatementGrammar.all_statements
-read_only_into = into_told_if updatability_tokens (λ u x l. subst IsReadOnly (sym (l.made ∙ l.right.made)) refl) (behind_word w.Read (into_image (λ x. word w.Only) (into_word w.Only) (λ x. refl)))
+read_only_into = into_told_if updatability_tokens (λ u x l. subst IsReadOnly (sym (l.made ∙ l.right.made)) refl) (after_word w.Read (into_image (λ x. word w.Only) (into_word w.Only) (λ x. refl)))
 
-pub updatability_into : {z : Setting} → Into z updatability updatability (λ x. word w.For ++ updatability_tokens x)
+pub updatability_into : {z : PrintContext} → Into z updatability updatability (λ x. word w.For ++ updatability_tokens x)
 unfolding StatementGrammar.all_statements
-updatability_into = behind_word w.For (into_or read_only_into (into_image updatability_tokens (into_word w.Update) (λ x. refl)))
+updatability_into = after_word w.For (into_or read_only_into (into_image updatability_tokens (into_word w.Update) (λ x. refl)))
 
 -- NOT ATOMIC is left out
-pub atomic_into : {z : Setting} → Into z atomic atomic atomic_tokens
+pub atomic_into : {z : PrintContext} → Into z atomic atomic atomic_tokens
 unfolding StatementGrammar.all_statements
 atomic_into = into_or (into_image atomic_tokens (into_word w.Atomic) (λ x. refl)) (or_from (or_right (into_gone atomic_tokens refl (λ u x l. l.made ∙ l.right.made))) (or_right (into_nothing atomic_tokens refl)))
 
-handler_value_into : {z : Setting} → Into z handler_value handler_value handler_value_tokens
+handler_value_into : {z : PrintContext} → Into z handler_value handler_value handler_value_tokens
 unfolding StatementGrammar.all_statements
 handler_value_into = into_or (into_image handler_value_tokens state_into (λ x. refl)) (into_or (into_image handler_value_tokens (into_word w.SqlException) (λ x. refl))
     (into_or (into_image handler_value_tokens (into_word w.SqlWarning) (λ x. refl)) (into_or (into_seq handler_value_tokens (into_word w.Not) (into_word w.Found) (λ x y. refl)) (into_image handler_value_tokens into_name (λ x. refl)))))
 
-pub handler_values_into : {z : Setting} → Into z handler_values handler_values handled_tokens
+pub handler_values_into : {z : PrintContext} → Into z handler_values handler_values handled_tokens
 unfolding StatementGrammar.all_statements
 handler_values_into = into_commas handler_value_tokens handler_value_into

@@ -1,4 +1,4 @@
--- Lists one behind another: what stands before a row of them, as the first of the row.
+-- Lists one after another: what stands before a row of them, as the first of the row.
 use Rattle.std.proofs.Common.{◌≡◌, List, ◌++◌, sym, ap, ◌∙◌}
 use Rattle.std.proofs.lemmas.List.{append_assoc}
 

@@ -18,7 +18,7 @@ use Rattle.psm_tree.specs.FileGrammar.{file}
 use Rattle.psm_tree.specs.declared.file.FileTree.{FileTree}
 use Rattle.psm_print.specs.FileTokens.{file_tokens}
 use Rattle.psm_print.proofs.Printed.{AllGood, Kept, Printed}
-use Rattle.psm_unplaced.specs.Unplaced.{origin, unplaced}
+use Rattle.psm_unplaced.specs.WithoutPositions.{origin, without_positions}
 use Rattle.psm_unplaced.proofs.FileCarried.{file_carried}
 use Rattle.psm_unplaced.proofs.Apart.{spelled_elsewhere}
 use Rattle.psm_print.specs.Printing.{Derives, IsSpelledTree, IsFileOfTree}
@@ -58,11 +58,11 @@ short : (w : Words Placed) (n : ℕ) → length w ≤ n → {m : ℕ} → n ≡ 
 short w n h e l = let same : length (map (λ y. y.0.token) w) ≡ length w = length-map w (λ y. y.0.token) in omega (arith, same, h, e, l)
 
 -- tokens without places, by the tokens alone
-bare_apart : (ts : List Placed) → map unplaced ts ≡ map (λ t. record { token = t; place = origin }) (bare ts)
+bare_apart : (ts : List Placed) → map without_positions ts ≡ map (λ t. record { token = t; place = origin }) (bare ts)
 bare_apart [] = refl
-bare_apart (t ∷ ts) = ap (λ us. unplaced t ∷ us) (bare_apart ts)
+bare_apart (t ∷ ts) = ap (λ us. without_positions t ∷ us) (bare_apart ts)
 
-same_apart : (ts us : List Placed) → bare ts ≡ bare us → map unplaced ts ≡ map unplaced us
+same_apart : (ts us : List Placed) → bare ts ≡ bare us → map without_positions ts ≡ map without_positions us
 same_apart ts us e = bare_apart ts ∙ ap (map (λ t. record { token = t; place = origin })) e ∙ sym (bare_apart us)
 
 -- the tree of a file's tokens

@@ -6,13 +6,13 @@ use Rattle.psm_tree.specs.Parts.{Part, Enclosed, Arguments, ExistsRest, CaseRest
 use Rattle.psm_tree.specs.Productions.{productions}
 use Rattle.psm_print.proofs.Printed.{Kept}
 use Rattle.psm_print.proofs.PartTokens.{part_tokens}
-use Rattle.psm_print.proofs.Into.{Setting, Claim, Into, reread}
+use Rattle.psm_print.proofs.Into.{PrintContext, Claim, Into, reread}
 use Rattle.psm_print.proofs.QueryInto.{enclosed_into, arguments_into, exists_into, case_into, cast_into, coalesce_into, nullif_into, function_into, position_into, substring_into, trim_into}
 use Rattle.psm_print.proofs.StatementInto.{loop_into, while_into, repeat_into, for_into, if_into, case_statement_into, handler_into}
 use Rattle.psm_print.proofs.Phases.{shaped}
 use Rattle.psm_print.proofs.BodyInto.{begin_into, body_into, declare_into}
 
-part_into : (z : Setting) (n : Part) → Into z (productions n) (productions n) (part_tokens n)
+part_into : (z : PrintContext) (n : Part) → Into z (productions n) (productions n) (part_tokens n)
 part_into z Enclosed = enclosed_into
 part_into z Arguments = arguments_into
 part_into z ExistsRest = exists_into
@@ -54,7 +54,7 @@ module _ (good : Token → Type 0) (kept : Kept good) where
   words_printed d n w x l a = reread (λ u m. record { height = l.height; word = m }) (nested_printed l.height d n w x l.word a)
 
   -- where the grammar's words are read at a level
-  abbrev pub at_level : ℕ → Setting
+  abbrev pub at_level : ℕ → PrintContext
   at_level d = record {
     good = good;
     kept = kept;

@@ -19,11 +19,11 @@ use Rattle.psm_tree.specs.declared.types.ConstantForm.{ConstantForm}
 use Rattle.psm_tree.specs.declared.types.ConstantForm.TheVariants as constants
 use Rattle.psm_tree.specs.declared.types.Constant.{Constant}
 use Rattle.psm_tree.specs.declared.expr.Expr.{Expr}
-use Rattle.psm_tree.specs.declared.expr.Expr.TheOpen.{Expr-F, Pick-F, Link-F, Select-F, When-F}
+use Rattle.psm_tree.specs.declared.expr.Expr.TheOpen.{Expr-F, Pick-F, ChainLink-F, Select-F, When-F}
 use Rattle.psm_tree.specs.declared.expr.Expr.TheOpen as layers
-use Rattle.psm_tree.specs.declared.expr.Expr.TheFolds.{fold-Expr, fold-Pick, fold-Link, fold-Select, fold-When}
-use Rattle.psm_tree.specs.declared.expr.Junction.{Junction}
-use Rattle.psm_tree.specs.declared.expr.Junction.TheVariants as junctions
+use Rattle.psm_tree.specs.declared.expr.Expr.TheFolds.{fold-Expr, fold-Pick, fold-ChainLink, fold-Select, fold-When}
+use Rattle.psm_tree.specs.declared.expr.LogicalOperator.{LogicalOperator}
+use Rattle.psm_tree.specs.declared.expr.LogicalOperator.TheVariants as logical_operators
 use Rattle.psm_tree.specs.declared.expr.Comparison.{Comparison}
 use Rattle.psm_tree.specs.declared.expr.Comparison.TheVariants as comparisons
 use Rattle.psm_tree.specs.declared.expr.Operator.{Operator}
@@ -34,7 +34,7 @@ use Rattle.psm_tree.specs.declared.expr.SetFunction.{SetFunction}
 use Rattle.psm_tree.specs.declared.expr.SetFunction.TheVariants as sets
 use Rattle.psm_tree.specs.declared.expr.TrimSide.{TrimSide}
 use Rattle.psm_tree.specs.declared.expr.TrimSide.TheVariants as sides
-use Rattle.psm_tree.specs.declared.expr.Link.{Link}
+use Rattle.psm_tree.specs.declared.expr.ChainLink.{ChainLink}
 use Rattle.psm_tree.specs.declared.expr.When.{When}
 use Rattle.psm_tree.specs.declared.expr.Select.{Select}
 use Rattle.psm_tree.specs.declared.expr.Pick.{Pick}
@@ -90,9 +90,9 @@ constant_tokens constant = constant_form_tokens constant.form
 
 -- ---- operators and words that choose
 
-abbrev pub junction_tokens : Junction → Spelling
-junction_tokens junctions.And = word w.And
-junction_tokens junctions.Or = word w.Or
+abbrev pub logical_operator_tokens : LogicalOperator → Spelling
+logical_operator_tokens logical_operators.And = word w.And
+logical_operator_tokens logical_operators.Or = word w.Or
 
 abbrev pub comparison_tokens : Comparison → Spelling
 comparison_tokens comparisons.Equal = sign s.Equal
@@ -147,14 +147,14 @@ expr_layer_tokens (layers.Null place) = word w.Null
 expr_layer_tokens (layers.Number place value) = number_tokens value
 expr_layer_tokens (layers.Text place value) = t.Text value ∷ []
 expr_layer_tokens (layers.Name target) = target_tokens target
-expr_layer_tokens (layers.Junction junction operands) = separated (junction_tokens junction) operands
+expr_layer_tokens (layers.LogicalOperator logical_operator operands) = separated (logical_operator_tokens logical_operator) operands
 expr_layer_tokens (layers.Not place condition) = word w.Not ++ condition
 expr_layer_tokens (layers.Compare operator left right) = left ++ comparison_tokens operator ++ right
 expr_layer_tokens (layers.IsNull negated value) = value ++ word w.Is ++ not_tokens negated ++ word w.Null
 expr_layer_tokens (layers.Between negated value low high) = value ++ not_tokens negated ++ word w.Between ++ low ++ word w.And ++ high
 expr_layer_tokens (layers.In negated value list) = value ++ not_tokens negated ++ word w.In ++ in_parens (separated (sign s.Comma) list)
 expr_layer_tokens (layers.Like negated value pattern escape) = value ++ not_tokens negated ++ word w.Like ++ pattern ++ perhaps (word w.Escape) escape
-expr_layer_tokens (layers.Chain first links) = first ++ each [] links
+expr_layer_tokens (layers.OperatorChain first chain_links) = first ++ each [] chain_links
 expr_layer_tokens (layers.Signed place plus_minus operand) = plus_minus_tokens plus_minus ++ operand
 expr_layer_tokens (layers.Call function arguments) = name_tokens function ++ in_parens (listed arguments)
 expr_layer_tokens (layers.Parenthesized place expr) = in_parens expr
@@ -175,8 +175,8 @@ pick_layer_tokens (layers.Expr expr alias) = expr ++ alias_tokens alias
 pick_layer_tokens (layers.CountRows place alias) = word w.Count ++ in_parens (sign s.Asterisk) ++ alias_tokens alias
 pick_layer_tokens (layers.Aggregate place function argument alias) = set_function_tokens function ++ in_parens argument ++ alias_tokens alias
 
-abbrev pub link_layer_tokens : Link-F Spelling Spelling Spelling Spelling Spelling → Spelling
-link_layer_tokens link = operator_tokens link.operator ++ link.operand
+abbrev pub chain_link_layer_tokens : ChainLink-F Spelling Spelling Spelling Spelling Spelling → Spelling
+chain_link_layer_tokens chain_link = operator_tokens chain_link.operator ++ chain_link.operand
 
 abbrev pub select_layer_tokens : Select-F Spelling Spelling Spelling Spelling Spelling → Spelling
 select_layer_tokens q = word w.Select ++ separated (sign s.Comma) q.picks ++ table_tokens q.table q.alias q.condition
@@ -185,16 +185,16 @@ abbrev pub when_layer_tokens : When-F Spelling Spelling Spelling Spelling Spelli
 when_layer_tokens when = word w.When ++ when.test ++ word w.Then ++ when.result
 
 abbrev pub expr_tokens : Expr → Spelling
-expr_tokens = fold-Expr Spelling Spelling Spelling Spelling Spelling expr_layer_tokens pick_layer_tokens link_layer_tokens select_layer_tokens when_layer_tokens
+expr_tokens = fold-Expr Spelling Spelling Spelling Spelling Spelling expr_layer_tokens pick_layer_tokens chain_link_layer_tokens select_layer_tokens when_layer_tokens
 
 abbrev pub pick_tokens : Pick → Spelling
-pick_tokens = fold-Pick Spelling Spelling Spelling Spelling Spelling expr_layer_tokens pick_layer_tokens link_layer_tokens select_layer_tokens when_layer_tokens
+pick_tokens = fold-Pick Spelling Spelling Spelling Spelling Spelling expr_layer_tokens pick_layer_tokens chain_link_layer_tokens select_layer_tokens when_layer_tokens
 
-abbrev pub link_tokens : Link → Spelling
-link_tokens = fold-Link Spelling Spelling Spelling Spelling Spelling expr_layer_tokens pick_layer_tokens link_layer_tokens select_layer_tokens when_layer_tokens
+abbrev pub chain_link_tokens : ChainLink → Spelling
+chain_link_tokens = fold-ChainLink Spelling Spelling Spelling Spelling Spelling expr_layer_tokens pick_layer_tokens chain_link_layer_tokens select_layer_tokens when_layer_tokens
 
 abbrev pub select_tokens : Select → Spelling
-select_tokens = fold-Select Spelling Spelling Spelling Spelling Spelling expr_layer_tokens pick_layer_tokens link_layer_tokens select_layer_tokens when_layer_tokens
+select_tokens = fold-Select Spelling Spelling Spelling Spelling Spelling expr_layer_tokens pick_layer_tokens chain_link_layer_tokens select_layer_tokens when_layer_tokens
 
 abbrev pub when_tokens : When → Spelling
-when_tokens = fold-When Spelling Spelling Spelling Spelling Spelling expr_layer_tokens pick_layer_tokens link_layer_tokens select_layer_tokens when_layer_tokens
+when_tokens = fold-When Spelling Spelling Spelling Spelling Spelling expr_layer_tokens pick_layer_tokens chain_link_layer_tokens select_layer_tokens when_layer_tokens

@@ -19,9 +19,9 @@ use Rattle.psm_tree.specs.declared.file.Module.{Module}
 use Rattle.psm_tree.specs.declared.file.Mode.{Mode}
 use Rattle.psm_tree.specs.declared.file.Mode.TheVariants as modes
 use Rattle.psm_tree.specs.declared.file.Parameter.{Parameter}
-use Rattle.psm_tree.specs.declared.file.NoteForm.{NoteForm}
-use Rattle.psm_tree.specs.declared.file.NoteForm.TheVariants as notes
-use Rattle.psm_tree.specs.declared.file.Note.{Note}
+use Rattle.psm_tree.specs.declared.file.CharacteristicForm.{CharacteristicForm}
+use Rattle.psm_tree.specs.declared.file.CharacteristicForm.TheVariants as characteristics
+use Rattle.psm_tree.specs.declared.file.Characteristic.{Characteristic}
 use Rattle.psm_tree.specs.declared.file.Routine.{Routine}
 use Rattle.psm_print.specs.Spelling.{Spelling, word, sign, perhaps, each, separated, listed, ended, in_parens}
 use Rattle.psm_print.specs.ExprTokens.{name_tokens, enclosed_names_tokens, type_tokens, constant_tokens, expr_tokens}
@@ -77,23 +77,23 @@ parameter_tokens p = said_mode_tokens p ++ name_tokens p.name ++ type_tokens p.k
 abbrev pub parameters_tokens : List Parameter → Spelling
 parameters_tokens ps = listed (map parameter_tokens ps)
 
-abbrev pub note_form_tokens : NoteForm → Spelling
-note_form_tokens notes.Language = word w.Language ++ word w.Sql
-note_form_tokens notes.Deterministic = word w.Deterministic
-note_form_tokens notes.NotDeterministic = word w.Not ++ word w.Deterministic
-note_form_tokens notes.ContainsSql = word w.Contains ++ word w.Sql
-note_form_tokens notes.ReadsSqlData = word w.Reads ++ word w.Sql ++ word w.Data
-note_form_tokens notes.ModifiesSqlData = word w.Modifies ++ word w.Sql ++ word w.Data
+abbrev pub characteristic_form_tokens : CharacteristicForm → Spelling
+characteristic_form_tokens characteristics.Language = word w.Language ++ word w.Sql
+characteristic_form_tokens characteristics.Deterministic = word w.Deterministic
+characteristic_form_tokens characteristics.NotDeterministic = word w.Not ++ word w.Deterministic
+characteristic_form_tokens characteristics.ContainsSql = word w.Contains ++ word w.Sql
+characteristic_form_tokens characteristics.ReadsSqlData = word w.Reads ++ word w.Sql ++ word w.Data
+characteristic_form_tokens characteristics.ModifiesSqlData = word w.Modifies ++ word w.Sql ++ word w.Data
 
-abbrev pub note_tokens : Note → Spelling
-note_tokens note = note_form_tokens note.form
+abbrev pub characteristic_tokens : Characteristic → Spelling
+characteristic_tokens characteristic = characteristic_form_tokens characteristic.form
 
 abbrev pub kind_tokens : Option DataType → Spelling
 kind_tokens None = word w.Procedure
 kind_tokens (Some kind) = word w.Function
 
 abbrev pub routine_tokens : Routine → Spelling
-routine_tokens r = kind_tokens r.returns ++ name_tokens r.name ++ in_parens (parameters_tokens r.parameters) ++ perhaps (word w.Returns) (option_map type_tokens r.returns) ++ each [] (map note_tokens r.notes) ++ statement_tokens r.body
+routine_tokens r = kind_tokens r.returns ++ name_tokens r.name ++ in_parens (parameters_tokens r.parameters) ++ perhaps (word w.Returns) (option_map type_tokens r.returns) ++ each [] (map characteristic_tokens r.characteristics) ++ statement_tokens r.body
 
 -- ---- files
 

@@ -1,4 +1,4 @@
--- What is printed of a module file's tree: a text that is read as that tree, places apart.
+-- What is printed of a module file's tree: a text that is read as that tree, up to positions.
 use Rattle.std.specs.Prelude.{◌≡◌, ◌≤◌, ℕ, List, length}
 use Rattle.psm_token.specs.declared.token.Placed.{Placed}
 use Rattle.psm_token.specs.Listed.{Tokens}
@@ -9,8 +9,8 @@ use Rattle.psm_grammar.specs.Grammar.{Spells}
 use Rattle.psm_tree.specs.Productions.{productions}
 use Rattle.psm_tree.specs.FileGrammar.{file}
 use Rattle.psm_tree.specs.declared.file.FileTree.{FileTree}
-use Rattle.psm_unplaced.specs.FileUnplaced.{file_unplaced}
-use Rattle.psm_unplaced.specs.Elsewhere.{SpellsApart}
+use Rattle.psm_unplaced.specs.FileWithoutPositions.{file_without_positions}
+use Rattle.psm_unplaced.specs.Elsewhere.{SpellsUpToPositions}
 
 -- these tokens spell the tree
 pub record Derives (tokens : List Placed) (tree : FileTree) : Type 0 where
@@ -25,11 +25,11 @@ pub record IsSpelledTree (tree : FileTree) : Type 0 where
   pub few : length tokens ≤ most_tokens
   pub derived : Derives tokens tree
 
--- A file whose tokens spell the tree, places apart. Set where the tree has its parts, they spell exactly it.
+-- A file whose tokens spell the tree, up to positions. Set where the tree has its parts, they spell exactly it.
 pub record IsFileOfTree (bytes : List ℕ) (tree : FileTree) : Type 0 where
   pub tokens : Tokens
   pub lexed : Lexes bytes tokens
-  pub read : SpellsApart file file_unplaced 0 tokens.tokens tree
+  pub read : SpellsUpToPositions file file_without_positions 0 tokens.tokens tree
   pub own : List Placed
   pub same : bare own ≡ bare tokens.tokens
   pub derived : Derives own tree

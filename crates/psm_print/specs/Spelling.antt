@@ -1,4 +1,4 @@
--- Tokens one behind another, and the ways to put them together.
+-- Tokens one after another, and the ways to put them together.
 use Rattle.std.specs.Prelude.{List, [], ◌∷◌, ◌++◌, Option, Some, None}
 use Rattle.psm_list.specs.Several.{Several}
 use Rattle.psm_token.specs.declared.word.Word.{Word}
@@ -17,12 +17,12 @@ word w = t.Word w ∷ []
 abbrev pub sign : Sign → Spelling
 sign s = t.Sign s ∷ []
 
--- what there is, behind some tokens
+-- what there is, after some tokens
 abbrev pub perhaps : Spelling → Option Spelling → Spelling
 perhaps before None = []
 perhaps before (Some tokens) = before ++ tokens
 
--- each item behind some tokens
+-- each item after some tokens
 abbrev pub each : Spelling → List Spelling → Spelling
 each before [] = []
 each before (tokens ∷ rest) = (before ++ tokens) ++ each before rest
@@ -36,7 +36,7 @@ abbrev pub listed : List Spelling → Spelling
 listed [] = []
 listed (tokens ∷ rest) = tokens ++ each (sign s.Comma) rest
 
--- each item with a semicolon behind it
+-- each item with a semicolon after it
 abbrev pub ended : List Spelling → Spelling
 ended [] = []
 ended (tokens ∷ rest) = (tokens ++ sign s.Semicolon) ++ ended rest

@@ -8,7 +8,7 @@ use Rattle.psm_tree.specs.Names.{Targets}
 use Rattle.psm_tree.specs.declared.types.State.{State}
 use Rattle.psm_tree.specs.declared.expr.Expr.{Expr}
 use Rattle.psm_tree.specs.declared.expr.Expr.TheOpen.{Select-F}
-use Rattle.psm_tree.specs.declared.expr.Link.{Link}
+use Rattle.psm_tree.specs.declared.expr.ChainLink.{ChainLink}
 use Rattle.psm_tree.specs.declared.expr.When.{When}
 use Rattle.psm_tree.specs.declared.expr.Pick.{Pick}
 use Rattle.psm_tree.specs.declared.expr.Select.{Select, out-Select}
@@ -137,7 +137,7 @@ diagnostics_tokens (diagnostics.Condition number items) = word w.Exception ++ co
 -- ---- simple statements
 
 -- a query whose items go into targets
-abbrev pub select_into_tokens : Select-F Expr Pick Link Select When → Targets → Spelling
+abbrev pub select_into_tokens : Select-F Expr Pick ChainLink Select When → Targets → Spelling
 select_into_tokens q targets = word w.Select ++ separated (sign s.Comma) (several_map pick_tokens q.picks) ++ word w.Into ++ targets_tokens targets ++ table_tokens q.table q.alias (option_map expr_tokens q.condition)
 
 abbrev pub simple_tokens : Simple → Spelling
@@ -200,7 +200,7 @@ abbrev pub start_tokens : Option Label → Spelling
 start_tokens None = []
 start_tokens (Some label) = name_tokens label.start ++ sign s.Colon
 
--- the label behind the end of a block
+-- the label after the end of a block
 abbrev pub end_tokens : Option Label → Spelling
 end_tokens None = []
 end_tokens (Some label) = perhaps [] (option_map name_tokens label.end)
@@ -214,7 +214,7 @@ atomic_tokens false = []
 abbrev pub for_head_tokens : ForHead → Spelling
 for_head_tokens h = name_tokens h.name ++ word w.As ++ perhaps [] (option_map for_cursor_tokens h.cursor) ++ ordered_query_tokens h.query
 
--- the statements behind ELSE, which is left out where there are none
+-- the statements after ELSE, which is left out where there are none
 abbrev pub else_tokens : List Spelling → Spelling
 else_tokens [] = []
 else_tokens (first ∷ rest) = word w.Else ++ ended (first ∷ rest)

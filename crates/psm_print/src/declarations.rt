@@ -54,7 +54,7 @@ fn declaration(out: &mut Writer, declaration: &Declaration) -> Result<(), AllocE
     }
 }
 
-/// Declarations of variables and conditions, each with a semicolon behind it.
+/// Declarations of variables and conditions, each with a semicolon after it.
 pub(crate) fn declarations(
     out: &mut Writer,
     declarations: &List<Boxed<Declaration>>,
@@ -111,7 +111,7 @@ fn cursor(out: &mut Writer, cursor: &CursorDeclaration) -> Result<(), AllocError
     Ok(())
 }
 
-/// Declarations of cursors, each with a semicolon behind it.
+/// Declarations of cursors, each with a semicolon after it.
 pub(crate) fn cursors(
     out: &mut Writer,
     cursors: &List<Boxed<CursorDeclaration>>,
@@ -187,7 +187,7 @@ pub(crate) fn start_label(out: &mut Writer, label: &Option<Label>) -> Result<(),
     }
 }
 
-/// The label behind the end of a block.
+/// The label after the end of a block.
 pub(crate) fn end_label(out: &mut Writer, label: &Option<Label>) -> Result<(), AllocError>
     ensures { IfOk result (λ _. out.new ≡ out.old ++ end_tokens label.now) }
 {

@@ -3,16 +3,17 @@ ghost use Rattle.std.specs.Prelude.{◌≡◌, ◌++◌, [], IfOk, map, option_m
 ghost use Rattle.psm_list.specs.Several.{several_map};
 ghost use Rattle.psm_token.specs.declared.sign.Sign.TheVariants as s;
 ghost use Rattle.psm_print.specs.Spelling.{word, sign, perhaps, each, separated, listed as listed_tokens};
-ghost use Rattle.psm_print.specs.ExprTokens.{expr_tokens, junction_tokens, alias_tokens, link_tokens, when_tokens, pick_tokens, select_tokens, table_tokens};
+ghost use Rattle.psm_print.specs.ExprTokens.{expr_tokens, logical_operator_tokens, alias_tokens, chain_link_tokens, when_tokens, pick_tokens, select_tokens, table_tokens};
 
 use crate::names::{data_type, name, target};
 use crate::operators::{
-    comparison, junction, not, opening, operator, plus_minus, set_function, side, text_function,
+    comparison, logical_operator, not, opening, operator, plus_minus, set_function, side,
+    text_function,
 };
 use psm_list::{Boxed, List, OneOrMore};
 use psm_spell::Writer;
 use psm_token::{Sign, Word};
-use psm_tree::{Expr, Identifier, Junction, Link, Pick, Select, When};
+use psm_tree::{ChainLink, Expr, Identifier, LogicalOperator, Pick, Select, When};
 use std::alloc::AllocError;
 
 /// An expression.
@@ -26,7 +27,10 @@ pub(crate) fn expr(out: &mut Writer, e: &Expr) -> Result<(), AllocError>
         Expr::Number { value, .. } => out.number(*value),
         Expr::Text { value, .. } => out.text(value),
         Expr::Name(name) => target(out, name),
-        Expr::Junction { junction, operands } => joined(out, operands, *junction),
+        Expr::LogicalOperator {
+            logical_operator,
+            operands,
+        } => joined(out, operands, *logical_operator),
         Expr::Not { condition, .. } => {
             out.word(Word::Not)?;
             expr(out, condition.get())
@@ -80,11 +84,14 @@ pub(crate) fn expr(out: &mut Writer, e: &Expr) -> Result<(), AllocError>
             not(out, *negated)?;
             out.word(Word::Like)?;
             expr(out, pattern.get())?;
-            behind(out, escape, Word::Escape)
+            following(out, escape, Word::Escape)
         }
-        Expr::Chain { first, links: rest } => {
+        Expr::OperatorChain {
+            first,
+            chain_links: rest,
+        } => {
             expr(out, first.get())?;
-            links(out, rest)
+            chain_links(out, rest)
         }
         Expr::Signed { sign, operand, .. } => {
             plus_minus(out, *sign)?;
@@ -126,7 +133,7 @@ pub(crate) fn expr(out: &mut Writer, e: &Expr) -> Result<(), AllocError>
                 Some(operand) => expr(out, operand.get())?,
             }
             whens(out, branches)?;
-            behind(out, otherwise, Word::Else)?;
+            following(out, otherwise, Word::Else)?;
             out.word(Word::End)
         }
         Expr::Cast { source, to, .. } => {
@@ -175,7 +182,7 @@ pub(crate) fn expr(out: &mut Writer, e: &Expr) -> Result<(), AllocError>
             expr(out, text.get())?;
             out.word(Word::From)?;
             expr(out, from.get())?;
-            behind(out, length, Word::For)?;
+            following(out, length, Word::For)?;
             out.sign(Sign::RightParen)
         }
         Expr::Trim {
@@ -191,9 +198,9 @@ pub(crate) fn expr(out: &mut Writer, e: &Expr) -> Result<(), AllocError>
     }
 }
 
-/// An expression behind that word, where there is one.
+/// An expression after that word, where there is one.
 #[cycle(printing)]
-fn behind(out: &mut Writer, e: &Option<Boxed<Expr>>, before: Word) -> Result<(), AllocError>
+fn following(out: &mut Writer, e: &Option<Boxed<Expr>>, before: Word) -> Result<(), AllocError>
     ensures { IfOk result (λ _. out.new ≡ out.old ++ perhaps (word before) (option_map expr_tokens e.now)) }
 {
     match e {
@@ -220,12 +227,16 @@ pub(crate) fn sources(out: &mut Writer, items: &OneOrMore<Boxed<Expr>>) -> Resul
 
 /// Conditions with AND or OR between two of them.
 #[cycle(printing)]
-fn joined(out: &mut Writer, items: &OneOrMore<Boxed<Expr>>, by: Junction) -> Result<(), AllocError>
-    ensures { IfOk result (λ _. out.new ≡ out.old ++ separated (junction_tokens by) (several_map expr_tokens items.now)) }
+fn joined(
+    out: &mut Writer,
+    items: &OneOrMore<Boxed<Expr>>,
+    by: LogicalOperator,
+) -> Result<(), AllocError>
+    ensures { IfOk result (λ _. out.new ≡ out.old ++ separated (logical_operator_tokens by) (several_map expr_tokens items.now)) }
 {
     expr(out, items.first.get())?;
     for item in items.rest.items() {
-        junction(out, by)?;
+        logical_operator(out, by)?;
         expr(out, item.get())?;
     }
     Ok(())
@@ -247,15 +258,15 @@ pub(crate) fn listed(out: &mut Writer, items: &List<Boxed<Expr>>) -> Result<(), 
     Ok(())
 }
 
-/// Operators, and the operand behind each.
+/// Operators, and the operand after each.
 #[cycle(printing)]
-#[tactic(auto, using(crate::proofs::Equations::tokens_link))]
-fn links(out: &mut Writer, links: &List<Link>) -> Result<(), AllocError>
-    ensures { IfOk result (λ _. out.new ≡ out.old ++ each [] (map link_tokens links.now)) }
+#[tactic(auto, using(crate::proofs::Equations::tokens_chain_link))]
+fn chain_links(out: &mut Writer, chain_links: &List<ChainLink>) -> Result<(), AllocError>
+    ensures { IfOk result (λ _. out.new ≡ out.old ++ each [] (map chain_link_tokens chain_links.now)) }
 {
-    for link in links.items() {
-        operator(out, link.operator)?;
-        expr(out, link.operand.get())?;
+    for chain_link in chain_links.items() {
+        operator(out, chain_link.operator)?;
+        expr(out, chain_link.operand.get())?;
     }
     Ok(())
 }
@@ -295,7 +306,7 @@ pub(crate) fn select(out: &mut Writer, query: &Select) -> Result<(), AllocError>
     out.word(Word::From)?;
     name(out, &query.table)?;
     alias(out, &query.alias)?;
-    behind(out, &query.condition, Word::Where)
+    following(out, &query.condition, Word::Where)
 }
 
 /// A table, its alias and its condition.
@@ -310,7 +321,7 @@ pub(crate) fn from_table(
     out.word(Word::From)?;
     name(out, table)?;
     alias(out, own)?;
-    behind(out, condition, Word::Where)
+    following(out, condition, Word::Where)
 }
 
 /// The name of an item or of a table, where it has one.

@@ -5,7 +5,7 @@ ghost use Rattle.psm_token.specs.declared.word.Word.TheVariants as w;
 ghost use Rattle.psm_list.specs.Several.{several_map};
 ghost use Rattle.psm_print.specs.Spelling.{word, sign, perhaps, each, separated, ended, in_parens};
 ghost use Rattle.psm_print.specs.ExprTokens.{type_tokens, expr_tokens};
-ghost use Rattle.psm_print.specs.FileTokens.{column_rule_tokens, table_rule_tokens, element_tokens, table_tree_tokens, said_mode_tokens, parameter_tokens, parameters_tokens, note_tokens, kind_tokens, routine_tokens, module_tokens, file_tokens};
+ghost use Rattle.psm_print.specs.FileTokens.{column_rule_tokens, table_rule_tokens, element_tokens, table_tree_tokens, said_mode_tokens, parameter_tokens, parameters_tokens, characteristic_tokens, kind_tokens, routine_tokens, module_tokens, file_tokens};
 
 use crate::exprs::expr;
 use crate::names::{constant, data_type, enclosed_names, name};
@@ -14,8 +14,8 @@ use psm_list::{List, OneOrMore};
 use psm_spell::Writer;
 use psm_token::{Sign, Word};
 use psm_tree::{
-    ColumnRule, ColumnRuleForm, DataType, Element, Expr, FileTree, Mode, Module, Note, NoteForm,
-    Parameter, Routine, TableRule, TableRuleForm, TableTree,
+    Characteristic, CharacteristicForm, ColumnRule, ColumnRuleForm, DataType, Element, Expr,
+    FileTree, Mode, Module, Parameter, Routine, TableRule, TableRuleForm, TableTree,
 };
 use std::alloc::AllocError;
 
@@ -173,30 +173,30 @@ fn parameters(out: &mut Writer, parameters: &List<Parameter>) -> Result<(), Allo
     Ok(())
 }
 
-/// A note on a routine.
-fn note(out: &mut Writer, note: &Note) -> Result<(), AllocError>
-    ensures { IfOk result (λ _. out.new ≡ out.old ++ note_tokens note.now) }
+/// A characteristic on a routine.
+fn characteristic(out: &mut Writer, characteristic: &Characteristic) -> Result<(), AllocError>
+    ensures { IfOk result (λ _. out.new ≡ out.old ++ characteristic_tokens characteristic.now) }
 {
-    match note.form {
-        NoteForm::Language => {
+    match characteristic.form {
+        CharacteristicForm::Language => {
             out.word(Word::Language)?;
             out.word(Word::Sql)
         }
-        NoteForm::Deterministic => out.word(Word::Deterministic),
-        NoteForm::NotDeterministic => {
+        CharacteristicForm::Deterministic => out.word(Word::Deterministic),
+        CharacteristicForm::NotDeterministic => {
             out.word(Word::Not)?;
             out.word(Word::Deterministic)
         }
-        NoteForm::ContainsSql => {
+        CharacteristicForm::ContainsSql => {
             out.word(Word::Contains)?;
             out.word(Word::Sql)
         }
-        NoteForm::ReadsSqlData => {
+        CharacteristicForm::ReadsSqlData => {
             out.word(Word::Reads)?;
             out.word(Word::Sql)?;
             out.word(Word::Data)
         }
-        NoteForm::ModifiesSqlData => {
+        CharacteristicForm::ModifiesSqlData => {
             out.word(Word::Modifies)?;
             out.word(Word::Sql)?;
             out.word(Word::Data)
@@ -204,12 +204,15 @@ fn note(out: &mut Writer, note: &Note) -> Result<(), AllocError>
     }
 }
 
-/// The notes on a routine.
-fn notes(out: &mut Writer, notes: &List<Note>) -> Result<(), AllocError>
-    ensures { IfOk result (λ _. out.new ≡ out.old ++ each [] (map note_tokens notes.now)) }
+/// The characteristics on a routine.
+fn characteristics(
+    out: &mut Writer,
+    characteristics: &List<Characteristic>,
+) -> Result<(), AllocError>
+    ensures { IfOk result (λ _. out.new ≡ out.old ++ each [] (map characteristic_tokens characteristics.now)) }
 {
-    for next in notes.items() {
-        note(out, next)?;
+    for next in characteristics.items() {
+        characteristic(out, next)?;
     }
     Ok(())
 }
@@ -247,11 +250,11 @@ fn routine(out: &mut Writer, routine: &Routine) -> Result<(), AllocError>
     parameters(out, &routine.parameters)?;
     out.sign(Sign::RightParen)?;
     returned(out, &routine.returns)?;
-    notes(out, &routine.notes)?;
+    characteristics(out, &routine.characteristics)?;
     statement(out, routine.body.get())
 }
 
-/// Routines, each with a semicolon behind it.
+/// Routines, each with a semicolon after it.
 fn routines(out: &mut Writer, routines: &List<Routine>) -> Result<(), AllocError>
     ensures { IfOk result (λ _. out.new ≡ out.old ++ ended (map routine_tokens routines.now)) }
 {
@@ -274,7 +277,7 @@ fn module_part(out: &mut Writer, module: &Module) -> Result<(), AllocError>
     out.word(Word::Module)
 }
 
-/// Tables, each with a semicolon behind it.
+/// Tables, each with a semicolon after it.
 fn tables(out: &mut Writer, tables: &List<TableTree>) -> Result<(), AllocError>
     ensures { IfOk result (λ _. out.new ≡ out.old ++ ended (map table_tree_tokens tables.now)) }
 {

@@ -65,7 +65,7 @@ pub(crate) fn targets(out: &mut Writer, targets: &Targets) -> Result<(), AllocEr
     Ok(())
 }
 
-/// The numbers behind NUMERIC.
+/// The numbers after NUMERIC.
 fn precision(out: &mut Writer, precision: &Precision) -> Result<(), AllocError>
     ensures { IfOk result (λ _. out.new ≡ out.old ++ precision_tokens precision.now) }
 {
@@ -81,7 +81,7 @@ fn precision(out: &mut Writer, precision: &Precision) -> Result<(), AllocError>
     out.sign(Sign::RightParen)
 }
 
-/// The length behind CHAR or VARCHAR.
+/// The length after CHAR or VARCHAR.
 fn length(out: &mut Writer, length: Dec) -> Result<(), AllocError>
     ensures { IfOk result (λ _. out.new ≡ out.old ++ length_tokens length) }
 {

@@ -2,11 +2,11 @@
 ghost use Rattle.std.specs.Prelude.{◌≡◌, ◌++◌, IfOk};
 ghost use Rattle.psm_token.specs.declared.sign.Sign.TheVariants as s;
 ghost use Rattle.psm_print.specs.Spelling.{word, sign};
-ghost use Rattle.psm_print.specs.ExprTokens.{plus_minus_tokens, junction_tokens, comparison_tokens, operator_tokens, text_function_tokens, set_function_tokens, side_tokens, not_tokens};
+ghost use Rattle.psm_print.specs.ExprTokens.{plus_minus_tokens, logical_operator_tokens, comparison_tokens, operator_tokens, text_function_tokens, set_function_tokens, side_tokens, not_tokens};
 
 use psm_spell::Writer;
 use psm_token::{Sign as SignToken, Word};
-use psm_tree::{Comparison, Junction, Operator, SetFunction, Sign, TextFunction, TrimSide};
+use psm_tree::{Comparison, LogicalOperator, Operator, SetFunction, Sign, TextFunction, TrimSide};
 use std::alloc::AllocError;
 
 pub(crate) fn plus_minus(out: &mut Writer, sign: Sign) -> Result<(), AllocError>
@@ -18,12 +18,15 @@ pub(crate) fn plus_minus(out: &mut Writer, sign: Sign) -> Result<(), AllocError>
     }
 }
 
-pub(crate) fn junction(out: &mut Writer, junction: Junction) -> Result<(), AllocError>
-    ensures { IfOk result (λ _. out.new ≡ out.old ++ junction_tokens junction) }
+pub(crate) fn logical_operator(
+    out: &mut Writer,
+    logical_operator: LogicalOperator,
+) -> Result<(), AllocError>
+    ensures { IfOk result (λ _. out.new ≡ out.old ++ logical_operator_tokens logical_operator) }
 {
-    match junction {
-        Junction::And => out.word(Word::And),
-        Junction::Or => out.word(Word::Or),
+    match logical_operator {
+        LogicalOperator::And => out.word(Word::And),
+        LogicalOperator::Or => out.word(Word::Or),
     }
 }
 
@@ -93,7 +96,7 @@ pub(crate) fn not(out: &mut Writer, negated: bool) -> Result<(), AllocError>
     if negated { out.word(Word::Not) } else { Ok(()) }
 }
 
-/// A word and the parenthesis behind it.
+/// A word and the parenthesis after it.
 pub(crate) fn opening(out: &mut Writer, function: Word) -> Result<(), AllocError>
     ensures { IfOk result (λ _. out.new ≡ out.old ++ word function ++ sign s.LeftParen) }
 {

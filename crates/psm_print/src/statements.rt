@@ -128,7 +128,7 @@ fn block(out: &mut Writer, b: &Block) -> Result<(), AllocError>
     }
 }
 
-/// END and the word behind it.
+/// END and the word after it.
 fn end(out: &mut Writer, of: Word) -> Result<(), AllocError>
     ensures { IfOk result (λ _. out.new ≡ out.old ++ word w.End ++ word of) }
 {
@@ -159,7 +159,7 @@ fn perhaps_expr(out: &mut Writer, operand: &Option<Boxed<Expr>>) -> Result<(), A
     }
 }
 
-/// Statements, each with a semicolon behind it: none or more.
+/// Statements, each with a semicolon after it: none or more.
 #[cycle(statements)]
 fn statements(out: &mut Writer, items: &List<Boxed<Statement>>) -> Result<(), AllocError>
     ensures { IfOk result (λ _. out.new ≡ out.old ++ ended (map statement_tokens items.now)) }
@@ -171,7 +171,7 @@ fn statements(out: &mut Writer, items: &List<Boxed<Statement>>) -> Result<(), Al
     Ok(())
 }
 
-/// Statements, each with a semicolon behind it: one or more.
+/// Statements, each with a semicolon after it: one or more.
 #[cycle(statements)]
 fn all_statements(out: &mut Writer, items: &OneOrMore<Boxed<Statement>>) -> Result<(), AllocError>
     ensures { IfOk result (λ _. out.new ≡ out.old ++ ended (all_of (several_map statement_tokens items.now))) }
@@ -185,7 +185,7 @@ fn all_statements(out: &mut Writer, items: &OneOrMore<Boxed<Statement>>) -> Resu
     Ok(())
 }
 
-/// The statements behind ELSE, which is left out where there are none.
+/// The statements after ELSE, which is left out where there are none.
 #[cycle(statements)]
 fn otherwise_statements(out: &mut Writer, items: &List<Boxed<Statement>>) -> Result<(), AllocError>
     ensures { IfOk result (λ _. out.new ≡ out.old ++ else_tokens (map statement_tokens items.now)) }
@@ -201,7 +201,7 @@ fn otherwise_statements(out: &mut Writer, items: &List<Boxed<Statement>>) -> Res
     Ok(())
 }
 
-/// A test, and the statements behind THEN.
+/// A test, and the statements after THEN.
 #[cycle(statements)]
 #[tactic(auto, using(crate::proofs::Equations::tokens_branch))]
 fn branch(out: &mut Writer, branch: &Branch) -> Result<(), AllocError>
@@ -229,7 +229,7 @@ fn branches(
     Ok(())
 }
 
-/// Declarations of handlers, each with a semicolon behind it.
+/// Declarations of handlers, each with a semicolon after it.
 #[cycle(statements)]
 fn handlers(out: &mut Writer, items: &List<Boxed<Handler>>) -> Result<(), AllocError>
     ensures { IfOk result (λ _. out.new ≡ out.old ++ ended (map handler_tokens items.now)) }

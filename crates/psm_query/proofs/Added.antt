@@ -23,7 +23,7 @@ added_past [] vs v l = refl
 added_past (t ∷ ts) [] v l = absurd (omega (arith, l))
 added_past (t ∷ ts) (w ∷ vs) v l = ap (λ l. with_value t w ∷ l) (added_past ts vs v (omega (arith, l)))
 
--- the tallies of so many first places have room for one value more
+-- the tallies of n first places have room for one value more
 abbrev pub HaveRoom : ℕ → List Tally → Type 0
 HaveRoom n ts = (k : ℕ) (d : Tally) → k < n → k < length ts → count_of (get_or ts k d) < most_rows
 

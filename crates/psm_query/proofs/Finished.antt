@@ -1,4 +1,4 @@
--- What was kept after the last row comes to the answer.
+-- What was kept after the last row evaluates to the answer.
 use Rattle.std.proofs.Common.{◌≡◌, List, [], ◌∷◌, ◌++◌, append_assoc, refl, ap, sym, ◌∙◌, Option, Result, Ok, Err}
 use Rattle.std.specs.Prelude.{map, false}
 use Rattle.psm_sqlstate.specs.declared.state.SqlState.{SqlState}

@@ -1,5 +1,5 @@
 pub mod Added
 pub mod Finished
-pub mod Goes
+pub mod WalkLaws
 pub mod Means
 pub mod Tallied

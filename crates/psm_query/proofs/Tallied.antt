@@ -12,7 +12,7 @@ use Rattle.psm_exprcode.specs.declared.aggregate.Aggregate.{Aggregate}
 use Rattle.psm_exprcode.specs.declared.items.Items.TheVariants.{Sets}
 use Rattle.psm_table.specs.Evaluator.{and_then, collected, mapped}
 use Rattle.psm_table.specs.Queries as q
-use Rattle.psm_table.specs.Queries.{averaged, column, comes_before, comes_behind, first_by, function_of, has_nulls, known, number_of, plus, sum_of, summed}
+use Rattle.psm_table.specs.Queries.{averaged, column, comes_before, comes_after, first_by, function_of, has_nulls, known, number_of, plus, sum_of, summed}
 use Rattle.psm_table.specs.Unique.{is_null}
 use Rattle.psm_tablecode.specs.Codes.{set_function, set_of}
 use Rattle.psm_query.specs.Gathered.{Gathered, nothing, with_rows, with_values}
@@ -36,7 +36,7 @@ abbrev pub tally : q.SetFunction → List Datum → Tally
 tally q.Count vs = Count (length vs)
 tally q.Sum vs = Sum (sum_after vs)
 tally q.Min vs = Min (best comes_before vs)
-tally q.Max vs = Max (best comes_behind vs)
+tally q.Max vs = Max (best comes_after vs)
 tally q.Avg vs = Avg (sum_after vs)
 
 tally_none : (f : q.SetFunction) → tally f [] ≡ empty f
@@ -78,7 +78,7 @@ tally-last : (f : q.SetFunction) (vs : List Datum) (v : Datum) → tally f (vs +
 tally-last q.Count vs v = ap Count (length-last vs v)
 tally-last q.Sum vs v = ap Sum (sum_after-last vs v)
 tally-last q.Min vs v = ap Min (best-last comes_before vs v)
-tally-last q.Max vs v = ap Max (best-last comes_behind vs v)
+tally-last q.Max vs v = ap Max (best-last comes_after vs v)
 tally-last q.Avg vs v = ap Avg (sum_after-last vs v)
 
 tally-skip : (f : q.SetFunction) (vs : List Datum) (v : Datum) (b : Bool) → tally f (vs ++ cond (not b) (v ∷ []) []) ≡ (if b then tally f vs else with_known (tally f vs) v)

@@ -44,6 +44,6 @@ abbrev pub finished : Items → Gathered → Result Answer SqlState
 finished (Rows codes) g = Ok (record { rows = g.rows; skipped = false })
 finished (Sets sets) g = mapped (λ vs. record { rows = vs ∷ []; skipped = g.skipped }) (collected tallying.finish g.tallies)
 
--- no tally has counted more than so many values
+-- no tally has counted more than n values
 abbrev pub AreUpTo : ℕ → List Tally → Type 0
 AreUpTo n tallies = All (λ t. count_of t ≤ n) tallies

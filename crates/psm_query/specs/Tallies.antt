@@ -5,7 +5,7 @@ use Rattle.psm_sqlstate.specs.declared.state.SqlState.{SqlState}
 use Rattle.psm_value.specs.declared.datum.Datum.{Datum}
 use Rattle.psm_value.specs.declared.datum.Datum.TheVariants.{Null}
 use Rattle.psm_table.specs.Queries as q
-use Rattle.psm_table.specs.Queries.{number_of, plus, sum_of, summed, averaged, comes_before, comes_behind, first_by, whole}
+use Rattle.psm_table.specs.Queries.{number_of, plus, sum_of, summed, averaged, comes_before, comes_after, first_by, whole}
 use Rattle.psm_table.specs.Unique.{is_null}
 use Rattle.psm_query.specs.declared.total.Summing.{Summing}
 use Rattle.psm_query.specs.declared.total.Summing.TheVariants.{Empty, OutOfRange, Of}
@@ -57,7 +57,7 @@ abbrev pub with_known : Tally → Datum → Tally
 with_known (Count n) v = Count (n + 1)
 with_known (Sum s) v = Sum (with_number s v)
 with_known (Min least) v = Min (Some (better comes_before least v))
-with_known (Max greatest) v = Max (Some (better comes_behind greatest v))
+with_known (Max greatest) v = Max (Some (better comes_after greatest v))
 with_known (Avg s) v = Avg (with_number s v)
 
 -- a null is skipped

@@ -4,7 +4,7 @@ ghost use Rattle.psm_value.specs.Answer.{Gives};
 ghost use Rattle.psm_table.specs.Queries.{answer};
 ghost use Rattle.psm_tablecode.specs.Faults.{Answers};
 ghost use Rattle.psm_tablecode.specs.Codes.{over, query_of};
-ghost use Rattle.psm_tablecode.specs.Suits.{SuitsTable};
+ghost use Rattle.psm_tablecode.specs.TypeChecks.{TypeChecksTable};
 
 use crate::answer::Answer;
 use crate::gathering::Gathering;
@@ -30,7 +30,7 @@ pub fn rows<S: Store>(
     vars: &[Datum],
 ) -> Result<Answer, DataFault>
     requires exists { query.now.table < length (S.tables store.now) }
-    requires suits { IfSome (slice_get (S.tables store.now) query.now.table) (λ c. SuitsTable query.now vars.now c.def) }
+    requires type_checks { IfSome (slice_get (S.tables store.now) query.now.table) (λ c. TypeChecksTable query.now vars.now c.def) }
     ensures { IfSome (slice_get (S.tables store.now) query.now.table) (λ c. Answers (answer (over vars.now) (query_of query.now) c.rows) result) }
 {
     match rows_of(alloc, store.table(query.table), query, vars) {
@@ -46,7 +46,7 @@ fn rows_of(
     query: &Query,
     vars: &[Datum],
 ) -> Result<Answer, ValueFault>
-    requires { SuitsTable query.now vars.now table.now.contents.def }
+    requires { TypeChecksTable query.now vars.now table.now.contents.def }
     ensures { Gives (answer (over vars.now) (query_of query.now) table.now.contents.rows) result }
 {
     match Gathering::of_rows(alloc, table, query, vars) {

@@ -9,7 +9,7 @@ ghost use Rattle.psm_table.specs.Unique.{is_null as is_null_value};
 ghost use Rattle.psm_tablecode.specs.Codes.{over, set_function};
 ghost use Rattle.psm_query.specs.Gathered.{finished, nothing, with_rows, with_taken, AreUpTo};
 ghost use Rattle.psm_tablecode.specs.Rows.{values_for};
-ghost use Rattle.psm_tablecode.specs.Suits.{SuitsTable};
+ghost use Rattle.psm_tablecode.specs.TypeChecks.{TypeChecksTable};
 ghost use Rattle.psm_query.specs.Tallies.{added, count_of, empty, finish as finish_of};
 
 use crate::answer::Answer;
@@ -45,7 +45,7 @@ impl Gathering {
         query: &Query,
         vars: &[Datum],
     ) -> Result<Gathering, ValueFault>
-        requires { SuitsTable query.now vars.now table.now.contents.def }
+        requires { TypeChecksTable query.now vars.now table.now.contents.def }
         ensures { Gives (mapped (with_rows query.now.items (nothing query.now.items)) (walked (test_of (over vars.now) query.now.test) (values_for vars.now query.now.items) (in_walk query.now.downward table.now.contents.rows))) result }
     {
         let mut stack = Vec::new(alloc);

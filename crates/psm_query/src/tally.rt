@@ -1,7 +1,7 @@
 //! What is kept of a set function from row to row.
 ghost use Rattle.std.specs.Prelude.{◌≡◌, ◌<◌, IfOk, Some};
 ghost use Rattle.psm_value.specs.Answer.{Gives};
-ghost use Rattle.psm_table.specs.Queries.{comes_before, comes_behind, whole as whole_number};
+ghost use Rattle.psm_table.specs.Queries.{comes_before, comes_after, whole as whole_number};
 ghost use Rattle.psm_table.specs.Table.{most_rows};
 ghost use Rattle.psm_table.specs.Unique.{is_null as is_null_value};
 ghost use Rattle.psm_tablecode.specs.Codes.{set_function};
@@ -95,7 +95,7 @@ fn is_first(least: &Option<Datum>, value: &Datum) -> bool
 }
 
 fn keep_greatest(greatest: &mut Option<Datum>, value: Datum)
-    ensures { greatest.new ≡ Some (better comes_behind greatest.old value) }
+    ensures { greatest.new ≡ Some (better comes_after greatest.old value) }
 {
     if is_last(greatest, &value) {
         *greatest = Some(value);
@@ -103,7 +103,7 @@ fn keep_greatest(greatest: &mut Option<Datum>, value: Datum)
 }
 
 fn is_last(greatest: &Option<Datum>, value: &Datum) -> bool
-    ensures { result ≡ precedes comes_behind greatest.now value.now }
+    ensures { result ≡ precedes comes_after greatest.now value.now }
 {
     match greatest {
         None => true,

@@ -2,11 +2,11 @@
 use Rattle.std.proofs.Common.{◌≡◌, ℕ, suc, Option, Some, None, List, [], ◌∷◌, ◌++◌, length, map, refl, sym, ap, ◌∙◌, subst}
 use Rattle.std.proofs.lemmas.List.{append_assoc, append-nil}
 use Rattle.psm_value.specs.declared.sqltype.SqlType.{SqlType}
-use Rattle.psm_scope.specs.Frames.{Spelling, undeclared}
-use Rattle.psm_scope.specs.Frames as frame
+use Rattle.psm_scope.specs.Scopes.{Spelling, undeclared}
+use Rattle.psm_scope.specs.Scopes as scope
 use Rattle.psm_rules.specs.StatementFaults.{several}
 use Rattle.psm_rules.specs.Types.{type_of}
-use Rattle.psm_rules.specs.View.{World}
+use Rattle.psm_rules.specs.CheckerScope.{SymbolTable}
 use Rattle.psm_tree.specs.declared.name.Identifier.{Identifier}
 use Rattle.psm_tree.specs.declared.types.State.{State}
 use Rattle.psm_tree.specs.declared.statement.CursorDeclaration.{CursorDeclaration}
@@ -14,10 +14,10 @@ use Rattle.psm_tree.specs.declared.statement.Declaration.{Declaration}
 use Rattle.psm_tree.specs.declared.statement.Declaration.TheVariants as declarations
 use Rattle.psm_tree.specs.declared.statement.ForHead.{ForHead}
 use Rattle.psm_resolve_expr.specs.Exprs.{type_known}
-use Rattle.psm_resolve_expr.specs.Sight.{Sight}
+use Rattle.psm_resolve_expr.specs.ResolverScope.{ResolverScope}
 use Rattle.psm_declare.specs.Numbering.{Numbering, next_slot, with_slot}
-use Rattle.psm_declare.specs.Declarations.{Told, cursors_of, declarations_of, slots_from, told_by, told_condition, told_cursor, told_cursors, told_variable, told_variables}
-use Rattle.psm_resolve.specs.Blocks.{ForItem, Part, all, for_items, head_of, item_slots, told_for_cursor, told_head, told_item, told_items}
+use Rattle.psm_declare.specs.Declarations.{Numbered, cursors_of, declarations_of, slots_from, numbered_by, numbered_condition, numbered_cursor, numbered_cursors, numbered_variable, numbered_variables}
+use Rattle.psm_resolve.specs.Blocks.{ForItem, Part, all, for_items, head_of, item_slots, numbered_for_cursor, numbered_head, numbered_item, numbered_items}
 use Rattle.psm_resolve.specs.OwnNumbers.{CountsUp, Numbers, all_names, beside, condition_names, cursors_in, no_numbers, numbers_of_head, together, variables_in, with_own_name}
 
 -- these are numbered from one count up to another, and conditions of these names
@@ -52,7 +52,7 @@ counted-as {names} {n} {m} e h = subst (λ z. Counted z names n m) (sym e) h
 abbrev slots_alone : List ℕ → Numbers
 slots_alone slots = record { slots = slots; cursors = [] }
 
--- a slot, and those behind it
+-- a slot, and those after it
 slot-counted : (t : SqlType) (n m : Numbering) (others : ℕ → List ℕ) → Counted (slots_alone (others (next_slot (with_slot t n)))) [] (with_slot t n) m
     → Counted (slots_alone (next_slot n ∷ others (suc (next_slot n)))) [] n m
 slot-counted t n m others h = record {
@@ -61,45 +61,45 @@ slot-counted t n m others h = record {
   conditions = h.conditions;
 }
 
-variables-counted : (t : SqlType) (told : Told) (ns : List Identifier) → Counted (slots_alone (slots_from (next_slot told.1) ns)) [] told.1 (told_variables t told ns).1
-variables-counted t told [] = counted-none told.1
-variables-counted t told (n ∷ ns) = slot-counted t told.1 (told_variables t (told_variable t told n.name) ns).1 (λ k. slots_from k ns) (variables-counted t (told_variable t told n.name) ns)
+variables-counted : (t : SqlType) (numbered : Numbered) (ns : List Identifier) → Counted (slots_alone (slots_from (next_slot numbered.1) ns)) [] numbered.1 (numbered_variables t numbered ns).1
+variables-counted t numbered [] = counted-none numbered.1
+variables-counted t numbered (n ∷ ns) = slot-counted t numbered.1 (numbered_variables t (numbered_variable t numbered n.name) ns).1 (λ k. slots_from k ns) (variables-counted t (numbered_variable t numbered n.name) ns)
 
-items-counted : (told : Told) (is : List ForItem) → Counted (slots_alone (item_slots (next_slot told.1) is)) [] told.1 (told_items told is).1
-items-counted told [] = counted-none told.1
-items-counted told ((None, t) ∷ is) = slot-counted t told.1 (told_items (told_item told (None, t)) is).1 (λ k. item_slots k is) (items-counted (told_item told (None, t)) is)
-items-counted told ((Some name, t) ∷ is) = slot-counted t told.1 (told_items (told_item told (Some name, t)) is).1 (λ k. item_slots k is) (items-counted (told_item told (Some name, t)) is)
+items-counted : (numbered : Numbered) (is : List ForItem) → Counted (slots_alone (item_slots (next_slot numbered.1) is)) [] numbered.1 (numbered_items numbered is).1
+items-counted numbered [] = counted-none numbered.1
+items-counted numbered ((None, t) ∷ is) = slot-counted t numbered.1 (numbered_items (numbered_item numbered (None, t)) is).1 (λ k. item_slots k is) (items-counted (numbered_item numbered (None, t)) is)
+items-counted numbered ((Some name, t) ∷ is) = slot-counted t numbered.1 (numbered_items (numbered_item numbered (Some name, t)) is).1 (λ k. item_slots k is) (items-counted (numbered_item numbered (Some name, t)) is)
 
 -- ---- declarations
 
-condition-counted : (told : Told) (name : Spelling) (state : Option State) → Counted no_numbers (with_own_name name state []) told.1 (told_condition told name state).1
-condition-counted told name None = record { slots = refl; cursors = refl; conditions = refl }
-condition-counted told name (Some s) = counted-none told.1
+condition-counted : (numbered : Numbered) (name : Spelling) (state : Option State) → Counted no_numbers (with_own_name name state []) numbered.1 (numbered_condition numbered name state).1
+condition-counted numbered name None = record { slots = refl; cursors = refl; conditions = refl }
+condition-counted numbered name (Some s) = counted-none numbered.1
 
-pub declarations-counted : (world : World) (told : Told) (xs : List Declaration) → Counted (variables_in (declarations_of world told xs)) (condition_names xs) told.1 (told_by told xs).1
-declarations-counted world told [] = counted-none told.1
-declarations-counted world told (declarations.Variables place names kind default ∷ xs) =
+pub declarations-counted : (symbols : SymbolTable) (numbered : Numbered) (xs : List Declaration) → Counted (variables_in (declarations_of symbols numbered xs)) (condition_names xs) numbered.1 (numbered_by numbered xs).1
+declarations-counted symbols numbered [] = counted-none numbered.1
+declarations-counted symbols numbered (declarations.Variables place names kind default ∷ xs) =
     let t : SqlType = type_known (type_of kind) in
-    counted-beside (variables-counted t told (several names)) (declarations-counted world (told_variables t told (several names)) xs)
-declarations-counted world told (declarations.Condition place name None ∷ xs) = counted-beside (condition-counted told name.name None) (declarations-counted world (told_condition told name.name None) xs)
-declarations-counted world told (declarations.Condition place name (Some s) ∷ xs) = counted-beside (condition-counted told name.name (Some s)) (declarations-counted world (told_condition told name.name (Some s)) xs)
+    counted-beside (variables-counted t numbered (several names)) (declarations-counted symbols (numbered_variables t numbered (several names)) xs)
+declarations-counted symbols numbered (declarations.Condition place name None ∷ xs) = counted-beside (condition-counted numbered name.name None) (declarations-counted symbols (numbered_condition numbered name.name None) xs)
+declarations-counted symbols numbered (declarations.Condition place name (Some s) ∷ xs) = counted-beside (condition-counted numbered name.name (Some s)) (declarations-counted symbols (numbered_condition numbered name.name (Some s)) xs)
 
-pub cursors-counted : (world : World) (told : Told) (xs : List CursorDeclaration) → Counted (cursors_in (cursors_of world told xs)) [] told.1 (told_cursors told xs).1
-cursors-counted world told [] = counted-none told.1
-cursors-counted world told (x ∷ xs) =
-    let h : Counted (cursors_in (cursors_of world (told_cursor told x) xs)) [] (told_cursor told x).1 (told_cursors (told_cursor told x) xs).1 = cursors-counted world (told_cursor told x) xs in
+pub cursors-counted : (symbols : SymbolTable) (numbered : Numbered) (xs : List CursorDeclaration) → Counted (cursors_in (cursors_of symbols numbered xs)) [] numbered.1 (numbered_cursors numbered xs).1
+cursors-counted symbols numbered [] = counted-none numbered.1
+cursors-counted symbols numbered (x ∷ xs) =
+    let h : Counted (cursors_in (cursors_of symbols (numbered_cursor numbered x) xs)) [] (numbered_cursor numbered x).1 (numbered_cursors (numbered_cursor numbered x) xs).1 = cursors-counted symbols (numbered_cursor numbered x) xs in
     record { slots = h.slots; cursors = (refl, h.cursors); conditions = h.conditions }
 
-pub head-counted : (sight : Sight) (label : Option Spelling) (head : ForHead) (n : Numbering) → Counted (numbers_of_head (head_of sight head n)) [] n (told_head sight label head n).1
-head-counted sight label head n =
-    let before : Told = told_for_cursor (frame.For label head.name.name undeclared ∷ sight.frames, n) head.cursor in
-    let is : List ForItem = for_items sight head.query.query in
-    let h : Counted (slots_alone (item_slots (next_slot before.1) is)) [] before.1 (told_items before is).1 = items-counted before is in
+pub head-counted : (resolver_scope : ResolverScope) (label : Option Spelling) (head : ForHead) (n : Numbering) → Counted (numbers_of_head (head_of resolver_scope head n)) [] n (numbered_head resolver_scope label head n).1
+head-counted resolver_scope label head n =
+    let before : Numbered = numbered_for_cursor (scope.For label head.name.name undeclared ∷ resolver_scope.scopes, n) head.cursor in
+    let is : List ForItem = for_items resolver_scope head.query.query in
+    let h : Counted (slots_alone (item_slots (next_slot before.1) is)) [] before.1 (numbered_items before is).1 = items-counted before is in
     record { slots = h.slots; cursors = (refl, h.cursors); conditions = h.conditions }
 
 -- ---- parts in turn
 
-pub all-counted : {X A : Type 0} (part : X → Part A) (g : A → Numbers) (names : X → List Spelling) (sight : Sight) (ys : List ((x : X) × ((s : Sight) (n : Numbering) → Counted (g (part x s n).0) (names x) n (part x s n).1))) (n : Numbering)
-    → Counted (together (map g (all sight (map part (map (λ y. y.0) ys)) n).0)) (all_names (map names (map (λ y. y.0) ys))) n (all sight (map part (map (λ y. y.0) ys)) n).1
-all-counted part g names sight [] n = counted-none n
-all-counted part g names sight (y ∷ ys) n = counted-beside (y.1 sight n) (all-counted part g names sight ys (part y.0 sight n).1)
+pub all-counted : {X A : Type 0} (part : X → Part A) (g : A → Numbers) (names : X → List Spelling) (resolver_scope : ResolverScope) (ys : List ((x : X) × ((s : ResolverScope) (n : Numbering) → Counted (g (part x s n).0) (names x) n (part x s n).1))) (n : Numbering)
+    → Counted (together (map g (all resolver_scope (map part (map (λ y. y.0) ys)) n).0)) (all_names (map names (map (λ y. y.0) ys))) n (all resolver_scope (map part (map (λ y. y.0) ys)) n).1
+all-counted part g names resolver_scope [] n = counted-none n
+all-counted part g names resolver_scope (y ∷ ys) n = counted-beside (y.1 resolver_scope n) (all-counted part g names resolver_scope ys (part y.0 resolver_scope n).1)

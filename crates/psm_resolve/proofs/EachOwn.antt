@@ -2,11 +2,11 @@
 use Rattle.std.proofs.Common.{◌≡◌, suc, Option, None, List, [], ◌∷◌, ◌++◌, length, map, refl, sym, ap, ◌∙◌, subst}
 use Rattle.std.proofs.lemmas.List.{append_assoc, append-nil}
 use Rattle.psm_list.specs.Several.{Several}
-use Rattle.psm_scope.specs.Frames.{Spelling, undeclared}
-use Rattle.psm_scope.specs.Frames as frame
+use Rattle.psm_scope.specs.Scopes.{Spelling, undeclared}
+use Rattle.psm_scope.specs.Scopes as scope
 use Rattle.psm_rules.specs.StatementFaults.{label_name}
 use Rattle.psm_rules.specs.Types.{type_of}
-use Rattle.psm_rules.specs.View.{World}
+use Rattle.psm_rules.specs.CheckerScope.{SymbolTable}
 use Rattle.psm_tree.specs.declared.file.Parameter.{Parameter}
 use Rattle.psm_tree.specs.declared.file.Routine.{Routine}
 use Rattle.psm_tree.specs.declared.statement.Block.{Block, roll-Block}
@@ -20,11 +20,11 @@ use Rattle.psm_resolved.specs.declared.statement.ResolvedBranch.{ResolvedBranch}
 use Rattle.psm_resolved.specs.declared.statement.ResolvedHandler.{ResolvedHandler}
 use Rattle.psm_resolved.specs.declared.statement.ResolvedStatement.{ResolvedStatement}
 use Rattle.psm_resolve_expr.specs.Exprs.{type_known}
-use Rattle.psm_resolve_expr.specs.Sight.{Sight}
+use Rattle.psm_resolve_expr.specs.ResolverScope.{ResolverScope}
 use Rattle.psm_declare.specs.Numbering.{Numbering}
-use Rattle.psm_declare.specs.Declarations.{Told, opened, told_by, told_cursors}
-use Rattle.psm_resolve.specs.Blocks.{BlockPart, Part, all, block_layer, block_made, branch_layer, branch_made, handler_layer, handler_made, in_frames, in_loop, inside, statement_layer, statement_made, told_head}
-use Rattle.psm_resolve.specs.Files.{nothing_numbered, parameter_made, routine_made, routine_told, told_parameter, told_parameters}
+use Rattle.psm_declare.specs.Declarations.{Numbered, opened, numbered_by, numbered_cursors}
+use Rattle.psm_resolve.specs.Blocks.{BlockPart, Part, all, block_layer, resolve_block, branch_layer, resolve_branch, handler_layer, resolve_handler, in_scopes, in_loop, inside, statement_layer, resolve_statement, numbered_head}
+use Rattle.psm_resolve.specs.Files.{nothing_numbered, resolve_parameter, resolve_routine, routine_numbered, numbered_parameter, numbered_parameters}
 use Rattle.psm_resolve.specs.OwnNumbers.{CountsUp, HasNumbersOfItsOwn, block_names_layer, branch_names_layer, handler_names_layer, names_layer, numbers_of, numbers_of_branch, numbers_of_handler, own_conditions, own_conditions_of_block, own_conditions_of_branch, own_conditions_of_handler}
 use Rattle.psm_resolve.proofs.Counted.{Counted, all-counted, counted-as, counted-beside, counted-none, cursors-counted, declarations-counted, head-counted}
 use Rattle.psm_resolve.proofs.NumbersOfForms.{numbers-Case, numbers-Compound, numbers-For, numbers-If, numbers-Loop, numbers-Repeat, numbers-Simple, numbers-While, numbers-block, numbers-branch, numbers-handler}
@@ -32,16 +32,16 @@ use Rattle.psm_resolve.proofs.NumbersOfForms.{numbers-Case, numbers-Compound, nu
 -- ---- what is claimed
 
 abbrev OfStatement : Statement → Type 0
-OfStatement s = (sight : Sight) (n : Numbering) → Counted (numbers_of (statement_made s sight n).0) (own_conditions s) n (statement_made s sight n).1
+OfStatement s = (resolver_scope : ResolverScope) (n : Numbering) → Counted (numbers_of (resolve_statement s resolver_scope n).0) (own_conditions s) n (resolve_statement s resolver_scope n).1
 
 abbrev OfBlock : Block → Type 0
-OfBlock b = (label : Option Spelling) (sight : Sight) (n : Numbering) → Counted (numbers_of (block_made b label sight n).0) (own_conditions_of_block b) n (block_made b label sight n).1
+OfBlock b = (label : Option Spelling) (resolver_scope : ResolverScope) (n : Numbering) → Counted (numbers_of (resolve_block b label resolver_scope n).0) (own_conditions_of_block b) n (resolve_block b label resolver_scope n).1
 
 abbrev OfBranch : Branch → Type 0
-OfBranch b = (sight : Sight) (n : Numbering) → Counted (numbers_of_branch (branch_made b sight n).0) (own_conditions_of_branch b) n (branch_made b sight n).1
+OfBranch b = (resolver_scope : ResolverScope) (n : Numbering) → Counted (numbers_of_branch (resolve_branch b resolver_scope n).0) (own_conditions_of_branch b) n (resolve_branch b resolver_scope n).1
 
 abbrev OfHandler : Handler → Type 0
-OfHandler h = (sight : Sight) (n : Numbering) → Counted (numbers_of_handler (handler_made h sight n).0) (own_conditions_of_handler h) n (handler_made h sight n).1
+OfHandler h = (resolver_scope : ResolverScope) (n : Numbering) → Counted (numbers_of_handler (resolve_handler h resolver_scope n).0) (own_conditions_of_handler h) n (resolve_handler h resolver_scope n).1
 
 -- parts with what they prove
 abbrev B : Type 0
@@ -64,35 +64,35 @@ Names = List Spelling
 abbrev bare : Statement-F B S R H → Statement-F Block Statement Branch Handler
 bare y = map-Statement B S R H Block Statement Branch Handler (λ e. e.0) (λ e. e.0) (λ e. e.0) (λ e. e.0) y
 
-abbrev made_layer : Statement-F Block Statement Branch Handler → Part ResolvedStatement
-made_layer layer = statement_layer (map-Statement Block Statement Branch Handler BlockPart (Part ResolvedStatement) (Part ResolvedBranch) (Part ResolvedHandler) block_made statement_made branch_made handler_made layer)
+abbrev resolved_layer : Statement-F Block Statement Branch Handler → Part ResolvedStatement
+resolved_layer layer = statement_layer (map-Statement Block Statement Branch Handler BlockPart (Part ResolvedStatement) (Part ResolvedBranch) (Part ResolvedHandler) resolve_block resolve_statement resolve_branch resolve_handler layer)
 
 abbrev named_layer : Statement-F Block Statement Branch Handler → Names
 named_layer layer = names_layer (map-Statement Block Statement Branch Handler Names Names Names Names own_conditions_of_block own_conditions own_conditions_of_branch own_conditions_of_handler layer)
 
--- branches and what stands behind ELSE
-abbrev branches_behind : Sight → Several R → Numbering → Numbering
-branches_behind sight branches n = (all sight (map branch_made (map (λ e. e.0) (branches.first ∷ branches.rest))) n).1
+-- branches and what stands after ELSE
+abbrev branches_after : ResolverScope → Several R → Numbering → Numbering
+branches_after resolver_scope branches n = (all resolver_scope (map resolve_branch (map (λ e. e.0) (branches.first ∷ branches.rest))) n).1
 
-statement-claim : (y : Statement-F B S R H) (sight : Sight) (n : Numbering) → Counted (numbers_of (made_layer (bare y) sight n).0) (named_layer (bare y)) n (made_layer (bare y) sight n).1
-statement-claim (layers.Block label block) sight n = block.1 (label_name label) sight n
-statement-claim (layers.If place branches otherwise) sight n =
+statement-claim : (y : Statement-F B S R H) (resolver_scope : ResolverScope) (n : Numbering) → Counted (numbers_of (resolved_layer (bare y) resolver_scope n).0) (named_layer (bare y)) n (resolved_layer (bare y) resolver_scope n).1
+statement-claim (layers.Block label block) resolver_scope n = block.1 (label_name label) resolver_scope n
+statement-claim (layers.If place branches otherwise) resolver_scope n =
     counted-as (numbers-If _ _)
-    (counted-beside (all-counted branch_made numbers_of_branch own_conditions_of_branch sight (branches.first ∷ branches.rest) n)
-    (all-counted statement_made numbers_of own_conditions sight otherwise (branches_behind sight branches n)))
-statement-claim (layers.Case place operand branches otherwise) sight n =
+    (counted-beside (all-counted resolve_branch numbers_of_branch own_conditions_of_branch resolver_scope (branches.first ∷ branches.rest) n)
+    (all-counted resolve_statement numbers_of own_conditions resolver_scope otherwise (branches_after resolver_scope branches n)))
+statement-claim (layers.Case place operand branches otherwise) resolver_scope n =
     counted-as (numbers-Case _ _ _)
-    (counted-beside (all-counted branch_made numbers_of_branch own_conditions_of_branch sight (branches.first ∷ branches.rest) n)
-    (all-counted statement_made numbers_of own_conditions sight otherwise (branches_behind sight branches n)))
-statement-claim (layers.Simple simple) sight n = counted-as (numbers-Simple _) (counted-none n)
+    (counted-beside (all-counted resolve_branch numbers_of_branch own_conditions_of_branch resolver_scope (branches.first ∷ branches.rest) n)
+    (all-counted resolve_statement numbers_of own_conditions resolver_scope otherwise (branches_after resolver_scope branches n)))
+statement-claim (layers.Simple simple) resolver_scope n = counted-as (numbers-Simple _) (counted-none n)
 
 statement-rolled : (y : Statement-F B S R H) → OfStatement (roll-Statement (bare y))
-statement-rolled y sight n =
-    subst (λ names. Counted (numbers_of (statement_made (roll-Statement (bare y)) sight n).0) names n (statement_made (roll-Statement (bare y)) sight n).1)
+statement-rolled y resolver_scope n =
+    subst (λ names. Counted (numbers_of (resolve_statement (roll-Statement (bare y)) resolver_scope n).0) names n (resolve_statement (roll-Statement (bare y)) resolver_scope n).1)
     (sym (fold-roll-Statement Names Names Names Names block_names_layer names_layer branch_names_layer handler_names_layer (bare y)))
-    (subst (λ f. Counted (numbers_of (f sight n).0) (named_layer (bare y)) n (f sight n).1)
+    (subst (λ f. Counted (numbers_of (f resolver_scope n).0) (named_layer (bare y)) n (f resolver_scope n).1)
     (sym (fold-roll-Statement BlockPart (Part ResolvedStatement) (Part ResolvedBranch) (Part ResolvedHandler) block_layer statement_layer branch_layer handler_layer (bare y)))
-    (statement-claim y sight n))
+    (statement-claim y resolver_scope n))
 
 statement-step : (x : Statement-F Block Statement Branch Handler) (y : Statement-F B S R H) → bare y ≡ x → OfStatement (roll-Statement x)
 statement-step x y is = subst (λ z. OfStatement (roll-Statement z)) is (statement-rolled y)
@@ -102,40 +102,40 @@ statement-step x y is = subst (λ z. OfStatement (roll-Statement z)) is (stateme
 abbrev bare_block : Block-F B S R H → Block-F Block Statement Branch Handler
 bare_block y = map-Block B S R H Block Statement Branch Handler (λ e. e.0) (λ e. e.0) (λ e. e.0) (λ e. e.0) y
 
-abbrev made_block_layer : Block-F Block Statement Branch Handler → BlockPart
-made_block_layer layer = block_layer (map-Block Block Statement Branch Handler BlockPart (Part ResolvedStatement) (Part ResolvedBranch) (Part ResolvedHandler) block_made statement_made branch_made handler_made layer)
+abbrev resolved_block_layer : Block-F Block Statement Branch Handler → BlockPart
+resolved_block_layer layer = block_layer (map-Block Block Statement Branch Handler BlockPart (Part ResolvedStatement) (Part ResolvedBranch) (Part ResolvedHandler) resolve_block resolve_statement resolve_branch resolve_handler layer)
 
 abbrev named_block_layer : Block-F Block Statement Branch Handler → Names
 named_block_layer layer = block_names_layer (map-Block Block Statement Branch Handler Names Names Names Names own_conditions_of_block own_conditions own_conditions_of_branch own_conditions_of_handler layer)
 
-block-claim : (y : Block-F B S R H) (label : Option Spelling) (sight : Sight) (n : Numbering) → Counted (numbers_of (made_block_layer (bare_block y) label sight n).0) (named_block_layer (bare_block y)) n (made_block_layer (bare_block y) label sight n).1
-block-claim (layers.Compound place atomic xs cursors handlers statements) label sight n =
-    let before : Told = (opened label sight.frames, n) in
-    let declared : Told = told_by before xs in
-    let told : Told = told_cursors declared cursors in
-    let within : Sight = in_frames sight told.0 in
-    let behind : Numbering = (all within (map handler_made (map (λ e. e.0) handlers)) told.1).1 in
+block-claim : (y : Block-F B S R H) (label : Option Spelling) (resolver_scope : ResolverScope) (n : Numbering) → Counted (numbers_of (resolved_block_layer (bare_block y) label resolver_scope n).0) (named_block_layer (bare_block y)) n (resolved_block_layer (bare_block y) label resolver_scope n).1
+block-claim (layers.Compound place atomic xs cursors handlers statements) label resolver_scope n =
+    let before : Numbered = (opened label resolver_scope.scopes, n) in
+    let declared : Numbered = numbered_by before xs in
+    let numbered : Numbered = numbered_cursors declared cursors in
+    let within : ResolverScope = in_scopes resolver_scope numbered.0 in
+    let following : Numbering = (all within (map resolve_handler (map (λ e. e.0) handlers)) numbered.1).1 in
     counted-as (numbers-Compound _ _ ∙ numbers-block _)
-    (counted-beside (declarations-counted sight.world before xs)
-    (counted-beside (cursors-counted sight.world declared cursors)
-    (counted-beside (all-counted handler_made numbers_of_handler own_conditions_of_handler within handlers told.1)
-    (all-counted statement_made numbers_of own_conditions within statements behind))))
-block-claim (layers.Loop place statements) label sight n = counted-as (numbers-Loop _ _) (all-counted statement_made numbers_of own_conditions (in_loop label sight) (statements.first ∷ statements.rest) n)
-block-claim (layers.While place test statements) label sight n = counted-as (numbers-While _ _ _) (all-counted statement_made numbers_of own_conditions (in_loop label sight) (statements.first ∷ statements.rest) n)
-block-claim (layers.Repeat place statements until) label sight n = counted-as (numbers-Repeat _ _ _) (all-counted statement_made numbers_of own_conditions (in_loop label sight) (statements.first ∷ statements.rest) n)
-block-claim (layers.For place head statements) label sight n =
-    let told : Told = told_head sight label head n in
+    (counted-beside (declarations-counted resolver_scope.symbols before xs)
+    (counted-beside (cursors-counted resolver_scope.symbols declared cursors)
+    (counted-beside (all-counted resolve_handler numbers_of_handler own_conditions_of_handler within handlers numbered.1)
+    (all-counted resolve_statement numbers_of own_conditions within statements following))))
+block-claim (layers.Loop place statements) label resolver_scope n = counted-as (numbers-Loop _ _) (all-counted resolve_statement numbers_of own_conditions (in_loop label resolver_scope) (statements.first ∷ statements.rest) n)
+block-claim (layers.While place test statements) label resolver_scope n = counted-as (numbers-While _ _ _) (all-counted resolve_statement numbers_of own_conditions (in_loop label resolver_scope) (statements.first ∷ statements.rest) n)
+block-claim (layers.Repeat place statements until) label resolver_scope n = counted-as (numbers-Repeat _ _ _) (all-counted resolve_statement numbers_of own_conditions (in_loop label resolver_scope) (statements.first ∷ statements.rest) n)
+block-claim (layers.For place head statements) label resolver_scope n =
+    let numbered : Numbered = numbered_head resolver_scope label head n in
     counted-as (numbers-For _ _ _)
-    (counted-beside (head-counted sight label head n)
-    (all-counted statement_made numbers_of own_conditions (in_frames sight told.0) (statements.first ∷ statements.rest) told.1))
+    (counted-beside (head-counted resolver_scope label head n)
+    (all-counted resolve_statement numbers_of own_conditions (in_scopes resolver_scope numbered.0) (statements.first ∷ statements.rest) numbered.1))
 
 block-rolled : (y : Block-F B S R H) → OfBlock (roll-Block (bare_block y))
-block-rolled y label sight n =
-    subst (λ names. Counted (numbers_of (block_made (roll-Block (bare_block y)) label sight n).0) names n (block_made (roll-Block (bare_block y)) label sight n).1)
+block-rolled y label resolver_scope n =
+    subst (λ names. Counted (numbers_of (resolve_block (roll-Block (bare_block y)) label resolver_scope n).0) names n (resolve_block (roll-Block (bare_block y)) label resolver_scope n).1)
     (sym (fold-roll-Block Names Names Names Names block_names_layer names_layer branch_names_layer handler_names_layer (bare_block y)))
-    (subst (λ f. Counted (numbers_of (f label sight n).0) (named_block_layer (bare_block y)) n (f label sight n).1)
+    (subst (λ f. Counted (numbers_of (f label resolver_scope n).0) (named_block_layer (bare_block y)) n (f label resolver_scope n).1)
     (sym (fold-roll-Block BlockPart (Part ResolvedStatement) (Part ResolvedBranch) (Part ResolvedHandler) block_layer statement_layer branch_layer handler_layer (bare_block y)))
-    (block-claim y label sight n))
+    (block-claim y label resolver_scope n))
 
 block-step : (x : Block-F Block Statement Branch Handler) (y : Block-F B S R H) → bare_block y ≡ x → OfBlock (roll-Block x)
 block-step x y is = subst (λ z. OfBlock (roll-Block z)) is (block-rolled y)
@@ -146,12 +146,12 @@ abbrev bare_branch : Branch-F B S R H → Branch-F Block Statement Branch Handle
 bare_branch y = map-Branch B S R H Block Statement Branch Handler (λ e. e.0) (λ e. e.0) (λ e. e.0) (λ e. e.0) y
 
 branch-rolled : (y : Branch-F B S R H) → OfBranch (roll-Branch (bare_branch y))
-branch-rolled y sight n =
-    subst (λ names. Counted (numbers_of_branch (branch_made (roll-Branch (bare_branch y)) sight n).0) names n (branch_made (roll-Branch (bare_branch y)) sight n).1)
+branch-rolled y resolver_scope n =
+    subst (λ names. Counted (numbers_of_branch (resolve_branch (roll-Branch (bare_branch y)) resolver_scope n).0) names n (resolve_branch (roll-Branch (bare_branch y)) resolver_scope n).1)
     (sym (fold-roll-Branch Names Names Names Names block_names_layer names_layer branch_names_layer handler_names_layer (bare_branch y)))
-    (subst (λ f. Counted (numbers_of_branch (f sight n).0) (branch_names_layer (map-Branch Block Statement Branch Handler Names Names Names Names own_conditions_of_block own_conditions own_conditions_of_branch own_conditions_of_handler (bare_branch y))) n (f sight n).1)
+    (subst (λ f. Counted (numbers_of_branch (f resolver_scope n).0) (branch_names_layer (map-Branch Block Statement Branch Handler Names Names Names Names own_conditions_of_block own_conditions own_conditions_of_branch own_conditions_of_handler (bare_branch y))) n (f resolver_scope n).1)
     (sym (fold-roll-Branch BlockPart (Part ResolvedStatement) (Part ResolvedBranch) (Part ResolvedHandler) block_layer statement_layer branch_layer handler_layer (bare_branch y)))
-    (counted-as (numbers-branch _) (all-counted statement_made numbers_of own_conditions sight (y.statements.first ∷ y.statements.rest) n)))
+    (counted-as (numbers-branch _) (all-counted resolve_statement numbers_of own_conditions resolver_scope (y.statements.first ∷ y.statements.rest) n)))
 
 branch-step : (x : Branch-F Block Statement Branch Handler) (y : Branch-F B S R H) → bare_branch y ≡ x → OfBranch (roll-Branch x)
 branch-step x y is = subst (λ z. OfBranch (roll-Branch z)) is (branch-rolled y)
@@ -160,12 +160,12 @@ abbrev bare_handler : Handler-F B S R H → Handler-F Block Statement Branch Han
 bare_handler y = map-Handler B S R H Block Statement Branch Handler (λ e. e.0) (λ e. e.0) (λ e. e.0) (λ e. e.0) y
 
 handler-rolled : (y : Handler-F B S R H) → OfHandler (roll-Handler (bare_handler y))
-handler-rolled y sight n =
-    subst (λ names. Counted (numbers_of_handler (handler_made (roll-Handler (bare_handler y)) sight n).0) names n (handler_made (roll-Handler (bare_handler y)) sight n).1)
+handler-rolled y resolver_scope n =
+    subst (λ names. Counted (numbers_of_handler (resolve_handler (roll-Handler (bare_handler y)) resolver_scope n).0) names n (resolve_handler (roll-Handler (bare_handler y)) resolver_scope n).1)
     (sym (fold-roll-Handler Names Names Names Names block_names_layer names_layer branch_names_layer handler_names_layer (bare_handler y)))
-    (subst (λ f. Counted (numbers_of_handler (f sight n).0) (own_conditions y.action.0) n (f sight n).1)
+    (subst (λ f. Counted (numbers_of_handler (f resolver_scope n).0) (own_conditions y.action.0) n (f resolver_scope n).1)
     (sym (fold-roll-Handler BlockPart (Part ResolvedStatement) (Part ResolvedBranch) (Part ResolvedHandler) block_layer statement_layer branch_layer handler_layer (bare_handler y)))
-    (counted-as (numbers-handler _) (y.action.1 (inside sight frame.Action) n)))
+    (counted-as (numbers-handler _) (y.action.1 (inside resolver_scope scope.Action) n)))
 
 handler-step : (x : Handler-F Block Statement Branch Handler) (y : Handler-F B S R H) → bare_handler y ≡ x → OfHandler (roll-Handler x)
 handler-step x y is = subst (λ z. OfHandler (roll-Handler z)) is (handler-rolled y)
@@ -175,38 +175,38 @@ claimed = ind-Statement OfBlock OfStatement OfBranch OfHandler block-step statem
 
 -- ---- routines
 
-parameter-slots : (told : Told) (ps : List Parameter) → (told_parameters told ps).1.slots ≡ told.1.slots ++ map (λ p. type_known (type_of p.kind)) ps
-parameter-slots told [] = sym (append-nil told.1.slots)
-parameter-slots told (p ∷ ps) = parameter-slots (told_parameter told p) ps ∙ append_assoc told.1.slots (type_known (type_of p.kind) ∷ []) (map (λ q. type_known (type_of q.kind)) ps)
+parameter-slots : (numbered : Numbered) (ps : List Parameter) → (numbered_parameters numbered ps).1.slots ≡ numbered.1.slots ++ map (λ p. type_known (type_of p.kind)) ps
+parameter-slots numbered [] = sym (append-nil numbered.1.slots)
+parameter-slots numbered (p ∷ ps) = parameter-slots (numbered_parameter numbered p) ps ∙ append_assoc numbered.1.slots (type_known (type_of p.kind) ∷ []) (map (λ q. type_known (type_of q.kind)) ps)
 
-parameter-cursors : (told : Told) (ps : List Parameter) → (told_parameters told ps).1.cursors ≡ told.1.cursors
-parameter-cursors told [] = refl
-parameter-cursors told (p ∷ ps) = parameter-cursors (told_parameter told p) ps
+parameter-cursors : (numbered : Numbered) (ps : List Parameter) → (numbered_parameters numbered ps).1.cursors ≡ numbered.1.cursors
+parameter-cursors numbered [] = refl
+parameter-cursors numbered (p ∷ ps) = parameter-cursors (numbered_parameter numbered p) ps
 
-parameter-conditions : (told : Told) (ps : List Parameter) → (told_parameters told ps).1.conditions ≡ told.1.conditions
-parameter-conditions told [] = refl
-parameter-conditions told (p ∷ ps) = parameter-conditions (told_parameter told p) ps
+parameter-conditions : (numbered : Numbered) (ps : List Parameter) → (numbered_parameters numbered ps).1.conditions ≡ numbered.1.conditions
+parameter-conditions numbered [] = refl
+parameter-conditions numbered (p ∷ ps) = parameter-conditions (numbered_parameter numbered p) ps
 
 as_long : {A B C : Type 0} (f : A → B) (g : A → C) (xs : List A) → length (map f xs) ≡ length (map g xs)
 as_long f g [] = refl
 as_long f g (x ∷ xs) = ap suc (as_long f g xs)
 
 -- the first slots are the parameters'
-abbrev start : Routine → Told
-start r = (frame.Routine r.name.name undeclared ∷ [], nothing_numbered)
+abbrev start : Routine → Numbered
+start r = (scope.Routine r.name.name undeclared ∷ [], nothing_numbered)
 
-abbrev body_counted : (world : World) (r : Routine) → Counted (numbers_of (routine_made world r).body) (own_conditions r.body) (routine_told r).1 (statement_made r.body (record { world = world; frames = (routine_told r).0; row = None }) (routine_told r).1).1
-body_counted world r = claimed r.body (record { world = world; frames = (routine_told r).0; row = None }) (routine_told r).1
+abbrev body_counted : (symbols : SymbolTable) (r : Routine) → Counted (numbers_of (resolve_routine symbols r).body) (own_conditions r.body) (routine_numbered r).1 (resolve_statement r.body (record { symbols = symbols; scopes = (routine_numbered r).0; row = None }) (routine_numbered r).1).1
+body_counted symbols r = claimed r.body (record { symbols = symbols; scopes = (routine_numbered r).0; row = None }) (routine_numbered r).1
 
-pub each-own : (world : World) (r : Routine) → HasNumbersOfItsOwn (routine_made world r)
-each-own world r = record {
-  slots = subst (λ k. CountsUp k (numbers_of (routine_made world r).body).slots (length (routine_made world r).slots))
-      (ap length (parameter-slots (start r) r.parameters) ∙ as_long (λ p. type_known (type_of p.kind)) parameter_made r.parameters)
-      (body_counted world r).slots;
-  cursors = subst (λ k. CountsUp k (numbers_of (routine_made world r).body).cursors (routine_made world r).cursors)
+pub each-own : (symbols : SymbolTable) (r : Routine) → HasNumbersOfItsOwn (resolve_routine symbols r)
+each-own symbols r = record {
+  slots = subst (λ k. CountsUp k (numbers_of (resolve_routine symbols r).body).slots (length (resolve_routine symbols r).slots))
+      (ap length (parameter-slots (start r) r.parameters) ∙ as_long (λ p. type_known (type_of p.kind)) resolve_parameter r.parameters)
+      (body_counted symbols r).slots;
+  cursors = subst (λ k. CountsUp k (numbers_of (resolve_routine symbols r).body).cursors (resolve_routine symbols r).cursors)
       (parameter-cursors (start r) r.parameters)
-      (body_counted world r).cursors;
+      (body_counted symbols r).cursors;
 }
 
-pub own-conditions : (world : World) (r : Routine) → (routine_made world r).conditions ≡ own_conditions r.body
-own-conditions world r = (body_counted world r).conditions ∙ ap (λ names. names ++ own_conditions r.body) (parameter-conditions (start r) r.parameters)
+pub own-conditions : (symbols : SymbolTable) (r : Routine) → (resolve_routine symbols r).conditions ≡ own_conditions r.body
+own-conditions symbols r = (body_counted symbols r).conditions ∙ ap (λ names. names ++ own_conditions r.body) (parameter-conditions (start r) r.parameters)

@@ -1,4 +1,4 @@
--- What the declarations in each form of statement without names are numbered by.
+-- What the declarations in each form of resolved statement are numbered by.
 use Rattle.std.proofs.Common.{◌≡◌, ℕ, List, Option, map}
 use denote.Hole.Carrier
 use Rattle.psm_resolved.specs.declared.expr.ResolvedExpr.{ResolvedExpr}
@@ -8,7 +8,7 @@ use Rattle.psm_resolved.specs.declared.statement.ResolvedFor.{ResolvedFor}
 use Rattle.psm_resolved.specs.declared.statement.ResolvedHandler.{ResolvedHandler, roll-ResolvedHandler}
 use Rattle.psm_resolved.specs.declared.statement.ResolvedSimple.{ResolvedSimple}
 use Rattle.psm_resolved.specs.declared.statement.ResolvedStatement.{ResolvedStatement, roll-ResolvedStatement}
-use Rattle.psm_resolved.specs.declared.statement.ResolvedStatement.TheVariants as made
+use Rattle.psm_resolved.specs.declared.statement.ResolvedStatement.TheVariants as resolved
 use Rattle.psm_resolved.specs.declared.statement.ResolvedStatement.TheOpen.{ResolvedStatement-F, ResolvedBlock-F, ResolvedBranch-F, ResolvedHandler-F}
 use Rattle.psm_resolved.specs.declared.statement.ResolvedStatement.TheOpen as layers
 use Rattle.psm_resolved.specs.declared.statement.ResolvedStatement.TheFolds.{map-ResolvedStatement, fold-roll-ResolvedStatement, fold-roll-ResolvedBlock, fold-roll-ResolvedBranch, fold-roll-ResolvedHandler}
@@ -17,35 +17,35 @@ use Rattle.psm_resolve.specs.OwnNumbers.{Numbers, beside, block_numbers_layer, b
 rolled : (layer : ResolvedStatement-F ResolvedStatement ResolvedBlock ResolvedBranch ResolvedHandler) → numbers_of (roll-ResolvedStatement layer) ≡ numbers_layer (map-ResolvedStatement ResolvedStatement ResolvedBlock ResolvedBranch ResolvedHandler Numbers Numbers Numbers Numbers numbers_of numbers_of_block numbers_of_branch numbers_of_handler layer)
 rolled layer = fold-roll-ResolvedStatement Numbers Numbers Numbers Numbers numbers_layer block_numbers_layer branch_numbers_layer handler_numbers_layer layer
 
-pub numbers-Compound : (level : ℕ) (block : ResolvedBlock) → numbers_of (made.Compound level block) ≡ numbers_of_block block
+pub numbers-Compound : (level : ℕ) (block : ResolvedBlock) → numbers_of (resolved.Compound level block) ≡ numbers_of_block block
 unfolding roll-ResolvedStatement Carrier.roll
 numbers-Compound level block = rolled (layers.Compound level block)
 
-pub numbers-Loop : (level : ℕ) (ss : List ResolvedStatement) → numbers_of (made.Loop level ss) ≡ together (map numbers_of ss)
+pub numbers-Loop : (level : ℕ) (ss : List ResolvedStatement) → numbers_of (resolved.Loop level ss) ≡ together (map numbers_of ss)
 unfolding roll-ResolvedStatement Carrier.roll
 numbers-Loop level ss = rolled (layers.Loop level ss)
 
-pub numbers-While : (level : ℕ) (test : ResolvedExpr) (ss : List ResolvedStatement) → numbers_of (made.While level test ss) ≡ together (map numbers_of ss)
+pub numbers-While : (level : ℕ) (test : ResolvedExpr) (ss : List ResolvedStatement) → numbers_of (resolved.While level test ss) ≡ together (map numbers_of ss)
 unfolding roll-ResolvedStatement Carrier.roll
 numbers-While level test ss = rolled (layers.While level test ss)
 
-pub numbers-Repeat : (level : ℕ) (ss : List ResolvedStatement) (until : ResolvedExpr) → numbers_of (made.Repeat level ss until) ≡ together (map numbers_of ss)
+pub numbers-Repeat : (level : ℕ) (ss : List ResolvedStatement) (until : ResolvedExpr) → numbers_of (resolved.Repeat level ss until) ≡ together (map numbers_of ss)
 unfolding roll-ResolvedStatement Carrier.roll
 numbers-Repeat level ss until = rolled (layers.Repeat level ss until)
 
-pub numbers-For : (level : ℕ) (head : ResolvedFor) (ss : List ResolvedStatement) → numbers_of (made.For level head ss) ≡ beside (numbers_of_head head) (together (map numbers_of ss))
+pub numbers-For : (level : ℕ) (head : ResolvedFor) (ss : List ResolvedStatement) → numbers_of (resolved.For level head ss) ≡ beside (numbers_of_head head) (together (map numbers_of ss))
 unfolding roll-ResolvedStatement Carrier.roll
 numbers-For level head ss = rolled (layers.For level head ss)
 
-pub numbers-If : (bs : List ResolvedBranch) (ss : List ResolvedStatement) → numbers_of (made.If bs ss) ≡ beside (together (map numbers_of_branch bs)) (together (map numbers_of ss))
+pub numbers-If : (bs : List ResolvedBranch) (ss : List ResolvedStatement) → numbers_of (resolved.If bs ss) ≡ beside (together (map numbers_of_branch bs)) (together (map numbers_of ss))
 unfolding roll-ResolvedStatement Carrier.roll
 numbers-If bs ss = rolled (layers.If bs ss)
 
-pub numbers-Case : (operand : Option ResolvedExpr) (bs : List ResolvedBranch) (ss : List ResolvedStatement) → numbers_of (made.Case operand bs ss) ≡ beside (together (map numbers_of_branch bs)) (together (map numbers_of ss))
+pub numbers-Case : (operand : Option ResolvedExpr) (bs : List ResolvedBranch) (ss : List ResolvedStatement) → numbers_of (resolved.Case operand bs ss) ≡ beside (together (map numbers_of_branch bs)) (together (map numbers_of ss))
 unfolding roll-ResolvedStatement Carrier.roll
 numbers-Case operand bs ss = rolled (layers.Case operand bs ss)
 
-pub numbers-Simple : (simple : ResolvedSimple) → numbers_of (made.Simple simple) ≡ no_numbers
+pub numbers-Simple : (simple : ResolvedSimple) → numbers_of (resolved.Simple simple) ≡ no_numbers
 unfolding roll-ResolvedStatement Carrier.roll
 numbers-Simple simple = rolled (layers.Simple simple)
 

@@ -3,8 +3,8 @@ use Rattle.std.proofs.Common.{◌≡◌, ℕ, zero, suc, ◌+◌, List, [], ◌�
 use Rattle.std.specs.Prelude.{slice_get}
 use Rattle.std.proofs.lemmas.List.{append_assoc}
 use Rattle.psm_value.specs.declared.sqltype.SqlType.{SqlType}
-use Rattle.psm_scope.specs.Frames.{Spelling}
-use Rattle.psm_rules.specs.View.{Columns}
+use Rattle.psm_scope.specs.Scopes.{Spelling}
+use Rattle.psm_rules.specs.CheckerScope.{Columns}
 use Rattle.psm_resolve_expr.specs.Exprs.{type_known}
 use Rattle.psm_resolve.specs.Blocks.{ForItem, column_items}
 

@@ -1,16 +1,16 @@
--- The module file without names that stands for one: its tables, and its routines, with the types of their slots.
+-- The resolved module file that stands for one: its tables, and its routines, with the types of their slots.
 use Rattle.std.specs.Prelude.{ℕ, suc, Bool, true, false, not, ◌||◌, Option, Some, None, Result, Ok, Err, List, [], ◌∷◌, ◌++◌, map, nat_eq, option_map, if◌then◌else◌}
 use Rattle.std.specs.List.{list_any}
-use Rattle.psm_known.specs.Columns.{column_of}
+use Rattle.psm_symbols.specs.Columns.{column_of}
 use Rattle.psm_value.specs.declared.datum.Datum.{Datum}
 use Rattle.psm_value.specs.declared.datum.Datum.TheVariants as data_of
 use Rattle.psm_value.specs.declared.sqltype.SqlType.{SqlType}
 use Rattle.psm_value.specs.Stored.{stored}
-use Rattle.psm_scope.specs.Frames.{Spelling, undeclared}
-use Rattle.psm_scope.specs.Frames as frame
+use Rattle.psm_scope.specs.Scopes.{Spelling, undeclared}
+use Rattle.psm_scope.specs.Scopes as scope
 use Rattle.psm_scope.specs.Lookup.{or_else}
-use Rattle.psm_rules.specs.View.{World, Columns}
-use Rattle.psm_rules.specs.FileFaults.{no_world, datum_of, columns_of, table_elements, is_in}
+use Rattle.psm_rules.specs.CheckerScope.{SymbolTable, Columns}
+use Rattle.psm_rules.specs.FileFaults.{no_symbols, datum_of, columns_of, table_elements, is_in}
 use Rattle.psm_rules.specs.StatementFaults.{several}
 use Rattle.psm_rules.specs.Types.{type_of}
 use Rattle.psm_tree.specs.declared.name.Identifier.{Identifier}
@@ -37,12 +37,12 @@ use Rattle.psm_resolved.specs.declared.file.ResolvedParameter.{ResolvedParameter
 use Rattle.psm_resolved.specs.declared.file.ResolvedRoutine.{ResolvedRoutine}
 use Rattle.psm_resolved.specs.declared.file.ResolvedTable.{ResolvedTable}
 use Rattle.psm_resolve_expr.specs.Exprs.{type_known}
-use Rattle.psm_resolve_expr.specs.Sight.{Sight}
+use Rattle.psm_resolve_expr.specs.ResolverScope.{ResolverScope}
 use Rattle.psm_declare.specs.Numbering.{Numbering, with_slot, next_slot}
-use Rattle.psm_declare.specs.Declarations.{Told, with_variable}
+use Rattle.psm_declare.specs.Declarations.{Numbered, with_variable}
 use Rattle.psm_declare.specs.Seen.{expr_at}
-use Rattle.psm_resolve.specs.Blocks.{statement_made}
-use Rattle.psm_resolve.specs.Worlds.{known_world}
+use Rattle.psm_resolve.specs.Blocks.{resolve_statement}
+use Rattle.psm_resolve.specs.SymbolTables.{known_symbols}
 
 -- ---- tables
 
@@ -102,7 +102,7 @@ column_with key place name t default rules = record {
   default = default_of t default;
 }
 
--- the place behind an element
+-- the place after an element
 abbrev pub next_place : ℕ → Element → ℕ
 next_place place (elements.Column name kind default rules) = suc place
 next_place place (elements.Rule rule) = place
@@ -141,34 +141,34 @@ uniques_from columns place [] = []
 uniques_from columns place (e ∷ es) = unique_in columns place e ++ uniques_from columns (next_place place e) es
 
 -- the CHECKs, which see the columns of the table alone
-abbrev pub own_check : Sight → ColumnRuleForm → List ResolvedExpr
-own_check sight column_rules.NotNull = []
-own_check sight column_rules.PrimaryKey = []
-own_check sight column_rules.Unique = []
-own_check sight (column_rules.Check e) = expr_at sight e ∷ []
+abbrev pub own_check : ResolverScope → ColumnRuleForm → List ResolvedExpr
+own_check resolver_scope column_rules.NotNull = []
+own_check resolver_scope column_rules.PrimaryKey = []
+own_check resolver_scope column_rules.Unique = []
+own_check resolver_scope (column_rules.Check e) = expr_at resolver_scope e ∷ []
 
-abbrev pub own_checks : Sight → List ColumnRule → List ResolvedExpr
-own_checks sight [] = []
-own_checks sight (r ∷ rs) = own_check sight r.form ++ own_checks sight rs
+abbrev pub own_checks : ResolverScope → List ColumnRule → List ResolvedExpr
+own_checks resolver_scope [] = []
+own_checks resolver_scope (r ∷ rs) = own_check resolver_scope r.form ++ own_checks resolver_scope rs
 
-abbrev pub rule_check : Sight → TableRuleForm → List ResolvedExpr
-rule_check sight (table_rules.PrimaryKey names) = []
-rule_check sight (table_rules.Unique names) = []
-rule_check sight (table_rules.Check e) = expr_at sight e ∷ []
+abbrev pub rule_check : ResolverScope → TableRuleForm → List ResolvedExpr
+rule_check resolver_scope (table_rules.PrimaryKey names) = []
+rule_check resolver_scope (table_rules.Unique names) = []
+rule_check resolver_scope (table_rules.Check e) = expr_at resolver_scope e ∷ []
 
-abbrev pub checks_in : Sight → Element → List ResolvedExpr
-checks_in sight (elements.Column name kind default rules) = own_checks sight rules
-checks_in sight (elements.Rule rule) = rule_check sight rule.form
+abbrev pub checks_in : ResolverScope → Element → List ResolvedExpr
+checks_in resolver_scope (elements.Column name kind default rules) = own_checks resolver_scope rules
+checks_in resolver_scope (elements.Rule rule) = rule_check resolver_scope rule.form
 
-abbrev pub checks_of : Sight → List Element → List ResolvedExpr
-checks_of sight [] = []
-checks_of sight (e ∷ es) = checks_in sight e ++ checks_of sight es
+abbrev pub checks_of : ResolverScope → List Element → List ResolvedExpr
+checks_of resolver_scope [] = []
+checks_of resolver_scope (e ∷ es) = checks_in resolver_scope e ++ checks_of resolver_scope es
 
-abbrev pub on_columns : Spelling → Columns → Sight
-on_columns name columns = record { world = no_world; frames = []; row = Some (record { name = name; alias = None; columns = columns }) }
+abbrev pub on_columns : Spelling → Columns → ResolverScope
+on_columns name columns = record { symbols = no_symbols; scopes = []; row = Some (record { name = name; alias = None; columns = columns }) }
 
-abbrev pub table_made : TableTree → ResolvedTable
-table_made t = let es = table_elements t in let columns = columns_of es in record {
+abbrev pub resolve_table : TableTree → ResolvedTable
+resolve_table t = let es = table_elements t in let columns = columns_of es in record {
   definition = record { name = t.name.name; columns = defined_from (key_of columns es) 0 es; key = key_of columns es; unique = uniques_from columns 0 es };
   checks = checks_of (on_columns t.name.name columns) es;
 }
@@ -180,28 +180,28 @@ mode_of modes.In = passed.In
 mode_of modes.Out = passed.Out
 mode_of modes.InOut = passed.InOut
 
-abbrev pub parameter_made : Parameter → ResolvedParameter
-parameter_made p = record { mode = mode_of p.mode; name = p.name.name; kind = type_known (type_of p.kind) }
+abbrev pub resolve_parameter : Parameter → ResolvedParameter
+resolve_parameter p = record { mode = mode_of p.mode; name = p.name.name; kind = type_known (type_of p.kind) }
 
 -- a parameter has the next slot; one that is IN can't be assigned
-abbrev pub told_parameter : Told → Parameter → Told
-told_parameter told p = let t = type_known (type_of p.kind) in
-    (with_variable told.0 p.name.name (record { kind = Some t; slot = next_slot told.1; assignable = not (is_in p.mode) }), with_slot t told.1)
+abbrev pub numbered_parameter : Numbered → Parameter → Numbered
+numbered_parameter numbered p = let t = type_known (type_of p.kind) in
+    (with_variable numbered.0 p.name.name (record { kind = Some t; slot = next_slot numbered.1; assignable = not (is_in p.mode) }), with_slot t numbered.1)
 
-abbrev pub told_parameters : Told → List Parameter → Told
-told_parameters told [] = told
-told_parameters told (p ∷ ps) = told_parameters (told_parameter told p) ps
+abbrev pub numbered_parameters : Numbered → List Parameter → Numbered
+numbered_parameters numbered [] = numbered
+numbered_parameters numbered (p ∷ ps) = numbered_parameters (numbered_parameter numbered p) ps
 
 abbrev pub nothing_numbered : Numbering
 nothing_numbered = record { slots = []; cursors = 0; conditions = [] }
 
-abbrev pub routine_told : Routine → Told
-routine_told r = told_parameters (frame.Routine r.name.name undeclared ∷ [], nothing_numbered) r.parameters
+abbrev pub routine_numbered : Routine → Numbered
+routine_numbered r = numbered_parameters (scope.Routine r.name.name undeclared ∷ [], nothing_numbered) r.parameters
 
-abbrev pub routine_in : World → Routine → Told → ResolvedRoutine
-routine_in world r told = let body = statement_made r.body (record { world = world; frames = told.0; row = None }) told.1 in record {
+abbrev pub routine_in : SymbolTable → Routine → Numbered → ResolvedRoutine
+routine_in symbols r numbered = let body = resolve_statement r.body (record { symbols = symbols; scopes = numbered.0; row = None }) numbered.1 in record {
   name = r.name.name;
-  parameters = map parameter_made r.parameters;
+  parameters = map resolve_parameter r.parameters;
   returns = option_map (λ t. type_known (type_of t)) r.returns;
   slots = body.1.slots;
   cursors = body.1.cursors;
@@ -209,10 +209,10 @@ routine_in world r told = let body = statement_made r.body (record { world = wor
   body = body.0;
 }
 
-abbrev pub routine_made : World → Routine → ResolvedRoutine
-routine_made world r = routine_in world r (routine_told r)
+abbrev pub resolve_routine : SymbolTable → Routine → ResolvedRoutine
+resolve_routine symbols r = routine_in symbols r (routine_numbered r)
 
 -- ---- the file
 
-abbrev pub file_made : FileTree → ResolvedFile
-file_made f = record { tables = map table_made f.tables; routines = map (routine_made (known_world f)) f.«module».routines }
+abbrev pub resolved_file : FileTree → ResolvedFile
+resolved_file f = record { tables = map resolve_table f.tables; routines = map (resolve_routine (known_symbols f)) f.«module».routines }

@@ -1,6 +1,6 @@
 pub mod Seen
 pub mod Statements
 pub mod Blocks
-pub mod Worlds
+pub mod SymbolTables
 pub mod Files
 pub mod OwnNumbers

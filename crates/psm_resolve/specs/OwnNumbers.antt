@@ -2,7 +2,7 @@
 -- cursor by a number. The conditions without an SQLSTATE are numbered by their places among their names.
 use Rattle.std.specs.Prelude.{◌≡◌, ℕ, suc, Option, Some, None, List, [], ◌∷◌, ◌++◌, map, length}
 use Rattle.std.specs.List.{concat}
-use Rattle.psm_scope.specs.Frames.{Spelling}
+use Rattle.psm_scope.specs.Scopes.{Spelling}
 use Rattle.psm_rules.specs.StatementFaults.{several}
 use Rattle.psm_tree.specs.declared.types.State.{State}
 use Rattle.psm_tree.specs.declared.statement.Block.{Block}
@@ -26,7 +26,7 @@ use Rattle.psm_resolved.specs.declared.statement.ResolvedStatement.TheOpen.{Reso
 use Rattle.psm_resolved.specs.declared.statement.ResolvedStatement.TheOpen as layers
 use Rattle.psm_resolved.specs.declared.statement.ResolvedStatement.TheFolds.{fold-ResolvedStatement, fold-ResolvedBlock, fold-ResolvedBranch, fold-ResolvedHandler}
 
--- ---- statements without names
+-- ---- resolved statements
 
 -- the slots of variables and the numbers of cursors
 pub record Numbers : Type 0 where
@@ -85,7 +85,7 @@ numbers_of_branch = fold-ResolvedBranch Numbers Numbers Numbers Numbers numbers_
 abbrev pub numbers_of_handler : ResolvedHandler → Numbers
 numbers_of_handler = fold-ResolvedHandler Numbers Numbers Numbers Numbers numbers_layer block_numbers_layer branch_numbers_layer handler_numbers_layer
 
--- ---- conditions, of which a statement without names keeps no declaration
+-- ---- conditions, of which a resolved statement keeps no declaration
 
 abbrev pub with_own_name : Spelling → Option State → List Spelling → List Spelling
 with_own_name name None names = name ∷ names
@@ -141,7 +141,7 @@ abbrev pub CountsUp : ℕ → List ℕ → ℕ → Type 0
 CountsUp from [] to = from ≡ to
 CountsUp from (n ∷ ns) to = (n ≡ from) × CountsUp (suc from) ns to
 
--- Each variable has a slot of its own behind those of the parameters, each cursor a number of its own, and each slot and each
+-- Each variable has a slot of its own after those of the parameters, each cursor a number of its own, and each slot and each
 -- number is a declaration's.
 pub record HasNumbersOfItsOwn (r : ResolvedRoutine) : Type 0 where
   pub slots : CountsUp (length r.parameters) (numbers_of r.body).slots (length r.slots)

@@ -2,11 +2,11 @@
 use Rattle.std.specs.Prelude.{Option, Some, None, List, [], ◌∷◌}
 use Rattle.std.specs.Option.{option_copied}
 use Rattle.psm_value.specs.declared.sqltype.SqlType.{SqlType}
-use Rattle.psm_scope.specs.Frames.{Spelling}
+use Rattle.psm_scope.specs.Scopes.{Spelling}
 use Rattle.psm_rules.specs.StatementFaults.{several}
 use Rattle.psm_tree.specs.declared.name.Identifier.{Identifier}
-use Rattle.psm_check_expr.specs.declared.world.Key.{Key}
-use Rattle.psm_check_expr.specs.declared.world.Key.TheVariants as keys
+use Rattle.psm_check_expr.specs.declared.symbols.Key.{Key}
+use Rattle.psm_check_expr.specs.declared.symbols.Key.TheVariants as keys
 use Rattle.psm_resolve.specs.Blocks.{ForItem}
 use Rattle.psm_resolve.specs.declared.fors.ForItem.{ForItem as KeptItem}
 use Rattle.psm_resolve.specs.declared.fors.NamedColumn.{NamedColumn}

@@ -1,22 +1,22 @@
--- The statement without names that stands for one without statements in it (ISO/IEC 9075-4:1996, and 9075:1992, clause 13). What
+-- The resolved statement that stands for one without statements in it (ISO/IEC 9075-4:1996, and 9075:1992, clause 13). What
 -- nothing declares is no part of an accepted file: the number 0 stands for it.
 use Rattle.std.specs.Prelude.{ℕ, Option, Some, None, List, [], ◌∷◌, map, length, codes, option_map}
 use Rattle.psm_cond.specs.declared.item.StatementItem.{StatementItem}
 use Rattle.psm_cond.specs.declared.item.StatementItem.TheVariants as statement_items
 use Rattle.psm_cond.specs.declared.item.ConditionItem.{ConditionItem}
 use Rattle.psm_cond.specs.declared.item.ConditionItem.TheVariants as condition_items
-use Rattle.psm_scope.specs.Frames.{Spelling}
+use Rattle.psm_scope.specs.Scopes.{Spelling}
 use Rattle.psm_scope.specs.Lookup.{meant}
 use Rattle.psm_scope.specs.Lookup as lookup
 use Rattle.psm_scope.specs.Routines.{procedure}
-use Rattle.psm_scope.specs.Scopes.{level}
+use Rattle.psm_scope.specs.KeptScopes.{level}
 use Rattle.psm_scope.specs.declared.known.Variable.{Variable}
 use Rattle.psm_scope.specs.declared.known.DeclaredCondition.{DeclaredCondition}
 use Rattle.psm_scope.specs.declared.procedures.ProcedureScope.{ProcedureScope}
 use Rattle.psm_scope.specs.declared.procedures.ParameterScope.{ParameterScope}
 use Rattle.psm_scope.specs.declared.procedures.ParameterMode.{ParameterMode}
 use Rattle.psm_scope.specs.declared.procedures.ParameterMode.TheVariants.{In, Out, InOut}
-use Rattle.psm_rules.specs.View.{Columns}
+use Rattle.psm_rules.specs.CheckerScope.{Columns}
 use Rattle.psm_rules.specs.ExprFaults.{spelling}
 use Rattle.psm_rules.specs.StatementFaults.{several}
 use Rattle.psm_rules.specs.StatementFaults as rules
@@ -58,13 +58,13 @@ use Rattle.psm_resolved.specs.declared.statement.ResolvedRows.TheVariants as row
 use Rattle.psm_resolved.specs.declared.statement.ResolvedSet.{ResolvedSet}
 use Rattle.psm_resolved.specs.declared.statement.ResolvedSignal.{ResolvedSignal}
 use Rattle.psm_resolved.specs.declared.statement.ResolvedSimple.{ResolvedSimple}
-use Rattle.psm_resolved.specs.declared.statement.ResolvedSimple.TheVariants as made
+use Rattle.psm_resolved.specs.declared.statement.ResolvedSimple.TheVariants as resolved
 use Rattle.psm_resolved.specs.declared.statement.ResolvedWhere.{ResolvedWhere}
 use Rattle.psm_resolved.specs.declared.statement.ResolvedWhere.TheVariants as which_of
-use Rattle.psm_known.specs.Columns.{column_of, inserted}
+use Rattle.psm_symbols.specs.Columns.{column_of, inserted}
 use Rattle.psm_declare.specs.Seen.{expr_at}
-use Rattle.psm_resolve_expr.specs.Exprs.{columns_in, number_of as table_number, query_made}
-use Rattle.psm_resolve_expr.specs.Sight.{Sight, Frames, on_row, table_at}
+use Rattle.psm_resolve_expr.specs.Exprs.{columns_in, number_of as table_number, resolve_query}
+use Rattle.psm_resolve_expr.specs.ResolverScope.{ResolverScope, Scopes, on_row, table_at}
 
 -- ---- expressions and targets
 
@@ -73,11 +73,11 @@ slot_in None = 0
 slot_in (Some v) = v.slot
 
 -- the slot of the variable that a target means
-abbrev pub slot_of : Frames → Target → ℕ
-slot_of frames t = slot_in (meant t.first.name (spelling t.second) frames)
+abbrev pub slot_of : Scopes → Target → ℕ
+slot_of scopes t = slot_in (meant t.first.name (spelling t.second) scopes)
 
-abbrev pub slots_of : Frames → List Target → List ℕ
-slots_of frames ts = map (slot_of frames) ts
+abbrev pub slots_of : Scopes → List Target → List ℕ
+slots_of scopes ts = map (slot_of scopes) ts
 
 -- ---- numbers of declared things
 
@@ -85,37 +85,37 @@ abbrev pub or_zero : Option ℕ → ℕ
 or_zero None = 0
 or_zero (Some n) = n
 
-abbrev pub level_of : Frames → Identifier → ℕ
-level_of frames l = or_zero (level l.name frames)
+abbrev pub level_of : Scopes → Identifier → ℕ
+level_of scopes l = or_zero (level l.name scopes)
 
-abbrev pub cursor_of : Frames → Identifier → ℕ
-cursor_of frames n = or_zero (lookup.cursor n.name frames)
+abbrev pub cursor_of : Scopes → Identifier → ℕ
+cursor_of scopes n = or_zero (lookup.cursor n.name scopes)
 
-abbrev pub table_of : Sight → Identifier → ℕ
-table_of sight n = table_number (table_at sight n.name)
+abbrev pub table_of : ResolverScope → Identifier → ℕ
+table_of resolver_scope n = table_number (table_at resolver_scope n.name)
 
-abbrev pub columns_of : Sight → Identifier → Columns
-columns_of sight n = columns_in (table_at sight n.name)
+abbrev pub columns_of : ResolverScope → Identifier → Columns
+columns_of resolver_scope n = columns_in (table_at resolver_scope n.name)
 
 -- ---- CALL: an argument goes as the parameter's mode says
 
-abbrev pub target_in : Frames → Expr → ℕ
-target_in frames (written.Name t) = slot_of frames t
-target_in frames e = 0
+abbrev pub target_in : Scopes → Expr → ℕ
+target_in scopes (written.Name t) = slot_of scopes t
+target_in scopes e = 0
 
-abbrev pub argument_of : Sight → ParameterMode → Expr → ResolvedArgument
-argument_of sight In e = arguments.In (expr_at sight e)
-argument_of sight Out e = arguments.Out (target_in sight.frames e)
-argument_of sight InOut e = arguments.InOut (target_in sight.frames e)
+abbrev pub argument_of : ResolverScope → ParameterMode → Expr → ResolvedArgument
+argument_of resolver_scope In e = arguments.In (expr_at resolver_scope e)
+argument_of resolver_scope Out e = arguments.Out (target_in resolver_scope.scopes e)
+argument_of resolver_scope InOut e = arguments.InOut (target_in resolver_scope.scopes e)
 
-abbrev pub arguments_of : Sight → List ParameterScope → List Expr → List ResolvedArgument
-arguments_of sight [] es = []
-arguments_of sight (p ∷ ps) [] = []
-arguments_of sight (p ∷ ps) (e ∷ es) = argument_of sight p.mode e ∷ arguments_of sight ps es
+abbrev pub arguments_of : ResolverScope → List ParameterScope → List Expr → List ResolvedArgument
+arguments_of resolver_scope [] es = []
+arguments_of resolver_scope (p ∷ ps) [] = []
+arguments_of resolver_scope (p ∷ ps) (e ∷ es) = argument_of resolver_scope p.mode e ∷ arguments_of resolver_scope ps es
 
-abbrev pub call_of : Sight → List Expr → Option ProcedureScope → ResolvedSimple
-call_of sight es None = made.Call 0 []
-call_of sight es (Some p) = made.Call p.number (arguments_of sight p.parameters es)
+abbrev pub call_of : ResolverScope → List Expr → Option ProcedureScope → ResolvedSimple
+call_of resolver_scope es None = resolved.Call 0 []
+call_of resolver_scope es (Some p) = resolved.Call p.number (arguments_of resolver_scope p.parameters es)
 
 -- ---- conditions: a name that is declared FOR an SQLSTATE is that SQLSTATE
 
@@ -135,12 +135,12 @@ abbrev pub declared_as : Option DeclaredCondition → ResolvedCondition
 declared_as None = conditions.Own 0
 declared_as (Some c) = state_or_number c.state c.number
 
-abbrev pub condition_of : Frames → Condition → ResolvedCondition
-condition_of frames (signals.Name n) = declared_as (lookup.condition n.name frames)
-condition_of frames (signals.State s) = conditions.State (state_of s)
+abbrev pub condition_of : Scopes → Condition → ResolvedCondition
+condition_of scopes (signals.Name n) = declared_as (lookup.condition n.name scopes)
+condition_of scopes (signals.State s) = conditions.State (state_of s)
 
-abbrev pub signal_of : Sight → Signalled → ResolvedSignal
-signal_of sight s = record { condition = condition_of sight.frames s.condition; message = option_map (expr_at sight) s.message }
+abbrev pub signal_of : ResolverScope → Signalled → ResolvedSignal
+signal_of resolver_scope s = record { condition = condition_of resolver_scope.scopes s.condition; message = option_map (expr_at resolver_scope) s.message }
 
 -- ---- diagnostics
 
@@ -158,50 +158,50 @@ condition_item written_condition_items.MessageLength = condition_items.MessageLe
 condition_item written_condition_items.TableName = condition_items.TableName
 condition_item written_condition_items.CursorName = condition_items.CursorName
 
-abbrev pub number_of : Frames → ConditionNumber → ResolvedNumber
-number_of frames (numbers.Number place n) = condition_numbers.Constant n
-number_of frames (numbers.Target t) = condition_numbers.Variable (slot_of frames t)
+abbrev pub number_of : Scopes → ConditionNumber → ResolvedNumber
+number_of scopes (numbers.Number place n) = condition_numbers.Constant n
+number_of scopes (numbers.Target t) = condition_numbers.Variable (slot_of scopes t)
 
-abbrev pub diagnostics_of : Frames → Diagnostics → ResolvedDiagnostics
-diagnostics_of frames (diagnostics.Statement items) = gotten.Statement (map (λ i. (slot_of frames i.target, statement_item i.item)) (several items))
-diagnostics_of frames (diagnostics.Condition number items) = gotten.Condition (number_of frames number) (map (λ i. (slot_of frames i.target, condition_item i.item)) (several items))
+abbrev pub diagnostics_of : Scopes → Diagnostics → ResolvedDiagnostics
+diagnostics_of scopes (diagnostics.Statement items) = gotten.Statement (map (λ i. (slot_of scopes i.target, statement_item i.item)) (several items))
+diagnostics_of scopes (diagnostics.Condition number items) = gotten.Condition (number_of scopes number) (map (λ i. (slot_of scopes i.target, condition_item i.item)) (several items))
 
 -- ---- rows
 
-abbrev pub row_of : Sight → Values → List ResolvedExpr
-row_of sight row = map (expr_at sight) (several row.values)
+abbrev pub row_of : ResolverScope → Values → List ResolvedExpr
+row_of resolver_scope row = map (expr_at resolver_scope) (several row.values)
 
-abbrev pub rows_of : Sight → InsertSource → ResolvedRows
-rows_of sight (sources.Values values) = rows.Values (map (row_of sight) (several values))
-rows_of sight (sources.Query query) = rows.Query (query_made query sight).query
+abbrev pub rows_of : ResolverScope → InsertSource → ResolvedRows
+rows_of resolver_scope (sources.Values values) = rows.Values (map (row_of resolver_scope) (several values))
+rows_of resolver_scope (sources.Query query) = rows.Query (resolve_query query resolver_scope).query
 
 -- the rows of a table that a statement changes
-abbrev pub on_table : Sight → Identifier → Sight
-on_table sight table = on_row sight (record { name = table.name; alias = None; columns = columns_of sight table })
+abbrev pub on_table : ResolverScope → Identifier → ResolverScope
+on_table resolver_scope table = on_row resolver_scope (record { name = table.name; alias = None; columns = columns_of resolver_scope table })
 
-abbrev pub set_of : Sight → Columns → Assignment → ResolvedSet
-set_of sight columns a = record { column = column_of columns a.column; source = expr_at sight a.source }
+abbrev pub set_of : ResolverScope → Columns → Assignment → ResolvedSet
+set_of resolver_scope columns a = record { column = column_of columns a.column; source = expr_at resolver_scope a.source }
 
-abbrev pub which_in : Sight → Identifier → Option Where → ResolvedWhere
-which_in sight table None = which_of.All
-which_in sight table (Some (wheres.Condition e)) = which_of.Test (expr_at (on_table sight table) e)
-which_in sight table (Some (wheres.Current n)) = which_of.Current (cursor_of sight.frames n)
+abbrev pub which_in : ResolverScope → Identifier → Option Where → ResolvedWhere
+which_in resolver_scope table None = which_of.All
+which_in resolver_scope table (Some (wheres.Condition e)) = which_of.Test (expr_at (on_table resolver_scope table) e)
+which_in resolver_scope table (Some (wheres.Current n)) = which_of.Current (cursor_of resolver_scope.scopes n)
 
 -- ---- statements
 
-abbrev pub simple_of : Sight → Simple → ResolvedSimple
-simple_of sight (simples.Set place target source) = made.Set (slot_of sight.frames target) (expr_at sight source)
-simple_of sight (simples.Call place procedure_name es) = call_of sight es (procedure procedure_name.name (length es) sight.world.procedures)
-simple_of sight (simples.Return place source) = made.Return (expr_at sight source)
-simple_of sight (simples.Leave place label) = made.Leave (level_of sight.frames label)
-simple_of sight (simples.Iterate place label) = made.Iterate (level_of sight.frames label)
-simple_of sight (simples.Signal place signalled) = made.Signal (signal_of sight signalled)
-simple_of sight (simples.Resignal place signalled) = made.Resignal (option_map (signal_of sight) signalled)
-simple_of sight (simples.GetDiagnostics place which d) = made.GetDiagnostics (diagnostics_of sight.frames d)
-simple_of sight (simples.SelectInto query targets) = made.SelectInto (query_made query sight).query (slots_of sight.frames (several targets))
-simple_of sight (simples.Insert place table names source) = made.Insert (table_of sight table) (inserted (columns_of sight table) names) (rows_of sight source)
-simple_of sight (simples.Update place table assignments which) = made.Update (table_of sight table) (map (set_of (on_table sight table) (columns_of sight table)) (several assignments)) (which_in sight table which)
-simple_of sight (simples.Delete place table which) = made.Delete (table_of sight table) (which_in sight table which)
-simple_of sight (simples.Open place cursor) = made.Open (cursor_of sight.frames cursor)
-simple_of sight (simples.Fetch place cursor targets) = made.Fetch (cursor_of sight.frames cursor) (slots_of sight.frames (several targets))
-simple_of sight (simples.Close place cursor) = made.Close (cursor_of sight.frames cursor)
+abbrev pub simple_of : ResolverScope → Simple → ResolvedSimple
+simple_of resolver_scope (simples.Set place target source) = resolved.Set (slot_of resolver_scope.scopes target) (expr_at resolver_scope source)
+simple_of resolver_scope (simples.Call place procedure_name es) = call_of resolver_scope es (procedure procedure_name.name (length es) resolver_scope.symbols.procedures)
+simple_of resolver_scope (simples.Return place source) = resolved.Return (expr_at resolver_scope source)
+simple_of resolver_scope (simples.Leave place label) = resolved.Leave (level_of resolver_scope.scopes label)
+simple_of resolver_scope (simples.Iterate place label) = resolved.Iterate (level_of resolver_scope.scopes label)
+simple_of resolver_scope (simples.Signal place signalled) = resolved.Signal (signal_of resolver_scope signalled)
+simple_of resolver_scope (simples.Resignal place signalled) = resolved.Resignal (option_map (signal_of resolver_scope) signalled)
+simple_of resolver_scope (simples.GetDiagnostics place which d) = resolved.GetDiagnostics (diagnostics_of resolver_scope.scopes d)
+simple_of resolver_scope (simples.SelectInto query targets) = resolved.SelectInto (resolve_query query resolver_scope).query (slots_of resolver_scope.scopes (several targets))
+simple_of resolver_scope (simples.Insert place table names source) = resolved.Insert (table_of resolver_scope table) (inserted (columns_of resolver_scope table) names) (rows_of resolver_scope source)
+simple_of resolver_scope (simples.Update place table assignments which) = resolved.Update (table_of resolver_scope table) (map (set_of (on_table resolver_scope table) (columns_of resolver_scope table)) (several assignments)) (which_in resolver_scope table which)
+simple_of resolver_scope (simples.Delete place table which) = resolved.Delete (table_of resolver_scope table) (which_in resolver_scope table which)
+simple_of resolver_scope (simples.Open place cursor) = resolved.Open (cursor_of resolver_scope.scopes cursor)
+simple_of resolver_scope (simples.Fetch place cursor targets) = resolved.Fetch (cursor_of resolver_scope.scopes cursor) (slots_of resolver_scope.scopes (several targets))
+simple_of resolver_scope (simples.Close place cursor) = resolved.Close (cursor_of resolver_scope.scopes cursor)

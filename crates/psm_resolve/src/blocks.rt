@@ -4,48 +4,48 @@ ghost use Rattle.std.specs.Option.{option_copied};
 ghost use Rattle.psm_list.specs.Several.{several_map};
 ghost use Rattle.psm_rules.specs.StatementFaults.{label_name, several};
 ghost use Rattle.psm_declare.specs.Seen.{control};
-ghost use Rattle.psm_resolve.specs.Blocks.{all, block_made, branch_made, handler_made, in_loop, statement_made};
+ghost use Rattle.psm_resolve.specs.Blocks.{all, resolve_block, resolve_branch, resolve_handler, in_loop, resolve_statement};
 
 use crate::forms::{
     case_of, compound_of, for_of, if_of, loop_of, push_branch_with, push_handler_with, repeat_of,
     simple_at, while_of,
 };
 use crate::fors::enter_for;
-use psm_declare::{Numbering, Setting, enter_compound};
-use psm_known::label_name;
+use psm_declare::{Numbering, ResolveContext, enter_compound};
 use psm_list::{Boxed, List, OneOrMore};
-use psm_resolve_expr::Frames;
+use psm_resolve_expr::Scopes;
 use psm_resolved::{ResolvedBranch, ResolvedHandler, ResolvedStatement};
-use psm_scope::FrameKind;
+use psm_scope::ScopeKind;
+use psm_symbols::label_name;
 use psm_text::Name;
 use psm_tree::{Block, Branch, Handler, Statement};
 use std::alloc::AllocError;
 
-/// The statement without names that stands for one; its declarations are numbered. Fails only without memory.
+/// The resolved statement that stands for one; its declarations are numbered. Fails only without memory.
 #[cycle(statement)]
 #[tactic(auto, using(crate::proofs::Equations::statement_equations))]
-pub(crate) fn statement_made<'w, 'a>(
+pub(crate) fn resolve_statement<'w, 'a>(
     statement: &'a Statement,
-    setting: Setting<'w, 'a>,
-    frames: &mut Frames<'a>,
+    resolver: ResolveContext<'w, 'a>,
+    scopes: &mut Scopes<'a>,
     numbering: &mut Numbering<'a>,
 ) -> Result<Boxed<ResolvedStatement>, AllocError>
-    ensures made { IfOk result (λ s. s ≡ (statement_made statement.now (control setting.entry frames.old) numbering.old).0) }
-    ensures numbering { IfOk result (λ _. numbering.new ≡ (statement_made statement.now (control setting.entry frames.old) numbering.old).1) }
-    ensures kept { IfOk result (λ _. frames.new ≡ frames.old) }
+    ensures resolved { IfOk result (λ s. s ≡ (resolve_statement statement.now (control resolver.entry scopes.old) numbering.old).0) }
+    ensures numbering { IfOk result (λ _. numbering.new ≡ (resolve_statement statement.now (control resolver.entry scopes.old) numbering.old).1) }
+    ensures kept { IfOk result (λ _. scopes.new ≡ scopes.old) }
 {
     match statement {
         Statement::Block { label, block } => {
-            block_made(block.get(), setting, frames, numbering, label_name(label))
+            resolve_block(block.get(), resolver, scopes, numbering, label_name(label))
         }
         Statement::If {
             branches,
             otherwise,
             ..
         } => {
-            let branches = branches_made(branches, setting, frames, numbering)?;
-            let otherwise = all(otherwise, setting, frames, numbering)?;
-            if_of(setting.alloc, branches, otherwise)
+            let branches = resolve_branches(branches, resolver, scopes, numbering)?;
+            let otherwise = all(otherwise, resolver, scopes, numbering)?;
+            if_of(resolver.alloc, branches, otherwise)
         }
         Statement::Case {
             operand,
@@ -53,11 +53,11 @@ pub(crate) fn statement_made<'w, 'a>(
             otherwise,
             ..
         } => {
-            let branches = branches_made(branches, setting, frames, numbering)?;
-            let otherwise = all(otherwise, setting, frames, numbering)?;
-            case_of(setting, frames, operand, branches, otherwise)
+            let branches = resolve_branches(branches, resolver, scopes, numbering)?;
+            let otherwise = all(otherwise, resolver, scopes, numbering)?;
+            case_of(resolver, scopes, operand, branches, otherwise)
         }
-        Statement::Simple(simple) => simple_at(setting, frames, simple.get()),
+        Statement::Simple(simple) => simple_at(resolver, scopes, simple.get()),
     }
 }
 
@@ -66,115 +66,121 @@ pub(crate) fn statement_made<'w, 'a>(
 #[cycle(statement)]
 fn push_statement<'w, 'a>(
     statement: &'a Statement,
-    setting: Setting<'w, 'a>,
-    frames: &mut Frames<'a>,
+    resolver: ResolveContext<'w, 'a>,
+    scopes: &mut Scopes<'a>,
     numbering: &mut Numbering<'a>,
-    made: &mut Vec<Boxed<ResolvedStatement>>,
+    resolved: &mut Vec<Boxed<ResolvedStatement>>,
 ) -> Result<(), AllocError>
-    ensures made { IfOk result (λ _. made.new.items ≡ made.old.items ++ (statement_made statement.now (control setting.entry frames.old) numbering.old).0 ∷ []) }
-    ensures numbering { IfOk result (λ _. numbering.new ≡ (statement_made statement.now (control setting.entry frames.old) numbering.old).1) }
-    ensures kept { IfOk result (λ _. frames.new ≡ frames.old) }
+    ensures resolved { IfOk result (λ _. resolved.new.items ≡ resolved.old.items ++ (resolve_statement statement.now (control resolver.entry scopes.old) numbering.old).0 ∷ []) }
+    ensures numbering { IfOk result (λ _. numbering.new ≡ (resolve_statement statement.now (control resolver.entry scopes.old) numbering.old).1) }
+    ensures kept { IfOk result (λ _. scopes.new ≡ scopes.old) }
 {
-    let one = statement_made(statement, setting, frames, numbering)?;
-    made.push(one)?;
+    let one = resolve_statement(statement, resolver, scopes, numbering)?;
+    resolved.push(one)?;
     Ok(())
 }
 
 #[cycle(statement)]
 fn all<'w, 'a>(
     statements: &'a List<Boxed<Statement>>,
-    setting: Setting<'w, 'a>,
-    frames: &mut Frames<'a>,
+    resolver: ResolveContext<'w, 'a>,
+    scopes: &mut Scopes<'a>,
     numbering: &mut Numbering<'a>,
 ) -> Result<List<Boxed<ResolvedStatement>>, AllocError>
-    ensures made { IfOk result (λ ss. ss ≡ (all (control setting.entry frames.old) (map statement_made statements.now) numbering.old).0) }
-    ensures numbering { IfOk result (λ _. numbering.new ≡ (all (control setting.entry frames.old) (map statement_made statements.now) numbering.old).1) }
-    ensures kept { IfOk result (λ _. frames.new ≡ frames.old) }
+    ensures resolved { IfOk result (λ ss. ss ≡ (all (control resolver.entry scopes.old) (map resolve_statement statements.now) numbering.old).0) }
+    ensures numbering { IfOk result (λ _. numbering.new ≡ (all (control resolver.entry scopes.old) (map resolve_statement statements.now) numbering.old).1) }
+    ensures kept { IfOk result (λ _. scopes.new ≡ scopes.old) }
 {
-    let mut made = Vec::new(setting.alloc);
+    let mut resolved = Vec::new(resolver.alloc);
     for statement in statements.items() {
-        push_statement(statement.get(), setting, frames, numbering, &mut made)?;
+        push_statement(statement.get(), resolver, scopes, numbering, &mut resolved)?;
     }
-    Ok(List::of(made))
+    Ok(List::of(resolved))
 }
 
 #[cycle(statement)]
 fn several<'w, 'a>(
     statements: &'a OneOrMore<Boxed<Statement>>,
-    setting: Setting<'w, 'a>,
-    frames: &mut Frames<'a>,
+    resolver: ResolveContext<'w, 'a>,
+    scopes: &mut Scopes<'a>,
     numbering: &mut Numbering<'a>,
 ) -> Result<List<Boxed<ResolvedStatement>>, AllocError>
-    ensures made { IfOk result (λ ss. ss ≡ (all (control setting.entry frames.old) (several (several_map statement_made statements.now)) numbering.old).0) }
-    ensures numbering { IfOk result (λ _. numbering.new ≡ (all (control setting.entry frames.old) (several (several_map statement_made statements.now)) numbering.old).1) }
-    ensures kept { IfOk result (λ _. frames.new ≡ frames.old) }
+    ensures resolved { IfOk result (λ ss. ss ≡ (all (control resolver.entry scopes.old) (several (several_map resolve_statement statements.now)) numbering.old).0) }
+    ensures numbering { IfOk result (λ _. numbering.new ≡ (all (control resolver.entry scopes.old) (several (several_map resolve_statement statements.now)) numbering.old).1) }
+    ensures kept { IfOk result (λ _. scopes.new ≡ scopes.old) }
 {
-    let mut made = Vec::new(setting.alloc);
+    let mut resolved = Vec::new(resolver.alloc);
     push_statement(
         statements.first.get(),
-        setting,
-        frames,
+        resolver,
+        scopes,
         numbering,
-        &mut made,
+        &mut resolved,
     )?;
     for statement in statements.rest.items() {
-        push_statement(statement.get(), setting, frames, numbering, &mut made)?;
+        push_statement(statement.get(), resolver, scopes, numbering, &mut resolved)?;
     }
-    Ok(List::of(made))
+    Ok(List::of(resolved))
 }
 
 // ---- IF and CASE
 
 #[cycle(statement)]
-fn branches_made<'w, 'a>(
+fn resolve_branches<'w, 'a>(
     branches: &'a OneOrMore<Boxed<Branch>>,
-    setting: Setting<'w, 'a>,
-    frames: &mut Frames<'a>,
+    resolver: ResolveContext<'w, 'a>,
+    scopes: &mut Scopes<'a>,
     numbering: &mut Numbering<'a>,
 ) -> Result<List<Boxed<ResolvedBranch>>, AllocError>
-    ensures made { IfOk result (λ bs. bs ≡ (all (control setting.entry frames.old) (several (several_map branch_made branches.now)) numbering.old).0) }
-    ensures numbering { IfOk result (λ _. numbering.new ≡ (all (control setting.entry frames.old) (several (several_map branch_made branches.now)) numbering.old).1) }
-    ensures kept { IfOk result (λ _. frames.new ≡ frames.old) }
+    ensures resolved { IfOk result (λ bs. bs ≡ (all (control resolver.entry scopes.old) (several (several_map resolve_branch branches.now)) numbering.old).0) }
+    ensures numbering { IfOk result (λ _. numbering.new ≡ (all (control resolver.entry scopes.old) (several (several_map resolve_branch branches.now)) numbering.old).1) }
+    ensures kept { IfOk result (λ _. scopes.new ≡ scopes.old) }
 {
-    let mut made = Vec::new(setting.alloc);
-    push_branch(branches.first.get(), setting, frames, numbering, &mut made)?;
+    let mut resolved = Vec::new(resolver.alloc);
+    push_branch(
+        branches.first.get(),
+        resolver,
+        scopes,
+        numbering,
+        &mut resolved,
+    )?;
     for branch in branches.rest.items() {
-        push_branch(branch.get(), setting, frames, numbering, &mut made)?;
+        push_branch(branch.get(), resolver, scopes, numbering, &mut resolved)?;
     }
-    Ok(List::of(made))
+    Ok(List::of(resolved))
 }
 
 #[cycle(statement)]
-#[tactic(auto, using(crate::proofs::Equations::made_branch))]
+#[tactic(auto, using(crate::proofs::Equations::resolved_branch))]
 fn push_branch<'w, 'a>(
     branch: &'a Branch,
-    setting: Setting<'w, 'a>,
-    frames: &mut Frames<'a>,
+    resolver: ResolveContext<'w, 'a>,
+    scopes: &mut Scopes<'a>,
     numbering: &mut Numbering<'a>,
-    made: &mut Vec<Boxed<ResolvedBranch>>,
+    resolved: &mut Vec<Boxed<ResolvedBranch>>,
 ) -> Result<(), AllocError>
-    ensures made { IfOk result (λ _. made.new.items ≡ made.old.items ++ (branch_made branch.now (control setting.entry frames.old) numbering.old).0 ∷ []) }
-    ensures numbering { IfOk result (λ _. numbering.new ≡ (branch_made branch.now (control setting.entry frames.old) numbering.old).1) }
-    ensures kept { IfOk result (λ _. frames.new ≡ frames.old) }
+    ensures resolved { IfOk result (λ _. resolved.new.items ≡ resolved.old.items ++ (resolve_branch branch.now (control resolver.entry scopes.old) numbering.old).0 ∷ []) }
+    ensures numbering { IfOk result (λ _. numbering.new ≡ (resolve_branch branch.now (control resolver.entry scopes.old) numbering.old).1) }
+    ensures kept { IfOk result (λ _. scopes.new ≡ scopes.old) }
 {
-    let statements = several(&branch.statements, setting, frames, numbering)?;
-    push_branch_with(setting, frames, branch, statements, made)
+    let statements = several(&branch.statements, resolver, scopes, numbering)?;
+    push_branch_with(resolver, scopes, branch, statements, resolved)
 }
 
 // ---- blocks
 
 #[cycle(statement)]
 #[tactic(auto, using(crate::proofs::Equations::block_equations))]
-fn block_made<'w, 'a>(
+fn resolve_block<'w, 'a>(
     block: &'a Block,
-    setting: Setting<'w, 'a>,
-    frames: &mut Frames<'a>,
+    resolver: ResolveContext<'w, 'a>,
+    scopes: &mut Scopes<'a>,
     numbering: &mut Numbering<'a>,
     label: Option<&'a Name>,
 ) -> Result<Boxed<ResolvedStatement>, AllocError>
-    ensures made { IfOk result (λ s. s ≡ (block_made block.now (option_copied label.entry) (control setting.entry frames.old) numbering.old).0) }
-    ensures numbering { IfOk result (λ _. numbering.new ≡ (block_made block.now (option_copied label.entry) (control setting.entry frames.old) numbering.old).1) }
-    ensures kept { IfOk result (λ _. frames.new ≡ frames.old) }
+    ensures resolved { IfOk result (λ s. s ≡ (resolve_block block.now (option_copied label.entry) (control resolver.entry scopes.old) numbering.old).0) }
+    ensures numbering { IfOk result (λ _. numbering.new ≡ (resolve_block block.now (option_copied label.entry) (control resolver.entry scopes.old) numbering.old).1) }
+    ensures kept { IfOk result (λ _. scopes.new ≡ scopes.old) }
 {
     match block {
         Block::Compound {
@@ -185,99 +191,99 @@ fn block_made<'w, 'a>(
             statements,
             ..
         } => {
-            let own = enter_compound(setting, frames, numbering, label, declarations, cursors)?;
-            let handlers = handlers_made(handlers, setting, frames, numbering)?;
-            let statements = all(statements, setting, frames, numbering)?;
-            frames.pop();
-            compound_of(setting.alloc, frames, *atomic, own, handlers, statements)
+            let own = enter_compound(resolver, scopes, numbering, label, declarations, cursors)?;
+            let handlers = resolve_handlers(handlers, resolver, scopes, numbering)?;
+            let statements = all(statements, resolver, scopes, numbering)?;
+            scopes.pop();
+            compound_of(resolver.alloc, scopes, *atomic, own, handlers, statements)
         }
         Block::Loop { statements, .. } => {
-            let made = loop_made(statements, setting, frames, numbering, label)?;
-            loop_of(setting.alloc, frames, made)
+            let resolved = resolve_loop(statements, resolver, scopes, numbering, label)?;
+            loop_of(resolver.alloc, scopes, resolved)
         }
         Block::While {
             test,
             statements,
             ..
         } => {
-            let made = loop_made(statements, setting, frames, numbering, label)?;
-            while_of(setting, frames, test.get(), made)
+            let resolved = resolve_loop(statements, resolver, scopes, numbering, label)?;
+            while_of(resolver, scopes, test.get(), resolved)
         }
         Block::Repeat {
             statements,
             until,
             ..
         } => {
-            let made = loop_made(statements, setting, frames, numbering, label)?;
-            repeat_of(setting, frames, made, until.get())
+            let resolved = resolve_loop(statements, resolver, scopes, numbering, label)?;
+            repeat_of(resolver, scopes, resolved, until.get())
         }
         Block::For {
             head,
             statements,
             ..
         } => {
-            let head = enter_for(setting, frames, numbering, label, head.get())?;
-            let made = several(statements, setting, frames, numbering)?;
-            frames.pop();
-            for_of(setting.alloc, frames, head, made)
+            let head = enter_for(resolver, scopes, numbering, label, head.get())?;
+            let resolved = several(statements, resolver, scopes, numbering)?;
+            scopes.pop();
+            for_of(resolver.alloc, scopes, head, resolved)
         }
     }
 }
 
 #[cycle(statement)]
-fn loop_made<'w, 'a>(
+fn resolve_loop<'w, 'a>(
     statements: &'a OneOrMore<Boxed<Statement>>,
-    setting: Setting<'w, 'a>,
-    frames: &mut Frames<'a>,
+    resolver: ResolveContext<'w, 'a>,
+    scopes: &mut Scopes<'a>,
     numbering: &mut Numbering<'a>,
     label: Option<&'a Name>,
 ) -> Result<List<Boxed<ResolvedStatement>>, AllocError>
-    ensures made { IfOk result (λ ss. ss ≡ (all (in_loop (option_copied label.entry) (control setting.entry frames.old)) (several (several_map statement_made statements.now)) numbering.old).0) }
-    ensures numbering { IfOk result (λ _. numbering.new ≡ (all (in_loop (option_copied label.entry) (control setting.entry frames.old)) (several (several_map statement_made statements.now)) numbering.old).1) }
-    ensures kept { IfOk result (λ _. frames.new ≡ frames.old) }
+    ensures resolved { IfOk result (λ ss. ss ≡ (all (in_loop (option_copied label.entry) (control resolver.entry scopes.old)) (several (several_map resolve_statement statements.now)) numbering.old).0) }
+    ensures numbering { IfOk result (λ _. numbering.new ≡ (all (in_loop (option_copied label.entry) (control resolver.entry scopes.old)) (several (several_map resolve_statement statements.now)) numbering.old).1) }
+    ensures kept { IfOk result (λ _. scopes.new ≡ scopes.old) }
 {
-    frames.push(FrameKind::Loop(label))?;
-    let made = several(statements, setting, frames, numbering)?;
-    frames.pop();
-    Ok(made)
+    scopes.push(ScopeKind::Loop(label))?;
+    let resolved = several(statements, resolver, scopes, numbering)?;
+    scopes.pop();
+    Ok(resolved)
 }
 
 // ---- handlers
 
 #[cycle(statement)]
-fn handlers_made<'w, 'a>(
+fn resolve_handlers<'w, 'a>(
     handlers: &'a List<Boxed<Handler>>,
-    setting: Setting<'w, 'a>,
-    frames: &mut Frames<'a>,
+    resolver: ResolveContext<'w, 'a>,
+    scopes: &mut Scopes<'a>,
     numbering: &mut Numbering<'a>,
 ) -> Result<List<Boxed<ResolvedHandler>>, AllocError>
-    ensures made { IfOk result (λ hs. hs ≡ (all (control setting.entry frames.old) (map handler_made handlers.now) numbering.old).0) }
-    ensures numbering { IfOk result (λ _. numbering.new ≡ (all (control setting.entry frames.old) (map handler_made handlers.now) numbering.old).1) }
-    ensures kept { IfOk result (λ _. frames.new ≡ frames.old) }
+    ensures resolved { IfOk result (λ hs. hs ≡ (all (control resolver.entry scopes.old) (map resolve_handler handlers.now) numbering.old).0) }
+    ensures numbering { IfOk result (λ _. numbering.new ≡ (all (control resolver.entry scopes.old) (map resolve_handler handlers.now) numbering.old).1) }
+    ensures kept { IfOk result (λ _. scopes.new ≡ scopes.old) }
 {
-    let mut made = Vec::new(setting.alloc);
+    let mut resolved = Vec::new(resolver.alloc);
     for handler in handlers.items() {
-        push_handler(handler.get(), setting, frames, numbering, &mut made)?;
+        push_handler(handler.get(), resolver, scopes, numbering, &mut resolved)?;
     }
-    Ok(List::of(made))
+    Ok(List::of(resolved))
 }
 
 // An action sees no label from outside.
 #[cycle(statement)]
-#[tactic(auto, using(crate::proofs::Equations::made_handler))]
+#[tactic(auto, using(crate::proofs::Equations::resolved_handler))]
 fn push_handler<'w, 'a>(
     handler: &'a Handler,
-    setting: Setting<'w, 'a>,
-    frames: &mut Frames<'a>,
+    resolver: ResolveContext<'w, 'a>,
+    scopes: &mut Scopes<'a>,
     numbering: &mut Numbering<'a>,
-    made: &mut Vec<Boxed<ResolvedHandler>>,
+    resolved: &mut Vec<Boxed<ResolvedHandler>>,
 ) -> Result<(), AllocError>
-    ensures made { IfOk result (λ _. made.new.items ≡ made.old.items ++ (handler_made handler.now (control setting.entry frames.old) numbering.old).0 ∷ []) }
-    ensures numbering { IfOk result (λ _. numbering.new ≡ (handler_made handler.now (control setting.entry frames.old) numbering.old).1) }
-    ensures kept { IfOk result (λ _. frames.new ≡ frames.old) }
+    ensures resolved { IfOk result (λ _. resolved.new.items ≡ resolved.old.items ++ (resolve_handler handler.now (control resolver.entry scopes.old) numbering.old).0 ∷ []) }
+    ensures numbering { IfOk result (λ _. numbering.new ≡ (resolve_handler handler.now (control resolver.entry scopes.old) numbering.old).1) }
+    ensures kept { IfOk result (λ _. scopes.new ≡ scopes.old) }
 {
-    frames.push(FrameKind::Action)?;
-    let action = statement_made(handler.action.get(), setting, frames, numbering)?;
-    frames.pop();
-    push_handler_with(setting.alloc, frames, handler, action, made)
+    scopes.push(ScopeKind::Action)?;
+    let action = resolve_statement(handler.action.get(), resolver, scopes, numbering)?;
+    scopes.pop();
+    push_handler_with(resolver.alloc, scopes, handler, action, resolved)
 }

@@ -1,6 +1,6 @@
 //! Conditions: SQLSTATEs, signals and the diagnostics area.
 ghost use Rattle.std.specs.Prelude.{◌≡◌, map, option_map, IfOk};
-ghost use Rattle.psm_resolved.specs.declared.statement.ResolvedSimple.TheVariants as made;
+ghost use Rattle.psm_resolved.specs.declared.statement.ResolvedSimple.TheVariants as resolved;
 ghost use Rattle.psm_rules.specs.StatementFaults.{good_state, several};
 ghost use Rattle.psm_resolve_expr.specs.Seen.{seen_at};
 ghost use Rattle.psm_resolve.specs.Statements.{condition_item, condition_of, declared_as, diagnostics_of, number_of, signal_of, slot_of, state_of, statement_item};
@@ -8,14 +8,14 @@ ghost use Rattle.psm_resolve.specs.Statements.{condition_item, condition_of, dec
 use crate::known::slot_of;
 use psm_cond::{ConditionItem, StatementItem};
 use psm_declare::optional_at;
-use psm_known::good_state;
 use psm_list::{Boxed, List, OneOrMore};
-use psm_resolve_expr::{Frames, Sight};
+use psm_resolve_expr::{ResolverScope, Scopes};
 use psm_resolved::{
     ResolvedCondition, ResolvedDiagnostics, ResolvedNumber, ResolvedSignal, ResolvedSimple,
 };
 use psm_scope::DeclaredCondition;
 use psm_sqlstate::SqlState;
+use psm_symbols::good_state;
 use psm_tree::{
     Condition, ConditionInformation, ConditionNumber, Diagnostics, Signalled, State,
     StatementInformation,
@@ -51,13 +51,13 @@ pub(crate) fn declared_as(known: Option<DeclaredCondition>) -> ResolvedCondition
 
 fn condition_of(
     alloc: Global,
-    frames: &Frames,
+    scopes: &Scopes,
     condition: &Condition,
 ) -> Result<ResolvedCondition, AllocError>
-    ensures { IfOk result (λ c. c ≡ condition_of frames.now condition.now) }
+    ensures { IfOk result (λ c. c ≡ condition_of scopes.now condition.now) }
 {
     match condition {
-        Condition::Name(name) => Ok(declared_as(frames.condition(&name.name))),
+        Condition::Name(name) => Ok(declared_as(scopes.condition(&name.name))),
         Condition::State(state) => {
             let state = state_of(alloc, state)?;
             Ok(ResolvedCondition::State(state))
@@ -67,40 +67,40 @@ fn condition_of(
 
 fn signal_of(
     alloc: Global,
-    sight: Sight,
+    resolver_scope: ResolverScope,
     signalled: &Signalled,
 ) -> Result<Boxed<ResolvedSignal>, AllocError>
-    ensures { IfOk result (λ s. s ≡ signal_of (seen_at sight.entry) signalled.now) }
+    ensures { IfOk result (λ s. s ≡ signal_of (seen_at resolver_scope.entry) signalled.now) }
 {
-    let condition = condition_of(alloc, sight.frames, &signalled.condition)?;
-    let message = optional_at(alloc, sight, &signalled.message)?;
+    let condition = condition_of(alloc, resolver_scope.scopes, &signalled.condition)?;
+    let message = optional_at(alloc, resolver_scope, &signalled.message)?;
     Boxed::new(alloc, ResolvedSignal { condition, message })
 }
 
 /// SIGNAL.
 pub(crate) fn signal(
     alloc: Global,
-    sight: Sight,
+    resolver_scope: ResolverScope,
     signalled: &Signalled,
 ) -> Result<Boxed<ResolvedSimple>, AllocError>
-    ensures { IfOk result (λ s. s ≡ made.Signal (signal_of (seen_at sight.entry) signalled.now)) }
+    ensures { IfOk result (λ s. s ≡ resolved.Signal (signal_of (seen_at resolver_scope.entry) signalled.now)) }
 {
-    let signal = signal_of(alloc, sight, signalled)?;
+    let signal = signal_of(alloc, resolver_scope, signalled)?;
     Boxed::new(alloc, ResolvedSimple::Signal(signal))
 }
 
 /// RESIGNAL.
 pub(crate) fn resignal(
     alloc: Global,
-    sight: Sight,
+    resolver_scope: ResolverScope,
     signalled: &Option<Boxed<Signalled>>,
 ) -> Result<Boxed<ResolvedSimple>, AllocError>
-    ensures { IfOk result (λ s. s ≡ made.Resignal (option_map (signal_of (seen_at sight.entry)) signalled.now)) }
+    ensures { IfOk result (λ s. s ≡ resolved.Resignal (option_map (signal_of (seen_at resolver_scope.entry)) signalled.now)) }
 {
     match signalled {
         None => Boxed::new(alloc, ResolvedSimple::Resignal(None)),
         Some(signalled) => {
-            let signal = signal_of(alloc, sight, signalled.get())?;
+            let signal = signal_of(alloc, resolver_scope, signalled.get())?;
             Boxed::new(alloc, ResolvedSimple::Resignal(Some(signal)))
         }
     }
@@ -111,74 +111,74 @@ pub(crate) fn resignal(
 /// GET DIAGNOSTICS.
 pub(crate) fn get_diagnostics(
     alloc: Global,
-    frames: &Frames,
+    scopes: &Scopes,
     diagnostics: &Diagnostics,
 ) -> Result<Boxed<ResolvedSimple>, AllocError>
-    ensures { IfOk result (λ s. s ≡ made.GetDiagnostics (diagnostics_of frames.now diagnostics.now)) }
+    ensures { IfOk result (λ s. s ≡ resolved.GetDiagnostics (diagnostics_of scopes.now diagnostics.now)) }
 {
-    let diagnostics = diagnostics_of(alloc, frames, diagnostics)?;
+    let diagnostics = diagnostics_of(alloc, scopes, diagnostics)?;
     Boxed::new(alloc, ResolvedSimple::GetDiagnostics(diagnostics))
 }
 
 fn diagnostics_of(
     alloc: Global,
-    frames: &Frames,
+    scopes: &Scopes,
     diagnostics: &Diagnostics,
 ) -> Result<Boxed<ResolvedDiagnostics>, AllocError>
-    ensures { IfOk result (λ d. d ≡ diagnostics_of frames.now diagnostics.now) }
+    ensures { IfOk result (λ d. d ≡ diagnostics_of scopes.now diagnostics.now) }
 {
     match diagnostics {
         Diagnostics::Statement { items } => {
-            let items = statement_items(alloc, frames, items)?;
+            let items = statement_items(alloc, scopes, items)?;
             Boxed::new(alloc, ResolvedDiagnostics::Statement { items })
         }
         Diagnostics::Condition { number, items } => {
-            let number = number_of(frames, number);
-            let items = condition_items(alloc, frames, items)?;
+            let number = number_of(scopes, number);
+            let items = condition_items(alloc, scopes, items)?;
             Boxed::new(alloc, ResolvedDiagnostics::Condition { number, items })
         }
     }
 }
 
-fn number_of(frames: &Frames, number: &ConditionNumber) -> ResolvedNumber
-    ensures { result ≡ number_of frames.now number.now }
+fn number_of(scopes: &Scopes, number: &ConditionNumber) -> ResolvedNumber
+    ensures { result ≡ number_of scopes.now number.now }
 {
     match number {
         ConditionNumber::Number { number, .. } => ResolvedNumber::Constant(*number),
-        ConditionNumber::Target(target) => ResolvedNumber::Variable(slot_of(frames, target)),
+        ConditionNumber::Target(target) => ResolvedNumber::Variable(slot_of(scopes, target)),
     }
 }
 
 fn statement_items(
     alloc: Global,
-    frames: &Frames,
+    scopes: &Scopes,
     items: &OneOrMore<StatementInformation>,
 ) -> Result<List<(u32, StatementItem)>, AllocError>
-    ensures { IfOk result (λ made. made ≡ map (λ i. (slot_of frames.now i.target, statement_item i.item)) (several items.now)) }
+    ensures { IfOk result (λ resolved. resolved ≡ map (λ i. (slot_of scopes.now i.target, statement_item i.item)) (several items.now)) }
 {
     let first = &items.first;
-    let mut made = Vec::new(alloc);
-    made.push((slot_of(frames, &first.target), statement_item(first.item)))?;
+    let mut resolved = Vec::new(alloc);
+    resolved.push((slot_of(scopes, &first.target), statement_item(first.item)))?;
     for item in items.rest.items() {
-        made.push((slot_of(frames, &item.target), statement_item(item.item)))?;
+        resolved.push((slot_of(scopes, &item.target), statement_item(item.item)))?;
     }
-    Ok(List::of(made))
+    Ok(List::of(resolved))
 }
 
 fn condition_items(
     alloc: Global,
-    frames: &Frames,
+    scopes: &Scopes,
     items: &OneOrMore<ConditionInformation>,
 ) -> Result<List<(u32, ConditionItem)>, AllocError>
-    ensures { IfOk result (λ made. made ≡ map (λ i. (slot_of frames.now i.target, condition_item i.item)) (several items.now)) }
+    ensures { IfOk result (λ resolved. resolved ≡ map (λ i. (slot_of scopes.now i.target, condition_item i.item)) (several items.now)) }
 {
     let first = &items.first;
-    let mut made = Vec::new(alloc);
-    made.push((slot_of(frames, &first.target), condition_item(first.item)))?;
+    let mut resolved = Vec::new(alloc);
+    resolved.push((slot_of(scopes, &first.target), condition_item(first.item)))?;
     for item in items.rest.items() {
-        made.push((slot_of(frames, &item.target), condition_item(item.item)))?;
+        resolved.push((slot_of(scopes, &item.target), condition_item(item.item)))?;
     }
-    Ok(List::of(made))
+    Ok(List::of(resolved))
 }
 
 fn statement_item(item: psm_tree::StatementItem) -> StatementItem

@@ -4,7 +4,7 @@ ghost use Rattle.psm_value.specs.SqlType.{IsType};
 ghost use Rattle.psm_rules.specs.FileFaults.{datum_of, signed};
 ghost use Rattle.psm_resolve.specs.Files.{default_of};
 
-use psm_known::signed;
+use psm_symbols::signed;
 use psm_tree::{Constant, ConstantForm};
 use psm_value::{Datum, SqlType, ValueFault, store_into};
 use std::alloc::{AllocError, Global};

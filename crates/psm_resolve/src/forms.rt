@@ -6,33 +6,33 @@ ghost use Rattle.psm_tree.specs.declared.statement.Handler.{out-Handler};
 ghost use Rattle.psm_resolved.specs.declared.statement.ResolvedBlock.{roll-ResolvedBlock};
 ghost use Rattle.psm_resolved.specs.declared.statement.ResolvedBranch.{roll-ResolvedBranch};
 ghost use Rattle.psm_resolved.specs.declared.statement.ResolvedHandler.{roll-ResolvedHandler};
-ghost use Rattle.psm_resolved.specs.declared.statement.ResolvedStatement.TheVariants as made;
+ghost use Rattle.psm_resolved.specs.declared.statement.ResolvedStatement.TheVariants as resolved;
 ghost use Rattle.psm_declare.specs.Seen.{control, expr_at};
 ghost use Rattle.psm_resolve.specs.Statements.{simple_of};
 ghost use Rattle.psm_resolve.specs.Blocks.{kind_of, value_of};
 
 use crate::handlers::{kind_of, values_of};
 use crate::simple::simple_of;
-use psm_declare::{Declared, Setting, expr_at, optional_at};
-use psm_known::as_number;
+use psm_declare::{Declared, ResolveContext, expr_at, optional_at};
 use psm_list::{Boxed, List};
-use psm_resolve_expr::Frames;
+use psm_resolve_expr::Scopes;
 use psm_resolved::{
     ResolvedBlock, ResolvedBranch, ResolvedFor, ResolvedHandler, ResolvedStatement,
 };
+use psm_symbols::as_number;
 use psm_tree::{Branch, Expr, Handler, Simple};
 use std::alloc::{AllocError, Global};
 
 /// A statement without statements in it.
 pub(crate) fn simple_at(
-    setting: Setting,
-    frames: &Frames,
+    resolver: ResolveContext,
+    scopes: &Scopes,
     simple: &Simple,
 ) -> Result<Boxed<ResolvedStatement>, AllocError>
-    ensures { IfOk result (λ s. s ≡ made.Simple (simple_of (control setting.entry frames.now) simple.now)) }
+    ensures { IfOk result (λ s. s ≡ resolved.Simple (simple_of (control resolver.entry scopes.now) simple.now)) }
 {
-    let made = simple_of(setting.alloc, setting.control(frames), simple)?;
-    Boxed::new(setting.alloc, ResolvedStatement::Simple(made))
+    let resolved = simple_of(resolver.alloc, resolver.control(scopes), simple)?;
+    Boxed::new(resolver.alloc, ResolvedStatement::Simple(resolved))
 }
 
 // ---- IF and CASE
@@ -42,7 +42,7 @@ pub(crate) fn if_of(
     branches: List<Boxed<ResolvedBranch>>,
     otherwise: List<Boxed<ResolvedStatement>>,
 ) -> Result<Boxed<ResolvedStatement>, AllocError>
-    ensures { IfOk result (λ s. s ≡ made.If branches otherwise) }
+    ensures { IfOk result (λ s. s ≡ resolved.If branches otherwise) }
 {
     Boxed::new(
         alloc,
@@ -54,17 +54,17 @@ pub(crate) fn if_of(
 }
 
 pub(crate) fn case_of(
-    setting: Setting,
-    frames: &Frames,
+    resolver: ResolveContext,
+    scopes: &Scopes,
     operand: &Option<Boxed<Expr>>,
     branches: List<Boxed<ResolvedBranch>>,
     otherwise: List<Boxed<ResolvedStatement>>,
 ) -> Result<Boxed<ResolvedStatement>, AllocError>
-    ensures { IfOk result (λ s. s ≡ made.Case (option_map (expr_at (control setting.entry frames.now)) operand.now) branches otherwise) }
+    ensures { IfOk result (λ s. s ≡ resolved.Case (option_map (expr_at (control resolver.entry scopes.now)) operand.now) branches otherwise) }
 {
-    let operand = optional_at(setting.alloc, setting.control(frames), operand)?;
+    let operand = optional_at(resolver.alloc, resolver.control(scopes), operand)?;
     Boxed::new(
-        setting.alloc,
+        resolver.alloc,
         ResolvedStatement::Case {
             operand,
             branches,
@@ -73,19 +73,19 @@ pub(crate) fn case_of(
     )
 }
 
-/// Puts a branch behind others.
+/// Puts a branch after others.
 pub(crate) fn push_branch_with(
-    setting: Setting,
-    frames: &Frames,
+    resolver: ResolveContext,
+    scopes: &Scopes,
     branch: &Branch,
     statements: List<Boxed<ResolvedStatement>>,
-    made: &mut Vec<Boxed<ResolvedBranch>>,
+    resolved: &mut Vec<Boxed<ResolvedBranch>>,
 ) -> Result<(), AllocError>
-    ensures { IfOk result (λ _. made.new.items ≡ made.old.items ++ roll-ResolvedBranch (record { test = expr_at (control setting.entry frames.now) (out-Branch branch.now).test; statements = statements }) ∷ []) }
+    ensures { IfOk result (λ _. resolved.new.items ≡ resolved.old.items ++ roll-ResolvedBranch (record { test = expr_at (control resolver.entry scopes.now) (out-Branch branch.now).test; statements = statements }) ∷ []) }
 {
-    let test = expr_at(setting.alloc, setting.control(frames), branch.test.get())?;
-    let branch = Boxed::new(setting.alloc, ResolvedBranch { test, statements })?;
-    made.push(branch)?;
+    let test = expr_at(resolver.alloc, resolver.control(scopes), branch.test.get())?;
+    let branch = Boxed::new(resolver.alloc, ResolvedBranch { test, statements })?;
+    resolved.push(branch)?;
     Ok(())
 }
 
@@ -93,13 +93,13 @@ pub(crate) fn push_branch_with(
 
 pub(crate) fn compound_of(
     alloc: Global,
-    frames: &Frames,
+    scopes: &Scopes,
     atomic: bool,
     own: Boxed<Declared>,
     handlers: List<Boxed<ResolvedHandler>>,
     statements: List<Boxed<ResolvedStatement>>,
 ) -> Result<Boxed<ResolvedStatement>, AllocError>
-    ensures { IfOk result (λ s. s ≡ made.Compound (length frames.now) (roll-ResolvedBlock (record { atomic = atomic; declarations = own.declarations; cursors = own.cursors; handlers = handlers; statements = statements }))) }
+    ensures { IfOk result (λ s. s ≡ resolved.Compound (length scopes.now) (roll-ResolvedBlock (record { atomic = atomic; declarations = own.declarations; cursors = own.cursors; handlers = handlers; statements = statements }))) }
 {
     let Declared {
         declarations,
@@ -115,33 +115,33 @@ pub(crate) fn compound_of(
             statements,
         },
     )?;
-    let level = as_number(frames.len())?;
+    let level = as_number(scopes.len())?;
     Boxed::new(alloc, ResolvedStatement::Compound { level, block })
 }
 
 pub(crate) fn loop_of(
     alloc: Global,
-    frames: &Frames,
+    scopes: &Scopes,
     statements: List<Boxed<ResolvedStatement>>,
 ) -> Result<Boxed<ResolvedStatement>, AllocError>
-    ensures { IfOk result (λ s. s ≡ made.Loop (length frames.now) statements) }
+    ensures { IfOk result (λ s. s ≡ resolved.Loop (length scopes.now) statements) }
 {
-    let level = as_number(frames.len())?;
+    let level = as_number(scopes.len())?;
     Boxed::new(alloc, ResolvedStatement::Loop { level, statements })
 }
 
 pub(crate) fn while_of(
-    setting: Setting,
-    frames: &Frames,
+    resolver: ResolveContext,
+    scopes: &Scopes,
     test: &Expr,
     statements: List<Boxed<ResolvedStatement>>,
 ) -> Result<Boxed<ResolvedStatement>, AllocError>
-    ensures { IfOk result (λ s. s ≡ made.While (length frames.now) (expr_at (control setting.entry frames.now) test.now) statements) }
+    ensures { IfOk result (λ s. s ≡ resolved.While (length scopes.now) (expr_at (control resolver.entry scopes.now) test.now) statements) }
 {
-    let level = as_number(frames.len())?;
-    let test = expr_at(setting.alloc, setting.control(frames), test)?;
+    let level = as_number(scopes.len())?;
+    let test = expr_at(resolver.alloc, resolver.control(scopes), test)?;
     Boxed::new(
-        setting.alloc,
+        resolver.alloc,
         ResolvedStatement::While {
             level,
             test,
@@ -151,17 +151,17 @@ pub(crate) fn while_of(
 }
 
 pub(crate) fn repeat_of(
-    setting: Setting,
-    frames: &Frames,
+    resolver: ResolveContext,
+    scopes: &Scopes,
     statements: List<Boxed<ResolvedStatement>>,
     until: &Expr,
 ) -> Result<Boxed<ResolvedStatement>, AllocError>
-    ensures { IfOk result (λ s. s ≡ made.Repeat (length frames.now) statements (expr_at (control setting.entry frames.now) until.now)) }
+    ensures { IfOk result (λ s. s ≡ resolved.Repeat (length scopes.now) statements (expr_at (control resolver.entry scopes.now) until.now)) }
 {
-    let level = as_number(frames.len())?;
-    let until = expr_at(setting.alloc, setting.control(frames), until)?;
+    let level = as_number(scopes.len())?;
+    let until = expr_at(resolver.alloc, resolver.control(scopes), until)?;
     Boxed::new(
-        setting.alloc,
+        resolver.alloc,
         ResolvedStatement::Repeat {
             level,
             statements,
@@ -172,13 +172,13 @@ pub(crate) fn repeat_of(
 
 pub(crate) fn for_of(
     alloc: Global,
-    frames: &Frames,
+    scopes: &Scopes,
     head: Boxed<ResolvedFor>,
     statements: List<Boxed<ResolvedStatement>>,
 ) -> Result<Boxed<ResolvedStatement>, AllocError>
-    ensures { IfOk result (λ s. s ≡ made.For (length frames.now) head statements) }
+    ensures { IfOk result (λ s. s ≡ resolved.For (length scopes.now) head statements) }
 {
-    let level = as_number(frames.len())?;
+    let level = as_number(scopes.len())?;
     Boxed::new(
         alloc,
         ResolvedStatement::For {
@@ -191,17 +191,17 @@ pub(crate) fn for_of(
 
 // ---- handlers
 
-/// Puts a handler behind others.
+/// Puts a handler after others.
 pub(crate) fn push_handler_with(
     alloc: Global,
-    frames: &Frames,
+    scopes: &Scopes,
     handler: &Handler,
     action: Boxed<ResolvedStatement>,
-    made: &mut Vec<Boxed<ResolvedHandler>>,
+    resolved: &mut Vec<Boxed<ResolvedHandler>>,
 ) -> Result<(), AllocError>
-    ensures { IfOk result (λ _. made.new.items ≡ made.old.items ++ roll-ResolvedHandler (record { kind = kind_of (out-Handler handler.now).kind; values = map (value_of frames.now) (several (out-Handler handler.now).values); action = action }) ∷ []) }
+    ensures { IfOk result (λ _. resolved.new.items ≡ resolved.old.items ++ roll-ResolvedHandler (record { kind = kind_of (out-Handler handler.now).kind; values = map (value_of scopes.now) (several (out-Handler handler.now).values); action = action }) ∷ []) }
 {
-    let values = values_of(alloc, frames, &handler.values)?;
+    let values = values_of(alloc, scopes, &handler.values)?;
     let handler = Boxed::new(
         alloc,
         ResolvedHandler {
@@ -210,6 +210,6 @@ pub(crate) fn push_handler_with(
             action,
         },
     )?;
-    made.push(handler)?;
+    resolved.push(handler)?;
     Ok(())
 }

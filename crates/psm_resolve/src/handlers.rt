@@ -6,7 +6,7 @@ ghost use Rattle.psm_resolve.specs.Blocks.{kind_of, value_for, value_of};
 use crate::conditions::{declared_as, state_of};
 use psm_cond::{ConditionValue, HandlerKind};
 use psm_list::{List, OneOrMore};
-use psm_resolve_expr::Frames;
+use psm_resolve_expr::Scopes;
 use psm_resolved::ResolvedCondition;
 use psm_tree::HandlerValue;
 use std::alloc::{AllocError, Global};
@@ -25,32 +25,32 @@ pub(crate) fn kind_of(kind: psm_tree::HandlerKind) -> HandlerKind
 /// What a handler handles, where it is declared.
 pub(crate) fn values_of(
     alloc: Global,
-    frames: &Frames,
+    scopes: &Scopes,
     values: &OneOrMore<HandlerValue>,
 ) -> Result<List<ConditionValue>, AllocError>
-    ensures { IfOk result (λ made. made ≡ map (value_of frames.now) (several values.now)) }
+    ensures { IfOk result (λ resolved. resolved ≡ map (value_of scopes.now) (several values.now)) }
 {
-    let mut made = Vec::new(alloc);
-    made.push(value_of(alloc, frames, &values.first)?)?;
+    let mut resolved = Vec::new(alloc);
+    resolved.push(value_of(alloc, scopes, &values.first)?)?;
     for value in values.rest.items() {
-        made.push(value_of(alloc, frames, value)?)?;
+        resolved.push(value_of(alloc, scopes, value)?)?;
     }
-    Ok(List::of(made))
+    Ok(List::of(resolved))
 }
 
 fn value_of(
     alloc: Global,
-    frames: &Frames,
+    scopes: &Scopes,
     value: &HandlerValue,
 ) -> Result<ConditionValue, AllocError>
-    ensures { IfOk result (λ made. made ≡ value_of frames.now value.now) }
+    ensures { IfOk result (λ resolved. resolved ≡ value_of scopes.now value.now) }
 {
     match value {
         HandlerValue::State(state) => {
             let state = state_of(alloc, state)?;
             Ok(ConditionValue::State(state))
         }
-        HandlerValue::Name(name) => Ok(value_for(declared_as(frames.condition(&name.name)))),
+        HandlerValue::Name(name) => Ok(value_for(declared_as(scopes.condition(&name.name)))),
         HandlerValue::SqlException { .. } => Ok(ConditionValue::SqlException),
         HandlerValue::SqlWarning { .. } => Ok(ConditionValue::SqlWarning),
         HandlerValue::NotFound { .. } => Ok(ConditionValue::NotFound),

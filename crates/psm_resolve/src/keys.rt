@@ -5,8 +5,8 @@ ghost use Rattle.psm_resolve.specs.Files.{element_key, key_among, key_of, own_ke
 ghost use Rattle.psm_resolve.specs.Seen.{key_seen};
 
 use psm_check_expr::{Columns, Key};
-use psm_known::{column_of, places_of};
 use psm_list::List;
+use psm_symbols::{column_of, places_of};
 use psm_tree::{ColumnRule, ColumnRuleForm, Element, Identifier, TableRuleForm, TableTree};
 use std::alloc::{AllocError, Global};
 

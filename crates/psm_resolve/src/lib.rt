@@ -1,4 +1,4 @@
-//! A module file with its names put away: each name is the slot, the number or the place of what it means where it stands.
+//! A resolved module file: each name is the slot, the number or the place of what it means where it stands.
 #![tactic(auto)]
 
 mod blocks;
@@ -15,8 +15,8 @@ mod laws;
 mod routines;
 mod rows;
 mod simple;
+mod symbol_tables;
 mod tables;
-mod worlds;
 
 pub use files::resolve_file;
 pub use laws::each_declaration_has_a_number_of_its_own;

@@ -1,47 +1,47 @@
 //! Routines.
 ghost use Rattle.std.specs.Prelude.{◌≡◌, [], map, option_map, IfOk, IsTrue};
-ghost use Rattle.psm_scope.specs.Scopes.{can_declare_here};
+ghost use Rattle.psm_scope.specs.KeptScopes.{can_declare_here};
 ghost use Rattle.psm_rules.specs.FileFaults.{is_in};
 ghost use Rattle.psm_rules.specs.Types.{type_of};
 ghost use Rattle.psm_resolve_expr.specs.Exprs.{type_known};
-ghost use Rattle.psm_resolve.specs.Files.{mode_of, nothing_numbered, parameter_made, routine_made, routine_told, told_parameter};
+ghost use Rattle.psm_resolve.specs.Files.{mode_of, nothing_numbered, resolve_parameter, resolve_routine, routine_numbered, numbered_parameter};
 
-use crate::blocks::statement_made;
-use psm_declare::{Numbering, Setting, declare_known, known_type};
-use psm_known::is_in;
+use crate::blocks::resolve_statement;
+use psm_declare::{Numbering, ResolveContext, declare_known, known_type};
 use psm_list::{Boxed, List};
-use psm_resolve_expr::Frames;
+use psm_resolve_expr::Scopes;
 use psm_resolved::{ParameterMode, ResolvedParameter, ResolvedRoutine, ResolvedStatement};
-use psm_scope::{FrameKind, Variable};
+use psm_scope::{ScopeKind, Variable};
+use psm_symbols::is_in;
 use psm_tree::{DataType, Mode, Parameter, Routine};
 use psm_value::SqlType;
 use std::alloc::{AllocError, Global};
 
 /// The routines of a file.
-pub(crate) fn routines_made<'w, 'a>(
-    setting: Setting<'w, 'a>,
+pub(crate) fn resolve_routines<'w, 'a>(
+    resolver: ResolveContext<'w, 'a>,
     routines: &'a [Routine],
 ) -> Result<List<ResolvedRoutine>, AllocError>
-    ensures { IfOk result (λ made. made ≡ map (routine_made setting.entry.world.now) routines.now) }
+    ensures { IfOk result (λ resolved. resolved ≡ map (resolve_routine resolver.entry.symbols.now) routines.now) }
 {
-    let mut made = Vec::new(setting.alloc);
+    let mut resolved = Vec::new(resolver.alloc);
     for routine in routines {
-        made.push(routine_made(setting, routine)?)?;
+        resolved.push(resolve_routine(resolver, routine)?)?;
     }
-    Ok(List::of(made))
+    Ok(List::of(resolved))
 }
 
-fn routine_made<'w, 'a>(
-    setting: Setting<'w, 'a>,
+fn resolve_routine<'w, 'a>(
+    resolver: ResolveContext<'w, 'a>,
     routine: &'a Routine,
 ) -> Result<ResolvedRoutine, AllocError>
-    ensures { IfOk result (λ made. made ≡ routine_made setting.entry.world.now routine.now) }
+    ensures { IfOk result (λ resolved. resolved ≡ resolve_routine resolver.entry.symbols.now routine.now) }
 {
-    let mut frames = Frames::new(setting.alloc);
-    let mut numbering = Numbering::new(setting.alloc);
-    enter_routine(&mut frames, &mut numbering, routine)?;
-    let body = statement_made(routine.body.get(), setting, &mut frames, &mut numbering)?;
-    routine_with(setting.alloc, routine, numbering, body)
+    let mut scopes = Scopes::new(resolver.alloc);
+    let mut numbering = Numbering::new(resolver.alloc);
+    enter_routine(&mut scopes, &mut numbering, routine)?;
+    let body = resolve_statement(routine.body.get(), resolver, &mut scopes, &mut numbering)?;
+    routine_with(resolver.alloc, routine, numbering, body)
 }
 
 fn routine_with(
@@ -50,10 +50,10 @@ fn routine_with(
     numbering: Numbering,
     body: Boxed<ResolvedStatement>,
 ) -> Result<ResolvedRoutine, AllocError>
-    ensures { IfOk result (λ made. made ≡ record { name = routine.now.name.name; parameters = map parameter_made routine.now.parameters; returns = option_map (λ t. type_known (type_of t)) routine.now.returns; slots = numbering.entry.slots; cursors = numbering.entry.cursors; conditions = numbering.entry.conditions; body = body }) }
+    ensures { IfOk result (λ resolved. resolved ≡ record { name = routine.now.name.name; parameters = map resolve_parameter routine.now.parameters; returns = option_map (λ t. type_known (type_of t)) routine.now.returns; slots = numbering.entry.slots; cursors = numbering.entry.cursors; conditions = numbering.entry.conditions; body = body }) }
 {
     let name = routine.name.name.copy(alloc)?;
-    let parameters = parameters_made(alloc, routine.parameters.items())?;
+    let parameters = resolve_parameters(alloc, routine.parameters.items())?;
     let conditions = numbering.condition_names(alloc)?;
     let cursors = numbering.cursors();
     Ok(ResolvedRoutine {
@@ -78,21 +78,21 @@ fn returned(kind: &Option<DataType>) -> Option<SqlType>
 
 // ---- parameters
 
-fn parameters_made(
+fn resolve_parameters(
     alloc: Global,
     parameters: &[Parameter],
 ) -> Result<List<ResolvedParameter>, AllocError>
-    ensures { IfOk result (λ made. made ≡ map parameter_made parameters.now) }
+    ensures { IfOk result (λ resolved. resolved ≡ map resolve_parameter parameters.now) }
 {
-    let mut made = Vec::new(alloc);
+    let mut resolved = Vec::new(alloc);
     for parameter in parameters {
-        made.push(parameter_made(alloc, parameter)?)?;
+        resolved.push(resolve_parameter(alloc, parameter)?)?;
     }
-    Ok(List::of(made))
+    Ok(List::of(resolved))
 }
 
-fn parameter_made(alloc: Global, parameter: &Parameter) -> Result<ResolvedParameter, AllocError>
-    ensures { IfOk result (λ made. made ≡ parameter_made parameter.now) }
+fn resolve_parameter(alloc: Global, parameter: &Parameter) -> Result<ResolvedParameter, AllocError>
+    ensures { IfOk result (λ resolved. resolved ≡ resolve_parameter parameter.now) }
 {
     Ok(ResolvedParameter {
         mode: mode_of(parameter.mode),
@@ -111,33 +111,33 @@ fn mode_of(mode: Mode) -> ParameterMode
     }
 }
 
-// The frame of a routine, in which its parameters are variables; they have the first slots.
+// The scope of a routine, in which its parameters are variables; they have the first slots.
 fn enter_routine<'a>(
-    frames: &mut Frames<'a>,
+    scopes: &mut Scopes<'a>,
     numbering: &mut Numbering<'a>,
     routine: &'a Routine,
 ) -> Result<(), AllocError>
-    requires nothing_around { frames.old ≡ [] }
+    requires nothing_around { scopes.old ≡ [] }
     requires nothing_numbered { numbering.old ≡ nothing_numbered }
-    ensures frames { IfOk result (λ _. frames.new ≡ (routine_told routine.now).0) }
-    ensures numbering { IfOk result (λ _. numbering.new ≡ (routine_told routine.now).1) }
+    ensures scopes { IfOk result (λ _. scopes.new ≡ (routine_numbered routine.now).0) }
+    ensures numbering { IfOk result (λ _. numbering.new ≡ (routine_numbered routine.now).1) }
 {
-    frames.push(FrameKind::Routine(&routine.name.name))?;
+    scopes.push(ScopeKind::Routine(&routine.name.name))?;
     for parameter in routine.parameters.items() {
-        declare_parameter(frames, numbering, parameter)?;
+        declare_parameter(scopes, numbering, parameter)?;
     }
     Ok(())
 }
 
 fn declare_parameter<'a>(
-    frames: &mut Frames<'a>,
+    scopes: &mut Scopes<'a>,
     numbering: &mut Numbering<'a>,
     parameter: &'a Parameter,
 ) -> Result<(), AllocError>
-    requires { IsTrue (can_declare_here frames.old) }
-    ensures frames { IfOk result (λ _. frames.new ≡ (told_parameter (frames.old, numbering.old) parameter.now).0) }
-    ensures numbering { IfOk result (λ _. numbering.new ≡ (told_parameter (frames.old, numbering.old) parameter.now).1) }
-    ensures open { IfOk result (λ _. IsTrue (can_declare_here frames.new)) }
+    requires { IsTrue (can_declare_here scopes.old) }
+    ensures scopes { IfOk result (λ _. scopes.new ≡ (numbered_parameter (scopes.old, numbering.old) parameter.now).0) }
+    ensures numbering { IfOk result (λ _. numbering.new ≡ (numbered_parameter (scopes.old, numbering.old) parameter.now).1) }
+    ensures open { IfOk result (λ _. IsTrue (can_declare_here scopes.new)) }
 {
     let kind = known_type(&parameter.kind);
     let variable = Variable {
@@ -145,6 +145,6 @@ fn declare_parameter<'a>(
         slot: numbering.slot(kind)?,
         assignable: !is_in(parameter.mode),
     };
-    declare_known(frames, &parameter.name.name, variable)?;
+    declare_known(scopes, &parameter.name.name, variable)?;
     Ok(())
 }

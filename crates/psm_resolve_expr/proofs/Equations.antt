@@ -12,14 +12,14 @@ use Rattle.psm_tree.specs.declared.expr.Expr.{Expr, roll-Expr}
 use Rattle.psm_tree.specs.declared.expr.Expr.TheVariants as written
 use Rattle.psm_tree.specs.declared.expr.Expr.TheOpen.{Expr-F, Pick-F}
 use Rattle.psm_tree.specs.declared.expr.Expr.TheOpen as layers
-use Rattle.psm_tree.specs.declared.expr.Expr.TheFolds.{map-Expr, map-Pick, map-Select, fold-roll-Expr, fold-roll-Pick, fold_out-Link, fold_out-Select, fold_out-When}
-use Rattle.psm_tree.specs.declared.expr.Junction.{Junction}
+use Rattle.psm_tree.specs.declared.expr.Expr.TheFolds.{map-Expr, map-Pick, map-Select, fold-roll-Expr, fold-roll-Pick, fold_out-ChainLink, fold_out-Select, fold_out-When}
+use Rattle.psm_tree.specs.declared.expr.LogicalOperator.{LogicalOperator}
 use Rattle.psm_tree.specs.declared.expr.Comparison.{Comparison}
 use Rattle.psm_tree.specs.declared.expr.Operator.{Operator as WrittenOperator}
 use Rattle.psm_tree.specs.declared.expr.TextFunction.{TextFunction}
 use Rattle.psm_tree.specs.declared.expr.SetFunction.{SetFunction}
 use Rattle.psm_tree.specs.declared.expr.TrimSide.{TrimSide}
-use Rattle.psm_tree.specs.declared.expr.Link.{Link, out-Link}
+use Rattle.psm_tree.specs.declared.expr.ChainLink.{ChainLink, out-ChainLink}
 use Rattle.psm_tree.specs.declared.expr.When.{When, out-When}
 use Rattle.psm_tree.specs.declared.expr.Select.{Select, out-Select}
 use Rattle.psm_tree.specs.declared.expr.Pick.{Pick, roll-Pick}
@@ -31,183 +31,183 @@ use Rattle.psm_rules.specs.Shapes.{of_literal, character, integer, typed, varyin
 use Rattle.psm_rules.specs.Types.{type_of}
 use Rattle.psm_rules.specs.ExprFaults.{spelling, text_result}
 use Rattle.psm_scope.specs.Routines.{function}
-use Rattle.psm_resolve_expr.specs.declared.made.Made.{Made}
-use Rattle.psm_resolve_expr.specs.declared.made.MadeQuery.{MadeQuery}
+use Rattle.psm_resolve_expr.specs.declared.resolved.Resolved.{Resolved}
+use Rattle.psm_resolve_expr.specs.declared.resolved.ShapedQuery.{ShapedQuery}
 use Rattle.psm_resolve_expr.specs.declared.parts.Branches.{Branches}
-use Rattle.psm_resolve_expr.specs.Sight.{Sight, name_in, on_row, table_at}
-use Rattle.psm_resolve_expr.specs.Made.{MadePick, Values, OfAll, called, of_meaning, scale_of_result, shape_of_result}
-use Rattle.psm_resolve_expr.specs.Exprs.{Of, optional_in, condition, value, type_known, comparison_of, junction_of, function_of, side_of, set_of, chain_of, signed, columns_on, columns_in, number_of, set_item, shape_of_set, only_shape, query_of, at, all_at, any_at, expr_layer, pick_layer, link_layer, select_layer, when_layer, made_of, pick_made, link_made, query_made, when_made}
+use Rattle.psm_resolve_expr.specs.ResolverScope.{ResolverScope, name_in, on_row, table_at}
+use Rattle.psm_resolve_expr.specs.Resolved.{ShapedPick, Values, OfAll, called, of_meaning, scale_of_result, shape_of_result}
+use Rattle.psm_resolve_expr.specs.Exprs.{Of, optional_in, condition, value, type_known, comparison_of, logical_operator_of, function_of, side_of, set_of, operator_chain_of, signed, columns_on, columns_in, number_of, set_item, shape_of_set, only_shape, query_of, at, all_at, any_at, expr_layer, pick_layer, chain_link_layer, select_layer, when_layer, resolve_expr, resolve_pick, resolve_chain_link, resolve_query, resolve_when}
 use Rattle.psm_resolve_expr.specs.Parts.{arguments_of, branches_of, case_in, none_picked, operands_of, query_in, with_picks}
 use Rattle.psm_resolve_expr.proofs.Joined.{case_joined, picks_gathered}
 
-expr_rolled : (layer : Expr-F Expr Pick Link Select When) → made_of (roll-Expr layer) ≡ expr_layer (map-Expr Expr Pick Link Select When (Of Made) (Of MadePick) (Of (WrittenOperator × Made)) (Of MadeQuery) (Of (Made × Made)) made_of pick_made link_made query_made when_made layer)
-expr_rolled layer = fold-roll-Expr (Of Made) (Of MadePick) (Of (WrittenOperator × Made)) (Of MadeQuery) (Of (Made × Made)) expr_layer pick_layer link_layer select_layer when_layer layer
+expr_rolled : (layer : Expr-F Expr Pick ChainLink Select When) → resolve_expr (roll-Expr layer) ≡ expr_layer (map-Expr Expr Pick ChainLink Select When (Of Resolved) (Of ShapedPick) (Of (WrittenOperator × Resolved)) (Of ShapedQuery) (Of (Resolved × Resolved)) resolve_expr resolve_pick resolve_chain_link resolve_query resolve_when layer)
+expr_rolled layer = fold-roll-Expr (Of Resolved) (Of ShapedPick) (Of (WrittenOperator × Resolved)) (Of ShapedQuery) (Of (Resolved × Resolved)) expr_layer pick_layer chain_link_layer select_layer when_layer layer
 
-pick_rolled : (layer : Pick-F Expr Pick Link Select When) → pick_made (roll-Pick layer) ≡ pick_layer (map-Pick Expr Pick Link Select When (Of Made) (Of MadePick) (Of (WrittenOperator × Made)) (Of MadeQuery) (Of (Made × Made)) made_of pick_made link_made query_made when_made layer)
-pick_rolled layer = fold-roll-Pick (Of Made) (Of MadePick) (Of (WrittenOperator × Made)) (Of MadeQuery) (Of (Made × Made)) expr_layer pick_layer link_layer select_layer when_layer layer
+pick_rolled : (layer : Pick-F Expr Pick ChainLink Select When) → resolve_pick (roll-Pick layer) ≡ pick_layer (map-Pick Expr Pick ChainLink Select When (Of Resolved) (Of ShapedPick) (Of (WrittenOperator × Resolved)) (Of ShapedQuery) (Of (Resolved × Resolved)) resolve_expr resolve_pick resolve_chain_link resolve_query resolve_when layer)
+pick_rolled layer = fold-roll-Pick (Of Resolved) (Of ShapedPick) (Of (WrittenOperator × Resolved)) (Of ShapedQuery) (Of (Resolved × Resolved)) expr_layer pick_layer chain_link_layer select_layer when_layer layer
 
-pub made-Null : (place : Place) (sight : Sight) → made_of (written.Null place) sight ≡ record { expr = exprs.Null; shape = Untyped }
+pub resolved-Null : (place : Place) (resolver_scope : ResolverScope) → resolve_expr (written.Null place) resolver_scope ≡ record { expr = exprs.Null; shape = Untyped }
 unfolding roll-Expr Carrier.roll
-made-Null place sight = ap (λ f. f sight) (expr_rolled (layers.Null place))
+resolved-Null place resolver_scope = ap (λ f. f resolver_scope) (expr_rolled (layers.Null place))
 
-pub made-Number : (place : Place) (number : Num) (sight : Sight) → made_of (written.Number place number) sight ≡ value (of_literal number) (exprs.Number number)
+pub resolved-Number : (place : Place) (number : Num) (resolver_scope : ResolverScope) → resolve_expr (written.Number place number) resolver_scope ≡ value (of_literal number) (exprs.Number number)
 unfolding roll-Expr Carrier.roll
-made-Number place number sight = ap (λ f. f sight) (expr_rolled (layers.Number place number))
+resolved-Number place number resolver_scope = ap (λ f. f resolver_scope) (expr_rolled (layers.Number place number))
 
-pub made-Text : (place : Place) (text : List ℕ) (sight : Sight) → made_of (written.Text place text) sight ≡ value character (exprs.Text text)
+pub resolved-Text : (place : Place) (text : List ℕ) (resolver_scope : ResolverScope) → resolve_expr (written.Text place text) resolver_scope ≡ value character (exprs.Text text)
 unfolding roll-Expr Carrier.roll
-made-Text place text sight = ap (λ f. f sight) (expr_rolled (layers.Text place text))
+resolved-Text place text resolver_scope = ap (λ f. f resolver_scope) (expr_rolled (layers.Text place text))
 
-pub made-Name : (target : Target) (sight : Sight) → made_of (written.Name target) sight ≡ of_meaning (name_in sight target)
+pub resolved-Name : (target : Target) (resolver_scope : ResolverScope) → resolve_expr (written.Name target) resolver_scope ≡ of_meaning (name_in resolver_scope target)
 unfolding roll-Expr Carrier.roll
-made-Name target sight = ap (λ f. f sight) (expr_rolled (layers.Name target))
+resolved-Name target resolver_scope = ap (λ f. f resolver_scope) (expr_rolled (layers.Name target))
 
-pub made-Junction : (junction : Junction) (operands : Several Expr) (sight : Sight) → made_of (written.Junction junction operands) sight ≡ condition (exprs.Junction (junction_of junction) (operands_of (at sight (several_map made_of operands))).exprs)
+pub resolved-LogicalOperator : (logical_operator : LogicalOperator) (operands : Several Expr) (resolver_scope : ResolverScope) → resolve_expr (written.LogicalOperator logical_operator operands) resolver_scope ≡ condition (exprs.LogicalOperator (logical_operator_of logical_operator) (operands_of (at resolver_scope (several_map resolve_expr operands))).exprs)
 unfolding roll-Expr Carrier.roll
-made-Junction junction operands sight = ap (λ f. f sight) (expr_rolled (layers.Junction junction operands))
+resolved-LogicalOperator logical_operator operands resolver_scope = ap (λ f. f resolver_scope) (expr_rolled (layers.LogicalOperator logical_operator operands))
 
-pub made-Not : (place : Place) (negated : Expr) (sight : Sight) → made_of (written.Not place negated) sight ≡ condition (exprs.Not (made_of negated sight).expr)
+pub resolved-Not : (place : Place) (negated : Expr) (resolver_scope : ResolverScope) → resolve_expr (written.Not place negated) resolver_scope ≡ condition (exprs.Not (resolve_expr negated resolver_scope).expr)
 unfolding roll-Expr Carrier.roll
-made-Not place negated sight = ap (λ f. f sight) (expr_rolled (layers.Not place negated))
+resolved-Not place negated resolver_scope = ap (λ f. f resolver_scope) (expr_rolled (layers.Not place negated))
 
-pub made-Compare : (operator : Comparison) (left right : Expr) (sight : Sight) → made_of (written.Compare operator left right) sight ≡ condition (exprs.Compare (comparison_of operator) (made_of left sight).expr (made_of right sight).expr)
+pub resolved-Compare : (operator : Comparison) (left right : Expr) (resolver_scope : ResolverScope) → resolve_expr (written.Compare operator left right) resolver_scope ≡ condition (exprs.Compare (comparison_of operator) (resolve_expr left resolver_scope).expr (resolve_expr right resolver_scope).expr)
 unfolding roll-Expr Carrier.roll
-made-Compare operator left right sight = ap (λ f. f sight) (expr_rolled (layers.Compare operator left right))
+resolved-Compare operator left right resolver_scope = ap (λ f. f resolver_scope) (expr_rolled (layers.Compare operator left right))
 
-pub made-IsNull : (negated : Bool) (operand : Expr) (sight : Sight) → made_of (written.IsNull negated operand) sight ≡ condition (exprs.IsNull negated (made_of operand sight).expr)
+pub resolved-IsNull : (negated : Bool) (operand : Expr) (resolver_scope : ResolverScope) → resolve_expr (written.IsNull negated operand) resolver_scope ≡ condition (exprs.IsNull negated (resolve_expr operand resolver_scope).expr)
 unfolding roll-Expr Carrier.roll
-made-IsNull negated operand sight = ap (λ f. f sight) (expr_rolled (layers.IsNull negated operand))
+resolved-IsNull negated operand resolver_scope = ap (λ f. f resolver_scope) (expr_rolled (layers.IsNull negated operand))
 
-pub made-Between : (negated : Bool) (operand low high : Expr) (sight : Sight) → made_of (written.Between negated operand low high) sight ≡ condition (exprs.Between negated (made_of operand sight).expr (made_of low sight).expr (made_of high sight).expr)
+pub resolved-Between : (negated : Bool) (operand low high : Expr) (resolver_scope : ResolverScope) → resolve_expr (written.Between negated operand low high) resolver_scope ≡ condition (exprs.Between negated (resolve_expr operand resolver_scope).expr (resolve_expr low resolver_scope).expr (resolve_expr high resolver_scope).expr)
 unfolding roll-Expr Carrier.roll
-made-Between negated operand low high sight = ap (λ f. f sight) (expr_rolled (layers.Between negated operand low high))
+resolved-Between negated operand low high resolver_scope = ap (λ f. f resolver_scope) (expr_rolled (layers.Between negated operand low high))
 
-pub made-In : (negated : Bool) (operand : Expr) (list : Several Expr) (sight : Sight) → made_of (written.In negated operand list) sight ≡ condition (exprs.In negated (made_of operand sight).expr (operands_of (at sight (several_map made_of list))).exprs)
+pub resolved-In : (negated : Bool) (operand : Expr) (list : Several Expr) (resolver_scope : ResolverScope) → resolve_expr (written.In negated operand list) resolver_scope ≡ condition (exprs.In negated (resolve_expr operand resolver_scope).expr (operands_of (at resolver_scope (several_map resolve_expr list))).exprs)
 unfolding roll-Expr Carrier.roll
-made-In negated operand list sight = ap (λ f. f sight) (expr_rolled (layers.In negated operand list))
+resolved-In negated operand list resolver_scope = ap (λ f. f resolver_scope) (expr_rolled (layers.In negated operand list))
 
-pub made-Like : (negated : Bool) (operand pattern : Expr) (escape : Option Expr) (sight : Sight) → made_of (written.Like negated operand pattern escape) sight ≡ condition (exprs.Like negated (made_of operand sight).expr (made_of pattern sight).expr (optional_in (any_at sight (option_map made_of escape))))
+pub resolved-Like : (negated : Bool) (operand pattern : Expr) (escape : Option Expr) (resolver_scope : ResolverScope) → resolve_expr (written.Like negated operand pattern escape) resolver_scope ≡ condition (exprs.Like negated (resolve_expr operand resolver_scope).expr (resolve_expr pattern resolver_scope).expr (optional_in (any_at resolver_scope (option_map resolve_expr escape))))
 unfolding roll-Expr Carrier.roll
-made-Like negated operand pattern None sight = ap (λ f. f sight) (expr_rolled (layers.Like negated operand pattern None))
-made-Like negated operand pattern (Some escape) sight = ap (λ f. f sight) (expr_rolled (layers.Like negated operand pattern (Some escape)))
+resolved-Like negated operand pattern None resolver_scope = ap (λ f. f resolver_scope) (expr_rolled (layers.Like negated operand pattern None))
+resolved-Like negated operand pattern (Some escape) resolver_scope = ap (λ f. f resolver_scope) (expr_rolled (layers.Like negated operand pattern (Some escape)))
 
-pub made-Chain : (first : Expr) (links : List Link) (sight : Sight) → made_of (written.Chain first links) sight ≡ chain_of (made_of first sight) (all_at sight (map link_made links))
+pub resolved-OperatorChain : (first : Expr) (chain_links : List ChainLink) (resolver_scope : ResolverScope) → resolve_expr (written.OperatorChain first chain_links) resolver_scope ≡ operator_chain_of (resolve_expr first resolver_scope) (all_at resolver_scope (map resolve_chain_link chain_links))
 unfolding roll-Expr Carrier.roll
-made-Chain first links sight = ap (λ f. f sight) (expr_rolled (layers.Chain first links))
+resolved-OperatorChain first chain_links resolver_scope = ap (λ f. f resolver_scope) (expr_rolled (layers.OperatorChain first chain_links))
 
-pub made-Signed : (place : Place) (sign : Sign) (operand : Expr) (sight : Sight) → made_of (written.Signed place sign operand) sight ≡ signed sign (made_of operand sight)
+pub resolved-Signed : (place : Place) (sign : Sign) (operand : Expr) (resolver_scope : ResolverScope) → resolve_expr (written.Signed place sign operand) resolver_scope ≡ signed sign (resolve_expr operand resolver_scope)
 unfolding roll-Expr Carrier.roll
-made-Signed place sign operand sight = ap (λ f. f sight) (expr_rolled (layers.Signed place sign operand))
+resolved-Signed place sign operand resolver_scope = ap (λ f. f resolver_scope) (expr_rolled (layers.Signed place sign operand))
 
-pub made-Call : (name : Identifier) (arguments : List Expr) (sight : Sight) → made_of (written.Call name arguments) sight ≡ (let given = arguments_of (all_at sight (map made_of arguments)) in called given.exprs (function sight.world.functions name.name given.kinds))
+pub resolved-Call : (name : Identifier) (arguments : List Expr) (resolver_scope : ResolverScope) → resolve_expr (written.Call name arguments) resolver_scope ≡ (let given = arguments_of (all_at resolver_scope (map resolve_expr arguments)) in called given.exprs (function resolver_scope.symbols.functions name.name given.kinds))
 unfolding roll-Expr Carrier.roll
-made-Call name arguments sight = ap (λ f. f sight) (expr_rolled (layers.Call name arguments))
+resolved-Call name arguments resolver_scope = ap (λ f. f resolver_scope) (expr_rolled (layers.Call name arguments))
 
-pub made-Parenthesized : (place : Place) (expr : Expr) (sight : Sight) → made_of (written.Parenthesized place expr) sight ≡ made_of expr sight
+pub resolved-Parenthesized : (place : Place) (expr : Expr) (resolver_scope : ResolverScope) → resolve_expr (written.Parenthesized place expr) resolver_scope ≡ resolve_expr expr resolver_scope
 unfolding roll-Expr Carrier.roll
-made-Parenthesized place expr sight = ap (λ f. f sight) (expr_rolled (layers.Parenthesized place expr))
+resolved-Parenthesized place expr resolver_scope = ap (λ f. f resolver_scope) (expr_rolled (layers.Parenthesized place expr))
 
-pub made-Subquery : (place : Place) (query : Select) (sight : Sight) → made_of (written.Subquery place query) sight ≡ record { expr = exprs.Scalar (query_made query sight).query; shape = only_shape (query_made query sight).shapes }
+pub resolved-Subquery : (place : Place) (query : Select) (resolver_scope : ResolverScope) → resolve_expr (written.Subquery place query) resolver_scope ≡ record { expr = exprs.Scalar (resolve_query query resolver_scope).query; shape = only_shape (resolve_query query resolver_scope).shapes }
 unfolding roll-Expr Carrier.roll
-made-Subquery place query sight = ap (λ f. f sight) (expr_rolled (layers.Subquery place query))
+resolved-Subquery place query resolver_scope = ap (λ f. f resolver_scope) (expr_rolled (layers.Subquery place query))
 
-pub made-Exists : (place : Place) (query : Select) (sight : Sight) → made_of (written.Exists place query) sight ≡ condition (exprs.Exists (query_made query sight).query)
+pub resolved-Exists : (place : Place) (query : Select) (resolver_scope : ResolverScope) → resolve_expr (written.Exists place query) resolver_scope ≡ condition (exprs.Exists (resolve_query query resolver_scope).query)
 unfolding roll-Expr Carrier.roll
-made-Exists place query sight = ap (λ f. f sight) (expr_rolled (layers.Exists place query))
+resolved-Exists place query resolver_scope = ap (λ f. f resolver_scope) (expr_rolled (layers.Exists place query))
 
-pub made-Case : (place : Place) (operand : Option Expr) (whens : Several When) (otherwise : Option Expr) (sight : Sight) → made_of (written.Case place operand whens otherwise) sight ≡ case_in (any_at sight (option_map made_of operand)) (branches_of (at sight (several_map when_made whens))) (any_at sight (option_map made_of otherwise))
+pub resolved-Case : (place : Place) (operand : Option Expr) (whens : Several When) (otherwise : Option Expr) (resolver_scope : ResolverScope) → resolve_expr (written.Case place operand whens otherwise) resolver_scope ≡ case_in (any_at resolver_scope (option_map resolve_expr operand)) (branches_of (at resolver_scope (several_map resolve_when whens))) (any_at resolver_scope (option_map resolve_expr otherwise))
 unfolding roll-Expr Carrier.roll
-made-Case place None whens None sight = ap (λ f. f sight) (expr_rolled (layers.Case place None whens None)) ∙ case_joined (any_at sight (option_map made_of None)) (at sight (several_map when_made whens)) (any_at sight (option_map made_of None))
-made-Case place None whens (Some otherwise) sight = ap (λ f. f sight) (expr_rolled (layers.Case place None whens (Some otherwise))) ∙ case_joined (any_at sight (option_map made_of None)) (at sight (several_map when_made whens)) (any_at sight (option_map made_of (Some otherwise)))
-made-Case place (Some operand) whens None sight = ap (λ f. f sight) (expr_rolled (layers.Case place (Some operand) whens None)) ∙ case_joined (any_at sight (option_map made_of (Some operand))) (at sight (several_map when_made whens)) (any_at sight (option_map made_of None))
-made-Case place (Some operand) whens (Some otherwise) sight = ap (λ f. f sight) (expr_rolled (layers.Case place (Some operand) whens (Some otherwise))) ∙ case_joined (any_at sight (option_map made_of (Some operand))) (at sight (several_map when_made whens)) (any_at sight (option_map made_of (Some otherwise)))
+resolved-Case place None whens None resolver_scope = ap (λ f. f resolver_scope) (expr_rolled (layers.Case place None whens None)) ∙ case_joined (any_at resolver_scope (option_map resolve_expr None)) (at resolver_scope (several_map resolve_when whens)) (any_at resolver_scope (option_map resolve_expr None))
+resolved-Case place None whens (Some otherwise) resolver_scope = ap (λ f. f resolver_scope) (expr_rolled (layers.Case place None whens (Some otherwise))) ∙ case_joined (any_at resolver_scope (option_map resolve_expr None)) (at resolver_scope (several_map resolve_when whens)) (any_at resolver_scope (option_map resolve_expr (Some otherwise)))
+resolved-Case place (Some operand) whens None resolver_scope = ap (λ f. f resolver_scope) (expr_rolled (layers.Case place (Some operand) whens None)) ∙ case_joined (any_at resolver_scope (option_map resolve_expr (Some operand))) (at resolver_scope (several_map resolve_when whens)) (any_at resolver_scope (option_map resolve_expr None))
+resolved-Case place (Some operand) whens (Some otherwise) resolver_scope = ap (λ f. f resolver_scope) (expr_rolled (layers.Case place (Some operand) whens (Some otherwise))) ∙ case_joined (any_at resolver_scope (option_map resolve_expr (Some operand))) (at resolver_scope (several_map resolve_when whens)) (any_at resolver_scope (option_map resolve_expr (Some otherwise)))
 
-pub made-Cast : (place : Place) (source : Expr) (to : DataType) (sight : Sight) → made_of (written.Cast place source to) sight ≡ value (typed (type_known (type_of to))) (exprs.Cast (made_of source sight).expr (type_known (type_of to)))
+pub resolved-Cast : (place : Place) (source : Expr) (to : DataType) (resolver_scope : ResolverScope) → resolve_expr (written.Cast place source to) resolver_scope ≡ value (typed (type_known (type_of to))) (exprs.Cast (resolve_expr source resolver_scope).expr (type_known (type_of to)))
 unfolding roll-Expr Carrier.roll
-made-Cast place source to sight = ap (λ f. f sight) (expr_rolled (layers.Cast place source to))
+resolved-Cast place source to resolver_scope = ap (λ f. f resolver_scope) (expr_rolled (layers.Cast place source to))
 
-pub made-Coalesce : (place : Place) (values : Several Expr) (sight : Sight) → made_of (written.Coalesce place values) sight ≡ (let given = (operands_of (at sight (several_map made_of values))) in record { expr = exprs.Coalesce given.exprs (scale_of_result given.result); shape = shape_of_result given.result })
+pub resolved-Coalesce : (place : Place) (values : Several Expr) (resolver_scope : ResolverScope) → resolve_expr (written.Coalesce place values) resolver_scope ≡ (let given = (operands_of (at resolver_scope (several_map resolve_expr values))) in record { expr = exprs.Coalesce given.exprs (scale_of_result given.result); shape = shape_of_result given.result })
 unfolding roll-Expr Carrier.roll
-made-Coalesce place values sight = ap (λ f. f sight) (expr_rolled (layers.Coalesce place values))
+resolved-Coalesce place values resolver_scope = ap (λ f. f resolver_scope) (expr_rolled (layers.Coalesce place values))
 
-pub made-NullIf : (place : Place) (left right : Expr) (sight : Sight) → made_of (written.NullIf place left right) sight ≡ record { expr = exprs.NullIf (made_of left sight).expr (made_of right sight).expr; shape = (made_of left sight).shape }
+pub resolved-NullIf : (place : Place) (left right : Expr) (resolver_scope : ResolverScope) → resolve_expr (written.NullIf place left right) resolver_scope ≡ record { expr = exprs.NullIf (resolve_expr left resolver_scope).expr (resolve_expr right resolver_scope).expr; shape = (resolve_expr left resolver_scope).shape }
 unfolding roll-Expr Carrier.roll
-made-NullIf place left right sight = ap (λ f. f sight) (expr_rolled (layers.NullIf place left right))
+resolved-NullIf place left right resolver_scope = ap (λ f. f resolver_scope) (expr_rolled (layers.NullIf place left right))
 
-pub made-Function : (place : Place) (function : TextFunction) (text : Expr) (sight : Sight) → made_of (written.Function place function text) sight ≡ value (text_result function) (exprs.Function (function_of function) (made_of text sight).expr)
+pub resolved-Function : (place : Place) (function : TextFunction) (text : Expr) (resolver_scope : ResolverScope) → resolve_expr (written.Function place function text) resolver_scope ≡ value (text_result function) (exprs.Function (function_of function) (resolve_expr text resolver_scope).expr)
 unfolding roll-Expr Carrier.roll
-made-Function place function text sight = ap (λ f. f sight) (expr_rolled (layers.Function place function text))
+resolved-Function place function text resolver_scope = ap (λ f. f resolver_scope) (expr_rolled (layers.Function place function text))
 
-pub made-Position : (place : Place) (part whole : Expr) (sight : Sight) → made_of (written.Position place part whole) sight ≡ value integer (exprs.Position (made_of part sight).expr (made_of whole sight).expr)
+pub resolved-Position : (place : Place) (part whole : Expr) (resolver_scope : ResolverScope) → resolve_expr (written.Position place part whole) resolver_scope ≡ value integer (exprs.Position (resolve_expr part resolver_scope).expr (resolve_expr whole resolver_scope).expr)
 unfolding roll-Expr Carrier.roll
-made-Position place part whole sight = ap (λ f. f sight) (expr_rolled (layers.Position place part whole))
+resolved-Position place part whole resolver_scope = ap (λ f. f resolver_scope) (expr_rolled (layers.Position place part whole))
 
-pub made-Substring : (place : Place) (text from : Expr) (length : Option Expr) (sight : Sight) → made_of (written.Substring place text from length) sight ≡ value varying (exprs.Substring (made_of text sight).expr (made_of from sight).expr (optional_in (any_at sight (option_map made_of length))))
+pub resolved-Substring : (place : Place) (text from : Expr) (length : Option Expr) (resolver_scope : ResolverScope) → resolve_expr (written.Substring place text from length) resolver_scope ≡ value varying (exprs.Substring (resolve_expr text resolver_scope).expr (resolve_expr from resolver_scope).expr (optional_in (any_at resolver_scope (option_map resolve_expr length))))
 unfolding roll-Expr Carrier.roll
-made-Substring place text from None sight = ap (λ f. f sight) (expr_rolled (layers.Substring place text from None))
-made-Substring place text from (Some length) sight = ap (λ f. f sight) (expr_rolled (layers.Substring place text from (Some length)))
+resolved-Substring place text from None resolver_scope = ap (λ f. f resolver_scope) (expr_rolled (layers.Substring place text from None))
+resolved-Substring place text from (Some length) resolver_scope = ap (λ f. f resolver_scope) (expr_rolled (layers.Substring place text from (Some length)))
 
-pub made-Trim : (place : Place) (side : TrimSide) (text : Expr) (sight : Sight) → made_of (written.Trim place side text) sight ≡ value varying (exprs.Trim (side_of side) (made_of text sight).expr)
+pub resolved-Trim : (place : Place) (side : TrimSide) (text : Expr) (resolver_scope : ResolverScope) → resolve_expr (written.Trim place side text) resolver_scope ≡ value varying (exprs.Trim (side_of side) (resolve_expr text resolver_scope).expr)
 unfolding roll-Expr Carrier.roll
-made-Trim place side text sight = ap (λ f. f sight) (expr_rolled (layers.Trim place side text))
+resolved-Trim place side text resolver_scope = ap (λ f. f resolver_scope) (expr_rolled (layers.Trim place side text))
 
-pub ruleset made_equations = (made-Null, made-Number, made-Text, made-Name, made-Junction, made-Not, made-Compare, made-IsNull, made-Between, made-In, made-Like, made-Chain, made-Signed, made-Call, made-Parenthesized, made-Subquery, made-Exists, made-Case, made-Cast, made-Coalesce, made-NullIf, made-Function, made-Position, made-Substring, made-Trim)
+pub ruleset resolved_equations = (resolved-Null, resolved-Number, resolved-Text, resolved-Name, resolved-LogicalOperator, resolved-Not, resolved-Compare, resolved-IsNull, resolved-Between, resolved-In, resolved-Like, resolved-OperatorChain, resolved-Signed, resolved-Call, resolved-Parenthesized, resolved-Subquery, resolved-Exists, resolved-Case, resolved-Cast, resolved-Coalesce, resolved-NullIf, resolved-Function, resolved-Position, resolved-Substring, resolved-Trim)
 
 -- CASE, from what is made of its parts
-pub case_by : (e : Expr) (place : Place) (operand : Option Expr) (whens : Several When) (otherwise : Option Expr) (sight : Sight) (first last : Option Made) (branches : Branches)
-    → e ≡ written.Case place operand whens otherwise → first ≡ any_at sight (option_map made_of operand) → branches ≡ branches_of (at sight (several_map when_made whens))
-    → last ≡ any_at sight (option_map made_of otherwise) → case_in first branches last ≡ made_of e sight
-case_by e place operand whens otherwise sight first last branches is f b l =
+pub case_by : (e : Expr) (place : Place) (operand : Option Expr) (whens : Several When) (otherwise : Option Expr) (resolver_scope : ResolverScope) (first last : Option Resolved) (branches : Branches)
+    → e ≡ written.Case place operand whens otherwise → first ≡ any_at resolver_scope (option_map resolve_expr operand) → branches ≡ branches_of (at resolver_scope (several_map resolve_when whens))
+    → last ≡ any_at resolver_scope (option_map resolve_expr otherwise) → case_in first branches last ≡ resolve_expr e resolver_scope
+case_by e place operand whens otherwise resolver_scope first last branches is f b l =
     ap (λ o. case_in o branches last) f
-    ∙ ap (λ bs. case_in (any_at sight (option_map made_of operand)) bs last) b
-    ∙ ap (case_in (any_at sight (option_map made_of operand)) (branches_of (at sight (several_map when_made whens)))) l
-    ∙ sym (made-Case place operand whens otherwise sight)
-    ∙ ap (λ w. made_of w sight) (sym is)
+    ∙ ap (λ bs. case_in (any_at resolver_scope (option_map resolve_expr operand)) bs last) b
+    ∙ ap (case_in (any_at resolver_scope (option_map resolve_expr operand)) (branches_of (at resolver_scope (several_map resolve_when whens)))) l
+    ∙ sym (resolved-Case place operand whens otherwise resolver_scope)
+    ∙ ap (λ w. resolve_expr w resolver_scope) (sym is)
 
 -- ---- parts
 
-pub made_link : (link : Link) (sight : Sight) → link_made link sight ≡ ((out-Link link).operator, made_of (out-Link link).operand sight)
-made_link link sight = ap (λ f. f sight) (fold_out-Link (Of Made) (Of MadePick) (Of (WrittenOperator × Made)) (Of MadeQuery) (Of (Made × Made)) expr_layer pick_layer link_layer select_layer when_layer link)
+pub resolved_chain_link : (chain_link : ChainLink) (resolver_scope : ResolverScope) → resolve_chain_link chain_link resolver_scope ≡ ((out-ChainLink chain_link).operator, resolve_expr (out-ChainLink chain_link).operand resolver_scope)
+resolved_chain_link chain_link resolver_scope = ap (λ f. f resolver_scope) (fold_out-ChainLink (Of Resolved) (Of ShapedPick) (Of (WrittenOperator × Resolved)) (Of ShapedQuery) (Of (Resolved × Resolved)) expr_layer pick_layer chain_link_layer select_layer when_layer chain_link)
 
-pub made_when : (when : When) (sight : Sight) → when_made when sight ≡ (made_of (out-When when).test sight, made_of (out-When when).result sight)
-made_when when sight = ap (λ f. f sight) (fold_out-When (Of Made) (Of MadePick) (Of (WrittenOperator × Made)) (Of MadeQuery) (Of (Made × Made)) expr_layer pick_layer link_layer select_layer when_layer when)
+pub resolved_when : (when : When) (resolver_scope : ResolverScope) → resolve_when when resolver_scope ≡ (resolve_expr (out-When when).test resolver_scope, resolve_expr (out-When when).result resolver_scope)
+resolved_when when resolver_scope = ap (λ f. f resolver_scope) (fold_out-When (Of Resolved) (Of ShapedPick) (Of (WrittenOperator × Resolved)) (Of ShapedQuery) (Of (Resolved × Resolved)) expr_layer pick_layer chain_link_layer select_layer when_layer when)
 
 -- ---- queries
 
-pub pick-All : (place : Place) (sight : Sight) → pick_made (picked.All place) sight ≡ Values (columns_on sight.row)
+pub pick-All : (place : Place) (resolver_scope : ResolverScope) → resolve_pick (picked.All place) resolver_scope ≡ Values (columns_on resolver_scope.row)
 unfolding roll-Pick Carrier.roll
-pick-All place sight = ap (λ f. f sight) (pick_rolled (layers.All place))
+pick-All place resolver_scope = ap (λ f. f resolver_scope) (pick_rolled (layers.All place))
 
-pub pick-Expr : (expr : Expr) (alias : Option Identifier) (sight : Sight) → pick_made (picked.Expr expr alias) sight ≡ Values (made_of expr sight ∷ [])
+pub pick-Expr : (expr : Expr) (alias : Option Identifier) (resolver_scope : ResolverScope) → resolve_pick (picked.Expr expr alias) resolver_scope ≡ Values (resolve_expr expr resolver_scope ∷ [])
 unfolding roll-Pick Carrier.roll
-pick-Expr expr alias sight = ap (λ f. f sight) (pick_rolled (layers.Expr expr alias))
+pick-Expr expr alias resolver_scope = ap (λ f. f resolver_scope) (pick_rolled (layers.Expr expr alias))
 
-pub pick-CountRows : (place : Place) (alias : Option Identifier) (sight : Sight) → pick_made (picked.CountRows place alias) sight ≡ OfAll (set_item sets.Count None) (Value integer)
+pub pick-CountRows : (place : Place) (alias : Option Identifier) (resolver_scope : ResolverScope) → resolve_pick (picked.CountRows place alias) resolver_scope ≡ OfAll (set_item sets.Count None) (Value integer)
 unfolding roll-Pick Carrier.roll
-pick-CountRows place alias sight = ap (λ f. f sight) (pick_rolled (layers.CountRows place alias))
+pick-CountRows place alias resolver_scope = ap (λ f. f resolver_scope) (pick_rolled (layers.CountRows place alias))
 
-pub pick-Aggregate : (place : Place) (function : SetFunction) (argument : Expr) (alias : Option Identifier) (sight : Sight) → pick_made (picked.Aggregate place function argument alias) sight ≡ OfAll (set_item (set_of function) (Some (made_of argument sight).expr)) (shape_of_set function (made_of argument sight).shape)
+pub pick-Aggregate : (place : Place) (function : SetFunction) (argument : Expr) (alias : Option Identifier) (resolver_scope : ResolverScope) → resolve_pick (picked.Aggregate place function argument alias) resolver_scope ≡ OfAll (set_item (set_of function) (Some (resolve_expr argument resolver_scope).expr)) (shape_of_set function (resolve_expr argument resolver_scope).shape)
 unfolding roll-Pick Carrier.roll
-pick-Aggregate place function argument alias sight = ap (λ f. f sight) (pick_rolled (layers.Aggregate place function argument alias))
+pick-Aggregate place function argument alias resolver_scope = ap (λ f. f resolver_scope) (pick_rolled (layers.Aggregate place function argument alias))
 
 pub ruleset pick_equations = (pick-All, pick-Expr, pick-CountRows, pick-Aggregate)
 
 -- what the items and the condition of a query see
-abbrev pub inside : Select → Sight → Sight
-inside q sight = let s = out-Select q in
-    on_row sight (record { name = s.table.name; alias = spelling s.alias; columns = columns_in (table_at sight s.table.name) })
+abbrev pub inside : Select → ResolverScope → ResolverScope
+inside q resolver_scope = let s = out-Select q in
+    on_row resolver_scope (record { name = s.table.name; alias = spelling s.alias; columns = columns_in (table_at resolver_scope s.table.name) })
 
-query_layer : (place : Place) (picks : Several Pick) (table : Identifier) (alias : Option Identifier) (test : Option Expr) (sight : Sight)
-    → select_layer (map-Select Expr Pick Link Select When (Of Made) (Of MadePick) (Of (WrittenOperator × Made)) (Of MadeQuery) (Of (Made × Made)) made_of pick_made link_made query_made when_made (record { place = place; picks = picks; table = table; alias = alias; condition = test })) sight
-    ≡ (let here = table_at sight table.name in
-    let seen = on_row sight (record { name = table.name; alias = spelling alias; columns = columns_in here }) in
-    query_of (number_of here) (all_at seen (map pick_made (picks.first ∷ picks.rest))) (any_at seen (option_map made_of test)))
-query_layer place picks table alias None sight = refl
-query_layer place picks table alias (Some test) sight = refl
+query_layer : (place : Place) (picks : Several Pick) (table : Identifier) (alias : Option Identifier) (test : Option Expr) (resolver_scope : ResolverScope)
+    → select_layer (map-Select Expr Pick ChainLink Select When (Of Resolved) (Of ShapedPick) (Of (WrittenOperator × Resolved)) (Of ShapedQuery) (Of (Resolved × Resolved)) resolve_expr resolve_pick resolve_chain_link resolve_query resolve_when (record { place = place; picks = picks; table = table; alias = alias; condition = test })) resolver_scope
+    ≡ (let here = table_at resolver_scope table.name in
+    let seen = on_row resolver_scope (record { name = table.name; alias = spelling alias; columns = columns_in here }) in
+    query_of (number_of here) (all_at seen (map resolve_pick (picks.first ∷ picks.rest))) (any_at seen (option_map resolve_expr test)))
+query_layer place picks table alias None resolver_scope = refl
+query_layer place picks table alias (Some test) resolver_scope = refl
 
-pub made_query : (q : Select) (sight : Sight) → query_made q sight ≡ (let s = out-Select q in
-    query_in (number_of (table_at sight s.table.name)) (with_picks none_picked (all_at (inside q sight) (map pick_made (s.picks.first ∷ s.picks.rest)))) (any_at (inside q sight) (option_map made_of s.condition)))
-made_query q sight = let o = out-Select q in
-    ap (λ f. f sight) (fold_out-Select (Of Made) (Of MadePick) (Of (WrittenOperator × Made)) (Of MadeQuery) (Of (Made × Made)) expr_layer pick_layer link_layer select_layer when_layer q)
-    ∙ query_layer o.place o.picks o.table o.alias o.condition sight
-    ∙ picks_gathered (number_of (table_at sight o.table.name)) (all_at (inside q sight) (map pick_made (o.picks.first ∷ o.picks.rest))) (any_at (inside q sight) (option_map made_of o.condition))
+pub resolved_query : (q : Select) (resolver_scope : ResolverScope) → resolve_query q resolver_scope ≡ (let s = out-Select q in
+    query_in (number_of (table_at resolver_scope s.table.name)) (with_picks none_picked (all_at (inside q resolver_scope) (map resolve_pick (s.picks.first ∷ s.picks.rest)))) (any_at (inside q resolver_scope) (option_map resolve_expr s.condition)))
+resolved_query q resolver_scope = let o = out-Select q in
+    ap (λ f. f resolver_scope) (fold_out-Select (Of Resolved) (Of ShapedPick) (Of (WrittenOperator × Resolved)) (Of ShapedQuery) (Of (Resolved × Resolved)) expr_layer pick_layer chain_link_layer select_layer when_layer q)
+    ∙ query_layer o.place o.picks o.table o.alias o.condition resolver_scope
+    ∙ picks_gathered (number_of (table_at resolver_scope o.table.name)) (all_at (inside q resolver_scope) (map resolve_pick (o.picks.first ∷ o.picks.rest))) (any_at (inside q resolver_scope) (option_map resolve_expr o.condition))

@@ -5,19 +5,19 @@ use Rattle.std.proofs.lemmas.List.{append_assoc, append-nil, map-append}
 use Rattle.psm_list.specs.Several.{Several}
 use Rattle.psm_value.specs.declared.sqltype.SqlType.{SqlType}
 use Rattle.psm_scope.specs.Rows.{columns_known}
-use Rattle.psm_scope.specs.Frames.{Spelling, is_spelled}
-use Rattle.psm_scope.specs.Lookup.{named, place_named}
+use Rattle.psm_scope.specs.Scopes.{Spelling, is_spelled}
+use Rattle.psm_scope.specs.Lookup.{named, index_named}
 use Rattle.psm_rules.specs.declared.shape.Shape.{Shape}
 use Rattle.psm_rules.specs.declared.shape.Typed.{Typed}
 use Rattle.psm_rules.specs.Shapes.{joined}
-use Rattle.psm_rules.specs.View.{Columns}
+use Rattle.psm_rules.specs.CheckerScope.{Columns}
 use Rattle.psm_resolved.specs.declared.expr.ResolvedExpr.{ResolvedExpr}
 use Rattle.psm_resolved.specs.declared.expr.ResolvedExpr.TheVariants as exprs
 use Rattle.psm_resolved.specs.declared.expr.ResolvedItem.{ResolvedItem}
 use Rattle.psm_resolved.specs.declared.expr.ResolvedQuery.{roll-ResolvedQuery}
-use Rattle.psm_resolve_expr.specs.declared.made.Made.{Made}
-use Rattle.psm_resolve_expr.specs.declared.made.MadeQuery.{MadeQuery}
-use Rattle.psm_resolve_expr.specs.Made.{MadePick, Values, OfAll, joined_in, sets_in, shape_of_type, values_in}
+use Rattle.psm_resolve_expr.specs.declared.resolved.Resolved.{Resolved}
+use Rattle.psm_resolve_expr.specs.declared.resolved.ShapedQuery.{ShapedQuery}
+use Rattle.psm_resolve_expr.specs.Resolved.{ShapedPick, Values, OfAll, joined_in, sets_in, shape_of_type, values_in}
 use Rattle.psm_resolve_expr.specs.Exprs.{case_of, columns_from, columns_in, expr_in, items_of, number_of, optional_in, query_of, result_of_case, shapes_of, shapes_of_else}
 use Rattle.psm_resolve_expr.specs.Parts.{Picked, branches_of, case_in, none_picked, query_in, with_pick, with_picks}
 
@@ -27,18 +27,18 @@ joined-append : (t : Option Typed) (xs ys : List Shape) → joined_in t (xs ++ y
 joined-append t [] ys = refl
 joined-append t (x ∷ xs) ys = joined-append (joined t x) xs ys
 
-pub case_joined : (operand : Option Made) (whens : Several (Made × Made)) (otherwise : Option Made)
+pub case_joined : (operand : Option Resolved) (whens : Several (Resolved × Resolved)) (otherwise : Option Resolved)
     → case_of operand whens otherwise (result_of_case whens otherwise) ≡ case_in operand (branches_of whens) otherwise
 case_joined operand whens otherwise =
     ap (case_of operand whens otherwise) (joined-append None (map (λ w. w.1.shape) (whens.first ∷ whens.rest)) (shapes_of_else otherwise))
 
 -- ---- items of a query
 
--- values and set functions behind those that there are
-abbrev gathered : Picked → List Made → List (ResolvedItem × Shape) → Picked
-gathered p made sets = record {
-  values = p.values ++ map expr_in made;
-  shapes = p.shapes ++ map (λ m. m.shape) made;
+-- values and set functions after those that there are
+abbrev gathered : Picked → List Resolved → List (ResolvedItem × Shape) → Picked
+gathered p resolved sets = record {
+  values = p.values ++ map expr_in resolved;
+  shapes = p.shapes ++ map (λ m. m.shape) resolved;
   sets = p.sets ++ map (λ s. s.0) sets;
   set_shapes = p.set_shapes ++ map (λ s. s.1) sets;
 }
@@ -51,35 +51,35 @@ same v w a b s t c d e f g h = cc
 more : {A B : Type 0} (f : A → B) (old : List B) (xs ys : List A) → (old ++ map f xs) ++ map f ys ≡ old ++ map f (xs ++ ys)
 more f old xs ys = append_assoc old (map f xs) (map f ys) ∙ ap (λ l. old ++ l) (sym (map-append f xs ys))
 
-two_picks : (p : Picked) (xs ys : List Made) → with_pick (with_pick p (Values xs)) (Values ys) ≡ with_pick p (Values (xs ++ ys))
+two_picks : (p : Picked) (xs ys : List Resolved) → with_pick (with_pick p (Values xs)) (Values ys) ≡ with_pick p (Values (xs ++ ys))
 two_picks p xs ys = same _ _ _ _ p.sets p.sets p.set_shapes p.set_shapes (more expr_in p.values xs ys) (more (λ m. m.shape) p.shapes xs ys) refl refl
 
-all_gathered : (p : Picked) (picks : List MadePick) → with_picks p picks ≡ gathered p (values_in picks) (sets_in picks)
+all_gathered : (p : Picked) (picks : List ShapedPick) → with_picks p picks ≡ gathered p (values_in picks) (sets_in picks)
 all_gathered p [] = sym (same _ _ _ _ _ _ _ _ (append-nil p.values) (append-nil p.shapes) (append-nil p.sets) (append-nil p.set_shapes))
-all_gathered p (Values made ∷ picks) =
-    all_gathered (with_pick p (Values made)) picks
-    ∙ same _ _ _ _ _ _ _ _ (more expr_in p.values made (values_in picks)) (more (λ m. m.shape) p.shapes made (values_in picks)) refl refl
+all_gathered p (Values resolved ∷ picks) =
+    all_gathered (with_pick p (Values resolved)) picks
+    ∙ same _ _ _ _ _ _ _ _ (more expr_in p.values resolved (values_in picks)) (more (λ m. m.shape) p.shapes resolved (values_in picks)) refl refl
 all_gathered p (OfAll item shape ∷ picks) =
     all_gathered (with_pick p (OfAll item shape)) picks
     ∙ same _ _ _ _ _ _ _ _ refl refl (append_assoc p.sets (item ∷ []) (map (λ s. s.0) (sets_in picks))) (append_assoc p.set_shapes (shape ∷ []) (map (λ s. s.1) (sets_in picks)))
 
 -- a query of these values and set functions
-abbrev query_with : ℕ → List Made → List (ResolvedItem × Shape) → Option Made → MadeQuery
-query_with table made sets test = record {
-  query = roll-ResolvedQuery (record { table = table; downward = false; items = items_of made sets; test = optional_in test });
-  shapes = shapes_of made sets;
+abbrev query_with : ℕ → List Resolved → List (ResolvedItem × Shape) → Option Resolved → ShapedQuery
+query_with table resolved sets test = record {
+  query = roll-ResolvedQuery (record { table = table; downward = false; items = items_of resolved sets; test = optional_in test });
+  shapes = shapes_of resolved sets;
 }
 
-query_gathered : (table : ℕ) (made : List Made) (sets : List (ResolvedItem × Shape)) (test : Option Made) → query_with table made sets test ≡ query_in table (gathered none_picked made sets) test
-query_gathered table made [] test = refl
-query_gathered table made (s ∷ ss) test = refl
+query_gathered : (table : ℕ) (resolved : List Resolved) (sets : List (ResolvedItem × Shape)) (test : Option Resolved) → query_with table resolved sets test ≡ query_in table (gathered none_picked resolved sets) test
+query_gathered table resolved [] test = refl
+query_gathered table resolved (s ∷ ss) test = refl
 
-pub picks_gathered : (table : ℕ) (picks : List MadePick) (test : Option Made) → query_of table picks test ≡ query_in table (with_picks none_picked picks) test
+pub picks_gathered : (table : ℕ) (picks : List ShapedPick) (test : Option Resolved) → query_of table picks test ≡ query_in table (with_picks none_picked picks) test
 picks_gathered table picks test = query_gathered table (values_in picks) (sets_in picks) test ∙ ap (λ p. query_in table p test) (sym (all_gathered none_picked picks))
 
 -- ---- all columns one by one
 
-abbrev column : ℕ → Option SqlType → Made
+abbrev column : ℕ → Option SqlType → Resolved
 column i kind = record { expr = exprs.Column i; shape = shape_of_type kind }
 
 column_there : (i : ℕ) (columns : Columns) (n : ℕ) (kind : Option SqlType) → option_map (λ p. p.1) (slice_get columns n) ≡ Some kind
@@ -99,12 +99,12 @@ columns_step old new columns n kind e w =
 
 -- ---- tables
 
-pub columns_placed : (i : ℕ) (n : Spelling) (tables : List (Spelling × Columns)) → columns_known (named n tables) ≡ columns_in (place_named i n tables)
+pub columns_placed : (i : ℕ) (n : Spelling) (tables : List (Spelling × Columns)) → columns_known (named n tables) ≡ columns_in (index_named i n tables)
 columns_placed i n [] = refl
 columns_placed i n (t ∷ tables) = by (is_spelled n t.0) (columns_placed (suc i) n tables)
   where
-    by : (b : Bool) → columns_known (named n tables) ≡ columns_in (place_named (suc i) n tables)
-        → columns_known (if b then Some t.1 else named n tables) ≡ columns_in (if b then Some (i, t.1) else place_named (suc i) n tables)
+    by : (b : Bool) → columns_known (named n tables) ≡ columns_in (index_named (suc i) n tables)
+        → columns_known (if b then Some t.1 else named n tables) ≡ columns_in (if b then Some (i, t.1) else index_named (suc i) n tables)
     by true rec = refl
     by false rec = rec
 

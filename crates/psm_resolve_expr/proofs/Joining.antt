@@ -10,7 +10,7 @@ use Rattle.psm_token.specs.declared.place.Place.{Place}
 use Rattle.psm_token.specs.declared.token.Placed.{Placed}
 use Rattle.psm_grammar.specs.Language.{Words, Lang, Test, Many}
 use Rattle.psm_grammar.specs.Grammar.{Spells, lang, nested, words, token, level, seq, or, many, image}
-use Rattle.psm_grammar.specs.Forms.{optional, behind_token, before_token}
+use Rattle.psm_grammar.specs.Forms.{optional, after_token, before_token}
 use Rattle.psm_tree.specs.Tests.{At}
 use Rattle.psm_tree.specs.Parts.{Part, Enclosed, ExistsRest, CaseRest, CastRest, CoalesceRest, NullIfRest, FunctionRest, PositionRest, SubstringRest, TrimRest, V, Inside, Value, Query, Cases}
 use Rattle.psm_tree.specs.Productions.{productions}
@@ -20,7 +20,7 @@ use Rattle.psm_tree.specs.ExprValues as values
 use Rattle.psm_tree.specs.declared.name.Identifier.{Identifier}
 use Rattle.psm_tree.specs.declared.types.DataType.{DataType}
 use Rattle.psm_tree.specs.declared.types.Sign.{Sign}
-use Rattle.psm_tree.specs.declared.expr.Junction.{Junction}
+use Rattle.psm_tree.specs.declared.expr.LogicalOperator.{LogicalOperator}
 use Rattle.psm_tree.specs.declared.expr.Operator.{Operator}
 use Rattle.psm_tree.specs.declared.expr.TextFunction.{TextFunction}
 use Rattle.psm_tree.specs.declared.expr.TrimSide.{TrimSide}
@@ -28,12 +28,12 @@ use Rattle.psm_tree.specs.declared.expr.Expr.{Expr, roll-Expr}
 use Rattle.psm_tree.specs.declared.expr.Expr.TheVariants as exprs
 use Rattle.psm_tree.specs.declared.expr.Expr.TheOpen.{Expr-F}
 use Rattle.psm_tree.specs.declared.expr.Expr.TheOpen as layers
-use Rattle.psm_tree.specs.declared.expr.Expr.TheFolds.{map-Expr, fold-Pick, fold-Select, fold-roll-Expr, fold-roll-Link, fold-roll-When}
-use Rattle.psm_tree.specs.declared.expr.Link.{Link}
+use Rattle.psm_tree.specs.declared.expr.Expr.TheFolds.{map-Expr, fold-Pick, fold-Select, fold-roll-Expr, fold-roll-ChainLink, fold-roll-When}
+use Rattle.psm_tree.specs.declared.expr.ChainLink.{ChainLink}
 use Rattle.psm_tree.specs.declared.expr.When.{When}
 use Rattle.psm_tree.specs.declared.expr.Pick.{Pick}
 use Rattle.psm_tree.specs.declared.expr.Select.{Select}
-use Rattle.psm_resolve_expr.specs.Scales.{are_all, joins, joins_layer, link_joins, link_joins_layer, or_none, pick_none, select_none, when_joins, when_joins_layer}
+use Rattle.psm_resolve_expr.specs.Scales.{are_all, joins, joins_layer, chain_link_joins, chain_link_joins_layer, or_none, pick_none, select_none, when_joins, when_joins_layer}
 
 -- ---- what is claimed
 
@@ -46,11 +46,11 @@ AllJoin es = IsTrue (are_all (map joins es))
 abbrev SeveralJoin : Several Expr → Type 0
 SeveralJoin es = AllJoin (es.first ∷ es.rest)
 
-abbrev LinkJoins : Link → Type 0
-LinkJoins l = IsTrue (link_joins l)
+abbrev ChainLinkJoins : ChainLink → Type 0
+ChainLinkJoins l = IsTrue (chain_link_joins l)
 
-abbrev LinksJoin : List Link → Type 0
-LinksJoin ls = IsTrue (are_all (map link_joins ls))
+abbrev ChainLinksJoin : List ChainLink → Type 0
+ChainLinksJoin ls = IsTrue (are_all (map chain_link_joins ls))
 
 abbrev WhenJoins : When → Type 0
 WhenJoins w = IsTrue (when_joins w)
@@ -67,23 +67,23 @@ LeftJoins p = Joins p.0
 
 -- ---- what each form of expression needs
 
-rolled : (layer : Expr-F Expr Pick Link Select When) → joins (roll-Expr layer) ≡ joins_layer (map-Expr Expr Pick Link Select When Bool (Unit {0}) Bool (Unit {0}) Bool joins (fold-Pick Bool (Unit {0}) Bool (Unit {0}) Bool joins_layer pick_none link_joins_layer select_none when_joins_layer) link_joins (fold-Select Bool (Unit {0}) Bool (Unit {0}) Bool joins_layer pick_none link_joins_layer select_none when_joins_layer) when_joins layer)
-rolled layer = fold-roll-Expr Bool (Unit {0}) Bool (Unit {0}) Bool joins_layer pick_none link_joins_layer select_none when_joins_layer layer
+rolled : (layer : Expr-F Expr Pick ChainLink Select When) → joins (roll-Expr layer) ≡ joins_layer (map-Expr Expr Pick ChainLink Select When Bool (Unit {0}) Bool (Unit {0}) Bool joins (fold-Pick Bool (Unit {0}) Bool (Unit {0}) Bool joins_layer pick_none chain_link_joins_layer select_none when_joins_layer) chain_link_joins (fold-Select Bool (Unit {0}) Bool (Unit {0}) Bool joins_layer pick_none chain_link_joins_layer select_none when_joins_layer) when_joins layer)
+rolled layer = fold-roll-Expr Bool (Unit {0}) Bool (Unit {0}) Bool joins_layer pick_none chain_link_joins_layer select_none when_joins_layer layer
 
 -- of a layer that needs what its parts need
-by_layer : (layer : Expr-F Expr Pick Link Select When) → IsTrue (joins_layer (map-Expr Expr Pick Link Select When Bool (Unit {0}) Bool (Unit {0}) Bool joins (fold-Pick Bool (Unit {0}) Bool (Unit {0}) Bool joins_layer pick_none link_joins_layer select_none when_joins_layer) link_joins (fold-Select Bool (Unit {0}) Bool (Unit {0}) Bool joins_layer pick_none link_joins_layer select_none when_joins_layer) when_joins layer)) → Joins (roll-Expr layer)
+by_layer : (layer : Expr-F Expr Pick ChainLink Select When) → IsTrue (joins_layer (map-Expr Expr Pick ChainLink Select When Bool (Unit {0}) Bool (Unit {0}) Bool joins (fold-Pick Bool (Unit {0}) Bool (Unit {0}) Bool joins_layer pick_none chain_link_joins_layer select_none when_joins_layer) chain_link_joins (fold-Select Bool (Unit {0}) Bool (Unit {0}) Bool joins_layer pick_none chain_link_joins_layer select_none when_joins_layer) when_joins layer)) → Joins (roll-Expr layer)
 by_layer layer h = subst IsTrue (sym (rolled layer)) h
 
 more_than_none : (n : ℕ) → IsTrue (nat_lt 0 (suc n))
 more_than_none n = lt-ltb 0 (suc n) (omega arith)
 
-junction-joins : (junction : Junction) (first next : Expr) (rest : List Expr) → Joins (exprs.Junction junction (record { first = first; rest = next ∷ rest }))
+logical_operator-joins : (logical_operator : LogicalOperator) (first next : Expr) (rest : List Expr) → Joins (exprs.LogicalOperator logical_operator (record { first = first; rest = next ∷ rest }))
 unfolding roll-Expr Carrier.roll
-junction-joins junction first next rest = by_layer (layers.Junction junction (record { first = first; rest = next ∷ rest })) (more_than_none (length (map joins rest)))
+logical_operator-joins logical_operator first next rest = by_layer (layers.LogicalOperator logical_operator (record { first = first; rest = next ∷ rest })) (more_than_none (length (map joins rest)))
 
-chain-joins : (first : Expr) (links : List Link) → IsTrue (joins first && are_all (map link_joins links)) → Joins (exprs.Chain first links)
+operator_chain-joins : (first : Expr) (chain_links : List ChainLink) → IsTrue (joins first && are_all (map chain_link_joins chain_links)) → Joins (exprs.OperatorChain first chain_links)
 unfolding roll-Expr Carrier.roll
-chain-joins first links h = by_layer (layers.Chain first links) h
+operator_chain-joins first chain_links h = by_layer (layers.OperatorChain first chain_links) h
 
 signed-joins : (place : Place) (sign : Sign) (operand : Expr) → Joins operand → Joins (exprs.Signed place sign operand)
 unfolding roll-Expr Carrier.roll
@@ -175,9 +175,9 @@ predicate-joins value (values.In negated list) h = by_layer (layers.In negated v
 predicate-joins value (values.Like negated pattern None) h = by_layer (layers.Like negated value pattern None) refl
 predicate-joins value (values.Like negated pattern (Some escape)) h = by_layer (layers.Like negated value pattern (Some escape)) refl
 
-joined-joins : (junction : Junction) (first : Expr) (rest : List Expr) → Joins first → Joins (values.joined junction first rest)
-joined-joins junction first [] h = h
-joined-joins junction first (next ∷ rest) h = junction-joins junction first next rest
+joined-joins : (logical_operator : LogicalOperator) (first : Expr) (rest : List Expr) → Joins first → Joins (values.joined logical_operator first rest)
+joined-joins logical_operator first [] h = h
+joined-joins logical_operator first (next ∷ rest) h = logical_operator-joins logical_operator first next rest
 
 enclosed-joins : (place : Place) (inside : Inside) → InsideJoins inside → Joins (values.enclosed_of place inside)
 enclosed-joins place (Value e) h = parenthesized-joins place e h
@@ -187,19 +187,19 @@ both : (a b : Bool) → IsTrue a → IsTrue b → IsTrue (a && b)
 both true b h k = k
 both false b h k = absurd cc
 
-chain_of-joins : (first : Expr) (links : List Link) → Joins first → LinksJoin links → Joins (values.chain_of first links)
-chain_of-joins first [] h k = h
-chain_of-joins first (link ∷ links) h k = chain-joins first (link ∷ links) (both (joins first) (are_all (map link_joins (link ∷ links))) h k)
+operator_chain_of-joins : (first : Expr) (chain_links : List ChainLink) → Joins first → ChainLinksJoin chain_links → Joins (values.operator_chain_of first chain_links)
+operator_chain_of-joins first [] h k = h
+operator_chain_of-joins first (chain_link ∷ chain_links) h k = operator_chain-joins first (chain_link ∷ chain_links) (both (joins first) (are_all (map chain_link_joins (chain_link ∷ chain_links))) h k)
 
-link-joins : (operator : Operator) (operand : Expr) → Joins operand → LinkJoins (values.link_of operator operand)
-link-joins operator operand h = subst IsTrue (sym (fold-roll-Link Bool (Unit {0}) Bool (Unit {0}) Bool joins_layer pick_none link_joins_layer select_none when_joins_layer (record { operator = operator; operand = operand }))) h
+chain_link-joins : (operator : Operator) (operand : Expr) → Joins operand → ChainLinkJoins (values.chain_link_of operator operand)
+chain_link-joins operator operand h = subst IsTrue (sym (fold-roll-ChainLink Bool (Unit {0}) Bool (Unit {0}) Bool joins_layer pick_none chain_link_joins_layer select_none when_joins_layer (record { operator = operator; operand = operand }))) h
 
 when-joins : (test result : Expr) → Joins result → WhenJoins (values.when_of test result)
-when-joins test result h = subst IsTrue (sym (fold-roll-When Bool (Unit {0}) Bool (Unit {0}) Bool joins_layer pick_none link_joins_layer select_none when_joins_layer (record { test = test; result = result }))) h
+when-joins test result h = subst IsTrue (sym (fold-roll-When Bool (Unit {0}) Bool (Unit {0}) Bool joins_layer pick_none chain_link_joins_layer select_none when_joins_layer (record { test = test; result = result }))) h
 
 -- ---- what the words of a part say
 
--- what stands behind a token that opens a level
+-- what stands after a token that opens a level
 record Inside-joins (inner : (n : Part) → Lang Placed (V n)) : Type 0 where
   pub enclosed : (w : Words Placed) (x : Inside) → inner Enclosed w x → InsideJoins x
   pub cases : (w : Words Placed) (x : Cases) → inner CaseRest w x → CasesJoin x
@@ -230,14 +230,14 @@ each test L k w (x ∷ xs) l = both (test x) (are_all (map test xs)) (k l.0 x l.
 says_many : {X : Type 0} {p : Gram X} (test : X → Bool) → Says (λ x. IsTrue (test x)) p → Says (λ xs. IsTrue (are_all (map test xs))) (many p)
 says_many {p} test a = record { says = λ inner same i d w xs l. each test (lang inner same d p) (λ v x. a.says inner same i d v x) w xs l }
 
-says_behind : {A X : Type 0} {test : Test Placed A} {p : Gram X} {Q : X → Type 0} → Says Q p → Says Q (behind_token test p)
-says_behind a = says_seq {A = λ x. Unit {0}} (any (λ x. tt)) a (λ x y h k. k)
+says_after : {A X : Type 0} {test : Test Placed A} {p : Gram X} {Q : X → Type 0} → Says Q p → Says Q (after_token test p)
+says_after a = says_seq {A = λ x. Unit {0}} (any (λ x. tt)) a (λ x y h k. k)
 
 says_before : {A X : Type 0} {test : Test Placed A} {p : Gram X} {Q : X → Type 0} → Says Q p → Says Q (before_token p test)
 says_before a = says_seq {B = λ y. Unit {0}} a (any (λ x. tt)) (λ x y h k. h)
 
 says_within : {X : Type 0} {p : Gram X} {Q : X → Type 0} → Says Q p → Says Q (within_parens p)
-says_within a = says_behind (says_before a)
+says_within a = says_after (says_before a)
 
 -- ---- the parts of the grammar of expressions
 
@@ -245,7 +245,7 @@ named-says : Says Joins ExprGrammar.named_primary
 unfolding ExprGrammar.all_expressions
 named-says = says_seq {A = λ x. Unit {0}} {B = λ y. Unit {0}} (any (λ x. tt)) (any (λ y. tt)) (λ x y h k. named-joins x y)
 
--- what stands behind a token that opens a level, whatever it says
+-- what stands after a token that opens a level, whatever it says
 opened : {A Z : Type 0} (n : Part) {test : Test Placed A} {f : A → V n → Z} (Q : Z → Type 0) → ((a : A) (y : V n) → Q (f a y)) → Says Q (level n test f)
 opened n Q k = record { says = λ inner same i d w x l. subst Q (sym l.made) (k l.one l.two) }
 
@@ -273,21 +273,21 @@ factor-says : Says Joins ExprGrammar.factor
 unfolding ExprGrammar.all_expressions
 factor-says = says_or (says_seq {A = λ x. Unit {0}} (any (λ x. tt)) primary-says (λ sign operand h k. signed-joins sign.place sign.value operand k)) primary-says
 
-next_factors-says : Says LinksJoin ExprGrammar.next_factors
+next_factors-says : Says ChainLinksJoin ExprGrammar.next_factors
 unfolding ExprGrammar.all_expressions
-next_factors-says = says_many link_joins (says_seq {A = λ x. Unit {0}} (any (λ x. tt)) factor-says (λ operator operand h k. link-joins operator operand k))
+next_factors-says = says_many chain_link_joins (says_seq {A = λ x. Unit {0}} (any (λ x. tt)) factor-says (λ operator operand h k. chain_link-joins operator operand k))
 
 term-says : Says Joins ExprGrammar.term
 unfolding ExprGrammar.all_expressions
-term-says = says_seq factor-says next_factors-says chain_of-joins
+term-says = says_seq factor-says next_factors-says operator_chain_of-joins
 
-next_terms-says : Says LinksJoin ExprGrammar.next_terms
+next_terms-says : Says ChainLinksJoin ExprGrammar.next_terms
 unfolding ExprGrammar.all_expressions
-next_terms-says = says_many link_joins (says_seq {A = λ x. Unit {0}} (any (λ x. tt)) term-says (λ operator operand h k. link-joins operator operand k))
+next_terms-says = says_many chain_link_joins (says_seq {A = λ x. Unit {0}} (any (λ x. tt)) term-says (λ operator operand h k. chain_link-joins operator operand k))
 
 sum-says : Says Joins ExprGrammar.sum
 unfolding ExprGrammar.all_expressions
-sum-says = says_seq term-says next_terms-says chain_of-joins
+sum-says = says_seq term-says next_terms-says operator_chain_of-joins
 
 predicate-says : Says Joins ExprGrammar.predicate
 unfolding ExprGrammar.all_expressions
@@ -311,9 +311,9 @@ source-says = says_or (says_image {A = λ x. Unit {0}} (any (λ x. tt)) (λ plac
 
 sources-says : Says SeveralJoin ExprGrammar.sources
 unfolding ExprGrammar.all_expressions
-sources-says = says_seq source-says (says_many joins (says_behind source-says)) (λ first rest h k. both (joins first) (are_all (map joins rest)) h k)
+sources-says = says_seq source-says (says_many joins (says_after source-says)) (λ first rest h k. both (joins first) (are_all (map joins rest)) h k)
 
--- ---- what stands behind a token that opens a level
+-- ---- what stands after a token that opens a level
 
 inside-says : Says InsideJoins ExprGrammar.enclosed
 unfolding ExprGrammar.all_expressions
@@ -321,7 +321,7 @@ inside-says = says_or (says_before (says_image {A = λ x. Unit {0}} (any (λ x. 
 
 when-says : Says WhenJoins ExprGrammar.when
 unfolding ExprGrammar.all_expressions
-when-says = says_behind (says_seq expr-says (says_behind source-says) (λ test result h k. when-joins test result k))
+when-says = says_after (says_seq expr-says (says_after source-says) (λ test result h k. when-joins test result k))
 
 abbrev WhensJoin : values.Whens → Type 0
 WhensJoin ws = IsTrue (are_all (map when_joins (ws.whens.first ∷ ws.whens.rest)) && or_none (option_map joins ws.otherwise))
@@ -332,7 +332,7 @@ all_whens-says = says_seq when-says (says_many when_joins when-says) (λ first r
 
 otherwise-says : Says (λ e. IsTrue (or_none (option_map joins e))) (optional ExprGrammar.otherwise)
 unfolding ExprGrammar.all_expressions
-otherwise-says = says_or (says_image (says_behind source-says) (λ e h. h)) (record { says = λ inner same i d w x l. subst (λ e. IsTrue (or_none (option_map joins e))) (sym l.made) refl })
+otherwise-says = says_or (says_image (says_after source-says) (λ e h. h)) (record { says = λ inner same i d w x l. subst (λ e. IsTrue (or_none (option_map joins e))) (sym l.made) refl })
 
 whens-says : Says WhensJoin ExprGrammar.whens
 unfolding ExprGrammar.all_expressions

@@ -36,12 +36,12 @@ use Rattle.psm_rules.specs.declared.shape.Family.TheVariants.{Numbers, Texts}
 use Rattle.psm_rules.specs.Shapes.{at_larger_scale, at_sum_of_scales, family_of, integer, typed}
 use Rattle.psm_resolved.specs.Outcomes.{at_scale, chosen, decided, first_set, of_one, of_others, of_three, of_truth, of_truths, of_two, on_truth, on_values, perhaps_not, valued, with_operand, with_operands}
 use Rattle.psm_resolved.specs.RowValue.{cased, connective, equal_to, joined, likened, part}
-use Rattle.psm_resolved.specs.declared.expr.Junction.{Junction}
-use Rattle.psm_resolve_expr.specs.Made.{scale_in, scale_of_result, shape_of_result, type_in, with_types}
+use Rattle.psm_resolved.specs.declared.expr.LogicalOperator.{LogicalOperator}
+use Rattle.psm_resolve_expr.specs.Resolved.{scale_in, scale_of_result, shape_of_result, type_in, with_types}
 use Rattle.psm_resolve_expr.proofs.Wholes.{Under, Whole, no-scale}
 use Rattle.psm_resolve_expr.specs.Scales.{ComesAtScale, HasScale, IsAtScale}
 
--- ---- what operands come to
+-- ---- what operands evaluate to
 
 pub one-scale : (s t : Shape) (a : Outcome) (f : Datum → Outcome) → ComesAtScale t a → ((d : Datum) → IsAtScale t d → ComesAtScale s (f d)) → ComesAtScale s (of_one f a)
 one-scale s t None f h go = tt
@@ -139,11 +139,11 @@ pub perhaps_not-scale : (s : Shape) (negated : Bool) (a : Outcome) → ComesAtSc
 perhaps_not-scale s false a h = h
 perhaps_not-scale s true a h = truth-scale s _ a
 
-joined-scale : (s : Shape) (j : Junction) (a : Outcome) (others : List Outcome) → ComesAtScale s a → ComesAtScale s (joined j a others)
+joined-scale : (s : Shape) (j : LogicalOperator) (a : Outcome) (others : List Outcome) → ComesAtScale s a → ComesAtScale s (joined j a others)
 joined-scale s j a [] h = h
 joined-scale s j a (b ∷ others) h = joined-scale s j (of_truths (connective j) a b) others (truths-scale s (connective j) a b)
 
-pub two_joined-scale : (s : Shape) (j : Junction) (a b : Outcome) (others : List Outcome) → ComesAtScale s (joined j a (b ∷ others))
+pub two_joined-scale : (s : Shape) (j : LogicalOperator) (a b : Outcome) (others : List Outcome) → ComesAtScale s (joined j a (b ∷ others))
 two_joined-scale s j a b others = joined-scale s j (of_truths (connective j) a b) others (truths-scale s (connective j) a b)
 
 pub likened-scale : (s : Shape) (a pattern : Outcome) (escape : Option Outcome) → ComesAtScale s (likened a pattern escape)

@@ -19,7 +19,7 @@ use Rattle.psm_tree.specs.declared.expr.TextFunction.{TextFunction}
 use Rattle.psm_tree.specs.declared.expr.TextFunction.TheVariants as functions
 use Rattle.psm_tree.specs.declared.expr.SetFunction.{SetFunction}
 use Rattle.psm_tree.specs.declared.expr.SetFunction.TheVariants as sets
-use Rattle.psm_resolve_expr.specs.Made.{joined_in, operated, scale_in, shape_of_result, shape_of_type, type_in, with_types}
+use Rattle.psm_resolve_expr.specs.Resolved.{joined_in, operated, scale_in, shape_of_result, shape_of_type, type_in, with_types}
 use Rattle.psm_resolve_expr.specs.Exprs.{shape_of_set}
 
 abbrev pub WholeType : Typed → Type 0

@@ -1,5 +1,5 @@
-pub mod Sight
-pub mod Made
+pub mod ResolverScope
+pub mod Resolved
 pub mod Exprs
 pub mod Parts
 pub mod Seen

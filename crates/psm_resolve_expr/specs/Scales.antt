@@ -15,13 +15,13 @@ use Rattle.psm_rules.specs.declared.shape.Shape.{Shape}
 use Rattle.psm_rules.specs.declared.shape.Shape.TheVariants.{Value}
 use Rattle.psm_tree.specs.declared.name.Target.{Target}
 use Rattle.psm_tree.specs.declared.expr.Expr.{Expr}
-use Rattle.psm_tree.specs.declared.expr.Expr.TheOpen.{Expr-F, Pick-F, Link-F, Select-F, When-F}
+use Rattle.psm_tree.specs.declared.expr.Expr.TheOpen.{Expr-F, Pick-F, ChainLink-F, Select-F, When-F}
 use Rattle.psm_tree.specs.declared.expr.Expr.TheOpen as layers
-use Rattle.psm_tree.specs.declared.expr.Expr.TheFolds.{fold-Expr, fold-Link, fold-When}
-use Rattle.psm_tree.specs.declared.expr.Link.{Link}
+use Rattle.psm_tree.specs.declared.expr.Expr.TheFolds.{fold-Expr, fold-ChainLink, fold-When}
+use Rattle.psm_tree.specs.declared.expr.ChainLink.{ChainLink}
 use Rattle.psm_tree.specs.declared.expr.When.{When}
-use Rattle.psm_resolve_expr.specs.Sight.{Sight, name_in}
-use Rattle.psm_resolve_expr.specs.Made.{shape_of_type}
+use Rattle.psm_resolve_expr.specs.ResolverScope.{ResolverScope, name_in}
+use Rattle.psm_resolve_expr.specs.Resolved.{shape_of_type}
 
 -- ---- values
 
@@ -38,7 +38,7 @@ abbrev pub OperandAtScale : Shape → Operand → Type 0
 OperandAtScale shape (operands.Value d) = IsAtScale shape d
 OperandAtScale shape (operands.Truth t) = Unit {0}
 
--- if an expression comes to a number, the number has the scale of the expression's shape
+-- if an expression evaluates to a number, the number has the scale of the expression's shape
 abbrev pub ComesAtScale : Shape → Outcome → Type 0
 ComesAtScale shape (Some (Ok x)) = OperandAtScale shape x
 ComesAtScale shape _ = Unit {0}
@@ -52,8 +52,8 @@ HoldsAtScale row vars (Some (lookup.Column i t)) = IfSome (slice_get row i) (IsA
 HoldsAtScale row vars (Some (lookup.Variable v)) = IfSome (slice_get vars v.slot) (IsAtScale (shape_of_type v.kind))
 
 -- the columns and the variables that are seen at a place hold what they are declared for
-abbrev pub HoldAsDeclared : Sight → List Datum → List Datum → Type 0
-HoldAsDeclared sight row vars = (target : Target) → HoldsAtScale row vars (name_in sight target)
+abbrev pub HoldAsDeclared : ResolverScope → List Datum → List Datum → Type 0
+HoldAsDeclared resolver_scope row vars = (target : Target) → HoldsAtScale row vars (name_in resolver_scope target)
 
 -- ---- AND and OR
 
@@ -66,8 +66,8 @@ or_none (Some answer) = answer
 
 -- whether AND and OR stand between two conditions or more, wherever a value may be taken from one of them
 abbrev pub joins_layer : Expr-F Bool (Unit {0}) Bool (Unit {0}) Bool → Bool
-joins_layer (layers.Junction junction operands) = nat_lt 0 (length operands.rest)
-joins_layer (layers.Chain first links) = first && are_all links
+joins_layer (layers.LogicalOperator logical_operator operands) = nat_lt 0 (length operands.rest)
+joins_layer (layers.OperatorChain first chain_links) = first && are_all chain_links
 joins_layer (layers.Signed place sign operand) = operand
 joins_layer (layers.Parenthesized place expr) = expr
 joins_layer (layers.Case place operand whens otherwise) = are_all (whens.first ∷ whens.rest) && or_none otherwise
@@ -78,8 +78,8 @@ joins_layer _ = true
 abbrev pub pick_none : Pick-F Bool (Unit {0}) Bool (Unit {0}) Bool → Unit {0}
 pick_none pick = tt
 
-abbrev pub link_joins_layer : Link-F Bool (Unit {0}) Bool (Unit {0}) Bool → Bool
-link_joins_layer link = link.operand
+abbrev pub chain_link_joins_layer : ChainLink-F Bool (Unit {0}) Bool (Unit {0}) Bool → Bool
+chain_link_joins_layer chain_link = chain_link.operand
 
 abbrev pub select_none : Select-F Bool (Unit {0}) Bool (Unit {0}) Bool → Unit {0}
 select_none select = tt
@@ -88,10 +88,10 @@ abbrev pub when_joins_layer : When-F Bool (Unit {0}) Bool (Unit {0}) Bool → Bo
 when_joins_layer when = when.result
 
 abbrev pub joins : Expr → Bool
-joins = fold-Expr Bool (Unit {0}) Bool (Unit {0}) Bool joins_layer pick_none link_joins_layer select_none when_joins_layer
+joins = fold-Expr Bool (Unit {0}) Bool (Unit {0}) Bool joins_layer pick_none chain_link_joins_layer select_none when_joins_layer
 
-abbrev pub link_joins : Link → Bool
-link_joins = fold-Link Bool (Unit {0}) Bool (Unit {0}) Bool joins_layer pick_none link_joins_layer select_none when_joins_layer
+abbrev pub chain_link_joins : ChainLink → Bool
+chain_link_joins = fold-ChainLink Bool (Unit {0}) Bool (Unit {0}) Bool joins_layer pick_none chain_link_joins_layer select_none when_joins_layer
 
 abbrev pub when_joins : When → Bool
-when_joins = fold-When Bool (Unit {0}) Bool (Unit {0}) Bool joins_layer pick_none link_joins_layer select_none when_joins_layer
+when_joins = fold-When Bool (Unit {0}) Bool (Unit {0}) Bool joins_layer pick_none chain_link_joins_layer select_none when_joins_layer

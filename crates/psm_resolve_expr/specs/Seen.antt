@@ -1,8 +1,8 @@
 -- What is seen at a place as it is kept.
 use Rattle.std.specs.Option.{option_map}
 use Rattle.psm_scope.specs.Rows.{row_table}
-use Rattle.psm_resolve_expr.specs.Sight.{Sight}
-use Rattle.psm_resolve_expr.specs.declared.sight.Sight.{Sight as Kept}
+use Rattle.psm_resolve_expr.specs.ResolverScope.{ResolverScope}
+use Rattle.psm_resolve_expr.specs.declared.resolver_scope.ResolverScope.{ResolverScope as Kept}
 
-abbrev pub seen_at : Kept → Sight
-seen_at s = record { world = s.world.now; frames = s.frames.now; row = option_map row_table s.row }
+abbrev pub seen_at : Kept → ResolverScope
+seen_at s = record { symbols = s.symbols.now; scopes = s.scopes.now; row = option_map row_table s.row }

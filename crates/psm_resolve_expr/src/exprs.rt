@@ -1,40 +1,47 @@
-//! Expressions and queries without names.
+//! Resolved expressions and queries.
 ghost use Rattle.std.specs.Prelude.{◌≡◌, ◌∷◌, ◌++◌, [], IfOk, map, option_map};
 ghost use Rattle.psm_list.specs.Several.{several_map};
-ghost use Rattle.psm_resolve_expr.specs.Exprs.{all_at, any_at, at, chain_of, link_made, link_of, made_of, pick_made, query_made, when_made};
-ghost use Rattle.psm_resolve_expr.specs.Made.{operated};
+ghost use Rattle.psm_resolve_expr.specs.Exprs.{all_at, any_at, at, operator_chain_of, resolve_chain_link, chain_link_of, resolve_expr, resolve_pick, resolve_query, resolve_when};
+ghost use Rattle.psm_resolve_expr.specs.Resolved.{operated};
 ghost use Rattle.psm_resolve_expr.specs.Parts.{arguments_of, branch_of, branches_of, none_picked, operands_of, with_pick, with_picks};
 ghost use Rattle.psm_resolve_expr.specs.Seen.{seen_at};
 
 use crate::forms;
-use crate::made::{Made, MadeQuery};
 use crate::parts::{Arguments, Branch, Branches, Operands, push_operand, when_then};
 use crate::picks::Picks;
-use crate::sight::{Sight, on_row, table_columns, table_number};
+use crate::resolved::{Resolved, ShapedQuery};
+use crate::resolver_scope::{ResolverScope, on_row, table_columns, table_number};
 use psm_check_expr::row_of;
 use psm_list::{Boxed, List, OneOrMore};
-use psm_resolved::{ResolvedExpr, ResolvedLink};
+use psm_resolved::{ResolvedExpr, ResolvedOperation};
 use psm_rules::{Shape, joined};
-use psm_tree::{Expr, Link, Pick, Select, When};
+use psm_tree::{ChainLink, Expr, Pick, Select, When};
 use std::alloc::{AllocError, Global};
 
-/// The expression without names that stands for an expression at a place, and the shape of its value. Fails only without memory.
+/// The resolved expression that stands for an expression at a place, and the shape of its value. Fails only without memory.
 #[cycle(expression)]
-#[tactic(auto, using(crate::proofs::Equations::made_equations))]
-pub fn made_of(alloc: Global, e: &Expr, sight: Sight) -> Result<Made, AllocError>
-    ensures { IfOk result (λ m. m ≡ made_of e.now (seen_at sight.entry)) }
+#[tactic(auto, using(crate::proofs::Equations::resolved_equations))]
+pub fn resolve_expr(
+    alloc: Global,
+    e: &Expr,
+    resolver_scope: ResolverScope,
+) -> Result<Resolved, AllocError>
+    ensures { IfOk result (λ m. m ≡ resolve_expr e.now (seen_at resolver_scope.entry)) }
 {
     match e {
         Expr::Null { .. } => forms::null(alloc),
         Expr::Number { value, .. } => forms::number(alloc, *value),
         Expr::Text { value, .. } => forms::text(alloc, value),
-        Expr::Name(target) => forms::name(alloc, sight, target),
-        Expr::Junction { junction, operands } => {
-            let operands = operands_made(alloc, operands, sight)?;
-            forms::junction(alloc, *junction, operands)
+        Expr::Name(target) => forms::name(alloc, resolver_scope, target),
+        Expr::LogicalOperator {
+            logical_operator,
+            operands,
+        } => {
+            let operands = resolve_operands(alloc, operands, resolver_scope)?;
+            forms::logical_operator(alloc, *logical_operator, operands)
         }
         Expr::Not { condition, .. } => {
-            let negated = made_of(alloc, condition.get(), sight)?;
+            let negated = resolve_expr(alloc, condition.get(), resolver_scope)?;
             forms::not(alloc, negated)
         }
         Expr::Compare {
@@ -42,12 +49,12 @@ pub fn made_of(alloc: Global, e: &Expr, sight: Sight) -> Result<Made, AllocError
             left,
             right,
         } => {
-            let left = made_of(alloc, left.get(), sight)?;
-            let right = made_of(alloc, right.get(), sight)?;
+            let left = resolve_expr(alloc, left.get(), resolver_scope)?;
+            let right = resolve_expr(alloc, right.get(), resolver_scope)?;
             forms::compare(alloc, *operator, left, right)
         }
         Expr::IsNull { negated, value } => {
-            let value = made_of(alloc, value.get(), sight)?;
+            let value = resolve_expr(alloc, value.get(), resolver_scope)?;
             forms::is_null(alloc, *negated, value)
         }
         Expr::Between {
@@ -56,9 +63,9 @@ pub fn made_of(alloc: Global, e: &Expr, sight: Sight) -> Result<Made, AllocError
             low,
             high,
         } => {
-            let value = made_of(alloc, value.get(), sight)?;
-            let low = made_of(alloc, low.get(), sight)?;
-            let high = made_of(alloc, high.get(), sight)?;
+            let value = resolve_expr(alloc, value.get(), resolver_scope)?;
+            let low = resolve_expr(alloc, low.get(), resolver_scope)?;
+            let high = resolve_expr(alloc, high.get(), resolver_scope)?;
             forms::between(alloc, *negated, value, low, high)
         }
         Expr::In {
@@ -66,8 +73,8 @@ pub fn made_of(alloc: Global, e: &Expr, sight: Sight) -> Result<Made, AllocError
             value,
             list,
         } => {
-            let value = made_of(alloc, value.get(), sight)?;
-            let list = operands_made(alloc, list, sight)?;
+            let value = resolve_expr(alloc, value.get(), resolver_scope)?;
+            let list = resolve_operands(alloc, list, resolver_scope)?;
             forms::among(alloc, *negated, value, list)
         }
         Expr::Like {
@@ -76,33 +83,33 @@ pub fn made_of(alloc: Global, e: &Expr, sight: Sight) -> Result<Made, AllocError
             pattern,
             escape,
         } => {
-            let value = made_of(alloc, value.get(), sight)?;
-            let pattern = made_of(alloc, pattern.get(), sight)?;
-            let escape = optional_made(alloc, escape, sight)?;
+            let value = resolve_expr(alloc, value.get(), resolver_scope)?;
+            let pattern = resolve_expr(alloc, pattern.get(), resolver_scope)?;
+            let escape = resolve_optional(alloc, escape, resolver_scope)?;
             forms::like(alloc, *negated, value, pattern, escape)
         }
-        Expr::Chain { first, links } => {
-            let first = made_of(alloc, first.get(), sight)?;
-            chain_made(alloc, links, sight, first)
+        Expr::OperatorChain { first, chain_links } => {
+            let first = resolve_expr(alloc, first.get(), resolver_scope)?;
+            resolve_operator_chain(alloc, chain_links, resolver_scope, first)
         }
         Expr::Signed { sign, operand, .. } => {
-            let operand = made_of(alloc, operand.get(), sight)?;
+            let operand = resolve_expr(alloc, operand.get(), resolver_scope)?;
             forms::signed(alloc, *sign, operand)
         }
         Expr::Call {
             function,
             arguments,
         } => {
-            let arguments = arguments_made(alloc, arguments, sight)?;
-            forms::called(alloc, sight, function, arguments)
+            let arguments = resolve_arguments(alloc, arguments, resolver_scope)?;
+            forms::called(alloc, resolver_scope, function, arguments)
         }
-        Expr::Parenthesized { expr, .. } => made_of(alloc, expr.get(), sight),
+        Expr::Parenthesized { expr, .. } => resolve_expr(alloc, expr.get(), resolver_scope),
         Expr::Subquery { query, .. } => {
-            let query = query_made(alloc, query.get(), sight)?;
+            let query = resolve_query(alloc, query.get(), resolver_scope)?;
             forms::scalar(alloc, query)
         }
         Expr::Exists { query, .. } => {
-            let query = query_made(alloc, query.get(), sight)?;
+            let query = resolve_query(alloc, query.get(), resolver_scope)?;
             forms::exists(alloc, query)
         }
         Expr::Case {
@@ -111,22 +118,22 @@ pub fn made_of(alloc: Global, e: &Expr, sight: Sight) -> Result<Made, AllocError
             otherwise,
             ..
         } => {
-            let operand = optional_made(alloc, operand, sight)?;
-            let branches = branches_made(alloc, whens, sight)?;
-            let otherwise = optional_made(alloc, otherwise, sight)?;
+            let operand = resolve_optional(alloc, operand, resolver_scope)?;
+            let branches = resolve_branches(alloc, whens, resolver_scope)?;
+            let otherwise = resolve_optional(alloc, otherwise, resolver_scope)?;
             forms::case(alloc, operand, branches, otherwise)
         }
         Expr::Cast { source, to, .. } => {
-            let source = made_of(alloc, source.get(), sight)?;
+            let source = resolve_expr(alloc, source.get(), resolver_scope)?;
             forms::cast(alloc, source, to)
         }
         Expr::Coalesce { values, .. } => {
-            let values = operands_made(alloc, values, sight)?;
+            let values = resolve_operands(alloc, values, resolver_scope)?;
             forms::coalesce(alloc, values)
         }
         Expr::NullIf { left, right, .. } => {
-            let left = made_of(alloc, left.get(), sight)?;
-            let right = made_of(alloc, right.get(), sight)?;
+            let left = resolve_expr(alloc, left.get(), resolver_scope)?;
+            let right = resolve_expr(alloc, right.get(), resolver_scope)?;
             forms::null_if(alloc, left, right)
         }
         Expr::Function {
@@ -134,12 +141,12 @@ pub fn made_of(alloc: Global, e: &Expr, sight: Sight) -> Result<Made, AllocError
             argument,
             ..
         } => {
-            let argument = made_of(alloc, argument.get(), sight)?;
+            let argument = resolve_expr(alloc, argument.get(), resolver_scope)?;
             forms::text_function(alloc, *function, argument)
         }
         Expr::Position { part, whole, .. } => {
-            let part = made_of(alloc, part.get(), sight)?;
-            let whole = made_of(alloc, whole.get(), sight)?;
+            let part = resolve_expr(alloc, part.get(), resolver_scope)?;
+            let whole = resolve_expr(alloc, whole.get(), resolver_scope)?;
             forms::position(alloc, part, whole)
         }
         Expr::Substring {
@@ -148,66 +155,66 @@ pub fn made_of(alloc: Global, e: &Expr, sight: Sight) -> Result<Made, AllocError
             length,
             ..
         } => {
-            let text = made_of(alloc, text.get(), sight)?;
-            let from = made_of(alloc, from.get(), sight)?;
-            let length = optional_made(alloc, length, sight)?;
+            let text = resolve_expr(alloc, text.get(), resolver_scope)?;
+            let from = resolve_expr(alloc, from.get(), resolver_scope)?;
+            let length = resolve_optional(alloc, length, resolver_scope)?;
             forms::substring(alloc, text, from, length)
         }
         Expr::Trim { side, text, .. } => {
-            let text = made_of(alloc, text.get(), sight)?;
+            let text = resolve_expr(alloc, text.get(), resolver_scope)?;
             forms::trim(alloc, *side, text)
         }
     }
 }
 
 #[cycle(expression)]
-fn optional_made(
+fn resolve_optional(
     alloc: Global,
     e: &Option<Boxed<Expr>>,
-    sight: Sight,
-) -> Result<Option<Made>, AllocError>
-    ensures { IfOk result (λ m. m ≡ any_at (seen_at sight.entry) (option_map made_of e.now)) }
+    resolver_scope: ResolverScope,
+) -> Result<Option<Resolved>, AllocError>
+    ensures { IfOk result (λ m. m ≡ any_at (seen_at resolver_scope.entry) (option_map resolve_expr e.now)) }
 {
     match e {
         None => Ok(None),
         Some(e) => {
-            let made = made_of(alloc, e.get(), sight)?;
-            Ok(Some(made))
+            let resolved = resolve_expr(alloc, e.get(), resolver_scope)?;
+            Ok(Some(resolved))
         }
     }
 }
 
 // ---- lists of expressions
 
-// Puts an expression behind others; the shape is its own.
+// Puts an expression after others; the shape is its own.
 #[cycle(expression)]
-fn push_made(
+fn resolve_push(
     alloc: Global,
     e: &Expr,
-    sight: Sight,
+    resolver_scope: ResolverScope,
     exprs: &mut Vec<Boxed<ResolvedExpr>>,
 ) -> Result<Shape, AllocError>
-    ensures exprs { IfOk result (λ _. exprs.new.items ≡ exprs.old.items ++ (made_of e.now (seen_at sight.entry)).expr ∷ []) }
-    ensures shape { IfOk result (λ s. s ≡ (made_of e.now (seen_at sight.entry)).shape) }
+    ensures exprs { IfOk result (λ _. exprs.new.items ≡ exprs.old.items ++ (resolve_expr e.now (seen_at resolver_scope.entry)).expr ∷ []) }
+    ensures shape { IfOk result (λ s. s ≡ (resolve_expr e.now (seen_at resolver_scope.entry)).shape) }
 {
-    let made = made_of(alloc, e, sight)?;
-    exprs.push(made.expr)?;
-    Ok(made.shape)
+    let resolved = resolve_expr(alloc, e, resolver_scope)?;
+    exprs.push(resolved.expr)?;
+    Ok(resolved.shape)
 }
 
 #[cycle(expression)]
-fn operands_made(
+fn resolve_operands(
     alloc: Global,
     list: &OneOrMore<Boxed<Expr>>,
-    sight: Sight,
+    resolver_scope: ResolverScope,
 ) -> Result<Operands, AllocError>
-    ensures { IfOk result (λ o. o ≡ operands_of (at (seen_at sight.entry) (several_map made_of list.now))) }
+    ensures { IfOk result (λ o. o ≡ operands_of (at (seen_at resolver_scope.entry) (several_map resolve_expr list.now))) }
 {
-    let first = made_of(alloc, list.first.get(), sight)?;
+    let first = resolve_expr(alloc, list.first.get(), resolver_scope)?;
     let mut result = joined(None, first.shape);
     let mut rest = Vec::new(alloc);
     for e in list.rest.items() {
-        let shape = push_made(alloc, e.get(), sight, &mut rest)?;
+        let shape = resolve_push(alloc, e.get(), resolver_scope, &mut rest)?;
         result = joined(result, shape);
     }
     Ok(Operands {
@@ -217,17 +224,17 @@ fn operands_made(
 }
 
 #[cycle(expression)]
-fn arguments_made(
+fn resolve_arguments(
     alloc: Global,
     list: &List<Boxed<Expr>>,
-    sight: Sight,
+    resolver_scope: ResolverScope,
 ) -> Result<Arguments, AllocError>
-    ensures { IfOk result (λ a. a ≡ arguments_of (all_at (seen_at sight.entry) (map made_of list.now))) }
+    ensures { IfOk result (λ a. a ≡ arguments_of (all_at (seen_at resolver_scope.entry) (map resolve_expr list.now))) }
 {
     let mut exprs = Vec::new(alloc);
     let mut kinds = Vec::new(alloc);
     for e in list.items() {
-        let shape = push_made(alloc, e.get(), sight, &mut exprs)?;
+        let shape = resolve_push(alloc, e.get(), resolver_scope, &mut exprs)?;
         kinds.push(shape.kind())?;
     }
     Ok(Arguments {
@@ -239,54 +246,54 @@ fn arguments_made(
 // ---- chains
 
 #[cycle(expression)]
-fn chain_made(
+fn resolve_operator_chain(
     alloc: Global,
-    links: &List<Link>,
-    sight: Sight,
-    first: Made,
-) -> Result<Made, AllocError>
-    ensures { IfOk result (λ m. m ≡ chain_of first (all_at (seen_at sight.entry) (map link_made links.now))) }
+    chain_links: &List<ChainLink>,
+    resolver_scope: ResolverScope,
+    first: Resolved,
+) -> Result<Resolved, AllocError>
+    ensures { IfOk result (λ m. m ≡ operator_chain_of first (all_at (seen_at resolver_scope.entry) (map resolve_chain_link chain_links.now))) }
 {
     let mut shape = first.shape;
-    let mut made = Vec::new(alloc);
-    for link in links.items() {
-        shape = push_link(alloc, link, sight, shape, &mut made)?;
+    let mut resolved = Vec::new(alloc);
+    for chain_link in chain_links.items() {
+        shape = push_chain_link(alloc, chain_link, resolver_scope, shape, &mut resolved)?;
     }
-    forms::chain(alloc, first.expr, List::of(made), shape)
+    forms::operator_chain(alloc, first.expr, List::of(resolved), shape)
 }
 
-// Puts a link behind others; the shape is that of the chain with it.
+// Puts a link after others; the shape is that of the chain with it.
 #[cycle(expression)]
-#[tactic(auto, using(crate::proofs::Equations::made_link))]
-fn push_link(
+#[tactic(auto, using(crate::proofs::Equations::resolved_chain_link))]
+fn push_chain_link(
     alloc: Global,
-    link: &Link,
-    sight: Sight,
+    chain_link: &ChainLink,
+    resolver_scope: ResolverScope,
     left: Shape,
-    links: &mut Vec<ResolvedLink>,
+    chain_links: &mut Vec<ResolvedOperation>,
 ) -> Result<Shape, AllocError>
-    ensures links { IfOk result (λ _. links.new.items ≡ links.old.items ++ link_of (link_made link.now (seen_at sight.entry)) ∷ []) }
-    ensures shape { IfOk result (λ s. s ≡ operated (link_made link.now (seen_at sight.entry)).0 left (link_made link.now (seen_at sight.entry)).1.shape) }
+    ensures chain_links { IfOk result (λ _. chain_links.new.items ≡ chain_links.old.items ++ chain_link_of (resolve_chain_link chain_link.now (seen_at resolver_scope.entry)) ∷ []) }
+    ensures shape { IfOk result (λ s. s ≡ operated (resolve_chain_link chain_link.now (seen_at resolver_scope.entry)).0 left (resolve_chain_link chain_link.now (seen_at resolver_scope.entry)).1.shape) }
 {
-    let operand = made_of(alloc, link.operand.get(), sight)?;
-    push_operand(links, link.operator, left, operand)
+    let operand = resolve_expr(alloc, chain_link.operand.get(), resolver_scope)?;
+    push_operand(chain_links, chain_link.operator, left, operand)
 }
 
 // ---- CASE
 
 #[cycle(expression)]
-fn branches_made(
+fn resolve_branches(
     alloc: Global,
     whens: &OneOrMore<Boxed<When>>,
-    sight: Sight,
+    resolver_scope: ResolverScope,
 ) -> Result<Branches, AllocError>
-    ensures { IfOk result (λ b. b ≡ branches_of (at (seen_at sight.entry) (several_map when_made whens.now))) }
+    ensures { IfOk result (λ b. b ≡ branches_of (at (seen_at resolver_scope.entry) (several_map resolve_when whens.now))) }
 {
-    let first = branch_made(alloc, whens.first.get(), sight)?;
+    let first = resolve_branch(alloc, whens.first.get(), resolver_scope)?;
     let mut result = joined(None, first.shape);
     let mut rest = Vec::new(alloc);
     for when in whens.rest.items() {
-        let branch = branch_made(alloc, when.get(), sight)?;
+        let branch = resolve_branch(alloc, when.get(), resolver_scope)?;
         result = joined(result, branch.shape);
         rest.push(branch.when)?;
     }
@@ -297,58 +304,71 @@ fn branches_made(
 }
 
 #[cycle(expression)]
-#[tactic(auto, using(crate::proofs::Equations::made_when))]
-fn branch_made(alloc: Global, when: &When, sight: Sight) -> Result<Branch, AllocError>
-    ensures { IfOk result (λ b. b ≡ branch_of (when_made when.now (seen_at sight.entry))) }
+#[tactic(auto, using(crate::proofs::Equations::resolved_when))]
+fn resolve_branch(
+    alloc: Global,
+    when: &When,
+    resolver_scope: ResolverScope,
+) -> Result<Branch, AllocError>
+    ensures { IfOk result (λ b. b ≡ branch_of (resolve_when when.now (seen_at resolver_scope.entry))) }
 {
-    let test = made_of(alloc, when.test.get(), sight)?;
-    let result = made_of(alloc, when.result.get(), sight)?;
+    let test = resolve_expr(alloc, when.test.get(), resolver_scope)?;
+    let result = resolve_expr(alloc, when.result.get(), resolver_scope)?;
     when_then(alloc, test, result)
 }
 
 // ---- queries
 
-/// The query without names that stands for a query at a place, and the shapes of its items (ISO/IEC 9075:1992, 7.9). Fails only
+/// The resolved query that stands for a query at a place, and the shapes of its items (ISO/IEC 9075:1992, 7.9). Fails only
 /// without memory.
 #[cycle(expression)]
-#[tactic(auto, using(crate::proofs::Equations::made_query))]
-pub fn query_made(alloc: Global, query: &Select, sight: Sight) -> Result<MadeQuery, AllocError>
-    ensures { IfOk result (λ q. q ≡ query_made query.now (seen_at sight.entry)) }
+#[tactic(auto, using(crate::proofs::Equations::resolved_query))]
+pub fn resolve_query(
+    alloc: Global,
+    query: &Select,
+    resolver_scope: ResolverScope,
+) -> Result<ShapedQuery, AllocError>
+    ensures { IfOk result (λ q. q ≡ resolve_query query.now (seen_at resolver_scope.entry)) }
 {
-    let columns = table_columns(sight, &query.table.name);
-    let inside = on_row(sight, row_of(query, columns));
-    let picks = picks_made(alloc, &query.picks, inside)?;
-    let test = optional_made(alloc, &query.condition, inside)?;
-    let table = table_number(sight, &query.table.name);
+    let columns = table_columns(resolver_scope, &query.table.name);
+    let inside = on_row(resolver_scope, row_of(query, columns));
+    let picks = resolve_picks(alloc, &query.picks, inside)?;
+    let test = resolve_optional(alloc, &query.condition, inside)?;
+    let table = table_number(resolver_scope, &query.table.name);
     picks.into_query(alloc, table, test)
 }
 
 #[cycle(expression)]
-fn picks_made(
+fn resolve_picks(
     alloc: Global,
     list: &OneOrMore<Boxed<Pick>>,
-    sight: Sight,
+    resolver_scope: ResolverScope,
 ) -> Result<Picks, AllocError>
-    ensures { IfOk result (λ p. p ≡ with_picks none_picked (all_at (seen_at sight.entry) (map pick_made (list.now.first ∷ list.now.rest)))) }
+    ensures { IfOk result (λ p. p ≡ with_picks none_picked (all_at (seen_at resolver_scope.entry) (map resolve_pick (list.now.first ∷ list.now.rest)))) }
 {
     let mut picks = Picks::new(alloc);
-    push_pick(alloc, list.first.get(), sight, &mut picks)?;
+    push_pick(alloc, list.first.get(), resolver_scope, &mut picks)?;
     for pick in list.rest.items() {
-        push_pick(alloc, pick.get(), sight, &mut picks)?;
+        push_pick(alloc, pick.get(), resolver_scope, &mut picks)?;
     }
     Ok(picks)
 }
 
 #[cycle(expression)]
 #[tactic(auto, using(crate::proofs::Equations::pick_equations))]
-fn push_pick(alloc: Global, pick: &Pick, sight: Sight, picks: &mut Picks) -> Result<(), AllocError>
-    ensures { IfOk result (λ _. picks.new ≡ with_pick picks.old (pick_made pick.now (seen_at sight.entry))) }
+fn push_pick(
+    alloc: Global,
+    pick: &Pick,
+    resolver_scope: ResolverScope,
+    picks: &mut Picks,
+) -> Result<(), AllocError>
+    ensures { IfOk result (λ _. picks.new ≡ with_pick picks.old (resolve_pick pick.now (seen_at resolver_scope.entry))) }
 {
     match pick {
-        Pick::All { .. } => picks.push_row(alloc, sight),
+        Pick::All { .. } => picks.push_row(alloc, resolver_scope),
         Pick::Expr { expr, .. } => {
-            let made = made_of(alloc, expr.get(), sight)?;
-            picks.push_value(made)
+            let resolved = resolve_expr(alloc, expr.get(), resolver_scope)?;
+            picks.push_value(resolved)
         }
         Pick::CountRows { .. } => picks.push_count(),
         Pick::Aggregate {
@@ -356,8 +376,8 @@ fn push_pick(alloc: Global, pick: &Pick, sight: Sight, picks: &mut Picks) -> Res
             argument,
             ..
         } => {
-            let made = made_of(alloc, argument.get(), sight)?;
-            picks.push_aggregate(*function, made)
+            let resolved = resolve_expr(alloc, argument.get(), resolver_scope)?;
+            picks.push_aggregate(*function, resolved)
         }
     }
 }

@@ -6,45 +6,47 @@ ghost use Rattle.psm_rules.specs.ExprFaults.{text_result};
 ghost use Rattle.psm_rules.specs.Shapes.{character, integer, of_literal, typed, varying};
 ghost use Rattle.psm_rules.specs.Types.{type_of};
 ghost use Rattle.psm_scope.specs.Routines.{function};
-ghost use Rattle.psm_resolve_expr.specs.Sight.{name_in};
+ghost use Rattle.psm_resolve_expr.specs.ResolverScope.{name_in};
 ghost use Rattle.psm_resolve_expr.specs.Seen.{seen_at};
-ghost use Rattle.psm_resolve_expr.specs.Made.{called, of_meaning, scale_of_result, shape_of_result};
+ghost use Rattle.psm_resolve_expr.specs.Resolved.{called, of_meaning, scale_of_result, shape_of_result};
 ghost use Rattle.psm_resolve_expr.specs.Parts.{case_in};
-ghost use Rattle.psm_resolve_expr.specs.Exprs.{comparison_of, condition, function_of, junction_of, only_shape, optional_in, side_of, signed, type_known, value};
+ghost use Rattle.psm_resolve_expr.specs.Exprs.{comparison_of, condition, function_of, logical_operator_of, only_shape, optional_in, side_of, signed, type_known, value};
 
-use crate::made::{Made, MadeQuery, boxed, optional_in};
-use crate::operators::{comparison_of, function_of, junction_of, side_of};
+use crate::operators::{comparison_of, function_of, logical_operator_of, side_of};
 use crate::parts::{Arguments, Branches, Operands};
+use crate::resolved::{Resolved, ShapedQuery, boxed, optional_in};
+use crate::resolver_scope::{ResolverScope, name_in};
 use crate::shapes::{
     joined_else, only_shape, scale_of_result, shape_of_result, shape_of_type, type_known,
 };
-use crate::sight::{Sight, name_in};
 use psm_check_expr::{text_result, type_of};
 use psm_list::{Boxed, List};
 use psm_num::Dec;
-use psm_resolved::{ResolvedExpr, ResolvedLink};
+use psm_resolved::{ResolvedExpr, ResolvedOperation};
 use psm_rules::{CHARACTER, INTEGER, Shape, VARYING, of_literal, typed};
 use psm_scope::Meant;
 use psm_text::Text;
-use psm_tree::{Comparison, DataType, Identifier, Junction, Sign, Target, TextFunction, TrimSide};
+use psm_tree::{
+    Comparison, DataType, Identifier, LogicalOperator, Sign, Target, TextFunction, TrimSide,
+};
 use std::alloc::{AllocError, Global};
 
 // ---- constants and names
 
-pub(crate) fn null(alloc: Global) -> Result<Made, AllocError>
+pub(crate) fn null(alloc: Global) -> Result<Resolved, AllocError>
     ensures { IfOk result (λ m. m ≡ record { expr = exprs.Null; shape = Untyped }) }
 {
     boxed(alloc, ResolvedExpr::Null, Shape::Untyped)
 }
 
-pub(crate) fn number(alloc: Global, number: Dec) -> Result<Made, AllocError>
+pub(crate) fn number(alloc: Global, number: Dec) -> Result<Resolved, AllocError>
     ensures { IfOk result (λ m. m ≡ value (of_literal number) (exprs.Number number)) }
 {
     let shape = Shape::Value(of_literal(number));
     boxed(alloc, ResolvedExpr::Number(number), shape)
 }
 
-pub(crate) fn text(alloc: Global, text: &Text) -> Result<Made, AllocError>
+pub(crate) fn text(alloc: Global, text: &Text) -> Result<Resolved, AllocError>
     ensures { IfOk result (λ m. m ≡ value character (exprs.Text text.now)) }
 {
     let text = text.copy(alloc)?;
@@ -52,10 +54,14 @@ pub(crate) fn text(alloc: Global, text: &Text) -> Result<Made, AllocError>
 }
 
 /// What a name means: a column or a variable.
-pub(crate) fn name(alloc: Global, sight: Sight, target: &Target) -> Result<Made, AllocError>
-    ensures { IfOk result (λ m. m ≡ of_meaning (name_in (seen_at sight.entry) target.now)) }
+pub(crate) fn name(
+    alloc: Global,
+    resolver_scope: ResolverScope,
+    target: &Target,
+) -> Result<Resolved, AllocError>
+    ensures { IfOk result (λ m. m ≡ of_meaning (name_in (seen_at resolver_scope.entry) target.now)) }
 {
-    match name_in(sight, target) {
+    match name_in(resolver_scope, target) {
         None => null(alloc),
         Some(Meant::Column(number, kind)) => {
             let shape = shape_of_type(kind);
@@ -70,21 +76,21 @@ pub(crate) fn name(alloc: Global, sight: Sight, target: &Target) -> Result<Made,
 
 // ---- conditions
 
-pub(crate) fn junction(
+pub(crate) fn logical_operator(
     alloc: Global,
-    junction: Junction,
+    logical_operator: LogicalOperator,
     operands: Operands,
-) -> Result<Made, AllocError>
-    ensures { IfOk result (λ m. m ≡ condition (exprs.Junction (junction_of junction) operands.exprs)) }
+) -> Result<Resolved, AllocError>
+    ensures { IfOk result (λ m. m ≡ condition (exprs.LogicalOperator (logical_operator_of logical_operator) operands.exprs)) }
 {
-    let expr = ResolvedExpr::Junction {
-        junction: junction_of(junction),
+    let expr = ResolvedExpr::LogicalOperator {
+        logical_operator: logical_operator_of(logical_operator),
         operands: operands.exprs,
     };
     boxed(alloc, expr, Shape::Condition)
 }
 
-pub(crate) fn not(alloc: Global, negated: Made) -> Result<Made, AllocError>
+pub(crate) fn not(alloc: Global, negated: Resolved) -> Result<Resolved, AllocError>
     ensures { IfOk result (λ m. m ≡ condition (exprs.Not negated.expr)) }
 {
     boxed(alloc, ResolvedExpr::Not(negated.expr), Shape::Condition)
@@ -93,9 +99,9 @@ pub(crate) fn not(alloc: Global, negated: Made) -> Result<Made, AllocError>
 pub(crate) fn compare(
     alloc: Global,
     operator: Comparison,
-    left: Made,
-    right: Made,
-) -> Result<Made, AllocError>
+    left: Resolved,
+    right: Resolved,
+) -> Result<Resolved, AllocError>
     ensures { IfOk result (λ m. m ≡ condition (exprs.Compare (comparison_of operator) left.expr right.expr)) }
 {
     let expr = ResolvedExpr::Compare {
@@ -106,7 +112,7 @@ pub(crate) fn compare(
     boxed(alloc, expr, Shape::Condition)
 }
 
-pub(crate) fn is_null(alloc: Global, negated: bool, value: Made) -> Result<Made, AllocError>
+pub(crate) fn is_null(alloc: Global, negated: bool, value: Resolved) -> Result<Resolved, AllocError>
     ensures { IfOk result (λ m. m ≡ condition (exprs.IsNull negated value.expr)) }
 {
     let value = value.expr;
@@ -120,10 +126,10 @@ pub(crate) fn is_null(alloc: Global, negated: bool, value: Made) -> Result<Made,
 pub(crate) fn between(
     alloc: Global,
     negated: bool,
-    value: Made,
-    low: Made,
-    high: Made,
-) -> Result<Made, AllocError>
+    value: Resolved,
+    low: Resolved,
+    high: Resolved,
+) -> Result<Resolved, AllocError>
     ensures { IfOk result (λ m. m ≡ condition (exprs.Between negated value.expr low.expr high.expr)) }
 {
     let expr = ResolvedExpr::Between {
@@ -138,9 +144,9 @@ pub(crate) fn between(
 pub(crate) fn among(
     alloc: Global,
     negated: bool,
-    value: Made,
+    value: Resolved,
     list: Operands,
-) -> Result<Made, AllocError>
+) -> Result<Resolved, AllocError>
     ensures { IfOk result (λ m. m ≡ condition (exprs.In negated value.expr list.exprs)) }
 {
     let expr = ResolvedExpr::In {
@@ -154,10 +160,10 @@ pub(crate) fn among(
 pub(crate) fn like(
     alloc: Global,
     negated: bool,
-    value: Made,
-    pattern: Made,
-    escape: Option<Made>,
-) -> Result<Made, AllocError>
+    value: Resolved,
+    pattern: Resolved,
+    escape: Option<Resolved>,
+) -> Result<Resolved, AllocError>
     ensures { IfOk result (λ m. m ≡ condition (exprs.Like negated value.expr pattern.expr (optional_in escape))) }
 {
     let expr = ResolvedExpr::Like {
@@ -169,7 +175,7 @@ pub(crate) fn like(
     boxed(alloc, expr, Shape::Condition)
 }
 
-pub(crate) fn exists(alloc: Global, query: MadeQuery) -> Result<Made, AllocError>
+pub(crate) fn exists(alloc: Global, query: ShapedQuery) -> Result<Resolved, AllocError>
     ensures { IfOk result (λ m. m ≡ condition (exprs.Exists query.query)) }
 {
     boxed(alloc, ResolvedExpr::Exists(query.query), Shape::Condition)
@@ -177,18 +183,22 @@ pub(crate) fn exists(alloc: Global, query: MadeQuery) -> Result<Made, AllocError
 
 // ---- operators and calls
 
-pub(crate) fn chain(
+pub(crate) fn operator_chain(
     alloc: Global,
     first: Boxed<ResolvedExpr>,
-    links: List<ResolvedLink>,
+    chain_links: List<ResolvedOperation>,
     shape: Shape,
-) -> Result<Made, AllocError>
-    ensures { IfOk result (λ m. m ≡ record { expr = exprs.Chain first links; shape = shape }) }
+) -> Result<Resolved, AllocError>
+    ensures { IfOk result (λ m. m ≡ record { expr = exprs.OperatorChain first chain_links; shape = shape }) }
 {
-    boxed(alloc, ResolvedExpr::Chain { first, links }, shape)
+    boxed(
+        alloc,
+        ResolvedExpr::OperatorChain { first, chain_links },
+        shape,
+    )
 }
 
-pub(crate) fn signed(alloc: Global, sign: Sign, operand: Made) -> Result<Made, AllocError>
+pub(crate) fn signed(alloc: Global, sign: Sign, operand: Resolved) -> Result<Resolved, AllocError>
     ensures { IfOk result (λ m. m ≡ signed sign operand) }
 {
     match sign {
@@ -200,14 +210,14 @@ pub(crate) fn signed(alloc: Global, sign: Sign, operand: Made) -> Result<Made, A
 /// A call of the function that a name and the kinds of arguments choose.
 pub(crate) fn called(
     alloc: Global,
-    sight: Sight,
+    resolver_scope: ResolverScope,
     name: &Identifier,
     arguments: Arguments,
-) -> Result<Made, AllocError>
-    ensures { IfOk result (λ m. m ≡ called arguments.exprs (function (seen_at sight.entry).world.functions name.now.name arguments.kinds)) }
+) -> Result<Resolved, AllocError>
+    ensures { IfOk result (λ m. m ≡ called arguments.exprs (function (seen_at resolver_scope.entry).symbols.functions name.now.name arguments.kinds)) }
 {
-    let world = sight.world;
-    match world
+    let symbols = resolver_scope.symbols;
+    match symbols
         .functions
         .function(&name.name, arguments.kinds.items())
     {
@@ -224,7 +234,7 @@ fn call(
     function: u32,
     arguments: List<Boxed<ResolvedExpr>>,
     shape: Shape,
-) -> Result<Made, AllocError>
+) -> Result<Resolved, AllocError>
     ensures { IfOk result (λ m. m ≡ record { expr = exprs.Call function arguments; shape = shape }) }
 {
     let expr = ResolvedExpr::Call {
@@ -234,7 +244,7 @@ fn call(
     boxed(alloc, expr, shape)
 }
 
-pub(crate) fn scalar(alloc: Global, query: MadeQuery) -> Result<Made, AllocError>
+pub(crate) fn scalar(alloc: Global, query: ShapedQuery) -> Result<Resolved, AllocError>
     ensures { IfOk result (λ m. m ≡ record { expr = exprs.Scalar query.query; shape = only_shape query.shapes }) }
 {
     let shape = only_shape(query.shapes.items());
@@ -245,10 +255,10 @@ pub(crate) fn scalar(alloc: Global, query: MadeQuery) -> Result<Made, AllocError
 
 pub(crate) fn case(
     alloc: Global,
-    operand: Option<Made>,
+    operand: Option<Resolved>,
     branches: Branches,
-    otherwise: Option<Made>,
-) -> Result<Made, AllocError>
+    otherwise: Option<Resolved>,
+) -> Result<Resolved, AllocError>
     ensures { IfOk result (λ m. m ≡ case_in operand branches otherwise) }
 {
     let result = joined_else(branches.result, &otherwise);
@@ -261,7 +271,7 @@ pub(crate) fn case(
     boxed(alloc, expr, shape_of_result(result))
 }
 
-pub(crate) fn coalesce(alloc: Global, values: Operands) -> Result<Made, AllocError>
+pub(crate) fn coalesce(alloc: Global, values: Operands) -> Result<Resolved, AllocError>
     ensures { IfOk result (λ m. m ≡ record { expr = exprs.Coalesce values.exprs (scale_of_result values.result); shape = shape_of_result values.result }) }
 {
     let result = values.result;
@@ -272,7 +282,11 @@ pub(crate) fn coalesce(alloc: Global, values: Operands) -> Result<Made, AllocErr
     boxed(alloc, expr, shape_of_result(result))
 }
 
-pub(crate) fn null_if(alloc: Global, left: Made, right: Made) -> Result<Made, AllocError>
+pub(crate) fn null_if(
+    alloc: Global,
+    left: Resolved,
+    right: Resolved,
+) -> Result<Resolved, AllocError>
     ensures { IfOk result (λ m. m ≡ record { expr = exprs.NullIf left.expr right.expr; shape = left.shape }) }
 {
     let shape = left.shape;
@@ -283,7 +297,7 @@ pub(crate) fn null_if(alloc: Global, left: Made, right: Made) -> Result<Made, Al
     boxed(alloc, expr, shape)
 }
 
-pub(crate) fn cast(alloc: Global, source: Made, to: &DataType) -> Result<Made, AllocError>
+pub(crate) fn cast(alloc: Global, source: Resolved, to: &DataType) -> Result<Resolved, AllocError>
     ensures { IfOk result (λ m. m ≡ value (typed (type_known (type_of to.now))) (exprs.Cast source.expr (type_known (type_of to.now)))) }
 {
     let to = type_known(type_of(to));
@@ -300,8 +314,8 @@ pub(crate) fn cast(alloc: Global, source: Made, to: &DataType) -> Result<Made, A
 pub(crate) fn text_function(
     alloc: Global,
     function: TextFunction,
-    argument: Made,
-) -> Result<Made, AllocError>
+    argument: Resolved,
+) -> Result<Resolved, AllocError>
     ensures { IfOk result (λ m. m ≡ value (text_result function) (exprs.Function (function_of function) argument.expr)) }
 {
     let shape = Shape::Value(text_result(function));
@@ -312,7 +326,11 @@ pub(crate) fn text_function(
     boxed(alloc, expr, shape)
 }
 
-pub(crate) fn position(alloc: Global, part: Made, whole: Made) -> Result<Made, AllocError>
+pub(crate) fn position(
+    alloc: Global,
+    part: Resolved,
+    whole: Resolved,
+) -> Result<Resolved, AllocError>
     ensures { IfOk result (λ m. m ≡ value integer (exprs.Position part.expr whole.expr)) }
 {
     let expr = ResolvedExpr::Position {
@@ -324,10 +342,10 @@ pub(crate) fn position(alloc: Global, part: Made, whole: Made) -> Result<Made, A
 
 pub(crate) fn substring(
     alloc: Global,
-    text: Made,
-    from: Made,
-    length: Option<Made>,
-) -> Result<Made, AllocError>
+    text: Resolved,
+    from: Resolved,
+    length: Option<Resolved>,
+) -> Result<Resolved, AllocError>
     ensures { IfOk result (λ m. m ≡ value varying (exprs.Substring text.expr from.expr (optional_in length))) }
 {
     let expr = ResolvedExpr::Substring {
@@ -338,7 +356,7 @@ pub(crate) fn substring(
     boxed(alloc, expr, Shape::Value(VARYING))
 }
 
-pub(crate) fn trim(alloc: Global, side: TrimSide, text: Made) -> Result<Made, AllocError>
+pub(crate) fn trim(alloc: Global, side: TrimSide, text: Resolved) -> Result<Resolved, AllocError>
     ensures { IfOk result (λ m. m ≡ value varying (exprs.Trim (side_of side) text.expr)) }
 {
     let expr = ResolvedExpr::Trim {

@@ -1,21 +1,22 @@
-//! Operators and functions of the language, as they stand in expressions without names.
+//! Operators and functions of the language, as they stand in resolved expressions.
 ghost use Rattle.std.specs.Prelude.{◌≡◌};
-ghost use Rattle.psm_resolve_expr.specs.Exprs.{comparison_of, function_of, junction_of, operator_of, set_of, side_of};
+ghost use Rattle.psm_resolve_expr.specs.Exprs.{comparison_of, function_of, logical_operator_of, operator_of, set_of, side_of};
 
 use psm_exprcode::SetFunction;
-use psm_resolved::{Comparison, Junction, Operator, TextFunction};
+use psm_resolved::{Comparison, LogicalOperator, Operator, TextFunction};
 use psm_text::Side;
 use psm_tree::{
-    Comparison as WrittenComparison, Junction as WrittenJunction, Operator as WrittenOperator,
-    SetFunction as WrittenSet, TextFunction as WrittenFunction, TrimSide,
+    Comparison as WrittenComparison, LogicalOperator as WrittenLogicalOperator,
+    Operator as WrittenOperator, SetFunction as WrittenSet, TextFunction as WrittenFunction,
+    TrimSide,
 };
 
-pub(crate) fn junction_of(junction: WrittenJunction) -> Junction
-    ensures { result ≡ junction_of junction }
+pub(crate) fn logical_operator_of(logical_operator: WrittenLogicalOperator) -> LogicalOperator
+    ensures { result ≡ logical_operator_of logical_operator }
 {
-    match junction {
-        WrittenJunction::And => Junction::And,
-        WrittenJunction::Or => Junction::Or,
+    match logical_operator {
+        WrittenLogicalOperator::And => LogicalOperator::And,
+        WrittenLogicalOperator::Or => LogicalOperator::Or,
     }
 }
 

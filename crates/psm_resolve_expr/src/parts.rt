@@ -1,14 +1,14 @@
 //! What is made of lists of expressions.
 ghost use Rattle.std.specs.Prelude.{◌≡◌, ◌∷◌, ◌++◌, [], IfOk};
-ghost use Rattle.psm_resolve_expr.specs.Exprs.{link_of};
-ghost use Rattle.psm_resolve_expr.specs.Made.{operated};
+ghost use Rattle.psm_resolve_expr.specs.Exprs.{chain_link_of};
+ghost use Rattle.psm_resolve_expr.specs.Resolved.{operated};
 ghost use Rattle.psm_resolve_expr.specs.Parts.{branch_of};
 
-use crate::made::Made;
 use crate::operators::operator_of;
+use crate::resolved::Resolved;
 use crate::shapes::operated;
 use psm_list::{Boxed, List, OneOrMore};
-use psm_resolved::{ResolvedExpr, ResolvedLink, ResolvedWhen};
+use psm_resolved::{ResolvedExpr, ResolvedOperation, ResolvedWhen};
 use psm_rules::{Shape, Typed};
 use psm_scope::ArgKind;
 use psm_tree::Operator;
@@ -43,7 +43,11 @@ pub(crate) struct Branches {
 }
 
 /// `WHEN test THEN result`.
-pub(crate) fn when_then(alloc: Global, test: Made, value: Made) -> Result<Branch, AllocError>
+pub(crate) fn when_then(
+    alloc: Global,
+    test: Resolved,
+    value: Resolved,
+) -> Result<Branch, AllocError>
     ensures { IfOk result (λ w. w ≡ branch_of (test, value)) }
 {
     let shape = value.shape;
@@ -55,18 +59,18 @@ pub(crate) fn when_then(alloc: Global, test: Made, value: Made) -> Result<Branch
     Ok(Branch { when, shape })
 }
 
-/// Puts an operator and its operand behind others; the shape is that of the value with it.
+/// Puts an operator and its operand after others; the shape is that of the value with it.
 pub(crate) fn push_operand(
-    links: &mut Vec<ResolvedLink>,
+    chain_links: &mut Vec<ResolvedOperation>,
     operator: Operator,
     left: Shape,
-    operand: Made,
+    operand: Resolved,
 ) -> Result<Shape, AllocError>
-    ensures links { IfOk result (λ _. links.new.items ≡ links.old.items ++ link_of (operator, operand) ∷ []) }
+    ensures chain_links { IfOk result (λ _. chain_links.new.items ≡ chain_links.old.items ++ chain_link_of (operator, operand) ∷ []) }
     ensures shape { IfOk result (λ s. s ≡ operated operator left operand.shape) }
 {
     let shape = operated(operator, left, operand.shape)?;
-    links.push(ResolvedLink {
+    chain_links.push(ResolvedOperation {
         operator: operator_of(operator),
         operand: operand.expr,
     })?;

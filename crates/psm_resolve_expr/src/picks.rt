@@ -4,15 +4,15 @@ ghost use Rattle.psm_exprcode.specs.declared.aggregate.SetFunction.TheVariants a
 ghost use Rattle.psm_rules.specs.Shapes.{integer};
 ghost use Rattle.psm_rules.specs.declared.shape.Shape.TheVariants.{Value};
 ghost use Rattle.psm_resolve_expr.specs.Exprs.{columns_from, columns_on, optional_in, set_item, set_of, shape_of_set};
-ghost use Rattle.psm_resolve_expr.specs.Made.{Values, OfAll, shape_of_type};
+ghost use Rattle.psm_resolve_expr.specs.Resolved.{Values, OfAll, shape_of_type};
 ghost use Rattle.psm_resolve_expr.specs.Parts.{items_in, none_picked, query_in, shapes_in, with_pick};
 ghost use Rattle.psm_resolve_expr.specs.Seen.{seen_at};
 ghost use Rattle.psm_resolved.specs.declared.expr.ResolvedExpr.TheVariants as exprs;
 
-use crate::made::{Made, MadeQuery, boxed, optional_in};
 use crate::operators::set_of;
+use crate::resolved::{Resolved, ShapedQuery, boxed, optional_in};
+use crate::resolver_scope::ResolverScope;
 use crate::shapes::{shape_of_set, shape_of_type};
-use crate::sight::Sight;
 use psm_check_expr::Columns;
 use psm_exprcode::SetFunction;
 use psm_list::{Boxed, List};
@@ -58,16 +58,16 @@ impl Picks {
         }
     }
 
-    /// Puts a value behind the others.
-    pub fn push_value(&mut self, made: Made) -> Result<(), AllocError>
-        ensures { IfOk result (λ _. self.new ≡ with_pick self.old (Values (made ∷ []))) }
+    /// Puts a value after the others.
+    pub fn push_value(&mut self, resolved: Resolved) -> Result<(), AllocError>
+        ensures { IfOk result (λ _. self.new ≡ with_pick self.old (Values (resolved ∷ []))) }
     {
-        self.shapes.push(made.shape)?;
-        self.values.push(made.expr)?;
+        self.shapes.push(resolved.shape)?;
+        self.values.push(resolved.expr)?;
         Ok(())
     }
 
-    // Puts a set function behind the others.
+    // Puts a set function after the others.
     fn push_set(&mut self, item: ResolvedItem, shape: Shape) -> Result<(), AllocError>
         ensures { IfOk result (λ _. self.new ≡ with_pick self.old (OfAll item shape)) }
     {
@@ -76,7 +76,7 @@ impl Picks {
         Ok(())
     }
 
-    /// Puts `COUNT(*)` behind the others.
+    /// Puts `COUNT(*)` after the others.
     pub fn push_count(&mut self) -> Result<(), AllocError>
         ensures { IfOk result (λ _. self.new ≡ with_pick self.old (OfAll (set_item sets.Count None) (Value integer))) }
     {
@@ -87,19 +87,23 @@ impl Picks {
         self.push_set(item, Shape::Value(INTEGER))
     }
 
-    /// Puts a set function of values behind the others.
-    pub fn push_aggregate(&mut self, function: WrittenSet, made: Made) -> Result<(), AllocError>
-        ensures { IfOk result (λ _. self.new ≡ with_pick self.old (OfAll (set_item (set_of function) (Some made.expr)) (shape_of_set function made.shape))) }
+    /// Puts a set function of values after the others.
+    pub fn push_aggregate(
+        &mut self,
+        function: WrittenSet,
+        resolved: Resolved,
+    ) -> Result<(), AllocError>
+        ensures { IfOk result (λ _. self.new ≡ with_pick self.old (OfAll (set_item (set_of function) (Some resolved.expr)) (shape_of_set function resolved.shape))) }
     {
-        let shape = shape_of_set(function, made.shape);
+        let shape = shape_of_set(function, resolved.shape);
         let item = ResolvedItem {
             function: set_of(function),
-            operand: Some(made.expr),
+            operand: Some(resolved.expr),
         };
         self.push_set(item, shape)
     }
 
-    // Puts a column behind the others.
+    // Puts a column after the others.
     fn push_column(
         &mut self,
         alloc: Global,
@@ -112,11 +116,15 @@ impl Picks {
         self.push_value(column)
     }
 
-    /// Puts all columns of the row behind the others.
-    pub fn push_row(&mut self, alloc: Global, sight: Sight) -> Result<(), AllocError>
-        ensures { IfOk result (λ _. self.new ≡ with_pick self.old (Values (columns_on (seen_at sight.entry).row))) }
+    /// Puts all columns of the row after the others.
+    pub fn push_row(
+        &mut self,
+        alloc: Global,
+        resolver_scope: ResolverScope,
+    ) -> Result<(), AllocError>
+        ensures { IfOk result (λ _. self.new ≡ with_pick self.old (Values (columns_on (seen_at resolver_scope.entry).row))) }
     {
-        match sight.row {
+        match resolver_scope.row {
             None => Ok(()),
             Some(row) => match row.columns {
                 None => Ok(()),
@@ -157,8 +165,8 @@ impl Picks {
         self,
         alloc: Global,
         table: u32,
-        test: Option<Made>,
-    ) -> Result<MadeQuery, AllocError>
+        test: Option<Resolved>,
+    ) -> Result<ShapedQuery, AllocError>
         ensures { IfOk result (λ q. q ≡ query_in table self test) }
     {
         let (items, shapes) = self.into_items();
@@ -169,6 +177,6 @@ impl Picks {
             test: optional_in(test),
         };
         let query = Boxed::new(alloc, query)?;
-        Ok(MadeQuery { query, shapes })
+        Ok(ShapedQuery { query, shapes })
     }
 }

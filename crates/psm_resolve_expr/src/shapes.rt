@@ -1,10 +1,10 @@
 //! Shapes of values.
 ghost use Rattle.std.specs.Prelude.{◌≡◌, IfOk, ◌++◌};
 ghost use Rattle.psm_rules.specs.Shapes.{at_larger_scale, at_sum_of_scales};
-ghost use Rattle.psm_resolve_expr.specs.Made.{joined_in, operated, scale_of_result, shape_of_result, shape_of_type, type_in, with_types};
+ghost use Rattle.psm_resolve_expr.specs.Resolved.{joined_in, operated, scale_of_result, shape_of_result, shape_of_type, type_in, with_types};
 ghost use Rattle.psm_resolve_expr.specs.Exprs.{only_shape, shape_of_set, shapes_of_else, type_known};
 
-use crate::made::Made;
+use crate::resolved::Resolved;
 use psm_check_expr::set_result;
 use psm_rules::{Family, Shape, Typed, VARYING, at_larger_scale, family_of, joined, typed};
 use psm_tree::{Operator, SetFunction};
@@ -42,7 +42,7 @@ fn type_in(shape: Shape) -> Option<Typed>
     }
 }
 
-/// The shape of an operator's value. A scale past 255, of which no accepted file has any, is taken for want of memory.
+/// The shape of an operator's value. A scale past 255, of which no accepted file has any, is taken because memory ran out.
 pub(crate) fn operated(operator: Operator, a: Shape, b: Shape) -> Result<Shape, AllocError>
     ensures { IfOk result (λ s. s ≡ operated operator a b) }
 {
@@ -88,13 +88,13 @@ fn at_sum_of_scales(a: Typed, b: Typed) -> Result<Typed, AllocError>
 
 // ---- results
 
-/// The type of the results so far, and of what stands behind ELSE.
-pub(crate) fn joined_else(so_far: Option<Typed>, otherwise: &Option<Made>) -> Option<Typed>
+/// The type of the results so far, and of what stands after ELSE.
+pub(crate) fn joined_else(so_far: Option<Typed>, otherwise: &Option<Resolved>) -> Option<Typed>
     ensures { result ≡ joined_in so_far (shapes_of_else otherwise.now) }
 {
     match otherwise {
         None => so_far,
-        Some(made) => joined(so_far, made.shape),
+        Some(resolved) => joined(so_far, resolved.shape),
     }
 }
 

@@ -29,12 +29,12 @@ use Rattle.psm_resolved.specs.Blocks.{Moved, Move, put, Block}
 use Rattle.psm_resolved.specs.Open.{Open, Pends, branch_move, then_move}
 use Rattle.psm_resolved.specs.Outcomes.{valued, with_operand, on_truth, of_one, first_set, at_scale}
 use Rattle.psm_resolved.specs.RowValue.{listed, row_value}
-use Rattle.psm_resolved.specs.Sort.{Sort, goes_as, letter_at, is_scale, sort_of}
+use Rattle.psm_resolved.specs.RowType.{RowType, goes_as, letter_at, is_scale, row_type_of}
 use Rattle.psm_resolved.specs.Written.{Written, with_line, patched, Jumps, Adds, puts_value, puts_first, with_scale, Writes, WritesSource, WritesFirst, WritesOthers}
-use Rattle.psm_resolved.proofs.Equations.{value-Coalesce, sort-Coalesce}
+use Rattle.psm_resolved.proofs.Equations.{value-Coalesce, row_type-Coalesce}
 use Rattle.psm_resolved.proofs.Forms.{Meaning, puts, told, relabel, one_adds, written_ok}
 use Rattle.psm_resolved.proofs.Jumps.{set_move, open_branch, open_value}
-use Rattle.psm_resolved.proofs.Operations.{value_ahead, one_ahead, adds_same}
+use Rattle.psm_resolved.proofs.Operations.{value_fall_through, one_fall_through, adds_same}
 use Rattle.psm_resolved.proofs.Pending.{pends_none, pends_more, pends_closed, replaced_here}
 
 -- ---- moves that are the same everywhere
@@ -42,7 +42,7 @@ use Rattle.psm_resolved.proofs.Pending.{pends_none, pends_more, pends_closed, re
 pub same_everywhere : (f g : Move) → ((row vars : List Datum) (os : List Operand) → f row vars os ≡ g row vars os) → f ≡ g
 same_everywhere f g h = λ i row vars os. h row vars os i
 
--- ---- a value of a COALESCE, and the jump behind it
+-- ---- a value of a COALESCE, and the jump after it
 
 set_moved : (a b : Outcome) (os : List Operand) → then_move (put a os) (set_move (put b)) ≡ put (of_one (λ d. if is_null d then b else valued (Ok d)) a) os
 set_moved None b os = refl
@@ -57,7 +57,7 @@ pub letter_value : (scale : Option ℕ) → is_value (letter_at scale) ≡ true
 letter_value None = refl
 letter_value (Some s) = refl
 
--- the place of the jump, and the operands that there are behind it
+-- the place of the jump, and the operands that there are after it
 pub value_pends : (columns variables : List Letter) (k : Letter) (v : Meaning) (place : ℕ) (old between new : Written) → is_value k ≡ true → Adds (is_of_kind columns variables) (k ∷ []) (puts v) old between
     → Jumps (op.JumpUnlessNull 0) 1 place between new
     → Pends (is_of_kind columns variables) (k ∷ old.stack) op.JumpUnlessNull (λ h row vars os. then_move (put (v row vars) os) (set_move (h row vars))) (place ∷ []) old new
@@ -86,7 +86,7 @@ value_pends columns variables k v place old between new n a j =
     } in
     subst (λ x. Pends M (k ∷ old.stack) op.JumpUnlessNull (λ h row vars os. then_move (put (v row vars) os) (set_move (h row vars))) (place ∷ []) old x) (sym j.1) base
 
--- the values of a COALESCE so far, the last of them without a jump behind it, where some are left
+-- the values of a COALESCE so far, the last of them without a jump after it, where some are left
 pub record Awaits (columns variables : List Letter) (k : Letter) (a : ResolvedExpr) (all left : List ResolvedExpr) (places : List ℕ) (old new : Written) : Type 0 where
   pub last : ResolvedExpr
   pub move : Move → Move
@@ -98,9 +98,9 @@ pub record Awaits (columns variables : List Letter) (k : Letter) (a : ResolvedEx
 -- as long as all are of the letter
 abbrev pub AwaitsAll : List Letter → List Letter → Letter → Several ResolvedExpr → List ResolvedExpr → List ℕ → Written → Written → Type 0
 AwaitsAll columns variables k values left places old new =
-    is_value k ≡ true → list_all (goes_as k) (map (sort_of columns variables) (listed values)) ≡ true → Awaits columns variables k values.first values.rest left places old new × (list_all (goes_as k) (map (sort_of columns variables) left) ≡ true)
+    is_value k ≡ true → list_all (goes_as k) (map (row_type_of columns variables) (listed values)) ≡ true → Awaits columns variables k values.first values.rest left places old new × (list_all (goes_as k) (map (row_type_of columns variables) left) ≡ true)
 
--- the values behind a first one so far, whichever it is
+-- the values after a first one so far, whichever it is
 abbrev pub AwaitsOthers : List Letter → List Letter → Letter → List ResolvedExpr → List ResolvedExpr → List ℕ → Written → Written → Type 0
 AwaitsOthers columns variables k rest left places old new =
     (first : ResolvedExpr) (begin : Written) → WritesSource columns variables k first begin old → AwaitsAll columns variables k (record { first = first; rest = rest }) left places begin new
@@ -108,16 +108,16 @@ AwaitsOthers columns variables k rest left places old new =
 pub awaits_first : (columns variables : List Letter) (k : Letter) (rest left : List ResolvedExpr) (places : List ℕ) (w : Written) → left ≡ rest → places ≡ [] → AwaitsOthers columns variables k rest left places w w
 awaits_first columns variables k rest left places w p n first begin x =
     subst (λ ps. AwaitsAll columns variables k (record { first = first; rest = rest }) left ps begin w) (sym n) (subst (λ l. AwaitsAll columns variables k (record { first = first; rest = rest }) l [] begin w) (sym p) (λ v h.
-    let f : Sort → Bool = goes_as k in (
+    let f : RowType → Bool = goes_as k in (
       record {
         last = first;
         move = λ m. m;
         between = begin;
         before = pends_none (is_of_kind columns variables) (k ∷ begin.stack) op.JumpUnlessNull begin;
-        here = x k (and_first (f (sort_of columns variables first)) (list_all f (map (sort_of columns variables) rest)) h);
+        here = x k (and_first (f (row_type_of columns variables first)) (list_all f (map (row_type_of columns variables) rest)) h);
         same = λ row vars os. refl;
       },
-      and_second (f (sort_of columns variables first)) (list_all f (map (sort_of columns variables) rest)) h,
+      and_second (f (row_type_of columns variables first)) (list_all f (map (row_type_of columns variables) rest)) h,
     )))
 
 awaits_next : (columns variables : List Letter) (k : Letter) (values : Several ResolvedExpr) (b : ResolvedExpr) (left more : List ResolvedExpr) (places next : List ℕ) (place : ℕ) (w0 w1 w2 w3 : Written) → left ≡ b ∷ more
@@ -125,10 +125,10 @@ awaits_next : (columns variables : List Letter) (k : Letter) (values : Several R
     → AwaitsAll columns variables k values more next w0 w3
 awaits_next columns variables k values b left more places next place w0 w1 w2 w3 q n x j z =
     subst (λ ps. AwaitsAll columns variables k values more ps w0 w3) (sym n) (λ v h.
-    let f : Sort → Bool = goes_as k in
+    let f : RowType → Bool = goes_as k in
     let s = subst (λ l. AwaitsAll columns variables k values l places w0 w1) q x v h in
     let r = s.0 in
-    let tests : (f (sort_of columns variables b) && list_all f (map (sort_of columns variables) more)) ≡ true = s.1 in
+    let tests : (f (row_type_of columns variables b) && list_all f (map (row_type_of columns variables) more)) ≡ true = s.1 in
     let one : Pends (is_of_kind columns variables) (k ∷ r.between.stack) op.JumpUnlessNull (λ m row vars os. then_move (put (row_value row vars r.last) os) (set_move (m row vars))) (place ∷ []) r.between w2 =
     value_pends columns variables k (λ row vars. row_value row vars r.last) place r.between w1 w2 v r.here j in
     let here : Pends (is_of_kind columns variables) (k ∷ w0.stack) op.JumpUnlessNull (λ m row vars os. then_move (put (row_value row vars r.last) os) (set_move (m row vars))) (place ∷ []) r.between w2 =
@@ -138,14 +138,14 @@ awaits_next columns variables k values b left more places next place w0 w1 w2 w3
         move = λ m. r.move (λ row vars os. then_move (put (row_value row vars r.last) os) (set_move (m row vars)));
         between = w2;
         before = pends_more (is_of_kind columns variables) (k ∷ w0.stack) op.JumpUnlessNull r.move (λ m row vars os. then_move (put (row_value row vars r.last) os) (set_move (m row vars))) places (place ∷ []) w0 r.between w2 r.before here;
-        here = z k (and_first (f (sort_of columns variables b)) (list_all f (map (sort_of columns variables) more)) tests);
+        here = z k (and_first (f (row_type_of columns variables b)) (list_all f (map (row_type_of columns variables) more)) tests);
         same = λ row vars os.
             ap (λ m. r.move m row vars os) (same_everywhere
             (λ rr vv us. then_move (put (row_value rr vv r.last) us) (set_move (put (first_set (row_value rr vv b) (map (row_value rr vv) more)))))
             (λ rr vv us. put (first_set (row_value rr vv r.last) (map (row_value rr vv) (b ∷ more))) us)
             (λ rr vv us. set_moved (row_value rr vv r.last) (first_set (row_value rr vv b) (map (row_value rr vv) more)) us)) ∙ r.same row vars os;
       },
-      and_second (f (sort_of columns variables b)) (list_all f (map (sort_of columns variables) more)) tests,
+      and_second (f (row_type_of columns variables b)) (list_all f (map (row_type_of columns variables) more)) tests,
     ))
 
 pub others_next : (columns variables : List Letter) (k : Letter) (rest : List ResolvedExpr) (b : ResolvedExpr) (left more : List ResolvedExpr) (places next : List ℕ) (place : ℕ) (w0 w1 w2 w3 : Written) → left ≡ b ∷ more → next ≡ places ++ place ∷ []
@@ -177,14 +177,14 @@ pub scale_adds : (columns variables : List Letter) (scale : Option ℕ) (u v : M
 scale_adds columns variables None u v w0 w1 b e a = adds_same (is_of_kind columns variables) (T ∷ []) (puts u) (puts v) w0 w1 (λ row vars os. ap (λ x. put x os) (sym (e row vars))) a
 scale_adds columns variables (Some s) u v w0 w1 b e a =
     one_adds (is_of_kind columns variables) N N (op.Rescale s) (λ d. valued (rescaled s d)) u v w0 w1
-    (record { kind = N; other = N; bounded = b; is_kind = refl; allowed = refl; takes_is = refl; puts_is = refl; away_is = refl })
-    (λ row vars os. one_ahead (λ d below. with_value below (rescaled s d)) (λ d. valued (rescaled s d)) (λ d below. value_ahead below (rescaled s d)) os) e a
+    (record { kind = N; other = N; bounded = b; is_kind = refl; allowed = refl; takes_is = refl; puts_is = refl; branch_is = refl })
+    (λ row vars os. one_fall_through (λ d below. with_value below (rescaled s d)) (λ d. valued (rescaled s d)) (λ d below. value_fall_through below (rescaled s d)) os) e a
 
 coalesce_first : (columns variables : List Letter) (e : ResolvedExpr) (values : Several ResolvedExpr) (scale : Option ℕ) (k : Letter) (w0 w1 w2 : Written) (r : Result (Unit {0}) AllocError) → e ≡ exprs.Coalesce values scale
     → k ≡ letter_at scale → WritesFirst columns variables k values w0 w1 → IfOk r (λ _. w2 ≡ with_scale scale w1) → IfOk r (λ _. Writes columns variables e w0 w2)
 coalesce_first columns variables e values scale l w0 w1 w2 r q m x y = written_ok columns variables e w0 w2 (with_scale scale w1) r y (λ k h.
-    let tests : Bool = list_all (goes_as (letter_at scale)) (map (sort_of columns variables) (listed values)) in
-    let s = told (sort_of columns variables e) (tests && is_scale scale) (letter_at scale) k (ap (sort_of columns variables) q ∙ sort-Coalesce columns variables values scale) h in
+    let tests : Bool = list_all (goes_as (letter_at scale)) (map (row_type_of columns variables) (listed values)) in
+    let s = told (row_type_of columns variables e) (tests && is_scale scale) (letter_at scale) k (ap (row_type_of columns variables) q ∙ row_type-Coalesce columns variables values scale) h in
     relabel (is_of_kind columns variables) (letter_at scale) k (puts_value e) w0 (with_scale scale w1) s.1
     (scale_adds columns variables scale (λ row vars. first_set (row_value row vars values.first) (map (row_value row vars) values.rest)) (λ row vars. row_value row vars e) w0 w1 (and_second tests (is_scale scale) s.0)
     (λ row vars. ap (row_value row vars) q ∙ value-Coalesce row vars values scale)
@@ -223,36 +223,36 @@ branch_pends columns variables k u v p q w0 w1 w2 w3 w4 w5 a i res j n =
     let test : List Line = a.lines in
     let no0 : Line = record { stack = reverse w1.stack; op = op.JumpUnlessTrue 0 } in
     let skip : Line = record { stack = reverse w1.stack; op = op.JumpUnlessTrue p4 } in
-    let away : ℕ → Line = λ e. record { stack = reverse w3.stack; op = op.Jump e } in
-    let behind : List Line = res.lines ++ away 0 ∷ [] in
+    let branching : ℕ → Line = λ e. record { stack = reverse w3.stack; op = op.Jump e } in
+    let following : List Line = res.lines ++ branching 0 ∷ [] in
     let s1 : w2.stack ≡ w0.stack = ap (λ w. w.stack) i.1 ∙ ap (drop 1) a.letters in
     let s2 : w4.stack ≡ w0.stack = ap (λ w. w.stack) j.1 ∙ ap (drop 1) res.letters ∙ s1 in
     let l2 : w2.lines ≡ w1.lines ++ no0 ∷ [] = ap (λ w. w.lines) i.1 in
-    let l4 : w4.lines ≡ w3.lines ++ away 0 ∷ [] = ap (λ w. w.lines) j.1 in
+    let l4 : w4.lines ≡ w3.lines ++ branching 0 ∷ [] = ap (λ w. w.lines) j.1 in
     let l3 : w3.lines ≡ w1.lines ++ (no0 ∷ res.lines) = res.added ∙ ap (λ x. x ++ res.lines) l2 ∙ append_assoc w1.lines (no0 ∷ []) res.lines in
-    let whole : w4.lines ≡ w1.lines ++ (no0 ∷ behind) = l4 ∙ ap (λ x. x ++ away 0 ∷ []) l3 ∙ append_assoc w1.lines (no0 ∷ res.lines) (away 0 ∷ []) in
-    let set : with_op_at w4.lines p (op.JumpUnlessTrue p4) ≡ w1.lines ++ (skip ∷ behind) =
-    ap (λ x. with_op_at x p (op.JumpUnlessTrue p4)) whole ∙ replaced_here w1.lines behind no0 p (op.JumpUnlessTrue p4) i.0 in
+    let whole : w4.lines ≡ w1.lines ++ (no0 ∷ following) = l4 ∙ ap (λ x. x ++ branching 0 ∷ []) l3 ∙ append_assoc w1.lines (no0 ∷ res.lines) (branching 0 ∷ []) in
+    let set : with_op_at w4.lines p (op.JumpUnlessTrue p4) ≡ w1.lines ++ (skip ∷ following) =
+    ap (λ x. with_op_at x p (op.JumpUnlessTrue p4)) whole ∙ replaced_here w1.lines following no0 p (op.JumpUnlessTrue p4) i.0 in
     let n1 : length w1.lines ≡ length w0.lines + length test = ap length a.added ∙ length-append w0.lines test in
     let n2 : length w2.lines ≡ suc (length w1.lines) = ap length l2 ∙ omega (arith, length-append w1.lines (no0 ∷ [])) in
     let n3 : length w3.lines ≡ length w2.lines + length res.lines = ap length res.added ∙ length-append w2.lines res.lines in
-    let n4 : length w4.lines ≡ suc (length w3.lines) = ap length l4 ∙ omega (arith, length-append w3.lines (away 0 ∷ [])) in
-    let n5 : length (with_op_at w4.lines p (op.JumpUnlessTrue p4)) ≡ p4 = ap length set ∙ length-append w1.lines (skip ∷ behind) ∙ sym (length-append w1.lines (no0 ∷ behind)) ∙ sym (ap length whole) in
+    let n4 : length w4.lines ≡ suc (length w3.lines) = ap length l4 ∙ omega (arith, length-append w3.lines (branching 0 ∷ [])) in
+    let n5 : length (with_op_at w4.lines p (op.JumpUnlessTrue p4)) ≡ p4 = ap length set ∙ length-append w1.lines (skip ∷ following) ∙ sym (length-append w1.lines (no0 ∷ following)) ∙ sym (ap length whole) in
     let stated : reverse (reverse w1.stack) ≡ B ∷ w0.stack = reverse-reverse w1.stack ∙ a.letters in
     let under : reverse (reverse w3.stack) ≡ k ∷ w0.stack = reverse-reverse w3.stack ∙ res.letters ∙ ap (λ s. k ∷ s) s1 in
     let S : List Letter → Type 0 = λ s. Block M s (k ∷ s) (length w2.lines) (length w3.lines) res.lines v in
-    let L : ℕ → Type 0 = λ e. Open M w0.stack (k ∷ w0.stack) (length w0.lines) e (λ e. test ++ skip ∷ (res.lines ++ away e ∷ [])) (λ h row vars os. then_move (u row vars os) (branch_move (v row vars) (h row vars))) in
+    let L : ℕ → Type 0 = λ e. Open M w0.stack (k ∷ w0.stack) (length w0.lines) e (λ e. test ++ skip ∷ (res.lines ++ branching e ∷ [])) (λ h row vars os. then_move (u row vars os) (branch_move (v row vars) (h row vars))) in
     let base : Pends M (k ∷ w0.stack) op.Jump (λ h row vars os. then_move (u row vars os) (branch_move (v row vars) (h row vars))) (q ∷ []) w0 (record { lines = with_op_at w4.lines p (op.JumpUnlessTrue p4); stack = w4.stack }) = record {
-      lines = test ++ (skip ∷ behind);
-      filled = λ e. test ++ skip ∷ (res.lines ++ away e ∷ []);
-      added = set ∙ ap (λ x. x ++ (skip ∷ behind)) a.added ∙ append_assoc w0.lines test (skip ∷ behind);
+      lines = test ++ (skip ∷ following);
+      filled = λ e. test ++ skip ∷ (res.lines ++ branching e ∷ []);
+      added = set ∙ ap (λ x. x ++ (skip ∷ following)) a.added ∙ append_assoc w0.lines test (skip ∷ following);
       letters = s2;
-      as_many = λ e. length-append test (skip ∷ (res.lines ++ away e ∷ [])) ∙ ap (λ m. length test + suc m) (length-append res.lines (away e ∷ []) ∙ sym (length-append res.lines (away 0 ∷ []))) ∙ sym (length-append test (skip ∷ behind));
+      as_many = λ e. length-append test (skip ∷ (res.lines ++ branching e ∷ [])) ∙ ap (λ m. length test + suc m) (length-append res.lines (branching e ∷ []) ∙ sym (length-append res.lines (branching 0 ∷ []))) ∙ sym (length-append test (skip ∷ following));
       fills = λ e before more h.
-          let split : (f : ℕ) → before ++ ((test ++ skip ∷ (res.lines ++ away f ∷ [])) ++ more) ≡ (before ++ (test ++ skip ∷ res.lines)) ++ (away f ∷ more) =
-          λ f. ap (λ x. before ++ x) (ap (λ x. x ++ more) (sym (append_assoc test (skip ∷ res.lines) (away f ∷ []))) ∙ append_assoc (test ++ skip ∷ res.lines) (away f ∷ []) more) ∙ sym (append_assoc before (test ++ skip ∷ res.lines) (away f ∷ more)) in
+          let split : (f : ℕ) → before ++ ((test ++ skip ∷ (res.lines ++ branching f ∷ [])) ++ more) ≡ (before ++ (test ++ skip ∷ res.lines)) ++ (branching f ∷ more) =
+          λ f. ap (λ x. before ++ x) (ap (λ x. x ++ more) (sym (append_assoc test (skip ∷ res.lines) (branching f ∷ []))) ∙ append_assoc (test ++ skip ∷ res.lines) (branching f ∷ []) more) ∙ sym (append_assoc before (test ++ skip ∷ res.lines) (branching f ∷ more)) in
           let counted : q ≡ length (before ++ (test ++ skip ∷ res.lines)) = omega (arith, j.0, n3, n2, n1, h, length-append before (test ++ skip ∷ res.lines), length-append test (skip ∷ res.lines)) in
-          ap (λ x. with_op_at x q (op.Jump e)) (split 0) ∙ replaced_here (before ++ (test ++ skip ∷ res.lines)) more (away 0) q (op.Jump e) counted ∙ sym (split e);
-      opens = subst L (sym n5) (open_branch M w0.stack (k ∷ w0.stack) (length w0.lines) (length w1.lines) (length w2.lines) (length w3.lines) p4 test res.lines skip away u v (λ x y. refl) (λ x y. refl) a.block n2 (subst S s1 res.block) n4 stated refl (λ e. under) (λ e. refl));
+          ap (λ x. with_op_at x q (op.Jump e)) (split 0) ∙ replaced_here (before ++ (test ++ skip ∷ res.lines)) more (branching 0) q (op.Jump e) counted ∙ sym (split e);
+      opens = subst L (sym n5) (open_branch M w0.stack (k ∷ w0.stack) (length w0.lines) (length w1.lines) (length w2.lines) (length w3.lines) p4 test res.lines skip branching u v (λ x y. refl) (λ x y. refl) a.block n2 (subst S s1 res.block) n4 stated refl (λ e. under) (λ e. refl));
     } in
     subst (λ w. Pends M (k ∷ w0.stack) op.Jump (λ h row vars os. then_move (u row vars os) (branch_move (v row vars) (h row vars))) (q ∷ []) w0 w) (sym n) base

@@ -1,4 +1,4 @@
--- What each form of expression comes to and of which sort it is, by its layer.
+-- What each form of expression evaluates to and of which sort it is, by its layer.
 use Rattle.std.proofs.Common.{◌≡◌, ℕ, Bool, List, Option, Some, None, map, option_map}
 use denote.Hole.Carrier
 use Rattle.psm_list.specs.Several.{Several, several_map}
@@ -9,34 +9,34 @@ use Rattle.psm_value.specs.declared.sqltype.SqlType.{SqlType}
 use Rattle.psm_exprcode.specs.declared.op.Letter.{Letter}
 use Rattle.psm_exprcode.specs.Evaluated.{Outcome}
 use Rattle.psm_resolved.specs.declared.expr.Comparison.{Comparison}
-use Rattle.psm_resolved.specs.declared.expr.Junction.{Junction}
+use Rattle.psm_resolved.specs.declared.expr.LogicalOperator.{LogicalOperator}
 use Rattle.psm_resolved.specs.declared.expr.Operator.{Operator}
 use Rattle.psm_resolved.specs.declared.expr.TextFunction.{TextFunction}
 use Rattle.psm_resolved.specs.declared.expr.ResolvedExpr.{ResolvedExpr, roll-ResolvedExpr}
 use Rattle.psm_resolved.specs.declared.expr.ResolvedExpr.TheVariants as exprs
 use Rattle.psm_resolved.specs.declared.expr.ResolvedExpr.TheOpen.{ResolvedExpr-F}
 use Rattle.psm_resolved.specs.declared.expr.ResolvedExpr.TheOpen as layers
-use Rattle.psm_resolved.specs.declared.expr.ResolvedExpr.TheFolds.{map-ResolvedExpr, fold-ResolvedItems, fold-ResolvedItem, fold-ResolvedQuery, fold-roll-ResolvedExpr, fold_out-ResolvedLink, fold_out-ResolvedWhen}
+use Rattle.psm_resolved.specs.declared.expr.ResolvedExpr.TheFolds.{map-ResolvedExpr, fold-ResolvedItems, fold-ResolvedItem, fold-ResolvedQuery, fold-roll-ResolvedExpr, fold_out-ResolvedOperation, fold_out-ResolvedWhen}
 use Rattle.psm_resolved.specs.declared.expr.ResolvedItems.{ResolvedItems}
 use Rattle.psm_resolved.specs.declared.expr.ResolvedItem.{ResolvedItem}
-use Rattle.psm_resolved.specs.declared.expr.ResolvedLink.{ResolvedLink, out-ResolvedLink}
+use Rattle.psm_resolved.specs.declared.expr.ResolvedOperation.{ResolvedOperation, out-ResolvedOperation}
 use Rattle.psm_resolved.specs.declared.expr.ResolvedQuery.{ResolvedQuery}
 use Rattle.psm_resolved.specs.declared.expr.ResolvedWhen.{ResolvedWhen, out-ResolvedWhen}
 use Rattle.psm_resolved.specs.RowValue as values
-use Rattle.psm_resolved.specs.RowValue.{value_layer, row_value, link_value, when_value}
-use Rattle.psm_resolved.specs.Sort as sorts
-use Rattle.psm_resolved.specs.Sort.{Sort, sort_layer, sort_of, link_sort, when_sort}
+use Rattle.psm_resolved.specs.RowValue.{value_layer, row_value, chain_link_value, when_value}
+use Rattle.psm_resolved.specs.RowType as row_types
+use Rattle.psm_resolved.specs.RowType.{RowType, row_type_layer, row_type_of, chain_link_row_type, when_row_type}
 
--- ---- what expressions come to
+-- ---- what expressions evaluate to
 
-value_rolled : (row vars : List Datum) (layer : ResolvedExpr-F ResolvedExpr ResolvedItems ResolvedItem ResolvedLink ResolvedQuery ResolvedWhen) → row_value row vars (roll-ResolvedExpr layer) ≡ value_layer row vars (map-ResolvedExpr ResolvedExpr ResolvedItems ResolvedItem ResolvedLink ResolvedQuery ResolvedWhen Outcome (Unit {0}) (Unit {0}) (Operator × Outcome) (Unit {0}) (Outcome × Outcome) (row_value row vars) (fold-ResolvedItems Outcome (Unit {0}) (Unit {0}) (Operator × Outcome) (Unit {0}) (Outcome × Outcome) (value_layer row vars) values.items_none values.item_none values.link_layer values.query_none values.when_layer) (fold-ResolvedItem Outcome (Unit {0}) (Unit {0}) (Operator × Outcome) (Unit {0}) (Outcome × Outcome) (value_layer row vars) values.items_none values.item_none values.link_layer values.query_none values.when_layer) (link_value row vars) (fold-ResolvedQuery Outcome (Unit {0}) (Unit {0}) (Operator × Outcome) (Unit {0}) (Outcome × Outcome) (value_layer row vars) values.items_none values.item_none values.link_layer values.query_none values.when_layer) (when_value row vars) layer)
-value_rolled row vars layer = fold-roll-ResolvedExpr Outcome (Unit {0}) (Unit {0}) (Operator × Outcome) (Unit {0}) (Outcome × Outcome) (value_layer row vars) values.items_none values.item_none values.link_layer values.query_none values.when_layer layer
+value_rolled : (row vars : List Datum) (layer : ResolvedExpr-F ResolvedExpr ResolvedItems ResolvedItem ResolvedOperation ResolvedQuery ResolvedWhen) → row_value row vars (roll-ResolvedExpr layer) ≡ value_layer row vars (map-ResolvedExpr ResolvedExpr ResolvedItems ResolvedItem ResolvedOperation ResolvedQuery ResolvedWhen Outcome (Unit {0}) (Unit {0}) (Operator × Outcome) (Unit {0}) (Outcome × Outcome) (row_value row vars) (fold-ResolvedItems Outcome (Unit {0}) (Unit {0}) (Operator × Outcome) (Unit {0}) (Outcome × Outcome) (value_layer row vars) values.items_none values.item_none values.chain_link_layer values.query_none values.when_layer) (fold-ResolvedItem Outcome (Unit {0}) (Unit {0}) (Operator × Outcome) (Unit {0}) (Outcome × Outcome) (value_layer row vars) values.items_none values.item_none values.chain_link_layer values.query_none values.when_layer) (chain_link_value row vars) (fold-ResolvedQuery Outcome (Unit {0}) (Unit {0}) (Operator × Outcome) (Unit {0}) (Outcome × Outcome) (value_layer row vars) values.items_none values.item_none values.chain_link_layer values.query_none values.when_layer) (when_value row vars) layer)
+value_rolled row vars layer = fold-roll-ResolvedExpr Outcome (Unit {0}) (Unit {0}) (Operator × Outcome) (Unit {0}) (Outcome × Outcome) (value_layer row vars) values.items_none values.item_none values.chain_link_layer values.query_none values.when_layer layer
 
-pub value_of_link : (row vars : List Datum) (link : ResolvedLink) → link_value row vars link ≡ ((out-ResolvedLink link).operator, row_value row vars (out-ResolvedLink link).operand)
-value_of_link row vars link = fold_out-ResolvedLink Outcome (Unit {0}) (Unit {0}) (Operator × Outcome) (Unit {0}) (Outcome × Outcome) (value_layer row vars) values.items_none values.item_none values.link_layer values.query_none values.when_layer link
+pub value_of_chain_link : (row vars : List Datum) (chain_link : ResolvedOperation) → chain_link_value row vars chain_link ≡ ((out-ResolvedOperation chain_link).operator, row_value row vars (out-ResolvedOperation chain_link).operand)
+value_of_chain_link row vars chain_link = fold_out-ResolvedOperation Outcome (Unit {0}) (Unit {0}) (Operator × Outcome) (Unit {0}) (Outcome × Outcome) (value_layer row vars) values.items_none values.item_none values.chain_link_layer values.query_none values.when_layer chain_link
 
 pub value_of_when : (row vars : List Datum) (when : ResolvedWhen) → when_value row vars when ≡ (row_value row vars (out-ResolvedWhen when).test, row_value row vars (out-ResolvedWhen when).result)
-value_of_when row vars when = fold_out-ResolvedWhen Outcome (Unit {0}) (Unit {0}) (Operator × Outcome) (Unit {0}) (Outcome × Outcome) (value_layer row vars) values.items_none values.item_none values.link_layer values.query_none values.when_layer when
+value_of_when row vars when = fold_out-ResolvedWhen Outcome (Unit {0}) (Unit {0}) (Operator × Outcome) (Unit {0}) (Outcome × Outcome) (value_layer row vars) values.items_none values.item_none values.chain_link_layer values.query_none values.when_layer when
 
 pub value-Null : (row vars : List Datum) → row_value row vars exprs.Null ≡ value_layer row vars layers.Null
 unfolding roll-ResolvedExpr Carrier.roll
@@ -58,9 +58,9 @@ pub value-Variable : (row vars : List Datum) (i : ℕ) → row_value row vars (e
 unfolding roll-ResolvedExpr Carrier.roll
 value-Variable row vars i = value_rolled row vars (layers.Variable i)
 
-pub value-Junction : (row vars : List Datum) (junction : Junction) (operands : Several ResolvedExpr) → row_value row vars (exprs.Junction junction operands) ≡ value_layer row vars (layers.Junction junction (several_map (row_value row vars) operands))
+pub value-LogicalOperator : (row vars : List Datum) (logical_operator : LogicalOperator) (operands : Several ResolvedExpr) → row_value row vars (exprs.LogicalOperator logical_operator operands) ≡ value_layer row vars (layers.LogicalOperator logical_operator (several_map (row_value row vars) operands))
 unfolding roll-ResolvedExpr Carrier.roll
-value-Junction row vars junction operands = value_rolled row vars (layers.Junction junction operands)
+value-LogicalOperator row vars logical_operator operands = value_rolled row vars (layers.LogicalOperator logical_operator operands)
 
 pub value-Not : (row vars : List Datum) (condition : ResolvedExpr) → row_value row vars (exprs.Not condition) ≡ value_layer row vars (layers.Not (row_value row vars condition))
 unfolding roll-ResolvedExpr Carrier.roll
@@ -87,9 +87,9 @@ unfolding roll-ResolvedExpr Carrier.roll
 value-Like row vars negated value pattern None = value_rolled row vars (layers.Like negated value pattern None)
 value-Like row vars negated value pattern (Some escape) = value_rolled row vars (layers.Like negated value pattern (Some escape))
 
-pub value-Chain : (row vars : List Datum) (first : ResolvedExpr) (links : List ResolvedLink) → row_value row vars (exprs.Chain first links) ≡ value_layer row vars (layers.Chain (row_value row vars first) (map (link_value row vars) links))
+pub value-OperatorChain : (row vars : List Datum) (first : ResolvedExpr) (chain_links : List ResolvedOperation) → row_value row vars (exprs.OperatorChain first chain_links) ≡ value_layer row vars (layers.OperatorChain (row_value row vars first) (map (chain_link_value row vars) chain_links))
 unfolding roll-ResolvedExpr Carrier.roll
-value-Chain row vars first links = value_rolled row vars (layers.Chain first links)
+value-OperatorChain row vars first chain_links = value_rolled row vars (layers.OperatorChain first chain_links)
 
 pub value-Negated : (row vars : List Datum) (operand : ResolvedExpr) → row_value row vars (exprs.Negated operand) ≡ value_layer row vars (layers.Negated (row_value row vars operand))
 unfolding roll-ResolvedExpr Carrier.roll
@@ -145,116 +145,116 @@ value-Trim row vars side text = value_rolled row vars (layers.Trim side text)
 
 -- ---- sorts
 
-sort_rolled : (columns variables : List Letter) (layer : ResolvedExpr-F ResolvedExpr ResolvedItems ResolvedItem ResolvedLink ResolvedQuery ResolvedWhen) → sort_of columns variables (roll-ResolvedExpr layer) ≡ sort_layer columns variables (map-ResolvedExpr ResolvedExpr ResolvedItems ResolvedItem ResolvedLink ResolvedQuery ResolvedWhen Sort (Unit {0}) (Unit {0}) (Operator × Sort) (Unit {0}) (Sort × Sort) (sort_of columns variables) (fold-ResolvedItems Sort (Unit {0}) (Unit {0}) (Operator × Sort) (Unit {0}) (Sort × Sort) (sort_layer columns variables) sorts.items_none sorts.item_none sorts.link_layer sorts.query_none sorts.when_layer) (fold-ResolvedItem Sort (Unit {0}) (Unit {0}) (Operator × Sort) (Unit {0}) (Sort × Sort) (sort_layer columns variables) sorts.items_none sorts.item_none sorts.link_layer sorts.query_none sorts.when_layer) (link_sort columns variables) (fold-ResolvedQuery Sort (Unit {0}) (Unit {0}) (Operator × Sort) (Unit {0}) (Sort × Sort) (sort_layer columns variables) sorts.items_none sorts.item_none sorts.link_layer sorts.query_none sorts.when_layer) (when_sort columns variables) layer)
-sort_rolled columns variables layer = fold-roll-ResolvedExpr Sort (Unit {0}) (Unit {0}) (Operator × Sort) (Unit {0}) (Sort × Sort) (sort_layer columns variables) sorts.items_none sorts.item_none sorts.link_layer sorts.query_none sorts.when_layer layer
+row_type_rolled : (columns variables : List Letter) (layer : ResolvedExpr-F ResolvedExpr ResolvedItems ResolvedItem ResolvedOperation ResolvedQuery ResolvedWhen) → row_type_of columns variables (roll-ResolvedExpr layer) ≡ row_type_layer columns variables (map-ResolvedExpr ResolvedExpr ResolvedItems ResolvedItem ResolvedOperation ResolvedQuery ResolvedWhen RowType (Unit {0}) (Unit {0}) (Operator × RowType) (Unit {0}) (RowType × RowType) (row_type_of columns variables) (fold-ResolvedItems RowType (Unit {0}) (Unit {0}) (Operator × RowType) (Unit {0}) (RowType × RowType) (row_type_layer columns variables) row_types.items_none row_types.item_none row_types.chain_link_layer row_types.query_none row_types.when_layer) (fold-ResolvedItem RowType (Unit {0}) (Unit {0}) (Operator × RowType) (Unit {0}) (RowType × RowType) (row_type_layer columns variables) row_types.items_none row_types.item_none row_types.chain_link_layer row_types.query_none row_types.when_layer) (chain_link_row_type columns variables) (fold-ResolvedQuery RowType (Unit {0}) (Unit {0}) (Operator × RowType) (Unit {0}) (RowType × RowType) (row_type_layer columns variables) row_types.items_none row_types.item_none row_types.chain_link_layer row_types.query_none row_types.when_layer) (when_row_type columns variables) layer)
+row_type_rolled columns variables layer = fold-roll-ResolvedExpr RowType (Unit {0}) (Unit {0}) (Operator × RowType) (Unit {0}) (RowType × RowType) (row_type_layer columns variables) row_types.items_none row_types.item_none row_types.chain_link_layer row_types.query_none row_types.when_layer layer
 
-pub sort_of_link : (columns variables : List Letter) (link : ResolvedLink) → link_sort columns variables link ≡ ((out-ResolvedLink link).operator, sort_of columns variables (out-ResolvedLink link).operand)
-sort_of_link columns variables link = fold_out-ResolvedLink Sort (Unit {0}) (Unit {0}) (Operator × Sort) (Unit {0}) (Sort × Sort) (sort_layer columns variables) sorts.items_none sorts.item_none sorts.link_layer sorts.query_none sorts.when_layer link
+pub row_type_of_chain_link : (columns variables : List Letter) (chain_link : ResolvedOperation) → chain_link_row_type columns variables chain_link ≡ ((out-ResolvedOperation chain_link).operator, row_type_of columns variables (out-ResolvedOperation chain_link).operand)
+row_type_of_chain_link columns variables chain_link = fold_out-ResolvedOperation RowType (Unit {0}) (Unit {0}) (Operator × RowType) (Unit {0}) (RowType × RowType) (row_type_layer columns variables) row_types.items_none row_types.item_none row_types.chain_link_layer row_types.query_none row_types.when_layer chain_link
 
-pub sort_of_when : (columns variables : List Letter) (when : ResolvedWhen) → when_sort columns variables when ≡ (sort_of columns variables (out-ResolvedWhen when).test, sort_of columns variables (out-ResolvedWhen when).result)
-sort_of_when columns variables when = fold_out-ResolvedWhen Sort (Unit {0}) (Unit {0}) (Operator × Sort) (Unit {0}) (Sort × Sort) (sort_layer columns variables) sorts.items_none sorts.item_none sorts.link_layer sorts.query_none sorts.when_layer when
+pub row_type_of_when : (columns variables : List Letter) (when : ResolvedWhen) → when_row_type columns variables when ≡ (row_type_of columns variables (out-ResolvedWhen when).test, row_type_of columns variables (out-ResolvedWhen when).result)
+row_type_of_when columns variables when = fold_out-ResolvedWhen RowType (Unit {0}) (Unit {0}) (Operator × RowType) (Unit {0}) (RowType × RowType) (row_type_layer columns variables) row_types.items_none row_types.item_none row_types.chain_link_layer row_types.query_none row_types.when_layer when
 
-pub sort-Null : (columns variables : List Letter) → sort_of columns variables exprs.Null ≡ sort_layer columns variables layers.Null
+pub row_type-Null : (columns variables : List Letter) → row_type_of columns variables exprs.Null ≡ row_type_layer columns variables layers.Null
 unfolding roll-ResolvedExpr Carrier.roll
-sort-Null columns variables = sort_rolled columns variables layers.Null
+row_type-Null columns variables = row_type_rolled columns variables layers.Null
 
-pub sort-Number : (columns variables : List Letter) (n : Num) → sort_of columns variables (exprs.Number n) ≡ sort_layer columns variables (layers.Number n)
+pub row_type-Number : (columns variables : List Letter) (n : Num) → row_type_of columns variables (exprs.Number n) ≡ row_type_layer columns variables (layers.Number n)
 unfolding roll-ResolvedExpr Carrier.roll
-sort-Number columns variables n = sort_rolled columns variables (layers.Number n)
+row_type-Number columns variables n = row_type_rolled columns variables (layers.Number n)
 
-pub sort-Text : (columns variables : List Letter) (t : List ℕ) → sort_of columns variables (exprs.Text t) ≡ sort_layer columns variables (layers.Text t)
+pub row_type-Text : (columns variables : List Letter) (t : List ℕ) → row_type_of columns variables (exprs.Text t) ≡ row_type_layer columns variables (layers.Text t)
 unfolding roll-ResolvedExpr Carrier.roll
-sort-Text columns variables t = sort_rolled columns variables (layers.Text t)
+row_type-Text columns variables t = row_type_rolled columns variables (layers.Text t)
 
-pub sort-Column : (columns variables : List Letter) (i : ℕ) → sort_of columns variables (exprs.Column i) ≡ sort_layer columns variables (layers.Column i)
+pub row_type-Column : (columns variables : List Letter) (i : ℕ) → row_type_of columns variables (exprs.Column i) ≡ row_type_layer columns variables (layers.Column i)
 unfolding roll-ResolvedExpr Carrier.roll
-sort-Column columns variables i = sort_rolled columns variables (layers.Column i)
+row_type-Column columns variables i = row_type_rolled columns variables (layers.Column i)
 
-pub sort-Variable : (columns variables : List Letter) (i : ℕ) → sort_of columns variables (exprs.Variable i) ≡ sort_layer columns variables (layers.Variable i)
+pub row_type-Variable : (columns variables : List Letter) (i : ℕ) → row_type_of columns variables (exprs.Variable i) ≡ row_type_layer columns variables (layers.Variable i)
 unfolding roll-ResolvedExpr Carrier.roll
-sort-Variable columns variables i = sort_rolled columns variables (layers.Variable i)
+row_type-Variable columns variables i = row_type_rolled columns variables (layers.Variable i)
 
-pub sort-Junction : (columns variables : List Letter) (junction : Junction) (operands : Several ResolvedExpr) → sort_of columns variables (exprs.Junction junction operands) ≡ sort_layer columns variables (layers.Junction junction (several_map (sort_of columns variables) operands))
+pub row_type-LogicalOperator : (columns variables : List Letter) (logical_operator : LogicalOperator) (operands : Several ResolvedExpr) → row_type_of columns variables (exprs.LogicalOperator logical_operator operands) ≡ row_type_layer columns variables (layers.LogicalOperator logical_operator (several_map (row_type_of columns variables) operands))
 unfolding roll-ResolvedExpr Carrier.roll
-sort-Junction columns variables junction operands = sort_rolled columns variables (layers.Junction junction operands)
+row_type-LogicalOperator columns variables logical_operator operands = row_type_rolled columns variables (layers.LogicalOperator logical_operator operands)
 
-pub sort-Not : (columns variables : List Letter) (condition : ResolvedExpr) → sort_of columns variables (exprs.Not condition) ≡ sort_layer columns variables (layers.Not (sort_of columns variables condition))
+pub row_type-Not : (columns variables : List Letter) (condition : ResolvedExpr) → row_type_of columns variables (exprs.Not condition) ≡ row_type_layer columns variables (layers.Not (row_type_of columns variables condition))
 unfolding roll-ResolvedExpr Carrier.roll
-sort-Not columns variables condition = sort_rolled columns variables (layers.Not condition)
+row_type-Not columns variables condition = row_type_rolled columns variables (layers.Not condition)
 
-pub sort-Compare : (columns variables : List Letter) (operator : Comparison) (left : ResolvedExpr) (right : ResolvedExpr) → sort_of columns variables (exprs.Compare operator left right) ≡ sort_layer columns variables (layers.Compare operator (sort_of columns variables left) (sort_of columns variables right))
+pub row_type-Compare : (columns variables : List Letter) (operator : Comparison) (left : ResolvedExpr) (right : ResolvedExpr) → row_type_of columns variables (exprs.Compare operator left right) ≡ row_type_layer columns variables (layers.Compare operator (row_type_of columns variables left) (row_type_of columns variables right))
 unfolding roll-ResolvedExpr Carrier.roll
-sort-Compare columns variables operator left right = sort_rolled columns variables (layers.Compare operator left right)
+row_type-Compare columns variables operator left right = row_type_rolled columns variables (layers.Compare operator left right)
 
-pub sort-IsNull : (columns variables : List Letter) (negated : Bool) (value : ResolvedExpr) → sort_of columns variables (exprs.IsNull negated value) ≡ sort_layer columns variables (layers.IsNull negated (sort_of columns variables value))
+pub row_type-IsNull : (columns variables : List Letter) (negated : Bool) (value : ResolvedExpr) → row_type_of columns variables (exprs.IsNull negated value) ≡ row_type_layer columns variables (layers.IsNull negated (row_type_of columns variables value))
 unfolding roll-ResolvedExpr Carrier.roll
-sort-IsNull columns variables negated value = sort_rolled columns variables (layers.IsNull negated value)
+row_type-IsNull columns variables negated value = row_type_rolled columns variables (layers.IsNull negated value)
 
-pub sort-Between : (columns variables : List Letter) (negated : Bool) (value : ResolvedExpr) (low : ResolvedExpr) (high : ResolvedExpr) → sort_of columns variables (exprs.Between negated value low high) ≡ sort_layer columns variables (layers.Between negated (sort_of columns variables value) (sort_of columns variables low) (sort_of columns variables high))
+pub row_type-Between : (columns variables : List Letter) (negated : Bool) (value : ResolvedExpr) (low : ResolvedExpr) (high : ResolvedExpr) → row_type_of columns variables (exprs.Between negated value low high) ≡ row_type_layer columns variables (layers.Between negated (row_type_of columns variables value) (row_type_of columns variables low) (row_type_of columns variables high))
 unfolding roll-ResolvedExpr Carrier.roll
-sort-Between columns variables negated value low high = sort_rolled columns variables (layers.Between negated value low high)
+row_type-Between columns variables negated value low high = row_type_rolled columns variables (layers.Between negated value low high)
 
-pub sort-In : (columns variables : List Letter) (negated : Bool) (value : ResolvedExpr) (list : Several ResolvedExpr) → sort_of columns variables (exprs.In negated value list) ≡ sort_layer columns variables (layers.In negated (sort_of columns variables value) (several_map (sort_of columns variables) list))
+pub row_type-In : (columns variables : List Letter) (negated : Bool) (value : ResolvedExpr) (list : Several ResolvedExpr) → row_type_of columns variables (exprs.In negated value list) ≡ row_type_layer columns variables (layers.In negated (row_type_of columns variables value) (several_map (row_type_of columns variables) list))
 unfolding roll-ResolvedExpr Carrier.roll
-sort-In columns variables negated value list = sort_rolled columns variables (layers.In negated value list)
+row_type-In columns variables negated value list = row_type_rolled columns variables (layers.In negated value list)
 
-pub sort-Like : (columns variables : List Letter) (negated : Bool) (value : ResolvedExpr) (pattern : ResolvedExpr) (escape : Option ResolvedExpr) → sort_of columns variables (exprs.Like negated value pattern escape) ≡ sort_layer columns variables (layers.Like negated (sort_of columns variables value) (sort_of columns variables pattern) (option_map (sort_of columns variables) escape))
+pub row_type-Like : (columns variables : List Letter) (negated : Bool) (value : ResolvedExpr) (pattern : ResolvedExpr) (escape : Option ResolvedExpr) → row_type_of columns variables (exprs.Like negated value pattern escape) ≡ row_type_layer columns variables (layers.Like negated (row_type_of columns variables value) (row_type_of columns variables pattern) (option_map (row_type_of columns variables) escape))
 unfolding roll-ResolvedExpr Carrier.roll
-sort-Like columns variables negated value pattern None = sort_rolled columns variables (layers.Like negated value pattern None)
-sort-Like columns variables negated value pattern (Some escape) = sort_rolled columns variables (layers.Like negated value pattern (Some escape))
+row_type-Like columns variables negated value pattern None = row_type_rolled columns variables (layers.Like negated value pattern None)
+row_type-Like columns variables negated value pattern (Some escape) = row_type_rolled columns variables (layers.Like negated value pattern (Some escape))
 
-pub sort-Chain : (columns variables : List Letter) (first : ResolvedExpr) (links : List ResolvedLink) → sort_of columns variables (exprs.Chain first links) ≡ sort_layer columns variables (layers.Chain (sort_of columns variables first) (map (link_sort columns variables) links))
+pub row_type-OperatorChain : (columns variables : List Letter) (first : ResolvedExpr) (chain_links : List ResolvedOperation) → row_type_of columns variables (exprs.OperatorChain first chain_links) ≡ row_type_layer columns variables (layers.OperatorChain (row_type_of columns variables first) (map (chain_link_row_type columns variables) chain_links))
 unfolding roll-ResolvedExpr Carrier.roll
-sort-Chain columns variables first links = sort_rolled columns variables (layers.Chain first links)
+row_type-OperatorChain columns variables first chain_links = row_type_rolled columns variables (layers.OperatorChain first chain_links)
 
-pub sort-Negated : (columns variables : List Letter) (operand : ResolvedExpr) → sort_of columns variables (exprs.Negated operand) ≡ sort_layer columns variables (layers.Negated (sort_of columns variables operand))
+pub row_type-Negated : (columns variables : List Letter) (operand : ResolvedExpr) → row_type_of columns variables (exprs.Negated operand) ≡ row_type_layer columns variables (layers.Negated (row_type_of columns variables operand))
 unfolding roll-ResolvedExpr Carrier.roll
-sort-Negated columns variables operand = sort_rolled columns variables (layers.Negated operand)
+row_type-Negated columns variables operand = row_type_rolled columns variables (layers.Negated operand)
 
-pub sort-Call : (columns variables : List Letter) (function : ℕ) (arguments : List ResolvedExpr) → sort_of columns variables (exprs.Call function arguments) ≡ sort_layer columns variables (layers.Call function (map (sort_of columns variables) arguments))
+pub row_type-Call : (columns variables : List Letter) (function : ℕ) (arguments : List ResolvedExpr) → row_type_of columns variables (exprs.Call function arguments) ≡ row_type_layer columns variables (layers.Call function (map (row_type_of columns variables) arguments))
 unfolding roll-ResolvedExpr Carrier.roll
-sort-Call columns variables function arguments = sort_rolled columns variables (layers.Call function arguments)
+row_type-Call columns variables function arguments = row_type_rolled columns variables (layers.Call function arguments)
 
-pub sort-Scalar : (columns variables : List Letter) (query : ResolvedQuery) → sort_of columns variables (exprs.Scalar query) ≡ sort_layer columns variables (layers.Scalar tt)
+pub row_type-Scalar : (columns variables : List Letter) (query : ResolvedQuery) → row_type_of columns variables (exprs.Scalar query) ≡ row_type_layer columns variables (layers.Scalar tt)
 unfolding roll-ResolvedExpr Carrier.roll
-sort-Scalar columns variables query = sort_rolled columns variables (layers.Scalar query)
+row_type-Scalar columns variables query = row_type_rolled columns variables (layers.Scalar query)
 
-pub sort-Exists : (columns variables : List Letter) (query : ResolvedQuery) → sort_of columns variables (exprs.Exists query) ≡ sort_layer columns variables (layers.Exists tt)
+pub row_type-Exists : (columns variables : List Letter) (query : ResolvedQuery) → row_type_of columns variables (exprs.Exists query) ≡ row_type_layer columns variables (layers.Exists tt)
 unfolding roll-ResolvedExpr Carrier.roll
-sort-Exists columns variables query = sort_rolled columns variables (layers.Exists query)
+row_type-Exists columns variables query = row_type_rolled columns variables (layers.Exists query)
 
-pub sort-Case : (columns variables : List Letter) (operand : Option ResolvedExpr) (whens : Several ResolvedWhen) (otherwise : Option ResolvedExpr) (scale : Option ℕ) → sort_of columns variables (exprs.Case operand whens otherwise scale) ≡ sort_layer columns variables (layers.Case (option_map (sort_of columns variables) operand) (several_map (when_sort columns variables) whens) (option_map (sort_of columns variables) otherwise) scale)
+pub row_type-Case : (columns variables : List Letter) (operand : Option ResolvedExpr) (whens : Several ResolvedWhen) (otherwise : Option ResolvedExpr) (scale : Option ℕ) → row_type_of columns variables (exprs.Case operand whens otherwise scale) ≡ row_type_layer columns variables (layers.Case (option_map (row_type_of columns variables) operand) (several_map (when_row_type columns variables) whens) (option_map (row_type_of columns variables) otherwise) scale)
 unfolding roll-ResolvedExpr Carrier.roll
-sort-Case columns variables None whens None scale = sort_rolled columns variables (layers.Case None whens None scale)
-sort-Case columns variables None whens (Some otherwise) scale = sort_rolled columns variables (layers.Case None whens (Some otherwise) scale)
-sort-Case columns variables (Some operand) whens None scale = sort_rolled columns variables (layers.Case (Some operand) whens None scale)
-sort-Case columns variables (Some operand) whens (Some otherwise) scale = sort_rolled columns variables (layers.Case (Some operand) whens (Some otherwise) scale)
+row_type-Case columns variables None whens None scale = row_type_rolled columns variables (layers.Case None whens None scale)
+row_type-Case columns variables None whens (Some otherwise) scale = row_type_rolled columns variables (layers.Case None whens (Some otherwise) scale)
+row_type-Case columns variables (Some operand) whens None scale = row_type_rolled columns variables (layers.Case (Some operand) whens None scale)
+row_type-Case columns variables (Some operand) whens (Some otherwise) scale = row_type_rolled columns variables (layers.Case (Some operand) whens (Some otherwise) scale)
 
-pub sort-Coalesce : (columns variables : List Letter) (values : Several ResolvedExpr) (scale : Option ℕ) → sort_of columns variables (exprs.Coalesce values scale) ≡ sort_layer columns variables (layers.Coalesce (several_map (sort_of columns variables) values) scale)
+pub row_type-Coalesce : (columns variables : List Letter) (values : Several ResolvedExpr) (scale : Option ℕ) → row_type_of columns variables (exprs.Coalesce values scale) ≡ row_type_layer columns variables (layers.Coalesce (several_map (row_type_of columns variables) values) scale)
 unfolding roll-ResolvedExpr Carrier.roll
-sort-Coalesce columns variables values scale = sort_rolled columns variables (layers.Coalesce values scale)
+row_type-Coalesce columns variables values scale = row_type_rolled columns variables (layers.Coalesce values scale)
 
-pub sort-Cast : (columns variables : List Letter) (source : ResolvedExpr) (to : SqlType) → sort_of columns variables (exprs.Cast source to) ≡ sort_layer columns variables (layers.Cast (sort_of columns variables source) to)
+pub row_type-Cast : (columns variables : List Letter) (source : ResolvedExpr) (to : SqlType) → row_type_of columns variables (exprs.Cast source to) ≡ row_type_layer columns variables (layers.Cast (row_type_of columns variables source) to)
 unfolding roll-ResolvedExpr Carrier.roll
-sort-Cast columns variables source to = sort_rolled columns variables (layers.Cast source to)
+row_type-Cast columns variables source to = row_type_rolled columns variables (layers.Cast source to)
 
-pub sort-NullIf : (columns variables : List Letter) (left : ResolvedExpr) (right : ResolvedExpr) → sort_of columns variables (exprs.NullIf left right) ≡ sort_layer columns variables (layers.NullIf (sort_of columns variables left) (sort_of columns variables right))
+pub row_type-NullIf : (columns variables : List Letter) (left : ResolvedExpr) (right : ResolvedExpr) → row_type_of columns variables (exprs.NullIf left right) ≡ row_type_layer columns variables (layers.NullIf (row_type_of columns variables left) (row_type_of columns variables right))
 unfolding roll-ResolvedExpr Carrier.roll
-sort-NullIf columns variables left right = sort_rolled columns variables (layers.NullIf left right)
+row_type-NullIf columns variables left right = row_type_rolled columns variables (layers.NullIf left right)
 
-pub sort-Function : (columns variables : List Letter) (function : TextFunction) (argument : ResolvedExpr) → sort_of columns variables (exprs.Function function argument) ≡ sort_layer columns variables (layers.Function function (sort_of columns variables argument))
+pub row_type-Function : (columns variables : List Letter) (function : TextFunction) (argument : ResolvedExpr) → row_type_of columns variables (exprs.Function function argument) ≡ row_type_layer columns variables (layers.Function function (row_type_of columns variables argument))
 unfolding roll-ResolvedExpr Carrier.roll
-sort-Function columns variables function argument = sort_rolled columns variables (layers.Function function argument)
+row_type-Function columns variables function argument = row_type_rolled columns variables (layers.Function function argument)
 
-pub sort-Position : (columns variables : List Letter) (part : ResolvedExpr) (whole : ResolvedExpr) → sort_of columns variables (exprs.Position part whole) ≡ sort_layer columns variables (layers.Position (sort_of columns variables part) (sort_of columns variables whole))
+pub row_type-Position : (columns variables : List Letter) (part : ResolvedExpr) (whole : ResolvedExpr) → row_type_of columns variables (exprs.Position part whole) ≡ row_type_layer columns variables (layers.Position (row_type_of columns variables part) (row_type_of columns variables whole))
 unfolding roll-ResolvedExpr Carrier.roll
-sort-Position columns variables part whole = sort_rolled columns variables (layers.Position part whole)
+row_type-Position columns variables part whole = row_type_rolled columns variables (layers.Position part whole)
 
-pub sort-Substring : (columns variables : List Letter) (text : ResolvedExpr) (from : ResolvedExpr) (length : Option ResolvedExpr) → sort_of columns variables (exprs.Substring text from length) ≡ sort_layer columns variables (layers.Substring (sort_of columns variables text) (sort_of columns variables from) (option_map (sort_of columns variables) length))
+pub row_type-Substring : (columns variables : List Letter) (text : ResolvedExpr) (from : ResolvedExpr) (length : Option ResolvedExpr) → row_type_of columns variables (exprs.Substring text from length) ≡ row_type_layer columns variables (layers.Substring (row_type_of columns variables text) (row_type_of columns variables from) (option_map (row_type_of columns variables) length))
 unfolding roll-ResolvedExpr Carrier.roll
-sort-Substring columns variables text from None = sort_rolled columns variables (layers.Substring text from None)
-sort-Substring columns variables text from (Some length) = sort_rolled columns variables (layers.Substring text from (Some length))
+row_type-Substring columns variables text from None = row_type_rolled columns variables (layers.Substring text from None)
+row_type-Substring columns variables text from (Some length) = row_type_rolled columns variables (layers.Substring text from (Some length))
 
-pub sort-Trim : (columns variables : List Letter) (side : Side) (text : ResolvedExpr) → sort_of columns variables (exprs.Trim side text) ≡ sort_layer columns variables (layers.Trim side (sort_of columns variables text))
+pub row_type-Trim : (columns variables : List Letter) (side : Side) (text : ResolvedExpr) → row_type_of columns variables (exprs.Trim side text) ≡ row_type_layer columns variables (layers.Trim side (row_type_of columns variables text))
 unfolding roll-ResolvedExpr Carrier.roll
-sort-Trim columns variables side text = sort_rolled columns variables (layers.Trim side text)
+row_type-Trim columns variables side text = row_type_rolled columns variables (layers.Trim side text)

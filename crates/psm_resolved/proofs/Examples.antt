@@ -7,12 +7,12 @@ use Rattle.psm_value.specs.declared.sqltype.SqlType.TheVariants as types
 use Rattle.psm_exprcode.specs.declared.operand.Operand.TheVariants.{Value, Truth}
 use Rattle.psm_exprcode.specs.Evaluated.{Outcome}
 use Rattle.psm_resolved.specs.declared.expr.Comparison.TheVariants as comparisons
-use Rattle.psm_resolved.specs.declared.expr.Junction.TheVariants as junctions
+use Rattle.psm_resolved.specs.declared.expr.LogicalOperator.TheVariants as logical_operators
 use Rattle.psm_resolved.specs.declared.expr.Operator.TheVariants as operators
 use Rattle.psm_resolved.specs.declared.expr.ResolvedExpr.TheOpen as layers
 use Rattle.psm_exprcode.specs.declared.op.Letter.TheVariants.{N, T}
 use Rattle.psm_resolved.specs.RowValue.{value_layer}
-use Rattle.psm_resolved.specs.Sort.{Wrong, Untyped, Of, sort_layer}
+use Rattle.psm_resolved.specs.RowType.{Wrong, Untyped, Of, row_type_layer}
 
 -- the number n / 10^s, null, a text, truth values and conditions
 abbrev num : ℕ → ℕ → Outcome
@@ -40,17 +40,17 @@ abbrev too_large : Outcome
 too_large = Some (Err (codes "22003"))
 
 -- 1 / 3 is 0, and 1.00 / 3 is 0.33
-a_quotient_is_cut : value_layer [] [] (layers.Chain (num 1 0) ((operators.Divide, num 3 0) ∷ [])) ≡ num 0 0
+a_quotient_is_cut : value_layer [] [] (layers.OperatorChain (num 1 0) ((operators.Divide, num 3 0) ∷ [])) ≡ num 0 0
 a_quotient_is_cut = refl
 
-a_quotient_keeps_decimals : value_layer [] [] (layers.Chain (num 100 2) ((operators.Divide, num 3 0) ∷ [])) ≡ num 33 2
+a_quotient_keeps_decimals : value_layer [] [] (layers.OperatorChain (num 100 2) ((operators.Divide, num 3 0) ∷ [])) ≡ num 33 2
 a_quotient_keeps_decimals = refl
 
 -- 7 - 4 - 2 is 1
-operators_go_from_the_left : value_layer [] [] (layers.Chain (num 7 0) ((operators.Subtract, num 4 0) ∷ (operators.Subtract, num 2 0) ∷ [])) ≡ num 1 0
+operators_go_from_the_left : value_layer [] [] (layers.OperatorChain (num 7 0) ((operators.Subtract, num 4 0) ∷ (operators.Subtract, num 2 0) ∷ [])) ≡ num 1 0
 operators_go_from_the_left = refl
 
--- COALESCE (NULL, 2) at scale 0 is 2, and at scale 2 it is 2.00; what stands behind isn't evaluated
+-- COALESCE (NULL, 2) at scale 0 is 2, and at scale 2 it is 2.00; what stands after isn't evaluated
 the_first_value_that_is_not_null : value_layer [] [] (layers.Coalesce (record { first = null; rest = num 2 0 ∷ [] }) (Some 0)) ≡ num 2 0
 the_first_value_that_is_not_null = refl
 
@@ -78,7 +78,7 @@ the_operand_comes_first : value_layer [] [] (layers.Case (Some zero_divisor) (re
 the_operand_comes_first = refl
 
 -- AND evaluates both sides
-and_evaluates_both : value_layer [] [] (layers.Junction junctions.And (record { first = no_truth; rest = zero_divisor ∷ [] })) ≡ zero_divisor
+and_evaluates_both : value_layer [] [] (layers.LogicalOperator logical_operators.And (record { first = no_truth; rest = zero_divisor ∷ [] })) ≡ zero_divisor
 and_evaluates_both = refl
 
 operands_from_the_left : value_layer [] [] (layers.Compare comparisons.Less zero_divisor too_large) ≡ zero_divisor
@@ -96,7 +96,7 @@ in_with_the_value : value_layer [] [] (layers.In false (num 1 0) (record { first
 in_with_the_value = refl
 
 -- NULL || 'a' is null, and NULLIF (1, 1.0) is null
-a_null_operand : value_layer [] [] (layers.Chain null ((operators.Concatenate, text (codes "a")) ∷ [])) ≡ null
+a_null_operand : value_layer [] [] (layers.OperatorChain null ((operators.Concatenate, text (codes "a")) ∷ [])) ≡ null
 a_null_operand = refl
 
 equal_values_are_null : value_layer [] [] (layers.NullIf (num 1 0) (num 10 1)) ≡ null
@@ -111,35 +111,35 @@ a_variable_that_lacks = refl
 
 -- ---- letters
 
-a_column_is_of_its_letter : sort_layer (N ∷ T ∷ []) [] (layers.Column 1) ≡ Of T
+a_column_is_of_its_letter : row_type_layer (N ∷ T ∷ []) [] (layers.Column 1) ≡ Of T
 a_column_is_of_its_letter = refl
 
-a_column_that_lacks : sort_layer (N ∷ []) (T ∷ []) (layers.Column 1) ≡ Wrong
+a_column_that_lacks : row_type_layer (N ∷ []) (T ∷ []) (layers.Column 1) ≡ Wrong
 a_column_that_lacks = refl
 
-a_number_and_a_text : sort_layer [] [] (layers.Compare comparisons.Less (Of N) (Of T)) ≡ Wrong
+a_number_and_a_text : row_type_layer [] [] (layers.Compare comparisons.Less (Of N) (Of T)) ≡ Wrong
 a_number_and_a_text = refl
 
-null_in_a_comparison : sort_layer [] [] (layers.Compare comparisons.Equal (Of N) Untyped) ≡ Wrong
+null_in_a_comparison : row_type_layer [] [] (layers.Compare comparisons.Equal (Of N) Untyped) ≡ Wrong
 null_in_a_comparison = refl
 
-null_in_a_coalesce : sort_layer [] [] (layers.Coalesce (record { first = Untyped; rest = Of N ∷ [] }) (Some 2)) ≡ Of N
+null_in_a_coalesce : row_type_layer [] [] (layers.Coalesce (record { first = Untyped; rest = Of N ∷ [] }) (Some 2)) ≡ Of N
 null_in_a_coalesce = refl
 
-a_scale_that_is_too_large : sort_layer [] [] (layers.Coalesce (record { first = Of N; rest = [] }) (Some 19)) ≡ Wrong
+a_scale_that_is_too_large : row_type_layer [] [] (layers.Coalesce (record { first = Of N; rest = [] }) (Some 19)) ≡ Wrong
 a_scale_that_is_too_large = refl
 
-a_case_of_texts : sort_layer [] [] (layers.Case (Some (Of N)) (record { first = (Of N, Untyped); rest = (Of N, Of T) ∷ [] }) None None) ≡ Of T
+a_case_of_texts : row_type_layer [] [] (layers.Case (Some (Of N)) (record { first = (Of N, Untyped); rest = (Of N, Of T) ∷ [] }) None None) ≡ Of T
 a_case_of_texts = refl
 
-a_case_whose_test_is_a_value : sort_layer [] [] (layers.Case None (record { first = (Of N, Of N); rest = [] }) None (Some 0)) ≡ Wrong
+a_case_whose_test_is_a_value : row_type_layer [] [] (layers.Case None (record { first = (Of N, Of N); rest = [] }) None (Some 0)) ≡ Wrong
 a_case_whose_test_is_a_value = refl
 
-null_as_an_integer : sort_layer [] [] (layers.Cast Untyped types.Integer) ≡ Of N
+null_as_an_integer : row_type_layer [] [] (layers.Cast Untyped types.Integer) ≡ Of N
 null_as_an_integer = refl
 
-a_chain_of_numbers_and_a_text : sort_layer [] [] (layers.Chain (Of N) ((operators.Add, Of N) ∷ (operators.Concatenate, Of T) ∷ [])) ≡ Wrong
-a_chain_of_numbers_and_a_text = refl
+a_operator_chain_of_numbers_and_a_text : row_type_layer [] [] (layers.OperatorChain (Of N) ((operators.Add, Of N) ∷ (operators.Concatenate, Of T) ∷ [])) ≡ Wrong
+a_operator_chain_of_numbers_and_a_text = refl
 
-a_call_is_no_row_expression : sort_layer [] [] (layers.Call 0 []) ≡ Wrong
+a_call_is_no_row_expression : row_type_layer [] [] (layers.Call 0 []) ≡ Wrong
 a_call_is_no_row_expression = refl

@@ -1,4 +1,4 @@
--- Lines with jumps whose place isn't known yet: open blocks, which a block behind them closes.
+-- Lines with jumps whose place isn't known yet: open blocks, which a block after them closes.
 use Rattle.std.proofs.Common.{◌≡◌, ℕ, suc, ◌+◌, ◌-◌, ◌<◌, ◌≤◌, Bool, true, false, ◌&&◌, List, [], ◌∷◌, ◌++◌, length, nat_eq, nat_lt, refl, ap, sym, subst, ◌∙◌, arith, Some, None, Ok, append_assoc, length-append, eq-eqb, eqb-true}
 use Rattle.std.specs.Prelude.{reverse, slice_get, if◌then◌else◌}
 use Rattle.std.proofs.lemmas.Bool.{ne_eqb, lt-ltb}
@@ -33,7 +33,7 @@ lands_past end [] more s = refl
 lands_past end (l ∷ ls) more s =
     ap (λ b. are_stated end (slice_get (ls ++ more) (length ls)) b s) (eq_suc (length ls) (length (ls ++ more)) (nat_eq (length ls) (length (ls ++ more))) refl) ∙ lands_past end ls more s
 
--- the place that stands so many lines behind
+-- the place that stands n lines after
 pub lands_at : (end : Letter) (ls more : List Line) (n : ℕ) (s : List Letter) → n ≡ length ls → lands end more 0 s ≡ true → lands end (ls ++ more) n s ≡ true
 lands_at end ls more n s e h = ap (λ i. lands end (ls ++ more) i s) e ∙ lands_past end ls more s ∙ h
 
@@ -48,25 +48,25 @@ passed row vars at pc (l ∷ ls) more os h = passed_one row vars at pc l (ls ++ 
 -- ---- a test
 
 -- a line that jumps unless a test is true, the lines of a result, a line that jumps to the end, and the lines where the test isn't true
-record Fork (may : Op → Letter → Bool) (s t : List Letter) (p1 p2 p3 p4 e : ℕ) (unless away : Line) (found rest : List Line) (v h : Move) : Type 0 where
+record Fork (may : Op → Letter → Bool) (s t : List Letter) (p1 p2 p3 p4 e : ℕ) (unless branching : Line) (found rest : List Line) (v h : Move) : Type 0 where
   pub first : p2 ≡ suc p1
   pub last : p4 ≡ suc p3
   pub no_stack : reverse unless.stack ≡ B ∷ s
   pub no_op : unless.op ≡ op.JumpUnlessTrue p4
-  pub away_stack : reverse away.stack ≡ t
-  pub away_op : away.op ≡ op.Jump e
+  pub branch_stack : reverse branching.stack ≡ t
+  pub branch_op : branching.op ≡ op.Jump e
   pub result : Block may s t p2 p3 found v
   pub others : Block may s t p4 e rest h
 
 no_rule : (may : Op → Letter → Bool) (o : Op) (p : ℕ) → ((k : Letter) → may (op.JumpUnlessTrue p) k ≡ true) → o ≡ op.JumpUnlessTrue p → Rule may o (B ∷ []) (Some []) (Some (p, []))
-no_rule may o p m q = subst (λ i. Rule may i (B ∷ []) (Some []) (Some (p, []))) (sym q) (record { kind = N; other = N; bounded = refl; is_kind = refl; allowed = m N; takes_is = refl; puts_is = refl; away_is = refl })
+no_rule may o p m q = subst (λ i. Rule may i (B ∷ []) (Some []) (Some (p, []))) (sym q) (record { kind = N; other = N; bounded = refl; is_kind = refl; allowed = m N; takes_is = refl; puts_is = refl; branch_is = refl })
 
-away_rule : (may : Op → Letter → Bool) (o : Op) (p : ℕ) → ((k : Letter) → may (op.Jump p) k ≡ true) → o ≡ op.Jump p → Rule may o [] None (Some (p, []))
-away_rule may o p m q = subst (λ i. Rule may i [] None (Some (p, []))) (sym q) (record { kind = N; other = N; bounded = refl; is_kind = refl; allowed = m N; takes_is = refl; puts_is = refl; away_is = refl })
+branch_rule : (may : Op → Letter → Bool) (o : Op) (p : ℕ) → ((k : Letter) → may (op.Jump p) k ≡ true) → o ≡ op.Jump p → Rule may o [] None (Some (p, []))
+branch_rule may o p m q = subst (λ i. Rule may i [] None (Some (p, []))) (sym q) (record { kind = N; other = N; bounded = refl; is_kind = refl; allowed = m N; takes_is = refl; puts_is = refl; branch_is = refl })
 
-away_ran : (row vars : List Datum) (p3 p4 e : ℕ) (l : Line) (rest more : List Line) (os : List Operand) → l.op ≡ op.Jump e → p4 ≡ suc p3 → e ≡ p4 + length rest
+branch_ran : (row vars : List Datum) (p3 p4 e : ℕ) (l : Line) (rest more : List Line) (os : List Operand) → l.op ≡ op.Jump e → p4 ≡ suc p3 → e ≡ p4 + length rest
     → ran row vars p3 p3 (l ∷ (rest ++ more)) os ≡ ran row vars e e more os
-away_ran row vars p3 p4 e l rest more os q n h =
+branch_ran row vars p3 p4 e l rest more os q n h =
     ran_here row vars p3 l (rest ++ more) os ∙ ap (λ o. goes_on (applied o os row vars) (λ next. ran row vars (suc p3) (place_after p3 next) (rest ++ more))) q
     ∙ passed row vars (suc p3) e rest more os (h ∙ ap (λ i. i + length rest) n)
 
@@ -80,45 +80,45 @@ forked_ran row vars p1 p4 l more (Truth t ∷ os) found unless v h end y n = by 
   by true = y os
   by false = n os
 
-fork_block : (may : Op → Letter → Bool) (s t : List Letter) (p1 p2 p3 p4 e : ℕ) (unless away : Line) (found rest : List Line) (v h : Move) → ((p : ℕ) (k : Letter) → may (op.JumpUnlessTrue p) k ≡ true)
-    → ((p : ℕ) (k : Letter) → may (op.Jump p) k ≡ true) → Fork may s t p1 p2 p3 p4 e unless away found rest v h
-    → Block may (B ∷ s) t p1 e (unless ∷ (found ++ away ∷ rest)) (λ row vars os. branch_move (v row vars) (h row vars) os)
-fork_block may s t p1 p2 p3 p4 e unless away found rest v h m1 m2 f =
-    let many : length (found ++ away ∷ rest) ≡ length found + suc (length rest) = length-append found (away ∷ rest) in
+fork_block : (may : Op → Letter → Bool) (s t : List Letter) (p1 p2 p3 p4 e : ℕ) (unless branching : Line) (found rest : List Line) (v h : Move) → ((p : ℕ) (k : Letter) → may (op.JumpUnlessTrue p) k ≡ true)
+    → ((p : ℕ) (k : Letter) → may (op.Jump p) k ≡ true) → Fork may s t p1 p2 p3 p4 e unless branching found rest v h
+    → Block may (B ∷ s) t p1 e (unless ∷ (found ++ branching ∷ rest)) (λ row vars os. branch_move (v row vars) (h row vars) os)
+fork_block may s t p1 p2 p3 p4 e unless branching found rest v h m1 m2 f =
+    let many : length (found ++ branching ∷ rest) ≡ length found + suc (length rest) = length-append found (branching ∷ rest) in
     let ysize : p3 ≡ p2 + length found = f.result.size in
     let rsize : e ≡ p4 + length rest = f.others.size in
-    let assoc : (more : List Line) → (found ++ away ∷ rest) ++ more ≡ found ++ (away ∷ (rest ++ more)) = λ more. append_assoc found (away ∷ rest) more in
-    let past : (more : List Line) → (found ++ away ∷ rest) ++ more ≡ (found ++ away ∷ []) ++ (rest ++ more) = λ more. assoc more ∙ sym (append_assoc found (away ∷ []) (rest ++ more)) in
-    let passes : length (found ++ away ∷ []) ≡ length found + 1 = length-append found (away ∷ []) in
+    let assoc : (more : List Line) → (found ++ branching ∷ rest) ++ more ≡ found ++ (branching ∷ (rest ++ more)) = λ more. append_assoc found (branching ∷ rest) more in
+    let past : (more : List Line) → (found ++ branching ∷ rest) ++ more ≡ (found ++ branching ∷ []) ++ (rest ++ more) = λ more. assoc more ∙ sym (append_assoc found (branching ∷ []) (rest ++ more)) in
+    let passes : length (found ++ branching ∷ []) ≡ length found + 1 = length-append found (branching ∷ []) in
     record {
       size = omega (arith, many, ysize, rsize, f.first, f.last);
-      begins = λ end more g. stated_here end unless ((found ++ away ∷ rest) ++ more) (B ∷ s) f.no_stack;
+      begins = λ end more g. stated_here end unless ((found ++ branching ∷ rest) ++ more) (B ∷ s) f.no_stack;
       right = λ end more g k.
-          let there : lands end (away ∷ (rest ++ more)) 0 t ≡ true = stated_here end away (rest ++ more) t f.away_stack in
-          let here : lands end ((found ++ away ∷ rest) ++ more) 0 s ≡ true = ap (λ x. lands end x 0 s) (assoc more) ∙ f.result.begins end (away ∷ (rest ++ more)) there in
-          let over : lands end ((found ++ away ∷ rest) ++ more) (p4 - suc p1) s ≡ true =
-          ap (λ x. lands end x (p4 - suc p1) s) (past more) ∙ lands_at end (found ++ away ∷ []) (rest ++ more) (p4 - suc p1) s (omega (arith, passes, ysize, f.first, f.last)) (f.others.begins end more g) in
+          let there : lands end (branching ∷ (rest ++ more)) 0 t ≡ true = stated_here end branching (rest ++ more) t f.branch_stack in
+          let here : lands end ((found ++ branching ∷ rest) ++ more) 0 s ≡ true = ap (λ x. lands end x 0 s) (assoc more) ∙ f.result.begins end (branching ∷ (rest ++ more)) there in
+          let over : lands end ((found ++ branching ∷ rest) ++ more) (p4 - suc p1) s ≡ true =
+          ap (λ x. lands end x (p4 - suc p1) s) (past more) ∙ lands_at end (found ++ branching ∷ []) (rest ++ more) (p4 - suc p1) s (omega (arith, passes, ysize, f.first, f.last)) (f.others.begins end more g) in
           let far : nat_lt p1 p4 ≡ true = lt-ltb p1 p4 (omega (arith, ysize, f.first, f.last)) in
-          let one : is_line may end p1 unless ((found ++ away ∷ rest) ++ more) ≡ true =
-          line_right may end p1 unless ((found ++ away ∷ rest) ++ more) (B ∷ []) s (Some []) (Some (p4, [])) (no_rule may unless.op p4 (m1 p4) f.no_op) f.no_stack here
-          (both_true (nat_lt p1 p4) (lands end ((found ++ away ∷ rest) ++ more) (p4 - suc p1) s) far over) in
+          let one : is_line may end p1 unless ((found ++ branching ∷ rest) ++ more) ≡ true =
+          line_right may end p1 unless ((found ++ branching ∷ rest) ++ more) (B ∷ []) s (Some []) (Some (p4, [])) (no_rule may unless.op p4 (m1 p4) f.no_op) f.no_stack here
+          (both_true (nat_lt p1 p4) (lands end ((found ++ branching ∷ rest) ++ more) (p4 - suc p1) s) far over) in
           let ending : lands end (rest ++ more) (e - suc p3) t ≡ true = lands_at end rest more (e - suc p3) t (omega (arith, rsize, f.last)) g in
-          let behind : nat_lt p3 e ≡ true = lt-ltb p3 e (omega (arith, rsize, f.last)) in
-          let two : is_line may end p3 away (rest ++ more) ≡ true =
-          line_right may end p3 away (rest ++ more) [] t None (Some (e, [])) (away_rule may away.op e (m2 e) f.away_op) f.away_stack refl
-          (both_true (nat_lt p3 e) (lands end (rest ++ more) (e - suc p3) t) behind ending) in
+          let following : nat_lt p3 e ≡ true = lt-ltb p3 e (omega (arith, rsize, f.last)) in
+          let two : is_line may end p3 branching (rest ++ more) ≡ true =
+          line_right may end p3 branching (rest ++ more) [] t None (Some (e, [])) (branch_rule may branching.op e (m2 e) f.branch_op) f.branch_stack refl
+          (both_true (nat_lt p3 e) (lands end (rest ++ more) (e - suc p3) t) following ending) in
           let others : are_lines may end (suc p3) (rest ++ more) ≡ true = ap (λ i. are_lines may end i (rest ++ more)) (sym f.last) ∙ f.others.right end more g k in
-          let result : are_lines may end p2 (found ++ (away ∷ (rest ++ more))) ≡ true =
-          f.result.right end (away ∷ (rest ++ more)) there (both_true (is_line may end p3 away (rest ++ more)) (are_lines may end (suc p3) (rest ++ more)) two others) in
-          both_true (is_line may end p1 unless ((found ++ away ∷ rest) ++ more)) (are_lines may end (suc p1) ((found ++ away ∷ rest) ++ more)) one
-          (ap (are_lines may end (suc p1)) (assoc more) ∙ ap (λ i. are_lines may end i (found ++ (away ∷ (rest ++ more)))) (sym f.first) ∙ result);
+          let result : are_lines may end p2 (found ++ (branching ∷ (rest ++ more))) ≡ true =
+          f.result.right end (branching ∷ (rest ++ more)) there (both_true (is_line may end p3 branching (rest ++ more)) (are_lines may end (suc p3) (rest ++ more)) two others) in
+          both_true (is_line may end p1 unless ((found ++ branching ∷ rest) ++ more)) (are_lines may end (suc p1) ((found ++ branching ∷ rest) ++ more)) one
+          (ap (are_lines may end (suc p1)) (assoc more) ∙ ap (λ i. are_lines may end i (found ++ (branching ∷ (rest ++ more)))) (sym f.first) ∙ result);
       runs = λ row vars more os.
-          ran_here row vars p1 unless ((found ++ away ∷ rest) ++ more) os ∙ ap (λ o. goes_on (applied o os row vars) (λ next. ran row vars (suc p1) (place_after p1 next) ((found ++ away ∷ rest) ++ more))) f.no_op
-          ∙ forked_ran row vars p1 p4 unless ((found ++ away ∷ rest) ++ more) os (λ us. None) (λ us. None) (v row vars) (h row vars) (ran row vars e e more)
-          (λ us. ap (λ x. ran row vars (suc p1) (suc p1) x us) (assoc more) ∙ ap (λ i. ran row vars i i (found ++ (away ∷ (rest ++ more))) us) (sym f.first)
-          ∙ f.result.runs row vars (away ∷ (rest ++ more)) us
-          ∙ after_same (v row vars us) (ran row vars p3 p3 (away ∷ (rest ++ more))) (ran row vars e e more) (λ ws. away_ran row vars p3 p4 e away rest more ws f.away_op f.last rsize))
-          (λ us. ap (λ x. ran row vars (suc p1) p4 x us) (past more) ∙ passed row vars (suc p1) p4 (found ++ away ∷ []) (rest ++ more) us (omega (arith, passes, ysize, f.first, f.last)) ∙ f.others.runs row vars more us);
+          ran_here row vars p1 unless ((found ++ branching ∷ rest) ++ more) os ∙ ap (λ o. goes_on (applied o os row vars) (λ next. ran row vars (suc p1) (place_after p1 next) ((found ++ branching ∷ rest) ++ more))) f.no_op
+          ∙ forked_ran row vars p1 p4 unless ((found ++ branching ∷ rest) ++ more) os (λ us. None) (λ us. None) (v row vars) (h row vars) (ran row vars e e more)
+          (λ us. ap (λ x. ran row vars (suc p1) (suc p1) x us) (assoc more) ∙ ap (λ i. ran row vars i i (found ++ (branching ∷ (rest ++ more))) us) (sym f.first)
+          ∙ f.result.runs row vars (branching ∷ (rest ++ more)) us
+          ∙ after_same (v row vars us) (ran row vars p3 p3 (branching ∷ (rest ++ more))) (ran row vars e e more) (λ ws. branch_ran row vars p3 p4 e branching rest more ws f.branch_op f.last rsize))
+          (λ us. ap (λ x. ran row vars (suc p1) p4 x us) (past more) ∙ passed row vars (suc p1) p4 (found ++ branching ∷ []) (rest ++ more) us (omega (arith, passes, ysize, f.first, f.last)) ∙ f.others.runs row vars more us);
     }
 
 -- ---- a value that isn't null
@@ -141,7 +141,7 @@ set_block : (may : Op → Letter → Bool) (k : Letter) (s : List Letter) (p nex
     → reverse l.stack ≡ k ∷ s → l.op ≡ op.JumpUnlessNull e → Block may s (k ∷ s) next e rest h → Block may (k ∷ s) (k ∷ s) p e (l ∷ rest) (λ row vars os. set_move (h row vars) os)
 set_block may k s p next e l rest h v m n st q b =
     let rule : Rule may l.op (k ∷ []) (Some []) (Some (e, k ∷ [])) =
-    subst (λ i. Rule may i (k ∷ []) (Some []) (Some (e, k ∷ []))) (sym q) (record { kind = k; other = N; bounded = refl; is_kind = v; allowed = m e; takes_is = refl; puts_is = refl; away_is = refl }) in
+    subst (λ i. Rule may i (k ∷ []) (Some []) (Some (e, k ∷ []))) (sym q) (record { kind = k; other = N; bounded = refl; is_kind = v; allowed = m e; takes_is = refl; puts_is = refl; branch_is = refl }) in
     let size : e ≡ next + length rest = b.size in
     record {
       size = omega (arith, size, n);
@@ -170,18 +170,18 @@ open_more may s t a b c ls ms f g x y =
     record { closes = λ e rest h k. subst (λ ns. Block may s t a e ns (f (g h))) (sym (append_assoc (ls e) (ms e) rest)) (x.closes e (ms e ++ rest) (g h) (y.closes e rest h k)) }
 
 -- a branch of a CASE
-pub open_branch : (may : Op → Letter → Bool) (s t : List Letter) (p0 p1 p2 p3 p4 : ℕ) (test found : List Line) (unless : Line) (away : ℕ → Line) (u v : Move) → ((p : ℕ) (k : Letter) → may (op.JumpUnlessTrue p) k ≡ true)
+pub open_branch : (may : Op → Letter → Bool) (s t : List Letter) (p0 p1 p2 p3 p4 : ℕ) (test found : List Line) (unless : Line) (branching : ℕ → Line) (u v : Move) → ((p : ℕ) (k : Letter) → may (op.JumpUnlessTrue p) k ≡ true)
     → ((p : ℕ) (k : Letter) → may (op.Jump p) k ≡ true) → Block may s (B ∷ s) p0 p1 test u → p2 ≡ suc p1 → Block may s t p2 p3 found v → p4 ≡ suc p3 → reverse unless.stack ≡ B ∷ s → unless.op ≡ op.JumpUnlessTrue p4
-    → ((e : ℕ) → reverse (away e).stack ≡ t) → ((e : ℕ) → (away e).op ≡ op.Jump e)
-    → Open may s t p0 p4 (λ e. test ++ unless ∷ (found ++ away e ∷ [])) (λ h row vars os. then_move (u row vars os) (branch_move (v row vars) (h row vars)))
-open_branch may s t p0 p1 p2 p3 p4 test found unless away u v m1 m2 x n y l ns no_op aws ao = record {
+    → ((e : ℕ) → reverse (branching e).stack ≡ t) → ((e : ℕ) → (branching e).op ≡ op.Jump e)
+    → Open may s t p0 p4 (λ e. test ++ unless ∷ (found ++ branching e ∷ [])) (λ h row vars os. then_move (u row vars os) (branch_move (v row vars) (h row vars)))
+open_branch may s t p0 p1 p2 p3 p4 test found unless branching u v m1 m2 x n y l ns no_op aws ao = record {
   closes = λ e rest h b.
-      let assoc : (test ++ unless ∷ (found ++ away e ∷ [])) ++ rest ≡ test ++ (unless ∷ (found ++ away e ∷ rest)) =
-      append_assoc test (unless ∷ (found ++ away e ∷ [])) rest ∙ ap (λ k. test ++ unless ∷ k) (append_assoc found (away e ∷ []) rest) in
+      let assoc : (test ++ unless ∷ (found ++ branching e ∷ [])) ++ rest ≡ test ++ (unless ∷ (found ++ branching e ∷ rest)) =
+      append_assoc test (unless ∷ (found ++ branching e ∷ [])) rest ∙ ap (λ k. test ++ unless ∷ k) (append_assoc found (branching e ∷ []) rest) in
       subst (λ k. Block may s t p0 e k (λ row vars os. then_move (u row vars os) (branch_move (v row vars) (h row vars)))) (sym assoc)
-      (follows may s (B ∷ s) t p0 p1 e test (unless ∷ (found ++ away e ∷ rest)) u (λ row vars os. branch_move (v row vars) (h row vars) os) x
-      (fork_block may s t p1 p2 p3 p4 e unless (away e) found rest v h m1 m2
-      (record { first = n; last = l; no_stack = ns; no_op = no_op; away_stack = aws e; away_op = ao e; result = y; others = b })));
+      (follows may s (B ∷ s) t p0 p1 e test (unless ∷ (found ++ branching e ∷ rest)) u (λ row vars os. branch_move (v row vars) (h row vars) os) x
+      (fork_block may s t p1 p2 p3 p4 e unless (branching e) found rest v h m1 m2
+      (record { first = n; last = l; no_stack = ns; no_op = no_op; branch_stack = aws e; branch_op = ao e; result = y; others = b })));
 }
 
 -- a value of a COALESCE

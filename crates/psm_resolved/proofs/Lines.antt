@@ -1,4 +1,4 @@
--- Blocks of lines: one line, and one block behind another.
+-- Blocks of lines: one line, and one block after another.
 use Rattle.std.proofs.Common.{◌≡◌, ℕ, suc, ◌+◌, Bool, true, false, ◌&&◌, ◌||◌, List, [], ◌∷◌, ◌++◌, refl, ap, sym, subst, ◌∙◌, arith, Option, Some, None, Ok, Err, append_assoc, length-append, eq-eqb}
 use Rattle.std.specs.Prelude.{reverse, if◌then◌else◌}
 use Rattle.psm_value.specs.declared.datum.Datum.{Datum}
@@ -9,11 +9,11 @@ use Rattle.psm_exprcode.specs.declared.op.Op.{Op}
 use Rattle.psm_exprcode.specs.declared.operand.Operand.{Operand}
 use Rattle.psm_exprcode.specs.declared.operand.Next.{Next}
 use Rattle.psm_exprcode.specs.declared.operand.Next.TheVariants.{Ahead}
-use Rattle.psm_exprcode.specs.Applied.{Applied, Went, Raised, Lacking, applied}
+use Rattle.psm_exprcode.specs.Applied.{Applied, Went, Raised, Stuck, applied}
 use Rattle.psm_exprcode.specs.Evaluated.{Outcome, place_after, goes_on, ran}
 use Rattle.psm_exprcode.specs.Kinds.{is_letter, is_value, some_value, some_letter}
 use Rattle.psm_exprcode.specs.Operations.{Effect, effect}
-use Rattle.psm_exprcode.specs.WellFormed.{same_stack, left_of, is_bounded, lands, goes_ahead, goes_away, goes_on_with, leads, is_line, are_lines}
+use Rattle.psm_exprcode.specs.WellFormed.{same_stack, left_of, is_bounded, lands, falls_through, branches, goes_on_with, leads, is_line, are_lines}
 use Rattle.psm_exprcode.proofs.Standing.{both_true}
 use Rattle.psm_exprcode.proofs.Stripping.{is_letter-self}
 use Rattle.psm_resolved.specs.Blocks.{Moved, Move, after, Block}
@@ -22,10 +22,10 @@ use Rattle.psm_resolved.specs.Open.{then_move}
 -- ---- what becomes of operands
 
 -- an operation that goes on at the line that follows
-abbrev pub ahead : Moved → Applied
-ahead None = Lacking
-ahead (Some (Err state)) = Raised state
-ahead (Some (Ok os)) = Went Ahead os
+abbrev pub fall_through : Moved → Applied
+fall_through None = Stuck
+fall_through (Some (Err state)) = Raised state
+fall_through (Some (Ok os)) = Went Ahead os
 
 pub after_same : (m : Moved) (p q : List Operand → Outcome) → ((os : List Operand) → p os ≡ q os) → after m p ≡ after m q
 after_same None p q h = refl
@@ -37,10 +37,10 @@ after_then None g q = refl
 after_then (Some (Err state)) g q = refl
 after_then (Some (Ok os)) g q = refl
 
-goes_ahead_after : (m : Moved) (go : Next → List Operand → Outcome) → goes_on (ahead m) go ≡ after m (go Ahead)
-goes_ahead_after None go = refl
-goes_ahead_after (Some (Err state)) go = refl
-goes_ahead_after (Some (Ok os)) go = refl
+goes_fall_through_after : (m : Moved) (go : Next → List Operand → Outcome) → goes_on (fall_through m) go ≡ after m (go Ahead)
+goes_fall_through_after None go = refl
+goes_fall_through_after (Some (Err state)) go = refl
+goes_fall_through_after (Some (Ok os)) go = refl
 
 -- ---- tests of letters
 
@@ -75,23 +75,23 @@ pub stated_here : (end : Letter) (l : Line) (more : List Line) (s : List Letter)
 stated_here end l more s e = ap (same_stack s) e ∙ same_stack-self s
 
 -- what the table says of an operation, for some letters in place of k and x
-pub record Rule (may : Op → Letter → Bool) (o : Op) (takes : List Letter) (puts : Option (List Letter)) (away : Option (ℕ × List Letter)) : Type 0 where
+pub record Rule (may : Op → Letter → Bool) (o : Op) (takes : List Letter) (puts : Option (List Letter)) (branching : Option (ℕ × List Letter)) : Type 0 where
   pub kind : Letter
   pub other : Letter
   pub bounded : is_bounded o ≡ true
   pub is_kind : is_value kind ≡ true
   pub allowed : may o kind ≡ true
   pub takes_is : (effect o kind other).takes ≡ takes
-  pub puts_is : (effect o kind other).ahead ≡ puts
-  pub away_is : (effect o kind other).away ≡ away
+  pub puts_is : (effect o kind other).fall_through ≡ puts
+  pub branch_is : (effect o kind other).branching ≡ branching
 
-pub line_right : (may : Op → Letter → Bool) (end : Letter) (pc : ℕ) (l : Line) (more : List Line) (takes rest : List Letter) (puts : Option (List Letter)) (away : Option (ℕ × List Letter)) → Rule may l.op takes puts away
-    → reverse l.stack ≡ takes ++ rest → goes_ahead end puts rest more ≡ true → goes_away end pc away rest more ≡ true → is_line may end pc l more ≡ true
-line_right may end pc l more takes rest puts away r e h g =
+pub line_right : (may : Op → Letter → Bool) (end : Letter) (pc : ℕ) (l : Line) (more : List Line) (takes rest : List Letter) (puts : Option (List Letter)) (branching : Option (ℕ × List Letter)) → Rule may l.op takes puts branching
+    → reverse l.stack ≡ takes ++ rest → falls_through end puts rest more ≡ true → branches end pc branching rest more ≡ true → is_line may end pc l more ≡ true
+line_right may end pc l more takes rest puts branching r e h g =
     let ef : Effect = effect l.op r.kind r.other in
     let taken : left_of ef.takes (reverse l.stack) ≡ Some rest = ap (λ t. left_of t (reverse l.stack)) r.takes_is ∙ ap (left_of takes) e ∙ left_of-all takes rest in
     let on : goes_on_with end pc ef (Some rest) more ≡ true =
-    both_true (goes_ahead end ef.ahead rest more) (goes_away end pc ef.away rest more) (ap (λ p. goes_ahead end p rest more) r.puts_is ∙ h) (ap (λ p. goes_away end pc p rest more) r.away_is ∙ g) in
+    both_true (falls_through end ef.fall_through rest more) (branches end pc ef.branching rest more) (ap (λ p. falls_through end p rest more) r.puts_is ∙ h) (ap (λ p. branches end pc p rest more) r.branch_is ∙ g) in
     let ways : Letter → Letter → Bool = λ k x. leads end pc (effect l.op k x) (reverse l.stack) more in
     let way : ways r.kind r.other ≡ true = ap (λ u. goes_on_with end pc ef u more) taken ∙ on in
     let for_kind : Letter → Bool = λ k. may l.op k && some_letter (ways k) in
@@ -105,14 +105,14 @@ ran_here row vars pc l more os =
 
 -- an operation that never jumps
 pub line_block : (may : Op → Letter → Bool) (s takes puts rest : List Letter) (pc next : ℕ) (l : Line) (move : Move) → Rule may l.op takes (Some puts) None → reverse l.stack ≡ s → s ≡ takes ++ rest → next ≡ suc pc
-    → ((row vars : List Datum) (os : List Operand) → applied l.op os row vars ≡ ahead (move row vars os)) → Block may s (puts ++ rest) pc next (l ∷ []) move
+    → ((row vars : List Datum) (os : List Operand) → applied l.op os row vars ≡ fall_through (move row vars os)) → Block may s (puts ++ rest) pc next (l ∷ []) move
 line_block may s takes puts rest pc next l move r e f n h =
     subst (λ i. Block may s (puts ++ rest) pc i (l ∷ []) move) (sym n) (record {
       size = omega arith;
       begins = λ end more g. stated_here end l more s e;
       right = λ end more g k. both_true (is_line may end pc l more) (are_lines may end (suc pc) more) (line_right may end pc l more takes rest (Some puts) None r (e ∙ f) g refl) k;
       runs = λ row vars more os. ran_here row vars pc l more os ∙ ap (λ a. goes_on a (λ i. ran row vars (suc pc) (place_after pc i) more)) (h row vars os)
-          ∙ goes_ahead_after (move row vars os) (λ i. ran row vars (suc pc) (place_after pc i) more);
+          ∙ goes_fall_through_after (move row vars os) (λ i. ran row vars (suc pc) (place_after pc i) more);
     })
 
 -- ---- blocks

@@ -16,7 +16,7 @@ use Rattle.psm_exprcode.specs.declared.op.Op.{Op}
 use Rattle.psm_exprcode.specs.declared.op.Op.TheVariants as op
 use Rattle.psm_exprcode.specs.declared.operand.Operand.{Operand}
 use Rattle.psm_exprcode.specs.declared.operand.Operand.TheVariants.{Value, Truth}
-use Rattle.psm_exprcode.specs.Applied.{Applied, Went, Raised, Lacking, with_truth}
+use Rattle.psm_exprcode.specs.Applied.{Applied, Went, Raised, Stuck, with_truth}
 use Rattle.psm_exprcode.specs.Applied as taking
 use Rattle.psm_exprcode.specs.Comparison.{among}
 use Rattle.psm_exprcode.specs.Evaluated.{Outcome}
@@ -29,11 +29,11 @@ use Rattle.psm_resolved.specs.Blocks.{Moved, put, put_all}
 use Rattle.psm_resolved.specs.Open.{then_move}
 use Rattle.psm_resolved.specs.Outcomes.{decided, with_operands, on_value, on_values, of_others}
 use Rattle.psm_resolved.specs.RowValue.{listed, tested, row_value}
-use Rattle.psm_resolved.specs.Sort.{is_of, sort_of}
+use Rattle.psm_resolved.specs.RowType.{is_of, row_type_of}
 use Rattle.psm_resolved.specs.Written.{Written, with_op, with_not, Adds, puts_value, puts_all, Writes, WritesAll}
-use Rattle.psm_resolved.proofs.Equations.{value-In, sort-In}
+use Rattle.psm_resolved.proofs.Equations.{value-In, row_type-In}
 use Rattle.psm_resolved.proofs.Forms.{Meaning, puts, told, value_found, relabel, not_adds, written_ok}
-use Rattle.psm_resolved.proofs.Lines.{ahead, Rule}
+use Rattle.psm_resolved.proofs.Lines.{fall_through, Rule}
 use Rattle.psm_resolved.proofs.Operations.{adds_same, adds_more, adds_op}
 use Rattle.psm_resolved.proofs.Several.{all_one_more}
 
@@ -138,19 +138,19 @@ reversed_first : (a : Datum) (v : Option (List Datum)) → values_joined (option
 reversed_first a None = refl
 reversed_first a (Some ds) = ap Some (sym (reverse-append (a ∷ []) ds))
 
-joined_lacking : (v : Option (List Datum)) → values_joined v None ≡ None
-joined_lacking None = refl
-joined_lacking (Some ds) = refl
+joined_stuck : (v : Option (List Datum)) → values_joined v None ≡ None
+joined_stuck None = refl
+joined_stuck (Some ds) = refl
 
 values-reverse : (xs : List Operand) → values_of (reverse xs) ≡ option_map reverse (values_of xs)
 values-reverse [] = refl
 values-reverse (Value a ∷ xs) =
     ap values_of (reverse-append (Value a ∷ []) xs) ∙ values-append (reverse xs) (Value a ∷ []) ∙ ap (λ v. values_joined v (Some (a ∷ []))) (values-reverse xs) ∙ reversed_first a (values_of xs)
 values-reverse (Truth t ∷ xs) =
-    ap values_of (reverse-append (Truth t ∷ []) xs) ∙ values-append (reverse xs) (Truth t ∷ []) ∙ joined_lacking (values_of (reverse xs))
+    ap values_of (reverse-append (Truth t ∷ []) xs) ∙ values-append (reverse xs) (Truth t ∷ []) ∙ joined_stuck (values_of (reverse xs))
 
 abbrev with_many : Option (List Datum) → (List Datum → List Operand → Applied) → List Operand → Applied
-with_many None f os = Lacking
+with_many None f os = Stuck
 with_many (Some ds) f os = f ds os
 
 many_first : (a : Datum) (v : Option (List Datum)) (f : List Datum → List Operand → Applied) (os : List Operand) → with_many v (λ ds. f (a ∷ ds)) os ≡ with_many (option_map (λ ds. a ∷ ds) v) f os
@@ -181,21 +181,21 @@ on_values-from f (Truth t ∷ xs) = refl
 abbrev stepped : Applied → Moved
 stepped (Went next os) = Some (Ok os)
 stepped (Raised state) = Some (Err state)
-stepped Lacking = None
+stepped Stuck = None
 
 abbrev finds : List Datum → List Operand → Applied
 finds ds os = taking.on_value (λ a below. with_truth below (Ok (among a ds))) os
 
-finds_ahead : (ds : List Datum) (os : List Operand) → finds ds os ≡ ahead (stepped (finds ds os))
-finds_ahead ds [] = refl
-finds_ahead ds (Value a ∷ os) = refl
-finds_ahead ds (Truth t ∷ os) = refl
+finds_fall_through : (ds : List Datum) (os : List Operand) → finds ds os ≡ fall_through (stepped (finds ds os))
+finds_fall_through ds [] = refl
+finds_fall_through ds (Value a ∷ os) = refl
+finds_fall_through ds (Truth t ∷ os) = refl
 
-many_ahead : (n : ℕ) (f : List Datum → List Operand → Applied) (os : List Operand) → ((ds : List Datum) (us : List Operand) → f ds us ≡ ahead (stepped (f ds us))) → taking.on_many n f os ≡ ahead (stepped (taking.on_many n f os))
-many_ahead zero f os h = h [] os
-many_ahead (suc n) f [] h = refl
-many_ahead (suc n) f (Value a ∷ os) h = many_ahead n (λ ds. f (a ∷ ds)) os (λ ds us. h (a ∷ ds) us)
-many_ahead (suc n) f (Truth t ∷ os) h = refl
+many_fall_through : (n : ℕ) (f : List Datum → List Operand → Applied) (os : List Operand) → ((ds : List Datum) (us : List Operand) → f ds us ≡ fall_through (stepped (f ds us))) → taking.on_many n f os ≡ fall_through (stepped (taking.on_many n f os))
+many_fall_through zero f os h = h [] os
+many_fall_through (suc n) f [] h = refl
+many_fall_through (suc n) f (Value a ∷ os) h = many_fall_through n (λ ds. f (a ∷ ds)) os (λ ds us. h (a ∷ ds) us)
+many_fall_through (suc n) f (Truth t ∷ os) h = refl
 
 among_found : (v : Option (List Datum)) (x : Operand) (os : List Operand) → stepped (with_many (option_map reverse v) finds (x ∷ os)) ≡ put (on_value (λ c. from_values v (λ ds. decided (Ok (among c ds)))) x) os
 among_found None (Value c) os = refl
@@ -237,12 +237,12 @@ one_longer k xs b = let e : suc (length xs) ≡ length (xs ++ b ∷ []) = omega 
 
 pub list_first : (columns variables : List Letter) (a : ResolvedExpr) (w0 w1 : Written) → Writes columns variables a w0 w1 → WritesAll columns variables (a ∷ []) w0 w1
 list_first columns variables a w0 w1 x = λ k h.
-    adds_same (is_of_kind columns variables) (k ∷ []) (puts_value a) (puts_all (a ∷ [])) w0 w1 (λ row vars os. puts_one_more (row_value row vars) [] a os) (x k (and_first (is_of k (sort_of columns variables a)) true h))
+    adds_same (is_of_kind columns variables) (k ∷ []) (puts_value a) (puts_all (a ∷ [])) w0 w1 (λ row vars os. puts_one_more (row_value row vars) [] a os) (x k (and_first (is_of k (row_type_of columns variables a)) true h))
 
 pub list_next : (columns variables : List Letter) (xs ys : List ResolvedExpr) (b : ResolvedExpr) (w0 w1 w2 : Written) → ys ≡ xs ++ b ∷ [] → WritesAll columns variables xs w0 w1 → Writes columns variables b w1 w2
     → WritesAll columns variables ys w0 w2
 list_next columns variables xs ys b w0 w1 w2 q x z = subst (λ l. WritesAll columns variables l w0 w2) (sym q) (λ k h.
-    let parts = all_one_more (is_of k) (sort_of columns variables) xs b h in
+    let parts = all_one_more (is_of k) (row_type_of columns variables) xs b h in
     subst (λ ks. Adds (is_of_kind columns variables) ks (puts_all (xs ++ b ∷ [])) w0 w2) (one_longer k xs b)
     (adds_same (is_of_kind columns variables) (k ∷ replicate (length xs) k) (λ row vars os. then_move (puts_all xs row vars os) (puts_value b row vars)) (puts_all (xs ++ b ∷ [])) w0 w2
     (λ row vars os. puts_one_more (row_value row vars) xs b os)
@@ -269,15 +269,15 @@ pub in_written : (columns variables : List Letter) (e a : ResolvedExpr) (list : 
 in_written columns variables e a list negated n m w0 w1 w2 w3 w4 r q x z c d p y = written_ok columns variables e w0 w4 (with_not negated w3) r y (λ k h.
     let M : Op → Letter → Bool = is_of_kind columns variables in
     let l : ℕ = length (listed list) in
-    let ta : Letter → Bool = λ j. is_of j (sort_of columns variables a) in
-    let tb : Letter → Bool = λ j. list_all (is_of j) (map (sort_of columns variables) (listed list)) in
+    let ta : Letter → Bool = λ j. is_of j (row_type_of columns variables a) in
+    let tb : Letter → Bool = λ j. list_all (is_of j) (map (row_type_of columns variables) (listed list)) in
     let test : Letter → Bool = λ j. ta j && tb j in
     let u : Meaning = λ row vars. of_others (λ i ds. decided (Ok (among i ds))) (row_value row vars a) (map (row_value row vars) (listed list)) in
-    let s = told (sort_of columns variables e) (some_value test) B k (ap (sort_of columns variables) q ∙ sort-In columns variables negated a list) h in
+    let s = told (row_type_of columns variables e) (some_value test) B k (ap (row_type_of columns variables) q ∙ row_type-In columns variables negated a list) h in
     let v = value_found test s.0 in
     let here : w3 ≡ with_op w2 (op.In l) (suc l) B = p ∙ ap (λ i. with_op w2 (op.In n) i B) d ∙ ap (λ i. with_op w2 (op.In i) (suc i) B) c in
     let rule : Rule M (op.In l) (replicate l v.0 ++ v.0 ∷ []) (Some (B ∷ [])) None =
-    record { kind = v.0; other = N; bounded = refl; is_kind = v.1; allowed = refl; takes_is = refl; puts_is = refl; away_is = refl } in
+    record { kind = v.0; other = N; bounded = refl; is_kind = v.1; allowed = refl; takes_is = refl; puts_is = refl; branch_is = refl } in
     relabel M B k (puts_value e) w0 (with_not negated w3) s.1
     (not_adds columns variables negated u (λ row vars. row_value row vars e) w0 w3 (λ row vars. ap (row_value row vars) q ∙ value-In row vars negated a list)
     (subst (λ w. Adds M (B ∷ []) (puts u) w0 w) (sym here)
@@ -285,5 +285,5 @@ in_written columns variables e a list negated n m w0 w1 w2 w3 w4 r q x z c d p y
     (λ row vars os. ap (λ i. then_move (then_move (puts_value a row vars os) (puts_all (listed list) row vars)) (λ us. stepped (taking.on_many i finds us))) (sym (map_length (row_value row vars) (listed list)))
     ∙ in_moved (row_value row vars a) (map (row_value row vars) (listed list)) os)
     (adds_op M (replicate l v.0 ++ v.0 ∷ []) (suc l) B (op.In l) (λ row vars os. then_move (puts_value a row vars os) (puts_all (listed list) row vars)) (λ row vars us. stepped (taking.on_many l finds us)) w0 w2 rule
-    (takes_length l v.0) (λ row vars os. many_ahead l finds os finds_ahead)
+    (takes_length l v.0) (λ row vars os. many_fall_through l finds os finds_fall_through)
     (adds_more M (v.0 ∷ []) (replicate l v.0) (puts_value a) (puts_all (listed list)) w0 w1 w2 (x v.0 (and_first (ta v.0) (tb v.0) v.2)) (z v.0 (and_second (ta v.0) (tb v.0) v.2))))))))

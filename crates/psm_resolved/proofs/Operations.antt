@@ -17,7 +17,7 @@ use Rattle.psm_resolved.specs.Blocks.{Moved, Move, put, Block}
 use Rattle.psm_resolved.specs.Open.{then_move}
 use Rattle.psm_resolved.specs.Outcomes.{valued, decided, on_value, on_truth, of_one, of_two, of_three, of_truth, of_truths}
 use Rattle.psm_resolved.specs.Written.{Written, with_op, Adds}
-use Rattle.psm_resolved.proofs.Lines.{ahead, Rule, line_block, follows, same_move}
+use Rattle.psm_resolved.proofs.Lines.{fall_through, Rule, line_block, follows, same_move}
 
 -- ---- what operations make of operands, the last one first
 
@@ -45,60 +45,60 @@ move_truths f [] = None
 move_truths f (y ∷ []) = None
 move_truths f (y ∷ x ∷ os) = put (on_truth (λ t. on_truth (λ u. decided (Ok (f t u))) y) x) os
 
-pub value_ahead : (os : List Operand) (r : Result Datum (List ℕ)) → with_value os r ≡ ahead (put (valued r) os)
-value_ahead os (Ok d) = refl
-value_ahead os (Err state) = refl
+pub value_fall_through : (os : List Operand) (r : Result Datum (List ℕ)) → with_value os r ≡ fall_through (put (valued r) os)
+value_fall_through os (Ok d) = refl
+value_fall_through os (Err state) = refl
 
-pub truth_ahead : (os : List Operand) (r : Result Answer (List ℕ)) → with_truth os r ≡ ahead (put (decided r) os)
-truth_ahead os (Ok t) = refl
-truth_ahead os (Err state) = refl
+pub truth_fall_through : (os : List Operand) (r : Result Answer (List ℕ)) → with_truth os r ≡ fall_through (put (decided r) os)
+truth_fall_through os (Ok t) = refl
+truth_fall_through os (Err state) = refl
 
-pub one_ahead : (g : Datum → List Operand → Applied) (f : Datum → Outcome) → ((a : Datum) (os : List Operand) → g a os ≡ ahead (put (f a) os)) → (os : List Operand) → taking.on_value g os ≡ ahead (move_one f os)
-one_ahead g f h [] = refl
-one_ahead g f h (Value a ∷ os) = h a os
-one_ahead g f h (Truth t ∷ os) = refl
+pub one_fall_through : (g : Datum → List Operand → Applied) (f : Datum → Outcome) → ((a : Datum) (os : List Operand) → g a os ≡ fall_through (put (f a) os)) → (os : List Operand) → taking.on_value g os ≡ fall_through (move_one f os)
+one_fall_through g f h [] = refl
+one_fall_through g f h (Value a ∷ os) = h a os
+one_fall_through g f h (Truth t ∷ os) = refl
 
-pub two_ahead : (g : Datum → Datum → List Operand → Applied) (f : Datum → Datum → Outcome) → ((a b : Datum) (os : List Operand) → g a b os ≡ ahead (put (f a b) os)) → (os : List Operand)
-    → taking.on_two g os ≡ ahead (move_two f os)
-two_ahead g f h [] = refl
-two_ahead g f h (Value b ∷ []) = refl
-two_ahead g f h (Truth u ∷ []) = refl
-two_ahead g f h (Value b ∷ Value a ∷ os) = h a b os
-two_ahead g f h (Value b ∷ Truth t ∷ os) = refl
-two_ahead g f h (Truth u ∷ Value a ∷ os) = refl
-two_ahead g f h (Truth u ∷ Truth t ∷ os) = refl
+pub two_fall_through : (g : Datum → Datum → List Operand → Applied) (f : Datum → Datum → Outcome) → ((a b : Datum) (os : List Operand) → g a b os ≡ fall_through (put (f a b) os)) → (os : List Operand)
+    → taking.on_two g os ≡ fall_through (move_two f os)
+two_fall_through g f h [] = refl
+two_fall_through g f h (Value b ∷ []) = refl
+two_fall_through g f h (Truth u ∷ []) = refl
+two_fall_through g f h (Value b ∷ Value a ∷ os) = h a b os
+two_fall_through g f h (Value b ∷ Truth t ∷ os) = refl
+two_fall_through g f h (Truth u ∷ Value a ∷ os) = refl
+two_fall_through g f h (Truth u ∷ Truth t ∷ os) = refl
 
-pub three_ahead : (g : Datum → Datum → Datum → List Operand → Applied) (f : Datum → Datum → Datum → Outcome) → ((a b c : Datum) (os : List Operand) → g a b c os ≡ ahead (put (f a b c) os)) → (os : List Operand)
-    → taking.on_three g os ≡ ahead (move_three f os)
-three_ahead g f h [] = refl
-three_ahead g f h (Value c ∷ []) = refl
-three_ahead g f h (Truth v ∷ []) = refl
-three_ahead g f h (Value c ∷ Value b ∷ []) = refl
-three_ahead g f h (Value c ∷ Truth u ∷ []) = refl
-three_ahead g f h (Truth v ∷ Value b ∷ []) = refl
-three_ahead g f h (Truth v ∷ Truth u ∷ []) = refl
-three_ahead g f h (Value c ∷ Value b ∷ Value a ∷ os) = h a b c os
-three_ahead g f h (Value c ∷ Value b ∷ Truth t ∷ os) = refl
-three_ahead g f h (Value c ∷ Truth u ∷ Value a ∷ os) = refl
-three_ahead g f h (Value c ∷ Truth u ∷ Truth t ∷ os) = refl
-three_ahead g f h (Truth v ∷ Value b ∷ Value a ∷ os) = refl
-three_ahead g f h (Truth v ∷ Value b ∷ Truth t ∷ os) = refl
-three_ahead g f h (Truth v ∷ Truth u ∷ Value a ∷ os) = refl
-three_ahead g f h (Truth v ∷ Truth u ∷ Truth t ∷ os) = refl
+pub three_fall_through : (g : Datum → Datum → Datum → List Operand → Applied) (f : Datum → Datum → Datum → Outcome) → ((a b c : Datum) (os : List Operand) → g a b c os ≡ fall_through (put (f a b c) os)) → (os : List Operand)
+    → taking.on_three g os ≡ fall_through (move_three f os)
+three_fall_through g f h [] = refl
+three_fall_through g f h (Value c ∷ []) = refl
+three_fall_through g f h (Truth v ∷ []) = refl
+three_fall_through g f h (Value c ∷ Value b ∷ []) = refl
+three_fall_through g f h (Value c ∷ Truth u ∷ []) = refl
+three_fall_through g f h (Truth v ∷ Value b ∷ []) = refl
+three_fall_through g f h (Truth v ∷ Truth u ∷ []) = refl
+three_fall_through g f h (Value c ∷ Value b ∷ Value a ∷ os) = h a b c os
+three_fall_through g f h (Value c ∷ Value b ∷ Truth t ∷ os) = refl
+three_fall_through g f h (Value c ∷ Truth u ∷ Value a ∷ os) = refl
+three_fall_through g f h (Value c ∷ Truth u ∷ Truth t ∷ os) = refl
+three_fall_through g f h (Truth v ∷ Value b ∷ Value a ∷ os) = refl
+three_fall_through g f h (Truth v ∷ Value b ∷ Truth t ∷ os) = refl
+three_fall_through g f h (Truth v ∷ Truth u ∷ Value a ∷ os) = refl
+three_fall_through g f h (Truth v ∷ Truth u ∷ Truth t ∷ os) = refl
 
-pub one_truth_ahead : (f : Answer → Answer) (os : List Operand) → taking.on_truth (λ t below. with_truth below (Ok (f t))) os ≡ ahead (move_truth f os)
-one_truth_ahead f [] = refl
-one_truth_ahead f (Value a ∷ os) = refl
-one_truth_ahead f (Truth t ∷ os) = refl
+pub one_truth_fall_through : (f : Answer → Answer) (os : List Operand) → taking.on_truth (λ t below. with_truth below (Ok (f t))) os ≡ fall_through (move_truth f os)
+one_truth_fall_through f [] = refl
+one_truth_fall_through f (Value a ∷ os) = refl
+one_truth_fall_through f (Truth t ∷ os) = refl
 
-pub two_truths_ahead : (f : Answer → Answer → Answer) (os : List Operand) → taking.combines f os ≡ ahead (move_truths f os)
-two_truths_ahead f [] = refl
-two_truths_ahead f (Value b ∷ []) = refl
-two_truths_ahead f (Truth u ∷ []) = refl
-two_truths_ahead f (Value b ∷ Value a ∷ os) = refl
-two_truths_ahead f (Value b ∷ Truth t ∷ os) = refl
-two_truths_ahead f (Truth u ∷ Value a ∷ os) = refl
-two_truths_ahead f (Truth u ∷ Truth t ∷ os) = refl
+pub two_truths_fall_through : (f : Answer → Answer → Answer) (os : List Operand) → taking.combines f os ≡ fall_through (move_truths f os)
+two_truths_fall_through f [] = refl
+two_truths_fall_through f (Value b ∷ []) = refl
+two_truths_fall_through f (Truth u ∷ []) = refl
+two_truths_fall_through f (Value b ∷ Value a ∷ os) = refl
+two_truths_fall_through f (Value b ∷ Truth t ∷ os) = refl
+two_truths_fall_through f (Truth u ∷ Value a ∷ os) = refl
+two_truths_fall_through f (Truth u ∷ Truth t ∷ os) = refl
 
 -- ---- operands that are put, and then an operation on them
 
@@ -162,7 +162,7 @@ adds_more may ks ls f g old between new a b =
 
 -- an operation that finds its operands among those that are there
 pub op_adds : (may : Op → Letter → Bool) (takes rest : List Letter) (n : ℕ) (k : Letter) (o : Op) (move : Move) (w : Written) → Rule may o takes (Some (k ∷ [])) None → w.stack ≡ takes ++ rest → n ≡ length takes
-    → ((row vars : List Datum) (os : List Operand) → applied o os row vars ≡ ahead (move row vars os))
+    → ((row vars : List Datum) (os : List Operand) → applied o os row vars ≡ fall_through (move row vars os))
     → Block may w.stack (k ∷ rest) (length w.lines) (length (with_op w o n k).lines) (record { stack = reverse w.stack; op = o } ∷ []) move
 op_adds may takes rest n k o move w r e m h =
     let l : Line = record { stack = reverse w.stack; op = o } in
@@ -173,7 +173,7 @@ dropped takes rest s n e m = ap (λ i. drop i s) m ∙ ap (drop (length takes)) 
 
 -- operands are put, and then an operation takes all of them
 pub adds_op : (may : Op → Letter → Bool) (takes : List Letter) (n : ℕ) (k : Letter) (o : Op) (f g : Move) (old between : Written) → Rule may o takes (Some (k ∷ [])) None → n ≡ length takes
-    → ((row vars : List Datum) (os : List Operand) → applied o os row vars ≡ ahead (g row vars os)) → Adds may takes f old between
+    → ((row vars : List Datum) (os : List Operand) → applied o os row vars ≡ fall_through (g row vars os)) → Adds may takes f old between
     → Adds may (k ∷ []) (λ row vars os. then_move (f row vars os) (g row vars)) old (with_op between o n k)
 adds_op may takes n k o f g old between r m h a =
     let l : Line = record { stack = reverse between.stack; op = o } in
@@ -188,7 +188,7 @@ adds_op may takes n k o f g old between r m h a =
 
 -- an operation that takes none
 pub adds_leaf : (may : Op → Letter → Bool) (k : Letter) (o : Op) (g : Move) (old : Written) → Rule may o [] (Some (k ∷ [])) None
-    → ((row vars : List Datum) (os : List Operand) → applied o os row vars ≡ ahead (g row vars os)) → Adds may (k ∷ []) g old (with_op old o 0 k)
+    → ((row vars : List Datum) (os : List Operand) → applied o os row vars ≡ fall_through (g row vars os)) → Adds may (k ∷ []) g old (with_op old o 0 k)
 adds_leaf may k o g old r h = record {
   lines = record { stack = reverse old.stack; op = o } ∷ [];
   added = refl;

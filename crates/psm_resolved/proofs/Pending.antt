@@ -10,7 +10,7 @@ use Rattle.psm_resolved.specs.Open.{Open, Pends}
 use Rattle.psm_resolved.specs.Written.{Written, patched, Adds}
 use Rattle.psm_resolved.proofs.Jumps.{open_none, open_more}
 
--- the line behind some others
+-- the line after some others
 pub replaced_here : (before more : List Line) (l : Line) (p : ℕ) (o : Op) → p ≡ length before → with_op_at (before ++ (l ∷ more)) p o ≡ before ++ (record { stack = l.stack; op = o } ∷ more)
 replaced_here before more l p o e = ap (λ i. with_op_at (before ++ (l ∷ more)) i o) e ∙ by before where
   by : (xs : List Line) → with_op_at (xs ++ (l ∷ more)) (length xs) o ≡ xs ++ (record { stack = l.stack; op = o } ∷ more)
@@ -55,7 +55,7 @@ pends_more may t jump f g ps qs old between new a b =
       opens = open_more may old.stack t (length old.lines) (length between.lines) (length new.lines) a.filled b.filled f g a.opens (subst S a.letters b.opens);
     }
 
--- a block behind them closes them
+-- a block after them closes them
 pub pends_closed : (may : Op → Letter → Bool) (ks : List Letter) (jump : ℕ → Op) (g : Move → Move) (h : Move) (places : List ℕ) (old between new last : Written) → Pends may (ks ++ old.stack) jump g places old between
     → Adds may ks h between new → last ≡ record { lines = patched (jump (length new.lines)) places new.lines; stack = new.stack } → Adds may ks (g h) old last
 pends_closed may ks jump g h places old between new last a b q =

@@ -1,4 +1,4 @@
--- The lines of an expression from the first line on are code of its letter, and come to its value.
+-- The lines of an expression from the first line on are code of its letter, and evaluate to its value.
 use Rattle.std.proofs.Common.{◌≡◌, ℕ, suc, Bool, true, ◌&&◌, List, [], ◌∷◌, ◌++◌, length, refl, ap, sym, subst, ◌∙◌, Some, None, Ok, Err}
 use Rattle.std.specs.Prelude.{reverse}
 use Rattle.std.proofs.lemmas.List.{append-nil}
@@ -15,7 +15,7 @@ use Rattle.psm_exprcode.proofs.Standing.{both_true}
 use Rattle.psm_resolved.specs.declared.expr.ResolvedExpr.{ResolvedExpr}
 use Rattle.psm_resolved.specs.Blocks.{put, after}
 use Rattle.psm_resolved.specs.RowValue.{row_value}
-use Rattle.psm_resolved.specs.Sort.{goes_as, sort_of}
+use Rattle.psm_resolved.specs.RowType.{goes_as, row_type_of}
 use Rattle.psm_resolved.specs.Written.{Written, Adds, puts_value, WritesSource, IsCodeOf}
 use Rattle.psm_resolved.proofs.Forms.{value_found}
 use Rattle.psm_resolved.proofs.Lines.{value_some, letter_some, same_stack-self}
@@ -65,12 +65,12 @@ pub whole_value : (columns variables : List Letter) (k : Letter) (e : ResolvedEx
 whole_value columns variables k e w a row vars =
     ap (λ x. ran row vars 0 0 x []) (a.added ∙ sym (append-nil a.lines)) ∙ a.block.runs row vars [] [] ∙ ended_value row vars (length w.lines) (row_value row vars e)
 
-pub whole_code : (columns variables : List Letter) (k : Letter) (e : ResolvedExpr) (w0 w1 : Written) (lines : List Line) → w0 ≡ nothing_written → lines ≡ w1.lines → goes_as k (sort_of columns variables e) ≡ true
+pub whole_code : (columns variables : List Letter) (k : Letter) (e : ResolvedExpr) (w0 w1 : Written) (lines : List Line) → w0 ≡ nothing_written → lines ≡ w1.lines → goes_as k (row_type_of columns variables e) ≡ true
     → WritesSource columns variables k e w0 w1 → IsCodeOf columns variables e k lines
 whole_code columns variables k e w0 w1 lines q n h x =
     let a : Adds (is_of_kind columns variables) (k ∷ []) (puts_value e) nothing_written w1 = subst (λ w. WritesSource columns variables k e w w1) q x k h in
     subst (λ ls. IsCodeOf columns variables e k ls) (sym n) (record { fits = whole_fits columns variables k e w1 a; value = λ row vars. whole_value columns variables k e w1 a row vars })
 
-pub whole_well_formed : (columns variables : List Letter) (k : Letter) (e : ResolvedExpr) (w0 w1 : Written) (lines : List Line) → w0 ≡ nothing_written → lines ≡ w1.lines → goes_as k (sort_of columns variables e) ≡ true
+pub whole_well_formed : (columns variables : List Letter) (k : Letter) (e : ResolvedExpr) (w0 w1 : Written) (lines : List Line) → w0 ≡ nothing_written → lines ≡ w1.lines → goes_as k (row_type_of columns variables e) ≡ true
     → WritesSource columns variables k e w0 w1 → is_well_formed lines ≡ true
 whole_well_formed columns variables k e w0 w1 lines q n h x = fits-well_formed columns variables lines k (whole_code columns variables k e w0 w1 lines q n h x).fits

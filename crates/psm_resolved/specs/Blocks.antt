@@ -1,4 +1,4 @@
--- Lines that stand one after another, as a block: from operands of some letters it comes to operands of others, whatever
+-- Lines that stand one after another, as a block: from operands of some letters it evaluates to operands of others, whatever
 -- lines follow.
 use Rattle.std.specs.Prelude.{◌≡◌, ℕ, ◌+◌, Bool, true, List, [], ◌∷◌, ◌++◌, length, Option, Some, None, Result, Ok, Err}
 use Rattle.psm_value.specs.declared.datum.Datum.{Datum}
@@ -9,7 +9,7 @@ use Rattle.psm_exprcode.specs.declared.operand.Operand.{Operand}
 use Rattle.psm_exprcode.specs.Evaluated.{Outcome, ran}
 use Rattle.psm_exprcode.specs.WellFormed.{lands, are_lines}
 
--- the operands that there are then, the SQLSTATE of a condition, or nothing where something is lacking
+-- the operands that there are then, the SQLSTATE of a condition, or nothing where it is stuck
 abbrev pub Moved : Type 0
 Moved = Option (Result (List Operand) (List ℕ))
 

@@ -1,4 +1,4 @@
--- How the code of CASE and of COALESCE comes to its end.
+-- How the code of CASE and of COALESCE reaches its end.
 use Rattle.std.specs.Prelude.{ℕ}
 use Rattle.psm_exprcode.specs.declared.op.Op.{Op}
 use Rattle.psm_exprcode.specs.declared.op.Op.TheVariants as op

@@ -1,6 +1,6 @@
 pub mod Outcomes
 pub mod RowValue
-pub mod Sort
+pub mod RowType
 pub mod Blocks
 pub mod Written
 pub mod Exits

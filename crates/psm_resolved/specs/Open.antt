@@ -1,4 +1,4 @@
--- Lines with jumps whose place isn't known yet: a block behind them closes them.
+-- Lines with jumps whose place isn't known yet: a block after them closes them.
 use Rattle.std.specs.Prelude.{◌≡◌, ℕ, Bool, List, [], ◌∷◌, ◌++◌, length, Some, None, Ok, Err, if◌then◌else◌}
 use Rattle.psm_value.specs.Truth.{is_certain}
 use Rattle.psm_exprcode.specs.declared.op.Letter.{Letter}

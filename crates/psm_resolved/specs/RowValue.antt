@@ -1,4 +1,4 @@
--- What a row expression comes to over a row and variables (ISO/IEC 9075:1992, clauses 6 and 8): a value or a truth value, or
+-- What a row expression evaluates to over a row and variables (ISO/IEC 9075:1992, clauses 6 and 8): a value or a truth value, or
 -- the SQLSTATE of the first condition. A call and a subquery are no row expressions, and come to nothing; so does an operation
 -- that finds a value in place of a truth value, or lacks a column or a variable.
 use Rattle.std.specs.Prelude.{ℕ, Bool, List, [], ◌∷◌, map, slice_get, Option, Some, None, Result, Ok}
@@ -20,25 +20,25 @@ use Rattle.psm_exprcode.specs.Texts.{trim_of}
 use Rattle.psm_exprcode.specs.Values.{concatenated, length_of, position_of, part_from, part_of, on_text, like, like_escaped}
 use Rattle.psm_resolved.specs.declared.expr.Comparison.{Comparison}
 use Rattle.psm_resolved.specs.declared.expr.Comparison.TheVariants as comparisons
-use Rattle.psm_resolved.specs.declared.expr.Junction.{Junction}
-use Rattle.psm_resolved.specs.declared.expr.Junction.TheVariants as junctions
+use Rattle.psm_resolved.specs.declared.expr.LogicalOperator.{LogicalOperator}
+use Rattle.psm_resolved.specs.declared.expr.LogicalOperator.TheVariants as logical_operators
 use Rattle.psm_resolved.specs.declared.expr.Operator.{Operator}
 use Rattle.psm_resolved.specs.declared.expr.Operator.TheVariants as operators
 use Rattle.psm_resolved.specs.declared.expr.TextFunction.{TextFunction}
 use Rattle.psm_resolved.specs.declared.expr.TextFunction.TheVariants as functions
 use Rattle.psm_resolved.specs.declared.expr.ResolvedExpr.{ResolvedExpr}
-use Rattle.psm_resolved.specs.declared.expr.ResolvedExpr.TheOpen.{ResolvedExpr-F, ResolvedItems-F, ResolvedItem-F, ResolvedLink-F, ResolvedQuery-F, ResolvedWhen-F}
+use Rattle.psm_resolved.specs.declared.expr.ResolvedExpr.TheOpen.{ResolvedExpr-F, ResolvedItems-F, ResolvedItem-F, ResolvedOperation-F, ResolvedQuery-F, ResolvedWhen-F}
 use Rattle.psm_resolved.specs.declared.expr.ResolvedExpr.TheOpen as layers
-use Rattle.psm_resolved.specs.declared.expr.ResolvedExpr.TheFolds.{fold-ResolvedExpr, fold-ResolvedLink, fold-ResolvedWhen}
-use Rattle.psm_resolved.specs.declared.expr.ResolvedLink.{ResolvedLink}
+use Rattle.psm_resolved.specs.declared.expr.ResolvedExpr.TheFolds.{fold-ResolvedExpr, fold-ResolvedOperation, fold-ResolvedWhen}
+use Rattle.psm_resolved.specs.declared.expr.ResolvedOperation.{ResolvedOperation}
 use Rattle.psm_resolved.specs.declared.expr.ResolvedWhen.{ResolvedWhen}
 use Rattle.psm_resolved.specs.Outcomes.{valued, decided, named, of_one, of_two, of_three, of_truth, of_truths, of_others, perhaps_not, chosen, first_set, at_scale}
 
 -- ---- operators
 
-abbrev pub connective : Junction → Answer → Answer → Answer
-connective junctions.And = both
-connective junctions.Or = either
+abbrev pub connective : LogicalOperator → Answer → Answer → Answer
+connective logical_operators.And = both
+connective logical_operators.Or = either
 
 -- whether the order is as the operator asks
 abbrev pub holds : Comparison → Ordering → Bool
@@ -74,10 +74,10 @@ function_of functions.Lower = on_text lower_of
 -- each operator works on what those before it came to
 abbrev pub linked : Outcome → List (Operator × Outcome) → Outcome
 linked a [] = a
-linked a (l ∷ links) = linked (of_two (λ x y. valued (operated l.0 x y)) a l.1) links
+linked a (l ∷ chain_links) = linked (of_two (λ x y. valued (operated l.0 x y)) a l.1) chain_links
 
 -- AND and OR evaluate all their conditions
-abbrev pub joined : Junction → Outcome → List Outcome → Outcome
+abbrev pub joined : LogicalOperator → Outcome → List Outcome → Outcome
 joined j a [] = a
 joined j a (b ∷ others) = joined j (of_truths (connective j) a b) others
 
@@ -99,7 +99,7 @@ abbrev pub else_of : Option Outcome → Outcome
 else_of None = valued (Ok data_of.Null)
 else_of (Some a) = a
 
--- whether the operand's value is equal to what stands behind WHEN, and the result
+-- whether the operand's value is equal to what stands after WHEN, and the result
 abbrev pub equal_to : Datum → Outcome × Outcome → Outcome × Outcome
 equal_to d w = (of_one (λ c. decided (Ok (tested comparisons.Equal d c))) w.0, w.1)
 
@@ -110,21 +110,21 @@ cased (Some a) whens otherwise = of_one (λ d. chosen (map (equal_to d) whens) o
 
 -- ---- expressions
 
--- one layer of an expression, the parts of which are what they come to
+-- one layer of an expression, the parts of which are what they evaluate to
 abbrev pub value_layer : List Datum → List Datum → ResolvedExpr-F Outcome (Unit {0}) (Unit {0}) (Operator × Outcome) (Unit {0}) (Outcome × Outcome) → Outcome
 value_layer row vars layers.Null = valued (Ok data_of.Null)
 value_layer row vars (layers.Number n) = valued (Ok (data_of.Num n))
 value_layer row vars (layers.Text t) = valued (Ok (data_of.Text t))
 value_layer row vars (layers.Column i) = named (slice_get row i)
 value_layer row vars (layers.Variable i) = named (slice_get vars i)
-value_layer row vars (layers.Junction junction operands) = joined junction operands.first operands.rest
+value_layer row vars (layers.LogicalOperator logical_operator operands) = joined logical_operator operands.first operands.rest
 value_layer row vars (layers.Not condition) = of_truth opposite condition
 value_layer row vars (layers.Compare operator left right) = of_two (λ a b. decided (Ok (tested operator a b))) left right
 value_layer row vars (layers.IsNull negated value) = perhaps_not negated (of_one (λ a. decided (Ok (truth_of (is_null a)))) value)
 value_layer row vars (layers.Between negated value low high) = perhaps_not negated (of_three (λ a b c. decided (Ok (between a b c))) value low high)
 value_layer row vars (layers.In negated value list) = perhaps_not negated (of_others (λ a others. decided (Ok (among a others))) value (listed list))
 value_layer row vars (layers.Like negated value pattern escape) = perhaps_not negated (likened value pattern escape)
-value_layer row vars (layers.Chain first links) = linked first links
+value_layer row vars (layers.OperatorChain first chain_links) = linked first chain_links
 value_layer row vars (layers.Negated operand) = of_one (λ a. valued (Ok (negated_of a))) operand
 value_layer row vars (layers.Call function arguments) = None
 value_layer row vars (layers.Scalar query) = None
@@ -147,18 +147,18 @@ item_none item = tt
 abbrev pub query_none : ResolvedQuery-F Outcome (Unit {0}) (Unit {0}) (Operator × Outcome) (Unit {0}) (Outcome × Outcome) → Unit {0}
 query_none query = tt
 
-abbrev pub link_layer : ResolvedLink-F Outcome (Unit {0}) (Unit {0}) (Operator × Outcome) (Unit {0}) (Outcome × Outcome) → Operator × Outcome
-link_layer link = (link.operator, link.operand)
+abbrev pub chain_link_layer : ResolvedOperation-F Outcome (Unit {0}) (Unit {0}) (Operator × Outcome) (Unit {0}) (Outcome × Outcome) → Operator × Outcome
+chain_link_layer chain_link = (chain_link.operator, chain_link.operand)
 
 abbrev pub when_layer : ResolvedWhen-F Outcome (Unit {0}) (Unit {0}) (Operator × Outcome) (Unit {0}) (Outcome × Outcome) → Outcome × Outcome
 when_layer when = (when.test, when.result)
 
--- what the expression comes to over the columns of a row and the variables
+-- what the expression evaluates to over the columns of a row and the variables
 abbrev pub row_value : List Datum → List Datum → ResolvedExpr → Outcome
-row_value row vars = fold-ResolvedExpr Outcome (Unit {0}) (Unit {0}) (Operator × Outcome) (Unit {0}) (Outcome × Outcome) (value_layer row vars) items_none item_none link_layer query_none when_layer
+row_value row vars = fold-ResolvedExpr Outcome (Unit {0}) (Unit {0}) (Operator × Outcome) (Unit {0}) (Outcome × Outcome) (value_layer row vars) items_none item_none chain_link_layer query_none when_layer
 
-abbrev pub link_value : List Datum → List Datum → ResolvedLink → Operator × Outcome
-link_value row vars = fold-ResolvedLink Outcome (Unit {0}) (Unit {0}) (Operator × Outcome) (Unit {0}) (Outcome × Outcome) (value_layer row vars) items_none item_none link_layer query_none when_layer
+abbrev pub chain_link_value : List Datum → List Datum → ResolvedOperation → Operator × Outcome
+chain_link_value row vars = fold-ResolvedOperation Outcome (Unit {0}) (Unit {0}) (Operator × Outcome) (Unit {0}) (Outcome × Outcome) (value_layer row vars) items_none item_none chain_link_layer query_none when_layer
 
 abbrev pub when_value : List Datum → List Datum → ResolvedWhen → Outcome × Outcome
-when_value row vars = fold-ResolvedWhen Outcome (Unit {0}) (Unit {0}) (Operator × Outcome) (Unit {0}) (Outcome × Outcome) (value_layer row vars) items_none item_none link_layer query_none when_layer
+when_value row vars = fold-ResolvedWhen Outcome (Unit {0}) (Unit {0}) (Operator × Outcome) (Unit {0}) (Outcome × Outcome) (value_layer row vars) items_none item_none chain_link_layer query_none when_layer

@@ -12,41 +12,41 @@ use Rattle.psm_exprcode.specs.Numbered.{with_op_at}
 use Rattle.psm_exprcode.specs.WellFormed.{is_of_kind, does_fit}
 use Rattle.psm_resolved.specs.declared.expr.Comparison.{Comparison}
 use Rattle.psm_resolved.specs.declared.expr.Comparison.TheVariants as comparisons
-use Rattle.psm_resolved.specs.declared.expr.Junction.{Junction}
-use Rattle.psm_resolved.specs.declared.expr.Junction.TheVariants as junctions
+use Rattle.psm_resolved.specs.declared.expr.LogicalOperator.{LogicalOperator}
+use Rattle.psm_resolved.specs.declared.expr.LogicalOperator.TheVariants as logical_operators
 use Rattle.psm_resolved.specs.declared.expr.Operator.{Operator}
 use Rattle.psm_resolved.specs.declared.expr.Operator.TheVariants as operators
 use Rattle.psm_resolved.specs.declared.expr.TextFunction.{TextFunction}
 use Rattle.psm_resolved.specs.declared.expr.TextFunction.TheVariants as functions
 use Rattle.psm_resolved.specs.declared.expr.ResolvedExpr.{ResolvedExpr}
 use Rattle.psm_resolved.specs.declared.expr.ResolvedExpr.TheVariants as exprs
-use Rattle.psm_resolved.specs.declared.expr.ResolvedLink.{ResolvedLink}
+use Rattle.psm_resolved.specs.declared.expr.ResolvedOperation.{ResolvedOperation}
 use Rattle.psm_resolved.specs.Blocks.{Move, Block, put, put_all}
 use Rattle.psm_list.specs.Several.{Several}
 use Rattle.psm_exprcode.specs.Kinds.{is_value}
 use Rattle.psm_resolved.specs.Outcomes.{first_set}
 use Rattle.psm_resolved.specs.RowValue.{listed, row_value}
-use Rattle.psm_resolved.specs.Sort.{is_of, given, goes_as, sort_of}
+use Rattle.psm_resolved.specs.RowType.{is_of, given, goes_as, row_type_of}
 
--- the lines so far, and the letters of the operands behind them, the last one first
+-- the lines so far, and the letters of the operands after them, the last one first
 pub record Written : Type 0 where
   pub lines : List Line
   pub stack : List Letter
 
--- with an operation behind them
+-- with an operation after them
 abbrev pub with_line : Written → Op → List Letter → Written
 with_line w o stack = record { lines = w.lines ++ record { stack = reverse w.stack; op = o } ∷ []; stack = stack }
 
--- with an operation that takes so many operands and puts one of that letter
+-- with an operation that takes n operands and puts one of that letter
 abbrev pub with_op : Written → Op → ℕ → Letter → Written
 with_op w o takes puts = with_line w o (puts ∷ drop takes w.stack)
 
--- with NOT behind them, where it is wanted
+-- with NOT after them, where it is wanted
 abbrev pub with_not : Bool → Written → Written
 with_not false w = w
 with_not true w = with_op w op.Not 1 B
 
--- with a change to a scale behind them, where there is one
+-- with a change to a scale after them, where there is one
 abbrev pub with_scale : Option ℕ → Written → Written
 with_scale None w = w
 with_scale (Some s) w = with_op w (op.Rescale s) 1 N
@@ -61,12 +61,12 @@ abbrev pub letter_or : Option Letter → Letter
 letter_or None = N
 letter_or (Some k) = k
 
--- with a copy of the last operand behind them, where it is wanted
+-- with a copy of the last operand after them, where it is wanted
 abbrev pub with_copy : Bool → Written → Written
 with_copy false w = w
 with_copy true w = with_op w op.Duplicate 0 (last_letter w.stack)
 
--- with a comparison behind them, where it is wanted
+-- with a comparison after them, where it is wanted
 abbrev pub with_comparison : Bool → Written → Written
 with_comparison false w = w
 with_comparison true w = with_op w op.Equal 2 B
@@ -81,9 +81,9 @@ op_of_comparison comparisons.LessEqual = op.LessOrEqual
 op_of_comparison comparisons.Greater = op.Greater
 op_of_comparison comparisons.GreaterEqual = op.GreaterOrEqual
 
-abbrev pub op_of_junction : Junction → Op
-op_of_junction junctions.And = op.And
-op_of_junction junctions.Or = op.Or
+abbrev pub op_of_logical_operator : LogicalOperator → Op
+op_of_logical_operator logical_operators.And = op.And
+op_of_logical_operator logical_operators.Or = op.Or
 
 abbrev pub op_of_operator : Operator → Op
 op_of_operator operators.Add = op.Add
@@ -106,7 +106,7 @@ op_of_function functions.Lower = op.Lower
 
 -- ---- what is written
 
--- Lines are written behind those that there are. They put operands of the letters ks, the last one first, on those that
+-- Lines are written after those that there are. They put operands of the letters ks, the last one first, on those that
 -- there are, as the move says.
 pub record Adds (may : Op → Letter → Bool) (ks : List Letter) (move : Move) (old new : Written) : Type 0 where
   pub lines : List Line
@@ -114,29 +114,29 @@ pub record Adds (may : Op → Letter → Bool) (ks : List Letter) (move : Move) 
   pub letters : new.stack ≡ ks ++ old.stack
   pub block : Block may old.stack (ks ++ old.stack) (length old.lines) (length new.lines) lines move
 
--- what the expression comes to is put on the operands
+-- what the expression evaluates to is put on the operands
 abbrev pub puts_value : ResolvedExpr → Move
 puts_value e row vars os = put (row_value row vars e) os
 
 -- the lines of an expression, if it is one of a letter
 abbrev pub Writes : List Letter → List Letter → ResolvedExpr → Written → Written → Type 0
-Writes columns variables e old new = (k : Letter) → is_of k (sort_of columns variables e) ≡ true → Adds (is_of_kind columns variables) (k ∷ []) (puts_value e) old new
+Writes columns variables e old new = (k : Letter) → is_of k (row_type_of columns variables e) ≡ true → Adds (is_of_kind columns variables) (k ∷ []) (puts_value e) old new
 
 -- the same where NULL is a value of the letter w
 abbrev pub WritesSource : List Letter → List Letter → Letter → ResolvedExpr → Written → Written → Type 0
-WritesSource columns variables w e old new = (k : Letter) → is_of k (given w (sort_of columns variables e)) ≡ true → Adds (is_of_kind columns variables) (k ∷ []) (puts_value e) old new
+WritesSource columns variables w e old new = (k : Letter) → is_of k (given w (row_type_of columns variables e)) ≡ true → Adds (is_of_kind columns variables) (k ∷ []) (puts_value e) old new
 
 -- the chain of operands and operators so far, if it is an expression, goes on with these
-abbrev pub Extends : List Letter → List Letter → List ResolvedLink → Written → Written → Type 0
-Extends columns variables links old new = (first : ResolvedExpr) (begin : Written) → Writes columns variables (exprs.Chain first []) begin old → Writes columns variables (exprs.Chain first links) begin new
+abbrev pub Extends : List Letter → List Letter → List ResolvedOperation → Written → Written → Type 0
+Extends columns variables chain_links old new = (first : ResolvedExpr) (begin : Written) → Writes columns variables (exprs.OperatorChain first []) begin old → Writes columns variables (exprs.OperatorChain first chain_links) begin new
 
--- what expressions come to is put on the operands, one after another
+-- what expressions evaluate to is put on the operands, one after another
 abbrev pub puts_all : List ResolvedExpr → Move
 puts_all es row vars os = put_all (map (row_value row vars) es) os
 
 -- the lines of expressions, one after another, if all are of a letter
 abbrev pub WritesAll : List Letter → List Letter → List ResolvedExpr → Written → Written → Type 0
-WritesAll columns variables es old new = (k : Letter) → list_all (is_of k) (map (sort_of columns variables) es) ≡ true → Adds (is_of_kind columns variables) (replicate (length es) k) (puts_all es) old new
+WritesAll columns variables es old new = (k : Letter) → list_all (is_of k) (map (row_type_of columns variables) es) ≡ true → Adds (is_of_kind columns variables) (replicate (length es) k) (puts_all es) old new
 
 -- the first value that isn't null is put on the operands, or the last one
 abbrev pub puts_first : Several ResolvedExpr → Move
@@ -145,9 +145,9 @@ puts_first values row vars os = put (first_set (row_value row vars values.first)
 -- the lines of the values of a COALESCE, if all go as the letter k
 abbrev pub WritesFirst : List Letter → List Letter → Letter → Several ResolvedExpr → Written → Written → Type 0
 WritesFirst columns variables k values old new =
-    is_value k ≡ true → list_all (goes_as k) (map (sort_of columns variables) (listed values)) ≡ true → Adds (is_of_kind columns variables) (k ∷ []) (puts_first values) old new
+    is_value k ≡ true → list_all (goes_as k) (map (row_type_of columns variables) (listed values)) ≡ true → Adds (is_of_kind columns variables) (k ∷ []) (puts_first values) old new
 
--- the lines of the values behind the first of a COALESCE
+-- the lines of the values after the first of a COALESCE
 abbrev pub WritesOthers : List Letter → List Letter → Letter → List ResolvedExpr → Written → Written → Type 0
 WritesOthers columns variables k rest old new =
     (first : ResolvedExpr) (begin : Written) → WritesSource columns variables k first begin old → WritesFirst columns variables k (record { first = first; rest = rest }) begin new
@@ -159,7 +159,7 @@ abbrev pub patched : Op → List ℕ → List Line → List Line
 patched o [] lines = lines
 patched o (p ∷ places) lines = patched o places (with_op_at lines p o)
 
--- an operation is written at that place, and takes so many operands off
+-- an operation is written at that place, and takes n operands off
 abbrev pub Jumps : Op → ℕ → ℕ → Written → Written → Type 0
 Jumps o takes place old new = (place ≡ length old.lines) × (new ≡ with_line old o (drop takes old.stack))
 
@@ -170,7 +170,7 @@ Leaves unless place old new =
 
 -- ---- the whole code
 
--- the code of a row expression of that letter: it fits such columns and variables, and comes to the expression's value
+-- the code of a row expression of that letter: it fits such columns and variables, and evaluates to the expression's value
 pub record IsCodeOf (columns variables : List Letter) (e : ResolvedExpr) (letter : Letter) (lines : List Line) : Type 0 where
   pub fits : IsTrue (does_fit columns variables lines letter)
   pub value : (row vars : List Datum) → evaluated lines row vars ≡ row_value row vars e

@@ -1,12 +1,12 @@
 //! The code of row expressions.
 ghost use Rattle.std.specs.Prelude.{◌≡◌, IsTrue, IfOk};
 ghost use Rattle.psm_exprcode.specs.WellFormed.{is_well_formed};
-ghost use Rattle.psm_resolved.specs.Sort.{IsOfLetter};
+ghost use Rattle.psm_resolved.specs.RowType.{IsOfLetter};
 ghost use Rattle.psm_resolved.specs.Written.{IsCodeOf};
 
 use crate::expr::ResolvedExpr;
+use crate::expr_context::ExprContext;
 use crate::exprs::source;
-use crate::setting::Setting;
 use crate::writer::Writer;
 use psm_exprcode::{ExprCode, Letter, RawExpr};
 use std::alloc::{AllocError, Global};
@@ -23,13 +23,13 @@ pub fn row_code(
     requires { IsOfLetter columns.now variables.now e.now letter }
     ensures { IfOk result (λ code. IsCodeOf columns.now variables.now e.now letter code) }
 {
-    let setting = Setting {
+    let expr_context = ExprContext {
         alloc,
         columns,
         variables,
     };
     let mut out = Writer::new(alloc);
-    source(&mut out, setting, e, letter)?;
+    source(&mut out, expr_context, e, letter)?;
     Ok(coded(out.into_lines()))
 }
 

@@ -1,4 +1,4 @@
-//! Expressions and queries without names. A chain of operators of one level is one list.
+//! Resolved expressions and queries. A chain of operators of one level is one list.
 
 use psm_exprcode::SetFunction;
 use psm_list::{Boxed, List, OneOrMore};
@@ -8,7 +8,7 @@ use psm_value::SqlType;
 
 /// AND or OR.
 #[derive(Clone, Copy, Debug, PartialEq, Eq)]
-pub enum Junction {
+pub enum LogicalOperator {
     And,
     Or,
 }
@@ -55,8 +55,8 @@ pub enum ResolvedExpr {
     /// A variable or a parameter, by its slot from 0.
     Variable(u32),
     /// Conditions with AND, or with OR, between them.
-    Junction {
-        junction: Junction,
+    LogicalOperator {
+        logical_operator: LogicalOperator,
         operands: OneOrMore<Boxed<ResolvedExpr>>,
     },
     Not(Boxed<ResolvedExpr>),
@@ -87,10 +87,10 @@ pub enum ResolvedExpr {
         pattern: Boxed<ResolvedExpr>,
         escape: Option<Boxed<ResolvedExpr>>,
     },
-    /// An operand, and operators of one level with the operand behind each.
-    Chain {
+    /// An operand, and operators of one level with the operand after each.
+    OperatorChain {
         first: Boxed<ResolvedExpr>,
-        links: List<ResolvedLink>,
+        chain_links: List<ResolvedOperation>,
     },
     /// The sign `-` before an operand.
     Negated(Boxed<ResolvedExpr>),
@@ -142,10 +142,10 @@ pub enum ResolvedExpr {
     },
 }
 
-/// An operator and the operand behind it.
+/// An operator and the operand after it.
 #[cycle(resolved)]
 #[derive(Drop)]
-pub struct ResolvedLink {
+pub struct ResolvedOperation {
     pub operator: Operator,
     pub operand: Boxed<ResolvedExpr>,
 }

@@ -4,11 +4,11 @@ ghost use Rattle.psm_resolved.specs.Written.{Writes, WritesSource, WritesAll, Wr
 ghost use Rattle.psm_resolved.specs.Choices.{Branch, WritesWhens, WritesElse};
 ghost use Rattle.psm_resolved.specs.RowValue.{listed};
 
-use crate::expr::{Junction, ResolvedExpr, ResolvedLink, ResolvedWhen};
+use crate::expr::{LogicalOperator, ResolvedExpr, ResolvedOperation, ResolvedWhen};
+use crate::expr_context::ExprContext;
 use crate::operators::{
     calculated, calculating, changed, changing, comparing, joining, letter_at, letter_of_results,
 };
-use crate::setting::Setting;
 use crate::writer::{Exit, Writer};
 use psm_exprcode::{Letter, Op};
 use psm_list::{Boxed, List, OneOrMore};
@@ -19,22 +19,22 @@ use std::alloc::AllocError;
 #[cycle(writing)]
 pub(crate) fn source(
     out: &mut Writer,
-    setting: Setting<'_>,
+    expr_context: ExprContext<'_>,
     e: &ResolvedExpr,
     letter: Letter,
 ) -> Result<(), AllocError>
-    ensures { IfOk result (λ _. WritesSource setting.entry.columns.now setting.entry.variables.now letter e.now out.old out.new) }
+    ensures { IfOk result (λ _. WritesSource expr_context.entry.columns.now expr_context.entry.variables.now letter e.now out.old out.new) }
 {
     match e {
         ResolvedExpr::Null => out.apply(Op::Constant(letter, Datum::Null), 0, letter),
-        _ => expr(out, setting, e),
+        _ => expr(out, expr_context, e),
     }
 }
 
 /// Writes an expression that isn't NULL. Where it is no row expression, what is written stands for nothing.
 #[cycle(writing)]
-fn expr(out: &mut Writer, setting: Setting<'_>, e: &ResolvedExpr) -> Result<(), AllocError>
-    ensures { IfOk result (λ _. Writes setting.entry.columns.now setting.entry.variables.now e.now out.old out.new) }
+fn expr(out: &mut Writer, expr_context: ExprContext<'_>, e: &ResolvedExpr) -> Result<(), AllocError>
+    ensures { IfOk result (λ _. Writes expr_context.entry.columns.now expr_context.entry.variables.now e.now out.old out.new) }
 {
     match e {
         ResolvedExpr::Null => Ok(()),
@@ -46,20 +46,23 @@ fn expr(out: &mut Writer, setting: Setting<'_>, e: &ResolvedExpr) -> Result<(), 
             out.apply(Op::Constant(Letter::N, value), 0, Letter::N)
         }
         ResolvedExpr::Text(value) => {
-            let value = Datum::Text(value.copy(setting.alloc)?);
+            let value = Datum::Text(value.copy(expr_context.alloc)?);
             out.apply(Op::Constant(Letter::T, value), 0, Letter::T)
         }
         ResolvedExpr::Column(place) => {
-            let letter = letter_at(setting.columns, *place);
+            let letter = letter_at(expr_context.columns, *place);
             out.apply(Op::Column(*place), 0, letter)
         }
         ResolvedExpr::Variable(slot) => {
-            let letter = letter_at(setting.variables, *slot);
+            let letter = letter_at(expr_context.variables, *slot);
             out.apply(Op::Variable(*slot), 0, letter)
         }
-        ResolvedExpr::Junction { junction, operands } => joined(out, setting, operands, *junction),
+        ResolvedExpr::LogicalOperator {
+            logical_operator,
+            operands,
+        } => joined(out, expr_context, operands, *logical_operator),
         ResolvedExpr::Not(condition) => {
-            expr(out, setting, condition.get())?;
+            expr(out, expr_context, condition.get())?;
             out.apply(Op::Not, 1, Letter::B)
         }
         ResolvedExpr::Compare {
@@ -67,12 +70,12 @@ fn expr(out: &mut Writer, setting: Setting<'_>, e: &ResolvedExpr) -> Result<(), 
             left,
             right,
         } => {
-            expr(out, setting, left.get())?;
-            expr(out, setting, right.get())?;
+            expr(out, expr_context, left.get())?;
+            expr(out, expr_context, right.get())?;
             out.apply(comparing(*operator), 2, Letter::B)
         }
         ResolvedExpr::IsNull { negated, value } => {
-            expr(out, setting, value.get())?;
+            expr(out, expr_context, value.get())?;
             out.apply(Op::IsNull, 1, Letter::B)?;
             out.perhaps_not(*negated)
         }
@@ -82,9 +85,9 @@ fn expr(out: &mut Writer, setting: Setting<'_>, e: &ResolvedExpr) -> Result<(), 
             low,
             high,
         } => {
-            expr(out, setting, value.get())?;
-            expr(out, setting, low.get())?;
-            expr(out, setting, high.get())?;
+            expr(out, expr_context, value.get())?;
+            expr(out, expr_context, low.get())?;
+            expr(out, expr_context, high.get())?;
             out.apply(Op::Between, 3, Letter::B)?;
             out.perhaps_not(*negated)
         }
@@ -94,15 +97,15 @@ fn expr(out: &mut Writer, setting: Setting<'_>, e: &ResolvedExpr) -> Result<(), 
             pattern,
             escape,
         } => {
-            expr(out, setting, value.get())?;
-            expr(out, setting, pattern.get())?;
+            expr(out, expr_context, value.get())?;
+            expr(out, expr_context, pattern.get())?;
             match escape {
                 None => {
                     out.apply(Op::Like, 2, Letter::B)?;
                     out.perhaps_not(*negated)
                 }
                 Some(escape) => {
-                    expr(out, setting, escape.get())?;
+                    expr(out, expr_context, escape.get())?;
                     out.apply(Op::LikeEscape, 3, Letter::B)?;
                     out.perhaps_not(*negated)
                 }
@@ -113,18 +116,18 @@ fn expr(out: &mut Writer, setting: Setting<'_>, e: &ResolvedExpr) -> Result<(), 
             value,
             list,
         } => {
-            expr(out, setting, value.get())?;
-            all(out, setting, list)?;
+            expr(out, expr_context, value.get())?;
+            all(out, expr_context, list)?;
             let count = counted(list.rest.items().len())?;
             out.apply(Op::In(count), count as usize + 1, Letter::B)?;
             out.perhaps_not(*negated)
         }
-        ResolvedExpr::Chain { first, links } => {
-            expr(out, setting, first.get())?;
-            linked(out, setting, links)
+        ResolvedExpr::OperatorChain { first, chain_links } => {
+            expr(out, expr_context, first.get())?;
+            linked(out, expr_context, chain_links)
         }
         ResolvedExpr::Negated(number) => {
-            expr(out, setting, number.get())?;
+            expr(out, expr_context, number.get())?;
             out.apply(Op::Negate, 1, Letter::N)
         }
         ResolvedExpr::Case {
@@ -136,15 +139,15 @@ fn expr(out: &mut Writer, setting: Setting<'_>, e: &ResolvedExpr) -> Result<(), 
             let letter = letter_of_results(*scale);
             match operand {
                 None => {
-                    let jumps = cases(out, setting, whens, false, letter)?;
-                    alternative(out, setting, otherwise, letter)?;
+                    let jumps = cases(out, expr_context, whens, false, letter)?;
+                    alternative(out, expr_context, otherwise, letter)?;
                     out.close(jumps.as_slice(), Exit::Always)?;
                     out.rescale(*scale)
                 }
                 Some(value) => {
-                    expr(out, setting, value.get())?;
-                    let jumps = cases(out, setting, whens, true, letter)?;
-                    alternative(out, setting, otherwise, letter)?;
+                    expr(out, expr_context, value.get())?;
+                    let jumps = cases(out, expr_context, whens, true, letter)?;
+                    alternative(out, expr_context, otherwise, letter)?;
                     out.close(jumps.as_slice(), Exit::Always)?;
                     out.apply(Op::DropBelow, 2, letter)?;
                     out.rescale(*scale)
@@ -153,78 +156,78 @@ fn expr(out: &mut Writer, setting: Setting<'_>, e: &ResolvedExpr) -> Result<(), 
         }
         ResolvedExpr::Coalesce { values, scale } => {
             let kind = letter_of_results(*scale);
-            source(out, setting, values.first.get(), kind)?;
-            others(out, setting, &values.rest, kind)?;
+            source(out, expr_context, values.first.get(), kind)?;
+            others(out, expr_context, &values.rest, kind)?;
             out.rescale(*scale)
         }
         ResolvedExpr::Cast { source: value, to } => {
-            source(out, setting, value.get(), Letter::N)?;
+            source(out, expr_context, value.get(), Letter::N)?;
             out.apply(Op::Cast(*to), 1, Letter::of_type(*to))
         }
         ResolvedExpr::NullIf { left, right } => {
-            expr(out, setting, left.get())?;
+            expr(out, expr_context, left.get())?;
             let letter = out.last();
-            expr(out, setting, right.get())?;
+            expr(out, expr_context, right.get())?;
             out.apply(Op::NullIf, 2, letter)
         }
         ResolvedExpr::Function { function, argument } => {
-            expr(out, setting, argument.get())?;
+            expr(out, expr_context, argument.get())?;
             out.apply(changing(*function), 1, changed(*function))
         }
         ResolvedExpr::Position { part, whole } => {
-            expr(out, setting, part.get())?;
-            expr(out, setting, whole.get())?;
+            expr(out, expr_context, part.get())?;
+            expr(out, expr_context, whole.get())?;
             out.apply(Op::Position, 2, Letter::N)
         }
         ResolvedExpr::Substring { text, from, length } => {
-            expr(out, setting, text.get())?;
-            expr(out, setting, from.get())?;
+            expr(out, expr_context, text.get())?;
+            expr(out, expr_context, from.get())?;
             match length {
                 None => out.apply(Op::SubstringFrom, 2, Letter::T),
                 Some(length) => {
-                    expr(out, setting, length.get())?;
+                    expr(out, expr_context, length.get())?;
                     out.apply(Op::SubstringFromFor, 3, Letter::T)
                 }
             }
         }
         ResolvedExpr::Trim { side, text } => {
-            expr(out, setting, text.get())?;
+            expr(out, expr_context, text.get())?;
             out.apply(Op::Trim(*side), 1, Letter::T)
         }
     }
 }
 
-/// Writes conditions, with AND or OR behind each but the first.
+/// Writes conditions, with AND or OR after each but the first.
 #[cycle(writing)]
 fn joined(
     out: &mut Writer,
-    setting: Setting<'_>,
+    expr_context: ExprContext<'_>,
     operands: &OneOrMore<Boxed<ResolvedExpr>>,
-    junction: Junction,
+    logical_operator: LogicalOperator,
 ) -> Result<(), AllocError>
-    ensures { IfOk result (λ _. Writes setting.entry.columns.now setting.entry.variables.now (ResolvedExpr.Junction junction operands.now) out.old out.new) }
+    ensures { IfOk result (λ _. Writes expr_context.entry.columns.now expr_context.entry.variables.now (ResolvedExpr.LogicalOperator logical_operator operands.now) out.old out.new) }
 {
-    expr(out, setting, operands.first.get())?;
+    expr(out, expr_context, operands.first.get())?;
     for operand in operands.rest.items() {
-        expr(out, setting, operand.get())?;
-        out.apply(joining(junction), 2, Letter::B)?;
+        expr(out, expr_context, operand.get())?;
+        out.apply(joining(logical_operator), 2, Letter::B)?;
     }
     Ok(())
 }
 
-/// Writes the operands of a chain behind its first, each with its operator behind it.
+/// Writes the operands of a chain after its first, each with its operator after it.
 #[cycle(writing)]
 fn linked(
     out: &mut Writer,
-    setting: Setting<'_>,
-    links: &List<ResolvedLink>,
+    expr_context: ExprContext<'_>,
+    chain_links: &List<ResolvedOperation>,
 ) -> Result<(), AllocError>
-    ensures { IfOk result (λ _. Extends setting.entry.columns.now setting.entry.variables.now links.now out.old out.new) }
+    ensures { IfOk result (λ _. Extends expr_context.entry.columns.now expr_context.entry.variables.now chain_links.now out.old out.new) }
 {
-    for link in links.items() {
-        expr(out, setting, link.operand.get())?;
-        let letter = calculated(link.operator);
-        out.apply(calculating(link.operator), 2, letter)?;
+    for chain_link in chain_links.items() {
+        expr(out, expr_context, chain_link.operand.get())?;
+        let letter = calculated(chain_link.operator);
+        out.apply(calculating(chain_link.operator), 2, letter)?;
     }
     Ok(())
 }
@@ -233,29 +236,29 @@ fn linked(
 #[cycle(writing)]
 fn all(
     out: &mut Writer,
-    setting: Setting<'_>,
+    expr_context: ExprContext<'_>,
     list: &OneOrMore<Boxed<ResolvedExpr>>,
 ) -> Result<(), AllocError>
-    ensures { IfOk result (λ _. WritesAll setting.entry.columns.now setting.entry.variables.now (listed list.now) out.old out.new) }
+    ensures { IfOk result (λ _. WritesAll expr_context.entry.columns.now expr_context.entry.variables.now (listed list.now) out.old out.new) }
 {
-    expr(out, setting, list.first.get())?;
+    expr(out, expr_context, list.first.get())?;
     for item in list.rest.items() {
-        expr(out, setting, item.get())?;
+        expr(out, expr_context, item.get())?;
     }
     Ok(())
 }
 
-/// Writes the values of a COALESCE behind its first: each but the last goes to the end where it isn't null.
+/// Writes the values of a COALESCE after its first: each but the last goes to the end where it isn't null.
 #[cycle(writing)]
 fn others(
     out: &mut Writer,
-    setting: Setting<'_>,
+    expr_context: ExprContext<'_>,
     rest: &List<Boxed<ResolvedExpr>>,
     letter: Letter,
 ) -> Result<(), AllocError>
-    ensures { IfOk result (λ _. WritesOthers setting.entry.columns.now setting.entry.variables.now letter rest.now out.old out.new) }
+    ensures { IfOk result (λ _. WritesOthers expr_context.entry.columns.now expr_context.entry.variables.now letter rest.now out.old out.new) }
 {
-    let mut jumps = Vec::new(setting.alloc);
+    let mut jumps = Vec::new(expr_context.alloc);
     for value in rest.items() {
         let jump = out.jump(Op::JumpUnlessNull(0), 1)?;
         jumps.push(jump)?;
@@ -264,7 +267,7 @@ fn others(
                 out.apply(Op::Constant(letter, Datum::Null), 0, letter)?;
                 continue;
             }
-            _ => expr(out, setting, value.get())?,
+            _ => expr(out, expr_context, value.get())?,
         }
     }
     out.close(jumps.as_slice(), Exit::UnlessNull)
@@ -275,21 +278,21 @@ fn others(
 #[cycle(writing)]
 fn cases(
     out: &mut Writer,
-    setting: Setting<'_>,
+    expr_context: ExprContext<'_>,
     whens: &OneOrMore<Boxed<ResolvedWhen>>,
     is_compared: bool,
     letter: Letter,
 ) -> Result<Vec<usize>, AllocError>
-    ensures { IfOk result (λ places. WritesWhens setting.entry.columns.now setting.entry.variables.now letter is_compared (listed whens.now) places.items out.old out.new) }
+    ensures { IfOk result (λ places. WritesWhens expr_context.entry.columns.now expr_context.entry.variables.now letter is_compared (listed whens.now) places.items out.old out.new) }
 {
-    let mut jumps = Vec::new(setting.alloc);
-    let unless = branch(out, setting, whens.first.get(), is_compared, letter)?;
+    let mut jumps = Vec::new(expr_context.alloc);
+    let unless = branch(out, expr_context, whens.first.get(), is_compared, letter)?;
     let jump = out.leave(unless)?;
     jumps.push(jump)?;
     for when in whens.rest.items() {
-        let over = branch(out, setting, when.get(), is_compared, letter)?;
-        let away = out.leave(over)?;
-        jumps.push(away)?;
+        let over = branch(out, expr_context, when.get(), is_compared, letter)?;
+        let branching = out.leave(over)?;
+        jumps.push(branching)?;
     }
     Ok(jumps)
 }
@@ -299,15 +302,15 @@ fn cases(
 #[cycle(writing)]
 fn branch(
     out: &mut Writer,
-    setting: Setting<'_>,
+    expr_context: ExprContext<'_>,
     when: &ResolvedWhen,
     is_compared: bool,
     letter: Letter,
 ) -> Result<usize, AllocError>
-    ensures { IfOk result (λ place. Branch setting.entry.columns.now setting.entry.variables.now letter is_compared when.now place out.old out.new) }
+    ensures { IfOk result (λ place. Branch expr_context.entry.columns.now expr_context.entry.variables.now letter is_compared when.now place out.old out.new) }
 {
     out.perhaps_duplicate(is_compared)?;
-    expr(out, setting, when.test.get())?;
+    expr(out, expr_context, when.test.get())?;
     out.perhaps_compare(is_compared)?;
     let unless = out.jump(Op::JumpUnlessTrue(0), 1)?;
     match when.result.get() {
@@ -316,32 +319,32 @@ fn branch(
             Ok(unless)
         }
         _ => {
-            expr(out, setting, when.result.get())?;
+            expr(out, expr_context, when.result.get())?;
             Ok(unless)
         }
     }
 }
 
-/// Writes what stands behind ELSE, or null.
+/// Writes what stands after ELSE, or null.
 #[cycle(writing)]
 fn alternative(
     out: &mut Writer,
-    setting: Setting<'_>,
+    expr_context: ExprContext<'_>,
     otherwise: &Option<Boxed<ResolvedExpr>>,
     letter: Letter,
 ) -> Result<(), AllocError>
-    ensures { IfOk result (λ _. WritesElse setting.entry.columns.now setting.entry.variables.now letter otherwise.now out.old out.new) }
+    ensures { IfOk result (λ _. WritesElse expr_context.entry.columns.now expr_context.entry.variables.now letter otherwise.now out.old out.new) }
 {
     match otherwise {
         None => out.apply(Op::Constant(letter, Datum::Null), 0, letter),
         Some(e) => match e.get() {
             ResolvedExpr::Null => out.apply(Op::Constant(letter, Datum::Null), 0, letter),
-            _ => expr(out, setting, e.get()),
+            _ => expr(out, expr_context, e.get()),
         },
     }
 }
 
-/// One more than a number. More than fit in 32 bits are want of memory.
+/// One more than a number. More than fit in 32 bits count as out of memory.
 fn counted(others: usize) -> Result<u32, AllocError>
     ensures { IfOk result (λ count. count ≡ suc others) }
 {

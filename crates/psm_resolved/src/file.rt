@@ -1,4 +1,4 @@
-//! Module files without names.
+//! Module resolved files.
 
 use crate::expr::ResolvedExpr;
 use crate::statement::ResolvedStatement;

@@ -1,20 +1,20 @@
-//! Expressions and queries without names: a column, a variable, a table and a function are numbers. What a
-//! row expression comes to over a row and variables, and its code (ISO/IEC 9075:1992, clauses 6 to 8).
+//! Resolved expressions and queries: a column, a variable, a table and a function are numbers. What a
+//! row expression evaluates to over a row and variables, and its code (ISO/IEC 9075:1992, clauses 6 to 8).
 #![tactic(auto)]
 
 mod code;
 mod expr;
+mod expr_context;
 mod exprs;
 mod file;
 mod operators;
-mod setting;
 mod statement;
 mod writer;
 
 pub use code::row_code;
 pub use expr::{
-    Comparison, Junction, Operator, ResolvedExpr, ResolvedItem, ResolvedItems, ResolvedLink,
-    ResolvedQuery, ResolvedWhen, TextFunction,
+    Comparison, LogicalOperator, Operator, ResolvedExpr, ResolvedItem, ResolvedItems,
+    ResolvedOperation, ResolvedQuery, ResolvedWhen, TextFunction,
 };
 pub use file::{ParameterMode, ResolvedFile, ResolvedParameter, ResolvedRoutine, ResolvedTable};
 pub use operators::{

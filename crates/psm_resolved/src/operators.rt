@@ -1,9 +1,9 @@
 //! The operations that stand for operators, and the letters of their results.
 ghost use Rattle.std.specs.Prelude.{◌≡◌, slice_get};
-ghost use Rattle.psm_resolved.specs.Written.{letter_or, op_of_comparison, op_of_junction, op_of_operator, op_of_function, letter_of_operator};
-ghost use Rattle.psm_resolved.specs.Sort.{function_of, letter_at as letter_of_scale};
+ghost use Rattle.psm_resolved.specs.Written.{letter_or, op_of_comparison, op_of_logical_operator, op_of_operator, op_of_function, letter_of_operator};
+ghost use Rattle.psm_resolved.specs.RowType.{function_of, letter_at as letter_of_scale};
 
-use crate::expr::{Comparison, Junction, Operator, TextFunction};
+use crate::expr::{Comparison, LogicalOperator, Operator, TextFunction};
 use psm_exprcode::{Letter, Op};
 
 /// The letter of the column or the variable at a place; that of a number where there is none.
@@ -31,12 +31,12 @@ pub fn comparing(operator: Comparison) -> Op
 }
 
 /// The operation that joins two conditions so.
-pub fn joining(junction: Junction) -> Op
-    ensures { result ≡ op_of_junction junction }
+pub fn joining(logical_operator: LogicalOperator) -> Op
+    ensures { result ≡ op_of_logical_operator logical_operator }
 {
-    match junction {
-        Junction::And => Op::And,
-        Junction::Or => Op::Or,
+    match logical_operator {
+        LogicalOperator::And => Op::And,
+        LogicalOperator::Or => Op::Or,
     }
 }
 

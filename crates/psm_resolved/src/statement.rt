@@ -1,4 +1,4 @@
-//! Statements without names (ISO/IEC 9075-4:1996). A variable is a slot of its routine, a cursor and a condition without an
+//! Resolved statements (ISO/IEC 9075-4:1996). A variable is a slot of its routine, a cursor and a condition without an
 //! SQLSTATE are numbers of their own in it, and a table, a column, a procedure and a function are numbered from 0 in the order of
 //! their declarations. A statement that LEAVE or ITERATE can name is known by its level: the number of frames around it.
 
@@ -36,7 +36,7 @@ pub enum ResolvedStatement {
         head: Boxed<ResolvedFor>,
         statements: List<Boxed<ResolvedStatement>>,
     },
-    /// IF, with the statements behind ELSE, of which there are none where there is no ELSE.
+    /// IF, with the statements after ELSE, of which there are none where there is no ELSE.
     If {
         branches: List<Boxed<ResolvedBranch>>,
         otherwise: List<Boxed<ResolvedStatement>>,
@@ -62,7 +62,7 @@ pub struct ResolvedBlock {
     pub statements: List<Boxed<ResolvedStatement>>,
 }
 
-/// A test, or a value of WHEN, and the statements behind its THEN.
+/// A test, or a value of WHEN, and the statements after its THEN.
 #[cycle(resolved_statement)]
 #[derive(Drop)]
 pub struct ResolvedBranch {

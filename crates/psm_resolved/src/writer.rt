@@ -1,4 +1,4 @@
-//! Lines that are written one behind another.
+//! Lines that are written one after another.
 ghost use Rattle.std.specs.Prelude.{◌≡◌, ◌∷◌, [], ◌++◌, drop, reverse, length, IfOk};
 ghost use Rattle.psm_exprcode.specs.Numbered.{with_op_at};
 ghost use Rattle.psm_resolved.specs.Written.{with_line, with_op, with_not, with_scale, with_copy, with_comparison, last_letter, patched, Jumps, Leaves};
@@ -8,7 +8,7 @@ use psm_exprcode::{ExprWriter, Letter, Op, RawExpr};
 use std::alloc::{AllocError, Global};
 use std::marker::Model;
 
-/// The lines so far, and the letters of the operands behind them.
+/// The lines so far, and the letters of the operands after them.
 #[derive(Drop)]
 pub(crate) struct Writer {
     code: ExprWriter,
@@ -47,14 +47,14 @@ impl Writer {
         self.code.line(op)
     }
 
-    /// Takes so many letters off, or all that there are.
+    /// Takes n letters off, or all that there are.
     fn forget(&mut self, count: usize)
         ensures { self.new ≡ record { lines = self.old.lines; stack = drop count self.old.stack } }
     {
         self.code.take(count);
     }
 
-    /// Writes an operation that takes so many operands and puts one of that letter.
+    /// Writes an operation that takes n operands and puts one of that letter.
     pub fn apply(&mut self, op: Op, takes: usize, puts: Letter) -> Result<(), AllocError>
         ensures { IfOk result (λ _. self.new ≡ with_op self.old op takes puts) }
     {
@@ -114,7 +114,7 @@ impl Writer {
         }
     }
 
-    /// Writes an operation that may jump to a place that isn't known yet, and takes so many letters off. The
+    /// Writes an operation that may jump to a place that isn't known yet, and takes n letters off. The
     /// answer is its own place.
     pub fn jump(&mut self, op: Op, takes: usize) -> Result<usize, AllocError>
         ensures { IfOk result (λ place. Jumps op takes place self.old self.new) }
@@ -125,7 +125,7 @@ impl Writer {
         Ok(place)
     }
 
-    /// The place of the line that follows. More lines than fit in 32 bits are want of memory.
+    /// The place of the line that follows. More lines than fit in 32 bits count as out of memory.
     pub fn here(&self) -> Result<u32, AllocError>
         ensures { IfOk result (λ place. place ≡ length self.now.lines) }
     {
@@ -142,7 +142,7 @@ impl Writer {
         self.code.set_op(place, op);
     }
 
-    /// Writes a jump to the end behind a result, and lets the jump at that place pass over both. The answer is
+    /// Writes a jump to the end after a result, and lets the jump at that place pass over both. The answer is
     /// the place of the jump to the end.
     pub fn leave(&mut self, unless: usize) -> Result<usize, AllocError>
         ensures { IfOk result (λ place. Leaves unless place self.old self.new) }

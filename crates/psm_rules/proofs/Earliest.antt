@@ -10,7 +10,7 @@ use Rattle.psm_rules.specs.Texts.{number_of}
 -- ---- a rule is given by its number
 
 rules : List Rule
-rules = rule.TableRepeated ∷ rule.TableRepeated ∷ rule.ColumnRepeated ∷ rule.UnknownColumn ∷ rule.NotOnePrimaryKey ∷ rule.TypeOutOfRange ∷ rule.TooManyColumns ∷ rule.ConstantDoesNotFit ∷ rule.TableRepeated ∷ rule.TableRepeated ∷ rule.ProcedureRepeated ∷ rule.FunctionsNotDistinct ∷ rule.ParameterRepeated ∷ rule.ModeNotAllowed ∷ rule.FunctionWithoutReturn ∷ rule.ReturnOutsideFunction ∷ rule.NotAllowedInFunction ∷ rule.LabelRepeated ∷ rule.EndLabelDiffers ∷ rule.UnknownLabel ∷ rule.DeclarationRepeated ∷ rule.UnknownName ∷ rule.UnknownTable ∷ rule.UnknownCondition ∷ rule.UnknownCursor ∷ rule.UnknownProcedure ∷ rule.NoFunction ∷ rule.AmbiguousFunction ∷ rule.NotAssignable ∷ rule.Misplaced ∷ rule.FamiliesMixed ∷ rule.ScaleAboveMost ∷ rule.CountsDiffer ∷ rule.NotAllowedOnRow ∷ rule.SetFunctionMisplaced ∷ rule.OrderIsNotKey ∷ rule.CursorNotUpdatable ∷ rule.CursorOfFor ∷ rule.UndoNeedsAtomic ∷ rule.ConditionValueRepeated ∷ rule.BadSqlState ∷ rule.ItemNeedsName ∷ rule.NullWithoutType ∷ rule.ArgumentMisfitsMode ∷ rule.NoteRepeated ∷ []
+rules = rule.TableRepeated ∷ rule.TableRepeated ∷ rule.ColumnRepeated ∷ rule.UnknownColumn ∷ rule.NotOnePrimaryKey ∷ rule.TypeOutOfRange ∷ rule.TooManyColumns ∷ rule.ConstantDoesNotFit ∷ rule.TableRepeated ∷ rule.TableRepeated ∷ rule.ProcedureRepeated ∷ rule.FunctionsNotDistinct ∷ rule.ParameterRepeated ∷ rule.ModeNotAllowed ∷ rule.FunctionWithoutReturn ∷ rule.ReturnOutsideFunction ∷ rule.NotAllowedInFunction ∷ rule.LabelRepeated ∷ rule.EndLabelDiffers ∷ rule.UnknownLabel ∷ rule.DeclarationRepeated ∷ rule.UnknownName ∷ rule.UnknownTable ∷ rule.UnknownCondition ∷ rule.UnknownCursor ∷ rule.UnknownProcedure ∷ rule.NoFunction ∷ rule.AmbiguousFunction ∷ rule.NotAssignable ∷ rule.Misplaced ∷ rule.FamiliesMixed ∷ rule.ScaleAboveMost ∷ rule.CountsDiffer ∷ rule.NotAllowedOnRow ∷ rule.SetFunctionMisplaced ∷ rule.OrderIsNotKey ∷ rule.CursorNotUpdatable ∷ rule.CursorOfFor ∷ rule.UndoNeedsAtomic ∷ rule.ConditionValueRepeated ∷ rule.BadSqlState ∷ rule.ItemNeedsName ∷ rule.NullWithoutType ∷ rule.ArgumentMisfitsMode ∷ rule.CharacteristicRepeated ∷ []
 
 abbrev rule_of : ℕ → Rule
 rule_of n = get_or rules n rule.TableRepeated
@@ -58,7 +58,7 @@ rule_at rule.BadSqlState = refl
 rule_at rule.ItemNeedsName = refl
 rule_at rule.NullWithoutType = refl
 rule_at rule.ArgumentMisfitsMode = refl
-rule_at rule.NoteRepeated = refl
+rule_at rule.CharacteristicRepeated = refl
 
 pub number_tells : (a b : Rule) → number_of a ≡ number_of b → a ≡ b
 number_tells a b e = sym (rule_at a) ∙ ap rule_of e ∙ rule_at b
@@ -77,26 +77,26 @@ ahead l c n m d k = nat_lt l m || (nat_eq l m && (nat_lt c d || (nat_eq c d && n
 abbrev Ahead : ℕ → ℕ → ℕ → ℕ → ℕ → ℕ → Type 0
 Ahead l c n m d k = (l < m) ⊎ ((l ≡ m) × ((c < d) ⊎ ((c ≡ d) × (n < k))))
 
-abbrev Behind : ℕ → ℕ → ℕ → ℕ → ℕ → ℕ → Type 0
-Behind l c n m d k = (m < l) ⊎ ((l ≡ m) × ((d < c) ⊎ ((c ≡ d) × (k ≤ n))))
+abbrev After : ℕ → ℕ → ℕ → ℕ → ℕ → ℕ → Type 0
+After l c n m d k = (m < l) ⊎ ((l ≡ m) × ((d < c) ⊎ ((c ≡ d) × (k ≤ n))))
 
-ahead_tells : (l c n m d k : ℕ) → ((ahead l c n m d k ≡ true) × Ahead l c n m d k) ⊎ ((ahead l c n m d k ≡ false) × Behind l c n m d k)
+ahead_tells : (l c n m d k : ℕ) → ((ahead l c n m d k ≡ true) × Ahead l c n m d k) ⊎ ((ahead l c n m d k ≡ false) × After l c n m d k)
 ahead_tells l c n m d k = grind (arith, nat_tests)
 
-trans : (l c n m d k o e j : ℕ) → Ahead l c n m d k → Ahead m d k o e j → Behind l c n o e j → ⊥
+trans : (l c n m d k o e j : ℕ) → Ahead l c n m d k → Ahead m d k o e j → After l c n o e j → ⊥
 trans l c n m d k o e j p q r = omega arith
 
-behind_trans : (l c n m d k o e j : ℕ) → Behind l c n m d k → Behind m d k o e j → Ahead l c n o e j → ⊥
-behind_trans l c n m d k o e j p q r = omega arith
+after_trans : (l c n m d k o e j : ℕ) → After l c n m d k → After m d k o e j → Ahead l c n o e j → ⊥
+after_trans l c n m d k o e j p q r = omega arith
 
 not_both : (l c n m d k : ℕ) → Ahead l c n m d k → Ahead m d k l c n → ⊥
 not_both l c n m d k p q = omega arith
 
-same_line : (l c n m d k : ℕ) → Behind l c n m d k → Behind m d k l c n → (l ≡ m) × (c ≡ d) × (n ≡ k)
+same_line : (l c n m d k : ℕ) → After l c n m d k → After m d k l c n → (l ≡ m) × (c ≡ d) × (n ≡ k)
 same_line l c n m d k p q = (omega arith, omega arith, omega arith)
 
 tells : (a b : Fault) → ((precedes a b ≡ true) × Ahead a.place.line a.place.column (number_of a.rule) b.place.line b.place.column (number_of b.rule))
-    ⊎ ((precedes a b ≡ false) × Behind a.place.line a.place.column (number_of a.rule) b.place.line b.place.column (number_of b.rule))
+    ⊎ ((precedes a b ≡ false) × After a.place.line a.place.column (number_of a.rule) b.place.line b.place.column (number_of b.rule))
 tells a b = ahead_tells a.place.line a.place.column (number_of a.rule) b.place.line b.place.column (number_of b.rule)
 
 -- ---- the laws
@@ -146,14 +146,14 @@ precedes-trans a b c e h =
       | inr x ↦ cc
     ]
 
-behind-trans : (a b c : Fault) → precedes a b ≡ false → precedes b c ≡ false → precedes a c ≡ false
-behind-trans a b c e h =
+following-trans : (a b c : Fault) → precedes a b ≡ false → precedes b c ≡ false → precedes a c ≡ false
+following-trans a b c e h =
     elim (tells a b) as (λ _. precedes a c ≡ false) [
       | inl x ↦ cc
       | inr x ↦ elim (tells b c) as (λ _. precedes a c ≡ false) [
         | inl y ↦ cc
         | inr y ↦ elim (tells a c) as (λ _. precedes a c ≡ false) [
-          | inl z ↦ absurd (behind_trans a.place.line a.place.column (number_of a.rule) b.place.line b.place.column (number_of b.rule) c.place.line c.place.column (number_of c.rule) x.1 y.1 z.1)
+          | inl z ↦ absurd (after_trans a.place.line a.place.column (number_of a.rule) b.place.line b.place.column (number_of b.rule) c.place.line c.place.column (number_of c.rule) x.1 y.1 z.1)
           | inr z ↦ z.0
         ]
       ]
@@ -176,7 +176,7 @@ grouped_at : (a b c : Fault) (p q : Bool) → precedes b a ≡ p → precedes c 
 grouped_at a b c true true e h = taken (precedes c b) b c h ∙ sym (taken (precedes c a) a c (precedes-trans c b a h e))
 grouped_at a b c true false e h = kept (precedes c b) b c h ∙ sym (taken (precedes b a) a b e)
 grouped_at a b c false true e h = refl
-grouped_at a b c false false e h = kept (precedes c a) a c (behind-trans c b a h e) ∙ sym (kept (precedes b a) a b e)
+grouped_at a b c false false e h = kept (precedes c a) a c (following-trans c b a h e) ∙ sym (kept (precedes b a) a b e)
 
 pub earlier_assoc : (f g h : Option Fault) → earlier (earlier f g) h ≡ earlier f (earlier g h)
 earlier_assoc None g h = refl
@@ -201,6 +201,6 @@ first_of_append xs ys = first_from_append None xs ys ∙ first_from_earlier (fir
 pub first_from_swap : (f g : Option Fault) (xs : List (Option Fault)) → first_from (earlier f g) xs ≡ earlier f (first_from g xs)
 first_from_swap f g xs = first_from_earlier (earlier f g) xs ∙ earlier_assoc f g (first_of xs) ∙ ap (λ h. earlier f h) (sym (first_from_earlier g xs))
 
--- the faults of two lists one behind the other, after one before them
+-- the faults of two lists one after the other, after one before them
 pub first_from_joined : (f : Option Fault) (xs ys : List (Option Fault)) → first_from f (xs ++ ys) ≡ earlier (first_from f xs) (first_of ys)
 first_from_joined f xs ys = first_from_append f xs ys ∙ first_from_earlier (first_from f xs) ys

@@ -8,8 +8,8 @@ use Rattle.psm_value.specs.Stored.{stored}
 use Rattle.psm_value.specs.declared.datum.Datum.{Datum}
 use Rattle.psm_value.specs.declared.datum.Datum.TheVariants as datum
 use Rattle.psm_value.specs.declared.sqltype.SqlType.{SqlType}
-use Rattle.psm_scope.specs.Frames.{Spelling, is_spelled, undeclared}
-use Rattle.psm_scope.specs.Frames as frame
+use Rattle.psm_scope.specs.Scopes.{Spelling, is_spelled, undeclared}
+use Rattle.psm_scope.specs.Scopes as scope
 use Rattle.psm_scope.specs.KindNumbers.{is_kind}
 use Rattle.psm_scope.specs.declared.kinds.ArgKind.{ArgKind}
 use Rattle.psm_scope.specs.declared.kinds.ArgKind.TheVariants as kind
@@ -43,25 +43,25 @@ use Rattle.psm_tree.specs.declared.file.TableRuleForm.{TableRuleForm}
 use Rattle.psm_tree.specs.declared.file.TableRuleForm.TheVariants as table_rules
 use Rattle.psm_tree.specs.declared.file.Mode.{Mode}
 use Rattle.psm_tree.specs.declared.file.Mode.TheVariants as modes
-use Rattle.psm_tree.specs.declared.file.Note.{Note}
-use Rattle.psm_tree.specs.declared.file.NoteForm.{NoteForm}
-use Rattle.psm_tree.specs.declared.file.NoteForm.TheVariants as notes
+use Rattle.psm_tree.specs.declared.file.Characteristic.{Characteristic}
+use Rattle.psm_tree.specs.declared.file.CharacteristicForm.{CharacteristicForm}
+use Rattle.psm_tree.specs.declared.file.CharacteristicForm.TheVariants as characteristics
 use Rattle.psm_tree.specs.declared.file.Parameter.{Parameter}
 use Rattle.psm_tree.specs.declared.file.Routine.{Routine}
 use Rattle.psm_rules.specs.declared.fault.Fault.{Fault}
 use Rattle.psm_rules.specs.declared.rule.Rule.TheVariants as rule
 use Rattle.psm_rules.specs.BlockFaults.{declared_once, statement_fault}
-use Rattle.psm_rules.specs.ExprFaults.{expr_found, type_fault}
+use Rattle.psm_rules.specs.ExprFaults.{check_expr, type_fault}
 use Rattle.psm_rules.specs.Faults.{breaks, breaks_if, earlier, first_of}
-use Rattle.psm_rules.specs.Found.{as_condition}
+use Rattle.psm_rules.specs.Checked.{as_condition}
 use Rattle.psm_rules.specs.declared.shape.Family.{Family}
 use Rattle.psm_rules.specs.declared.shape.Family.TheVariants.{Numbers, Texts}
 use Rattle.psm_rules.specs.Shapes.{is_family, family_of, typed}
 use Rattle.psm_rules.specs.StatementFaults.{Context, Within, several, repeated, columns_fault}
 use Rattle.psm_rules.specs.StatementFaults as within
 use Rattle.psm_rules.specs.Types.{type_of}
-use Rattle.psm_rules.specs.View.{View, World, Columns, Frames}
-use Rattle.psm_scope.specs.Scopes.{declared_here, redeclared}
+use Rattle.psm_rules.specs.CheckerScope.{CheckerScope, SymbolTable, Columns, Scopes}
+use Rattle.psm_scope.specs.KeptScopes.{declared_here, redeclared}
 use Rattle.psm_scope.specs.Routines.{Callable, Header, procedure}
 use Rattle.psm_scope.specs.declared.known.Variable.{Variable}
 use Rattle.psm_scope.specs.declared.procedures.ProcedureScope.{ProcedureScope}
@@ -120,21 +120,21 @@ constant_fault (Some t) (Some c) = breaks_if (not (default_fits t (datum_of c.fo
 
 -- ---- tables
 
-abbrev pub check_fault : View → Expr → Option Fault
-check_fault v e = (as_condition (expr_found e v)).fault
+abbrev pub check_fault : CheckerScope → Expr → Option Fault
+check_fault v e = (as_condition (check_expr e v)).fault
 
-abbrev pub column_rule_fault : View → ColumnRuleForm → Option Fault
+abbrev pub column_rule_fault : CheckerScope → ColumnRuleForm → Option Fault
 column_rule_fault v column_rules.NotNull = None
 column_rule_fault v column_rules.PrimaryKey = None
 column_rule_fault v column_rules.Unique = None
 column_rule_fault v (column_rules.Check e) = check_fault v e
 
-abbrev pub table_rule_fault : View → Columns → TableRuleForm → Option Fault
+abbrev pub table_rule_fault : CheckerScope → Columns → TableRuleForm → Option Fault
 table_rule_fault v columns (table_rules.PrimaryKey names) = columns_fault (Some columns) (several names)
 table_rule_fault v columns (table_rules.Unique names) = columns_fault (Some columns) (several names)
 table_rule_fault v columns (table_rules.Check e) = check_fault v e
 
-abbrev pub element_fault : View → Columns → Element → Option Fault
+abbrev pub element_fault : CheckerScope → Columns → Element → Option Fault
 element_fault v columns (elements.Column name kind default rules) = first_of (type_fault kind (type_of kind) ∷ constant_fault (type_of kind) default
     ∷ map (λ r. column_rule_fault v r.form) rules)
 element_fault v columns (elements.Rule r) = table_rule_fault v columns r.form
@@ -171,14 +171,14 @@ too_many (Some n) = breaks rule.TooManyColumns n.place
 abbrev pub key_fault : Identifier → List (List Spelling) → Option Fault
 key_fault table keys = breaks_if (not (nat_eq (length keys) 1)) rule.NotOnePrimaryKey table.place
 
-abbrev pub no_world : World
-no_world = record { tables = []; keys = []; functions = record { signatures = []; results = [] }; procedures = [] }
+abbrev pub no_symbols : SymbolTable
+no_symbols = record { tables = []; keys = []; functions = record { signatures = []; results = [] }; procedures = [] }
 
 -- a CHECK sees the columns of its table alone
-abbrev pub alone : Spelling → Columns → View
+abbrev pub alone : Spelling → Columns → CheckerScope
 alone table columns = record {
-  world = no_world;
-  frames = [];
+  symbols = no_symbols;
+  scopes = [];
   row = Some (record { name = table; alias = None; columns = columns });
 }
 
@@ -235,13 +235,13 @@ with_procedure ps n parameters = if is_some (procedure n (length parameters) ps)
     else ps ++ ((n, length parameters), record { number = 0; parameters = parameters }) ∷ []
 
 -- a routine that returns a value is a function
-abbrev pub with_routine : World → Routine → Option DataType → World
-with_routine world r None = record world { procedures = with_procedure world.procedures r.name.name (map parameter_of r.parameters) }
-with_routine world r (Some t) = record world { functions = with_function world.functions r t }
+abbrev pub with_routine : SymbolTable → Routine → Option DataType → SymbolTable
+with_routine symbols r None = record symbols { procedures = with_procedure symbols.procedures r.name.name (map parameter_of r.parameters) }
+with_routine symbols r (Some t) = record symbols { functions = with_function symbols.functions r t }
 
-abbrev pub with_routines : World → List Routine → World
-with_routines world [] = world
-with_routines world (r ∷ rs) = with_routines (with_routine world r r.returns) rs
+abbrev pub with_routines : SymbolTable → List Routine → SymbolTable
+with_routines symbols [] = symbols
+with_routines symbols (r ∷ rs) = with_routines (with_routine symbols r r.returns) rs
 
 -- ---- routines that can't be told apart
 
@@ -259,8 +259,8 @@ repeats_function before r = list_any (λ b. is_function b && same_functions r b)
 abbrev pub repeats_procedure : List Routine → Routine → Bool
 repeats_procedure before r = list_any (λ b. not (is_function b) && same_procedures r b) before
 
-abbrev pub told_apart : Routine → List Routine → Option Fault
-told_apart r before = if is_function r then breaks_if (repeats_function before r) rule.FunctionsNotDistinct r.name.place
+abbrev pub distinct : Routine → List Routine → Option Fault
+distinct r before = if is_function r then breaks_if (repeats_function before r) rule.FunctionsNotDistinct r.name.place
     else breaks_if (repeats_procedure before r) rule.ProcedureRepeated r.name.place
 
 -- ---- the body of a function has a RETURN, in an action perhaps
@@ -304,19 +304,19 @@ branch_returns = fold-Branch Bool Bool Bool Bool returning_block returning_state
 unfoldable pub handler_returns : Handler → Bool
 handler_returns = fold-Handler Bool Bool Bool Bool returning_block returning_statement returning_branch returning_handler
 
--- ---- notes: an alternative stands at most once, DETERMINISTIC and NOT DETERMINISTIC being one
+-- ---- characteristics: an alternative stands at most once, DETERMINISTIC and NOT DETERMINISTIC being one
 
-abbrev pub note_number : NoteForm → ℕ
-note_number notes.Language = 0
-note_number notes.Deterministic = 1
-note_number notes.NotDeterministic = 1
-note_number notes.ContainsSql = 2
-note_number notes.ReadsSqlData = 3
-note_number notes.ModifiesSqlData = 4
+abbrev pub characteristic_number : CharacteristicForm → ℕ
+characteristic_number characteristics.Language = 0
+characteristic_number characteristics.Deterministic = 1
+characteristic_number characteristics.NotDeterministic = 1
+characteristic_number characteristics.ContainsSql = 2
+characteristic_number characteristics.ReadsSqlData = 3
+characteristic_number characteristics.ModifiesSqlData = 4
 
-abbrev pub notes_fault : List ℕ → List Note → List (Option Fault)
-notes_fault before [] = []
-notes_fault before (n ∷ ns) = breaks_if (list_any (nat_eq (note_number n.form)) before) rule.NoteRepeated n.place ∷ notes_fault (note_number n.form ∷ before) ns
+abbrev pub characteristics_fault : List ℕ → List Characteristic → List (Option Fault)
+characteristics_fault before [] = []
+characteristics_fault before (n ∷ ns) = breaks_if (list_any (nat_eq (characteristic_number n.form)) before) rule.CharacteristicRepeated n.place ∷ characteristics_fault (characteristic_number n.form ∷ before) ns
 
 -- ---- a routine
 
@@ -330,23 +330,23 @@ abbrev pub parameter_variable : Parameter → Variable
 parameter_variable p = record { kind = type_of p.kind; slot = 0; assignable = not (is_in p.mode) }
 
 -- a parameter whose name stands before declares nothing
-abbrev pub with_parameter : Frames → Parameter → Frames
-with_parameter frames p = let d = declared_here frames in
-    redeclared frames (record d { variables = declared_once d.variables p.name.name (parameter_variable p) })
+abbrev pub with_parameter : Scopes → Parameter → Scopes
+with_parameter scopes p = let d = declared_here scopes in
+    redeclared scopes (record d { variables = declared_once d.variables p.name.name (parameter_variable p) })
 
-abbrev pub with_parameters : Frames → List Parameter → Frames
-with_parameters frames [] = frames
-with_parameters frames (p ∷ ps) = with_parameters (with_parameter frames p) ps
+abbrev pub with_parameters : Scopes → List Parameter → Scopes
+with_parameters scopes [] = scopes
+with_parameters scopes (p ∷ ps) = with_parameters (with_parameter scopes p) ps
 
-abbrev pub routine_frames : Routine → Frames
-routine_frames r = with_parameters (frame.Routine r.name.name undeclared ∷ []) r.parameters
+abbrev pub routine_scopes : Routine → Scopes
+routine_scopes r = with_parameters (scope.Routine r.name.name undeclared ∷ []) r.parameters
 
 abbrev pub kind_of_routine : Option DataType → Within
 kind_of_routine None = within.InProcedure
 kind_of_routine (Some t) = within.InFunction (type_of t)
 
-abbrev pub body_context : World → Routine → Context
-body_context world r = record { view = record { world = world; frames = routine_frames r; row = None }; within = kind_of_routine r.returns }
+abbrev pub body_context : SymbolTable → Routine → Context
+body_context symbols r = record { checker_scope = record { symbols = symbols; scopes = routine_scopes r; row = None }; within = kind_of_routine r.returns }
 
 abbrev pub result_fault : Option DataType → Option Fault
 result_fault None = None
@@ -355,14 +355,14 @@ result_fault (Some t) = type_fault t (type_of t)
 abbrev pub return_fault : Routine → Option Fault
 return_fault r = breaks_if (is_function r && not (has_return r.body)) rule.FunctionWithoutReturn r.name.place
 
-abbrev pub routine_fault : World → List Routine → Routine → Option Fault
-routine_fault world before r = first_of (told_apart r before ∷ return_fault r
+abbrev pub routine_fault : SymbolTable → List Routine → Routine → Option Fault
+routine_fault symbols before r = first_of (distinct r before ∷ return_fault r
     ∷ repeated rule.ParameterRepeated (map (λ p. p.name) r.parameters) ∷ first_of (map (parameter_fault (is_function r)) r.parameters)
-    ∷ result_fault r.returns ∷ first_of (notes_fault [] r.notes) ∷ statement_fault r.body (body_context world r) ∷ [])
+    ∷ result_fault r.returns ∷ first_of (characteristics_fault [] r.characteristics) ∷ statement_fault r.body (body_context symbols r) ∷ [])
 
-abbrev pub routines_fault : World → List Routine → List Routine → List (Option Fault)
-routines_fault world before [] = []
-routines_fault world before (r ∷ rs) = routine_fault world before r ∷ routines_fault world (r ∷ before) rs
+abbrev pub routines_fault : SymbolTable → List Routine → List Routine → List (Option Fault)
+routines_fault symbols before [] = []
+routines_fault symbols before (r ∷ rs) = routine_fault symbols before r ∷ routines_fault symbols (r ∷ before) rs
 
 -- ---- the file
 
@@ -371,21 +371,21 @@ first_key [] = []
 first_key (k ∷ ks) = k
 
 -- each table once
-abbrev pub with_table : World → TableTree → World
-with_table world t = record world {
-  tables = declared_once world.tables t.name.name (columns_of (table_elements t));
-  keys = declared_once world.keys t.name.name (first_key (keys_of (table_elements t)));
+abbrev pub with_table : SymbolTable → TableTree → SymbolTable
+with_table symbols t = record symbols {
+  tables = declared_once symbols.tables t.name.name (columns_of (table_elements t));
+  keys = declared_once symbols.keys t.name.name (first_key (keys_of (table_elements t)));
 }
 
-abbrev pub with_tables : World → List TableTree → World
-with_tables world [] = world
-with_tables world (t ∷ ts) = with_tables (with_table world t) ts
+abbrev pub with_tables : SymbolTable → List TableTree → SymbolTable
+with_tables symbols [] = symbols
+with_tables symbols (t ∷ ts) = with_tables (with_table symbols t) ts
 
 -- what the tables and the routines of a file declare; each routine is known in the whole module
-abbrev pub world_of : FileTree → World
-world_of f = with_routines (with_tables no_world f.tables) f.«module».routines
+abbrev pub symbols_of : FileTree → SymbolTable
+symbols_of f = with_routines (with_tables no_symbols f.tables) f.«module».routines
 
 -- the first fault of a module file; without one the file is accepted
 abbrev pub file_fault : FileTree → Option Fault
 file_fault f = first_of (repeated rule.TableRepeated (map (λ t. t.name) f.tables) ∷ first_of (map table_fault f.tables)
-    ∷ first_of (routines_fault (world_of f) [] f.«module».routines) ∷ [])
+    ∷ first_of (routines_fault (symbols_of f) [] f.«module».routines) ∷ [])

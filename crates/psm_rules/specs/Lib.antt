@@ -2,9 +2,9 @@ pub mod BlockFaults
 pub mod ExprFaults
 pub mod Faults
 pub mod FileFaults
-pub mod Found
+pub mod Checked
 pub mod Shapes
 pub mod StatementFaults
 pub mod Texts
 pub mod Types
-pub mod View
+pub mod CheckerScope

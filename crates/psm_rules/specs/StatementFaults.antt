@@ -7,8 +7,8 @@ use Rattle.psm_value.specs.declared.sqltype.SqlType.{SqlType}
 use Rattle.psm_value.specs.declared.sqltype.SqlType.TheVariants as types
 use Rattle.psm_sqlstate.specs.State.{is_state_character}
 use Rattle.psm_scope.specs.Rows.{columns_known}
-use Rattle.psm_scope.specs.Frames.{Spelling, is_spelled, Frame}
-use Rattle.psm_scope.specs.Frames as frame
+use Rattle.psm_scope.specs.Scopes.{Spelling, is_spelled, Scope}
+use Rattle.psm_scope.specs.Scopes as scope
 use Rattle.psm_scope.specs.Lookup.{named, labels, meant}
 use Rattle.psm_scope.specs.Lookup as lookup
 use Rattle.psm_tree.specs.declared.name.Identifier.{Identifier}
@@ -41,10 +41,10 @@ use Rattle.psm_tree.specs.declared.statement.Simple.TheVariants as simples
 use Rattle.psm_rules.specs.declared.fault.Fault.{Fault}
 use Rattle.psm_rules.specs.declared.rule.Rule.{Rule}
 use Rattle.psm_rules.specs.declared.rule.Rule.TheVariants as rule
-use Rattle.psm_rules.specs.ExprFaults.{QueryFound, expr_found, query_found, query_fault, miscounted_fault, table_fault, items_of, may_be, spelling}
+use Rattle.psm_rules.specs.ExprFaults.{QueryChecked, check_expr, check_query, query_fault, miscounted_fault, table_fault, items_of, may_be, spelling}
 use Rattle.psm_rules.specs.Faults.{breaks, breaks_if, earlier, first_of}
-use Rattle.psm_rules.specs.declared.found.Found.{Found}
-use Rattle.psm_rules.specs.Found.{as_value, as_condition, of_family}
+use Rattle.psm_rules.specs.declared.checked.Checked.{Checked}
+use Rattle.psm_rules.specs.Checked.{as_value, as_condition, of_family}
 use Rattle.psm_rules.specs.declared.shape.Shape.{Shape}
 use Rattle.psm_rules.specs.declared.shape.Family.{Family}
 use Rattle.psm_rules.specs.declared.shape.Family.TheVariants.{Numbers, Texts}
@@ -59,7 +59,7 @@ use Rattle.psm_scope.specs.declared.procedures.ParameterScope.{ParameterScope}
 use Rattle.psm_scope.specs.declared.procedures.ParameterMode.{ParameterMode}
 use Rattle.psm_scope.specs.declared.procedures.ParameterMode.TheVariants.{In, Out, InOut}
 use Rattle.psm_rules.specs.declared.query.Item.{Item}
-use Rattle.psm_rules.specs.View.{View, Cursor, Columns, Frames, on_row, table_named}
+use Rattle.psm_rules.specs.CheckerScope.{CheckerScope, Cursor, Columns, Scopes, on_row, table_named}
 
 -- ---- where a statement stands
 
@@ -69,15 +69,15 @@ pub data Within : Type 0 where
   InFunction : Option SqlType → Within
 
 pub record Context : Type 0 where
-  pub view : View
+  pub checker_scope : CheckerScope
   pub within : Within
 
-abbrev pub found : View → Expr → Found
-found view e = expr_found e view
+abbrev pub checked : CheckerScope → Expr → Checked
+checked checker_scope e = check_expr e checker_scope
 
--- with a frame more
-abbrev pub inside : Context → Frame Variable DeclaredCondition Cursor → Context
-inside c f = record c { view = record c.view { frames = f ∷ c.view.frames } }
+-- with a scope more
+abbrev pub inside : Context → Scope Variable DeclaredCondition Cursor → Context
+inside c f = record c { checker_scope = record c.checker_scope { scopes = f ∷ c.checker_scope.scopes } }
 
 -- ---- names that stand twice
 
@@ -104,30 +104,30 @@ family_due None = None
 family_due (Some t) = Some (family_of (typed t).kind)
 
 -- a source for a target of a type
-abbrev pub source_fault : Option SqlType → Found → Option Fault
+abbrev pub source_fault : Option SqlType → Checked → Option Fault
 source_fault to f = let value = as_value f in earlier value.fault (mixed_at value.place (family_due to) value.shape)
 
 -- the variable that a target means
-abbrev pub variable_of : Frames → Target → Option Variable
-variable_of frames t = meant t.first.name (spelling t.second) frames
+abbrev pub variable_of : Scopes → Target → Option Variable
+variable_of scopes t = meant t.first.name (spelling t.second) scopes
 
 -- what isn't known, or can't be assigned, is at fault and has no type
 abbrev pub target_fault_of : Place → Option Variable → Option Fault
 target_fault_of place None = breaks rule.UnknownName place
 target_fault_of place (Some v) = breaks_if (not v.assignable) rule.NotAssignable place
 
-abbrev pub target_fault : Frames → Target → Option Fault
-target_fault frames t = target_fault_of t.first.place (variable_of frames t)
+abbrev pub target_fault : Scopes → Target → Option Fault
+target_fault scopes t = target_fault_of t.first.place (variable_of scopes t)
 
 abbrev pub assigned_type : Option Variable → Option SqlType
 assigned_type None = None
 assigned_type (Some v) = if v.assignable then v.kind else None
 
-abbrev pub target_type : Frames → Target → Option SqlType
-target_type frames t = assigned_type (variable_of frames t)
+abbrev pub target_type : Scopes → Target → Option SqlType
+target_type scopes t = assigned_type (variable_of scopes t)
 
-abbrev pub targets_fault : Frames → List Target → Option Fault
-targets_fault frames ts = first_of (map (target_fault frames) ts)
+abbrev pub targets_fault : Scopes → List Target → Option Fault
+targets_fault scopes ts = first_of (map (target_fault scopes) ts)
 
 -- ---- conditions
 
@@ -147,22 +147,22 @@ good_state s = if is_bad_state s then None else Some s
 abbrev pub state_fault : State → Option Fault
 state_fault s = breaks_if (is_bad_state s.text) rule.BadSqlState s.«at»
 
-abbrev pub declared_condition : Frames → Identifier → Option DeclaredCondition
-declared_condition frames n = lookup.condition n.name frames
+abbrev pub declared_condition : Scopes → Identifier → Option DeclaredCondition
+declared_condition scopes n = lookup.condition n.name scopes
 
-abbrev pub name_of_condition_fault : Frames → Identifier → Option Fault
-name_of_condition_fault frames n = breaks_if (not (is_some (declared_condition frames n))) rule.UnknownCondition n.place
+abbrev pub name_of_condition_fault : Scopes → Identifier → Option Fault
+name_of_condition_fault scopes n = breaks_if (not (is_some (declared_condition scopes n))) rule.UnknownCondition n.place
 
-abbrev pub condition_fault : Frames → Condition → Option Fault
-condition_fault frames (signals.Name n) = name_of_condition_fault frames n
-condition_fault frames (signals.State s) = state_fault s
+abbrev pub condition_fault : Scopes → Condition → Option Fault
+condition_fault scopes (signals.Name n) = name_of_condition_fault scopes n
+condition_fault scopes (signals.State s) = state_fault s
 
-abbrev pub message_fault : View → Option Expr → Option Fault
-message_fault view None = None
-message_fault view (Some e) = (of_family Texts (as_value (found view e))).fault
+abbrev pub message_fault : CheckerScope → Option Expr → Option Fault
+message_fault checker_scope None = None
+message_fault checker_scope (Some e) = (of_family Texts (as_value (checked checker_scope e))).fault
 
-abbrev pub signalled_fault : View → Signalled → Option Fault
-signalled_fault view s = earlier (condition_fault view.frames s.condition) (message_fault view s.message)
+abbrev pub signalled_fault : CheckerScope → Signalled → Option Fault
+signalled_fault checker_scope s = earlier (condition_fault checker_scope.scopes s.condition) (message_fault checker_scope s.message)
 
 -- ---- diagnostics
 
@@ -185,21 +185,21 @@ is_same_family None f = true
 is_same_family (Some g) f = families.is_family g f
 
 -- an item for a target; where they don't fit the fault is at the item
-abbrev pub item_fault : Frames → Target → Place → Family → Option Fault
-item_fault frames t place family = earlier (target_fault frames t) (breaks_if (not (is_same_family (family_due (target_type frames t)) family)) rule.FamiliesMixed place)
+abbrev pub item_fault : Scopes → Target → Place → Family → Option Fault
+item_fault scopes t place family = earlier (target_fault scopes t) (breaks_if (not (is_same_family (family_due (target_type scopes t)) family)) rule.FamiliesMixed place)
 
 abbrev pub number_type_fault : Place → Option Variable → Option Fault
 number_type_fault place None = breaks rule.UnknownName place
 number_type_fault place (Some v) = breaks_if (not (is_same_family (family_due v.kind) Numbers)) rule.FamiliesMixed place
 
-abbrev pub number_fault : Frames → ConditionNumber → Option Fault
-number_fault frames (numbers.Number place n) = None
-number_fault frames (numbers.Target t) = number_type_fault t.first.place (variable_of frames t)
+abbrev pub number_fault : Scopes → ConditionNumber → Option Fault
+number_fault scopes (numbers.Number place n) = None
+number_fault scopes (numbers.Target t) = number_type_fault t.first.place (variable_of scopes t)
 
-abbrev pub diagnostics_fault : Frames → Diagnostics → Option Fault
-diagnostics_fault frames (diagnostics.Statement items) = first_of (map (λ i. item_fault frames i.target i.place (statement_item_family i.item)) (several items))
-diagnostics_fault frames (diagnostics.Condition number items) = earlier (number_fault frames number)
-    (first_of (map (λ i. item_fault frames i.target i.place (condition_item_family i.item)) (several items)))
+abbrev pub diagnostics_fault : Scopes → Diagnostics → Option Fault
+diagnostics_fault scopes (diagnostics.Statement items) = first_of (map (λ i. item_fault scopes i.target i.place (statement_item_family i.item)) (several items))
+diagnostics_fault scopes (diagnostics.Condition number items) = earlier (number_fault scopes number)
+    (first_of (map (λ i. item_fault scopes i.target i.place (condition_item_family i.item)) (several items)))
 
 -- ---- queries with their targets
 
@@ -214,11 +214,11 @@ items_into None kinds = None
 items_into (Some items) kinds = first_of (pairs_fault items kinds)
 
 -- as many items as targets; else no pair is asked
-abbrev pub into_fault : QueryFound → Place → List (Option SqlType) → Option Fault
+abbrev pub into_fault : QueryChecked → Place → List (Option SqlType) → Option Fault
 into_fault q first kinds = if may_be (length kinds) (items_of q) then items_into (items_of q) kinds else breaks rule.CountsDiffer first
 
-abbrev pub select_into_fault : View → QueryFound → Targets → Option Fault
-select_into_fault view q ts = first_of (query_fault q ∷ targets_fault view.frames (several ts) ∷ into_fault q ts.first.first.place (map (target_type view.frames) (several ts)) ∷ [])
+abbrev pub select_into_fault : CheckerScope → QueryChecked → Targets → Option Fault
+select_into_fault checker_scope q ts = first_of (query_fault q ∷ targets_fault checker_scope.scopes (several ts) ∷ into_fault q ts.first.first.place (map (target_type checker_scope.scopes) (several ts)) ∷ [])
 
 -- ---- tables
 
@@ -247,120 +247,120 @@ abbrev pub listed_columns : Option Names → List Identifier
 listed_columns None = []
 listed_columns (Some ns) = several ns
 
-abbrev pub sources_fault : List (Option SqlType) → List Found → List (Option Fault)
+abbrev pub sources_fault : List (Option SqlType) → List Checked → List (Option Fault)
 sources_fault kinds [] = []
 sources_fault [] (f ∷ fs) = []
 sources_fault (k ∷ kinds) (f ∷ fs) = source_fault k f ∷ sources_fault kinds fs
 
 -- a row of VALUES for columns of these types
-abbrev pub values_for : Place → List Found → Option (List (Option SqlType)) → Option Fault
+abbrev pub values_for : Place → List Checked → Option (List (Option SqlType)) → Option Fault
 values_for place fs None = first_of (map (source_fault None) fs)
 values_for place fs (Some kinds) = if nat_eq (length kinds) (length fs) then first_of (sources_fault kinds fs)
     else earlier (breaks rule.CountsDiffer place) (first_of (map (λ f. f.fault) fs))
 
-abbrev pub row_fault : View → Option (List (Option SqlType)) → Values → Option Fault
-row_fault view kinds row = values_for (found view row.values.first).place (map (found view) (several row.values)) kinds
+abbrev pub row_fault : CheckerScope → Option (List (Option SqlType)) → Values → Option Fault
+row_fault checker_scope kinds row = values_for (checked checker_scope row.values.first).place (map (checked checker_scope) (several row.values)) kinds
 
-abbrev pub query_for : QueryFound → Option (List (Option SqlType)) → Option Fault
+abbrev pub query_for : QueryChecked → Option (List (Option SqlType)) → Option Fault
 query_for q None = query_fault q
 query_for q (Some kinds) = if may_be (length kinds) (items_of q) then earlier (query_fault q) (items_into (items_of q) kinds) else miscounted_fault q
 
-abbrev pub insert_source_fault : View → Option (List (Option SqlType)) → InsertSource → Option Fault
-insert_source_fault view kinds (sources.Values rows) = first_of (map (row_fault view kinds) (several rows))
-insert_source_fault view kinds (sources.Query select) = query_for (query_found select view) kinds
+abbrev pub insert_source_fault : CheckerScope → Option (List (Option SqlType)) → InsertSource → Option Fault
+insert_source_fault checker_scope kinds (sources.Values rows) = first_of (map (row_fault checker_scope kinds) (several rows))
+insert_source_fault checker_scope kinds (sources.Query select) = query_for (check_query select checker_scope) kinds
 
-abbrev pub insert_fault : View → Identifier → Option Columns → Option Names → InsertSource → Option Fault
-insert_fault view table columns names source = first_of (table_fault table columns ∷ columns_fault columns (listed_columns names)
-    ∷ insert_source_fault view (inserted_types columns names) source ∷ [])
+abbrev pub insert_fault : CheckerScope → Identifier → Option Columns → Option Names → InsertSource → Option Fault
+insert_fault checker_scope table columns names source = first_of (table_fault table columns ∷ columns_fault columns (listed_columns names)
+    ∷ insert_source_fault checker_scope (inserted_types columns names) source ∷ [])
 
 -- the view on a row of a table that a statement changes
-abbrev pub on_table : View → Identifier → Option Columns → View
-on_table view table columns = on_row view (record { name = table.name; alias = None; columns = columns_known columns })
+abbrev pub on_table : CheckerScope → Identifier → Option Columns → CheckerScope
+on_table checker_scope table columns = on_row checker_scope (record { name = table.name; alias = None; columns = columns_known columns })
 
-abbrev pub assignment_fault : View → Columns → Assignment → Option Fault
-assignment_fault view columns a = source_fault (type_of_column columns a.column) (expr_found a.source view)
+abbrev pub assignment_fault : CheckerScope → Columns → Assignment → Option Fault
+assignment_fault checker_scope columns a = source_fault (type_of_column columns a.column) (check_expr a.source checker_scope)
 
 -- ---- cursors
 
-abbrev pub cursor_of : Frames → Identifier → Option Cursor
-cursor_of frames n = lookup.cursor n.name frames
+abbrev pub cursor_of : Scopes → Identifier → Option Cursor
+cursor_of scopes n = lookup.cursor n.name scopes
 
 -- a positioned statement needs a plain cursor over its table that isn't FOR READ ONLY
 abbrev pub positioned_fault : Identifier → Identifier → Option Cursor → Option Fault
 positioned_fault table n None = breaks rule.UnknownCursor n.place
 positioned_fault table n (Some cursor) = breaks_if (not (cursor.updatable && is_spelled table.name cursor.table)) rule.CursorNotUpdatable n.place
 
-abbrev pub where_fault : View → Identifier → Option Columns → Option Where → Option Fault
-where_fault view table columns None = None
-where_fault view table columns (Some (wheres.Condition e)) = (as_condition (expr_found e (on_table view table columns))).fault
-where_fault view table columns (Some (wheres.Current n)) = positioned_fault table n (cursor_of view.frames n)
+abbrev pub where_fault : CheckerScope → Identifier → Option Columns → Option Where → Option Fault
+where_fault checker_scope table columns None = None
+where_fault checker_scope table columns (Some (wheres.Condition e)) = (as_condition (check_expr e (on_table checker_scope table columns))).fault
+where_fault checker_scope table columns (Some (wheres.Current n)) = positioned_fault table n (cursor_of checker_scope.scopes n)
 
 abbrev pub opened_fault : Identifier → Option Cursor → Option Fault
 opened_fault n None = breaks rule.UnknownCursor n.place
 opened_fault n (Some cursor) = breaks_if cursor.of_for rule.CursorOfFor n.place
 
 -- FETCH: where an item doesn't go into its target the fault is at the target
-abbrev pub fetched_into : Frames → List Target → List (Option Shape) → List (Option Fault)
-fetched_into frames [] shapes = []
-fetched_into frames (t ∷ ts) [] = []
-fetched_into frames (t ∷ ts) (s ∷ shapes) = mixed_at t.first.place (family_due (target_type frames t)) s ∷ fetched_into frames ts shapes
+abbrev pub fetched_into : Scopes → List Target → List (Option Shape) → List (Option Fault)
+fetched_into scopes [] shapes = []
+fetched_into scopes (t ∷ ts) [] = []
+fetched_into scopes (t ∷ ts) (s ∷ shapes) = mixed_at t.first.place (family_due (target_type scopes t)) s ∷ fetched_into scopes ts shapes
 
-abbrev pub fetch_items : Frames → Targets → Option (List (Option Shape)) → Option Fault
-fetch_items frames ts None = None
-fetch_items frames ts (Some shapes) = if nat_eq (length shapes) (length (several ts)) then first_of (fetched_into frames (several ts) shapes)
+abbrev pub fetch_items : Scopes → Targets → Option (List (Option Shape)) → Option Fault
+fetch_items scopes ts None = None
+fetch_items scopes ts (Some shapes) = if nat_eq (length shapes) (length (several ts)) then first_of (fetched_into scopes (several ts) shapes)
     else breaks rule.CountsDiffer ts.first.first.place
 
-abbrev pub fetch_fault : Frames → Targets → Option Cursor → Option Fault
-fetch_fault frames ts None = None
-fetch_fault frames ts (Some cursor) = if cursor.of_for then None else fetch_items frames ts cursor.items
+abbrev pub fetch_fault : Scopes → Targets → Option Cursor → Option Fault
+fetch_fault scopes ts None = None
+fetch_fault scopes ts (Some cursor) = if cursor.of_for then None else fetch_items scopes ts cursor.items
 
 -- ---- CALL
 
 -- a variable or parameter that can be assigned, by itself
-abbrev pub is_target : Frames → Expr → Bool
-is_target frames (exprs.Name t) = is_assigned (variable_of frames t)
+abbrev pub is_target : Scopes → Expr → Bool
+is_target scopes (exprs.Name t) = is_assigned (variable_of scopes t)
   where
     is_assigned : Option Variable → Bool
     is_assigned None = true
     is_assigned (Some v) = v.assignable
-is_target frames e = false
+is_target scopes e = false
 
-abbrev pub is_passed : Frames → ParameterMode → Expr → Bool
-is_passed frames In e = true
-is_passed frames Out e = is_target frames e
-is_passed frames InOut e = is_target frames e
+abbrev pub is_passed : Scopes → ParameterMode → Expr → Bool
+is_passed scopes In e = true
+is_passed scopes Out e = is_target scopes e
+is_passed scopes InOut e = is_target scopes e
 
-abbrev pub argument_fault : View → ParameterScope → Expr → Option Fault
-argument_fault view p e = if is_passed view.frames p.mode e then source_fault p.kind (found view e) else earlier (breaks rule.NotAssignable (found view e).place) (found view e).fault
+abbrev pub argument_fault : CheckerScope → ParameterScope → Expr → Option Fault
+argument_fault checker_scope p e = if is_passed checker_scope.scopes p.mode e then source_fault p.kind (checked checker_scope e) else earlier (breaks rule.NotAssignable (checked checker_scope e).place) (checked checker_scope e).fault
 
-abbrev pub arguments_fault : View → List ParameterScope → List Expr → List (Option Fault)
-arguments_fault view [] es = []
-arguments_fault view (p ∷ ps) [] = []
-arguments_fault view (p ∷ ps) (e ∷ es) = argument_fault view p e ∷ arguments_fault view ps es
+abbrev pub arguments_fault : CheckerScope → List ParameterScope → List Expr → List (Option Fault)
+arguments_fault checker_scope [] es = []
+arguments_fault checker_scope (p ∷ ps) [] = []
+arguments_fault checker_scope (p ∷ ps) (e ∷ es) = argument_fault checker_scope p e ∷ arguments_fault checker_scope ps es
 
-abbrev pub call_fault : View → Identifier → List Expr → Option ProcedureScope → Option Fault
-call_fault view n es None = breaks rule.UnknownProcedure n.place
-call_fault view n es (Some p) = first_of (arguments_fault view p.parameters es)
+abbrev pub call_fault : CheckerScope → Identifier → List Expr → Option ProcedureScope → Option Fault
+call_fault checker_scope n es None = breaks rule.UnknownProcedure n.place
+call_fault checker_scope n es (Some p) = first_of (arguments_fault checker_scope p.parameters es)
 
 -- ---- labels
 
-abbrev pub label_fault : Frames → Identifier → Option Fault
-label_fault frames l = breaks_if (not (is_some (named l.name (labels frames)))) rule.UnknownLabel l.place
+abbrev pub label_fault : Scopes → Identifier → Option Fault
+label_fault scopes l = breaks_if (not (is_some (named l.name (labels scopes)))) rule.UnknownLabel l.place
 
 abbrev pub is_loop_label : Option Bool → Bool
 is_loop_label None = false
 is_loop_label (Some of_loop) = of_loop
 
-abbrev pub loop_label_fault : Frames → Identifier → Option Fault
-loop_label_fault frames l = breaks_if (not (is_loop_label (named l.name (labels frames)))) rule.UnknownLabel l.place
+abbrev pub loop_label_fault : Scopes → Identifier → Option Fault
+loop_label_fault scopes l = breaks_if (not (is_loop_label (named l.name (labels scopes)))) rule.UnknownLabel l.place
 
 abbrev pub end_label_fault : Identifier → Option Identifier → Option Fault
 end_label_fault start None = None
 end_label_fault start (Some end) = breaks_if (not (is_spelled start.name end.name)) rule.EndLabelDiffers end.place
 
-abbrev pub label_of : Frames → Option Label → Option Fault
-label_of frames None = None
-label_of frames (Some l) = earlier (breaks_if (is_some (named l.start.name (labels frames))) rule.LabelRepeated l.start.place) (end_label_fault l.start l.end)
+abbrev pub label_of : Scopes → Option Label → Option Fault
+label_of scopes None = None
+label_of scopes (Some l) = earlier (breaks_if (is_some (named l.start.name (labels scopes))) rule.LabelRepeated l.start.place) (end_label_fault l.start l.end)
 
 abbrev pub label_name : Option Label → Option Spelling
 label_name l = option_map (λ l. l.start.name) l
@@ -374,40 +374,40 @@ only_in_procedures (InFunction result) place = breaks rule.NotAllowedInFunction 
 
 abbrev pub return_fault : Context → Within → Place → Expr → Option Fault
 return_fault c InProcedure place e = breaks rule.ReturnOutsideFunction place
-return_fault c (InFunction result) place e = source_fault result (found c.view e)
+return_fault c (InFunction result) place e = source_fault result (checked c.checker_scope e)
 
-abbrev pub set_fault : View → Target → Expr → Option Fault
-set_fault view t e = earlier (target_fault view.frames t) (source_fault (target_type view.frames t) (found view e))
+abbrev pub set_fault : CheckerScope → Target → Expr → Option Fault
+set_fault checker_scope t e = earlier (target_fault checker_scope.scopes t) (source_fault (target_type checker_scope.scopes t) (checked checker_scope e))
 
-abbrev pub update_fault : View → Identifier → Option Columns → Several Assignment → Option Where → Option Fault
-update_fault view table columns assignments which = let on = on_table view table columns in
+abbrev pub update_fault : CheckerScope → Identifier → Option Columns → Several Assignment → Option Where → Option Fault
+update_fault checker_scope table columns assignments which = let on = on_table checker_scope table columns in
     first_of (table_fault table columns ∷ columns_fault columns (map (λ a. a.column) (several assignments))
-    ∷ first_of (map (assignment_fault on (columns_known columns)) (several assignments)) ∷ where_fault view table columns which ∷ [])
+    ∷ first_of (map (assignment_fault on (columns_known columns)) (several assignments)) ∷ where_fault checker_scope table columns which ∷ [])
 
-abbrev pub delete_fault : View → Identifier → Option Columns → Option Where → Option Fault
-delete_fault view table columns which = earlier (table_fault table columns) (where_fault view table columns which)
+abbrev pub delete_fault : CheckerScope → Identifier → Option Columns → Option Where → Option Fault
+delete_fault checker_scope table columns which = earlier (table_fault table columns) (where_fault checker_scope table columns which)
 
-abbrev pub table_of : View → Identifier → Option Columns
-table_of view table = table_named view table.name
+abbrev pub table_of : CheckerScope → Identifier → Option Columns
+table_of checker_scope table = table_named checker_scope table.name
 
-abbrev pub resignal_fault : View → Option Signalled → Option Fault
-resignal_fault view None = None
-resignal_fault view (Some s) = signalled_fault view s
+abbrev pub resignal_fault : CheckerScope → Option Signalled → Option Fault
+resignal_fault checker_scope None = None
+resignal_fault checker_scope (Some s) = signalled_fault checker_scope s
 
 abbrev pub simple_fault : Context → Simple → Option Fault
-simple_fault c (simples.Set place target source) = set_fault c.view target source
+simple_fault c (simples.Set place target source) = set_fault c.checker_scope target source
 simple_fault c (simples.Call place procedure arguments) = earlier (only_in_procedures c.within place)
-    (call_fault c.view procedure arguments (routines.procedure procedure.name (length arguments) c.view.world.procedures))
+    (call_fault c.checker_scope procedure arguments (routines.procedure procedure.name (length arguments) c.checker_scope.symbols.procedures))
 simple_fault c (simples.Return place source) = return_fault c c.within place source
-simple_fault c (simples.Leave place label) = label_fault c.view.frames label
-simple_fault c (simples.Iterate place label) = loop_label_fault c.view.frames label
-simple_fault c (simples.Signal place signalled) = signalled_fault c.view signalled
-simple_fault c (simples.Resignal place signalled) = resignal_fault c.view signalled
-simple_fault c (simples.GetDiagnostics place which diagnostics) = diagnostics_fault c.view.frames diagnostics
-simple_fault c (simples.SelectInto query targets) = select_into_fault c.view (query_found query c.view) targets
-simple_fault c (simples.Insert place table columns source) = earlier (only_in_procedures c.within place) (insert_fault c.view table (table_of c.view table) columns source)
-simple_fault c (simples.Update place table assignments which) = earlier (only_in_procedures c.within place) (update_fault c.view table (table_of c.view table) assignments which)
-simple_fault c (simples.Delete place table which) = earlier (only_in_procedures c.within place) (delete_fault c.view table (table_of c.view table) which)
-simple_fault c (simples.Open place cursor) = opened_fault cursor (cursor_of c.view.frames cursor)
-simple_fault c (simples.Fetch place cursor targets) = first_of (opened_fault cursor (cursor_of c.view.frames cursor) ∷ targets_fault c.view.frames (several targets) ∷ fetch_fault c.view.frames targets (cursor_of c.view.frames cursor) ∷ [])
-simple_fault c (simples.Close place cursor) = opened_fault cursor (cursor_of c.view.frames cursor)
+simple_fault c (simples.Leave place label) = label_fault c.checker_scope.scopes label
+simple_fault c (simples.Iterate place label) = loop_label_fault c.checker_scope.scopes label
+simple_fault c (simples.Signal place signalled) = signalled_fault c.checker_scope signalled
+simple_fault c (simples.Resignal place signalled) = resignal_fault c.checker_scope signalled
+simple_fault c (simples.GetDiagnostics place which diagnostics) = diagnostics_fault c.checker_scope.scopes diagnostics
+simple_fault c (simples.SelectInto query targets) = select_into_fault c.checker_scope (check_query query c.checker_scope) targets
+simple_fault c (simples.Insert place table columns source) = earlier (only_in_procedures c.within place) (insert_fault c.checker_scope table (table_of c.checker_scope table) columns source)
+simple_fault c (simples.Update place table assignments which) = earlier (only_in_procedures c.within place) (update_fault c.checker_scope table (table_of c.checker_scope table) assignments which)
+simple_fault c (simples.Delete place table which) = earlier (only_in_procedures c.within place) (delete_fault c.checker_scope table (table_of c.checker_scope table) which)
+simple_fault c (simples.Open place cursor) = opened_fault cursor (cursor_of c.checker_scope.scopes cursor)
+simple_fault c (simples.Fetch place cursor targets) = first_of (opened_fault cursor (cursor_of c.checker_scope.scopes cursor) ∷ targets_fault c.checker_scope.scopes (several targets) ∷ fetch_fault c.checker_scope.scopes targets (cursor_of c.checker_scope.scopes cursor) ∷ [])
+simple_fault c (simples.Close place cursor) = opened_fault cursor (cursor_of c.checker_scope.scopes cursor)

@@ -46,7 +46,7 @@ text_of rule.BadSqlState = codes "K40 bad SQLSTATE"
 text_of rule.ItemNeedsName = codes "K41 item needs a name of its own"
 text_of rule.NullWithoutType = codes "K42 NULL without a type"
 text_of rule.ArgumentMisfitsMode = codes "K43 argument does not fit its mode"
-text_of rule.NoteRepeated = codes "K44 note repeated"
+text_of rule.CharacteristicRepeated = codes "K44 note repeated"
 
 -- the number of the code
 abbrev pub number_of : Rule → ℕ
@@ -91,4 +91,4 @@ number_of rule.BadSqlState = 40
 number_of rule.ItemNeedsName = 41
 number_of rule.NullWithoutType = 42
 number_of rule.ArgumentMisfitsMode = 43
-number_of rule.NoteRepeated = 44
+number_of rule.CharacteristicRepeated = 44

@@ -1,9 +1,9 @@
-//! The rules of the checker: their codes and words, the first fault of a part, and what small parts come to by themselves.
+//! The rules of the checker: their codes and words, the first fault of a part, and what small parts evaluate to by themselves.
 #![tactic(auto)]
 
 mod block;
+mod checked;
 mod fault;
-mod found;
 mod query;
 mod rule;
 mod shape;
@@ -11,11 +11,11 @@ mod shapes;
 mod table;
 
 pub use block::undo_fault;
-pub use fault::{Fault, breaks, breaks_if, earlier};
-pub use found::{
-    Found, all_of, are_shaped, as_condition, as_value, broken, faults_in, made_of, of_family,
-    shape_of, sound,
+pub use checked::{
+    Checked, all_of, are_shaped, as_condition, as_value, broken, combined, faults_in, of_family,
+    shape_of, well_typed,
 };
+pub use fault::{Fault, breaks, breaks_if, earlier};
 pub use query::{Item, Picked};
 pub use rule::Rule;
 pub use shape::{Family, Shape, Typed};

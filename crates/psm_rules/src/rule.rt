@@ -35,7 +35,7 @@ pub enum Rule {
     NotAllowedInFunction,
     /// A label that is that of a statement around it.
     LabelRepeated,
-    /// A label behind the end that isn't the one before the beginning.
+    /// A label after the end that isn't the one before the beginning.
     EndLabelDiffers,
     /// No statement around has this label, or, for ITERATE, no loop.
     UnknownLabel,
@@ -87,8 +87,8 @@ pub enum Rule {
     NullWithoutType,
     /// `?` for an IN parameter, or a constant for another, in a script.
     ArgumentMisfitsMode,
-    /// A note that stands twice.
-    NoteRepeated,
+    /// A characteristic that stands twice.
+    CharacteristicRepeated,
 }
 
 impl Rule {
@@ -138,7 +138,7 @@ impl Rule {
             Rule::ItemNeedsName => "K41 item needs a name of its own",
             Rule::NullWithoutType => "K42 NULL without a type",
             Rule::ArgumentMisfitsMode => "K43 argument does not fit its mode",
-            Rule::NoteRepeated => "K44 note repeated",
+            Rule::CharacteristicRepeated => "K44 note repeated",
         }
     }
 
@@ -188,7 +188,7 @@ impl Rule {
             Rule::ItemNeedsName => 41,
             Rule::NullWithoutType => 42,
             Rule::ArgumentMisfitsMode => 43,
-            Rule::NoteRepeated => 44,
+            Rule::CharacteristicRepeated => 44,
         }
     }
 }

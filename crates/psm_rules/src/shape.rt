@@ -4,14 +4,14 @@ ghost use Rattle.psm_rules.specs.Shapes.{kind_of};
 
 use psm_scope::ArgKind;
 
-/// A kind, and the digits behind the point of a number (ISO/IEC 9075:1992, 6.1).
+/// A kind, and the digits after the point of a number (ISO/IEC 9075:1992, 6.1).
 #[derive(Clone, Copy, Debug)]
 pub struct Typed {
     pub kind: ArgKind,
     pub scale: u8,
 }
 
-/// What an expression comes to: a value with its type, NULL, which has none, or a condition.
+/// What an expression evaluates to: a value with its type, NULL, which has none, or a condition.
 #[derive(Clone, Copy, Debug)]
 pub enum Shape {
     Value(Typed),

@@ -7,19 +7,19 @@ use psm_num::Dec;
 use psm_scope::ArgKind;
 use psm_value::SqlType;
 
-/// What CHAR_LENGTH and POSITION come to.
+/// What CHAR_LENGTH and POSITION evaluate to.
 pub const INTEGER: Typed = Typed {
     kind: ArgKind::Integer,
     scale: 0,
 };
 
-/// What a literal of a text comes to.
+/// What a literal of a text evaluates to.
 pub const CHARACTER: Typed = Typed {
     kind: ArgKind::Char,
     scale: 0,
 };
 
-/// What a function of a text comes to.
+/// What a function of a text evaluates to.
 pub const VARYING: Typed = Typed {
     kind: ArgKind::VarChar,
     scale: 0,
@@ -65,7 +65,7 @@ pub fn typed(t: SqlType) -> Typed
     }
 }
 
-/// What a number comes to: without decimals it is INTEGER where it fits in 32 bits.
+/// What a number evaluates to: without decimals it is INTEGER where it fits in 32 bits.
 pub fn of_literal(n: Dec) -> Typed
     ensures { result ≡ of_literal n }
 {

@@ -18,7 +18,7 @@ pub fn too_many(elements: &OneOrMore<Element>) -> Option<Fault>
     }
 }
 
-// The column behind so many.
+// The column after n.
 fn beyond(columns: u8, elements: &[Element]) -> Option<Fault>
     ensures { result ≡ too_many (slice_get (column_names elements.now) columns) }
 {

@@ -12,10 +12,10 @@ use Rattle.psm_scope.specs.Pass.{IsAsLong, Sees, added}
 use Rattle.psm_scope.proofs.Narrowing.{narrowed_more, narrowed_none}
 use Rattle.psm_scope.specs.Signatures.{is_called, is_called_at, last_below}
 
--- the candidates behind a function, or all
-abbrev pub behind : List Signature → List ℕ → List ArgKind → Option ℕ → List Candidate
-behind routines name args None = candidates 0 name args routines
-behind routines name args (Some k) = candidates (suc k) name args (drop (suc k) routines)
+-- the candidates after a function, or all
+abbrev pub following : List Signature → List ℕ → List ArgKind → Option ℕ → List Candidate
+following routines name args None = candidates 0 name args routines
+following routines name args (Some k) = candidates (suc k) name args (drop (suc k) routines)
 
 pub dropped : {A : Type 0} (xs : List A) (x : A) (k : ℕ) → slice_get xs k ≡ Some x → drop k xs ≡ x ∷ drop (suc k) xs
 dropped [] x k e = cc
@@ -55,15 +55,15 @@ passed_over name args routines k s got other =
     ∙ ap (λ l. candidates k name args l) (sym (dropped routines s k got))
 
 pub walked : (name : List ℕ) (args : List ArgKind) (routines : List Signature) (j : ℕ) → j ≤ length routines
-    → behind routines name args (last_below routines name (length args) j) ≡ candidates j name args (drop j routines)
+    → following routines name args (last_below routines name (length args) j) ≡ candidates j name args (drop j routines)
 walked name args routines zero le = refl
 walked name args routines (suc k) le =
     let found = there routines k (omega (arith, le)) in
     step found.0 found.1 (is_called_at routines name (length args) k) refl (walked name args routines k (omega (arith, le)))
   where
     step : (s : Signature) → slice_get routines k ≡ Some s → (b : Bool) → is_called_at routines name (length args) k ≡ b
-        → behind routines name args (last_below routines name (length args) k) ≡ candidates k name args (drop k routines)
-        → behind routines name args (if b then Some k else last_below routines name (length args) k) ≡ candidates (suc k) name args (drop (suc k) routines)
+        → following routines name args (last_below routines name (length args) k) ≡ candidates k name args (drop k routines)
+        → following routines name args (if b then Some k else last_below routines name (length args) k) ≡ candidates (suc k) name args (drop (suc k) routines)
     step s got true e rec = refl
     step s got false e rec =
         rec ∙ sym (passed_over name args routines k s got (ap (λ o. option_map_or (is_called name (length args)) o false) (sym got) ∙ e))
@@ -77,7 +77,7 @@ IsCalledAt routines name count (Some k) = is_called_at routines name count k ≡
 
 pub record Walks (routines : List Signature) (name : List ℕ) (args : List ArgKind) (at : Option ℕ) (best : Option Best) : Type 0 where
   pub called : IsCalledAt routines name (length args) at
-  pub seen : Sees best (narrowed 0 args (behind routines name args at))
+  pub seen : Sees best (narrowed 0 args (following routines name args at))
   pub long : IsAsLong (length args) best
 
 -- how many functions may still come
@@ -94,15 +94,15 @@ called_there routines name count k s got e =
     let q : nat_eq count (length s.kinds) ≡ true = p.1 in
     ((bytes_eq-Decides name s.name).0 p.0, grind (arith, nat_tests, q))
 
--- the function with number k and what is behind it
+-- the function with number k and what is after it
 pub stepped : (name : List ℕ) (args : List ArgKind) (routines : List Signature) (k : ℕ) (s : Signature) (earlier : Option ℕ) → slice_get routines k ≡ Some s
     → is_called_at routines name (length args) k ≡ true → earlier ≡ last_below routines s.name (length s.kinds) k → k ≤ length routines
-    → behind routines name args earlier ≡ (if all_go args s.kinds then (k, s.kinds) ∷ behind routines name args (Some k) else behind routines name args (Some k))
+    → following routines name args earlier ≡ (if all_go args s.kinds then (k, s.kinds) ∷ following routines name args (Some k) else following routines name args (Some k))
 stepped name args routines k s earlier got called e le =
     let same = called_there routines name (length args) k s got called in
     let more = candidates (suc k) name args (drop (suc k) routines) in
     let spelled : pointwise nat_eq name s.name ≡ true = (bytes_eq-Decides name s.name).1 same.0 in
-    ap (λ o. behind routines name args o) (e ∙ ap (λ n. last_below routines n (length s.kinds) k) (sym same.0) ∙ ap (λ n. last_below routines name n k) (sym same.1))
+    ap (λ o. following routines name args o) (e ∙ ap (λ n. last_below routines n (length s.kinds) k) (sym same.0) ∙ ap (λ n. last_below routines name n k) (sym same.1))
     ∙ walked name args routines k le
     ∙ ap (λ l. candidates k name args l) (dropped routines s k got)
     ∙ ap (λ b. if b && all_go args s.kinds then (k, s.kinds) ∷ more else more) spelled
@@ -142,7 +142,7 @@ walk_starts routines name args at e =
     subst (λ at. Walks routines name args at None) (sym e) (record {
       called = last_called routines name (length args) (length routines);
       seen =
-          let nothing : narrowed 0 args (behind routines name args (last_below routines name (length args) (length routines))) ≡ [] =
+          let nothing : narrowed 0 args (following routines name args (last_below routines name (length args) (length routines))) ≡ [] =
           ap (λ cs. narrowed 0 args cs) (walked name args routines (length routines) (omega arith)
           ∙ ap (λ l. candidates (length routines) name args l) (all_dropped routines))
           ∙ narrowed_none 0 args in
@@ -186,12 +186,12 @@ module _ (routines : List Signature) (name : List ℕ) (args : List ArgKind) (at
       let a : left at ≡ suc k = ap left is in
       omega (arith, l, e, a)
 
-  onward : (b : Bool) → b ≡ all_go args kinds → behind routines name args earlier ≡ (if b then (k, kinds) ∷ behind routines name args (Some k) else behind routines name args (Some k))
+  onward : (b : Bool) → b ≡ all_go args kinds → following routines name args earlier ≡ (if b then (k, kinds) ∷ following routines name args (Some k) else following routines name args (Some k))
   onward b e =
       stepped name args routines k found.0 earlier found.1 is_called_there (its_earlier found.0 found.1)
       (let lt : k < length routines = walk_within routines name args at best k w is in omega (arith, lt))
-      ∙ ap (λ ks. if all_go args ks then (k, ks) ∷ behind routines name args (Some k) else behind routines name args (Some k)) (its_kinds found.0 found.1)
-      ∙ ap (λ b. if b then (k, kinds) ∷ behind routines name args (Some k) else behind routines name args (Some k)) (sym e)
+      ∙ ap (λ ks. if all_go args ks then (k, ks) ∷ following routines name args (Some k) else following routines name args (Some k)) (its_kinds found.0 found.1)
+      ∙ ap (λ b. if b then (k, kinds) ∷ following routines name args (Some k) else following routines name args (Some k)) (sym e)
 
   called_before : IsCalledAt routines name (length args) earlier
   called_before =
@@ -200,8 +200,8 @@ module _ (routines : List Signature) (name : List ℕ) (args : List ArgKind) (at
       its_earlier found.0 found.1 ∙ ap (λ n. last_below routines n (length found.0.kinds) k) (sym same.0) ∙ ap (λ n. last_below routines name n k) (sym same.1) in
       subst (λ o. IsCalledAt routines name (length args) o) (sym e) (last_called routines name (length args) k)
 
-  seen_here : Sees best (narrowed 0 args (behind routines name args (Some k)))
-  seen_here = subst (λ at. Sees best (narrowed 0 args (behind routines name args at))) is w.seen
+  seen_here : Sees best (narrowed 0 args (following routines name args (Some k)))
+  seen_here = subst (λ at. Sees best (narrowed 0 args (following routines name args at))) is w.seen
 
   pub walk_takes : (taken : Option Best) → all_go args kinds ≡ true → IsAsLong (length args) taken
       → ((cs : List Candidate) → Sees best cs → Sees taken (added 0 args (k, kinds) cs)) → Walks routines name args earlier taken
@@ -209,8 +209,8 @@ module _ (routines : List Signature) (name : List ℕ) (args : List ArgKind) (at
     called = called_before;
     seen =
         subst (λ cs. Sees taken cs)
-        (sym (narrowed_more 0 args (k, kinds) (behind routines name args (Some k))) ∙ ap (λ cs. narrowed 0 args cs) (sym (onward true (sym goes))))
-        (sees (narrowed 0 args (behind routines name args (Some k))) seen_here);
+        (sym (narrowed_more 0 args (k, kinds) (following routines name args (Some k))) ∙ ap (λ cs. narrowed 0 args cs) (sym (onward true (sym goes))))
+        (sees (narrowed 0 args (following routines name args (Some k))) seen_here);
     long = long;
   }
 

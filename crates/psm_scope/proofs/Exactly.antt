@@ -204,8 +204,8 @@ module _ (name : List ℕ) (args : List ArgKind) (typed : list_all is_typed args
   another : (c : Candidate) (es ns : List Candidate) → Other c → Stays es ns → Stays es (added 0 args c ns)
   another c [] ns h s = other_added c ns h s
   another c (e ∷ es) ns h s =
-      let behind : order 0 args c.1 e.1 ≡ Greater = ap (λ ks. order 0 args c.1 ks) (sym s.1) ∙ (before 0 args args c.1 c.1 typed refl refl h.0 h.1).1 in
-      (ap (λ l. added 0 args c l) s.0 ∙ ap (λ o. joined o c (e ∷ es)) behind, s.1)
+      let following : order 0 args c.1 e.1 ≡ Greater = ap (λ ks. order 0 args c.1 ks) (sym s.1) ∙ (before 0 args args c.1 c.1 typed refl refl h.0 h.1).1 in
+      (ap (λ l. added 0 args c l) s.0 ∙ ap (λ o. joined o c (e ∷ es)) following, s.1)
 
   one_exact : (c : Candidate) (es ns : List Candidate) → args ≡ c.1 → Stays es ns → Stays (c ∷ es) (added 0 args c ns)
   one_exact c [] [] k s = (refl, k)

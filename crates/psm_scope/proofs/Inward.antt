@@ -1,24 +1,24 @@
--- Frames with the innermost last in memory.
+-- Scopes with the innermost last in memory.
 use Rattle.std.proofs.Common.{◌≡◌, ◌<◌, ◌+◌, ◌-◌, ℕ, suc, Bool, true, false, true≢false, length, drop, get_or, set, List, [], ◌∷◌, ◌++◌, reverse, refl, ap, sym, subst, ◌∙◌, length-drop, arith}
 use Rattle.std.specs.Prelude.{Some, None, slice_get, Result, Ok, Err, if◌then◌else◌}
 use Rattle.std.specs.declared.alloc.AllocError.{AllocError}
 use Rattle.std.proofs.lemmas.List.{reverse-append, length-reverse, get_or-reverse}
 use Rattle.std.proofs.Math.Seq.{set-append_seam}
 use Rattle.std.proofs.lemmas.Option.{slice_get_read}
-use Rattle.psm_scope.specs.Frames.{Spelling, Frame, Routine, Compound, Loop, For, Action, declared_in, is_spelled}
+use Rattle.psm_scope.specs.Scopes.{Spelling, Scope, Routine, Compound, Loop, For, Action, declared_in, is_spelled}
 use Rattle.psm_scope.specs.Lookup.{condition, cursor, is_called, labels, named, or_else, sees_past, variable, variables_called}
 use Rattle.std.specs.Option.{option_map}
-use Rattle.psm_scope.specs.Scopes.{Declares, Part, can_declare_here, is_action, labelled, level}
+use Rattle.psm_scope.specs.KeptScopes.{Declares, Part, can_declare_here, is_action, labelled, level}
 use Rattle.psm_scope.proofs.Calls.{dropped}
 
--- the frame at a depth
+-- the scope at a depth
 pub inside : {A : Type 0} (xs view : List A) (k : ℕ) (x : A) → reverse xs ≡ view → k < length view → x ≡ get_or xs (length xs - 1 - k) x → slice_get view k ≡ Some x
 inside xs view k x v lt e =
     let n : length xs ≡ length view = sym (length-reverse xs) ∙ ap length v in
     slice_get_read view (length xs) k x n (omega (arith, lt, n))
     (e ∙ sym (get_or-reverse xs k x (omega (arith, lt, n))) ∙ ap (λ l. get_or l k x) v)
 
--- ---- the innermost frame
+-- ---- the innermost scope
 
 split : {A : Type 0} (x : A) (xs : List A) → (ys : List A) × (y : A) × (x ∷ xs ≡ ys ++ y ∷ [])
 split x [] = ([], x, refl)
@@ -55,13 +55,13 @@ innermost (a ∷ more) view x y v lt e =
           ∙ reverse-append s.0 (y ∷ []);
     }
 
-module _ {V C K A : Type 0} (part : Part V C K A) (n : Spelling) (x : A) (f g : Frame V C K) (outer : List (Frame V C K)) where
+module _ {V C K A : Type 0} (part : Part V C K A) (n : Spelling) (x : A) (f g : Scope V C K) (outer : List (Scope V C K)) where
   declares_there : (r : Result Bool AllocError) → Declares part n x (f ∷ []) (g ∷ []) r → Declares part n x (f ∷ outer) (g ∷ outer) r
   declares_there (Ok true) d = (d.0, ap (λ l. l ++ outer) d.1)
   declares_there (Ok false) d = (d.0, ap (λ l. l ++ outer) d.1)
   declares_there (Err e) d = ap (λ l. l ++ outer) d
 
-pub declares_inside : {V C K A : Type 0} (part : Part V C K A) (n : Spelling) (x : A) (fs old : List (Frame V C K)) (k : ℕ) (f g : Frame V C K) (r : Result Bool AllocError)
+pub declares_inside : {V C K A : Type 0} (part : Part V C K A) (n : Spelling) (x : A) (fs old : List (Scope V C K)) (k : ℕ) (f g : Scope V C K) (r : Result Bool AllocError)
     → reverse fs ≡ old → can_declare_here old ≡ true → k ≡ length fs → f ≡ get_or fs (k - 1) f → Declares part n x (f ∷ []) (g ∷ []) r
     → Declares part n x old (reverse (set fs (k - 1) g)) r
 declares_inside {V} {C} {K} part n x fs old k f g r v can kn e d =
@@ -69,16 +69,16 @@ declares_inside {V} {C} {K} part n x fs old k f g r v can kn e d =
     subst (λ old. Declares part n x old (reverse (set fs (k - 1) g)) r) (sym i.before)
     (subst (λ new. Declares part n x (f ∷ i.outer) new r) (sym i.after ∙ ap (λ k. reverse (set fs (k - 1) g)) (sym kn)) (declares_there part n x f g i.outer r d))
   where
-    some : (fs : List (Frame V C K)) → reverse fs ≡ old → 0 < length fs
+    some : (fs : List (Scope V C K)) → reverse fs ≡ old → 0 < length fs
     some [] v = absurd (true≢false (sym can ∙ ap can_declare_here (sym v)))
     some (f ∷ more) v = omega arith
 
--- ---- one frame further out
+-- ---- one scope further out
 
 next : {A : Type 0} (fs : List A) (k : ℕ) (f : A) → slice_get fs k ≡ Some f → f ∷ drop (k + 1) fs ≡ drop k fs
 next fs k f e = let n : k + 1 ≡ suc k = omega arith in ap (λ j. f ∷ drop j fs) n ∙ sym (dropped fs f k e)
 
-module _ {V C K : Type 0} (fs : List (Frame V C K)) (k : ℕ) (f : Frame V C K) (e : slice_get fs k ≡ Some f) where
+module _ {V C K : Type 0} (fs : List (Scope V C K)) (k : ℕ) (f : Scope V C K) (e : slice_get fs k ≡ Some f) where
   pub variable_found : (n : Spelling) (v : V) → Some v ≡ named n (declared_in f).variables → Some v ≡ variable n (drop k fs)
   variable_found n v g = ap (λ o. or_else o (variable n (drop (k + 1) fs))) g ∙ ap (variable n) (next fs k f e)
 
@@ -109,7 +109,7 @@ module _ {V C K : Type 0} (fs : List (Frame V C K)) (k : ℕ) (f : Frame V C K) 
 
 -- ---- labels
 
-labels_more : {V C K : Type 0} (l : Spelling) (f : Frame V C K) (outer : List (Frame V C K))
+labels_more : {V C K : Type 0} (l : Spelling) (f : Scope V C K) (outer : List (Scope V C K))
     → named l (labels (f ∷ outer)) ≡ (if is_action f then None else or_else (labelled l f) (named l (labels outer)))
 labels_more l (Routine name d) outer = refl
 labels_more l (Compound None d) outer = refl
@@ -132,7 +132,7 @@ labels_more l (For (Some label) name d) outer = by (is_spelled l label)
     by false = refl
 labels_more l Action outer = refl
 
-module _ {V C K : Type 0} (fs : List (Frame V C K)) (k : ℕ) (f : Frame V C K) (e : slice_get fs k ≡ Some f) (l : Spelling) where
+module _ {V C K : Type 0} (fs : List (Scope V C K)) (k : ℕ) (f : Scope V C K) (e : slice_get fs k ≡ Some f) (l : Spelling) where
   here : named l (labels (drop k fs)) ≡ (if is_action f then None else or_else (labelled l f) (named l (labels (drop (k + 1) fs))))
   here = ap (λ fs. named l (labels fs)) (sym (next fs k f e)) ∙ labels_more l f (drop (k + 1) fs)
 
@@ -157,7 +157,7 @@ module _ {V C K : Type 0} (fs : List (Frame V C K)) (k : ℕ) (f : Frame V C K) 
 pub counted : {A : Type 0} (xs : List A) (n k : ℕ) → n ≡ length xs → n - 1 - k ≡ length (drop (k + 1) xs)
 counted xs n k e = let d : length (drop (k + 1) xs) ≡ length xs - (k + 1) = length-drop (k + 1) xs in omega (arith, e, d)
 
-module _ {V C K : Type 0} (fs : List (Frame V C K)) (k : ℕ) (f : Frame V C K) (e : slice_get fs k ≡ Some f) (l : Spelling) where
+module _ {V C K : Type 0} (fs : List (Scope V C K)) (k : ℕ) (f : Scope V C K) (e : slice_get fs k ≡ Some f) (l : Spelling) where
   level_here : level l (drop k fs) ≡ (if is_action f then None else or_else (option_map (λ loops. length (drop (k + 1) fs)) (labelled l f)) (level l (drop (k + 1) fs)))
   level_here = ap (level l) (sym (next fs k f e))
 

@@ -9,7 +9,7 @@ use Rattle.std.proofs.lemmas.Bool.Decides.{nat_tests}
 use Rattle.psm_scope.specs.declared.kinds.ArgKind.{ArgKind}
 use Rattle.psm_scope.specs.declared.kinds.ArgKind.TheVariants.{Null}
 use Rattle.psm_scope.specs.Choice.{Candidate, rank_in, lowest, narrowed}
-use Rattle.psm_scope.specs.Pass.{is_behind, least_in_order, order}
+use Rattle.psm_scope.specs.Pass.{is_after, least_in_order, order}
 use Rattle.psm_scope.proofs.Narrowing.{Each, all_least, above_least, each_map, least, lowest_is, rank_in_small, upto}
 
 -- ---- filters
@@ -60,57 +60,57 @@ kept (c ∷ cs) = ap (λ l. c ∷ l) (kept cs)
 
 -- ---- one place
 
--- r and s are the ranks of two candidates, m the lowest, and o is how they compare behind the place
-at_lowest : (r s m : ℕ) (o c : Ordering) → nat_cmp r s ≡ c → m ≤ r → r ≤ m → m ≤ s → (not (nat_le s m) || not (is_behind o)) ≡ not (is_behind (ordering_then c o))
-at_lowest r s m o Less e l p q = let t : nat_le s m ≡ false = grind (arith, nat_tests, e, l) in ap (λ b. not b || not (is_behind o)) t
-at_lowest r s m o Equal e l p q = let t : nat_le s m ≡ true = grind (arith, nat_tests, e, p) in ap (λ b. not b || not (is_behind o)) t
+-- r and s are the ranks of two candidates, m the lowest, and o is how they compare after the place
+at_lowest : (r s m : ℕ) (o c : Ordering) → nat_cmp r s ≡ c → m ≤ r → r ≤ m → m ≤ s → (not (nat_le s m) || not (is_after o)) ≡ not (is_after (ordering_then c o))
+at_lowest r s m o Less e l p q = let t : nat_le s m ≡ false = grind (arith, nat_tests, e, l) in ap (λ b. not b || not (is_after o)) t
+at_lowest r s m o Equal e l p q = let t : nat_le s m ≡ true = grind (arith, nat_tests, e, p) in ap (λ b. not b || not (is_after o)) t
 at_lowest r s m o Greater e l p q = let g : s < r = grind (arith, nat_tests, e) in absurd (omega (arith, g, p, q))
 
-not_behind : (r s : ℕ) (o c : Ordering) → nat_cmp r s ≡ c → not (is_behind (ordering_then c o)) ≡ true → nat_le r s ≡ true
-not_behind r s o Less e f = grind (arith, nat_tests, e)
-not_behind r s o Equal e f = grind (arith, nat_tests, e)
-not_behind r s o Greater e f = cc
+not_after : (r s : ℕ) (o c : Ordering) → nat_cmp r s ≡ c → not (is_after (ordering_then c o)) ≡ true → nat_le r s ≡ true
+not_after r s o Less e f = grind (arith, nat_tests, e)
+not_after r s o Equal e f = grind (arith, nat_tests, e)
+not_after r s o Greater e f = cc
 
 module _ (place : ℕ) (others : List ArgKind) (cs : List Candidate) where
   one_place : (c : Candidate) → least place cs ≤ rank_in place c
-      → (nat_le (rank_in place c) (least place cs) && list_all (λ d. not (is_behind (order (suc place) others c.1 d.1))) (upto place (least place cs) cs))
-      ≡ list_all (λ d. not (is_behind (ordering_then (nat_cmp (rank_in place c) (rank_in place d)) (order (suc place) others c.1 d.1)))) cs
+      → (nat_le (rank_in place c) (least place cs) && list_all (λ d. not (is_after (order (suc place) others c.1 d.1))) (upto place (least place cs) cs))
+      ≡ list_all (λ d. not (is_after (ordering_then (nat_cmp (rank_in place c) (rank_in place d)) (order (suc place) others c.1 d.1)))) cs
   one_place c low =
       ap (λ b. nat_le (rank_in place c) (least place cs) && b)
-      (all_filter (λ d. not (is_behind (order (suc place) others c.1 d.1))) (λ d. nat_le (rank_in place d) (least place cs)) cs)
+      (all_filter (λ d. not (is_after (order (suc place) others c.1 d.1))) (λ d. nat_le (rank_in place d) (least place cs)) cs)
       ∙ by (nat_le (rank_in place c) (least place cs)) refl
     where
       by : (b : Bool) → nat_le (rank_in place c) (least place cs) ≡ b
-          → (b && list_all (λ d. not (nat_le (rank_in place d) (least place cs)) || not (is_behind (order (suc place) others c.1 d.1))) cs)
-          ≡ list_all (λ d. not (is_behind (ordering_then (nat_cmp (rank_in place c) (rank_in place d)) (order (suc place) others c.1 d.1)))) cs
+          → (b && list_all (λ d. not (nat_le (rank_in place d) (least place cs)) || not (is_after (order (suc place) others c.1 d.1))) cs)
+          ≡ list_all (λ d. not (is_after (ordering_then (nat_cmp (rank_in place c) (rank_in place d)) (order (suc place) others c.1 d.1)))) cs
       by true e =
           let r : rank_in place c ≤ least place cs = grind (arith, nat_tests, e) in
-          all_same (λ d. not (nat_le (rank_in place d) (least place cs)) || not (is_behind (order (suc place) others c.1 d.1)))
-          (λ d. not (is_behind (ordering_then (nat_cmp (rank_in place c) (rank_in place d)) (order (suc place) others c.1 d.1)))) cs
+          all_same (λ d. not (nat_le (rank_in place d) (least place cs)) || not (is_after (order (suc place) others c.1 d.1)))
+          (λ d. not (is_after (ordering_then (nat_cmp (rank_in place c) (rank_in place d)) (order (suc place) others c.1 d.1)))) cs
           (each_map (λ d. least place cs ≤ rank_in place d)
-          (λ d. (not (nat_le (rank_in place d) (least place cs)) || not (is_behind (order (suc place) others c.1 d.1)))
-          ≡ not (is_behind (ordering_then (nat_cmp (rank_in place c) (rank_in place d)) (order (suc place) others c.1 d.1))))
+          (λ d. (not (nat_le (rank_in place d) (least place cs)) || not (is_after (order (suc place) others c.1 d.1)))
+          ≡ not (is_after (ordering_then (nat_cmp (rank_in place c) (rank_in place d)) (order (suc place) others c.1 d.1))))
           (λ d p. at_lowest (rank_in place c) (rank_in place d) (least place cs) (order (suc place) others c.1 d.1) (nat_cmp (rank_in place c) (rank_in place d)) refl low r p)
           cs (above_least place cs))
-      by false e = no (list_all (λ d. not (is_behind (ordering_then (nat_cmp (rank_in place c) (rank_in place d)) (order (suc place) others c.1 d.1)))) cs) refl
+      by false e = no (list_all (λ d. not (is_after (ordering_then (nat_cmp (rank_in place c) (rank_in place d)) (order (suc place) others c.1 d.1)))) cs) refl
         where
-          no : (t : Bool) → list_all (λ d. not (is_behind (ordering_then (nat_cmp (rank_in place c) (rank_in place d)) (order (suc place) others c.1 d.1)))) cs ≡ t → false ≡ t
+          no : (t : Bool) → list_all (λ d. not (is_after (ordering_then (nat_cmp (rank_in place c) (rank_in place d)) (order (suc place) others c.1 d.1)))) cs ≡ t → false ≡ t
           no false f = refl
           no true f =
               sym e ∙ sym (all_least place (rank_in place c) cs (rank_in_small place c))
-              ∙ all_more (λ d. not (is_behind (ordering_then (nat_cmp (rank_in place c) (rank_in place d)) (order (suc place) others c.1 d.1)))) (λ d. nat_le (rank_in place c) (rank_in place d)) cs
-              (λ d g. not_behind (rank_in place c) (rank_in place d) (order (suc place) others c.1 d.1) (nat_cmp (rank_in place c) (rank_in place d)) refl g) f
+              ∙ all_more (λ d. not (is_after (ordering_then (nat_cmp (rank_in place c) (rank_in place d)) (order (suc place) others c.1 d.1)))) (λ d. nat_le (rank_in place c) (rank_in place d)) cs
+              (λ d g. not_after (rank_in place c) (rank_in place d) (order (suc place) others c.1 d.1) (nat_cmp (rank_in place c) (rank_in place d)) refl g) f
 
   lowest_least : least_in_order (suc place) others (lowest place cs)
-      ≡ filter (λ c. list_all (λ d. not (is_behind (ordering_then (nat_cmp (rank_in place c) (rank_in place d)) (order (suc place) others c.1 d.1)))) cs) cs
+      ≡ filter (λ c. list_all (λ d. not (is_after (ordering_then (nat_cmp (rank_in place c) (rank_in place d)) (order (suc place) others c.1 d.1)))) cs) cs
   lowest_least =
       ap (least_in_order (suc place) others) (lowest_is place cs)
-      ∙ filter_filter (λ c. list_all (λ d. not (is_behind (order (suc place) others c.1 d.1))) (upto place (least place cs) cs)) (λ c. nat_le (rank_in place c) (least place cs)) cs
-      ∙ filter_same (λ c. nat_le (rank_in place c) (least place cs) && list_all (λ d. not (is_behind (order (suc place) others c.1 d.1))) (upto place (least place cs) cs))
-      (λ c. list_all (λ d. not (is_behind (ordering_then (nat_cmp (rank_in place c) (rank_in place d)) (order (suc place) others c.1 d.1)))) cs) cs
+      ∙ filter_filter (λ c. list_all (λ d. not (is_after (order (suc place) others c.1 d.1))) (upto place (least place cs) cs)) (λ c. nat_le (rank_in place c) (least place cs)) cs
+      ∙ filter_same (λ c. nat_le (rank_in place c) (least place cs) && list_all (λ d. not (is_after (order (suc place) others c.1 d.1))) (upto place (least place cs) cs))
+      (λ c. list_all (λ d. not (is_after (ordering_then (nat_cmp (rank_in place c) (rank_in place d)) (order (suc place) others c.1 d.1)))) cs) cs
       (each_map (λ c. least place cs ≤ rank_in place c)
-      (λ c. (nat_le (rank_in place c) (least place cs) && list_all (λ d. not (is_behind (order (suc place) others c.1 d.1))) (upto place (least place cs) cs))
-      ≡ list_all (λ d. not (is_behind (ordering_then (nat_cmp (rank_in place c) (rank_in place d)) (order (suc place) others c.1 d.1)))) cs)
+      (λ c. (nat_le (rank_in place c) (least place cs) && list_all (λ d. not (is_after (order (suc place) others c.1 d.1))) (upto place (least place cs) cs))
+      ≡ list_all (λ d. not (is_after (ordering_then (nat_cmp (rank_in place c) (rank_in place d)) (order (suc place) others c.1 d.1)))) cs)
       one_place cs (above_least place cs))
 
 -- ---- all places

@@ -34,7 +34,7 @@ abbrev pub exact_of : List Candidate → Option Exact
 exact_of [] = None
 exact_of (c ∷ cs) = Some (record { number = c.0; tied = is_more cs })
 
--- with one more behind them
+-- with one more after them
 abbrev pub one_more : ℕ → Option Exact → Exact
 one_more number None = record { number = number; tied = false }
 one_more number (Some e) = record { number = e.number; tied = true }

@@ -1,6 +1,6 @@
 pub mod Choice
 pub mod Exact
-pub mod Frames
+pub mod Scopes
 pub mod Keys
 pub mod KindNumbers
 pub mod Lookup
@@ -9,5 +9,5 @@ pub mod Pass
 pub mod Procedures
 pub mod Routines
 pub mod Rows
-pub mod Scopes
+pub mod KeptScopes
 pub mod Signatures

@@ -2,7 +2,7 @@
 use Rattle.std.specs.Prelude.{◌≡◌, Bool, true, false, List, [], ◌∷◌, ◌++◌, None, IsSome, Result, Ok, Err}
 use Rattle.std.specs.declared.alloc.AllocError.{AllocError}
 use Rattle.psm_scope.specs.declared.key.NameKey.{NameKey}
-use Rattle.psm_scope.specs.Frames.{Spelling}
+use Rattle.psm_scope.specs.Scopes.{Spelling}
 use Rattle.psm_scope.specs.Lookup.{named}
 
 abbrev pub spelled : {A : Type 0} → NameKey × A → Spelling × A

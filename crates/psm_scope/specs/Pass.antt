@@ -20,13 +20,13 @@ order place [] ks ls = Equal
 order place (a ∷ others) ks ls = ordering_then (order_in a (slice_index_or ks place Null) (slice_index_or ls place Null)) (order (suc place) others ks ls)
 
 -- those before which no other one comes
-abbrev pub is_behind : Ordering → Bool
-is_behind Less = false
-is_behind Equal = false
-is_behind Greater = true
+abbrev pub is_after : Ordering → Bool
+is_after Less = false
+is_after Equal = false
+is_after Greater = true
 
 abbrev pub least_in_order : ℕ → List ArgKind → List Candidate → List Candidate
-least_in_order place args cs = filter (λ c. list_all (λ d. not (is_behind (order place args c.1 d.1))) cs) cs
+least_in_order place args cs = filter (λ c. list_all (λ d. not (is_after (order place args c.1 d.1))) cs) cs
 
 -- what stays of a candidate before others that are alike, by its order beside them
 abbrev pub joined : Ordering → Candidate → List Candidate → List Candidate

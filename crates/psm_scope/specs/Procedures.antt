@@ -1,7 +1,7 @@
 -- Procedures, each once.
 use Rattle.std.specs.Prelude.{◌≡◌, ℕ, Bool, true, false, List, [], ◌∷◌, ◌++◌, None, IsSome, Result, Ok, Err}
 use Rattle.std.specs.declared.alloc.AllocError.{AllocError}
-use Rattle.psm_scope.specs.Frames.{Spelling}
+use Rattle.psm_scope.specs.Scopes.{Spelling}
 use Rattle.psm_scope.specs.Routines.{Header, procedure}
 
 -- a procedure goes last, or the answer is `false` and one that is called the same is there already; where memory is wanting, nothing

@@ -5,7 +5,7 @@ use Rattle.psm_scope.specs.declared.fault.ChoiceFault.{ChoiceFault}
 use Rattle.psm_scope.specs.declared.key.CallKey.{CallKey}
 use Rattle.psm_scope.specs.declared.kinds.ArgKind.{ArgKind}
 use Rattle.psm_scope.specs.Choice.{Signature, chosen}
-use Rattle.psm_scope.specs.Frames.{Spelling, is_spelled}
+use Rattle.psm_scope.specs.Scopes.{Spelling, is_spelled}
 
 -- ---- functions: their names and kinds, and the type that each returns, unless that is at fault
 

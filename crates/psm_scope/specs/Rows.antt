@@ -6,7 +6,7 @@ use Rattle.psm_scope.specs.declared.known.Variable.{Variable as KnownVariable}
 use Rattle.psm_scope.specs.declared.row.Meant.{Meant}
 use Rattle.psm_scope.specs.declared.row.Meant.TheVariants as meant
 use Rattle.psm_scope.specs.declared.row.RowTable.{RowTable as KeptRow}
-use Rattle.psm_scope.specs.Frames.{Spelling}
+use Rattle.psm_scope.specs.Scopes.{Spelling}
 use Rattle.psm_scope.specs.Lookup.{Meaning, Column, Variable, RowTable}
 
 -- a table that isn't known has no columns

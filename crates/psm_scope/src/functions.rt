@@ -42,7 +42,7 @@ impl<'a> Functions<'a> {
         }
     }
 
-    /// Puts a function behind the others. Without memory for it nothing changes.
+    /// Puts a function after the others. Without memory for it nothing changes.
     pub fn push(
         &mut self,
         name: &'a Name,

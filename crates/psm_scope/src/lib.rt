@@ -1,10 +1,8 @@
-//! What names mean: in the frames around a statement, in the table of a row expression, and as the function of a call.
+//! What names mean: in the scopes around a statement, in the table of a row expression, and as the function of a call.
 #![tactic(auto)]
 
 mod choice;
 mod fault;
-mod frame;
-mod frames;
 mod functions;
 mod index;
 mod key;
@@ -14,12 +12,12 @@ mod laws;
 mod names;
 mod procedures;
 mod row;
+mod scope;
+mod scopes;
 mod signatures;
 
 pub use choice::choose_routine;
 pub use fault::ChoiceFault;
-pub use frame::FrameKind;
-pub use frames::Frames;
 pub use functions::Functions;
 pub use key::{CallKey, FunctionKey, NameKey};
 pub use kinds::ArgKind;
@@ -28,4 +26,6 @@ pub use laws::{exact_kinds_stay, narrowing_keeps_the_least, one_candidate_more};
 pub use names::Names;
 pub use procedures::{ParameterMode, ParameterScope, ProcedureScope, Procedures};
 pub use row::{Meant, RowTable};
+pub use scope::ScopeKind;
+pub use scopes::Scopes;
 pub use signatures::Signatures;

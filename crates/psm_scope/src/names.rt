@@ -1,7 +1,7 @@
 //! Declared names.
 ghost use Rattle.std.specs.Prelude.{◌≡◌, ◌<◌, [], Some, length, slice_get};
 ghost use Rattle.std.specs.Option.{option_copied, option_map};
-ghost use Rattle.psm_scope.specs.Lookup.{named, place_named};
+ghost use Rattle.psm_scope.specs.Lookup.{named, index_named};
 ghost use Rattle.psm_scope.specs.Names.{Adds};
 
 use crate::key::NameKey;
@@ -57,7 +57,7 @@ impl<'a, T> Names<'a, T> {
 
     /// The place of a name, counted from 0.
     pub fn place(&self, name: &Name) -> Option<u32>
-        ensures { result ≡ option_map (λ p. p.0) (place_named 0 name.now self.now) }
+        ensures { result ≡ option_map (λ p. p.0) (index_named 0 name.now self.now) }
     {
         match self.known.get_index_of(&NameKey { name }) {
             None => None,
@@ -99,7 +99,7 @@ impl<'a, T: Copy> Names<'a, T> {
 
     /// The place of a name, counted from 0, and what is known of it.
     pub fn find(&self, name: &Name) -> Option<(u32, T)>
-        ensures { result ≡ place_named 0 name.now self.now }
+        ensures { result ≡ index_named 0 name.now self.now }
     {
         match self.known.get_full(&NameKey { name }) {
             None => None,
@@ -109,7 +109,7 @@ impl<'a, T: Copy> Names<'a, T> {
 }
 
 impl<'a, T: Drop> Names<'a, T> {
-    /// Puts a name behind the others, or answers `false` where it is there already. Without memory for it nothing changes.
+    /// Puts a name after the others, or answers `false` where it is there already. Without memory for it nothing changes.
     pub fn add(&mut self, name: &'a Name, known: T) -> Result<bool, AllocError>
         ensures { Adds name.now known self.old self.new result }
     {

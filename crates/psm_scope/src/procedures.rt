@@ -62,7 +62,7 @@ impl<'a> Procedures<'a> {
         }
     }
 
-    /// Puts a procedure behind the others, or answers `false` where one with that name and as many parameters is there already.
+    /// Puts a procedure after the others, or answers `false` where one with that name and as many parameters is there already.
     /// Without memory for it nothing changes.
     pub fn add(&mut self, name: &'a Name, known: ProcedureScope) -> Result<bool, AllocError>
         ensures { AddsProcedure name.now (length known.parameters) known self.old self.new result }

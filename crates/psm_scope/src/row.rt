@@ -1,14 +1,14 @@
 //! What names mean in a row expression.
 ghost use Rattle.std.specs.Prelude.{◌≡◌, option_map};
 ghost use Rattle.std.specs.Option.{option_copied};
-ghost use Rattle.psm_scope.specs.Lookup.{as_variable, column_meant, is_table, meant, meant_on_row, place_named};
+ghost use Rattle.psm_scope.specs.Lookup.{as_variable, column_meant, is_table, meant, meant_on_row, index_named};
 ghost use Rattle.psm_scope.specs.Rows.{columns_known, meaning_of, row_table};
 
-use crate::frame::is_label;
-use crate::frames::Frames;
 use crate::key::same_name;
 use crate::known::Variable;
 use crate::names::Names;
+use crate::scope::is_label;
+use crate::scopes::Scopes;
 use psm_text::Name;
 use psm_value::SqlType;
 
@@ -59,7 +59,7 @@ fn column_named(
     columns: Option<&Names<Option<SqlType>>>,
     name: &Name,
 ) -> Option<(u32, Option<SqlType>)>
-    ensures { result ≡ place_named 0 name.now (columns_known (option_copied columns.entry)) }
+    ensures { result ≡ index_named 0 name.now (columns_known (option_copied columns.entry)) }
 {
     match columns {
         None => None,
@@ -67,7 +67,7 @@ fn column_named(
     }
 }
 
-impl<'f, K: Drop> Frames<'f, K> {
+impl<'f, K: Drop> Scopes<'f, K> {
     /// What a name, or a qualified name, means in a control expression: a variable, if anything.
     pub fn meant_alone(&self, first: &Name, second: Option<&Name>) -> Option<Meant>
         ensures { option_map meaning_of result ≡ as_variable (meant first.now (option_copied second.entry) self.now) }

@@ -61,7 +61,7 @@ impl<'a> Signatures<'a> {
         }
     }
 
-    /// Puts a function behind the others. Without memory for it nothing changes.
+    /// Puts a function after the others. Without memory for it nothing changes.
     pub fn push(&mut self, name: &'a Name, kinds: List<ArgKind>) -> Result<(), AllocError>
         ensures ok { OnOk result (self.new ≡ self.old ++ record { name = name.now; kinds = kinds } ∷ []) }
         ensures err { OnErr result (self.new ≡ self.old) }

@@ -1,4 +1,4 @@
--- The commands that are made of sound and proper ones ask of code what it has.
+-- The commands that are made of well-typed and well-formed ones ask of code what it has.
 use Rattle.std.proofs.Common.{◌≡◌, ℕ, zero, suc, true, List, [], ◌∷◌, length, map, Some, None, is_some, refl, ap, sym, ◌∙◌, subst, cond}
 use Rattle.std.specs.Prelude.{slice_get, if◌then◌else◌}
 use Rattle.std.specs.List.{All, AllByRecursion}
@@ -9,7 +9,7 @@ use Rattle.psm_exprcode.specs.declared.query.Query.{Query}
 use Rattle.psm_exprcode.specs.Kinds.{letter_of}
 use Rattle.psm_table.specs.Definition.{kinds_of}
 use Rattle.psm_table.specs.declared.definition.TableDef.{TableDef}
-use Rattle.psm_tablecode.specs.Suits.{fits_query, letters_of}
+use Rattle.psm_tablecode.specs.TypeChecks.{fits_query, letters_of}
 use Rattle.psm_code.specs.declared.code.CodeTable.{CodeTable}
 use Rattle.psm_code.specs.declared.code.Parameter.{Parameter}
 use Rattle.psm_code.specs.declared.code.ParameterMode.{ParameterMode}
@@ -23,15 +23,15 @@ use Rattle.psm_resolved.specs.declared.file.ResolvedTable.{ResolvedTable}
 use Rattle.psm_tree.specs.declared.script.ScriptTree.{ScriptTree}
 use Rattle.psm_meaning.specs.Session.{Command, Call, Insert, Select, Commit, Rollback}
 use Rattle.psm_machine.specs.Running.{Takes}
-use Rattle.psm_emit.specs.Files.{FileWritten, known_of}
-use Rattle.psm_emit.specs.Queries.{QueryMade, column_letters, is_query}
-use Rattle.psm_emit.specs.Written.{letters_at}
-use Rattle.psm_sound.specs.Scene.{Each}
-use Rattle.psm_sound.specs.Scripts.{IsCommand, no_routine, outside}
-use Rattle.psm_sound.specs.Queries.{IsQuery}
-use Rattle.psm_proper.specs.Files.{ProperFile}
-use Rattle.psm_proper.specs.Queries.{ProperQuery, are_proper, items_of}
-use Rattle.psm_accept.specs.ScriptsStand.{ScriptStands}
+use Rattle.psm_codegen.specs.Files.{FileWritten, known_of}
+use Rattle.psm_codegen.specs.Queries.{QueryMade, column_letters, is_query}
+use Rattle.psm_codegen.specs.Written.{letters_at}
+use Rattle.psm_typing.specs.TypingContext.{Each}
+use Rattle.psm_typing.specs.Scripts.{IsCommand, no_routine, outside}
+use Rattle.psm_typing.specs.Queries.{IsQuery}
+use Rattle.psm_wellformed.specs.Files.{WellFormedFile}
+use Rattle.psm_wellformed.specs.Queries.{WellFormedQuery, are_well_formed, items_of}
+use Rattle.psm_checker_sound.specs.ScriptsStand.{ScriptStands}
 use Rattle.psm_check_script.proofs.Named.{commands_there}
 use Rattle.psm_check_script.specs.Checked.{script_of}
 use Rattle.psm_check_script.specs.Known as checked_known
@@ -41,10 +41,10 @@ use Rattle.psm_session.specs.declared.command.ScriptCommand.{ScriptCommand}
 use Rattle.psm_session.specs.declared.command.ScriptCommand.TheVariants as made
 use Rattle.psm_session.specs.Ends.{FitsCommand, FitsQuery}
 use Rattle.psm_script_code.specs.Made.{CommandMade, CommandsMade, known_of_tables}
-use Rattle.psm_script_code.specs.Proper.{AsksTables, ProperCommand}
+use Rattle.psm_script_code.specs.WellFormed.{AsksTables, WellFormedCommand}
 use Rattle.psm_script_code.proofs.Heads.{HasHeads, SameTables, written_heads, written_known}
-use Rattle.psm_script_code.proofs.Sound.{commands_proper, commands_sound}
-use Rattle.psm_script_code.proofs.Suits.{query_fits}
+use Rattle.psm_script_code.proofs.WellTyped.{commands_well_formed, commands_well_typed}
+use Rattle.psm_script_code.proofs.TypeChecks.{query_fits}
 
 -- ---- CALL
 
@@ -73,13 +73,13 @@ same_letters (t ∷ ts) [] h = absurd h
 same_letters (t ∷ ts) (u ∷ us) h =
     ap (λ (d : TableDef). map letter_of (kinds_of d.columns) ∷ map column_letters ts) (sym h.0) ∙ ap (λ ls. code_of.column_letters u ∷ ls) (same_letters ts us h.1)
 
--- proper over the tables of a file is proper over those of its code
-pub proper_over_tables : (file : ResolvedFile) (code : RawCode) → HasHeads file code → (query : ResolvedQuery) → ProperQuery (known_of file no_routine) query → ProperQuery (known_of_tables code) query
-proper_over_tables file code h query proper =
+-- well-formed over the tables of a file is well-formed over those of its code
+pub well_formed_over_tables : (file : ResolvedFile) (code : RawCode) → HasHeads file code → (query : ResolvedQuery) → WellFormedQuery (known_of file no_routine) query → WellFormedQuery (known_of_tables code) query
+well_formed_over_tables file code h query well_formed =
     let columns = same_letters file.tables code.tables h.tables in
     record {
-      is = subst (λ ls. is_query (record (known_of_tables code) { columns = ls }) query ≡ true) columns proper.is;
-      items = subst (λ ls. are_proper (letters_at ls (out-ResolvedQuery query).table) [] (items_of query) ≡ true) columns proper.items;
+      is = subst (λ ls. is_query (record (known_of_tables code) { columns = ls }) query ≡ true) columns well_formed.is;
+      items = subst (λ ls. are_well_formed (letters_at ls (out-ResolvedQuery query).table) [] (items_of query) ≡ true) columns well_formed.items;
     }
 
 table_there : (ts : List ResolvedTable) (us : List CodeTable) → SameTables ts us → (n : ℕ) (t : ResolvedTable) → slice_get ts n ≡ Some t → (u : CodeTable) × (slice_get us n ≡ Some u)
@@ -97,70 +97,70 @@ letters_there (x ∷ us) zero u is = ap (λ (y : CodeTable). letters_of y.defini
     some_inside = cc
 letters_there (x ∷ us) (suc n) u is = letters_there us n u is
 
-pub select_fits : (file : ResolvedFile) (code : RawCode) → HasHeads file code → (query : ResolvedQuery) (ks : List Letter) → IsQuery (outside file) query ks → ProperQuery (known_of file no_routine) query
+pub select_fits : (file : ResolvedFile) (code : RawCode) → HasHeads file code → (query : ResolvedQuery) (ks : List Letter) → IsQuery (outside file) query ks → WellFormedQuery (known_of file no_routine) query
     → (lines : Query) → QueryMade (known_of_tables code) query lines → FitsQuery code lines
-select_fits file code h query ks sound proper lines q =
+select_fits file code h query ks well_typed well_formed lines q =
     let n = (out-ResolvedQuery query).table in
-    let t = table_there file.tables code.tables h.tables n sound.table sound.there in
+    let t = table_there file.tables code.tables h.tables n well_typed.table well_typed.there in
     record {
       table = t.0;
       there = ap (slice_get code.tables) q.table ∙ t.1;
-      suits = record {
+      type_checks = record {
         variables = [];
         kinds = refl;
-        fits = subst (λ ls. fits_query ls [] lines ≡ true) (letters_there code.tables n t.0 t.1) (query_fits (known_of_tables code) query lines (proper_over_tables file code h query proper) q);
+        fits = subst (λ ls. fits_query ls [] lines ≡ true) (letters_there code.tables n t.0 t.1) (query_fits (known_of_tables code) query lines (well_formed_over_tables file code h query well_formed) q);
       };
     }
 
 -- ---- commands
 
-pub command_fits : (file : ResolvedFile) (code : RawCode) → HasHeads file code → (c : Command) → IsCommand file c → ProperCommand file c → checked.IsThere code c → (m : ScriptCommand) → CommandMade code c m → FitsCommand code m
-command_fits file code h (Call procedure values) sound proper there (made.Call routine args) is = call_fits code procedure routine values args there is
-command_fits file code h (Insert table columns rows) sound proper there (made.Insert at places values) is = ap (λ n. is_some (slice_get code.tables n)) is.0 ∙ there
-command_fits file code h (Select query) sound proper there (made.Select lines) is = select_fits file code h query sound.0 sound.1 proper lines is
-command_fits file code h Commit sound proper there made.Commit is = tt
-command_fits file code h Rollback sound proper there made.Rollback is = tt
-command_fits file code h command sound proper there other is = absurd is
+pub command_fits : (file : ResolvedFile) (code : RawCode) → HasHeads file code → (c : Command) → IsCommand file c → WellFormedCommand file c → checked.IsThere code c → (m : ScriptCommand) → CommandMade code c m → FitsCommand code m
+command_fits file code h (Call procedure values) well_typed well_formed there (made.Call routine args) is = call_fits code procedure routine values args there is
+command_fits file code h (Insert table columns rows) well_typed well_formed there (made.Insert at places values) is = ap (λ n. is_some (slice_get code.tables n)) is.0 ∙ there
+command_fits file code h (Select query) well_typed well_formed there (made.Select lines) is = select_fits file code h query well_typed.0 well_typed.1 well_formed lines is
+command_fits file code h Commit well_typed well_formed there made.Commit is = tt
+command_fits file code h Rollback well_typed well_formed there made.Rollback is = tt
+command_fits file code h command well_typed well_formed there other is = absurd is
 
-all_fit : (file : ResolvedFile) (code : RawCode) → HasHeads file code → (cs : List Command) → Each (IsCommand file) cs → Each (ProperCommand file) cs → AllByRecursion (checked.IsThere code) cs
+all_fit : (file : ResolvedFile) (code : RawCode) → HasHeads file code → (cs : List Command) → Each (IsCommand file) cs → Each (WellFormedCommand file) cs → AllByRecursion (checked.IsThere code) cs
     → (ms : List ScriptCommand) → CommandsMade code cs ms → AllByRecursion (FitsCommand code) ms
-all_fit file code h [] sound proper there [] made = tt
-all_fit file code h [] sound proper there (m ∷ ms) made = absurd made
-all_fit file code h (c ∷ cs) sound proper there [] made = absurd made
-all_fit file code h (c ∷ cs) sound proper there (m ∷ ms) made =
-    (command_fits file code h c sound.0 proper.0 there.0 m made.0, all_fit file code h cs sound.1 proper.1 there.1 ms made.1)
+all_fit file code h [] well_typed well_formed there [] made = tt
+all_fit file code h [] well_typed well_formed there (m ∷ ms) made = absurd made
+all_fit file code h (c ∷ cs) well_typed well_formed there [] made = absurd made
+all_fit file code h (c ∷ cs) well_typed well_formed there (m ∷ ms) made =
+    (command_fits file code h c well_typed.0 well_formed.0 there.0 m made.0, all_fit file code h cs well_typed.1 well_formed.1 there.1 ms made.1)
 
 -- ---- scripts
 
--- an accepted script over the code of a proper file
-pub commands_fit : (file : ResolvedFile) (code : RawCode) → ProperFile file → FileWritten file code → (s : ScriptTree) → ScriptStands s → script_fault (checked_known.known_of code) s ≡ None
+-- an accepted script over the code of a well-formed file
+pub commands_fit : (file : ResolvedFile) (code : RawCode) → WellFormedFile file → FileWritten file code → (s : ScriptTree) → ScriptStands s → script_fault (checked_known.known_of code) s ≡ None
     → (ms : List ScriptCommand) → CommandsMade code (script_of (checked_known.known_of code) s) ms → All (FitsCommand code) ms
 commands_fit file code h written s well none ms made =
     let known = written_known file code written in
     let fault = subst (λ k. script_fault k s ≡ None) known none in
     All-from_recursion (FitsCommand code) ms (all_fit file code (written_heads file code written) (script_of (checked_known.known_of code) s)
-    (subst (λ k. Each (IsCommand file) (script_of k s)) (sym known) (commands_sound file h s well fault))
-    (subst (λ k. Each (ProperCommand file) (script_of k s)) (sym known) (commands_proper file h s well fault))
+    (subst (λ k. Each (IsCommand file) (script_of k s)) (sym known) (commands_well_typed file h s well fault))
+    (subst (λ k. Each (WellFormedCommand file) (script_of k s)) (sym known) (commands_well_formed file h s well fault))
     (commands_there code s.commands none) ms made)
 
-command_asks : (file : ResolvedFile) (code : RawCode) → HasHeads file code → (c : Command) → ProperCommand file c → AsksTables code c
-command_asks file code h (Call procedure values) proper = tt
-command_asks file code h (Insert table columns rows) proper = tt
-command_asks file code h (Select query) proper = (proper_over_tables file code h query proper).is
-command_asks file code h Commit proper = tt
-command_asks file code h Rollback proper = tt
+command_asks : (file : ResolvedFile) (code : RawCode) → HasHeads file code → (c : Command) → WellFormedCommand file c → AsksTables code c
+command_asks file code h (Call procedure values) well_formed = tt
+command_asks file code h (Insert table columns rows) well_formed = tt
+command_asks file code h (Select query) well_formed = (well_formed_over_tables file code h query well_formed).is
+command_asks file code h Commit well_formed = tt
+command_asks file code h Rollback well_formed = tt
 
-all_ask : (file : ResolvedFile) (code : RawCode) → HasHeads file code → (cs : List Command) → Each (ProperCommand file) cs → Each (AsksTables code) cs
-all_ask file code h [] proper = tt
-all_ask file code h (c ∷ cs) proper = (command_asks file code h c proper.0, all_ask file code h cs proper.1)
+all_ask : (file : ResolvedFile) (code : RawCode) → HasHeads file code → (cs : List Command) → Each (WellFormedCommand file) cs → Each (AsksTables code) cs
+all_ask file code h [] well_formed = tt
+all_ask file code h (c ∷ cs) well_formed = (command_asks file code h c well_formed.0, all_ask file code h cs well_formed.1)
 
-pub commands_ask : (file : ResolvedFile) (code : RawCode) → ProperFile file → FileWritten file code → (s : ScriptTree) → ScriptStands s → script_fault (checked_known.known_of code) s ≡ None
+pub commands_ask : (file : ResolvedFile) (code : RawCode) → WellFormedFile file → FileWritten file code → (s : ScriptTree) → ScriptStands s → script_fault (checked_known.known_of code) s ≡ None
     → Each (AsksTables code) (script_of (checked_known.known_of code) s)
 commands_ask file code h written s well none =
     let known = written_known file code written in
     let fault = subst (λ k. script_fault k s ≡ None) known none in
     all_ask file code (written_heads file code written) (script_of (checked_known.known_of code) s)
-    (subst (λ k. Each (ProperCommand file) (script_of k s)) (sym known) (commands_proper file h s well fault))
+    (subst (λ k. Each (WellFormedCommand file) (script_of k s)) (sym known) (commands_well_formed file h s well fault))
 
 -- ---- as the checker answers
 
@@ -168,6 +168,6 @@ commands_ask file code h written s well none =
 pub checked_there : (code : RawCode) (s : ScriptTree) (cs : List Command) → script_fault (checked_known.known_of code) s ≡ None → cs ≡ script_of (checked_known.known_of code) s → All (checked.IsThere code) cs
 checked_there code s cs none is = subst (All (checked.IsThere code)) (sym is) (All-from_recursion (checked.IsThere code) (script_of (checked_known.known_of code) s) (commands_there code s.commands none))
 
-pub checked_fit : (file : ResolvedFile) (code : RawCode) → ProperFile file → FileWritten file code → (s : ScriptTree) → ScriptStands s → script_fault (checked_known.known_of code) s ≡ None
+pub checked_fit : (file : ResolvedFile) (code : RawCode) → WellFormedFile file → FileWritten file code → (s : ScriptTree) → ScriptStands s → script_fault (checked_known.known_of code) s ≡ None
     → (cs : List Command) → cs ≡ script_of (checked_known.known_of code) s → (ms : List ScriptCommand) → CommandsMade code cs ms → All (FitsCommand code) ms
 checked_fit file code h written s well none cs is ms made = commands_fit file code h written s well none ms (subst (λ l. CommandsMade code l ms) is made)

@@ -1,7 +1,7 @@
 -- Code that has the tables and the heads of the routines of a file: a script may name the same, and by the same numbers.
 use Rattle.std.proofs.Common.{◌≡◌, ℕ, suc, Bool, List, [], ◌∷◌, ◌++◌, map, length, Some, is_some, refl, ap, ◌∙◌}
 use Rattle.std.specs.Prelude.{if◌then◌else◌}
-use Rattle.psm_scope.specs.Frames.{Spelling}
+use Rattle.psm_scope.specs.Scopes.{Spelling}
 use Rattle.psm_scope.specs.Routines.{procedure}
 use Rattle.psm_scope.specs.declared.procedures.ParameterScope.{ParameterScope}
 use Rattle.psm_rules.specs.BlockFaults.{declared_once}
@@ -15,9 +15,9 @@ use Rattle.psm_resolved.specs.declared.file.ResolvedTable.{ResolvedTable}
 use Rattle.psm_code.specs.declared.code.CodeTable.{CodeTable}
 use Rattle.psm_code.specs.declared.code.RawCode.{RawCode}
 use Rattle.psm_code.specs.declared.code.RawRoutine.{RawRoutine}
-use Rattle.psm_lower.specs.Simulation as lowered
-use Rattle.psm_emit.specs.Files.{FileWritten, RoutinesWritten, is_function}
-use Rattle.psm_emit.specs.Queries.{TablesMade}
+use Rattle.psm_simulation.specs.Simulation as lowered
+use Rattle.psm_codegen.specs.Files.{FileWritten, RoutinesWritten, is_function}
+use Rattle.psm_codegen.specs.Queries.{TablesMade}
 use Rattle.psm_check_script.specs.Known as checked
 use Rattle.psm_check_script.specs.Known.{Keys, Procedures, Tables, key_names, known_of, with_columns}
 use Rattle.psm_script_code.specs.FileKnown.{known_of_file, mode_of, next_procedure, parameter_of, with_key, with_keys, with_routine, with_routines, with_table, with_tables}
@@ -125,7 +125,7 @@ same_count : (ps : List ResolvedParameter) → length (map lowered.parameter_of 
 same_count [] = refl
 same_count (p ∷ ps) = ap suc (same_count ps)
 
--- a routine with that head behind others
+-- a routine with that head after others
 abbrev headed : Procedures → ℕ → Bool → Spelling → ℕ → List ParameterScope → Procedures
 headed known n function name count ps = if function then known
     else if is_some (procedure name count known) then known

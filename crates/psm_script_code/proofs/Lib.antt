@@ -2,7 +2,7 @@ pub mod Heads
 pub mod There
 pub mod Tables
 pub mod Selects
-pub mod Sound
-pub mod Suits
+pub mod WellTyped
+pub mod TypeChecks
 pub mod Fits
 pub mod Making

@@ -7,8 +7,8 @@ use Rattle.std.proofs.lemmas.List.Elements.{recursion_from_All}
 use Rattle.psm_code.specs.declared.code.RawCode.{RawCode}
 use Rattle.psm_code.specs.declared.code.RawRoutine.{RawRoutine}
 use Rattle.psm_meaning.specs.Session.{Command, Call, Insert, Select, Commit, Rollback}
-use Rattle.psm_emit.specs.declared.known.Known.{Known}
-use Rattle.psm_emit.specs.Written.{number_at}
+use Rattle.psm_codegen.specs.declared.known.Known.{Known}
+use Rattle.psm_codegen.specs.Written.{number_at}
 use Rattle.psm_check_script.specs.Seen.{command_seen, commands_seen}
 use Rattle.psm_check_script.specs.declared.command.ResolvedCommand.{ResolvedCommand}
 use Rattle.psm_check_script.specs.There.{IsThere, procedures_in}
@@ -19,9 +19,9 @@ use Rattle.psm_script_code.specs.Made.{CommandMade, CommandsMade, known_of_table
 
 -- ---- procedures by their numbers
 
--- the routine that the procedure is, so far behind the first one
+-- the routine that the procedure is, so far after the first one
 abbrev StandsAt : ℕ → List RawRoutine → List ℕ → ℕ → RawRoutine → Type 0
-StandsAt n rs numbers procedure r = (behind : ℕ) × (slice_get numbers procedure ≡ Some (n + behind)) × (slice_get rs behind ≡ Some r)
+StandsAt n rs numbers procedure r = (following : ℕ) × (slice_get numbers procedure ≡ Some (n + following)) × (slice_get rs following ≡ Some r)
 
 stands_further : (n : ℕ) (x : RawRoutine) (rs : List RawRoutine) (numbers : List ℕ) (procedure : ℕ) (r : RawRoutine) → StandsAt (suc n) rs numbers procedure r → StandsAt n (x ∷ rs) numbers procedure r
 stands_further n x rs numbers procedure r h = let on : suc n + h.0 ≡ n + suc h.0 = omega arith in (suc h.0, h.1 ∙ ap Some on, h.2)

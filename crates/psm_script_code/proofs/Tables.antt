@@ -1,4 +1,4 @@
--- A script that may name the tables of a proper file knows each of them, with the types of its columns; and each has a column.
+-- A script that may name the tables of a well-formed file knows each of them, with the types of its columns; and each has a column.
 use Rattle.std.proofs.Common.{◌≡◌, ℕ, Bool, true, false, ◌&&◌, ◌||◌, not, List, [], ◌∷◌, ◌++◌, map, Option, Some, None, is_some, refl, ap, sym, ◌∙◌, subst}
 use Rattle.std.specs.Prelude.{if◌then◌else◌}
 use Rattle.std.specs.List.{list_all}
@@ -7,10 +7,10 @@ use Rattle.std.proofs.lemmas.List.Folds.{list_all-append}
 use Rattle.psm_value.specs.declared.sqltype.SqlType.{SqlType}
 use Rattle.psm_exprcode.specs.WellFormed.{is_type}
 use Rattle.psm_scope.proofs.Linked.{spelled_back}
-use Rattle.psm_scope.specs.Frames.{Spelling, is_spelled}
+use Rattle.psm_scope.specs.Scopes.{Spelling, is_spelled}
 use Rattle.psm_scope.specs.Lookup.{named}
 use Rattle.psm_rules.specs.BlockFaults.{declared_once}
-use Rattle.psm_rules.specs.View.{Columns}
+use Rattle.psm_rules.specs.CheckerScope.{Columns}
 use Rattle.psm_table.specs.Definition.{kinds_of}
 use Rattle.psm_table.specs.declared.definition.Column.{Column}
 use Rattle.psm_table.specs.declared.definition.TableDef.{TableDef}
@@ -20,9 +20,9 @@ use Rattle.psm_code.specs.Rules.{each_after, is_same}
 use Rattle.psm_code.specs.TableRules.{are_there, column_fault, is_as_stored, is_column_list, refuses_null}
 use Rattle.psm_code.specs.declared.rule.CodeRule.TheVariants.{Range, Definition}
 use Rattle.psm_resolved.specs.declared.file.ResolvedTable.{ResolvedTable}
-use Rattle.psm_sound.specs.Scene.{Each}
-use Rattle.psm_proper.specs.Files.{NoFault, ProperTable, are_new_names, is_name_among}
-use Rattle.psm_accept.specs.Agreement.{AreTables, HaveTypes}
+use Rattle.psm_typing.specs.TypingContext.{Each}
+use Rattle.psm_wellformed.specs.Files.{NoFault, WellFormedTable, are_new_names, is_name_among}
+use Rattle.psm_checker_sound.specs.Agreement.{AreTables, HaveTypes}
 use Rattle.psm_check_script.specs.Known.{Tables, with_columns}
 use Rattle.psm_check_script.proofs.NamesBefore.{sees_more}
 use Rattle.psm_script_code.specs.FileKnown.{with_tables}
@@ -97,9 +97,9 @@ table_last (p ∷ known) [] n columns t h typed = absurd h
 table_last (p ∷ known) (u ∷ before) n columns t h typed = (h.0, table_last known before n columns t h.1 typed)
 
 tables_known : (names : List Spelling) (known : Tables) (before ts : List ResolvedTable) → Knows (λ n. is_name_among n names) known → AreTables known before
-    → are_new_names names (map (λ t. t.definition.name) ts) ≡ true → Each ProperTable ts → AreTables (with_tables known ts) (before ++ ts)
-tables_known names known before [] k h new proper = subst (AreTables known) (sym (append-nil before)) h
-tables_known names known before (t ∷ ts) k h new proper =
+    → are_new_names names (map (λ t. t.definition.name) ts) ≡ true → Each WellFormedTable ts → AreTables (with_tables known ts) (before ++ ts)
+tables_known names known before [] k h new well_formed = subst (AreTables known) (sym (append-nil before)) h
+tables_known names known before (t ∷ ts) k h new well_formed =
     let n = t.definition.name in
     let columns = with_columns [] t.definition.columns in
     let two = both_true (not (is_name_among n names)) (are_new_names (n ∷ names) (map (λ t. t.definition.name) ts)) new in
@@ -109,10 +109,10 @@ tables_known names known before (t ∷ ts) k h new proper =
     (subst (AreTables (with_tables (known ++ (n, columns) ∷ []) ts)) (append_assoc before (t ∷ []) ts)
     (tables_known (n ∷ names) (known ++ (n, columns) ∷ []) (before ++ t ∷ []) ts
     (λ m. knows_more (λ n. is_name_among n names) known n columns k is_new m ∙ ap (λ b. b || is_name_among m names) (spelled_back m n))
-    (table_last known before n columns t h (columns_typed [] [] [] t.definition.columns (λ m. refl) tt proper.0.columns)) two.1 proper.1))
+    (table_last known before n columns t h (columns_typed [] [] [] t.definition.columns (λ m. refl) tt well_formed.0.columns)) two.1 well_formed.1))
 
-pub known_tables : (ts : List ResolvedTable) → are_new_names [] (map (λ t. t.definition.name) ts) ≡ true → Each ProperTable ts → AreTables (with_tables [] ts) ts
-known_tables ts new proper = tables_known [] [] [] ts (λ n. refl) tt new proper
+pub known_tables : (ts : List ResolvedTable) → are_new_names [] (map (λ t. t.definition.name) ts) ≡ true → Each WellFormedTable ts → AreTables (with_tables [] ts) ts
+known_tables ts new well_formed = tables_known [] [] [] ts (λ n. refl) tt new well_formed
 
 -- ---- each has a column, since its key has one
 
@@ -121,13 +121,13 @@ some_column [] [] there list = absurd cc
 some_column [] (k ∷ key) there list = absurd cc
 some_column (c ∷ columns) key there list = refl
 
-table_column : (t : ResolvedTable) → ProperTable t → rules.is_some t.definition.columns ≡ true
+table_column : (t : ResolvedTable) → WellFormedTable t → rules.is_some t.definition.columns ≡ true
 table_column t h =
     let def : TableDef = t.definition in
     let refuses = list_all (refuses_null def.columns) def.key in
     let two = two_hold (are_there def.columns def.key) (is_column_list def.key && refuses) Range Definition h.key in
     some_column def.columns def.key two.0 (both_true (is_column_list def.key) refuses two.1).0
 
-pub have_columns : (ts : List ResolvedTable) → Each ProperTable ts → Each (λ t. rules.is_some t.definition.columns ≡ true) ts
+pub have_columns : (ts : List ResolvedTable) → Each WellFormedTable ts → Each (λ t. rules.is_some t.definition.columns ≡ true) ts
 have_columns [] h = tt
 have_columns (t ∷ ts) h = (table_column t h.0, have_columns ts h.1)

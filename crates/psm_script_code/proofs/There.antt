@@ -14,8 +14,8 @@ use Rattle.psm_code.specs.declared.code.CodeTable.{CodeTable}
 use Rattle.psm_code.specs.declared.code.Parameter.{Parameter}
 use Rattle.psm_code.specs.declared.code.RawCode.{RawCode}
 use Rattle.psm_code.specs.declared.code.RawRoutine.{RawRoutine}
-use Rattle.psm_lower.specs.Simulation as lowered
-use Rattle.psm_sound.specs.Scene.{IsThere, taken_by, with_taken}
+use Rattle.psm_simulation.specs.Simulation as lowered
+use Rattle.psm_typing.specs.TypingContext.{IsThere, taken_by, with_taken}
 use Rattle.psm_check_script.specs.There.{IsCall, procedures_in, takes, taking}
 use Rattle.psm_script_code.proofs.Heads.{HasHeads, SameHead, SameHeads, SameTables}
 

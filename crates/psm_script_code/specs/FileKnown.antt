@@ -12,7 +12,7 @@ use Rattle.psm_resolved.specs.declared.file.ResolvedFile.{ResolvedFile}
 use Rattle.psm_resolved.specs.declared.file.ResolvedParameter.{ResolvedParameter}
 use Rattle.psm_resolved.specs.declared.file.ResolvedRoutine.{ResolvedRoutine}
 use Rattle.psm_resolved.specs.declared.file.ResolvedTable.{ResolvedTable}
-use Rattle.psm_emit.specs.Files.{is_function}
+use Rattle.psm_codegen.specs.Files.{is_function}
 use Rattle.psm_check_script.specs.Known.{Keys, Known, Procedures, Tables, key_names, with_columns}
 
 -- ---- tables and their keys. A name that is declared again stays what it is

@@ -1,4 +1,4 @@
 pub mod FileKnown
 pub mod Made
 pub mod Lowered
-pub mod Proper
+pub mod WellFormed

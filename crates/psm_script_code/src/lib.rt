@@ -7,7 +7,7 @@ mod laws;
 mod lowering;
 
 pub use laws::{
-    accepted_scripts_are_sound, commands_of_accepted_scripts_fit_their_code,
+    accepted_scripts_are_well_typed, commands_of_accepted_scripts_fit_their_code,
     scripts_name_the_same_of_a_file_and_its_code,
 };
 pub use lowering::lower_script;

@@ -15,7 +15,7 @@ use std::alloc::{AllocError, Global};
 /// ISO/IEC 9075:1992, 13.8, 7.9, 14.3 and 14.4). Values and rows are moved. What the commands name has to be there in the code, as it is
 /// where the checker has accepted the script over it.
 ///
-/// Want of memory is the one error; so are more routines than fit in 32 bits.
+/// Out of memory is the one error; so are more routines than fit in 32 bits.
 #[tactic(auto, using(crate::proofs::Making::all_made))]
 pub fn lower_script(
     alloc: Global,

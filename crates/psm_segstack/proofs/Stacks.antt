@@ -122,7 +122,7 @@ module _ {A : Type 0} where
   pub counted : (segments : List (List A)) (n : ℕ) (v : Stack A) → AreFilled segments n → stack_of segments n ≡ v → n ≡ length v.items
   counted segments n v f is = sym (length-joined segments n f) ∙ ap (λ (t : Stack A). length t.items) is
 
-  -- an item is taken from a stack that has more than so many
+  -- an item is taken from a stack that has more than n
   pub record Shortened (len : ℕ) (old new : Stack A) : Type 0 where
     pub kept : take len new.items ≡ take len old.items
     pub room : length new.items + new.spare ≡ length old.items + old.spare

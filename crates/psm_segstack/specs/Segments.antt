@@ -10,6 +10,6 @@ segment_room = 1024
 abbrev pub joined : {T : Type 0} → List (List T) → List T
 joined segments = flat_map (λ s. s) segments
 
--- segments that so many items fill in order: each before the last that has any is full, and those after it are empty
+-- segments that n items fill in order: each before the last that has any is full, and those after it are empty
 abbrev pub AreFilled : {T : Type 0} → List (List T) → ℕ → Type 0
 AreFilled segments count = (k : ℕ) → length (slice_index_or segments k []) ≡ min segment_room (count - segment_room * k)

@@ -7,6 +7,6 @@ pub record Stack (T : Type 0) : Type 0 where
   pub items : List T
   pub spare : ℕ
 
--- the stack in segments that so many items fill
+-- the stack in segments that n items fill
 abbrev pub stack_of : {T : Type 0} → List (List T) → ℕ → Stack T
 stack_of segments count = record { items = joined segments; spare = segment_room * length segments - count }

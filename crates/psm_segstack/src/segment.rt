@@ -9,7 +9,7 @@ use std::marker::Model;
 /// How many items a segment has room for.
 pub(crate) const ROOM: usize = 1024;
 
-/// Room for so many items that is never outgrown, seen as the items in it.
+/// Room for n items that is never outgrown, seen as the items in it.
 #[derive(Drop)]
 pub(crate) struct Segment<T> {
     items: Vec<T>,

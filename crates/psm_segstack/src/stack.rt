@@ -112,7 +112,7 @@ impl<T: Drop> SegStack<T> {
         self.len += 1;
     }
 
-    /// Keeps so many of the first items and drops the others, the last first. Their room stays.
+    /// Keeps n of the first items and drops the others, the last first. Their room stays.
     pub fn cut(&mut self, len: usize)
         ensures items { self.new.items ≡ take len self.old.items }
         ensures room { length self.new.items + self.new.spare ≡ length self.old.items + self.old.spare }

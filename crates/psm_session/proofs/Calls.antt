@@ -1,4 +1,4 @@
--- CALL: the piece that a run of the procedure comes to.
+-- CALL: the piece that a run of the procedure ends in.
 use Rattle.std.proofs.Common.{◌≡◌, ℕ, Bool, true, List, [], ◌∷◌, ◌++◌, Some, if◌then◌else◌, refl, ap, sym, subst, ◌∙◌, append_assoc}
 use Rattle.std.specs.Prelude.{codes}
 use Rattle.psm_value.specs.declared.datum.Datum.{Datum}
@@ -9,17 +9,17 @@ use Rattle.psm_code.specs.declared.code.ParameterMode.TheVariants.{In, Out, InOu
 use Rattle.psm_code.specs.declared.code.RawCode.{RawCode}
 use Rattle.psm_code.specs.declared.code.RawRoutine.{RawRoutine}
 use Rattle.psm_code.specs.Parts.{gives, giving, routine_at}
-use Rattle.psm_code.specs.Rows.{Ran}
-use Rattle.psm_code.specs.Sits.{is_due}
-use Rattle.psm_code.specs.State.{End, Ended, Raised, NoTurns, Lacking, Machine}
+use Rattle.psm_code.specs.Run.{Ran}
+use Rattle.psm_code.specs.MachineInvariant.{is_due}
+use Rattle.psm_code.specs.State.{End, Ended, Raised, NoTurns, Stuck, Machine}
 use Rattle.psm_unwind.specs.View.{end_of}
-use Rattle.psm_machine.specs.Running.{RunsTo, behind}
+use Rattle.psm_machine.specs.Running.{RunsTo, following}
 use Rattle.psm_machine.specs.declared.running.Finished.{Finished}
 use Rattle.psm_meaning.specs.Lines.{first_line, naming, ok_line}
 use Rattle.psm_meaning.specs.Session.{Went}
-use Rattle.psm_session.specs.Going.{CommandGoes, Goes, call, called, given_lines, name_of_routine}
+use Rattle.psm_session.specs.CommandSteps.{CommandExecutes, Executes, call, called, given_lines, name_of_routine}
 use Rattle.psm_session.specs.Pieces.{end_lines, named_value, next_value, value_lines}
-use Rattle.psm_session.specs.Steps.{Makes, goes_behind, standing, turns_left}
+use Rattle.psm_session.specs.Steps.{Makes, goes_after, standing, turns_left}
 use Rattle.psm_session.specs.declared.command.ScriptCommand.TheVariants as commands
 
 -- ---- the lines of the parameters that give a value back
@@ -54,27 +54,27 @@ module _ (code : RawCode) (k n : ℕ) (values : List Datum) (tables : List Conte
   first_is : first_line k (naming (codes "CALL ") (name_of_routine (routine_at code n))) ≡ First
   first_is = ap (λ o. first_line k (naming (codes "CALL ") (name_of_routine o))) there
 
-  goes : (e : End) (last : Machine) → Ran code n values tables turns e last → CommandGoes code k (standing tables turns committed) (commands.Call n values) (called First (standing tables turns committed) r e last)
-  goes e last ran = subst (λ first. Goes code first (standing tables turns committed) (commands.Call n values) (called First (standing tables turns committed) r e last)) (sym first_is)
+  goes : (e : End) (last : Machine) → Ran code n values tables turns e last → CommandExecutes code k (standing tables turns committed) (commands.Call n values) (called First (standing tables turns committed) r e last)
+  goes e last ran = subst (λ first. Executes code first (standing tables turns committed) (commands.Call n values) (called First (standing tables turns committed) r e last)) (sym first_is)
       (call there ran)
 
   ends : (e : End) (last : Machine) → Ran code n values tables turns e last → is_due e ≡ true
-      → Ends (goes_behind e) (First ++ end_lines r.parameters e) (behind e tables last.tables) (turns_left (goes_behind e) last.turns)
+      → Ends (goes_after e) (First ++ end_lines r.parameters e) (following e tables last.tables) (turns_left (goes_after e) last.turns)
   ends (Ended ds) last ran due =
       let now = standing last.tables last.turns committed in
       let piece = append_assoc First (given_lines (giving r.parameters) ds) ok_line ∙ ap (λ lines. First ++ (lines ++ ok_line)) (sym (given r.parameters ds)) in
-      subst (λ p. CommandGoes code k (standing tables turns committed) (commands.Call n values) (Went p now)) piece (goes (Ended ds) last ran)
+      subst (λ p. CommandExecutes code k (standing tables turns committed) (commands.Call n values) (Went p now)) piece (goes (Ended ds) last ran)
   ends (Raised c) last ran due = goes (Raised c) last ran
   ends NoTurns last ran due = (goes NoTurns last ran, refl, refl)
-  ends Lacking last ran due = cc
+  ends Stuck last ran due = cc
 
   pub call_makes : (f : Finished) (now : List Contents) (again : Bool) (piece : List ℕ) (left : ℕ) → RunsTo code n values tables turns f now → is_due (end_of f.ending) ≡ true
-      → piece ≡ First ++ end_lines r.parameters (end_of f.ending) → again ≡ goes_behind (end_of f.ending) → left ≡ turns_left again f.turns → Ends again piece now left
+      → piece ≡ First ++ end_lines r.parameters (end_of f.ending) → again ≡ goes_after (end_of f.ending) → left ≡ turns_left again f.turns → Ends again piece now left
   call_makes f now again piece left ran due p g l =
       let e = end_of f.ending in
       let t : left ≡ turns_left again ran.last.turns = l ∙ ap (turns_left again) ran.left in
       let made = ends e ran.last ran.ran due in
-      let going = subst (λ b. Ends b (First ++ end_lines r.parameters e) (behind e tables ran.last.tables) (turns_left b ran.last.turns)) (sym g) made in
-      let written = subst (λ x. Ends again x (behind e tables ran.last.tables) (turns_left again ran.last.turns)) (sym p) going in
+      let going = subst (λ b. Ends b (First ++ end_lines r.parameters e) (following e tables ran.last.tables) (turns_left b ran.last.turns)) (sym g) made in
+      let written = subst (λ x. Ends again x (following e tables ran.last.tables) (turns_left again ran.last.turns)) (sym p) going in
       let over = subst (λ x. Ends again piece x (turns_left again ran.last.turns)) (sym ran.tables) written in
       subst (λ x. Ends again piece now x) (sym t) over

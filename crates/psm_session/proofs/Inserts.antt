@@ -1,4 +1,4 @@
--- INSERT: the piece that rows put into a table come to.
+-- INSERT: the piece that rows put into a table end in.
 use Rattle.std.proofs.Common.{◌≡◌, ℕ, true, List, ◌++◌, slice_get, Some, None, IfOk, Result, Ok, Err, ap, sym, subst}
 use Rattle.std.specs.Prelude.{codes}
 use Rattle.std.specs.declared.alloc.AllocError.{AllocError}
@@ -12,14 +12,14 @@ use Rattle.psm_dml.specs.Ends.{IsDue}
 use Rattle.psm_code.specs.declared.code.CodeTable.{CodeTable}
 use Rattle.psm_code.specs.declared.code.RawCode.{RawCode}
 use Rattle.psm_code.specs.RoutineRules.{first_fault}
-use Rattle.psm_code.specs.Sits.{AreKept}
+use Rattle.psm_code.specs.MachineInvariant.{AreKept}
 use Rattle.psm_code.proofs.Queried.{kept_at}
 use Rattle.psm_machine.proofs.Asking.{of_some}
-use Rattle.psm_machine.proofs.Rights.{put_kept}
+use Rattle.psm_machine.proofs.CodeGuarantees.{put_kept}
 use Rattle.psm_machine.specs.Inserting.{EndsIn, PutsInto, PutsRows, put_due}
 use Rattle.psm_meaning.specs.Lines.{condition_lines, first_line, naming, ok_line}
 use Rattle.psm_meaning.specs.Session.{Standing, Went}
-use Rattle.psm_session.specs.Going.{CommandGoes, Goes, insert, name_of_table, put_in}
+use Rattle.psm_session.specs.CommandSteps.{CommandExecutes, Executes, insert, name_of_table, put_in}
 use Rattle.psm_session.specs.Steps.{Makes, standing}
 use Rattle.psm_session.specs.declared.command.ScriptCommand.{ScriptCommand}
 use Rattle.psm_session.specs.declared.command.ScriptCommand.TheVariants as commands
@@ -51,14 +51,14 @@ module _ (code : RawCode) (k n : ℕ) (columns : List ℕ) (rows : List (List Da
   -- ---- the tables
 
   kept_by : first_fault code ≡ None → (r : Result ℕ DataFault) → Found r → AreKept code.tables new
-  kept_by right (Ok count) f =
+  kept_by well_formed_code (Ok count) f =
       let changed : Changed = record { rows = f.ends.0; count = count } in
-      subst (AreKept code.tables) (sym f.ends.2) (put_kept code old right kept n t f.contents there f.here columns rows changed f.ends.1)
-  kept_by right (Err (fault.Raised condition)) f = subst (AreKept code.tables) (sym f.ends.1) kept
-  kept_by right (Err fault.Memory) f = subst (AreKept code.tables) (sym f.ends) kept
+      subst (AreKept code.tables) (sym f.ends.2) (put_kept code old well_formed_code kept n t f.contents there f.here columns rows changed f.ends.1)
+  kept_by well_formed_code (Err (fault.Raised condition)) f = subst (AreKept code.tables) (sym f.ends.1) kept
+  kept_by well_formed_code (Err fault.Memory) f = subst (AreKept code.tables) (sym f.ends) kept
 
-  pub kept_behind : first_fault code ≡ None → (r : Result ℕ DataFault) → PutsRows code n columns rows old new r → AreKept code.tables new
-  kept_behind right r puts = kept_by right r (found r puts)
+  pub kept_after : first_fault code ≡ None → (r : Result ℕ DataFault) → PutsRows code n columns rows old new r → AreKept code.tables new
+  kept_after well_formed_code r puts = kept_by well_formed_code r (found r puts)
 
   -- ---- the piece
 
@@ -72,8 +72,8 @@ module _ (code : RawCode) (k n : ℕ) (columns : List ℕ) (rows : List (List Da
     first_is : first_line k (naming (codes "INSERT ") (name_of_table (slice_get code.tables n))) ≡ First
     first_is = ap (λ o. first_line k (naming (codes "INSERT ") (name_of_table o))) there
 
-    goes : (c : Contents) → slice_get old n ≡ Some c → CommandGoes code k Before Command (put_in First Before n t c (put_due t columns rows c))
-    goes c here = subst (λ first. Goes code first Before Command (put_in First Before n t c (put_due t columns rows c))) (sym first_is) (insert there here)
+    goes : (c : Contents) → slice_get old n ≡ Some c → CommandExecutes code k Before Command (put_in First Before n t c (put_due t columns rows c))
+    goes c here = subst (λ first. Executes code first Before Command (put_in First Before n t c (put_due t columns rows c))) (sym first_is) (insert there here)
 
     raised : (c : Contents) (due : Result Changed Failure) (condition : Entries) → IsDue t.definition due condition → put_in First Before n t c due ≡ Went (First ++ condition_lines condition) Before
     raised c (Ok a) condition h = absurd h
@@ -84,13 +84,13 @@ module _ (code : RawCode) (k n : ℕ) (columns : List ℕ) (rows : List (List Da
     put_well count piece puts e =
         let f = found (Ok count) puts in
         let changed : Changed = record { rows = f.ends.0; count = count } in
-        let due = subst (λ d. CommandGoes code k Before Command (put_in First Before n t f.contents d)) f.ends.1 (goes f.contents f.here) in
+        let due = subst (λ d. CommandExecutes code k Before Command (put_in First Before n t f.contents d)) f.ends.1 (goes f.contents f.here) in
         let tables = subst (λ x. Makes code k Before Command true (First ++ ok_line) (standing x turns committed)) (sym f.ends.2) due in
         subst Piece (sym e) tables
 
     pub put_raised : (condition : Entries) (piece : List ℕ) → PutsRows code n columns rows old new (Err (fault.Raised condition)) → piece ≡ First ++ condition_lines condition → Piece piece
     put_raised condition piece puts e =
         let f = found (Err (fault.Raised condition)) puts in
-        let due = subst (CommandGoes code k Before Command) (raised f.contents (put_due t columns rows f.contents) condition f.ends.0) (goes f.contents f.here) in
+        let due = subst (CommandExecutes code k Before Command) (raised f.contents (put_due t columns rows f.contents) condition f.ends.0) (goes f.contents f.here) in
         let tables = subst (λ x. Makes code k Before Command true (First ++ condition_lines condition) (standing x turns committed)) (sym f.ends.1) due in
         subst Piece (sym e) tables

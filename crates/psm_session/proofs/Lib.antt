@@ -1,5 +1,5 @@
 pub mod Calls
-pub mod Coming
+pub mod CommandResults
 pub mod Commands
 pub mod Inserts
 pub mod Marking

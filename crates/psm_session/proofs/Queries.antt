@@ -3,9 +3,9 @@ use Rattle.std.proofs.Common.{◌<◌, List, [], length, slice_get, IfSome, sym,
 use Rattle.psm_exprcode.specs.declared.query.Query.{Query}
 use Rattle.psm_table.specs.Table.{Contents}
 use Rattle.psm_table.specs.declared.definition.TableDef.{TableDef}
-use Rattle.psm_tablecode.specs.Suits.{SuitsTable}
+use Rattle.psm_tablecode.specs.TypeChecks.{TypeChecksTable}
 use Rattle.psm_code.specs.declared.code.RawCode.{RawCode}
-use Rattle.psm_code.specs.Sits.{AreKept}
+use Rattle.psm_code.specs.MachineInvariant.{AreKept}
 use Rattle.psm_code.proofs.Queried.{kept_at}
 use Rattle.psm_machine.proofs.Asking.{is_inside, some_of}
 use Rattle.psm_session.specs.Ends.{FitsQuery}
@@ -16,7 +16,7 @@ module _ (code : RawCode) (tables : List Contents) (q : Query) (kept : AreKept c
       let k = kept_at code.tables tables q.table fits.table kept fits.there in
       is_inside tables q.table k.0 k.1
 
-  pub query_suits : IfSome (slice_get tables q.table) (λ c. SuitsTable q [] c.def)
-  query_suits =
+  pub query_type_checks : IfSome (slice_get tables q.table) (λ c. TypeChecksTable q [] c.def)
+  query_type_checks =
       let k = kept_at code.tables tables q.table fits.table kept fits.there in
-      some_of (λ (c : Contents). SuitsTable q [] c.def) (slice_get tables q.table) k.0 k.1 (subst (λ (d : TableDef). SuitsTable q [] d) (sym k.2.same) fits.suits)
+      some_of (λ (c : Contents). TypeChecksTable q [] c.def) (slice_get tables q.table) k.0 k.1 (subst (λ (d : TableDef). TypeChecksTable q [] d) (sym k.2.same) fits.type_checks)

@@ -4,41 +4,41 @@ use Rattle.std.proofs.lemmas.List.{take_more}
 use Rattle.psm_code.specs.declared.code.RawCode.{RawCode}
 use Rattle.psm_meaning.specs.Session.{Standing}
 use Rattle.psm_session.specs.Ends.{Ends, RunsOut, IsBroken, IsBrokenCut}
-use Rattle.psm_session.specs.Going.{Plays, none}
+use Rattle.psm_session.specs.CommandSteps.{Runs, none}
 use Rattle.psm_session.specs.Put.{Sunk, PutAll, PutSome}
-use Rattle.psm_session.specs.Steps.{ComesTo, IsIdle, Makes}
+use Rattle.psm_session.specs.Steps.{EndsIn, IsIdle, Makes}
 use Rattle.psm_session.specs.declared.command.ScriptCommand.{ScriptCommand}
 use Rattle.psm_session.specs.declared.script.ScriptEnd.TheVariants as ends
 use Rattle.psm_session.specs.declared.step.Step.{Step}
 use Rattle.psm_session.specs.declared.step.Step.TheVariants as steps
-use Rattle.psm_session.proofs.Commands.{plays_further}
+use Rattle.psm_session.proofs.Commands.{runs_further}
 use Rattle.psm_session.proofs.Puts.{sunk, PutAll-nothing, PutAll-still, PutAll-then, PutUpTo-then}
 
--- so many commands were played, and their pieces are put
+-- n commands were run, and their pieces are put
 pub record SoFar (code : RawCode) (cs : List ScriptCommand) (i : ℕ) (s : Standing) (sink : Sunk) (t : Standing) : Type 0 where
   pub pieces : List (List ℕ)
-  pub played : Plays code 1 s (take i cs) pieces t
+  pub ran : Runs code 1 s (take i cs) pieces t
   pub put : PutAll sink pieces
 
 pub so_far_none : (code : RawCode) (cs : List ScriptCommand) (s : Standing) (w : Option (List ℕ)) (f : ℕ) → SoFar code cs 0 s (sunk w f w f) s
-so_far_none code cs s w f = record { pieces = []; played = none; put = PutAll-nothing w f }
+so_far_none code cs s w f = record { pieces = []; ran = none; put = PutAll-nothing w f }
 
 -- before the first command
 pub short_at_once : (code : RawCode) (cs : List ScriptCommand) (s t : Standing) (w : Option (List ℕ)) (f : ℕ) → t.tables ≡ s.tables → Ends code cs s (sunk w f w f) t.tables t.turns ends.Memory
 short_at_once code cs s t w f same = record {
   pieces = [];
   end = s;
-  played = record { first = []; later = cs; are = refl; played = none };
+  ran = record { first = []; later = cs; are = refl; ran = none };
   put = PutAll-nothing w f;
   tables_are = same;
 }
 
--- behind the last command
+-- after the last command
 pub done : (code : RawCode) (cs : List ScriptCommand) (i : ℕ) (s t : Standing) (sink : Sunk) → length cs ≤ i → SoFar code cs i s sink t → Ends code cs s sink t.tables t.turns ends.Done
 done code cs i s t sink le so_far = record {
   pieces = so_far.pieces;
   end = t;
-  played = subst (λ ds. Plays code 1 s ds so_far.pieces t) (take_all i cs le) so_far.played;
+  ran = subst (λ ds. Runs code 1 s ds so_far.pieces t) (take_all i cs le) so_far.ran;
   put = so_far.put;
   tables_are = refl;
   left = refl;
@@ -61,22 +61,22 @@ module _ (code : RawCode) (cs : List ScriptCommand) (i : ℕ) (c : ScriptCommand
   split : cs ≡ before ++ c ∷ later
   split = sym (take-append-drop i cs) ∙ ap (λ ds. take i cs ++ ds) drop_here
 
-  split_behind : cs ≡ (before ++ c ∷ []) ++ later
-  split_behind = split ∙ sym (append_assoc before (c ∷ []) later)
+  split_after : cs ≡ (before ++ c ∷ []) ++ later
+  split_after = split ∙ sym (append_assoc before (c ∷ []) later)
 
   number : i + 1 ≡ length before + 1
   number = ap (λ n. n + 1) (sym (length-take-le i cs (omega (arith, lt))))
 
-  -- what the command comes to
+  -- what the command ends in
   abbrev Comes : Step → Type 0
-  Comes step = ComesTo code (i + 1) t c (sunk w' f' w'' f'') u step
+  Comes step = EndsIn code (i + 1) t c (sunk w' f' w'' f'') u step
 
   pub so_far_next : (step : Step) → step ≡ steps.Next → Comes step → SoFar code cs (i + 1) s (sunk w f w'' f'') u
   so_far_next step is comes =
       let next = subst Comes is comes in
       record {
         pieces = so_far.pieces ++ next.piece ∷ [];
-        played = subst (λ ds. Plays code 1 s ds (so_far.pieces ++ next.piece ∷ []) u) (sym take_here) (plays_further code 1 (i + 1) s t u before c so_far.pieces next.piece number so_far.played next.makes);
+        ran = subst (λ ds. Runs code 1 s ds (so_far.pieces ++ next.piece ∷ []) u) (sym take_here) (runs_further code 1 (i + 1) s t u before c so_far.pieces next.piece number so_far.ran next.makes);
         put = PutAll-then w w' w'' f f' f'' so_far.pieces (next.piece ∷ []) so_far.put next.put;
       }
 
@@ -86,7 +86,7 @@ module _ (code : RawCode) (cs : List ScriptCommand) (i : ℕ) (c : ScriptCommand
     command = c;
     later = later;
     are = split;
-    played = so_far.played;
+    ran = so_far.ran;
     stops = (subst (λ n. Makes code n t c false piece v) number makes).0;
   }
 
@@ -109,11 +109,11 @@ module _ (code : RawCode) (cs : List ScriptCommand) (i : ℕ) (c : ScriptCommand
     pieces = so_far.pieces;
     failed = piece;
     end = due;
-    played = record {
+    ran = record {
       first = before ++ c ∷ [];
       later = later;
-      are = split_behind;
-      played = plays_further code 1 (i + 1) s t due before c so_far.pieces piece number so_far.played makes;
+      are = split_after;
+      ran = runs_further code 1 (i + 1) s t due before c so_far.pieces piece number so_far.ran makes;
     };
     put = PutUpTo-then w w' w'' f f' f'' so_far.pieces piece so_far.put put;
     tables_are = same;
@@ -134,7 +134,7 @@ module _ (code : RawCode) (cs : List ScriptCommand) (i : ℕ) (c : ScriptCommand
   ends_unmarked idle = record {
     pieces = so_far.pieces;
     end = t;
-    played = record { first = before; later = drop i cs; are = sym (take-append-drop i cs); played = so_far.played };
+    ran = record { first = before; later = drop i cs; are = sym (take-append-drop i cs); ran = so_far.ran };
     put = PutAll-still w w' w'' f f' f'' so_far.pieces so_far.put idle.put;
     tables_are = idle.same;
   }

@@ -2,13 +2,13 @@
 use Rattle.std.specs.Prelude.{◌≡◌, ℕ, ◌+◌, ◌⊎◌, List, [], ◌∷◌, ◌++◌, length, IsSome, slice_get, Some}
 use Rattle.psm_exprcode.specs.declared.query.Query.{Query}
 use Rattle.psm_table.specs.Table.{Contents}
-use Rattle.psm_tablecode.specs.Suits.{SuitsTable}
+use Rattle.psm_tablecode.specs.TypeChecks.{TypeChecksTable}
 use Rattle.psm_code.specs.declared.code.CodeTable.{CodeTable}
 use Rattle.psm_code.specs.declared.code.RawCode.{RawCode}
 use Rattle.psm_machine.specs.Running.{Takes}
 use Rattle.psm_meaning.specs.Acts.{NoTurns}
 use Rattle.psm_meaning.specs.Session.{Standing, Stopped}
-use Rattle.psm_session.specs.Going.{CommandGoes, Plays}
+use Rattle.psm_session.specs.CommandSteps.{CommandExecutes, Runs}
 use Rattle.psm_session.specs.Put.{Sunk, PutAll, PutUpTo}
 use Rattle.psm_session.specs.declared.command.ScriptCommand.{ScriptCommand}
 use Rattle.psm_session.specs.declared.command.ScriptCommand.TheVariants as commands
@@ -21,7 +21,7 @@ use Rattle.psm_session.specs.declared.script.ScriptEnd.TheVariants as ends
 pub record FitsQuery (code : RawCode) (q : Query) : Type 0 where
   pub table : CodeTable
   pub there : slice_get code.tables q.table ≡ Some table
-  pub suits : SuitsTable q [] table.definition
+  pub type_checks : TypeChecksTable q [] table.definition
 
 abbrev pub FitsCommand : RawCode → ScriptCommand → Type 0
 FitsCommand code (commands.Call n values) = Takes code n values
@@ -36,27 +36,27 @@ FitsCommand code commands.Rollback = Unit {0}
 abbrev pub beginning : List Contents → ℕ → Standing
 beginning tables turns = record { tables = tables; turns = turns; committed = tables }
 
--- the first of the commands were played, with these pieces
-pub record Played (code : RawCode) (commands : List ScriptCommand) (s : Standing) (pieces : List (List ℕ)) (t : Standing) : Type 0 where
+-- the first of the commands were run, with these pieces
+pub record HasRun (code : RawCode) (commands : List ScriptCommand) (s : Standing) (pieces : List (List ℕ)) (t : Standing) : Type 0 where
   pub first : List ScriptCommand
   pub later : List ScriptCommand
   pub are : commands ≡ first ++ later
-  pub played : Plays code 1 s first pieces t
+  pub ran : Runs code 1 s first pieces t
 
--- a command of these stops for want of a turn behind some that were played, with that piece
+-- a command of these stops because turns ran out after some that were run, with that piece
 pub record RunsOut (code : RawCode) (commands : List ScriptCommand) (s : Standing) (pieces : List (List ℕ)) (t : Standing) (piece : List ℕ) : Type 0 where
   pub first : List ScriptCommand
   pub command : ScriptCommand
   pub later : List ScriptCommand
   pub are : commands ≡ first ++ command ∷ later
-  pub played : Plays code 1 s first pieces t
-  pub stops : CommandGoes code (length first + 1) t command (Stopped NoTurns (piece ∷ []))
+  pub ran : Runs code 1 s first pieces t
+  pub stops : CommandExecutes code (length first + 1) t command (Stopped NoTurns (piece ∷ []))
 
--- all commands were played, and their pieces are put
+-- all commands were run, and their pieces are put
 pub record IsDone (code : RawCode) (commands : List ScriptCommand) (s : Standing) (sunk : Sunk) (tables : List Contents) (turns : ℕ) : Type 0 where
   pub pieces : List (List ℕ)
   pub end : Standing
-  pub played : Plays code 1 s commands pieces end
+  pub ran : Runs code 1 s commands pieces end
   pub put : PutAll sunk pieces
   pub tables_are : tables ≡ end.tables
   pub left : turns ≡ end.turns
@@ -71,12 +71,12 @@ pub record IsCut (code : RawCode) (commands : List ScriptCommand) (s : Standing)
   pub tables_are : tables ≡ before.tables
   pub left : turns ≡ 0
 
--- the put of the piece of a command that was played failed; the pieces before it are written, and the tables are those behind the command
+-- the put of the piece of a command that was run failed; the pieces before it are written, and the tables are those after the command
 pub record IsBroken (code : RawCode) (commands : List ScriptCommand) (s : Standing) (sunk : Sunk) (tables : List Contents) : Type 0 where
   pub pieces : List (List ℕ)
   pub failed : List ℕ
   pub end : Standing
-  pub played : Played code commands s (pieces ++ failed ∷ []) end
+  pub ran : HasRun code commands s (pieces ++ failed ∷ []) end
   pub put : PutUpTo sunk pieces failed
   pub tables_are : tables ≡ end.tables
 
@@ -89,11 +89,11 @@ pub record IsBrokenCut (code : RawCode) (commands : List ScriptCommand) (s : Sta
   pub put : PutUpTo sunk pieces piece
   pub tables_are : tables ≡ before.tables
 
--- memory ran out behind some commands, whose pieces are put, and the tables are those behind them
+-- memory ran out after some commands, whose pieces are put, and the tables are those after them
 pub record IsShort (code : RawCode) (commands : List ScriptCommand) (s : Standing) (sunk : Sunk) (tables : List Contents) : Type 0 where
   pub pieces : List (List ℕ)
   pub end : Standing
-  pub played : Played code commands s pieces end
+  pub ran : HasRun code commands s pieces end
   pub put : PutAll sunk pieces
   pub tables_are : tables ≡ end.tables
 

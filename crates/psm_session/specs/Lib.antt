@@ -1,5 +1,5 @@
 pub mod Put
-pub mod Going
+pub mod CommandSteps
 pub mod Pieces
 pub mod Steps
 pub mod Ends

@@ -8,10 +8,10 @@ use Rattle.psm_table.specs.Queries.{Answer}
 use Rattle.psm_code.specs.declared.code.Parameter.{Parameter}
 use Rattle.psm_code.specs.declared.code.ParameterMode.{ParameterMode}
 use Rattle.psm_code.specs.declared.code.ParameterMode.TheVariants.{In, Out, InOut}
-use Rattle.psm_code.specs.State.{End, Ended, Raised, NoTurns, Lacking}
+use Rattle.psm_code.specs.State.{End, Ended, Raised, NoTurns, Stuck}
 use Rattle.psm_meaning.specs.Acts.{of_state}
 use Rattle.psm_meaning.specs.Lines.{condition_lines, line, ok_line, turns_used_line}
-use Rattle.psm_session.specs.Going.{rows_shown}
+use Rattle.psm_session.specs.CommandSteps.{rows_shown}
 
 -- ---- CALL
 
@@ -31,23 +31,23 @@ abbrev pub value_lines : List Parameter → List Datum → List ℕ
 value_lines [] ds = []
 value_lines (p ∷ ps) ds = next_value p.mode p.name ds (value_lines ps)
 
--- the lines behind the first one, as the run of a procedure with these parameters ended
+-- the lines after the first one, as the run of a procedure with these parameters ended
 abbrev pub end_lines : List Parameter → End → List ℕ
 end_lines parameters (Ended ds) = value_lines parameters ds ++ ok_line
 end_lines parameters (Raised c) = condition_lines c
 end_lines parameters NoTurns = turns_used_line
-end_lines parameters Lacking = []
+end_lines parameters Stuck = []
 
 -- ---- SELECT
 
--- the lines behind the first one, where a query has an answer or raises a condition
+-- the lines after the first one, where a query has an answer or raises a condition
 abbrev pub selected_lines : Result Answer SqlState → List ℕ
 selected_lines (Ok a) = rows_shown a.skipped a.rows
 selected_lines (Err state) = condition_lines (of_state state)
 
 -- ---- other commands
 
--- the lines behind the first one, where a condition is raised or none
+-- the lines after the first one, where a condition is raised or none
 abbrev pub raised_lines : Option Entries → List ℕ
 raised_lines None = ok_line
 raised_lines (Some c) = condition_lines c

@@ -36,7 +36,7 @@ pub record PutUpTo (sunk : Sunk) (pieces : List (List ℕ)) (failed : List ℕ) 
   pub written : Grew sunk.before sunk.after (joined pieces ++ take kept failed)
   pub rose : Rose sunk.faults_before sunk.faults_after
 
--- memory ran out after the first so many pieces
+-- memory ran out after the first n pieces
 pub record PutFirst (sunk : Sunk) (pieces : List (List ℕ)) : Type 0 where
   pub count : ℕ
   pub written : Grew sunk.before sunk.after (joined (take count pieces))

@@ -1,4 +1,4 @@
--- What one command of a script comes to.
+-- What one command of a script ends in.
 use Rattle.std.specs.Prelude.{◌≡◌, ℕ, ◌+◌, Bool, true, false, List, [], ◌∷◌, Option, Some, None, Result, Ok, Err}
 use Rattle.std.specs.declared.alloc.AllocError.{AllocError}
 use Rattle.psm_table.specs.Table.{Contents}
@@ -6,10 +6,10 @@ use Rattle.psm_store.specs.declared.store.Mark.{Mark}
 use Rattle.psm_store.specs.Marks.{IsOutside}
 use Rattle.psm_code.specs.declared.code.RawCode.{RawCode}
 use Rattle.psm_code.specs.State as state
-use Rattle.psm_code.specs.State.{End, Ended, Raised, Lacking}
+use Rattle.psm_code.specs.State.{End, Ended, Raised, Stuck}
 use Rattle.psm_meaning.specs.Acts.{NoTurns}
 use Rattle.psm_meaning.specs.Session.{Standing, Stopped, Went}
-use Rattle.psm_session.specs.Going.{CommandGoes}
+use Rattle.psm_session.specs.CommandSteps.{CommandExecutes}
 use Rattle.psm_session.specs.Put.{Sunk, PutAll, PutSome}
 use Rattle.psm_session.specs.declared.command.ScriptCommand.{ScriptCommand}
 use Rattle.psm_session.specs.declared.step.Step.{Step}
@@ -21,30 +21,30 @@ standing tables turns committed = record { tables = tables; turns = turns; commi
 
 -- ---- pieces
 
--- a command comes to that piece, and leaves that; where no other is due behind it, a turn was due and none was left
+-- a command ends in that piece, and leaves that; where no other is due after it, a turn was due and none was left
 abbrev pub Makes : RawCode → ℕ → Standing → ScriptCommand → Bool → List ℕ → Standing → Type 0
-Makes code k s c true piece t = CommandGoes code k s c (Went piece t)
-Makes code k s c false piece t = CommandGoes code k s c (Stopped NoTurns (piece ∷ [])) × (t.tables ≡ s.tables) × (t.turns ≡ 0)
+Makes code k s c true piece t = CommandExecutes code k s c (Went piece t)
+Makes code k s c false piece t = CommandExecutes code k s c (Stopped NoTurns (piece ∷ [])) × (t.tables ≡ s.tables) × (t.turns ≡ 0)
 
--- whether another command is due behind a run that ended so, and how many turns it leaves
-abbrev pub goes_behind : End → Bool
-goes_behind (Ended ds) = true
-goes_behind (Raised c) = true
-goes_behind state.NoTurns = false
-goes_behind Lacking = false
+-- whether another command is due after a run that ended so, and how many turns it leaves
+abbrev pub goes_after : End → Bool
+goes_after (Ended ds) = true
+goes_after (Raised c) = true
+goes_after state.NoTurns = false
+goes_after Stuck = false
 
 abbrev pub turns_left : Bool → ℕ → ℕ
 turns_left true left = left
 turns_left false left = 0
 
--- a piece is put; whether another command is due behind it decides between the two steps where it is put whole
+-- a piece is put; whether another command is due after it decides between the two steps where it is put whole
 abbrev pub Puts : Bool → List ℕ → Sunk → Step → Type 0
 Puts goes piece sunk steps.Next = (goes ≡ true) × PutAll sunk (piece ∷ [])
 Puts goes piece sunk steps.TurnsUsed = (goes ≡ false) × PutAll sunk (piece ∷ [])
 Puts goes piece sunk steps.WriteFault = PutSome sunk (piece ∷ [])
 Puts goes piece sunk steps.Memory = PutAll sunk []
 
--- the tables behind a step: those that a command found, where memory ran out
+-- the tables after a step: those that a command found, where memory ran out
 abbrev pub tables_after : Step → List Contents → List Contents → List Contents
 tables_after steps.Next made found = made
 tables_after steps.TurnsUsed made found = made
@@ -58,13 +58,13 @@ pub record IsIdle (s : Standing) (sunk : Sunk) (t : Standing) : Type 0 where
   pub put : PutAll sunk []
   pub same : t.tables ≡ s.tables
 
--- a command comes to a piece, which is put
+-- a command ends in a piece, which is put
 pub record IsPut (code : RawCode) (k : ℕ) (s : Standing) (c : ScriptCommand) (sunk : Sunk) (goes : Bool) (t : Standing) : Type 0 where
   pub piece : List ℕ
   pub makes : Makes code k s c goes piece t
   pub put : PutAll sunk (piece ∷ [])
 
--- the piece isn't put whole, and the tables are those behind the command
+-- the piece isn't put whole, and the tables are those after the command
 pub record IsTorn (code : RawCode) (k : ℕ) (s : Standing) (c : ScriptCommand) (sunk : Sunk) (t : Standing) : Type 0 where
   pub goes : Bool
   pub piece : List ℕ
@@ -73,12 +73,12 @@ pub record IsTorn (code : RawCode) (k : ℕ) (s : Standing) (c : ScriptCommand) 
   pub put : PutSome sunk (piece ∷ [])
   pub same : t.tables ≡ due.tables
 
--- what command k comes to, and what is left then
-abbrev pub ComesTo : RawCode → ℕ → Standing → ScriptCommand → Sunk → Standing → Step → Type 0
-ComesTo code k s c sunk t steps.Next = IsPut code k s c sunk true t
-ComesTo code k s c sunk t steps.TurnsUsed = IsPut code k s c sunk false t
-ComesTo code k s c sunk t steps.WriteFault = IsTorn code k s c sunk t
-ComesTo code k s c sunk t steps.Memory = IsIdle s sunk t
+-- what command k ends in, and what is left then
+abbrev pub EndsIn : RawCode → ℕ → Standing → ScriptCommand → Sunk → Standing → Step → Type 0
+EndsIn code k s c sunk t steps.Next = IsPut code k s c sunk true t
+EndsIn code k s c sunk t steps.TurnsUsed = IsPut code k s c sunk false t
+EndsIn code k s c sunk t steps.WriteFault = IsTorn code k s c sunk t
+EndsIn code k s c sunk t steps.Memory = IsIdle s sunk t
 
 -- the same while the command has a mark of its own: where memory ran out, the tables are put back to that yet
 abbrev pub Does : RawCode → ℕ → Standing → ScriptCommand → Sunk → Standing → Step → Type 0
@@ -87,9 +87,9 @@ Does code k s c sunk t steps.TurnsUsed = IsPut code k s c sunk false t
 Does code k s c sunk t steps.WriteFault = IsTorn code k s c sunk t
 Does code k s c sunk t steps.Memory = PutAll sunk []
 
--- the same, where the transaction may lose its mark for want of memory
+-- the same, where the transaction may lose its mark because memory ran out
 abbrev pub Comes : RawCode → ℕ → Standing → ScriptCommand → Sunk → Standing → Result Step AllocError → Type 0
-Comes code k s c sunk t (Ok step) = ComesTo code k s c sunk t step
+Comes code k s c sunk t (Ok step) = EndsIn code k s c sunk t step
 Comes code k s c sunk t (Err e) = IsIdle s sunk t
 
 -- ---- the mark of the transaction
@@ -111,7 +111,7 @@ abbrev pub MarkedOr : (Mark → Type 0) → Mark → (Mark → Type 0) → ℕ �
 MarkedOr holds mark holds_new count_new (Some new) = StaysMarked holds mark holds_new count_new new
 MarkedOr holds mark holds_new count_new None = count_new ≡ mark.depth
 
--- so many marks without that of the transaction, and what is outside that
+-- n marks without that of the transaction, and what is outside that
 abbrev pub marks_without : ℕ → Option Mark → ℕ
 marks_without count None = count
 marks_without count (Some mark) = mark.depth

@@ -1,16 +1,16 @@
 //! CALL (ISO/IEC 9075-4:1996, call statement).
 ghost use Rattle.std.specs.Prelude.{◌≡◌, ◌<◌, ◌+◌, All, IfOk, IsSome, IsTrue, List, None, Some};
-ghost use Rattle.psm_cond.specs.Sound.{is_numbered};
+ghost use Rattle.psm_cond.specs.WellFormed.{is_numbered};
 ghost use Rattle.psm_table.specs.Table.{Contents};
 ghost use Rattle.psm_store.specs.Marks.{AnyMark, Keeps};
 ghost use Rattle.psm_code.specs.Parts.{routine_at};
 ghost use Rattle.psm_code.specs.RoutineRules.{first_fault};
-ghost use Rattle.psm_code.specs.Sits.{AreKept};
+ghost use Rattle.psm_code.specs.MachineInvariant.{AreKept};
 ghost use Rattle.psm_unwind.specs.Marks.{most_open};
 ghost use Rattle.psm_unwind.specs.View.{end_of};
 ghost use Rattle.psm_machine.specs.Running.{Takes};
 ghost use Rattle.psm_session.specs.Put.{sunk_of};
-ghost use Rattle.psm_session.specs.Steps.{ComesTo, Does, Makes, goes_behind, standing, turns_left};
+ghost use Rattle.psm_session.specs.Steps.{EndsIn, Does, Makes, goes_after, standing, turns_left};
 ghost use Rattle.psm_session.specs.declared.command.ScriptCommand.TheVariants as commands;
 
 use crate::piece::piece_of_call;
@@ -35,12 +35,12 @@ pub(crate) fn call<S: Store, K: Sink>(
     out: &mut K,
     turns: &mut u64,
 ) -> Step
-    requires right { first_fault code.now ≡ None }
+    requires well_formed_code { first_fault code.now ≡ None }
     requires numbered { All (λ r. IsTrue (is_numbered r.handlers)) code.now.routines }
     requires takes { Takes code.now routine values.now }
     requires kept { AreKept code.now.tables (S.tables store.old) }
     requires few { S.marks store.old + 1 < most_open }
-    ensures comes { (committed : List Contents) → ComesTo code.now number (standing (S.tables store.old) turns.old committed) (commands.Call routine values.now) (sunk_of K.written K.faults out.old out.new) (standing (S.tables store.new) turns.new committed) result }
+    ensures comes { (committed : List Contents) → EndsIn code.now number (standing (S.tables store.old) turns.old committed) (commands.Call routine values.now) (sunk_of K.written K.faults out.old out.new) (standing (S.tables store.new) turns.new committed) result }
     ensures kept { AreKept code.now.tables (S.tables store.new) }
     ensures marks { S.marks store.new ≡ S.marks store.old }
     ensures keeps { Keeps AnyMark (S.holds store.old) (S.at store.old) (S.holds store.new) (S.at store.new) }
@@ -64,7 +64,7 @@ fn play<S: Store, K: Sink>(
     out: &mut K,
     turns: &mut u64,
 ) -> Step
-    requires right { first_fault code.now ≡ None }
+    requires well_formed_code { first_fault code.now ≡ None }
     requires numbered { All (λ r. IsTrue (is_numbered r.handlers)) code.now.routines }
     requires takes { Takes code.now routine values.now }
     requires kept { AreKept code.now.tables (S.tables store.old) }
@@ -74,14 +74,14 @@ fn play<S: Store, K: Sink>(
     ensures marks { S.marks store.new ≡ S.marks store.old }
     ensures keeps { Keeps AnyMark (S.holds store.old) (S.at store.old) (S.holds store.new) (S.at store.new) }
 {
-    match played(alloc, code, number, routine, values, store, turns) {
+    match ran(alloc, code, number, routine, values, store, turns) {
         Ok(made) => put(&made, out),
         Err(_) => Step::Memory,
     }
 }
 
 // Runs the procedure, and makes its piece.
-fn played<S: Store>(
+fn ran<S: Store>(
     alloc: Global,
     code: &RawCode,
     number: u64,
@@ -90,7 +90,7 @@ fn played<S: Store>(
     store: &mut S,
     turns: &mut u64,
 ) -> Result<Made, AllocError>
-    requires right { first_fault code.now ≡ None }
+    requires well_formed_code { first_fault code.now ≡ None }
     requires numbered { All (λ r. IsTrue (is_numbered r.handlers)) code.now.routines }
     requires takes { Takes code.now routine values.now }
     requires kept { AreKept code.now.tables (S.tables store.old) }
@@ -116,17 +116,17 @@ fn routine_of(code: &RawCode, number: u32) -> &RawRoutine
     &code.routines.items()[number as usize]
 }
 
-// Whether another command is due behind a run that ended so.
+// Whether another command is due after a run that ended so.
 fn goes_on(ending: &Ending) -> bool
-    ensures { result ≡ goes_behind (end_of ending.now) }
+    ensures { result ≡ goes_after (end_of ending.now) }
 {
     match ending {
         Ending::Ended(_) | Ending::Raised(_) => true,
-        Ending::NoTurns | Ending::Lacking => false,
+        Ending::NoTurns | Ending::Stuck => false,
     }
 }
 
-// How many turns are left behind a run that left so many.
+// How many turns are left after a run that left n.
 fn turns_left(goes_on: bool, left: u64) -> u64
     ensures { result ≡ turns_left goes_on left }
 {

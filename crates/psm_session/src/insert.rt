@@ -3,10 +3,10 @@ ghost use Rattle.std.specs.Prelude.{◌≡◌, ◌<◌, ◌+◌, ℕ, true, IfOk
 ghost use Rattle.psm_table.specs.Table.{Contents};
 ghost use Rattle.psm_store.specs.Marks.{AnyMark, Keeps};
 ghost use Rattle.psm_code.specs.RoutineRules.{first_fault};
-ghost use Rattle.psm_code.specs.Sits.{AreKept};
+ghost use Rattle.psm_code.specs.MachineInvariant.{AreKept};
 ghost use Rattle.psm_unwind.specs.Marks.{most_open};
 ghost use Rattle.psm_session.specs.Put.{sunk_of};
-ghost use Rattle.psm_session.specs.Steps.{ComesTo, Does, Makes, standing};
+ghost use Rattle.psm_session.specs.Steps.{EndsIn, Does, Makes, standing};
 ghost use Rattle.psm_session.specs.declared.command.ScriptCommand.TheVariants as commands;
 
 use crate::piece::piece_of;
@@ -30,11 +30,11 @@ pub(crate) fn insert<S: Store, K: Sink>(
     store: &mut S,
     out: &mut K,
 ) -> Step
-    requires right { first_fault code.now ≡ None }
+    requires well_formed_code { first_fault code.now ≡ None }
     requires there { IsSome (slice_get code.now.tables table) }
     requires kept { AreKept code.now.tables (S.tables store.old) }
     requires few { S.marks store.old + 1 < most_open }
-    ensures comes { (turns : ℕ) (committed : List Contents) → ComesTo code.now number (standing (S.tables store.old) turns committed) (commands.Insert table columns.now rows.now) (sunk_of K.written K.faults out.old out.new) (standing (S.tables store.new) turns committed) result }
+    ensures comes { (turns : ℕ) (committed : List Contents) → EndsIn code.now number (standing (S.tables store.old) turns committed) (commands.Insert table columns.now rows.now) (sunk_of K.written K.faults out.old out.new) (standing (S.tables store.new) turns committed) result }
     ensures kept { AreKept code.now.tables (S.tables store.new) }
     ensures marks { S.marks store.new ≡ S.marks store.old }
     ensures keeps { Keeps AnyMark (S.holds store.old) (S.at store.old) (S.holds store.new) (S.at store.new) }
@@ -58,7 +58,7 @@ fn fill<S: Store, K: Sink>(
     store: &mut S,
     out: &mut K,
 ) -> Step
-    requires right { first_fault code.now ≡ None }
+    requires well_formed_code { first_fault code.now ≡ None }
     requires there { IsSome (slice_get code.now.tables table) }
     requires kept { AreKept code.now.tables (S.tables store.old) }
     requires few { S.marks store.old < most_open }
@@ -89,7 +89,7 @@ fn filled<S: Store>(
     rows: &[Row],
     store: &mut S,
 ) -> Result<Vec<u8>, AllocError>
-    requires right { first_fault code.now ≡ None }
+    requires well_formed_code { first_fault code.now ≡ None }
     requires there { IsSome (slice_get code.now.tables table) }
     requires kept { AreKept code.now.tables (S.tables store.old) }
     requires few { S.marks store.old < most_open }

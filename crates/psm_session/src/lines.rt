@@ -1,7 +1,7 @@
 //! The lines of pieces of text.
 ghost use Rattle.std.specs.Prelude.{◌≡◌, ◌++◌, ℕ, IfOk, OnOk, List as Seq, encode_utf8_all};
 ghost use Rattle.psm_value.specs.declared.datum.Datum.{Datum};
-ghost use Rattle.psm_meaning.specs.Lines.{behind_blank, condition_lines, entry_line, first_line, further_values, ok_line, row_line, row_lines, values};
+ghost use Rattle.psm_meaning.specs.Lines.{after_blank, condition_lines, entry_line, first_line, further_values, ok_line, row_line, row_lines, values};
 ghost use Rattle.psm_session.specs.Pieces.{named_value, next_value, value_lines};
 
 use itoa::Buffer;
@@ -61,9 +61,9 @@ fn put_entry(out: &mut Vec<u8>, entry: &Entry) -> Result<(), AllocError>
     Ok(())
 }
 
-// A message behind a blank, if there is one.
+// A message after a blank, if there is one.
 fn put_message(out: &mut Vec<u8>, message: &[char]) -> Result<(), AllocError>
-    ensures { OnOk result (out.new.items ≡ out.old.items ++ behind_blank message.now) }
+    ensures { OnOk result (out.new.items ≡ out.old.items ++ after_blank message.now) }
 {
     if message.is_empty() {
         return Ok(());

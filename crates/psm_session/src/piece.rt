@@ -5,7 +5,7 @@ ghost use Rattle.psm_unwind.specs.View.{end_of};
 ghost use Rattle.psm_meaning.specs.Acts.{of_state};
 ghost use Rattle.psm_meaning.specs.Lines.{condition_lines, first_line, naming};
 ghost use Rattle.psm_meaning.specs.Session.{end_of_rows};
-ghost use Rattle.psm_session.specs.Going.{rows_shown};
+ghost use Rattle.psm_session.specs.CommandSteps.{rows_shown};
 ghost use Rattle.psm_session.specs.Pieces.{end_lines, raised_lines};
 
 use crate::lines::{put_condition, put_first_line, put_ok, put_rows, put_value_lines};
@@ -48,7 +48,7 @@ fn put_end_lines(
             out.extend_from_slice(b"TURNS USED\n")?;
             Ok(())
         }
-        Ending::Lacking => Ok(()),
+        Ending::Stuck => Ok(()),
     }
 }
 
@@ -77,7 +77,7 @@ fn put_answer(alloc: Global, out: &mut Vec<u8>, answer: &Answer) -> Result<(), A
     put_end_of_rows(alloc, out, answer.skipped())
 }
 
-// Nulls that a set function skipped are a warning behind the rows.
+// Nulls that a set function skipped are a warning after the rows.
 fn put_end_of_rows(alloc: Global, out: &mut Vec<u8>, skipped: bool) -> Result<(), AllocError>
     ensures { OnOk result (out.new.items ≡ out.old.items ++ end_of_rows skipped) }
 {

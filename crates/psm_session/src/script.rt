@@ -1,9 +1,9 @@
 //! The run of a script.
 ghost use Rattle.std.specs.Prelude.{◌≡◌, ◌+◌, ◌<◌, None, All, IfOk, IfSome, IsTrue};
-ghost use Rattle.psm_cond.specs.Sound.{is_numbered};
+ghost use Rattle.psm_cond.specs.WellFormed.{is_numbered};
 ghost use Rattle.psm_store.specs.Marks.{AnyMark, IsOutside, Keeps};
 ghost use Rattle.psm_code.specs.RoutineRules.{first_fault};
-ghost use Rattle.psm_code.specs.Sits.{AreKept};
+ghost use Rattle.psm_code.specs.MachineInvariant.{AreKept};
 ghost use Rattle.psm_unwind.specs.Marks.{most_open};
 ghost use Rattle.psm_session.specs.Ends.{Ends, FitsCommand, beginning};
 ghost use Rattle.psm_session.specs.Put.{sunk_of};
@@ -29,7 +29,7 @@ pub enum ScriptEnd {
     TurnsUsed,
     /// Where a piece could not be put.
     WriteFault,
-    /// For want of memory.
+    /// Because memory ran out.
     Memory,
 }
 
@@ -38,10 +38,10 @@ pub enum ScriptEnd {
 ///
 /// At `Done` the pieces of all commands are put. At `TurnsUsed` the last piece that is put says so, and the tables are those before its
 /// command. At `WriteFault`, which comes only where a put failed, the pieces before it are put, a prefix of its piece is written, and the
-/// tables are those behind its command. At `Memory`, which may come at any time, the pieces of some commands are put, and the tables are
-/// those behind these. All marks that the store held stay.
+/// tables are those after its command. At `Memory`, which may come at any time, the pieces of some commands are put, and the tables are
+/// those after these. All marks that the store held stay.
 ///
-/// The code has to break no rule, what the commands name has to be there, and the tables have to be those of the code.
+/// The code has to be well-formed, what the commands name has to be there, and the tables have to be those of the code.
 pub fn run_script<S: Store, K: Sink>(
     alloc: Global,
     code: &RawCode,
@@ -50,7 +50,7 @@ pub fn run_script<S: Store, K: Sink>(
     out: &mut K,
     turns: &mut u64,
 ) -> ScriptEnd
-    requires right { first_fault code.now ≡ None }
+    requires well_formed_code { first_fault code.now ≡ None }
     requires numbered { All (λ r. IsTrue (is_numbered r.handlers)) code.now.routines }
     requires fits { All (FitsCommand code.now) script.now.commands }
     requires kept { AreKept code.now.tables (S.tables store.old) }
@@ -89,7 +89,7 @@ fn close_left<S: Store>(left: Option<Mark>, store: &mut S)
     }
 }
 
-// Runs the commands in a transaction that has a mark. It has a mark of the same depth behind them, unless there was no memory for it.
+// Runs the commands in a transaction that has a mark. It has a mark of the same depth after them, unless there was no memory for it.
 fn run_commands<S: Store, K: Sink>(
     alloc: Global,
     code: &RawCode,
@@ -99,7 +99,7 @@ fn run_commands<S: Store, K: Sink>(
     out: &mut K,
     turns: &mut u64,
 ) -> (ScriptEnd, Option<Mark>)
-    requires right { first_fault code.now ≡ None }
+    requires well_formed_code { first_fault code.now ≡ None }
     requires numbered { All (λ r. IsTrue (is_numbered r.handlers)) code.now.routines }
     requires fits { All (FitsCommand code.now) commands.now }
     requires kept { AreKept code.now.tables (S.tables store.old) }
@@ -135,7 +135,7 @@ fn run_commands<S: Store, K: Sink>(
     (ScriptEnd::Done, Some(transaction))
 }
 
-// Runs one command. Want of memory for a new mark of the transaction is an error.
+// Runs one command. Out of memory for a new mark of the transaction is an error.
 fn run_command<S: Store, K: Sink>(
     alloc: Global,
     code: &RawCode,
@@ -146,7 +146,7 @@ fn run_command<S: Store, K: Sink>(
     out: &mut K,
     turns: &mut u64,
 ) -> Result<Step, AllocError>
-    requires right { first_fault code.now ≡ None }
+    requires well_formed_code { first_fault code.now ≡ None }
     requires numbered { All (λ r. IsTrue (is_numbered r.handlers)) code.now.routines }
     requires fits { FitsCommand code.now command.now }
     requires kept { AreKept code.now.tables (S.tables store.old) }

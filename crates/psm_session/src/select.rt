@@ -3,12 +3,12 @@ ghost use Rattle.std.specs.Prelude.{◌≡◌, ◌<◌, ◌++◌, ℕ, [], List,
 ghost use Rattle.psm_table.specs.Queries.{answer};
 ghost use Rattle.psm_table.specs.Table.{Contents};
 ghost use Rattle.psm_tablecode.specs.Codes.{over, query_of};
-ghost use Rattle.psm_tablecode.specs.Suits.{SuitsTable};
+ghost use Rattle.psm_tablecode.specs.TypeChecks.{TypeChecksTable};
 ghost use Rattle.psm_code.specs.declared.code.RawCode.{RawCode};
 ghost use Rattle.psm_meaning.specs.Lines.{first_line};
 ghost use Rattle.psm_session.specs.Pieces.{selected_lines};
 ghost use Rattle.psm_session.specs.Put.{sunk_of};
-ghost use Rattle.psm_session.specs.Steps.{ComesTo, standing};
+ghost use Rattle.psm_session.specs.Steps.{EndsIn, standing};
 ghost use Rattle.psm_session.specs.declared.command.ScriptCommand.TheVariants as commands;
 
 use crate::piece::{piece_of, piece_of_answer};
@@ -29,8 +29,8 @@ pub(crate) fn select<S: Store, K: Sink>(
     out: &mut K,
 ) -> Step
     requires exists { query.now.table < length (S.tables store.now) }
-    requires suits { IfSome (slice_get (S.tables store.now) query.now.table) (λ c. SuitsTable query.now [] c.def) }
-    ensures { (code : RawCode) (turns : ℕ) (committed : List Contents) → ComesTo code number (standing (S.tables store.now) turns committed) (commands.Select query.now) (sunk_of K.written K.faults out.old out.new) (standing (S.tables store.now) turns committed) result }
+    requires type_checks { IfSome (slice_get (S.tables store.now) query.now.table) (λ c. TypeChecksTable query.now [] c.def) }
+    ensures { (code : RawCode) (turns : ℕ) (committed : List Contents) → EndsIn code number (standing (S.tables store.now) turns committed) (commands.Select query.now) (sunk_of K.written K.faults out.old out.new) (standing (S.tables store.now) turns committed) result }
 {
     match piece_of_query(alloc, number, query, store) {
         Ok(piece) => put(
@@ -51,7 +51,7 @@ fn piece_of_query<S: Store>(
     store: &S,
 ) -> Result<Vec<u8>, AllocError>
     requires exists { query.now.table < length (S.tables store.now) }
-    requires suits { IfSome (slice_get (S.tables store.now) query.now.table) (λ c. SuitsTable query.now [] c.def) }
+    requires type_checks { IfSome (slice_get (S.tables store.now) query.now.table) (λ c. TypeChecksTable query.now [] c.def) }
     ensures { IfOk result (λ piece. IfSome (slice_get (S.tables store.now) query.now.table) (λ c. piece.items ≡ first_line number (codes "SELECT") ++ selected_lines (answer (over []) (query_of query.now) c.rows))) }
 {
     match rows(alloc, store, query, &[]) {

@@ -1,4 +1,4 @@
-//! What a command comes to.
+//! What a command ends in.
 ghost use Rattle.std.specs.Prelude.{◌≡◌};
 ghost use Rattle.psm_store.specs.Marks.{IsOutside, Keeps};
 ghost use Rattle.psm_session.specs.Put.{sunk_of};
@@ -7,7 +7,7 @@ ghost use Rattle.psm_session.specs.Steps.{Puts, tables_after};
 use psm_io::{Sink, SinkFault};
 use psm_store::{Mark, Store, put_back};
 
-/// What a command comes to.
+/// What a command ends in.
 #[derive(Clone, Copy, Debug, PartialEq, Eq)]
 pub enum Step {
     /// The next command is due.
@@ -20,7 +20,7 @@ pub enum Step {
     Memory,
 }
 
-/// The piece of a command, and whether the next command is due behind it.
+/// The piece of a command, and whether the next command is due after it.
 #[derive(Debug, Drop)]
 pub struct Made {
     pub piece: Vec<u8>,
@@ -44,7 +44,7 @@ pub(crate) fn put<K: Sink>(made: &Made, out: &mut K) -> Step
     }
 }
 
-/// Closes the mark of a command behind its step. Where memory ran out, the tables are put back to the mark before.
+/// Closes the mark of a command after its step. Where memory ran out, the tables are put back to the mark before.
 pub(crate) fn close<S: Store>(step: Step, mark: Mark, store: &mut S)
     requires held { S.holds store.old mark }
     ensures tables { S.tables store.new ≡ tables_after step (S.tables store.old) (S.at store.old mark) }

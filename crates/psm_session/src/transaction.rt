@@ -4,7 +4,7 @@ ghost use Rattle.psm_store.specs.Marks.{IsOutside, Keeps, most_marks};
 ghost use Rattle.psm_code.specs.declared.code.RawCode.{RawCode};
 ghost use Rattle.psm_meaning.specs.Lines.{first_line, ok_line};
 ghost use Rattle.psm_session.specs.Put.{sunk_of};
-ghost use Rattle.psm_session.specs.Steps.{Comes, ComesTo, Marked, Puts, standing, tables_after};
+ghost use Rattle.psm_session.specs.Steps.{Comes, EndsIn, Marked, Puts, standing, tables_after};
 ghost use Rattle.psm_session.specs.declared.command.ScriptCommand.TheVariants as commands;
 
 use crate::piece::piece_of;
@@ -44,7 +44,7 @@ pub(crate) fn roll_back<S: Store, K: Sink>(
 ) -> Step
     requires held { S.holds store.old mark }
     requires counted { S.marks store.old ≡ mark.depth + 1 }
-    ensures comes { (code : RawCode) (turns : ℕ) → ComesTo code number (standing (S.tables store.old) turns (S.at store.old mark)) commands.Rollback (sunk_of K.written K.faults out.old out.new) (standing (S.tables store.new) turns (S.at store.new mark)) result }
+    ensures comes { (code : RawCode) (turns : ℕ) → EndsIn code number (standing (S.tables store.old) turns (S.at store.old mark)) commands.Rollback (sunk_of K.written K.faults out.old out.new) (standing (S.tables store.new) turns (S.at store.new mark)) result }
     ensures tables { S.tables store.new ≡ tables_after result (S.at store.old mark) (S.tables store.old) }
     ensures stands { S.at store.new mark ≡ S.at store.old mark }
     ensures held { S.holds store.new mark }
@@ -52,12 +52,12 @@ pub(crate) fn roll_back<S: Store, K: Sink>(
     ensures keeps { Keeps (IsOutside mark) (S.holds store.old) (S.at store.old) (S.holds store.new) (S.at store.new) }
 {
     let step = put_ok(alloc, number, "ROLLBACK", out);
-    go_back_behind(step, mark, store);
+    go_back_after(step, mark, store);
     step
 }
 
-// Puts the tables back to a mark behind a step, unless memory ran out.
-fn go_back_behind<S: Store>(step: Step, mark: Mark, store: &mut S)
+// Puts the tables back to a mark after a step, unless memory ran out.
+fn go_back_after<S: Store>(step: Step, mark: Mark, store: &mut S)
     requires held { S.holds store.old mark }
     requires counted { S.marks store.old ≡ mark.depth + 1 }
     ensures tables { S.tables store.new ≡ tables_after step (S.at store.old mark) (S.tables store.old) }

@@ -65,7 +65,7 @@ module _ (v s : ℕ) (scale_bound : s ≤ 18) (size_bound : v < 10 ^ 18) where
   fraction_size : length l.fraction ≡ s
   fraction_size = ap (λ (m : Num). m.scale) (literal_value-printed n scale_bound size_bound)
 
-  -- the worth of digits behind a whole part with a sign or none
+  -- the worth of digits after a whole part with a sign or none
   abbrev worth : Bool → List ℕ → Num
   worth b w = literal_value (record { sign = sign_for b; whole = w; fraction = l.fraction; pointed = true })
 

@@ -11,7 +11,7 @@ use Rattle.psm_token.specs.declared.token.Token.TheVariants.{Number}
 use Rattle.psm_token.specs.Characters.{is_separator, is_name_letter, begins}
 use Rattle.psm_token.specs.Forms.{IsToken, IsNumberForm}
 use Rattle.psm_token.specs.Fronts.{front_of}
-use Rattle.psm_token.specs.Numbers.{digits_at, behind_digits, is_point, fraction_at, literal_at, fraction_len, literal_len}
+use Rattle.psm_token.specs.Numbers.{digits_at, after_digits, is_point, fraction_at, literal_at, fraction_len, literal_len}
 use Rattle.psm_token.proofs.Looking.{chosen}
 use Rattle.psm_spell.proofs.Plain.{run_of}
 use Rattle.psm_spell.proofs.Stops.{stops, no_digit, no_letter, no_point}
@@ -21,8 +21,8 @@ use Rattle.psm_spell.proofs.Stops.{stops, no_digit, no_letter, no_point}
 digits_of : (ds rest : List ℕ) → list_all is_ascii_digit ds ≡ true → begins is_ascii_digit rest ≡ false → digits_at (ds ++ rest) ≡ ds
 digits_of ds rest h e = ap (λ (n : ℕ). take n (ds ++ rest)) (run_of is_ascii_digit ds rest h e) ∙ take-append_seam ds rest
 
-behind_of : (ds rest : List ℕ) → list_all is_ascii_digit ds ≡ true → begins is_ascii_digit rest ≡ false → behind_digits (ds ++ rest) ≡ rest
-behind_of ds rest h e = ap (λ (n : ℕ). drop n (ds ++ rest)) (run_of is_ascii_digit ds rest h e) ∙ drop-append_seam ds rest
+after_of : (ds rest : List ℕ) → list_all is_ascii_digit ds ≡ true → begins is_ascii_digit rest ≡ false → after_digits (ds ++ rest) ≡ rest
+after_of ds rest h e = ap (λ (n : ℕ). drop n (ds ++ rest)) (run_of is_ascii_digit ds rest h e) ∙ drop-append_seam ds rest
 
 no_fraction_at : (ds : List ℕ) → begins is_point ds ≡ false → fraction_at ds ≡ []
 no_fraction_at [] h = refl
@@ -49,14 +49,14 @@ parts_at : (w f : List ℕ) (b : Bool) (rest : List ℕ) → stops rest ≡ true
     → IsAt (plain w f b) (w ++ (point_text b ++ (f ++ rest)))
 parts_at w f true rest end hw hf none =
     let cs : List ℕ = w ++ 46 ∷ (f ++ rest) in
-    let behind : behind_digits cs ≡ 46 ∷ (f ++ rest) = behind_of w (46 ∷ (f ++ rest)) hw refl in
+    let following : after_digits cs ≡ 46 ∷ (f ++ rest) = after_of w (46 ∷ (f ++ rest)) hw refl in
     record {
-      longest = same_literal (digits_at cs) (fraction_at (behind_digits cs)) w f (begins is_point (behind_digits cs)) true
-          (digits_of w (46 ∷ (f ++ rest)) hw refl) (ap fraction_at behind ∙ digits_of f rest hf (no_digit rest end)) (ap (begins is_point) behind);
+      longest = same_literal (digits_at cs) (fraction_at (after_digits cs)) w f (begins is_point (after_digits cs)) true
+          (digits_of w (46 ∷ (f ++ rest)) hw refl) (ap fraction_at following ∙ digits_of f rest hf (no_digit rest end)) (ap (begins is_point) following);
       size = omega (
         arith,
         run_of is_ascii_digit w (46 ∷ (f ++ rest)) hw refl,
-        ap fraction_len behind,
+        ap fraction_len following,
         run_of is_ascii_digit f rest hf (no_digit rest end),
         length-append (w ++ 46 ∷ []) f,
         length-append w (46 ∷ []),
@@ -65,14 +65,14 @@ parts_at w f true rest end hw hf none =
 parts_at w f false rest end hw hf none =
     let nil : f ≡ [] = none refl in
     let cs : List ℕ = w ++ rest in
-    let behind : behind_digits cs ≡ rest = behind_of w rest hw (no_digit rest end) in
+    let following : after_digits cs ≡ rest = after_of w rest hw (no_digit rest end) in
     let at : IsAt (plain w [] false) cs = record {
-      longest = same_literal (digits_at cs) (fraction_at (behind_digits cs)) w [] (begins is_point (behind_digits cs)) false
-          (digits_of w rest hw (no_digit rest end)) (ap fraction_at behind ∙ no_fraction_at rest (no_point rest end)) (ap (begins is_point) behind ∙ no_point rest end);
+      longest = same_literal (digits_at cs) (fraction_at (after_digits cs)) w [] (begins is_point (after_digits cs)) false
+          (digits_of w rest hw (no_digit rest end)) (ap fraction_at following ∙ no_fraction_at rest (no_point rest end)) (ap (begins is_point) following ∙ no_point rest end);
       size = omega (
         arith,
         run_of is_ascii_digit w rest hw (no_digit rest end),
-        ap fraction_len behind,
+        ap fraction_len following,
         no_fraction_len rest (no_point rest end),
         length-append (w ++ []) [],
         length-append w [],

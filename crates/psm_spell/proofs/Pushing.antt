@@ -1,4 +1,4 @@
--- A text with more behind it.
+-- A text with more after it.
 use Rattle.std.proofs.Common.{◌≡◌, ℕ, zero, suc, ◌+◌, ◌-◌, ◌<◌, ◌≤◌, ◌/◌, ◌%◌, ◌^◌, pos, Bool, true, false, not, ◌&&◌, cond, nat_lt, int_lt, unsigned_abs, List, [], ◌∷◌, ◌++◌, length, drop, get_or, drop-cons, add-one, replicate, ltb-true, refl, sym, ap, subst, ◌∙◌, append_assoc, arith}
 use Rattle.std.specs.Prelude.{Result, Ok, Err, OnOk, is_ok, encode_utf8_all, decimal, if◌then◌else◌}
 use Rattle.std.specs.Str.{IsUtf8, IsAscii, IsCharBoundary, chars}

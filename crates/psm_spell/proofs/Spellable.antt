@@ -12,7 +12,7 @@ use Rattle.psm_token.specs.Characters.{begins, is_separator, is_name_part}
 use Rattle.psm_token.specs.Forms.{IsToken, IsWord, IsNumberForm, folded, name_len}
 use Rattle.psm_token.specs.Fronts.{front_of}
 use Rattle.psm_token.specs.Listed.{Tokens}
-use Rattle.psm_token.specs.Numbers.{digits_at, behind_digits, is_point, fraction_at, literal_at}
+use Rattle.psm_token.specs.Numbers.{digits_at, after_digits, is_point, fraction_at, literal_at}
 use Rattle.psm_token.specs.Spells.{At, Piece, Pieces, Spells, at_start}
 use Rattle.psm_token.proofs.Looking.{chosen, digit_front}
 use Rattle.psm_token.proofs.Reaching.{token_moves}
@@ -36,14 +36,14 @@ fraction_none : (ds : List ℕ) → begins is_point ds ≡ false → fraction_at
 fraction_none [] h = refl
 fraction_none (c ∷ ds) h = ap (λ (t : Bool). cond t (digits_at ds) []) h
 
-number_spellable : (cs : List ℕ) (n : ℕ) (t : Token) → 0 < length (digits_at cs) + length (fraction_at (behind_digits cs)) → IsNumberForm cs n t → IsSpellable t
+number_spellable : (cs : List ℕ) (n : ℕ) (t : Token) → 0 < length (digits_at cs) + length (fraction_at (after_digits cs)) → IsNumberForm cs n t → IsSpellable t
 number_spellable cs n t some h = subst IsSpellable (sym h.value) (record {
   literal = literal_at cs;
   form = record {
     whole_digits = digits_all cs;
-    fraction_digits = fraction_all (behind_digits cs);
+    fraction_digits = fraction_all (after_digits cs);
     some_digit = some;
-    no_fraction = fraction_none (behind_digits cs);
+    no_fraction = fraction_none (after_digits cs);
   };
   unsigned = refl;
   limit = h.limit;

@@ -36,12 +36,12 @@ token_text (Number d) = number_text d
 token_text (Text t) = quoted 39 t
 token_text (Sign s) = sign_text s
 
--- what is written behind a sign: a line feed behind a semicolon, else a blank
+-- what is written after a sign: a line feed after a semicolon, else a blank
 abbrev pub sign_gap : SignOf → ℕ
 sign_gap Semicolon = 10
 sign_gap _ = 32
 
--- what is written behind a token
+-- what is written after a token
 abbrev pub gap_of : Token → ℕ
 gap_of (Sign s) = sign_gap s
 gap_of _ = 32

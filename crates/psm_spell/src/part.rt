@@ -16,7 +16,7 @@ pub(crate) enum Part<'a> {
     Sign(Sign),
 }
 
-/// What is written behind a token: a line feed behind a semicolon, else a blank.
+/// What is written after a token: a line feed after a semicolon, else a blank.
 pub(crate) fn gap(part: &Part<'_>) -> char
     ensures { result ≡ gap_of (token_of part.now) }
 {

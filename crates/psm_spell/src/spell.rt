@@ -12,21 +12,21 @@ use psm_num::Dec;
 use psm_text::Name;
 use std::alloc::{AllocError, Global};
 
-/// Puts a character behind a text.
+/// Puts a character after a text.
 fn push(text: &mut String, c: char) -> Result<(), AllocError>
     ensures { OnOk result (chars (string_bytes text.new) ≡ chars (string_bytes text.old) ++ c ∷ []) }
 {
     text.push(c)
 }
 
-/// Puts a text behind another.
+/// Puts a text after another.
 fn push_str(text: &mut String, more: &str) -> Result<(), AllocError>
     ensures { OnOk result (chars (string_bytes text.new) ≡ chars (string_bytes text.old) ++ chars more.now) }
 {
     text.push_str(more)
 }
 
-/// Puts a character behind a text, twice if it is the quote.
+/// Puts a character after a text, twice if it is the quote.
 fn push_doubled(text: &mut String, quote: char, c: char) -> Result<(), AllocError>
     ensures { OnOk result (chars (string_bytes text.new) ≡ chars (string_bytes text.old) ++ doubled_one quote c) }
 {
@@ -36,7 +36,7 @@ fn push_doubled(text: &mut String, quote: char, c: char) -> Result<(), AllocErro
     push(text, c)
 }
 
-/// Puts characters between quotes behind a text.
+/// Puts characters between quotes after a text.
 fn push_quoted(text: &mut String, quote: char, kept: &[char]) -> Result<(), AllocError>
     ensures { OnOk result (chars (string_bytes text.new) ≡ chars (string_bytes text.old) ++ quoted quote kept.now) }
 {
@@ -64,7 +64,7 @@ fn is_fraction(number: Dec) -> bool
         && number.coef().unsigned_abs() < 10_u64.pow(number.scale() as u32)
 }
 
-/// Puts a number behind a text, without the zero of a whole part before decimals.
+/// Puts a number after a text, without the zero of a whole part before decimals.
 fn push_number(alloc: Global, text: &mut String, number: Dec) -> Result<(), AllocError>
     ensures { OnOk result (chars (string_bytes text.new) ≡ chars (string_bytes text.old) ++ number_text number) }
 {
@@ -76,7 +76,7 @@ fn push_number(alloc: Global, text: &mut String, number: Dec) -> Result<(), Allo
     }
 }
 
-/// Puts a token behind a text.
+/// Puts a token after a text.
 #[tactic(auto, using(crate::proofs::Pushing::word_chars, crate::proofs::Pushing::sign_chars))]
 fn push_token(alloc: Global, text: &mut String, part: &Part<'_>) -> Result<(), AllocError>
     ensures { OnOk result (chars (string_bytes text.new) ≡ chars (string_bytes text.old) ++ token_text (token_of part.now)) }
@@ -90,7 +90,7 @@ fn push_token(alloc: Global, text: &mut String, part: &Part<'_>) -> Result<(), A
     }
 }
 
-/// Puts a blank behind a text, if there has to be one.
+/// Puts a blank after a text, if there has to be one.
 #[tactic(auto, using(crate::proofs::Pushing::pushed_none))]
 fn push_blank(text: &mut String, blank: bool) -> Result<(), AllocError>
     ensures { OnOk result (chars (string_bytes text.new) ≡ chars (string_bytes text.old) ++ blank_if blank) }
@@ -98,7 +98,7 @@ fn push_blank(text: &mut String, blank: bool) -> Result<(), AllocError>
     if blank { push(text, ' ') } else { Ok(()) }
 }
 
-/// Puts a character behind a text, if there is one.
+/// Puts a character after a text, if there is one.
 #[tactic(auto, using(crate::proofs::Pushing::pushed_none))]
 fn push_gap(text: &mut String, gap: Option<char>) -> Result<(), AllocError>
     ensures { OnOk result (chars (string_bytes text.new) ≡ chars (string_bytes text.old) ++ listed gap) }

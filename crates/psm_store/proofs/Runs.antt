@@ -7,7 +7,7 @@ use Rattle.psm_store.specs.Groups.{Shared, copies_of}
 pub length-run : {A : Type 0} (xs : List A) (n : ℕ) (x : A) → length (xs ++ replicate n x) ≡ length xs + n
 length-run xs n x = length-append xs (replicate n x) ∙ ap (λ k. length xs + k) (length-replicate n x)
 
--- so many elements of a list with a run after it don't depend on how much longer the run is
+-- n elements of a list with a run after it don't depend on how much longer the run is
 pub filled : {A : Type 0} (d : ℕ) (xs : List A) (m n : ℕ) (x : A) → d ≤ length xs + m → d ≤ length xs + n → take d (xs ++ replicate m x) ≡ take d (xs ++ replicate n x)
 filled zero xs m n x h k = refl
 filled (suc d) [] m n x h k = take-replicate (suc d) m x (omega (arith, h)) ∙ sym (take-replicate (suc d) n x (omega (arith, k)))

@@ -14,7 +14,7 @@ pub record Kept : Type 0 where
 abbrev pub contents_of : List State → List Contents
 contents_of states = map (λ s. s.contents) states
 
--- tables with copies for some marks, and after those so many marks that stand for the tables of now
+-- tables with copies for some marks, and after those n marks that stand for the tables of now
 abbrev pub kept_of : List Contents → List (List Contents) → ℕ → Kept
 kept_of tables copies count = record { tables = tables; marks = copies ++ replicate count tables }
 

@@ -5,7 +5,7 @@ use Rattle.psm_table.specs.declared.definition.TableDef.{TableDef}
 use Rattle.psm_table.specs.Table.{Contents}
 use Rattle.psm_store.specs.declared.store.Mark.{Mark}
 
--- so many marks are never open
+-- n marks are never open
 abbrev pub most_marks : ℕ
 most_marks = 2 ^ 100
 
@@ -18,7 +18,7 @@ abbrev pub marks_after : ℕ → Result Mark AllocError → ℕ
 marks_after count (Ok mark) = count + 1
 marks_after count (Err error) = count
 
--- A mark that is given where so many marks are open and the tables are these: it is the deepest, it is
+-- A mark that is given where n marks are open and the tables are these: it is the deepest, it is
 -- held, it stands for the tables, and the place of no mark that was held is above its own.
 pub record IsNewMark (count : ℕ) (tables : List Contents) (holds_old holds_new : Mark → Type 0) (at_new : Mark → List Contents) (mark : Mark) : Type 0 where
   pub deepest : mark.depth ≡ count

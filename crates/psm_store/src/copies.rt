@@ -39,7 +39,7 @@ impl Group {
         self.marks
     }
 
-    /// Takes so many marks away.
+    /// Takes n marks away.
     fn shorten(&mut self, by: u128)
         requires { by < self.old.marks }
         ensures { self.new ≡ record self.old { marks = self.old.marks - by } }
@@ -122,7 +122,7 @@ impl Copies {
         }
     }
 
-    /// Keeps the copies for so many of the outermost marks.
+    /// Keeps the copies for n of the outermost marks.
     pub(crate) fn truncate(&mut self, marks: u128)
         ensures { self.new ≡ take marks self.old }
     {
@@ -131,7 +131,7 @@ impl Copies {
         }
     }
 
-    /// Takes so many marks from the last copy, or all that it has if those are fewer.
+    /// Takes n marks from the last copy, or all that it has if those are fewer.
     fn shorten(&mut self, most: u128)
         requires above { 0 < most }
         requires some { 0 < length self.old }

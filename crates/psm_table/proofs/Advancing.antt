@@ -12,7 +12,7 @@ use Rattle.psm_table.specs.Queries.{Query, in_walk, is_met}
 abbrev Found : Type 0
 Found = Result (Option (List Datum)) SqlState
 
--- the row in what a cursor comes to
+-- the row in what a cursor evaluates to
 abbrev got : Result (Option (List Datum) × Position) SqlState → Option (List Datum)
 got (Ok p) = p.0
 got (Err state) = None

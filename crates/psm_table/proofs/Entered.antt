@@ -100,7 +100,7 @@ module _ {A B C : Type 0} (R : A → B → C → Type 0) where
   abbrev pub At : List A → List B → List C → ℕ → Type 0
   At xs ys zs k = (a : A) (b : B) (c : C) → R (get_or xs k a) (get_or ys k b) (get_or zs k c)
 
-  -- the first so many places and one more, at which another element is set in the second list
+  -- the first n places and one more, at which another element is set in the second list
   pub at_set : (xs : List A) (ys : List B) (zs : List C) (i : ℕ) (a : A) (b : B) (c : C) → i < length xs → i < length ys → i < length zs → a ≡ get_or xs i a → c ≡ get_or zs i c → R a b c
       → ((k : ℕ) → k < i → At xs ys zs k) → (k : ℕ) → k < i + 1 → At xs (set ys i b) zs k
   at_set xs ys zs i a b c l m n ea ec r h = below_more (At xs (set ys i b) zs) i
@@ -111,7 +111,7 @@ module _ {A B C : Type 0} (R : A → B → C → Type 0) where
       subst (λ w. R w (get_or (set ys i b) i y) (get_or zs i z)) (sym first)
       (subst (λ w. R a w (get_or zs i z)) (sym (get-set ys i b y m)) (subst (λ w. R a b w) (sym third) r)))
 
-  -- the same, where an element is put behind the third list
+  -- the same, where an element is put after the third list
   pub at_pushed : (xs : List A) (ys : List B) (zs : List C) (i : ℕ) (a : A) (b : B) (c : C) → i < length xs → i < length ys → length zs ≡ i → a ≡ get_or xs i a → R a b c
       → ((k : ℕ) → k < i → At xs ys zs k) → (k : ℕ) → k < i + 1 → At xs (set ys i b) (zs ++ c ∷ []) k
   at_pushed xs ys zs i a b c l m n ea r h =

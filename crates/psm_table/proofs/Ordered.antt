@@ -45,27 +45,27 @@ module _ (key : List ℕ) where
       absurd (let no : true ≡ false = sym bad ∙ f in cc)
   after_chained x y r false e f g = g
 
-  -- the rows with a row behind those before it and those with the same key
-  abbrev pub placed_behind : Row → List Row → List Row
-  placed_behind row [] = row ∷ []
-  placed_behind row (r ∷ rows) = if is_before key r row then r ∷ placed_behind row rows else row ∷ r ∷ rows
+  -- the rows with a row after those before it and those with the same key
+  abbrev pub placed_after : Row → List Row → List Row
+  placed_after row [] = row ∷ []
+  placed_after row (r ∷ rows) = if is_before key r row then r ∷ placed_after row rows else row ∷ r ∷ rows
 
   both_step : (x r y : Row) (ys : List Row) (a b c : Bool) → is_before key x y ≡ a → is_before key y r ≡ b → is_before key x r ≡ c
-      → placed_in key x (placed_behind r ys) ≡ placed_behind r (placed_in key x ys)
-      → placed_in key x (placed_behind r (y ∷ ys)) ≡ placed_behind r (placed_in key x (y ∷ ys))
+      → placed_in key x (placed_after r ys) ≡ placed_after r (placed_in key x ys)
+      → placed_in key x (placed_after r (y ∷ ys)) ≡ placed_after r (placed_in key x (y ∷ ys))
   both_step x r y ys true true c e f g h = let k : is_before key x r ≡ true = before_chained x y r e f in rw (e, f, k, e) refl
   both_step x r y ys true false true e f g h = rw (e, f, g) refl
   both_step x r y ys true false false e f g h = rw (e, f, g, e) refl
   both_step x r y ys false true c e f g h = rw (e, f, e) (ap (λ l. y ∷ l) h)
   both_step x r y ys false false c e f g h = let k : is_before key x r ≡ false = after_chained x y r c e f g in rw (e, f, k, e) refl
 
-  -- it is the same which of two rows is placed first, one before those with the same key and one behind them
-  placed_both : (x r : Row) (ys : List Row) → placed_in key x (placed_behind r ys) ≡ placed_behind r (placed_in key x ys)
+  -- it is the same which of two rows is placed first, one before those with the same key and one after them
+  placed_both : (x r : Row) (ys : List Row) → placed_in key x (placed_after r ys) ≡ placed_after r (placed_in key x ys)
   placed_both x r [] = refl
   placed_both x r (y ∷ ys) = both_step x r y ys (is_before key x y) (is_before key y r) (is_before key x r) refl refl refl (placed_both x r ys)
 
-  -- the last row goes behind those with the same key
-  pub in_order-last : (rows : List Row) (row : Row) → in_order key (rows ++ row ∷ []) ≡ placed_behind row (in_order key rows)
+  -- the last row goes after those with the same key
+  pub in_order-last : (rows : List Row) (row : Row) → in_order key (rows ++ row ∷ []) ≡ placed_after row (in_order key rows)
   in_order-last [] row = refl
   in_order-last (r ∷ rows) row = ap (placed_in key r) (in_order-last rows row) ∙ placed_both r row (in_order key rows)
 
@@ -74,15 +74,15 @@ module _ (key : List ℕ) where
   Rises a b = key_order (values_at key a) (values_at key b) ≡ Less
 
   put_step : (row y : Row) (ys : List Row) (o : Ordering) → IsAscending key (y ∷ ys) → row_order key (values_at key row) y ≡ o
-      → (row_with key (values_at key row) ys ≡ None → put key row ys ≡ placed_behind row ys)
-      → row_with key (values_at key row) (y ∷ ys) ≡ None → put key row (y ∷ ys) ≡ placed_behind row (y ∷ ys)
+      → (row_with key (values_at key row) ys ≡ None → put key row ys ≡ placed_after row ys)
+      → row_with key (values_at key row) (y ∷ ys) ≡ None → put key row (y ∷ ys) ≡ placed_after row (y ∷ ys)
   put_step row y ys Less up e h n = let m : row_with key (values_at key row) ys ≡ None = rw e at n in rw e (ap (λ l. y ∷ l) (h m))
   put_step row y ys Equal up e h n = absurd (let m = rw e at n in cc)
   put_step row y ys Greater up e h n =
       let g = after_greater key (values_at key row) y ys up e in
       rw e (ap (λ l. l ++ row ∷ y ∷ rows_above key (values_at key row) ys) (none-below key (values_at key row) ys g) ∙ ap (λ l. row ∷ y ∷ l) (all-above key (values_at key row) ys g))
 
-  pub put-placed : (row : Row) (rows : List Row) → IsAscending key rows → row_with key (values_at key row) rows ≡ None → put key row rows ≡ placed_behind row rows
+  pub put-placed : (row : Row) (rows : List Row) → IsAscending key rows → row_with key (values_at key row) rows ≡ None → put key row rows ≡ placed_after row rows
   put-placed row [] up n = refl
   put-placed row (y ∷ ys) up n = put_step row y ys (row_order key (values_at key row) y) up refl (put-placed row ys (AllPairs-rest Rises y ys up)) n
 

@@ -88,7 +88,7 @@ IsTable-without t key h l = record {
   bound = l;
 }
 
--- the rows of a map, so many of them
+-- the rows of a map, n of them
 abbrev pub Slot : Type 0
 Slot = Pair (Option (List Datum))
 

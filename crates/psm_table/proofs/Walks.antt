@@ -9,7 +9,7 @@ use Rattle.psm_value.specs.declared.datum.Datum.{Datum}
 use Rattle.psm_table.specs.declared.map.Pair.{Pair}
 use Rattle.psm_table.specs.Key.{key_order}
 use Rattle.psm_table.specs.Map.{AreAscending, pairs_above, pairs_below, prefix_order}
-use Rattle.psm_table.specs.Place.{ahead, behind}
+use Rattle.psm_table.specs.Place.{ahead, following}
 use Rattle.psm_table.specs.Rows.{last_of}
 use Rattle.psm_table.proofs.KeyLaws.{key_order-refl}
 use Rattle.psm_table.proofs.Filters.{filter-whole, filter-empty, greater_is, AllPairs-first, AllPairs-rest}
@@ -98,33 +98,33 @@ module _ {V : Type 0} where
   last-later p y [] h = All-head (λ q. Rises p q) y [] h
   last-later p y (z ∷ l) h = subst (IsLater p) (sym (last-cons y z l)) (last-later p z l (All-tail (λ q. Rises p q) y (z ∷ l) h))
 
-  behind-cons : (p : Pair V) (ps : List (Pair V)) (o : Option (Pair V)) → IsLater p o → behind (p ∷ ps) o ≡ p ∷ behind ps o
-  behind-cons p ps None later = absurd later
-  behind-cons p ps (Some x) later = ap (λ low. low ++ x ∷ []) (below_later p x ps later)
+  following-cons : (p : Pair V) (ps : List (Pair V)) (o : Option (Pair V)) → IsLater p o → following (p ∷ ps) o ≡ p ∷ following ps o
+  following-cons p ps None later = absurd later
+  following-cons p ps (Some x) later = ap (λ low. low ++ x ∷ []) (below_later p x ps later)
 
   module _ (t : Pair V → Bool) where
     -- the pairs l that pass after p, which passes too
-    down_list : (p : Pair V) (ps l : List (Pair V)) → AreAscending (p ∷ ps) → All (λ q. Rises p q) l → behind ps (last_of l) ≡ l → behind (p ∷ ps) (last_of (p ∷ l)) ≡ p ∷ l
+    down_list : (p : Pair V) (ps l : List (Pair V)) → AreAscending (p ∷ ps) → All (λ q. Rises p q) l → following ps (last_of l) ≡ l → following (p ∷ ps) (last_of (p ∷ l)) ≡ p ∷ l
     down_list p ps [] up later h = ap (λ low. low ++ p ∷ []) (below_first p ps up)
     down_list p ps (y ∷ l) up later h =
-        ap (behind (p ∷ ps)) (last-cons p y l) ∙ behind-cons p ps (last_of (y ∷ l)) (last-later p y l later) ∙ ap (λ rest. p ∷ rest) h
+        ap (following (p ∷ ps)) (last-cons p y l) ∙ following-cons p ps (last_of (y ∷ l)) (last-later p y l later) ∙ ap (λ rest. p ∷ rest) h
 
-    down_first : (p : Pair V) (ps : List (Pair V)) (b : Bool) → Down t → AreAscending (p ∷ ps) → t p ≡ b → behind ps (last_of (filter t ps)) ≡ filter t ps
-        → behind (p ∷ ps) (last_of (cond b (p ∷ filter t ps) (filter t ps))) ≡ cond b (p ∷ filter t ps) (filter t ps)
+    down_first : (p : Pair V) (ps : List (Pair V)) (b : Bool) → Down t → AreAscending (p ∷ ps) → t p ≡ b → following ps (last_of (filter t ps)) ≡ filter t ps
+        → following (p ∷ ps) (last_of (cond b (p ∷ filter t ps) (filter t ps))) ≡ cond b (p ∷ filter t ps) (filter t ps)
     down_first p ps true closed up e h = down_list p ps (filter t ps) up (All-filter t (λ q. Rises p q) ps (AllPairs-first Rises p ps up)) h
     down_first p ps false closed up e h =
         let none : filter t ps ≡ [] = filter-empty t ps (λ k d l. closed p (get_or ps k d) (AllPairs-first Rises p ps up k d l) e) in
-        subst (λ l. behind (p ∷ ps) (last_of l) ≡ l) (sym none) refl
+        subst (λ l. following (p ∷ ps) (last_of l) ≡ l) (sym none) refl
 
     -- the last pair that passes and those before it are all that pass
-    pub behind-filter : (pairs : List (Pair V)) → Down t → AreAscending pairs → behind pairs (last_of (filter t pairs)) ≡ filter t pairs
-    behind-filter [] closed up = refl
-    behind-filter (p ∷ ps) closed up = down_first p ps (t p) closed up refl (behind-filter ps closed (AllPairs-rest Rises p ps up))
+    pub following-filter : (pairs : List (Pair V)) → Down t → AreAscending pairs → following pairs (last_of (filter t pairs)) ≡ filter t pairs
+    following-filter [] closed up = refl
+    following-filter (p ∷ ps) closed up = down_first p ps (t p) closed up refl (following-filter ps closed (AllPairs-rest Rises p ps up))
 
-  pub behind-all : (pairs : List (Pair V)) → AreAscending pairs → behind pairs (last_of pairs) ≡ pairs
-  behind-all pairs up =
+  pub following-all : (pairs : List (Pair V)) → AreAscending pairs → following pairs (last_of pairs) ≡ pairs
+  following-all pairs up =
       let whole : filter (λ (p : Pair V). true) pairs ≡ pairs = filter-whole (λ (p : Pair V). true) pairs (λ k d l. refl) in
-      ap (λ l. behind pairs (last_of l)) (sym whole) ∙ behind-filter (λ (p : Pair V). true) pairs (λ p q l e. cc) up ∙ whole
+      ap (λ l. following pairs (last_of l)) (sym whole) ∙ following-filter (λ (p : Pair V). true) pairs (λ p q l e. cc) up ∙ whole
 
   -- the pairs above and below a key, and those from values on
   pub up-above : (key : List Datum) → Up (λ p. is_gt (key_order p.key key))

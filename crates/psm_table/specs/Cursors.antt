@@ -66,6 +66,6 @@ row_at key rows (Some bound) = row_of_key key bound rows
 abbrev pub current : List ℕ → List (List Datum) → Position → Option (List Datum)
 current key rows p = if p.is_on_row then row_at key rows p.bound else None
 
--- behind a positioned DELETE, or a positioned UPDATE of the key, it stands on no row until it is moved
+-- after a positioned DELETE, or a positioned UPDATE of the key, it stands on no row until it is moved
 abbrev pub without_row : Position → Position
 without_row p = record p { is_on_row = false }

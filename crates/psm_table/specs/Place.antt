@@ -61,6 +61,6 @@ module _ {V : Type 0} where
   ahead pairs (Some p) = p ∷ pairs_above p.key pairs
 
   -- a pair and those before it
-  abbrev pub behind : List (Pair V) → Option (Pair V) → List (Pair V)
-  behind pairs None = []
-  behind pairs (Some p) = pairs_below p.key pairs ++ p ∷ []
+  abbrev pub following : List (Pair V) → Option (Pair V) → List (Pair V)
+  following pairs None = []
+  following pairs (Some p) = pairs_below p.key pairs ++ p ∷ []

@@ -82,19 +82,19 @@ summed None = ranged None
 abbrev pub comes_before : Datum → Datum → Bool
 comes_before a b = is_lt (data_order a b)
 
-abbrev pub comes_behind : Datum → Datum → Bool
-comes_behind a b = is_lt (data_order b a)
+abbrev pub comes_after : Datum → Datum → Bool
+comes_after a b = is_lt (data_order b a)
 
--- the first of the values than which none comes before, or, with the order turned, none behind
+-- the first of the values than which none comes before, or, with the order turned, none after
 abbrev pub first_by : (Datum → Datum → Bool) → Datum → List Datum → Datum
 first_by less v [] = v
 first_by less v (w ∷ ws) = first_by less (if less w v then w else v) ws
 
--- so many
+-- n
 abbrev pub whole : ℕ → Datum
 whole n = data_of.Num (record { coef = pos n; scale = 0 })
 
--- a sum over so many values, cut toward zero at its scale
+-- a sum over n values, cut toward zero at its scale
 abbrev pub averaged : Option Num → ℕ → Result Datum SqlState
 averaged (Some n) count = Ok (data_of.Num (record { coef = int_div n.coef (pos count); scale = n.scale }))
 averaged None count = ranged None
@@ -107,7 +107,7 @@ function_of Sum (v ∷ vs) = summed (sum_of (Some (number_of v)) vs)
 function_of Min [] = Ok data_of.Null
 function_of Min (v ∷ vs) = Ok (first_by comes_before v vs)
 function_of Max [] = Ok data_of.Null
-function_of Max (v ∷ vs) = Ok (first_by comes_behind v vs)
+function_of Max (v ∷ vs) = Ok (first_by comes_after v vs)
 function_of Avg [] = Ok data_of.Null
 function_of Avg (v ∷ vs) = averaged (sum_of (Some (number_of v)) vs) (length (v ∷ vs))
 
@@ -156,7 +156,7 @@ finished rows i (a ∷ others) = and_then (function_of a.function (known (column
 abbrev pub has_nulls : List (List Datum) → Bool
 has_nulls rows = list_any (list_any is_null) rows
 
--- what stands behind the walk: the set functions are finished after the last row
+-- what stands after the walk: the set functions are finished after the last row
 abbrev pub answered : {E : Type 0} → Evaluator E → Option E → Items E → List (List Datum) → Result Answer SqlState
 answered ev test (Rows items) rows = mapped (λ found. record { rows = found; skipped = false }) (walked (test_of ev test) (values_of ev items) rows)
 answered ev test (Sets sets) rows = and_then (walked (test_of ev test) (operands_of ev sets) rows) (λ found.

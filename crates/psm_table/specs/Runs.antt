@@ -6,7 +6,7 @@ use Rattle.psm_table.specs.declared.map.Pair.{Pair}
 use Rattle.psm_num.specs.Num.{Num}
 use Rattle.psm_table.specs.Key.{key_order, number_of}
 
--- a run has memory for so many pairs
+-- a run has memory for n pairs
 abbrev pub most_pairs : ℕ
 most_pairs = 64
 

@@ -43,7 +43,7 @@ pub record KeepsAtMost (most : ℕ) (s : State) : Type 0 where
   pub places : length s.places ≤ most
   pub entries : All (λ es. length es ≤ most) s.entries
 
--- so many rows that are not in the table may be kept at any size of it
+-- n rows that are not in the table may be kept at any size of it
 abbrev pub few_left : ℕ
 few_left = 64
 

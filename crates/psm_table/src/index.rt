@@ -191,7 +191,7 @@ fn has_rival_in(
     false
 }
 
-/// What follows so many values of an entry.
+/// What follows n values of an entry.
 fn key_part(entry: &[Datum], width: usize) -> &[Datum]
     ensures { result.now ≡ drop width entry.now }
 {

@@ -4,7 +4,7 @@ ghost use Rattle.std.specs.Option.{option_copied, ForSome};
 ghost use Rattle.psm_table.specs.Held.{live_rows, row_of};
 ghost use Rattle.psm_table.specs.Key.{values_at, AreColumnsOf};
 ghost use Rattle.psm_table.specs.Map.{value_of, AreAscending, pairs_from, pairs_above, pairs_below, with_pair, with_value};
-ghost use Rattle.psm_table.specs.Place.{ahead, behind, pairs_past, pairs_short_of, probe_key, FitsProbe, StandsAt};
+ghost use Rattle.psm_table.specs.Place.{ahead, following, pairs_past, pairs_short_of, probe_key, FitsProbe, StandsAt};
 ghost use Rattle.psm_value.specs.declared.datum.Datum.{Datum};
 ghost use Rattle.psm_table.specs.declared.map.Pair.{Pair};
 ghost use Rattle.psm_table.specs.Rows.{last_of};
@@ -361,8 +361,8 @@ impl OrderedMap<Option<Row>> {
         ensures { option_copied result ≡ last_of (live_rows (pairs_short_of probe.entry self.now.pairs)) }
     {
         match probe {
-            Some(probe) => self.row_behind(self.before(probe)),
-            None => self.row_behind(self.last()),
+            Some(probe) => self.row_following(self.before(probe)),
+            None => self.row_following(self.last()),
         }
     }
 
@@ -381,8 +381,8 @@ impl OrderedMap<Option<Row>> {
     }
 
     /// The last row up to a pair.
-    fn row_behind<'a>(&'a self, pair: Option<&'a Pair<Option<Row>>>) -> Option<&'a Row>
-        ensures { option_copied result ≡ last_of (live_rows (behind self.now.pairs (option_copied pair.entry))) }
+    fn row_following<'a>(&'a self, pair: Option<&'a Pair<Option<Row>>>) -> Option<&'a Row>
+        ensures { option_copied result ≡ last_of (live_rows (following self.now.pairs (option_copied pair.entry))) }
     {
         let mut next = pair;
         while let Some(pair) = next {

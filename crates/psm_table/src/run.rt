@@ -24,7 +24,7 @@ use std::cmp::Ordering;
 use std::marker::Model;
 use std::mem;
 
-/// A run has memory for so many pairs.
+/// A run has memory for n pairs.
 const MOST_PAIRS: usize = 64;
 
 /// Pairs in ascending order of their keys.

@@ -24,7 +24,7 @@ use std::sync::ledger::Ledger;
 
 const MOST_ROWS: u32 = 200_000;
 
-/// So many rows more than the table has may be kept after `settle`.
+/// N rows more than the table has may be kept after `settle`.
 const FEW_LEFT: u64 = 64;
 
 /// A table: its definition, which no call changes, and its rows in ascending order of their keys.
@@ -283,7 +283,7 @@ impl Table {
     }
 
     /// The first row whose key is greater than that of a row, which need not be the table's. It takes no memory.
-    pub fn row_behind(&self, row: &Row) -> Option<&Row>
+    pub fn row_following(&self, row: &Row) -> Option<&Row>
         requires { HasColumns self.now.contents.def row.now }
         ensures row { option_copied result ≡ row_after self.now.contents.def.key (Some (values_at self.now.contents.def.key row.now)) self.now.contents.rows }
         ensures fits { IfSome result (λ row. IsRow self.now.contents.def row.now) }

@@ -12,7 +12,7 @@ use Rattle.psm_exprcode.specs.declared.op.Op.TheVariants as op
 use Rattle.psm_exprcode.specs.declared.operand.Operand.{Operand}
 use Rattle.psm_exprcode.specs.declared.operand.Operand.TheVariants.{Value, Truth}
 use Rattle.psm_exprcode.specs.declared.operand.Next.TheVariants.{Ahead, Jump}
-use Rattle.psm_exprcode.specs.Applied.{applied, combines, on_three, on_value, truth_of_two, with_named, with_truth, Applied, Went, Raised, Lacking}
+use Rattle.psm_exprcode.specs.Applied.{applied, combines, on_three, on_value, truth_of_two, with_named, with_truth, Applied, Went, Raised, Stuck}
 use Rattle.psm_exprcode.specs.Comparison as comparison
 use Rattle.psm_exprcode.specs.Comparison.{between}
 use Rattle.psm_exprcode.specs.Evaluated.{goes_on, place_after, ran, Outcome}
@@ -29,7 +29,7 @@ abbrev pub Goes : List Operand → Applied → Type 0
 Goes os (Went Ahead new) = all_true new ≡ true → all_true os ≡ true
 Goes os (Went (Jump p) new) = ⊥
 Goes os (Raised state) = ⊥
-Goes os Lacking = Unit {0}
+Goes os Stuck = Unit {0}
 
 named_goes : (os : List Operand) (o : Option Datum) → Goes os (with_named os o)
 named_goes os (Some d) = λ h. h
@@ -147,7 +147,7 @@ module _ (row vars : List Datum) where
   quiet_on n lines os s (Went Ahead new) g rest e = rest new e
   quiet_on n lines os s (Went (Jump p) new) g rest e = g
   quiet_on n lines os s (Raised state) g rest e = g
-  quiet_on n lines os s Lacking g rest e = absurd (cc)
+  quiet_on n lines os s Stuck g rest e = absurd (cc)
 
   pub raises_nothing : (n : ℕ) (lines : List Line) (os : List Operand) (s : List ℕ) → is_conjunction lines ≡ true → run n lines os ≡ Some (Err s) → ⊥
   raises_nothing n [] [] s h e = absurd (cc)
@@ -168,9 +168,9 @@ module _ (row vars : List Datum) where
   meets_on n lines os (Went Ahead new) g e = (new, refl, e)
   meets_on n lines os (Went (Jump p) new) g e = absurd g
   meets_on n lines os (Raised state) g e = absurd g
-  meets_on n lines os Lacking g e = absurd (cc)
+  meets_on n lines os Stuck g e = absurd (cc)
 
-  -- the operands behind the first line
+  -- the operands after the first line
   pub meets_next : (n : ℕ) (l : Line) (lines : List Line) (os : List Operand) → is_conjunction (l ∷ lines) ≡ true → Meets n (l ∷ lines) os
       → (new : List Operand) × (applied l.op os row vars ≡ Went Ahead new) × Meets (suc n) lines new
   meets_next n l lines os h e =

@@ -23,7 +23,7 @@ use Rattle.psm_exprcode.specs.Kinds.{are_of, has_letter, letter_of}
 use Rattle.psm_exprcode.specs.WellFormed.{does_fit}
 use Rattle.psm_table.specs.Definition.{AreOfFamilies, HasColumns, IsRow, kinds_of}
 use Rattle.psm_table.specs.declared.definition.TableDef.{TableDef}
-use Rattle.psm_tablecode.specs.Suits.{fits_query, give_items, gives_operand, gives_set, gives_truth, gives_value, letters_of, Runs, RunItems, SuitsRow, SuitsTable}
+use Rattle.psm_tablecode.specs.TypeChecks.{fits_query, give_items, gives_operand, gives_set, gives_truth, gives_value, letters_of, Runs, RunItems, TypeChecksRow, TypeChecksTable}
 
 -- ---- rows
 
@@ -116,12 +116,12 @@ module _ (columns variables : List Letter) (row vars : List Datum) (r : are_of c
   item_runs (Rows codes) h = values_run codes h
   item_runs (Sets sets) h = λ k d l. set_runs (get_or sets k d).function (get_or sets k d).operand (AllPass-from_list_all (gives_set columns variables) sets h k d l)
 
-  pub query_runs : (query : Query) → IsTrue (fits_query columns variables query) → SuitsRow query row vars
+  pub query_runs : (query : Query) → IsTrue (fits_query columns variables query) → TypeChecksRow query row vars
   query_runs query h = record {
     test = test_runs query.test (first_of_both (option_map_or (gives_truth columns variables) query.test true) (give_items columns variables query.items) h);
     items = item_runs query.items (second_of_both (option_map_or (gives_truth columns variables) query.test true) (give_items columns variables query.items) h);
   }
 
--- a query that suits a table suits each of its rows
-pub suits_row : (query : Query) (vars : List Datum) (def : TableDef) (row : List Datum) → SuitsTable query vars def → IsRow def row → SuitsRow query row vars
-suits_row query vars def row s h = query_runs (letters_of def) s.variables row vars (row_letters def row h) s.kinds query s.fits
+-- a query that type-checks over a table type-checks over each of its rows
+pub type_checks_row : (query : Query) (vars : List Datum) (def : TableDef) (row : List Datum) → TypeChecksTable query vars def → IsRow def row → TypeChecksRow query row vars
+type_checks_row query vars def row s h = query_runs (letters_of def) s.variables row vars (row_letters def row h) s.kinds query s.fits

@@ -21,7 +21,7 @@ use Rattle.psm_table.proofs.Undo.{after_equal}
 use Rattle.psm_tablecode.specs.Asked.{key_asked, rows_from, rows_of, walk_for}
 use Rattle.psm_tablecode.specs.Codes.{over}
 use Rattle.psm_tablecode.specs.declared.walking.Walk.{Walk}
-use Rattle.psm_tablecode.proofs.Turned.{filter-reverse}
+use Rattle.psm_tablecode.proofs.Stepped.{filter-reverse}
 use Rattle.psm_tablecode.proofs.Results.{mapped-same}
 use Rattle.psm_tablecode.proofs.Sought.{asked_only, asked_quiet}
 

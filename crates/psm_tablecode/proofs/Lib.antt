@@ -1,10 +1,10 @@
 pub mod Collecting
-pub mod Comings
+pub mod RemainingRowsLaws
 pub mod Conjunctions
 pub mod Faults
 pub mod Fitting
 pub mod KeyWalks
 pub mod Results
 pub mod Sought
-pub mod Turned
+pub mod Stepped
 pub mod Windows

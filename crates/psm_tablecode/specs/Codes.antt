@@ -19,7 +19,7 @@ use Rattle.psm_table.specs.Queries as q
 
 -- ---- expressions
 
--- the value to which an expression comes; code that suits its row comes to one, or raises a condition
+-- the value to which an expression comes; code that type-checks over its row evaluates to one, or raises a condition
 abbrev pub value_in : Outcome → Result Datum SqlState
 value_in (Some (Ok (Value d))) = Ok d
 value_in (Some (Ok (Truth t))) = Ok Null

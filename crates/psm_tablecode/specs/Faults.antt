@@ -13,13 +13,13 @@ abbrev pub IsRaised : {A : Type 0} → Result A SqlState → Entries → Type 0
 IsRaised (Ok a) condition = ⊥
 IsRaised (Err state) condition = condition ≡ alone (entry_of state)
 
--- the answer, or the condition, is the one that is due, but for want of memory
+-- the answer, or the condition, is the one that is due, unless memory runs out
 abbrev pub Answers : {A : Type 0} → Result A SqlState → Result A DataFault → Type 0
 Answers due (Ok a) = due ≡ Ok a
 Answers due (Err (Raised condition)) = IsRaised due condition
 Answers due (Err Memory) = Unit {0}
 
--- the fault of a statement is that of its evaluation, but for want of memory
+-- the fault of a statement is that of its evaluation, unless memory runs out
 abbrev pub Tells : ValueFault → DataFault → Type 0
 Tells (value_fault.Condition state) (Raised condition) = condition ≡ alone (entry_of state)
 Tells (value_fault.Condition state) Memory = Unit {0}

@@ -1,7 +1,7 @@
 pub mod Asked
 pub mod Codes
-pub mod Coming
+pub mod RemainingRows
 pub mod Faults
 pub mod NewRows
 pub mod Rows
-pub mod Suits
+pub mod TypeChecks

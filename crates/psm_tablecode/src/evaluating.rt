@@ -1,11 +1,11 @@
-//! What code comes to on a row, and what a query takes of one. The operand stack is lent, so that many rows need one.
+//! What code evaluates to on a row, and what a query takes of one. The operand stack is lent, so that many rows need one.
 ghost use Rattle.std.specs.Prelude.{◌≡◌, All, IfSome};
 ghost use Rattle.psm_value.specs.Answer.{Gives};
 ghost use Rattle.psm_table.specs.Evaluator.{collected, mapped, test_of, values_of};
 ghost use Rattle.psm_table.specs.Queries.{is_met, operand_of, taken as taken_of};
 ghost use Rattle.psm_tablecode.specs.Codes.{over, truth_in, value_in};
 ghost use Rattle.psm_tablecode.specs.Rows.{values_for};
-ghost use Rattle.psm_tablecode.specs.Suits.{Runs, RunItems, SuitsRow};
+ghost use Rattle.psm_tablecode.specs.TypeChecks.{Runs, RunItems, TypeChecksRow};
 ghost use Rattle.psm_exprcode.specs.Evaluated.{evaluated};
 
 use psm_exprcode::{Aggregate, ExprCode, Items, Operand, Query, eval_on};
@@ -22,7 +22,7 @@ pub fn taken(
     row: &Row,
     vars: &[Datum],
 ) -> Result<Option<Row>, ValueFault>
-    requires { SuitsRow query.now row.now vars.now }
+    requires { TypeChecksRow query.now row.now vars.now }
     ensures { Gives (taken_of (test_of (over vars.now) query.now.test) (values_for vars.now query.now.items) row.now) result }
 {
     if meets(alloc, stack, &query.test, row.values(), vars)? {

@@ -1,4 +1,4 @@
-//! Code of expressions over the rows of a table: what it comes to on a row, what a query takes of one, and walks over
+//! Code of expressions over the rows of a table: what it evaluates to on a row, what a query takes of one, and walks over
 //! the rows (ISO/IEC 9075:1992, clauses 6 to 8).
 #![tactic(auto)]
 
@@ -6,7 +6,7 @@ mod asking;
 mod evaluating;
 mod laws;
 mod raising;
-mod suiting;
+mod typing;
 mod walking;
 
 pub use evaluating::{meets, taken, truth, value, values};
@@ -14,5 +14,5 @@ pub use laws::access_by_key;
 pub use psm_cond::DataFault;
 pub use psm_exprcode::{Aggregate, ExprCode, Items, Operand, Query, SetFunction};
 pub use raising::raised;
-pub use suiting::{column_letters, gives_truth, gives_value, suits};
+pub use typing::{column_letters, gives_truth, gives_value, type_checks};
 pub use walking::{Coming, Walk, walk_of};

@@ -5,7 +5,7 @@ use psm_cond::{Condition, DataFault};
 use psm_value::ValueFault;
 use std::alloc::Global;
 
-/// The fault of a statement whose evaluation fails: the condition of the SQLSTATE alone, or want of memory.
+/// The fault of a statement whose evaluation fails: the condition of the SQLSTATE alone, or out of memory.
 pub fn raised(alloc: Global, fault: &ValueFault) -> DataFault
     ensures { Tells fault.now result }
 {

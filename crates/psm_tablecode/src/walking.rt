@@ -4,7 +4,7 @@ ghost use Rattle.std.specs.Option.{option_copied};
 ghost use Rattle.psm_table.specs.Definition.{IsKey, IsRow};
 ghost use Rattle.psm_table.specs.Table.{IsTable};
 ghost use Rattle.psm_tablecode.specs.Asked.{rows_of, walk_for};
-ghost use Rattle.psm_tablecode.specs.Coming.{rows_coming};
+ghost use Rattle.psm_tablecode.specs.RemainingRows.{rows_coming};
 
 use crate::asking::key_asked;
 use psm_exprcode::ExprCode;
@@ -51,7 +51,7 @@ pub enum Coming<'a> {
 
 impl<'a> Coming<'a> {
     /// All rows of a walk over a table. It takes no memory.
-    #[tactic(auto, using(crate::proofs::Comings::of_key, crate::proofs::Comings::of_all, crate::proofs::Comings::coming_fit))]
+    #[tactic(auto, using(crate::proofs::RemainingRowsLaws::of_key, crate::proofs::RemainingRowsLaws::of_all, crate::proofs::RemainingRowsLaws::coming_fit))]
     pub fn of(table: &'a Table, walk: &Walk) -> Coming<'a>
         requires { IfSome walk.now.key (IsKey table.now.contents.def) }
         ensures rows { rows_coming result ≡ rows_of table.now.contents walk.now }

@@ -12,7 +12,7 @@ name_of t = if nat_eq (length t) 0 then Err Empty else if nat_le (length t) 128 
 abbrev pub named : List ℕ → Result (List ℕ) NameFault
 named bytes = name_of (chars bytes)
 
--- the answer is the one that is due, but for want of memory
+-- the answer is the one that is due, unless memory runs out
 abbrev pub GivesName : Result (List ℕ) NameFault → Result (List ℕ) NameFault → Type 0
 GivesName due (Ok t) = due ≡ Ok t
 GivesName due (Err Memory) = ⊤

@@ -9,7 +9,7 @@ use Rattle.psm_text.specs.declared.parts.Side.TheVariants.{Leading, Trailing, Bo
 use Rattle.psm_text.specs.Order.{blank}
 use Rattle.psm_text.specs.Text.{within_most}
 
--- the one text behind the other
+-- the one text after the other
 abbrev pub joined : List ℕ → List ℕ → Result (List ℕ) TextFault
 joined a b = within_most (a ++ b)
 

@@ -8,7 +8,7 @@ use Rattle.psm_text.specs.declared.fault.TextFault.TheVariants.{TooLong, Substri
 abbrev pub most : ℕ
 most = 4000
 
--- the answer is the one that is due, but for want of memory
+-- the answer is the one that is due, unless memory runs out
 abbrev pub Gives : Result (List ℕ) TextFault → Result (List ℕ) TextFault → Type 0
 Gives due (Ok t) = due ≡ Ok t
 Gives due (Err Memory) = ⊤

@@ -18,7 +18,7 @@ pub enum Side {
 }
 
 impl Text {
-    /// The other text behind this one (ISO/IEC 9075:1992, 6.13). `TooLong` comes exactly where that has
+    /// The other text after this one (ISO/IEC 9075:1992, 6.13). `TooLong` comes exactly where that has
     /// more than 4000 characters, also where only blanks are too many.
     pub fn concat(&self, alloc: Global, other: &Text) -> Result<Text, TextFault>
         ensures { Gives (joined self.now other.now) result }

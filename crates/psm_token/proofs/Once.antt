@@ -16,7 +16,7 @@ use Rattle.psm_token.specs.Fronts.{front_of}
 use Rattle.psm_token.specs.Listed.{Tokens}
 use Rattle.psm_token.specs.Places.{start, place_after}
 use Rattle.psm_token.specs.Answers.{OrMemory}
-use Rattle.psm_token.specs.Spells.{At, at_start, behind, Piece, Pieces, Reaches, Spells, HasToken, StopsAt, IsTokenFault, IsFirstFault, most_tokens}
+use Rattle.psm_token.specs.Spells.{At, at_start, following, Piece, Pieces, Reaches, Spells, HasToken, StopsAt, IsTokenFault, IsFirstFault, most_tokens}
 use Rattle.psm_token.specs.Answers.{GivesTokens, GivesFault}
 use Rattle.psm_token.specs.Tokens.{is_name}
 use Rattle.psm_token.proofs.TokenOnce.{token_once, gap_once, gap_token, faulty_gap, faulty_token, faulty_once}
@@ -24,13 +24,13 @@ use Rattle.psm_token.proofs.TokenOnce.{token_once, gap_once, gap_token, faulty_g
 piece_once : (s : At) (ts us : List Placed) (s1 s2 : At) → Piece s ts s1 → Piece s us s2 → (ts ≡ us) × (s1 ≡ s2)
 piece_once s ts us s1 s2 (inl g) (inl h) =
     let e = gap_once (front_of s.after_name s.rest) s.rest g.size h.size g.form h.form in
-    (g.nothing ∙ sym h.nothing, g.leads ∙ ap (λ (n : ℕ). behind n false s) e ∙ sym h.leads)
+    (g.nothing ∙ sym h.nothing, g.leads ∙ ap (λ (n : ℕ). following n false s) e ∙ sym h.leads)
 piece_once s ts us s1 s2 (inl g) (inr h) = absurd (gap_token (front_of s.after_name s.rest) s.rest g.size h.size h.token g.form h.form)
 piece_once s ts us s1 s2 (inr g) (inl h) = absurd (gap_token (front_of s.after_name s.rest) s.rest h.size g.size g.token h.form g.form)
 piece_once s ts us s1 s2 (inr g) (inr h) =
     let e = token_once (front_of s.after_name s.rest) s.rest g.size h.size g.token h.token g.form h.form in
     let one : Token → List Placed = λ t. record { token = t; place = s.place } ∷ [] in
-    (g.listed ∙ ap one e.1 ∙ sym h.listed, g.leads ∙ ap (λ (n : ℕ). behind n (is_name g.token) s) e.0 ∙ ap (λ (t : Token). behind h.size (is_name t) s) e.1 ∙ sym h.leads)
+    (g.listed ∙ ap one e.1 ∙ sym h.listed, g.leads ∙ ap (λ (n : ℕ). following n (is_name g.token) s) e.0 ∙ ap (λ (t : Token). following h.size (is_name t) s) e.1 ∙ sym h.leads)
 
 pieces_once : (n : ℕ) (s : At) (ts us : List Placed) (s1 s2 : At) → Pieces n s ts s1 → Pieces n s us s2 → (ts ≡ us) × (s1 ≡ s2)
 pieces_once zero s ts us s1 s2 h k = (h.0 ∙ sym k.0, h.1 ∙ sym k.1)
@@ -39,7 +39,7 @@ pieces_once (suc n) s ts us s1 s2 h k =
     let d = piece_once k.0 h.2 k.2 s1 s2 (subst (λ (m : At). Piece m h.2 s1) e.1 h.4) k.4 in
     (h.5 ∙ ap (λ (l : List Placed). l ++ h.2) e.0 ∙ ap (λ (l : List Placed). k.1 ++ l) d.0 ∙ sym k.5, d.1)
 
--- more pieces begin with fewer, and a piece behind them
+-- more pieces begin with fewer, and a piece after them
 record Longer (n : ℕ) (s : At) (ts : List Placed) : Type 0 where
   front : List Placed
   next : List Placed

@@ -99,8 +99,8 @@ module _ (quote : ℕ) where
       ∙ same_end kept (kept ++ []) (n + 1) (n + 0 + 1) (sym (append-nil kept)) (omega arith)
   inside_again kept n (c ∷ more) rest h = by (eqb c quote) refl (λ k. inside_again (kept ++ c ∷ []) k more rest h)
     where
-      behind : List ℕ
-      behind = doubled quote more ++ quote ∷ rest
+      following : List ℕ
+      following = doubled quote more ++ quote ∷ rest
 
       by : (b : Bool) → eqb c quote ≡ b
           → ((k : ℕ) → read_inside quote (kept ++ c ∷ []) k (doubled quote more ++ quote ∷ rest) ≡ ends_at ((kept ++ c ∷ []) ++ more) (k + length (doubled quote more) + 1))
@@ -173,10 +173,10 @@ pub kept_start : (quote limit : ℕ) (rest kept : List ℕ) → kept ≡ [] → 
 kept_start quote zero rest kept e = record { all = []; reading = refl; first = e; counted = refl }
 kept_start quote (suc limit) rest kept e = record { all = []; reading = refl; first = e; counted = refl }
 
-pub kept_next : (quote limit : ℕ) (rest kept after left behind : List ℕ) (size n c k : ℕ) → KeptSo quote limit rest kept size n left
-    → ((all : List ℕ) (m : ℕ) → read_inside quote all m left ≡ read_inside quote (all ++ c ∷ []) (m + k) behind)
-    → after ≡ cond (ltb size limit) (kept ++ c ∷ []) kept → KeptSo quote limit rest after (size + 1) (n + k) behind
-kept_next quote limit rest kept after left behind size n c k r step e =
+pub kept_next : (quote limit : ℕ) (rest kept after left following : List ℕ) (size n c k : ℕ) → KeptSo quote limit rest kept size n left
+    → ((all : List ℕ) (m : ℕ) → read_inside quote all m left ≡ read_inside quote (all ++ c ∷ []) (m + k) following)
+    → after ≡ cond (ltb size limit) (kept ++ c ∷ []) kept → KeptSo quote limit rest after (size + 1) (n + k) following
+kept_next quote limit rest kept after left following size n c k r step e =
     record { all = r.all ++ c ∷ []; reading = r.reading ∙ step r.all n; first = e ∙ by (ltb size limit) refl; counted = omega (arith, r.counted, length_push r.all c) }
   where
     by : (b : Bool) → ltb size limit ≡ b → cond b (kept ++ c ∷ []) kept ≡ take limit (r.all ++ c ∷ [])

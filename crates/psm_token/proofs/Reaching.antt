@@ -20,7 +20,7 @@ use Rattle.psm_token.specs.Characters.{is_separator, is_name_part, begins}
 use Rattle.psm_token.specs.Faults.{IsFaulty}
 use Rattle.psm_token.specs.Forms.{IsToken, IsGap, name_len}
 use Rattle.psm_token.specs.Fronts.{front_of}
-use Rattle.psm_token.specs.Numbers.{digits_at, behind_digits, is_point, fraction_at, literal_len}
+use Rattle.psm_token.specs.Numbers.{digits_at, after_digits, is_point, fraction_at, literal_len}
 use Rattle.psm_token.specs.Places.{start, place_after}
 use Rattle.psm_token.specs.Answers.{OrMemory}
 use Rattle.psm_token.specs.Reading.{PieceRead}
@@ -117,8 +117,8 @@ digit_some a cs h =
       digit_front a cs h,
       take_within (literal_len cs) cs,
       ap length (take_literal cs),
-      length-append (digits_at cs ++ point_text (begins is_point (behind_digits cs))) (fraction_at (behind_digits cs)),
-      length-append (digits_at cs) (point_text (begins is_point (behind_digits cs))),
+      length-append (digits_at cs ++ point_text (begins is_point (after_digits cs))) (fraction_at (after_digits cs)),
+      length-append (digits_at cs) (point_text (begins is_point (after_digits cs))),
     )
 
 token_some : (a : Bool) (cs : List ℕ) (n : ℕ) (t : Token) (f : Front) → front_of a cs ≡ f → IsToken f cs n t → 0 < n

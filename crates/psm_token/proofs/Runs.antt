@@ -16,7 +16,7 @@ use Rattle.psm_num.specs.declared.fault.NumFault.{NumFault}
 use Rattle.psm_num.specs.declared.fault.NumFault.TheVariants.{Range}
 use Rattle.psm_token.specs.Characters.{is_name_part, begins}
 use Rattle.psm_token.specs.Forms.{folded, name_len}
-use Rattle.psm_token.specs.Numbers.{digits_at, behind_digits, is_point, fraction_at, literal_at, fraction_len, literal_len}
+use Rattle.psm_token.specs.Numbers.{digits_at, after_digits, is_point, fraction_at, literal_at, fraction_len, literal_len}
 
 -- a text of ASCII characters is these characters
 pub ascii_text : (bs cs : List ℕ) → IsUtf8 bs → chars bs ≡ cs → IsAscii cs → bs ≡ cs
@@ -104,14 +104,14 @@ point_ascii false i = omega arith
 
 pub take_literal : (cs : List ℕ) → take (literal_len cs) cs ≡ literal_text (literal_at cs)
 take_literal cs =
-    take-add (prefix_len is_ascii_digit cs) (fraction_len (behind_digits cs)) cs ∙ ap (λ (t : List ℕ). digits_at cs ++ t) (take_fraction (behind_digits cs))
-    ∙ sym (append_assoc (digits_at cs) (point_text (begins is_point (behind_digits cs))) (fraction_at (behind_digits cs)))
+    take-add (prefix_len is_ascii_digit cs) (fraction_len (after_digits cs)) cs ∙ ap (λ (t : List ℕ). digits_at cs ++ t) (take_fraction (after_digits cs))
+    ∙ sym (append_assoc (digits_at cs) (point_text (begins is_point (after_digits cs))) (fraction_at (after_digits cs)))
 
 literal_ascii : (cs : List ℕ) → IsAscii (literal_text (literal_at cs))
 literal_ascii cs =
-    IsAscii-append (digits_at cs ++ point_text (begins is_point (behind_digits cs))) (fraction_at (behind_digits cs))
-    (IsAscii-append (digits_at cs) (point_text (begins is_point (behind_digits cs))) (digits_ascii cs) (point_ascii (begins is_point (behind_digits cs))))
-    (fraction_ascii (behind_digits cs))
+    IsAscii-append (digits_at cs ++ point_text (begins is_point (after_digits cs))) (fraction_at (after_digits cs))
+    (IsAscii-append (digits_at cs) (point_text (begins is_point (after_digits cs))) (digits_ascii cs) (point_ascii (begins is_point (after_digits cs))))
+    (fraction_ascii (after_digits cs))
 
 -- the longest literal at the front is spelled there
 pub literal_spelled : (bs cs : List ℕ) (n : ℕ) → IsUtf8 bs → chars bs ≡ take n cs → n ≡ literal_len cs → 0 < literal_digits (literal_at cs) → Spells bs (literal_at cs)
@@ -120,9 +120,9 @@ literal_spelled bs cs n u e k some =
     record {
       form = record {
         whole_digits = run_all is_ascii_digit cs;
-        fraction_digits = fraction_digits (behind_digits cs);
+        fraction_digits = fraction_digits (after_digits cs);
         some_digit = some;
-        no_fraction = fraction_none (behind_digits cs);
+        no_fraction = fraction_none (after_digits cs);
       };
       spelling = sym (ascii_text bs (literal_text (literal_at cs)) u all (literal_ascii cs));
     }
@@ -137,7 +137,7 @@ fraction_most (c ∷ ds) = by (is_point c)
 
 -- all but one of a literal's characters are digits
 pub literal_most : (cs : List ℕ) → literal_len cs ≤ literal_digits (literal_at cs) + 1
-literal_most cs = omega (arith, length-prefix_len is_ascii_digit cs, fraction_most (behind_digits cs))
+literal_most cs = omega (arith, length-prefix_len is_ascii_digit cs, fraction_most (after_digits cs))
 
 pub number_ok : (l : Literal) (d : Num) → Ok d ≡ literal_number l → (literal_digits l ≤ 18) × (d ≡ literal_value l)
 number_ok l d h = by (leb (literal_digits l) 18) refl h

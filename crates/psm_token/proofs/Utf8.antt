@@ -32,7 +32,7 @@ start_room bs n u l h = let k = chars_within bs u in record { lines = omega arit
 pub start_room_of : (cs bs : List ℕ) (n : ℕ) → cs ≡ bs → IsUtf8 bs → length bs ≤ n → n < 4294967295 → HasRoom start (chars cs)
 start_room_of cs bs n e u l h = subst (λ (x : List ℕ). HasRoom start (chars x)) (sym e) (start_room bs n u l h)
 
--- the place behind as many characters as there are bytes
+-- the place after as many characters as there are bytes
 pub place_all : (cs bs : List ℕ) (n : ℕ) → cs ≡ bs → IsUtf8 bs → length bs ≤ n → place_after (take n (chars cs)) start ≡ place_after (chars bs) start
 place_all cs bs n e u l =
     let k : length (chars bs) ≤ n = omega (arith, chars_within bs u) in

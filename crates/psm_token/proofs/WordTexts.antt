@@ -5,7 +5,7 @@ use Rattle.std.specs.Cmp.Lexicographic.{bytes_decides}
 use Rattle.psm_token.specs.declared.word.Word.{Word}
 use Rattle.psm_token.specs.declared.word.Word.TheVariants.{And, As, Asc, Atomic, Avg, Begin, Between, Both, By, Call, Case, Cast, Char, Character, CharacterLength, CharLength, Check, Close, Coalesce, Commit, Condition, ConditionIdentifier, ConditionNumber, Constraint, Contains, Continue, Count, Create, Current, Cursor, CursorName, Data, Dec, Decimal, Declare, Default, Delete, Desc, Deterministic, Diagnostics, Do, Else, ElseIf, End, Escape, Exception, Exists, Exit, Fetch, For, Foreign, Found, From, Function, Get, Group, Handler, Having, If, In, Inner, InOut, Insensitive, Insert, Int, Integer, Into, Is, Iterate, Join, Key, Language, Leading, Leave, Like, Loop, Lower, Max, MessageLength, MessageText, Min, Modifies, Module, More, Next, Not, Null, NullIf, Number, Numeric, Of, On, Only, Open, Or, Order, Out, Position, Primary, Procedure, Read, Reads, References, Repeat, Resignal, Return, ReturnedSqlState, Returns, Rollback, RowCount, Select, Set, Signal, SmallInt, Sql, SqlException, SqlState, SqlWarning, Stacked, Substring, Sum, Table, TableName, Then, Trailing, Trim, Undo, Unique, Until, Update, Upper, Value, Values, VarChar, Varying, When, Where, While, Work}
 use Rattle.psm_token.specs.Words.{text_of}
-use Rattle.psm_token.specs.Lookup.{among, shelf_of, lookup}
+use Rattle.psm_token.specs.Lookup.{among, words_by_letter, lookup}
 
 pub lookup-text_of : (w : Word) → lookup (text_of w) ≡ Some w
 lookup-text_of And = refl
@@ -161,7 +161,7 @@ among_takes text (w ∷ words) x h = by (bytes_eq (text_of w) text) refl h (amon
 
 pub lookup_takes : (text : List ℕ) (x : Word) → lookup text ≡ Some x → text_of x ≡ text
 lookup_takes [] x h = absurd cc
-lookup_takes (c ∷ text) x h = among_takes (c ∷ text) (shelf_of c) x h
+lookup_takes (c ∷ text) x h = among_takes (c ∷ text) (words_by_letter c) x h
 
 -- two words have no text in common
 pub text_of_once : (w x : Word) → text_of w ≡ text_of x → w ≡ x

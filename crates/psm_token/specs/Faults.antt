@@ -26,7 +26,7 @@ abbrev pub NameFault : List ℕ → Place → LexFault → Type 0
 NameFault cs p (LongName q) = (most_in_name < name_len cs) × (q ≡ p)
 NameFault cs p _ = ⊥
 
--- a number has too many digits, or else a letter stands directly behind it
+-- a number has too many digits, or else a letter stands directly after it
 abbrev pub NumberFault : List ℕ → Place → LexFault → Type 0
 NumberFault cs p (LongNumber q) = (most_digits < literal_digits (literal_at cs)) × (q ≡ p)
 NumberFault cs p (BadChar q) = (literal_digits (literal_at cs) ≤ most_digits)

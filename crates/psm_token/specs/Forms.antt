@@ -56,7 +56,7 @@ pub record IsNameForm (cs : List ℕ) (n : ℕ) (t : Token) : Type 0 where
   pub limit : n ≤ most_in_name
   pub value : IsWord (folded (take n cs)) t
 
--- the first n characters are the longest literal, and no letter stands behind it
+-- the first n characters are the longest literal, and no letter stands after it
 pub record IsNumberForm (cs : List ℕ) (n : ℕ) (t : Token) : Type 0 where
   pub size : n ≡ literal_len cs
   pub limit : literal_digits (literal_at cs) ≤ most_digits

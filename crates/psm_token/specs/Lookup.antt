@@ -7,8 +7,8 @@ use Rattle.psm_token.specs.declared.word.Word.TheVariants.{And, As, Asc, Atomic,
 use Rattle.psm_token.specs.Words.{text_of}
 
 -- the words that begin with a letter
-abbrev pub shelf_of : ℕ → List Word
-shelf_of c =
+abbrev pub words_by_letter : ℕ → List Word
+words_by_letter c =
     if nat_eq c 65 then And ∷ As ∷ Asc ∷ Atomic ∷ Avg ∷ [] else
     if nat_eq c 66 then Begin ∷ Between ∷ Both ∷ By ∷ [] else
     if nat_eq c 67 then Call ∷ Case ∷ Cast ∷ Char ∷ Character ∷ CharacterLength ∷ CharLength ∷ Check ∷ Close ∷ Coalesce ∷ Commit ∷ Condition ∷ ConditionIdentifier ∷ ConditionNumber ∷ Constraint ∷ Contains ∷ Continue ∷ Count ∷ Create ∷ Current ∷ Cursor ∷ CursorName ∷ [] else
@@ -40,4 +40,4 @@ among text words = find (λ w. bytes_eq (text_of w) text) words
 -- the word of a text
 abbrev pub lookup : List ℕ → Option Word
 lookup [] = None
-lookup (c ∷ text) = among (c ∷ text) (shelf_of c)
+lookup (c ∷ text) = among (c ∷ text) (words_by_letter c)

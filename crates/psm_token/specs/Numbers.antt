@@ -5,18 +5,18 @@ use Rattle.std.specs.List.{prefix_len, take_while}
 use Rattle.psm_num.specs.Literal.{Literal}
 use Rattle.psm_token.specs.Characters.{begins}
 
--- the digits at the front, and what stands behind them
+-- the digits at the front, and what stands after them
 abbrev pub digits_at : List ℕ → List ℕ
 digits_at cs = take_while is_ascii_digit cs
 
-abbrev pub behind_digits : List ℕ → List ℕ
-behind_digits cs = drop (prefix_len is_ascii_digit cs) cs
+abbrev pub after_digits : List ℕ → List ℕ
+after_digits cs = drop (prefix_len is_ascii_digit cs) cs
 
 -- a full stop
 abbrev pub is_point : ℕ → Bool
 is_point c = nat_eq c 46
 
--- the digits behind a point at the front
+-- the digits after a point at the front
 abbrev pub fraction_at : List ℕ → List ℕ
 fraction_at [] = []
 fraction_at (c ∷ cs) = if is_point c then digits_at cs else []
@@ -26,15 +26,15 @@ abbrev pub literal_at : List ℕ → Literal
 literal_at cs = record {
   sign = None;
   whole = digits_at cs;
-  fraction = fraction_at (behind_digits cs);
-  pointed = begins is_point (behind_digits cs);
+  fraction = fraction_at (after_digits cs);
+  pointed = begins is_point (after_digits cs);
 }
 
--- how many characters a point at the front and the digits behind it are
+-- how many characters a point at the front and the digits after it are
 abbrev pub fraction_len : List ℕ → ℕ
 fraction_len [] = 0
 fraction_len (c ∷ cs) = if is_point c then 1 + prefix_len is_ascii_digit cs else 0
 
 -- how many characters the longest literal at the front has
 abbrev pub literal_len : List ℕ → ℕ
-literal_len cs = prefix_len is_ascii_digit cs + fraction_len (behind_digits cs)
+literal_len cs = prefix_len is_ascii_digit cs + fraction_len (after_digits cs)

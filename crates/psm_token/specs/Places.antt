@@ -6,16 +6,16 @@ use Rattle.psm_token.specs.declared.place.Place.{Place}
 abbrev pub start : Place
 start = record { line = 1; column = 1 }
 
--- the place behind a character
+-- the place after a character
 abbrev pub next_place : ℕ → Place → Place
 next_place c p = if nat_eq c 10 then record { line = p.line + 1; column = 1 } else record { line = p.line; column = p.column + 1 }
 
--- the place behind some characters
+-- the place after some characters
 abbrev pub place_after : List ℕ → Place → Place
 place_after [] p = p
 place_after (c ∷ cs) p = place_after cs (next_place c p)
 
--- so many characters have places of 32 bits from here on
+-- n characters have places of 32 bits from here on
 pub record HasRoom (p : Place) (cs : List ℕ) : Type 0 where
   pub lines : p.line + length cs < 2 ^ 32
   pub columns : p.column + length cs < 2 ^ 32

@@ -15,7 +15,7 @@ doubled_one quote c = if is_quote quote c then quote ∷ quote ∷ [] else c ∷
 abbrev pub doubled : ℕ → List ℕ → List ℕ
 doubled quote kept = flat_map (doubled_one quote) kept
 
--- the first n of the characters are a quote, the kept ones, and a quote behind which there is no other
+-- the first n of the characters are a quote, the kept ones, and a quote after which there is no other
 pub record Quoted (quote : ℕ) (cs : List ℕ) (n : ℕ) (kept : List ℕ) : Type 0 where
   pub rest : List ℕ
   pub spelled : cs ≡ quote ∷ (doubled quote kept ++ quote ∷ rest)

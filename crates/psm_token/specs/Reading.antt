@@ -1,4 +1,4 @@
--- What reading at the front of some characters answers: what stands there, its fault, or want of memory.
+-- What reading at the front of some characters answers: what stands there, its fault, or out of memory.
 use Rattle.std.specs.Prelude.{◌≡◌, ℕ, ◌<◌, ◌≤◌, List, [], take, String, string_bytes, Option, Some, None, Result, Ok, Err}
 use Rattle.std.specs.Global.{Global}
 use Rattle.std.specs.Str.{chars}

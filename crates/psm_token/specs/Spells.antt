@@ -24,16 +24,16 @@ pub record At : Type 0 where
 abbrev pub at_start : List ℕ → At
 at_start bytes = record { after_name = false; place = start; rest = chars bytes }
 
--- behind n characters more
-abbrev pub behind : ℕ → Bool → At → At
-behind n after_name s = record { after_name = after_name; place = place_after (take n s.rest) s.place; rest = drop n s.rest }
+-- after n characters more
+abbrev pub following : ℕ → Bool → At → At
+following n after_name s = record { after_name = after_name; place = place_after (take n s.rest) s.place; rest = drop n s.rest }
 
 -- a separator or a comment, and where it leads
 pub record Gap (s : At) (ts : List Placed) (s' : At) : Type 0 where
   pub size : ℕ
   pub form : IsGap (front_of s.after_name s.rest) s.rest size
   pub nothing : ts ≡ []
-  pub leads : s' ≡ behind size false s
+  pub leads : s' ≡ following size false s
 
 -- a token with its place, and where it leads
 pub record One (s : At) (ts : List Placed) (s' : At) : Type 0 where
@@ -41,13 +41,13 @@ pub record One (s : At) (ts : List Placed) (s' : At) : Type 0 where
   pub token : Token
   pub form : IsToken (front_of s.after_name s.rest) s.rest size token
   pub listed : ts ≡ record { token = token; place = s.place } ∷ []
-  pub leads : s' ≡ behind size (is_name token) s
+  pub leads : s' ≡ following size (is_name token) s
 
 -- what stands at the front: a separator, a comment or a token
 abbrev pub Piece : At → List Placed → At → Type 0
 Piece s ts s' = Gap s ts s' ⊎ One s ts s'
 
--- so many pieces, one behind the other
+-- n pieces, one after the other
 abbrev pub Pieces : ℕ → At → List Placed → At → Type 0
 Pieces zero s ts s' = (ts ≡ []) × (s' ≡ s)
 Pieces (suc n) s ts s' = (m : At) × (us : List Placed) × (vs : List Placed) × Pieces n s us m × Piece m vs s' × (ts ≡ us ++ vs)
@@ -74,7 +74,7 @@ pub record Spells (bytes : List ℕ) (ts : Tokens) : Type 0 where
 abbrev pub HasToken : At → Type 0
 HasToken s = (n : ℕ) × (t : Token) × IsToken (front_of s.after_name s.rest) s.rest n t
 
--- the token behind these ones is faulty, or it is one too many
+-- the token after these ones is faulty, or it is one too many
 abbrev pub StopsAt : List Placed → At → LexFault → Type 0
 StopsAt ts s (ManyTokens p) = (length ts ≡ most_tokens) × HasToken s × (p ≡ s.place)
 StopsAt ts s f = IsFaulty (front_of s.after_name s.rest) s.rest s.place f

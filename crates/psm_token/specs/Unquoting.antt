@@ -26,11 +26,11 @@ Shows quote cs Nothing = cs ≡ []
 Shows quote cs Close = (kept : List ℕ) (n : ℕ) → read_inside quote kept n cs ≡ Some (kept, n + 1)
 Shows quote cs (Kept c k rest) = (kept : List ℕ) (n : ℕ) → read_inside quote kept n cs ≡ read_inside quote (kept ++ c ∷ []) (n + k) (chars rest.now)
 
--- what a step behind a quote shows
-abbrev pub ShowsBehind : ℕ → List ℕ → Inside → Type 0
-ShowsBehind quote cs Nothing = ⊥
-ShowsBehind quote cs Close = (kept : List ℕ) (n : ℕ) → read_quote quote kept n cs ≡ Some (kept, n + 1)
-ShowsBehind quote cs (Kept c k rest) = (c ≡ quote) × ((kept : List ℕ) (n : ℕ) → read_quote quote kept n cs ≡ read_inside quote (kept ++ c ∷ []) (n + k) (chars rest.now))
+-- what a step after a quote shows
+abbrev pub ShowsAfter : ℕ → List ℕ → Inside → Type 0
+ShowsAfter quote cs Nothing = ⊥
+ShowsAfter quote cs Close = (kept : List ℕ) (n : ℕ) → read_quote quote kept n cs ≡ Some (kept, n + 1)
+ShowsAfter quote cs (Kept c k rest) = (c ≡ quote) × ((kept : List ℕ) (n : ℕ) → read_quote quote kept n cs ≡ read_inside quote (kept ++ c ∷ []) (n + k) (chars rest.now))
 
 -- a step takes some characters, and what follows is shorter by as many at least
 abbrev pub IsShorter : ℕ → Inside → Type 0

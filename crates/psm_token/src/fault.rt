@@ -11,7 +11,7 @@ use std::alloc::{AllocError, AllocFailed};
 pub enum LexFault {
     /// The first byte that is part of no character.
     BadUtf8(Place),
-    /// A character that begins no token, a letter directly behind a number, or the second quote of `""`.
+    /// A character that begins no token, a letter directly after a number, or the second quote of `""`.
     BadChar(Place),
     /// A text without an end.
     OpenText(Place),
@@ -23,7 +23,7 @@ pub enum LexFault {
     LongNumber(Place),
     /// A name of more than 128 characters.
     LongName(Place),
-    /// The token behind 2,000,000 others.
+    /// The token after 2,000,000 others.
     ManyTokens(Place),
     /// Memory ran out.
     Memory,

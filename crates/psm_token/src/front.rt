@@ -35,13 +35,13 @@ pub(crate) fn look(rest: &str, after_name: bool) -> Front
 {
     match first(rest) {
         None => Front::End,
-        Some((c, behind)) => look_at(c, behind, after_name),
+        Some((c, following)) => look_at(c, following, after_name),
     }
 }
 
 /// What begins with the character.
-fn look_at(c: char, behind: &str, after_name: bool) -> Front
-    ensures { result ≡ front_of after_name (c ∷ chars behind.now) }
+fn look_at(c: char, following: &str, after_name: bool) -> Front
+    ensures { result ≡ front_of after_name (c ∷ chars following.now) }
 {
     if is_separator(c) {
         Front::Separator
@@ -53,9 +53,9 @@ fn look_at(c: char, behind: &str, after_name: bool) -> Front
         Front::Quote
     } else if c == '\'' {
         Front::Apostrophe
-    } else if c == '-' && begins_dash(behind) {
+    } else if c == '-' && begins_dash(following) {
         Front::Comment
-    } else if c == '.' && !after_name && begins_in(behind, Class::Digit) {
+    } else if c == '.' && !after_name && begins_in(following, Class::Digit) {
         Front::Digit
     } else {
         Front::Other
@@ -76,15 +76,15 @@ fn begins_dash(rest: &str) -> bool
 pub(crate) fn sign_at(rest: &str) -> Option<Sign>
     ensures { result ≡ sign_of (chars rest.now) }
 {
-    let (c, behind) = first(rest)?;
-    sign_after(c, behind)
+    let (c, following) = first(rest)?;
+    sign_after(c, following)
 }
 
 /// The longest sign that begins with the character.
-fn sign_after(c: char, behind: &str) -> Option<Sign>
-    ensures { result ≡ sign_of (c ∷ chars behind.now) }
+fn sign_after(c: char, following: &str) -> Option<Sign>
+    ensures { result ≡ sign_of (c ∷ chars following.now) }
 {
-    match first(behind) {
+    match first(following) {
         None => lone_sign(c),
         Some((d, _)) => match pair_sign(c, d) {
             Some(sign) => Some(sign),

@@ -34,8 +34,8 @@ fn text_tokens(alloc: Global, text: &str) -> Result<TokenList, LexFault>
         match piece_at(alloc, rest, after_name, place)? {
             Piece::End => return Ok(TokenList::of(items, place)),
             Piece::Gap(size) => {
-                let (end, behind) = advanced(place, rest, size);
-                rest = behind;
+                let (end, following) = advanced(place, rest, size);
+                rest = following;
                 place = end;
                 after_name = false;
             }
@@ -43,18 +43,18 @@ fn text_tokens(alloc: Global, text: &str) -> Result<TokenList, LexFault>
                 if items.len() == MOST_TOKENS {
                     return Err(LexFault::ManyTokens(place));
                 }
-                let (end, behind) = advanced(place, rest, size);
+                let (end, following) = advanced(place, rest, size);
                 after_name = token.is_name();
                 items.push(Placed { token, place })?;
-                rest = behind;
+                rest = following;
                 place = end;
             }
         }
     }
 }
 
-/// The place behind the first `count` bytes, which are characters.
-fn place_behind(bytes: &[u8], count: usize) -> Place
+/// The place after the first `count` bytes, which are characters.
+fn place_following(bytes: &[u8], count: usize) -> Place
     requires size { length bytes.now < 4294967295 }
     requires within { count < length bytes.now }
     requires utf8 { IsUtf8 (take count bytes.now) }
@@ -69,7 +69,7 @@ fn place_behind(bytes: &[u8], count: usize) -> Place
 /// The tokens of a file, each with its place, and the place of the end (ISO/IEC 9075:1992, 5.2).
 ///
 /// A file is UTF-8, which is tested before all else. The first token with a fault refuses the file, as
-/// does the first token behind 2,000,000 others; and so does want of memory.
+/// does the first token after 2,000,000 others; and so does out of memory.
 pub fn tokens(alloc: Global, bytes: &[u8]) -> Result<TokenList, LexFault>
     requires { length bytes.now < 4294967295 }
     // What is given are the tokens of the file.
@@ -83,6 +83,6 @@ pub fn tokens(alloc: Global, bytes: &[u8]) -> Result<TokenList, LexFault>
 {
     match str::from_utf8(bytes) {
         Ok(text) => text_tokens(alloc, text),
-        Err(error) => Err(LexFault::BadUtf8(place_behind(bytes, error.valid_up_to()))),
+        Err(error) => Err(LexFault::BadUtf8(place_following(bytes, error.valid_up_to()))),
     }
 }

@@ -6,7 +6,7 @@ use crate::place::Place;
 use crate::token::Placed;
 use std::marker::Model;
 
-/// The tokens of a file with their places, and the place just behind its last character.
+/// The tokens of a file with their places, and the place just after its last character.
 #[derive(Debug, Drop)]
 pub struct TokenList {
     items: Vec<Placed>,
@@ -37,7 +37,7 @@ impl TokenList {
         self.items.as_slice()
     }
 
-    /// The place just behind the last character of the file.
+    /// The place just after the last character of the file.
     pub fn end(&self) -> Place
         ensures { result ≡ self.now.end }
     {

@@ -69,14 +69,14 @@ fn read_name(alloc: Global, rest: &str, place: Place) -> Result<(usize, Token), 
     Ok((size, token))
 }
 
-/// How many characters a point and the digits behind it are, if they stand at the front.
+/// How many characters a point and the digits after it are, if they stand at the front.
 fn fraction_size(rest: &str) -> usize
     ensures value { result ≡ fraction_len (chars rest.now) }
     ensures within { result ≤ length rest.now }
 {
     match first(rest) {
-        Some((c, behind)) if c == '.' => {
-            let (digits, _) = run(Class::Digit, behind);
+        Some((c, following)) if c == '.' => {
+            let (digits, _) = run(Class::Digit, following);
             1 + digits
         }
         _ => 0,
@@ -87,8 +87,8 @@ fn fraction_size(rest: &str) -> usize
 fn number_size(rest: &str) -> usize
     ensures { result ≡ literal_len (chars rest.now) }
 {
-    let (whole, behind) = run(Class::Digit, rest);
-    whole + fraction_size(behind)
+    let (whole, following) = run(Class::Digit, rest);
+    whole + fraction_size(following)
 }
 
 /// The number at the front, which has `size` characters, unless it has too many digits.
@@ -117,8 +117,8 @@ fn read_number(alloc: Global, rest: &str, place: Place) -> Result<(usize, Token)
     match number_at(alloc, rest, size)? {
         None => Err(LexFault::LongNumber(place)),
         Some(number) => {
-            let (end, behind) = advanced(place, rest, size);
-            if begins_in(behind, Class::NameLetter) {
+            let (end, following) = advanced(place, rest, size);
+            if begins_in(following, Class::NameLetter) {
                 Err(LexFault::BadChar(end))
             } else {
                 Ok((size, Token::Number(number)))
@@ -138,7 +138,7 @@ fn quoted(
     ensures { IfOk result (λ o. QuotedRead quote (chars rest.now) limit o) }
 {
     match first(rest) {
-        Some((_, behind)) => unquoted(alloc, quote, behind, limit),
+        Some((_, following)) => unquoted(alloc, quote, following, limit),
         None => unreachable!(),
     }
 }

@@ -1,7 +1,7 @@
 //! What stands between quotes.
 ghost use Rattle.std.specs.Prelude.{◌≡◌, ◌∷◌, ◌++◌, [], ◌+◌, length, nat_lt, if◌then◌else◌, IfOk, OnOk, string_bytes};
 ghost use Rattle.std.specs.Str.{chars};
-ghost use Rattle.psm_token.specs.Unquoting.{Shows, ShowsBehind, IsShorter, Unquoted, read_inside};
+ghost use Rattle.psm_token.specs.Unquoting.{Shows, ShowsAfter, IsShorter, Unquoted, read_inside};
 
 use crate::scan::{first, push};
 use std::alloc::{AllocError, Global};
@@ -24,26 +24,26 @@ fn step_inside(quote: char, rest: &str) -> Inside<'_>
 {
     match first(rest) {
         None => Inside::Nothing,
-        Some((c, behind)) => {
+        Some((c, following)) => {
             if c == quote {
-                step_behind_quote(quote, behind)
+                step_after_quote(quote, following)
             } else {
-                Inside::Kept(c, 1, behind)
+                Inside::Kept(c, 1, following)
             }
         }
     }
 }
 
 /// What a quote inside of quotes and what follows it are.
-fn step_behind_quote(quote: char, rest: &str) -> Inside<'_>
-    ensures shows { ShowsBehind quote (chars rest.now) result }
+fn step_after_quote(quote: char, rest: &str) -> Inside<'_>
+    ensures shows { ShowsAfter quote (chars rest.now) result }
     ensures shorter { IsShorter (length rest.now + 1) result }
 {
     match first(rest) {
         None => Inside::Close,
-        Some((c, behind)) => {
+        Some((c, following)) => {
             if c == quote {
-                Inside::Kept(c, 2, behind)
+                Inside::Kept(c, 2, following)
             } else {
                 Inside::Close
             }
@@ -51,7 +51,7 @@ fn step_behind_quote(quote: char, rest: &str) -> Inside<'_>
     }
 }
 
-/// Puts a character behind what is kept, unless it is `limit` characters already.
+/// Puts a character after what is kept, unless it is `limit` characters already.
 fn keep(kept: &mut String, c: char, size: usize, limit: usize) -> Result<(), AllocError>
     ensures { OnOk result (chars (string_bytes kept.new) ≡
         (if nat_lt size limit then chars (string_bytes kept.old) ++ c ∷ [] else chars (string_bytes kept.old))) }
@@ -60,7 +60,7 @@ fn keep(kept: &mut String, c: char, size: usize, limit: usize) -> Result<(), All
 }
 
 /// The first characters of a quoted text up to `limit`, and how many characters it is with its quotes, from
-/// behind its first quote on.
+/// after its first quote on.
 pub(crate) fn unquoted(
     alloc: Global,
     quote: char,
@@ -77,11 +77,11 @@ pub(crate) fn unquoted(
         match step_inside(quote, left) {
             Inside::Nothing => return Ok(None),
             Inside::Close => return Ok(Some((kept, count + 1))),
-            Inside::Kept(c, taken, behind) => {
+            Inside::Kept(c, taken, following) => {
                 keep(&mut kept, c, size, limit)?;
                 size += 1;
                 count += taken;
-                left = behind;
+                left = following;
             }
         }
     }

@@ -68,22 +68,22 @@ pub(crate) fn begins_in(rest: &str, class: Class) -> bool
 #[tactic(auto, using(crate::proofs::Steps::drop_one_more))]
 pub(crate) fn run(class: Class, rest: &str) -> (usize, &str)
     ensures count { result.0 ≡ prefix_len (is_of class) (chars rest.now) }
-    ensures behind { chars result.1.now ≡ drop result.0 (chars rest.now) }
+    ensures following { chars result.1.now ≡ drop result.0 (chars rest.now) }
     ensures within { result.0 + length result.1.now ≤ length rest.now }
 {
     let mut left = rest;
     let mut count = 0;
-    while let Some((c, behind)) = first(left) {
+    while let Some((c, following)) = first(left) {
         if !is_in(class, c) {
             break;
         }
-        left = behind;
+        left = following;
         count += 1;
     }
     (count, left)
 }
 
-/// Puts a character behind a text.
+/// Puts a character after a text.
 pub(crate) fn push(text: &mut String, c: char) -> Result<(), AllocError>
     ensures { OnOk result (chars (string_bytes text.new) ≡ chars (string_bytes text.old) ++ c ∷ []) }
 {
@@ -99,9 +99,9 @@ pub(crate) fn gathered(alloc: Global, rest: &str, count: usize) -> Result<String
     let mut left = rest;
     for _i in 0..count {
         match first(left) {
-            Some((c, behind)) => {
+            Some((c, following)) => {
                 push(&mut text, c)?;
-                left = behind;
+                left = following;
             }
             None => break,
         }
@@ -118,9 +118,9 @@ pub(crate) fn folded(alloc: Global, rest: &str, count: usize) -> Result<String, 
     let mut left = rest;
     for _i in 0..count {
         match first(left) {
-            Some((c, behind)) => {
+            Some((c, following)) => {
                 push(&mut text, c.to_ascii_uppercase())?;
-                left = behind;
+                left = following;
             }
             None => break,
         }
@@ -128,7 +128,7 @@ pub(crate) fn folded(alloc: Global, rest: &str, count: usize) -> Result<String, 
     Ok(text)
 }
 
-/// The place behind a character.
+/// The place after a character.
 fn next(place: Place, c: char) -> Place
     requires lines { place.line < 4294967295 }
     requires columns { place.column < 4294967295 }
@@ -147,7 +147,7 @@ fn next(place: Place, c: char) -> Place
     }
 }
 
-/// The place behind `count` characters, and what follows them.
+/// The place after `count` characters, and what follows them.
 #[tactic(auto, using(crate::proofs::Steps::take_past, crate::proofs::Steps::drop_past))]
 pub(crate) fn advanced(place: Place, rest: &str, count: usize) -> (Place, &str)
     requires { HasRoom place (chars rest.now) }
@@ -161,9 +161,9 @@ pub(crate) fn advanced(place: Place, rest: &str, count: usize) -> (Place, &str)
     let mut left = rest;
     for _i in 0..count {
         match first(left) {
-            Some((c, behind)) => {
+            Some((c, following)) => {
                 at = next(at, c);
-                left = behind;
+                left = following;
             }
             None => break,
         }

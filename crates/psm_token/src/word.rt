@@ -1,7 +1,7 @@
 //! The words of the language (ISO/IEC 9075:1992, 5.2, and 9075-4:1996).
 ghost use Rattle.std.specs.Prelude.{◌≡◌};
 ghost use Rattle.psm_token.specs.Words.{text_of, word_kind, is_reserved as is_reserved_word};
-ghost use Rattle.psm_token.specs.Lookup.{among as among_words, shelf_of, lookup};
+ghost use Rattle.psm_token.specs.Lookup.{among as among_words, words_by_letter, lookup};
 
 /// A word of the language: one that is reserved, or one that is a name where the grammar has a name.
 /// Its number is that of its kind of tokens; a new word comes last.
@@ -353,7 +353,7 @@ fn among(words: &[Word], text: &str) -> Option<Word>
 
 /// The words that begin with the letter.
 fn shelf(letter: u8) -> &'static [Word]
-    ensures { result.now ≡ shelf_of letter }
+    ensures { result.now ≡ words_by_letter letter }
 {
     match letter {
         b'A' => &[Word::And, Word::As, Word::Asc, Word::Atomic, Word::Avg],

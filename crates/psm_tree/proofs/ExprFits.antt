@@ -11,7 +11,7 @@ use Rattle.psm_tree.specs.Tests.{name_kinds, comparison, sum_operator, term_oper
 use Rattle.psm_tree.specs.Parts.{Part, V, HandlerRest}
 use Rattle.psm_tree.specs.ExprGrammar
 
--- what may follow each part: anything, where it ends in a token of its own; a semicolon behind a handler
+-- what may follow each part: anything, where it ends in a token of its own; a semicolon after a handler
 abbrev pub after : Part → Option (List ℕ)
 after HandlerRest = Some (sign_kind s.Semicolon ∷ [])
 after _ = None
@@ -19,66 +19,66 @@ after _ = None
 abbrev Fits : {X : Type 0} → List ℕ → Grammar kind V X → Type 0
 Fits follow g = Fit after follow g
 
--- ---- what may stand behind the parts of an expression
+-- ---- what may stand after the parts of an expression
 
-abbrev pub behind_expr : List ℕ
-behind_expr = sign_kind s.RightParen ∷ sign_kind s.Comma ∷ sign_kind s.Semicolon
+abbrev pub after_expr : List ℕ
+after_expr = sign_kind s.RightParen ∷ sign_kind s.Comma ∷ sign_kind s.Semicolon
     ∷ kinds_of (w.As ∷ w.From ∷ w.For ∷ w.Into ∷ w.Then ∷ w.Do ∷ w.End ∷ w.When ∷ w.Else ∷ w.Where ∷ w.Order ∷ []) ++ name_kinds
 
-abbrev behind_conjunction : List ℕ
-behind_conjunction = word_kind w.Or ∷ behind_expr
+abbrev after_conjunction : List ℕ
+after_conjunction = word_kind w.Or ∷ after_expr
 
-abbrev behind_negation : List ℕ
-behind_negation = word_kind w.And ∷ behind_conjunction
+abbrev after_negation : List ℕ
+after_negation = word_kind w.And ∷ after_conjunction
 
-abbrev pub behind_sum : List ℕ
-behind_sum = comparison.kinds ++ kinds_of (w.Is ∷ w.Not ∷ w.Between ∷ w.In ∷ w.Like ∷ w.Escape ∷ []) ++ behind_negation
+abbrev pub after_sum : List ℕ
+after_sum = comparison.kinds ++ kinds_of (w.Is ∷ w.Not ∷ w.Between ∷ w.In ∷ w.Like ∷ w.Escape ∷ []) ++ after_negation
 
-abbrev behind_term : List ℕ
-behind_term = sum_operator.kinds ++ behind_sum
+abbrev after_term : List ℕ
+after_term = sum_operator.kinds ++ after_sum
 
-abbrev behind_factor : List ℕ
-behind_factor = term_operator.kinds ++ behind_term
+abbrev after_factor : List ℕ
+after_factor = term_operator.kinds ++ after_term
 
--- what may stand behind an item of a query, and behind a query
-abbrev behind_item : List ℕ
-behind_item = sign_kind s.Comma ∷ kinds_of (w.As ∷ w.From ∷ w.Into ∷ []) ++ name_kinds
+-- what may stand after an item of a query, and after a query
+abbrev after_item : List ℕ
+after_item = sign_kind s.Comma ∷ kinds_of (w.As ∷ w.From ∷ w.Into ∷ []) ++ name_kinds
 
-abbrev pub behind_picks : List ℕ
-behind_picks = kinds_of (w.From ∷ w.Into ∷ [])
+abbrev pub after_picks : List ℕ
+after_picks = kinds_of (w.From ∷ w.Into ∷ [])
 
-abbrev pub behind_select : List ℕ
-behind_select = sign_kind s.RightParen ∷ sign_kind s.Semicolon ∷ kinds_of (w.Order ∷ w.For ∷ w.Do ∷ [])
+abbrev pub after_select : List ℕ
+after_select = sign_kind s.RightParen ∷ sign_kind s.Semicolon ∷ kinds_of (w.Order ∷ w.For ∷ w.Do ∷ [])
 
 -- ---- values
 
-primary_fit : Fits behind_factor ExprGrammar.primary
+primary_fit : Fits after_factor ExprGrammar.primary
 unfolding ExprGrammar.all_expressions
 primary_fit = record { holds = refl }
 
-factor_fit : Fits behind_factor ExprGrammar.factor
+factor_fit : Fits after_factor ExprGrammar.factor
 unfolding ExprGrammar.all_expressions
 factor_fit = fit_or refl refl (fit_seq (fit_token refl) primary_fit) primary_fit
 
-next_factors_fit : Fits behind_term ExprGrammar.next_factors
+next_factors_fit : Fits after_term ExprGrammar.next_factors
 unfolding ExprGrammar.all_expressions
 next_factors_fit = fit_many refl refl (fit_seq (fit_token refl) factor_fit)
 
-term_fit : Fits behind_term ExprGrammar.term
+term_fit : Fits after_term ExprGrammar.term
 unfolding ExprGrammar.all_expressions
 term_fit = fit_seq factor_fit next_factors_fit
 
-next_terms_fit : Fits behind_sum ExprGrammar.next_terms
+next_terms_fit : Fits after_sum ExprGrammar.next_terms
 unfolding ExprGrammar.all_expressions
 next_terms_fit = fit_many refl refl (fit_seq (fit_token refl) term_fit)
 
-pub sum_fit : Fits behind_sum ExprGrammar.sum
+pub sum_fit : Fits after_sum ExprGrammar.sum
 unfolding ExprGrammar.all_expressions
 sum_fit = fit_seq term_fit next_terms_fit
 
 -- ---- conditions
 
-between_fit : Fits behind_negation ExprGrammar.between
+between_fit : Fits after_negation ExprGrammar.between
 unfolding ExprGrammar.all_expressions
 between_fit = fit_seq (fit_token refl) (fit_seq (fit_fewer refl sum_fit) (fit_seq (fit_token refl) (fit_fewer refl sum_fit)))
 
@@ -86,23 +86,23 @@ next_sums_fit : Fits (sign_kind s.RightParen ∷ []) ExprGrammar.next_sums
 unfolding ExprGrammar.all_expressions
 next_sums_fit = fit_many refl refl (fit_seq (fit_token refl) (fit_fewer refl sum_fit))
 
-in_list_fit : Fits behind_negation ExprGrammar.in_list
+in_list_fit : Fits after_negation ExprGrammar.in_list
 unfolding ExprGrammar.all_expressions
 in_list_fit = fit_seq (fit_token refl) (fit_seq (fit_token refl) (fit_seq (fit_seq (fit_fewer refl sum_fit) next_sums_fit) (fit_token refl)))
 
-escape_fit : Fits behind_negation ExprGrammar.escape
+escape_fit : Fits after_negation ExprGrammar.escape
 unfolding ExprGrammar.all_expressions
 escape_fit = fit_seq (fit_token refl) (fit_fewer refl sum_fit)
 
-like_fit : Fits behind_negation ExprGrammar.like
+like_fit : Fits after_negation ExprGrammar.like
 unfolding ExprGrammar.all_expressions
 like_fit = fit_seq (fit_token refl) (fit_seq (fit_fewer refl sum_fit) (fit_or refl refl (fit_image escape_fit) fit_nothing))
 
-negated_test_fit : Fits behind_negation ExprGrammar.negated_test
+negated_test_fit : Fits after_negation ExprGrammar.negated_test
 unfolding ExprGrammar.all_expressions
 negated_test_fit = fit_seq (fit_token refl) (fit_or refl refl (fit_image between_fit) (fit_or refl refl (fit_image in_list_fit) (fit_image like_fit)))
 
-predicate_rest_fit : Fits behind_negation ExprGrammar.predicate_rest
+predicate_rest_fit : Fits after_negation ExprGrammar.predicate_rest
 unfolding ExprGrammar.all_expressions
 predicate_rest_fit = fit_or refl refl (fit_seq (fit_token refl) (fit_fewer refl sum_fit))
     (fit_or refl refl (record { holds = refl })
@@ -111,33 +111,33 @@ predicate_rest_fit = fit_or refl refl (fit_seq (fit_token refl) (fit_fewer refl 
     (fit_or refl refl (fit_image in_list_fit)
     (fit_or refl refl (fit_image like_fit) fit_nothing)))))
 
-predicate_fit : Fits behind_negation ExprGrammar.predicate
+predicate_fit : Fits after_negation ExprGrammar.predicate
 unfolding ExprGrammar.all_expressions
 predicate_fit = fit_seq (fit_fewer refl sum_fit) predicate_rest_fit
 
-negation_fit : Fits behind_negation ExprGrammar.negation
+negation_fit : Fits after_negation ExprGrammar.negation
 unfolding ExprGrammar.all_expressions
 negation_fit = fit_or refl refl (fit_seq (fit_token refl) predicate_fit) predicate_fit
 
-next_negations_fit : Fits behind_conjunction ExprGrammar.next_negations
+next_negations_fit : Fits after_conjunction ExprGrammar.next_negations
 unfolding ExprGrammar.all_expressions
 next_negations_fit = fit_many refl refl (fit_seq (fit_token refl) negation_fit)
 
-conjunction_fit : Fits behind_conjunction ExprGrammar.conjunction
+conjunction_fit : Fits after_conjunction ExprGrammar.conjunction
 unfolding ExprGrammar.all_expressions
 conjunction_fit = fit_seq negation_fit next_negations_fit
 
-next_conjunctions_fit : Fits behind_expr ExprGrammar.next_conjunctions
+next_conjunctions_fit : Fits after_expr ExprGrammar.next_conjunctions
 unfolding ExprGrammar.all_expressions
 next_conjunctions_fit = fit_many refl refl (fit_seq (fit_token refl) conjunction_fit)
 
-pub expr_fit : Fits behind_expr ExprGrammar.expr
+pub expr_fit : Fits after_expr ExprGrammar.expr
 unfolding ExprGrammar.all_expressions
 expr_fit = fit_seq conjunction_fit next_conjunctions_fit
 
 -- ---- sources
 
-pub source_fit : Fits behind_expr ExprGrammar.source
+pub source_fit : Fits after_expr ExprGrammar.source
 unfolding ExprGrammar.all_expressions
 source_fit = fit_or refl refl (fit_image (fit_token refl)) expr_fit
 
@@ -160,29 +160,29 @@ pub parens_fit : {X : Type 0} {p : Grammar kind V X} (follow : List ℕ) → Fit
 unfolding ExprGrammar.all_expressions
 parens_fit follow p = fit_seq (fit_token refl) (fit_seq p (fit_token refl))
 
-item_fit : Fits behind_item ExprGrammar.item
+item_fit : Fits after_item ExprGrammar.item
 unfolding ExprGrammar.all_expressions
-item_fit = fit_or refl refl (fit_seq (fit_token refl) (parens_fit behind_item counted_fit))
-    (fit_or refl refl (fit_seq (fit_token refl) (parens_fit behind_item (fit_fewer refl expr_fit)))
+item_fit = fit_or refl refl (fit_seq (fit_token refl) (parens_fit after_item counted_fit))
+    (fit_or refl refl (fit_seq (fit_token refl) (parens_fit after_item (fit_fewer refl expr_fit)))
     (fit_image (fit_fewer refl expr_fit)))
 
-pick_fit : Fits (sign_kind s.Comma ∷ behind_picks) ExprGrammar.pick
+pick_fit : Fits (sign_kind s.Comma ∷ after_picks) ExprGrammar.pick
 unfolding ExprGrammar.all_expressions
 pick_fit = fit_seq (fit_fewer refl item_fit) (record { holds = refl })
 
-pub picks_fit : Fits behind_picks ExprGrammar.picks
+pub picks_fit : Fits after_picks ExprGrammar.picks
 unfolding ExprGrammar.all_expressions
 picks_fit = fit_or refl refl (fit_image (fit_token refl)) (fit_seq pick_fit (fit_many refl refl (fit_seq (fit_token refl) pick_fit)))
 
-pub from_fit : Fits behind_select ExprGrammar.from_table
+pub from_fit : Fits after_select ExprGrammar.from_table
 unfolding ExprGrammar.all_expressions
 from_fit = fit_seq (fit_token refl) (fit_seq (record { holds = refl }) (fit_or refl refl (fit_image (fit_seq (fit_token refl) (fit_fewer refl expr_fit))) fit_nothing))
 
-pub select_fit : Fits behind_select ExprGrammar.select
+pub select_fit : Fits after_select ExprGrammar.select
 unfolding ExprGrammar.all_expressions
 select_fit = fit_seq (fit_token refl) (fit_seq (fit_fewer refl picks_fit) (fit_seq (fit_token refl) from_fit))
 
--- ---- what stands behind a token that opens a level
+-- ---- what stands after a token that opens a level
 
 pub enclosed_fit : (follow : List ℕ) → Fits follow ExprGrammar.enclosed
 unfolding ExprGrammar.all_expressions

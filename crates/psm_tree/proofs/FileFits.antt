@@ -17,8 +17,8 @@ Fits follow g = Fit after follow g
 
 -- ---- tables
 
-abbrev behind_element : List ℕ
-behind_element = sign_kind s.Comma ∷ sign_kind s.RightParen ∷ []
+abbrev after_element : List ℕ
+after_element = sign_kind s.Comma ∷ sign_kind s.RightParen ∷ []
 
 plain_column_rule_fit : (follow : List ℕ) → Fits follow FileGrammar.plain_column_rule
 unfolding FileGrammar.all_files
@@ -31,9 +31,9 @@ column_rule_fit : (follow : List ℕ) → Fits follow FileGrammar.column_rule
 unfolding FileGrammar.all_files
 column_rule_fit follow = fit_or refl refl (fit_seq (fit_token refl) (fit_seq (fit_token refl) (plain_column_rule_fit follow))) (plain_column_rule_fit follow)
 
-column_fit : Fits behind_element FileGrammar.column
+column_fit : Fits after_element FileGrammar.column
 unfolding FileGrammar.all_files
-column_fit = fit_seq (fit_token refl) (fit_seq (record { holds = refl }) (fit_seq (record { holds = refl }) (fit_many refl refl (column_rule_fit (kinds_of column_rule_words ++ behind_element)))))
+column_fit = fit_seq (fit_token refl) (fit_seq (record { holds = refl }) (fit_seq (record { holds = refl }) (fit_many refl refl (column_rule_fit (kinds_of column_rule_words ++ after_element)))))
 
 plain_table_rule_fit : (follow : List ℕ) → Fits follow FileGrammar.plain_table_rule
 unfolding FileGrammar.all_files
@@ -45,9 +45,9 @@ table_rule_fit : (follow : List ℕ) → Fits follow FileGrammar.table_rule
 unfolding FileGrammar.all_files
 table_rule_fit follow = fit_or refl refl (fit_seq (fit_token refl) (fit_seq (fit_token refl) (plain_table_rule_fit follow))) (plain_table_rule_fit follow)
 
-element_fit : Fits behind_element FileGrammar.element
+element_fit : Fits after_element FileGrammar.element
 unfolding FileGrammar.all_files
-element_fit = fit_or refl refl column_fit (fit_image (table_rule_fit behind_element))
+element_fit = fit_or refl refl column_fit (fit_image (table_rule_fit after_element))
 
 table_fit : (follow : List ℕ) → Fits follow FileGrammar.table
 unfolding FileGrammar.all_files

@@ -712,13 +712,13 @@ pub first_sql_data : first FileGrammar.sql_data ≡ word_kind w.Sql ∷ []
 unfolding FileGrammar.all_files
 first_sql_data = refl
 
-pub first_note : first FileGrammar.note ≡ word_kind w.Language ∷ word_kind w.Deterministic ∷ word_kind w.Not ∷ word_kind w.Contains ∷ word_kind w.Reads ∷ word_kind w.Modifies ∷ []
+pub first_characteristic : first FileGrammar.characteristic ≡ word_kind w.Language ∷ word_kind w.Deterministic ∷ word_kind w.Not ∷ word_kind w.Contains ∷ word_kind w.Reads ∷ word_kind w.Modifies ∷ []
 unfolding FileGrammar.all_files
-first_note = refl
+first_characteristic = refl
 
-pub first_note_list : first FileGrammar.note_list ≡ word_kind w.Language ∷ word_kind w.Deterministic ∷ word_kind w.Not ∷ word_kind w.Contains ∷ word_kind w.Reads ∷ word_kind w.Modifies ∷ []
+pub first_characteristic_list : first FileGrammar.characteristic_list ≡ word_kind w.Language ∷ word_kind w.Deterministic ∷ word_kind w.Not ∷ word_kind w.Contains ∷ word_kind w.Reads ∷ word_kind w.Modifies ∷ []
 unfolding FileGrammar.all_files
-first_note_list = refl
+first_characteristic_list = refl
 
 pub first_procedure : first FileGrammar.procedure ≡ word_kind w.Procedure ∷ []
 unfolding FileGrammar.all_files
@@ -852,4 +852,4 @@ pub first_script : first FileGrammar.script ≡ word_kind w.Call ∷ word_kind w
 unfolding FileGrammar.all_files
 first_script = refl
 
-pub ruleset file_firsts = (first_plain_column_rule, first_column_rule, first_column_rule_list, first_default_constant, first_column, first_plain_table_rule, first_table_rule, first_next_element, first_next_elements, first_table, first_named_type, first_next_param, first_next_params, first_params, first_sql_data, first_note, first_note_list, first_procedure, first_returned, first_function, first_plain_routine, first_routine, first_ended_routine, first_ended_routines, first_language, first_module_body, first_module_part, first_created_table, first_created_tables, first_last_module, first_file, first_argument, first_next_argument, first_next_arguments, first_script_argument_list, first_script_arguments, first_script_call, first_next_constant, first_next_constants, first_constants, first_row, first_next_row, first_next_rows, first_rows, first_script_values, first_script_insert, first_command, first_ended_command, first_ended_commands, first_script)
+pub ruleset file_firsts = (first_plain_column_rule, first_column_rule, first_column_rule_list, first_default_constant, first_column, first_plain_table_rule, first_table_rule, first_next_element, first_next_elements, first_table, first_named_type, first_next_param, first_next_params, first_params, first_sql_data, first_characteristic, first_characteristic_list, first_procedure, first_returned, first_function, first_plain_routine, first_routine, first_ended_routine, first_ended_routines, first_language, first_module_body, first_module_part, first_created_table, first_created_tables, first_last_module, first_file, first_argument, first_next_argument, first_next_arguments, first_script_argument_list, first_script_arguments, first_script_call, first_next_constant, first_next_constants, first_constants, first_row, first_next_row, first_next_rows, first_rows, first_script_values, first_script_insert, first_command, first_ended_command, first_ended_commands, first_script)

@@ -12,10 +12,10 @@ use Rattle.psm_tree.specs.declared.expr.Expr.{Expr, roll-Expr}
 use Rattle.psm_tree.specs.declared.expr.Expr.TheVariants as exprs
 use Rattle.psm_tree.specs.declared.expr.Expr.TheOpen.{Expr-F, Pick-F}
 use Rattle.psm_tree.specs.declared.expr.Expr.TheOpen as layers
-use Rattle.psm_tree.specs.declared.expr.Expr.TheFolds.{map-Expr, map-Pick, fold-Link, fold-Select, fold-When, fold-roll-Expr, fold-roll-Pick}
-use Rattle.psm_tree.specs.declared.expr.Junction.{Junction}
+use Rattle.psm_tree.specs.declared.expr.Expr.TheFolds.{map-Expr, map-Pick, fold-ChainLink, fold-Select, fold-When, fold-roll-Expr, fold-roll-Pick}
+use Rattle.psm_tree.specs.declared.expr.LogicalOperator.{LogicalOperator}
 use Rattle.psm_tree.specs.declared.expr.Comparison.{Comparison}
-use Rattle.psm_tree.specs.declared.expr.Link.{Link}
+use Rattle.psm_tree.specs.declared.expr.ChainLink.{ChainLink}
 use Rattle.psm_tree.specs.declared.expr.Select.{Select}
 use Rattle.psm_tree.specs.declared.expr.When.{When}
 use Rattle.psm_tree.specs.declared.expr.Pick.{Pick, roll-Pick}
@@ -34,22 +34,22 @@ use Rattle.psm_tree.specs.declared.statement.ForHead.{ForHead}
 use Rattle.psm_tree.specs.declared.statement.Declaration.{Declaration}
 use Rattle.psm_tree.specs.declared.statement.CursorDeclaration.{CursorDeclaration}
 use Rattle.psm_tree.specs.declared.statement.Simple.{Simple}
-use Rattle.psm_tree.specs.Places.{target_place, expr_layer_place, pick_layer_place, link_layer_place, select_layer_place, when_layer_place, expr_place, pick_place, simple_place, block_layer_place, block_place, statement_layer_place, statement_place}
+use Rattle.psm_tree.specs.Places.{target_place, expr_layer_place, pick_layer_place, chain_link_layer_place, select_layer_place, when_layer_place, expr_place, pick_place, simple_place, block_layer_place, block_place, statement_layer_place, statement_place}
 
-abbrev link_place : Link → Place
-link_place = fold-Link Place Place Place Place Place expr_layer_place pick_layer_place link_layer_place select_layer_place when_layer_place
+abbrev chain_link_place : ChainLink → Place
+chain_link_place = fold-ChainLink Place Place Place Place Place expr_layer_place pick_layer_place chain_link_layer_place select_layer_place when_layer_place
 
 abbrev select_folded : Select → Place
-select_folded = fold-Select Place Place Place Place Place expr_layer_place pick_layer_place link_layer_place select_layer_place when_layer_place
+select_folded = fold-Select Place Place Place Place Place expr_layer_place pick_layer_place chain_link_layer_place select_layer_place when_layer_place
 
 abbrev when_place : When → Place
-when_place = fold-When Place Place Place Place Place expr_layer_place pick_layer_place link_layer_place select_layer_place when_layer_place
+when_place = fold-When Place Place Place Place Place expr_layer_place pick_layer_place chain_link_layer_place select_layer_place when_layer_place
 
-expr_rolled : (layer : Expr-F Expr Pick Link Select When) → expr_place (roll-Expr layer) ≡ expr_layer_place (map-Expr Expr Pick Link Select When Place Place Place Place Place expr_place pick_place link_place select_folded when_place layer)
-expr_rolled layer = fold-roll-Expr Place Place Place Place Place expr_layer_place pick_layer_place link_layer_place select_layer_place when_layer_place layer
+expr_rolled : (layer : Expr-F Expr Pick ChainLink Select When) → expr_place (roll-Expr layer) ≡ expr_layer_place (map-Expr Expr Pick ChainLink Select When Place Place Place Place Place expr_place pick_place chain_link_place select_folded when_place layer)
+expr_rolled layer = fold-roll-Expr Place Place Place Place Place expr_layer_place pick_layer_place chain_link_layer_place select_layer_place when_layer_place layer
 
-pick_rolled : (layer : Pick-F Expr Pick Link Select When) → pick_place (roll-Pick layer) ≡ pick_layer_place (map-Pick Expr Pick Link Select When Place Place Place Place Place expr_place pick_place link_place select_folded when_place layer)
-pick_rolled layer = fold-roll-Pick Place Place Place Place Place expr_layer_place pick_layer_place link_layer_place select_layer_place when_layer_place layer
+pick_rolled : (layer : Pick-F Expr Pick ChainLink Select When) → pick_place (roll-Pick layer) ≡ pick_layer_place (map-Pick Expr Pick ChainLink Select When Place Place Place Place Place expr_place pick_place chain_link_place select_folded when_place layer)
+pick_rolled layer = fold-roll-Pick Place Place Place Place Place expr_layer_place pick_layer_place chain_link_layer_place select_layer_place when_layer_place layer
 
 -- ---- expressions
 
@@ -69,9 +69,9 @@ pub place-Name : (target : Target) → expr_place (exprs.Name target) ≡ target
 unfolding roll-Expr Carrier.roll
 place-Name target = expr_rolled (layers.Name target)
 
-pub place-Junction : (junction : Junction) (operands : Several Expr) → expr_place (exprs.Junction junction operands) ≡ expr_place operands.first
+pub place-LogicalOperator : (logical_operator : LogicalOperator) (operands : Several Expr) → expr_place (exprs.LogicalOperator logical_operator operands) ≡ expr_place operands.first
 unfolding roll-Expr Carrier.roll
-place-Junction junction operands = expr_rolled (layers.Junction junction operands)
+place-LogicalOperator logical_operator operands = expr_rolled (layers.LogicalOperator logical_operator operands)
 
 pub place-Not : (place : Place) (condition : Expr) → expr_place (exprs.Not place condition) ≡ place
 unfolding roll-Expr Carrier.roll
@@ -97,9 +97,9 @@ pub place-Like : (negated : Bool) (value pattern : Expr) (escape : Option Expr) 
 unfolding roll-Expr Carrier.roll
 place-Like negated value pattern escape = expr_rolled (layers.Like negated value pattern escape)
 
-pub place-Chain : (first : Expr) (links : List Link) → expr_place (exprs.Chain first links) ≡ expr_place first
+pub place-OperatorChain : (first : Expr) (chain_links : List ChainLink) → expr_place (exprs.OperatorChain first chain_links) ≡ expr_place first
 unfolding roll-Expr Carrier.roll
-place-Chain first links = expr_rolled (layers.Chain first links)
+place-OperatorChain first chain_links = expr_rolled (layers.OperatorChain first chain_links)
 
 pub place-Signed : (place : Place) (sign : Sign) (operand : Expr) → expr_place (exprs.Signed place sign operand) ≡ place
 unfolding roll-Expr Carrier.roll
@@ -153,7 +153,7 @@ pub place-Trim : (place : Place) (side : TrimSide) (text : Expr) → expr_place 
 unfolding roll-Expr Carrier.roll
 place-Trim place side text = expr_rolled (layers.Trim place side text)
 
-pub ruleset expr_places = (place-Null, place-Number, place-Text, place-Name, place-Junction, place-Not, place-Compare, place-IsNull, place-Between, place-In, place-Like, place-Chain, place-Signed, place-Call, place-Parenthesized, place-Subquery, place-Exists, place-Case, place-Cast, place-Coalesce, place-NullIf, place-Function, place-Position, place-Substring, place-Trim)
+pub ruleset expr_places = (place-Null, place-Number, place-Text, place-Name, place-LogicalOperator, place-Not, place-Compare, place-IsNull, place-Between, place-In, place-Like, place-OperatorChain, place-Signed, place-Call, place-Parenthesized, place-Subquery, place-Exists, place-Case, place-Cast, place-Coalesce, place-NullIf, place-Function, place-Position, place-Substring, place-Trim)
 
 -- ---- items of queries
 

@@ -76,7 +76,7 @@ pub readable : IsReadable productions after height
 readable = readable_of productions after height part_fit alive
 
 module _ {X : Type 0} {g : Gram X} {follow : List ℕ} (fit : Fit after follow g) where
-  -- what the reader with so many levels left answers is exact
+  -- what the reader with n levels left answers is exact
   pub exact_run : (levels depth limit : ℕ) → depth + levels ≡ limit → (ts : List Placed) → Holds (Spells productions depth g) AtEnd limit ts (reads productions levels g ts)
   exact_run levels depth limit e ts = reads_run productions after height readable levels depth limit e g follow fit.holds ts
 

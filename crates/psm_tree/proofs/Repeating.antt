@@ -5,7 +5,7 @@ use Rattle.psm_token.specs.Kinds.{kind}
 use Rattle.psm_token.specs.declared.token.Placed.{Placed}
 use Rattle.psm_grammar.specs.Grammar.{many}
 use Rattle.psm_grammar.specs.Gives.{Halts}
-use Rattle.psm_grammar.specs.Loop.{behind}
+use Rattle.psm_grammar.specs.Loop.{following}
 use Rattle.psm_grammar.specs.Readers.{Out, Stop, Wrong, TooDeep, and_then, starts, first, repeat}
 use Rattle.psm_grammar.specs.declared.halt.Halt.{Halt}
 use Rattle.psm_grammar.specs.declared.halt.Halt.TheVariants as halt
@@ -13,21 +13,21 @@ use Rattle.psm_tree.specs.ExprGrammar.{Gram}
 use Rattle.psm_tree.specs.Readers.{reading, Repeating}
 use Rattle.psm_tree.proofs.Reading.{reading_many}
 
-behind_none : {X : Type 0} (o : Out Placed (List X)) → behind [] o ≡ o
-behind_none (Ok r) = refl
-behind_none (Err e) = refl
+after_none : {X : Type 0} (o : Out Placed (List X)) → following [] o ≡ o
+after_none (Ok r) = refl
+after_none (Err e) = refl
 
-behind_one : {X : Type 0} (items : List X) (x : X) (o : Out Placed (List X)) → behind items (and_then o (λ xs end. Ok (x ∷ xs, end))) ≡ behind (items ++ x ∷ []) o
-behind_one items x (Ok r) = ap (λ xs. Ok (xs, r.1)) (sym (append_assoc items (x ∷ []) r.0))
-behind_one items x (Err s) = refl
+after_one : {X : Type 0} (items : List X) (x : X) (o : Out Placed (List X)) → following items (and_then o (λ xs end. Ok (x ∷ xs, end))) ≡ following (items ++ x ∷ []) o
+after_one items x (Ok r) = ap (λ xs. Ok (xs, r.1)) (sym (append_assoc items (x ∷ []) r.0))
+after_one items x (Err s) = refl
 
 module _ {X : Type 0} (levels : ℕ) (p : Gram X) where
-  none_read : (start : List Placed) → behind [] (repeat kind (first p) (reading levels p) (length start) start) ≡ reading levels (many p) start
-  none_read start = behind_none (repeat kind (first p) (reading levels p) (length start) start) ∙ sym (reading_many levels p start)
+  none_read : (start : List Placed) → following [] (repeat kind (first p) (reading levels p) (length start) start) ≡ reading levels (many p) start
+  none_read start = after_none (repeat kind (first p) (reading levels p) (length start) start) ∙ sym (reading_many levels p start)
 
   -- nothing is read yet
   pub turns_begin : (start : List Placed) (items : List X) (turns : ℕ) → items ≡ [] → turns ≡ length start → Repeating levels p start items turns start
-  turns_begin start items turns e h = record { same = (λ i. behind (e i) (repeat kind (first p) (reading levels p) (h i) start)) ∙ none_read start }
+  turns_begin start items turns e h = record { same = (λ i. following (e i) (repeat kind (first p) (reading levels p) (h i) start)) ∙ none_read start }
 
   more : (turns : ℕ) (rest : List Placed) → starts kind (first p) rest ≡ true → repeat kind (first p) (reading levels p) (suc turns) rest
       ≡ and_then (reading levels p rest) (λ x end. and_then (repeat kind (first p) (reading levels p) turns end) (λ xs end. Ok (x ∷ xs, end)))
@@ -39,22 +39,22 @@ module _ {X : Type 0} (levels : ℕ) (p : Gram X) where
   turns_go_on start items zero left rest x next l h s e = absurd (omega (arith, h))
   turns_go_on start items (suc turns) left rest x next l h s e = let count : left ≡ turns = omega (arith, h) in
       record {
-        same = sym (behind_one items x (repeat kind (first p) (reading levels p) left next))
-            ∙ ap (λ m. behind items (and_then (repeat kind (first p) (reading levels p) m next) (λ xs end. Ok (x ∷ xs, end)))) count
-            ∙ ap (λ o. behind items (and_then o (λ x end. and_then (repeat kind (first p) (reading levels p) turns end) (λ xs end. Ok (x ∷ xs, end))))) (sym e)
-            ∙ ap (behind items) (sym (more turns rest s)) ∙ l.same;
+        same = sym (after_one items x (repeat kind (first p) (reading levels p) left next))
+            ∙ ap (λ m. following items (and_then (repeat kind (first p) (reading levels p) m next) (λ xs end. Ok (x ∷ xs, end)))) count
+            ∙ ap (λ o. following items (and_then o (λ x end. and_then (repeat kind (first p) (reading levels p) turns end) (λ xs end. Ok (x ∷ xs, end))))) (sym e)
+            ∙ ap (following items) (sym (more turns rest s)) ∙ l.same;
       }
 
   none : (turns : ℕ) (rest : List Placed) → starts kind (first p) rest ≡ false → repeat kind (first p) (reading levels p) turns rest ≡ Ok ([], rest)
   none zero rest s = refl
   none (suc turns) rest s = rw s refl
 
-  all : (items : List X) (rest : List Placed) → behind items (Ok ([], rest)) ≡ Ok (items, rest)
+  all : (items : List X) (rest : List Placed) → following items (Ok ([], rest)) ≡ Ok (items, rest)
   all items rest = ap (λ xs. Ok (xs, rest)) (append-nil items)
 
   -- the part is not there any more
   pub turns_end : (start : List Placed) (items : List X) (turns : ℕ) (rest : List Placed) → Repeating levels p start items turns rest → starts kind (first p) rest ≡ false → reading levels (many p) start ≡ Ok (items, rest)
-  turns_end start items turns rest l s = sym l.same ∙ ap (behind items) (none turns rest s) ∙ all items rest
+  turns_end start items turns rest l s = sym l.same ∙ ap (following items) (none turns rest s) ∙ all items rest
 
   -- no token is left for a further turn
   pub turns_run_out : (start : List Placed) (items : List X) (turns : ℕ) (rest : List Placed) → Repeating levels p start items turns rest → turns ≡ 0 → reading levels (many p) start ≡ Ok (items, rest)
@@ -63,8 +63,8 @@ module _ {X : Type 0} (levels : ℕ) (p : Gram X) where
 
   fails : (start : List Placed) (items : List X) (turns : ℕ) (rest : List Placed) → Repeating levels p start items (suc turns) rest → starts kind (first p) rest ≡ true
       → (stop : Stop Placed) → reading levels p rest ≡ Err stop → reading levels (many p) start ≡ Err stop
-  fails start items turns rest l s stop e = sym l.same ∙ ap (behind items) (more turns rest s)
-      ∙ ap (λ o. behind items (and_then o (λ x end. and_then (repeat kind (first p) (reading levels p) turns end) (λ xs end. Ok (x ∷ xs, end))))) e
+  fails start items turns rest l s stop e = sym l.same ∙ ap (following items) (more turns rest s)
+      ∙ ap (λ o. following items (and_then o (λ x end. and_then (repeat kind (first p) (reading levels p) turns end) (λ xs end. Ok (x ∷ xs, end))))) e
 
   -- the part stops
   pub turns_halt : (start : List Placed) (items : List X) (turns : ℕ) (rest : List Placed) (e : Halt) → Repeating levels p start items turns rest → 1 ≤ turns → starts kind (first p) rest ≡ true

@@ -17,17 +17,17 @@ use Rattle.psm_tree.proofs.ExprFits.{after, expr_fit, source_fit, sources_fit, p
 abbrev Fits : {X : Type 0} → List ℕ → Grammar kind V X → Type 0
 Fits follow g = Fit after follow g
 
--- what stands behind a statement
+-- what stands after a statement
 abbrev pub semicolon : List ℕ
 semicolon = sign_kind s.Semicolon ∷ []
 
 -- ---- simple statements
 
--- what may stand behind a query with its order
-abbrev pub behind_ordered : List ℕ
-behind_ordered = sign_kind s.Semicolon ∷ kinds_of (w.For ∷ w.Do ∷ [])
+-- what may stand after a query with its order
+abbrev pub after_ordered : List ℕ
+after_ordered = sign_kind s.Semicolon ∷ kinds_of (w.For ∷ w.Do ∷ [])
 
-pub ordered_fit : Fits behind_ordered StatementGrammar.ordered_select
+pub ordered_fit : Fits after_ordered StatementGrammar.ordered_select
 unfolding StatementGrammar.all_statements
 ordered_fit = fit_seq (fit_fewer refl select_fit) (record { holds = refl })
 

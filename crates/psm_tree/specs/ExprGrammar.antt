@@ -5,12 +5,12 @@ use Rattle.psm_token.specs.declared.word.Word.TheVariants as w
 use Rattle.psm_token.specs.declared.sign.Sign.TheVariants as s
 use Rattle.psm_list.specs.Several.{Several}
 use Rattle.psm_grammar.specs.Grammar.{Grammar, token, level, nothing, seq, or, ahead, many, image}
-use Rattle.psm_grammar.specs.Forms.{optional, behind_token, before_token}
+use Rattle.psm_grammar.specs.Forms.{optional, after_token, before_token}
 use Rattle.psm_token.specs.Words.{word_kind}
 use Rattle.psm_token.specs.Kinds.{kind}
 use Rattle.psm_tree.specs.Tests.{At, word, sign, name, number, text, plus_minus, comparison, sum_operator, term_operator, text_function, set_function, trim_side, integer_word, numeric_word, char_word}
 use Rattle.psm_tree.specs.Parts.{Cases, Enclosed, Arguments, ExistsRest, CaseRest, CastRest, CoalesceRest, NullIfRest, FunctionRest, PositionRest, SubstringRest, TrimRest, V, Inside, Value, Query}
-use Rattle.psm_tree.specs.ExprValues.{pair, triple, several, cons, none, target_of, type_of, formed, precision_of, numeric_of, varchar_form, char_form, char_alone, number_constant, signed_constant, text_constant, null_constant, expr_of, conjunction_of, negated, Test, Nothing, predicate_of, compare_of, null_of, between_of, in_of, like_of, chain_of, link_of, signed, NameRest, Bare, Dotted, number_primary, text_primary, named, called, enclosed_of, exists_of, case_of, cast_of, coalesce_of, nullif_of, function_of, position_of, substring_of, trim_of, both_sides, Whens, whens_of, case_alone, case_over, when_of, null_source, From, from_of, select_of, all_picks, Item, pick_of, expr_item, count_of, all_rows, aggregate_of}
+use Rattle.psm_tree.specs.ExprValues.{pair, triple, several, cons, none, target_of, type_of, formed, precision_of, numeric_of, varchar_form, char_form, char_alone, number_constant, signed_constant, text_constant, null_constant, expr_of, conjunction_of, negated, Test, Nothing, predicate_of, compare_of, null_of, between_of, in_of, like_of, operator_chain_of, chain_link_of, signed, NameRest, Bare, Dotted, number_primary, text_primary, named, called, enclosed_of, exists_of, case_of, cast_of, coalesce_of, nullif_of, function_of, position_of, substring_of, trim_of, both_sides, Whens, whens_of, case_alone, case_over, when_of, null_source, From, from_of, select_of, all_picks, Item, pick_of, expr_item, count_of, all_rows, aggregate_of}
 use Rattle.psm_tree.specs.declared.name.Identifier.{Identifier}
 use Rattle.psm_tree.specs.declared.name.Target.{Target}
 use Rattle.psm_tree.specs.Names.{Names, Targets}
@@ -20,7 +20,7 @@ use Rattle.psm_tree.specs.declared.types.TypeForm.TheVariants as forms
 use Rattle.psm_tree.specs.declared.types.DataType.{DataType}
 use Rattle.psm_tree.specs.declared.types.Constant.{Constant}
 use Rattle.psm_tree.specs.declared.expr.Expr.{Expr}
-use Rattle.psm_tree.specs.declared.expr.Link.{Link}
+use Rattle.psm_tree.specs.declared.expr.ChainLink.{ChainLink}
 use Rattle.psm_tree.specs.declared.expr.TrimSide.{TrimSide}
 use Rattle.psm_tree.specs.declared.expr.When.{When}
 use Rattle.psm_tree.specs.declared.expr.Select.{Select}
@@ -36,20 +36,20 @@ closed p = before_token p (sign s.RightParen)
 
 -- what stands in parentheses
 abbrev pub within_parens : {X : Type 0} → Gram X → Gram X
-within_parens p = behind_token (sign s.LeftParen) (closed p)
+within_parens p = after_token (sign s.LeftParen) (closed p)
 
 -- ---- names
 
 -- target = name ["." name]
 unfoldable pub second_name : Gram Identifier
-second_name = behind_token (sign s.Period) (token name)
+second_name = after_token (sign s.Period) (token name)
 
 unfoldable pub target : Gram Target
 target = seq target_of (token name) (optional second_name)
 
 -- names = name {"," name}
 unfoldable pub next_name : Gram Identifier
-next_name = behind_token (sign s.Comma) (token name)
+next_name = after_token (sign s.Comma) (token name)
 
 unfoldable pub next_names : Gram (List Identifier)
 next_names = many next_name
@@ -62,7 +62,7 @@ names_in_parens = within_parens names
 
 -- targets = target {"," target}
 unfoldable pub next_target : Gram Target
-next_target = behind_token (sign s.Comma) target
+next_target = after_token (sign s.Comma) target
 
 unfoldable pub next_targets : Gram (List Target)
 next_targets = many next_target
@@ -78,7 +78,7 @@ type_length = within_parens (token number)
 
 -- precision = "(" num ["," num] ")"
 unfoldable pub scale : Gram (At Num)
-scale = behind_token (sign s.Comma) (token number)
+scale = after_token (sign s.Comma) (token number)
 
 unfoldable pub precision : Gram Precision
 precision = within_parens (seq precision_of (token number) (optional scale))
@@ -97,7 +97,7 @@ plain_type = or (image (type_of forms.SmallInt) (token (word w.SmallInt)))
 
 -- char_rest = VARYING type_length | [type_length]
 unfoldable pub varying : Gram TypeForm
-varying = behind_token (word w.Varying) (image varchar_form type_length)
+varying = after_token (word w.Varying) (image varchar_form type_length)
 
 unfoldable pub char_length : Gram TypeForm
 char_length = or (image char_form type_length) (nothing char_alone)
@@ -157,34 +157,34 @@ unfoldable pub factor : Gram Expr
 factor = or (seq signed (token plus_minus) primary) primary
 
 -- term = factor {("*"|"/") factor}
-unfoldable pub next_factor : Gram Link
-next_factor = seq link_of (token term_operator) factor
+unfoldable pub next_factor : Gram ChainLink
+next_factor = seq chain_link_of (token term_operator) factor
 
-unfoldable pub next_factors : Gram (List Link)
+unfoldable pub next_factors : Gram (List ChainLink)
 next_factors = many next_factor
 
 unfoldable pub term : Gram Expr
-term = seq chain_of factor next_factors
+term = seq operator_chain_of factor next_factors
 
 -- sum = term {("+"|"-"|"||") term}
-unfoldable pub next_term : Gram Link
-next_term = seq link_of (token sum_operator) term
+unfoldable pub next_term : Gram ChainLink
+next_term = seq chain_link_of (token sum_operator) term
 
-unfoldable pub next_terms : Gram (List Link)
+unfoldable pub next_terms : Gram (List ChainLink)
 next_terms = many next_term
 
 unfoldable pub sum : Gram Expr
-sum = seq chain_of term next_terms
+sum = seq operator_chain_of term next_terms
 
 -- ---- conditions
 
 -- between = BETWEEN sum AND sum
 unfoldable pub between : Gram (Expr × Expr)
-between = behind_token (word w.Between) (seq pair sum (behind_token (word w.And) sum))
+between = after_token (word w.Between) (seq pair sum (after_token (word w.And) sum))
 
 -- in_list = IN "(" sum {"," sum} ")"
 unfoldable pub next_sum : Gram Expr
-next_sum = behind_token (sign s.Comma) sum
+next_sum = after_token (sign s.Comma) sum
 
 unfoldable pub next_sums : Gram (List Expr)
 next_sums = many next_sum
@@ -193,18 +193,18 @@ unfoldable pub sums_in_parens : Gram (Several Expr)
 sums_in_parens = within_parens (seq several sum next_sums)
 
 unfoldable pub in_list : Gram (Several Expr)
-in_list = behind_token (word w.In) sums_in_parens
+in_list = after_token (word w.In) sums_in_parens
 
 -- like = LIKE sum [ESCAPE sum]
 unfoldable pub escape : Gram Expr
-escape = behind_token (word w.Escape) sum
+escape = after_token (word w.Escape) sum
 
 unfoldable pub like : Gram (Expr × Option Expr)
-like = behind_token (word w.Like) (seq pair sum (optional escape))
+like = after_token (word w.Like) (seq pair sum (optional escape))
 
 -- is_null = IS [NOT] NULL
 unfoldable pub is_null : Gram Test
-is_null = behind_token (word w.Is) (seq null_of (optional (token (word w.Not))) (token (word w.Null)))
+is_null = after_token (word w.Is) (seq null_of (optional (token (word w.Not))) (token (word w.Null)))
 
 -- compare = ("="|"<>"|"<"|"<="|">"|">=") sum
 unfoldable pub compare : Gram Test
@@ -217,7 +217,7 @@ negatable = or (image (between_of true) between)
     (image (like_of true) like))
 
 unfoldable pub negated_test : Gram Test
-negated_test = behind_token (word w.Not) negatable
+negated_test = after_token (word w.Not) negatable
 
 -- predicate_rest = [compare | is_null | negated_test | between | in_list | like]
 unfoldable pub predicate_rest : Gram Test
@@ -239,7 +239,7 @@ negation = or (seq negated (token (word w.Not)) predicate) predicate
 
 -- conjunction = negation {AND negation}
 unfoldable pub next_negation : Gram Expr
-next_negation = behind_token (word w.And) negation
+next_negation = after_token (word w.And) negation
 
 unfoldable pub next_negations : Gram (List Expr)
 next_negations = many next_negation
@@ -249,7 +249,7 @@ conjunction = seq conjunction_of negation next_negations
 
 -- expr = conjunction {OR conjunction}
 unfoldable pub next_conjunction : Gram Expr
-next_conjunction = behind_token (word w.Or) conjunction
+next_conjunction = after_token (word w.Or) conjunction
 
 unfoldable pub next_conjunctions : Gram (List Expr)
 next_conjunctions = many next_conjunction
@@ -263,7 +263,7 @@ source = or (image null_source (token (word w.Null))) expr
 
 -- sources = source {"," source}
 unfoldable pub next_source : Gram Expr
-next_source = behind_token (sign s.Comma) source
+next_source = after_token (sign s.Comma) source
 
 unfoldable pub next_sources : Gram (List Expr)
 next_sources = many next_source
@@ -290,7 +290,7 @@ item = or count
 
 -- alias = [[AS] name]
 unfoldable pub alias : Gram (Option Identifier)
-alias = or (image Some (behind_token (word w.As) (token name)))
+alias = or (image Some (after_token (word w.As) (token name)))
     (or (image Some (token name))
     (nothing None))
 
@@ -299,7 +299,7 @@ unfoldable pub pick : Gram Pick
 pick = seq pick_of item alias
 
 unfoldable pub next_pick : Gram Pick
-next_pick = behind_token (sign s.Comma) pick
+next_pick = after_token (sign s.Comma) pick
 
 unfoldable pub next_picks : Gram (List Pick)
 next_picks = many next_pick
@@ -309,16 +309,16 @@ picks = or (image all_picks (token (sign s.Asterisk))) (seq several pick next_pi
 
 -- from = name [alias] [WHERE expr]
 unfoldable pub where_condition : Gram Expr
-where_condition = behind_token (word w.Where) expr
+where_condition = after_token (word w.Where) expr
 
 unfoldable pub from_table : Gram From
 from_table = seq from_of (token name) (seq pair alias (optional where_condition))
 
 -- select = SELECT picks FROM from
 unfoldable pub select : Gram Select
-select = seq select_of (token (word w.Select)) (seq pair picks (behind_token (word w.From) from_table))
+select = seq select_of (token (word w.Select)) (seq pair picks (after_token (word w.From) from_table))
 
--- ---- what stands behind a token that opens a level
+-- ---- what stands after a token that opens a level
 
 -- inside = (select | expr) ")"
 unfoldable pub enclosed : Gram Inside
@@ -336,13 +336,13 @@ exists_rest = within_parens select
 
 -- case_rest = [expr] WHEN expr THEN source {WHEN expr THEN source} [ELSE source] END
 unfoldable pub when : Gram When
-when = behind_token (word w.When) (seq when_of expr (behind_token (word w.Then) source))
+when = after_token (word w.When) (seq when_of expr (after_token (word w.Then) source))
 
 unfoldable pub next_whens : Gram (List When)
 next_whens = many when
 
 unfoldable pub otherwise : Gram Expr
-otherwise = behind_token (word w.Else) source
+otherwise = after_token (word w.Else) source
 
 unfoldable pub all_whens : Gram (Several When)
 all_whens = seq several when next_whens
@@ -355,39 +355,39 @@ case_rest = or (image case_alone whens) (seq case_over expr whens)
 
 -- cast_rest = "(" source AS type ")"
 unfoldable pub cast_rest : Gram (Expr × DataType)
-cast_rest = within_parens (seq pair source (behind_token (word w.As) data_type))
+cast_rest = within_parens (seq pair source (after_token (word w.As) data_type))
 
 unfoldable pub coalesce_rest : Gram (Several Expr)
 coalesce_rest = within_parens sources
 
 -- nullif_rest = "(" expr "," expr ")"
 unfoldable pub nullif_rest : Gram (Expr × Expr)
-nullif_rest = within_parens (seq pair expr (behind_token (sign s.Comma) expr))
+nullif_rest = within_parens (seq pair expr (after_token (sign s.Comma) expr))
 
 unfoldable pub function_rest : Gram Expr
 function_rest = within_parens expr
 
 -- position_rest = "(" sum IN sum ")"
 unfoldable pub position_rest : Gram (Expr × Expr)
-position_rest = within_parens (seq pair sum (behind_token (word w.In) sum))
+position_rest = within_parens (seq pair sum (after_token (word w.In) sum))
 
 -- substring_rest = "(" expr FROM expr [FOR expr] ")"
 unfoldable pub for_length : Gram Expr
-for_length = behind_token (word w.For) expr
+for_length = after_token (word w.For) expr
 
 unfoldable pub substring_rest : Gram (Expr × Expr × Option Expr)
-substring_rest = within_parens (seq triple expr (behind_token (word w.From) (seq pair expr (optional for_length))))
+substring_rest = within_parens (seq triple expr (after_token (word w.From) (seq pair expr (optional for_length))))
 
 -- trim_rest = "(" [(LEADING|TRAILING|BOTH) FROM] expr ")"
 unfoldable pub sided : Gram (TrimSide × Expr)
-sided = seq pair (token trim_side) (behind_token (word w.From) expr)
+sided = seq pair (token trim_side) (after_token (word w.From) expr)
 
 unfoldable pub trimmed : Gram (TrimSide × Expr)
 trimmed = ahead (word_kind w.Leading ∷ word_kind w.Trailing ∷ word_kind w.Both ∷ []) (word_kind w.From ∷ [])
     (closed sided) (closed (image both_sides expr))
 
 unfoldable pub trim_rest : Gram (TrimSide × Expr)
-trim_rest = behind_token (sign s.LeftParen) trimmed
+trim_rest = after_token (sign s.LeftParen) trimmed
 
 -- ---- a name that opens every production of names, types, constants, expressions and queries
 

@@ -16,11 +16,11 @@ use Rattle.psm_tree.specs.declared.types.ConstantForm.TheVariants as constants
 use Rattle.psm_tree.specs.declared.types.Constant.{Constant}
 use Rattle.psm_tree.specs.declared.expr.Expr.{Expr}
 use Rattle.psm_tree.specs.declared.expr.Expr.TheVariants as exprs
-use Rattle.psm_tree.specs.declared.expr.Junction.{Junction}
-use Rattle.psm_tree.specs.declared.expr.Junction.TheVariants as junctions
+use Rattle.psm_tree.specs.declared.expr.LogicalOperator.{LogicalOperator}
+use Rattle.psm_tree.specs.declared.expr.LogicalOperator.TheVariants as logical_operators
 use Rattle.psm_tree.specs.declared.expr.Comparison.{Comparison}
 use Rattle.psm_tree.specs.declared.expr.Operator.{Operator}
-use Rattle.psm_tree.specs.declared.expr.Link.{Link, roll-Link}
+use Rattle.psm_tree.specs.declared.expr.ChainLink.{ChainLink, roll-ChainLink}
 use Rattle.psm_tree.specs.declared.expr.TextFunction.{TextFunction}
 use Rattle.psm_tree.specs.declared.expr.TrimSide.{TrimSide}
 use Rattle.psm_tree.specs.declared.expr.TrimSide.TheVariants as sides
@@ -88,15 +88,15 @@ null_constant place = record { place = place; form = constants.Null }
 -- ---- conditions
 
 -- conditions with AND or OR between them; a lone one is itself
-abbrev pub joined : Junction → Expr → List Expr → Expr
-joined junction first [] = first
-joined junction first (next ∷ rest) = exprs.Junction junction (several first (next ∷ rest))
+abbrev pub joined : LogicalOperator → Expr → List Expr → Expr
+joined logical_operator first [] = first
+joined logical_operator first (next ∷ rest) = exprs.LogicalOperator logical_operator (several first (next ∷ rest))
 
 abbrev pub expr_of : Expr → List Expr → Expr
-expr_of first rest = joined junctions.Or first rest
+expr_of first rest = joined logical_operators.Or first rest
 
 abbrev pub conjunction_of : Expr → List Expr → Expr
-conjunction_of first rest = joined junctions.And first rest
+conjunction_of first rest = joined logical_operators.And first rest
 
 abbrev pub negated : Place → Expr → Expr
 negated place condition = exprs.Not place condition
@@ -137,19 +137,19 @@ like_of negated p = Like negated p.0 p.1
 -- ---- values
 
 -- operands with operators of one level between them; a lone one is itself
-abbrev pub chain_of : Expr → List Link → Expr
-chain_of first [] = first
-chain_of first (link ∷ rest) = exprs.Chain first (link ∷ rest)
+abbrev pub operator_chain_of : Expr → List ChainLink → Expr
+operator_chain_of first [] = first
+operator_chain_of first (chain_link ∷ rest) = exprs.OperatorChain first (chain_link ∷ rest)
 
-abbrev pub link_of : Operator → Expr → Link
-link_of operator operand = roll-Link (record { operator = operator; operand = operand })
+abbrev pub chain_link_of : Operator → Expr → ChainLink
+chain_link_of operator operand = roll-ChainLink (record { operator = operator; operand = operand })
 
 abbrev pub signed : At Sign → Expr → Expr
 signed sign operand = exprs.Signed sign.place sign.value operand
 
 -- ---- primaries
 
--- what stands behind a name
+-- what stands after a name
 pub data NameRest : Type 0 where
   Bare : NameRest
   Dotted : Identifier → NameRest
@@ -205,7 +205,7 @@ both_sides text = (sides.Both, text)
 
 -- ---- CASE
 
--- the branches of a CASE expression behind its operand
+-- the branches of a CASE expression after its operand
 pub record Whens : Type 0 where
   pub whens : Several When
   pub otherwise : Option Expr

@@ -5,12 +5,12 @@ use Rattle.psm_token.specs.declared.word.Word.TheVariants as w
 use Rattle.psm_token.specs.declared.sign.Sign.TheVariants as s
 use Rattle.psm_list.specs.Several.{Several}
 use Rattle.psm_grammar.specs.Grammar.{token, seq, or, ahead, many, image}
-use Rattle.psm_grammar.specs.Forms.{earlier, optional, behind_token, before_token}
+use Rattle.psm_grammar.specs.Forms.{earlier, optional, after_token, before_token}
 use Rattle.psm_token.specs.Words.{word_kind}
 use Rattle.psm_token.specs.Signs.{sign_kind}
 use Rattle.psm_tree.specs.Tests.{word, sign, name, char_word, mode}
 use Rattle.psm_tree.specs.ExprValues.{pair, triple, several, cons, none}
-use Rattle.psm_tree.specs.FileValues.{column_rule_at, column_rule_by, column_check, primary_key, unique, table_check, column_of, rule_element, TableRest, table_rest, moded, unmoded, note_at, note_by, returned_char, procedure_rest, procedure_of, function_rest, function_of, ModuleRest, module_rest, file_of, placeholder, constant_argument, constant_row, call_command, insert_command, select_command, commit_command, rollback_command, script_of}
+use Rattle.psm_tree.specs.FileValues.{column_rule_at, column_rule_by, column_check, primary_key, unique, table_check, column_of, rule_element, TableRest, table_rest, moded, unmoded, characteristic_at, characteristic_by, returned_char, procedure_rest, procedure_of, function_rest, function_of, ModuleRest, module_rest, file_of, placeholder, constant_argument, constant_row, call_command, insert_command, select_command, commit_command, rollback_command, script_of}
 use Rattle.psm_tree.specs.ExprGrammar.{Gram, closed, within_parens, names_in_parens, varying, char_length, plain_type, data_type, constant, expr}
 use Rattle.psm_tree.specs.StatementGrammar.{all_statements, statement, ordered_select}
 use Rattle.psm_tree.specs.declared.name.Identifier.{Identifier}
@@ -24,8 +24,8 @@ use Rattle.psm_tree.specs.declared.file.ColumnRule.{ColumnRule}
 use Rattle.psm_tree.specs.declared.file.ColumnRuleForm.TheVariants as column_rules
 use Rattle.psm_tree.specs.declared.file.TableRule.{TableRule}
 use Rattle.psm_tree.specs.declared.file.Parameter.{Parameter}
-use Rattle.psm_tree.specs.declared.file.NoteForm.TheVariants as notes
-use Rattle.psm_tree.specs.declared.file.Note.{Note}
+use Rattle.psm_tree.specs.declared.file.CharacteristicForm.TheVariants as characteristics
+use Rattle.psm_tree.specs.declared.file.Characteristic.{Characteristic}
 use Rattle.psm_tree.specs.declared.file.Routine.{Routine}
 use Rattle.psm_tree.specs.declared.script.ScriptTree.{ScriptTree}
 use Rattle.psm_tree.specs.declared.script.Argument.{Argument}
@@ -42,33 +42,33 @@ plain_column_rule = or (seq (column_rule_by column_rules.NotNull) (token (word w
     (seq column_check (token (word w.Check)) (within_parens expr))))
 
 unfoldable pub column_rule : Gram ColumnRule
-column_rule = or (behind_token (word w.Constraint) (behind_token name plain_column_rule)) plain_column_rule
+column_rule = or (after_token (word w.Constraint) (after_token name plain_column_rule)) plain_column_rule
 
 unfoldable pub column_rule_list : Gram (List ColumnRule)
 column_rule_list = many column_rule
 
 -- column = name type [DEFAULT const] {column_rule}
 unfoldable pub default_constant : Gram Constant
-default_constant = behind_token (word w.Default) constant
+default_constant = after_token (word w.Default) constant
 
 unfoldable pub column : Gram Element
 column = seq column_of (token name) (seq triple data_type (seq pair (optional default_constant) column_rule_list))
 
 -- table_rule = [CONSTRAINT name] (PRIMARY KEY names | UNIQUE names | CHECK "(" expr ")")
 unfoldable pub plain_table_rule : Gram TableRule
-plain_table_rule = or (seq primary_key (token (word w.Primary)) (behind_token (word w.Key) names_in_parens))
+plain_table_rule = or (seq primary_key (token (word w.Primary)) (after_token (word w.Key) names_in_parens))
     (or (seq unique (token (word w.Unique)) names_in_parens)
     (seq table_check (token (word w.Check)) (within_parens expr)))
 
 unfoldable pub table_rule : Gram TableRule
-table_rule = or (behind_token (word w.Constraint) (behind_token name plain_table_rule)) plain_table_rule
+table_rule = or (after_token (word w.Constraint) (after_token name plain_table_rule)) plain_table_rule
 
 -- table = name "(" element {"," element} ")"
 unfoldable pub element : Gram Element
 element = or column (image rule_element table_rule)
 
 unfoldable pub next_element : Gram Element
-next_element = behind_token (sign s.Comma) element
+next_element = after_token (sign s.Comma) element
 
 unfoldable pub next_elements : Gram (List Element)
 next_elements = many next_element
@@ -89,7 +89,7 @@ unfoldable pub param : Gram Parameter
 param = or (seq moded (token mode) named_type) (image unmoded named_type)
 
 unfoldable pub next_param : Gram Parameter
-next_param = behind_token (sign s.Comma) param
+next_param = after_token (sign s.Comma) param
 
 unfoldable pub next_params : Gram (List Parameter)
 next_params = many next_param
@@ -102,47 +102,47 @@ unfoldable pub param_rest : Gram (List Parameter)
 param_rest = or (image none (token (sign s.RightParen))) param_list
 
 unfoldable pub params : Gram (List Parameter)
-params = behind_token (sign s.LeftParen) param_rest
+params = after_token (sign s.LeftParen) param_rest
 
--- note = LANGUAGE SQL | DETERMINISTIC | NOT DETERMINISTIC | CONTAINS SQL | READS SQL DATA | MODIFIES SQL DATA
+-- characteristic = LANGUAGE SQL | DETERMINISTIC | NOT DETERMINISTIC | CONTAINS SQL | READS SQL DATA | MODIFIES SQL DATA
 unfoldable pub sql_data : Gram Place
-sql_data = behind_token (word w.Sql) (token (word w.Data))
+sql_data = after_token (word w.Sql) (token (word w.Data))
 
-unfoldable pub note : Gram Note
-note = or (seq (note_by notes.Language) (token (word w.Language)) (token (word w.Sql)))
-    (or (image (note_at notes.Deterministic) (token (word w.Deterministic)))
-    (or (seq (note_by notes.NotDeterministic) (token (word w.Not)) (token (word w.Deterministic)))
-    (or (seq (note_by notes.ContainsSql) (token (word w.Contains)) (token (word w.Sql)))
-    (or (seq (note_by notes.ReadsSqlData) (token (word w.Reads)) sql_data)
-    (seq (note_by notes.ModifiesSqlData) (token (word w.Modifies)) sql_data)))))
+unfoldable pub characteristic : Gram Characteristic
+characteristic = or (seq (characteristic_by characteristics.Language) (token (word w.Language)) (token (word w.Sql)))
+    (or (image (characteristic_at characteristics.Deterministic) (token (word w.Deterministic)))
+    (or (seq (characteristic_by characteristics.NotDeterministic) (token (word w.Not)) (token (word w.Deterministic)))
+    (or (seq (characteristic_by characteristics.ContainsSql) (token (word w.Contains)) (token (word w.Sql)))
+    (or (seq (characteristic_by characteristics.ReadsSqlData) (token (word w.Reads)) sql_data)
+    (seq (characteristic_by characteristics.ModifiesSqlData) (token (word w.Modifies)) sql_data)))))
 
-unfoldable pub note_list : Gram (List Note)
-note_list = many note
+unfoldable pub characteristic_list : Gram (List Characteristic)
+characteristic_list = many characteristic
 
-unfoldable pub noted_statement : Gram (List Note × Statement)
-noted_statement = seq pair note_list statement
+unfoldable pub noted_statement : Gram (List Characteristic × Statement)
+noted_statement = seq pair characteristic_list statement
 
--- procedure = PROCEDURE name params {note} statement
+-- procedure = PROCEDURE name params {characteristic} statement
 unfoldable pub procedure : Gram Routine
 procedure = seq procedure_of (token (word w.Procedure)) (seq procedure_rest (token name) (seq pair params noted_statement))
 
--- returned = type {note} statement, where VARYING may also be the label of the statement
-unfoldable pub char_returned : Gram (TypeForm × (List Note × Statement))
+-- returned = type {characteristic} statement, where VARYING may also be the label of the statement
+unfoldable pub char_returned : Gram (TypeForm × (List Characteristic × Statement))
 char_returned = ahead (word_kind w.Varying ∷ []) (sign_kind s.LeftParen ∷ []) (seq pair varying noted_statement) (seq pair char_length noted_statement)
 
-unfoldable pub returned : Gram (DataType × (List Note × Statement))
+unfoldable pub returned : Gram (DataType × (List Characteristic × Statement))
 returned = or (seq returned_char (token char_word) char_returned) (seq pair plain_type noted_statement)
 
 -- function = FUNCTION name params RETURNS returned
 unfoldable pub function : Gram Routine
-function = seq function_of (token (word w.Function)) (seq function_rest (token name) (seq pair params (behind_token (word w.Returns) returned)))
+function = seq function_of (token (word w.Function)) (seq function_rest (token name) (seq pair params (after_token (word w.Returns) returned)))
 
 -- routine = [DECLARE] (procedure | function)
 unfoldable pub plain_routine : Gram Routine
 plain_routine = or procedure function
 
 unfoldable pub routine : Gram Routine
-routine = or (behind_token (word w.Declare) plain_routine) plain_routine
+routine = or (after_token (word w.Declare) plain_routine) plain_routine
 
 unfoldable pub ended_routine : Gram Routine
 ended_routine = before_token routine (sign s.Semicolon)
@@ -154,17 +154,17 @@ ended_routines = many ended_routine
 
 -- module_part = MODULE name [LANGUAGE SQL] {routine ";"} END MODULE
 unfoldable pub language : Gram Place
-language = behind_token (word w.Language) (token (word w.Sql))
+language = after_token (word w.Language) (token (word w.Sql))
 
 unfoldable pub module_body : Gram (List Routine)
 module_body = before_token (before_token ended_routines (word w.End)) (word w.Module)
 
 unfoldable pub module_part : Gram ModuleRest
-module_part = behind_token (word w.Module) (seq module_rest (token name) (seq pair (optional language) module_body))
+module_part = after_token (word w.Module) (seq module_rest (token name) (seq pair (optional language) module_body))
 
 -- file = CREATE {TABLE table ";" CREATE} module_part [";"]
 unfoldable pub created_table : Gram (TableRest × Place)
-created_table = behind_token (word w.Table) (seq pair table (behind_token (sign s.Semicolon) (token (word w.Create))))
+created_table = after_token (word w.Table) (seq pair table (after_token (sign s.Semicolon) (token (word w.Create))))
 
 unfoldable pub created_tables : Gram (List (TableRest × Place))
 created_tables = many created_table
@@ -182,7 +182,7 @@ unfoldable pub argument : Gram Argument
 argument = or (image placeholder (token (sign s.QuestionMark))) (image constant_argument constant)
 
 unfoldable pub next_argument : Gram Argument
-next_argument = behind_token (sign s.Comma) argument
+next_argument = after_token (sign s.Comma) argument
 
 unfoldable pub next_arguments : Gram (List Argument)
 next_arguments = many next_argument
@@ -194,11 +194,11 @@ unfoldable pub script_arguments : Gram (List Argument)
 script_arguments = or (image none (token (sign s.RightParen))) script_argument_list
 
 unfoldable pub script_call : Gram Command
-script_call = seq call_command (token (word w.Call)) (seq pair (token name) (behind_token (sign s.LeftParen) script_arguments))
+script_call = seq call_command (token (word w.Call)) (seq pair (token name) (after_token (sign s.LeftParen) script_arguments))
 
 -- row = "(" const {"," const} ")"
 unfoldable pub next_constant : Gram Constant
-next_constant = behind_token (sign s.Comma) constant
+next_constant = after_token (sign s.Comma) constant
 
 unfoldable pub next_constants : Gram (List Constant)
 next_constants = many next_constant
@@ -210,7 +210,7 @@ unfoldable pub row : Gram ConstantRow
 row = seq constant_row (token (sign s.LeftParen)) (closed constants)
 
 unfoldable pub next_row : Gram ConstantRow
-next_row = behind_token (sign s.Comma) row
+next_row = after_token (sign s.Comma) row
 
 unfoldable pub next_rows : Gram (List ConstantRow)
 next_rows = many next_row
@@ -219,11 +219,11 @@ unfoldable pub rows : Gram (Several ConstantRow)
 rows = seq several row next_rows
 
 unfoldable pub script_values : Gram (Several ConstantRow)
-script_values = behind_token (word w.Values) rows
+script_values = after_token (word w.Values) rows
 
 -- INSERT INTO name [names] VALUES row {"," row}
 unfoldable pub script_insert : Gram Command
-script_insert = seq insert_command (token (word w.Insert)) (behind_token (word w.Into) (seq triple (token name) (seq pair (optional names_in_parens) script_values)))
+script_insert = seq insert_command (token (word w.Insert)) (after_token (word w.Into) (seq triple (token name) (seq pair (optional names_in_parens) script_values)))
 
 -- command = CALL .. | INSERT .. | select [order] | COMMIT [WORK] | ROLLBACK [WORK]
 unfoldable pub command : Gram Command
@@ -246,5 +246,5 @@ script = image script_of ended_commands
 -- ---- a name that opens every production of module files and scripts
 
 unfoldable pub all_files : Unit {0}
-unfolding all_statements plain_column_rule column_rule column_rule_list default_constant column plain_table_rule table_rule element next_element next_elements elements table named_type param next_param next_params param_list param_rest params sql_data note note_list noted_statement procedure char_returned returned function plain_routine routine ended_routine ended_routines language module_body module_part created_table created_tables last_module file argument next_argument next_arguments script_argument_list script_arguments script_call next_constant next_constants constants row next_row next_rows rows script_values script_insert command ended_command ended_commands script
+unfolding all_statements plain_column_rule column_rule column_rule_list default_constant column plain_table_rule table_rule element next_element next_elements elements table named_type param next_param next_params param_list param_rest params sql_data characteristic characteristic_list noted_statement procedure char_returned returned function plain_routine routine ended_routine ended_routines language module_body module_part created_table created_tables last_module file argument next_argument next_arguments script_argument_list script_arguments script_call next_constant next_constants constants row next_row next_rows rows script_values script_insert command ended_command ended_commands script
 all_files = tt

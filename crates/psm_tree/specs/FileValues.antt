@@ -25,8 +25,8 @@ use Rattle.psm_tree.specs.declared.file.TableRuleForm.TheVariants as table_rules
 use Rattle.psm_tree.specs.declared.file.Mode.{Mode}
 use Rattle.psm_tree.specs.declared.file.Mode.TheVariants as modes
 use Rattle.psm_tree.specs.declared.file.Parameter.{Parameter}
-use Rattle.psm_tree.specs.declared.file.NoteForm.{NoteForm}
-use Rattle.psm_tree.specs.declared.file.Note.{Note}
+use Rattle.psm_tree.specs.declared.file.CharacteristicForm.{CharacteristicForm}
+use Rattle.psm_tree.specs.declared.file.Characteristic.{Characteristic}
 use Rattle.psm_tree.specs.declared.file.Routine.{Routine}
 use Rattle.psm_tree.specs.declared.script.ScriptTree.{ScriptTree}
 use Rattle.psm_tree.specs.declared.script.Argument.{Argument}
@@ -65,7 +65,7 @@ column_of name p = elements.Column name p.0 p.1 p.2
 abbrev pub rule_element : TableRule → Element
 rule_element rule = elements.Rule rule
 
--- a table behind TABLE
+-- a table after TABLE
 pub record TableRest : Type 0 where
   pub name : Identifier
   pub elements : Several Element
@@ -85,45 +85,45 @@ moded mode p = record { place = mode.place; mode = mode.value; name = p.0; kind 
 abbrev pub unmoded : Identifier × DataType → Parameter
 unmoded p = record { place = p.0.place; mode = modes.In; name = p.0; kind = p.1 }
 
-abbrev pub note_at : NoteForm → Place → Note
-note_at form place = record { place = place; form = form }
+abbrev pub characteristic_at : CharacteristicForm → Place → Characteristic
+characteristic_at form place = record { place = place; form = form }
 
-abbrev pub note_by : NoteForm → Place → Place → Note
-note_by form place second = note_at form place
+abbrev pub characteristic_by : CharacteristicForm → Place → Place → Characteristic
+characteristic_by form place second = characteristic_at form place
 
-abbrev pub returned_char : Place → TypeForm × (List Note × Statement) → DataType × (List Note × Statement)
+abbrev pub returned_char : Place → TypeForm × (List Characteristic × Statement) → DataType × (List Characteristic × Statement)
 returned_char place p = (formed place p.0, p.1)
 
--- a procedure behind PROCEDURE
+-- a procedure after PROCEDURE
 pub record ProcedureRest : Type 0 where
   pub name : Identifier
   pub parameters : List Parameter
-  pub notes : List Note
+  pub characteristics : List Characteristic
   pub body : Statement
 
-abbrev pub procedure_rest : Identifier → List Parameter × (List Note × Statement) → ProcedureRest
-procedure_rest name p = record { name = name; parameters = p.0; notes = p.1.0; body = p.1.1 }
+abbrev pub procedure_rest : Identifier → List Parameter × (List Characteristic × Statement) → ProcedureRest
+procedure_rest name p = record { name = name; parameters = p.0; characteristics = p.1.0; body = p.1.1 }
 
 abbrev pub procedure_of : Place → ProcedureRest → Routine
-procedure_of place r = record { place = place; name = r.name; parameters = r.parameters; returns = None; notes = r.notes; body = r.body }
+procedure_of place r = record { place = place; name = r.name; parameters = r.parameters; returns = None; characteristics = r.characteristics; body = r.body }
 
--- a function behind FUNCTION
+-- a function after FUNCTION
 pub record FunctionRest : Type 0 where
   pub name : Identifier
   pub parameters : List Parameter
   pub returns : DataType
-  pub notes : List Note
+  pub characteristics : List Characteristic
   pub body : Statement
 
-abbrev pub function_rest : Identifier → List Parameter × (DataType × (List Note × Statement)) → FunctionRest
-function_rest name p = record { name = name; parameters = p.0; returns = p.1.0; notes = p.1.1.0; body = p.1.1.1 }
+abbrev pub function_rest : Identifier → List Parameter × (DataType × (List Characteristic × Statement)) → FunctionRest
+function_rest name p = record { name = name; parameters = p.0; returns = p.1.0; characteristics = p.1.1.0; body = p.1.1.1 }
 
 abbrev pub function_of : Place → FunctionRest → Routine
-function_of place r = record { place = place; name = r.name; parameters = r.parameters; returns = Some r.returns; notes = r.notes; body = r.body }
+function_of place r = record { place = place; name = r.name; parameters = r.parameters; returns = Some r.returns; characteristics = r.characteristics; body = r.body }
 
 -- ---- files
 
--- a module behind MODULE
+-- a module after MODULE
 pub record ModuleRest : Type 0 where
   pub name : Identifier
   pub routines : List Routine
@@ -131,7 +131,7 @@ pub record ModuleRest : Type 0 where
 abbrev pub module_rest : Identifier → Option Place × List Routine → ModuleRest
 module_rest name p = record { name = name; routines = p.1 }
 
--- the tables, each behind the CREATE before it; the first CREATE stands at a place of its own
+-- the tables, each after the CREATE before it; the first CREATE stands at a place of its own
 abbrev pub tables_from : Place → List (TableRest × Place) → List TableTree
 tables_from place [] = []
 tables_from place (t ∷ ts) = table_of place t.0 ∷ tables_from t.1 ts

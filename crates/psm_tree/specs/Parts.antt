@@ -1,4 +1,4 @@
--- The parts of the grammar that stand behind a token of their own, and what the words of each say.
+-- The parts of the grammar that stand after a token of their own, and what the words of each say.
 use Rattle.std.specs.Prelude.{Bool, List, Option}
 use Rattle.psm_list.specs.Several.{Several}
 use Rattle.psm_tree.specs.Tests.{At}
@@ -24,9 +24,9 @@ use Rattle.psm_tree.specs.declared.statement.HandlerValue.{HandlerValue}
 pub data Phase : Type 0 where
   Declarations Cursors Handlers : Phase
 
--- What stands behind a token that opens a level: the parenthesis of an expression or of arguments, the
+-- What stands after a token that opens a level: the parenthesis of an expression or of arguments, the
 -- word of a function or of CASE, the word of a statement that has statements, and the kind of a handler.
--- At the same level: the rest of a block behind a declaration, and a declaration behind its DECLARE.
+-- At the same level: the rest of a block after a declaration, and a declaration after its DECLARE.
 pub data Part : Type 0 where
   Enclosed Arguments ExistsRest CaseRest CastRest CoalesceRest NullIfRest FunctionRest PositionRest SubstringRest TrimRest : Part
   BeginRest LoopRest WhileRest RepeatRest ForRest IfRest CaseStatementRest HandlerRest : Part
@@ -38,7 +38,7 @@ pub data Inside : Type 0 where
   Value : Expr → Inside
   Query : Select → Inside
 
--- the branches of a CASE expression, behind its operand where it has one
+-- the branches of a CASE expression, after its operand where it has one
 pub record Cases : Type 0 where
   pub operand : Option Expr
   pub whens : Several When
@@ -48,28 +48,28 @@ pub record Cases : Type 0 where
 abbrev pub Statements : Type 0
 Statements = Several Statement
 
--- the branches of IF or CASE, and the statements behind ELSE
+-- the branches of IF or CASE, and the statements after ELSE
 pub record Branches : Type 0 where
   pub branches : Several Branch
   pub otherwise : List Statement
 
--- what stands behind FOR
+-- what stands after FOR
 pub record ForParts : Type 0 where
   pub head : ForHead
   pub statements : Statements
 
--- what stands behind the kind of a handler
+-- what stands after the kind of a handler
 pub record HandlerParts : Type 0 where
   pub values : Several HandlerValue
   pub action : Statement
 
--- a declaration of variables, of a condition or of a cursor behind its first name
+-- a declaration of variables, of a condition or of a cursor after its first name
 pub data NamedRest : Type 0 where
   Variables : List Identifier → DataType → Option Expr → NamedRest
   Condition : Option State → NamedRest
   Cursor : Bool → OrderedQuery → Option Updatability → NamedRest
 
--- a declaration behind its DECLARE
+-- a declaration after its DECLARE
 pub data Declared : Type 0 where
   Named : Identifier → NamedRest → Declared
   Handled : At HandlerKind → HandlerParts → Declared

@@ -3,7 +3,7 @@ use Rattle.std.specs.Prelude.{Some, None}
 use Rattle.psm_token.specs.declared.place.Place.{Place}
 use Rattle.psm_tree.specs.declared.name.Target.{Target}
 use Rattle.psm_tree.specs.declared.expr.Expr.{Expr}
-use Rattle.psm_tree.specs.declared.expr.Expr.TheOpen.{Expr-F, Pick-F, Link-F, Select-F, When-F}
+use Rattle.psm_tree.specs.declared.expr.Expr.TheOpen.{Expr-F, Pick-F, ChainLink-F, Select-F, When-F}
 use Rattle.psm_tree.specs.declared.expr.Expr.TheOpen as layers
 use Rattle.psm_tree.specs.declared.expr.Expr.TheFolds.{fold-Expr, fold-Pick}
 use Rattle.psm_tree.specs.declared.expr.Pick.{Pick}
@@ -41,14 +41,14 @@ expr_layer_place (layers.Null place) = place
 expr_layer_place (layers.Number place value) = place
 expr_layer_place (layers.Text place value) = place
 expr_layer_place (layers.Name target) = target_place target
-expr_layer_place (layers.Junction junction operands) = operands.first
+expr_layer_place (layers.LogicalOperator logical_operator operands) = operands.first
 expr_layer_place (layers.Not place condition) = place
 expr_layer_place (layers.Compare operator left right) = left
 expr_layer_place (layers.IsNull negated value) = value
 expr_layer_place (layers.Between negated value low high) = value
 expr_layer_place (layers.In negated value list) = value
 expr_layer_place (layers.Like negated value pattern escape) = value
-expr_layer_place (layers.Chain first links) = first
+expr_layer_place (layers.OperatorChain first chain_links) = first
 expr_layer_place (layers.Signed place sign operand) = place
 expr_layer_place (layers.Call function arguments) = function.place
 expr_layer_place (layers.Parenthesized place expr) = place
@@ -72,18 +72,18 @@ pick_layer_place (layers.Aggregate place function argument alias) = place
 abbrev pub select_layer_place : Select-F Place Place Place Place Place → Place
 select_layer_place select = select.place
 
--- No place is asked of what stands behind an operator or behind WHEN: its operand or test stands for it.
-abbrev pub link_layer_place : Link-F Place Place Place Place Place → Place
-link_layer_place link = link.operand
+-- No place is asked of what stands after an operator or after WHEN: its operand or test stands for it.
+abbrev pub chain_link_layer_place : ChainLink-F Place Place Place Place Place → Place
+chain_link_layer_place chain_link = chain_link.operand
 
 abbrev pub when_layer_place : When-F Place Place Place Place Place → Place
 when_layer_place when = when.test
 
 abbrev pub expr_place : Expr → Place
-expr_place = fold-Expr Place Place Place Place Place expr_layer_place pick_layer_place link_layer_place select_layer_place when_layer_place
+expr_place = fold-Expr Place Place Place Place Place expr_layer_place pick_layer_place chain_link_layer_place select_layer_place when_layer_place
 
 abbrev pub pick_place : Pick → Place
-pick_place = fold-Pick Place Place Place Place Place expr_layer_place pick_layer_place link_layer_place select_layer_place when_layer_place
+pick_place = fold-Pick Place Place Place Place Place expr_layer_place pick_layer_place chain_link_layer_place select_layer_place when_layer_place
 
 abbrev pub select_place : Select → Place
 select_place select = (out-Select select).place

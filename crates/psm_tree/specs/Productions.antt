@@ -1,4 +1,4 @@
--- What each part of the grammar that stands behind a token of its own is.
+-- What each part of the grammar that stands after a token of its own is.
 use Rattle.psm_grammar.specs.Grammar.{Productions}
 use Rattle.psm_token.specs.Kinds.{kind}
 use Rattle.psm_tree.specs.Parts.{Enclosed, Arguments, ExistsRest, CaseRest, CastRest, CoalesceRest, NullIfRest, FunctionRest, PositionRest, SubstringRest, TrimRest, BeginRest, LoopRest, WhileRest, RepeatRest, ForRest, IfRest, CaseStatementRest, HandlerRest, BodyRest, DeclareRest, V}

@@ -5,22 +5,22 @@ use Rattle.psm_token.specs.declared.token.Placed.{Placed}
 use Rattle.psm_grammar.specs.Gives.{Halts}
 use Rattle.psm_grammar.specs.Language.{Test}
 use Rattle.psm_grammar.specs.Grammar.{many}
-use Rattle.psm_grammar.specs.Loop.{behind}
+use Rattle.psm_grammar.specs.Loop.{following}
 use Rattle.psm_grammar.specs.Readers.{Out, Reader, TooDeep, and_then, one, first, repeat, read, deeper, reads}
 use Rattle.psm_grammar.specs.declared.halt.Halt.{Halt}
 use Rattle.psm_tree.specs.Parts.{Part, V}
 use Rattle.psm_tree.specs.ExprGrammar.{Gram}
 use Rattle.psm_tree.specs.Productions.{productions}
 
--- the reader of a part that stands behind a token of its own, where so many more levels may be opened
+-- the reader of a part that stands after a token of its own, where n more levels may be opened
 unfoldable pub part : ℕ → (n : Part) → Reader Placed (V n)
 part levels n ts = reads productions levels (productions n) ts
 
--- the reader of any part of the grammar, where so many more levels may be opened: the same as `reads productions`
+-- the reader of any part of the grammar, where n more levels may be opened: the same as `reads productions`
 unfoldable pub reading : {X : Type 0} → ℕ → Gram X → Reader Placed X
 reading levels g ts = read (deeper productions levels) (part levels) g ts
 
--- a token that opens a level, and how many more may be opened behind it
+-- a token that opens a level, and how many more may be opened after it
 unfoldable pub opening : {A : Type 0} → ℕ → Test Placed A → Reader Placed (A × ℕ)
 opening zero test ts = and_then (one kind test ts) (λ a rest. Err (TooDeep ts))
 opening (suc n) test ts = and_then (one kind test ts) (λ a rest. Ok ((a, n), rest))
@@ -35,7 +35,7 @@ abbrev pub Takes : {T X : Type 0} → Out T X → Result X Halt → List T → T
 Takes o (Ok x) rest = o ≡ Ok (x, rest)
 Takes o (Err e) rest = Halts e o
 
--- With what is left to read in so many turns, a part that was read again and again up to `rest` is what it is from
+-- With what is left to read in n turns, a part that was read again and again up to `rest` is what it is from
 -- the start on.
 pub record Repeating {X : Type 0} (levels : ℕ) (p : Gram X) (start : List Placed) (items : List X) (turns : ℕ) (rest : List Placed) : Type 0 where
-  pub same : behind items (repeat kind (first p) (reading levels p) turns rest) ≡ reading levels (many p) start
+  pub same : following items (repeat kind (first p) (reading levels p) turns rest) ≡ reading levels (many p) start

@@ -18,8 +18,8 @@ abbrev pub place_of_rest : Place → List Placed → Place
 place_of_rest end [] = end
 place_of_rest end (t ∷ ts) = t.place
 
--- The tree of the run from token `at` on and the number of the token behind it, where the run spells one;
--- else the place of the token behind the run, or of the token in reach of the run that opens a level too many.
+-- The tree of the run from token `at` on and the number of the token after it, where the run spells one;
+-- else the place of the token after the run, or of the token in reach of the run that opens a level too many.
 abbrev pub ReadsRun : {X Y : Type 0} → Lang Placed Y → (X → Y) → Tokens → ℕ → Result (X × ℕ) ParseFault → Type 0
 ReadsRun L view tokens at (Ok r) = (rest : List Placed) × Good L AtEnd most_levels (drop at tokens.tokens) (view r.0) rest × (r.1 + length rest ≡ length tokens.tokens)
 ReadsRun L view tokens at (Err (faults.Syntax p)) = (rest : List Placed) × Bad L AtEnd most_levels (drop at tokens.tokens) rest × (p ≡ place_of_rest tokens.end rest)
@@ -30,7 +30,7 @@ ReadsRun L view tokens at (Err faults.Memory) = Unit {0}
 pub record StopsBefore {Y : Type 0} (L : Lang Placed Y) (ts rest : List Placed) : Type 0 where
   pub stop : ((y : Y) × Good L AtEnd most_levels ts y rest × (rest ≢ [])) ⊎ Bad L AtEnd most_levels ts rest
 
--- The tree that all the tokens spell; else the place of the token behind the run, or of the token in reach
+-- The tree that all the tokens spell; else the place of the token after the run, or of the token in reach
 -- of the run that opens a level too many.
 abbrev pub ReadsAll : {X Y : Type 0} → Lang Placed Y → (X → Y) → Tokens → Result X ParseFault → Type 0
 ReadsAll L view tokens (Ok x) = Good L AtEnd most_levels tokens.tokens (view x) []

@@ -4,7 +4,7 @@ use Rattle.psm_token.specs.declared.word.Word.TheVariants as w
 use Rattle.psm_token.specs.declared.sign.Sign.TheVariants as s
 use Rattle.psm_list.specs.Several.{Several}
 use Rattle.psm_grammar.specs.Grammar.{token, level, next, nothing, seq, or, ahead, many, image}
-use Rattle.psm_grammar.specs.Forms.{later, optional, behind_token, before_token}
+use Rattle.psm_grammar.specs.Forms.{later, optional, after_token, before_token}
 use Rattle.psm_token.specs.Words.{word_kind}
 use Rattle.psm_tree.specs.Tests.{At, word, sign, name, number, text, handler_kind, statement_item, condition_item, exception_word}
 use Rattle.psm_tree.specs.Parts.{Statements, Branches, Phase, Declarations, Cursors, Handlers, BeginRest, LoopRest, WhileRest, RepeatRest, ForRest, IfRest, CaseStatementRest, HandlerRest, BodyRest, DeclareRest, ForParts, HandlerParts, NamedRest, Declared, Handled, Body}
@@ -40,7 +40,7 @@ use Rattle.psm_tree.specs.declared.statement.Simple.{Simple}
 
 -- state = SQLSTATE [VALUE] text
 unfoldable pub state_text : Gram (At (List ℕ))
-state_text = or (behind_token (word w.Value) (token text)) (token text)
+state_text = or (after_token (word w.Value) (token text)) (token text)
 
 unfoldable pub state : Gram State
 state = seq state_of (token (word w.SqlState)) state_text
@@ -55,7 +55,7 @@ unfoldable pub column_order : Gram OrderColumn
 column_order = seq order_column (token name) direction
 
 unfoldable pub next_column_order : Gram OrderColumn
-next_column_order = behind_token (sign s.Comma) column_order
+next_column_order = after_token (sign s.Comma) column_order
 
 unfoldable pub next_column_orders : Gram (List OrderColumn)
 next_column_orders = many next_column_order
@@ -64,7 +64,7 @@ unfoldable pub column_orders : Gram (Several OrderColumn)
 column_orders = seq several column_order next_column_orders
 
 unfoldable pub order : Gram Order
-order = seq order_of (token (word w.Order)) (behind_token (word w.By) column_orders)
+order = seq order_of (token (word w.Order)) (after_token (word w.By) column_orders)
 
 -- ordered_select = select [order]
 unfoldable pub ordered_select : Gram OrderedQuery
@@ -72,7 +72,7 @@ ordered_select = seq ordered_query select (optional order)
 
 -- signalled = (state | name) [SET MESSAGE_TEXT "=" expr]
 unfoldable pub message : Gram Expr
-message = behind_token (word w.Set) (behind_token (word w.MessageText) (behind_token (sign s.Equal) expr))
+message = after_token (word w.Set) (after_token (word w.MessageText) (after_token (sign s.Equal) expr))
 
 unfoldable pub state_signalled : Gram Signalled
 state_signalled = seq signalled_of (image state_condition state) (optional message)
@@ -85,20 +85,20 @@ signalled = or state_signalled name_signalled
 
 -- where = WHERE (CURRENT OF name | expr)
 unfoldable pub current : Gram Where
-current = behind_token (word w.Current) (behind_token (word w.Of) (image where_current (token name)))
+current = after_token (word w.Current) (after_token (word w.Of) (image where_current (token name)))
 
 unfoldable pub which_rows : Gram Where
 which_rows = or current (image where_true expr)
 
 unfoldable pub where_part : Gram Where
-where_part = behind_token (word w.Where) which_rows
+where_part = after_token (word w.Where) which_rows
 
 -- values = "(" source {"," source} ")"
 unfoldable pub values : Gram Values
 values = seq values_of (token (sign s.LeftParen)) (closed sources)
 
 unfoldable pub next_values : Gram Values
-next_values = behind_token (sign s.Comma) values
+next_values = after_token (sign s.Comma) values
 
 unfoldable pub more_values : Gram (List Values)
 more_values = many next_values
@@ -108,17 +108,17 @@ unfoldable pub all_values : Gram (Several Values)
 all_values = seq several values more_values
 
 unfoldable pub insert_values : Gram InsertSource
-insert_values = behind_token (word w.Values) (image inserted_values all_values)
+insert_values = after_token (word w.Values) (image inserted_values all_values)
 
 unfoldable pub insert_source : Gram InsertSource
 insert_source = or insert_values (image inserted_query select)
 
 -- assignment = name "=" source
 unfoldable pub assignment : Gram Assignment
-assignment = seq assignment_of (token name) (behind_token (sign s.Equal) source)
+assignment = seq assignment_of (token name) (after_token (sign s.Equal) source)
 
 unfoldable pub next_assignment : Gram Assignment
-next_assignment = behind_token (sign s.Comma) assignment
+next_assignment = after_token (sign s.Comma) assignment
 
 unfoldable pub next_assignments : Gram (List Assignment)
 next_assignments = many next_assignment
@@ -127,10 +127,10 @@ next_assignments = many next_assignment
 
 -- statement_information = target "=" (NUMBER|MORE|ROW_COUNT)
 unfoldable pub statement_info : Gram StatementInformation
-statement_info = seq statement_information target (behind_token (sign s.Equal) (token statement_item))
+statement_info = seq statement_information target (after_token (sign s.Equal) (token statement_item))
 
 unfoldable pub next_statement_info : Gram StatementInformation
-next_statement_info = behind_token (sign s.Comma) statement_info
+next_statement_info = after_token (sign s.Comma) statement_info
 
 unfoldable pub next_statement_infos : Gram (List StatementInformation)
 next_statement_infos = many next_statement_info
@@ -140,10 +140,10 @@ statement_infos = seq several statement_info next_statement_infos
 
 -- condition_information = target "=" (CONDITION_NUMBER|..|CURSOR_NAME)
 unfoldable pub condition_info : Gram ConditionInformation
-condition_info = seq condition_information target (behind_token (sign s.Equal) (token condition_item))
+condition_info = seq condition_information target (after_token (sign s.Equal) (token condition_item))
 
 unfoldable pub next_condition_info : Gram ConditionInformation
-next_condition_info = behind_token (sign s.Comma) condition_info
+next_condition_info = after_token (sign s.Comma) condition_info
 
 unfoldable pub next_condition_infos : Gram (List ConditionInformation)
 next_condition_infos = many next_condition_info
@@ -156,7 +156,7 @@ unfoldable pub condition_number : Gram ConditionNumber
 condition_number = or (image number_of_condition (token number)) (image target_of_condition target)
 
 unfoldable pub exception_diagnostics : Gram Diagnostics
-exception_diagnostics = behind_token exception_word (seq condition_diagnostics condition_number condition_infos)
+exception_diagnostics = after_token exception_word (seq condition_diagnostics condition_number condition_infos)
 
 unfoldable pub diagnostics : Gram Diagnostics
 diagnostics = or exception_diagnostics (image statement_diagnostics statement_infos)
@@ -164,11 +164,11 @@ diagnostics = or exception_diagnostics (image statement_diagnostics statement_in
 -- ---- simple statements
 
 unfoldable pub set_statement : Gram Simple
-set_statement = seq set_of (token (word w.Set)) (seq pair target (behind_token (sign s.Equal) source))
+set_statement = seq set_of (token (word w.Set)) (seq pair target (after_token (sign s.Equal) source))
 
 -- CALL name "(" [source {"," source}] ")"
 unfoldable pub call_statement : Gram Simple
-call_statement = seq call_of (token (word w.Call)) (seq pair (token name) (behind_token (sign s.LeftParen) arguments))
+call_statement = seq call_of (token (word w.Call)) (seq pair (token name) (after_token (sign s.LeftParen) arguments))
 
 unfoldable pub return_statement : Gram Simple
 return_statement = seq return_of (token (word w.Return)) source
@@ -192,28 +192,28 @@ unfoldable pub resignal_statement : Gram Simple
 resignal_statement = seq resignal_of (token (word w.Resignal)) resignalled
 
 unfoldable pub diagnostics_statement : Gram Simple
-diagnostics_statement = seq diagnostics_of (token (word w.Get)) (behind_token (word w.Diagnostics) diagnostics)
+diagnostics_statement = seq diagnostics_of (token (word w.Get)) (after_token (word w.Diagnostics) diagnostics)
 
 -- SELECT picks INTO targets FROM from
 unfoldable pub into_targets : Gram Targets
-into_targets = behind_token (word w.Into) targets
+into_targets = after_token (word w.Into) targets
 
 unfoldable pub select_statement : Gram Simple
-select_statement = seq select_into (token (word w.Select)) (seq triple picks (seq pair into_targets (behind_token (word w.From) from_table)))
+select_statement = seq select_into (token (word w.Select)) (seq triple picks (seq pair into_targets (after_token (word w.From) from_table)))
 
 -- INSERT INTO name [names] insert_source
 unfoldable pub insert_statement : Gram Simple
-insert_statement = seq insert_of (token (word w.Insert)) (behind_token (word w.Into) (seq triple (token name) (seq pair (optional names_in_parens) insert_source)))
+insert_statement = seq insert_of (token (word w.Insert)) (after_token (word w.Into) (seq triple (token name) (seq pair (optional names_in_parens) insert_source)))
 
 -- UPDATE name SET assignment {"," assignment} [where]
 unfoldable pub assignments : Gram (Several Assignment)
-assignments = behind_token (word w.Set) (seq several assignment next_assignments)
+assignments = after_token (word w.Set) (seq several assignment next_assignments)
 
 unfoldable pub update_statement : Gram Simple
 update_statement = seq update_of (token (word w.Update)) (seq triple (token name) (seq pair assignments (optional where_part)))
 
 unfoldable pub delete_statement : Gram Simple
-delete_statement = seq delete_of (token (word w.Delete)) (behind_token (word w.From) (seq pair (token name) (optional where_part)))
+delete_statement = seq delete_of (token (word w.Delete)) (after_token (word w.From) (seq pair (token name) (optional where_part)))
 
 unfoldable pub open_statement : Gram Simple
 open_statement = seq open_of (token (word w.Open)) (token name)
@@ -223,11 +223,11 @@ unfoldable pub fetched : Gram (Identifier × Targets)
 fetched = seq pair (token name) into_targets
 
 unfoldable pub fetch_from : Gram (Identifier × Targets)
-fetch_from = behind_token (word w.From) fetched
+fetch_from = after_token (word w.From) fetched
 
 unfoldable pub fetch_rest : Gram (Identifier × Targets)
 fetch_rest = or fetch_from
-    (ahead (word_kind w.Next ∷ []) (word_kind w.From ∷ []) (behind_token (word w.Next) fetch_from) fetched)
+    (ahead (word_kind w.Next ∷ []) (word_kind w.From ∷ []) (after_token (word w.Next) fetch_from) fetched)
 
 unfoldable pub fetch_statement : Gram Simple
 fetch_statement = seq fetch_of (token (word w.Fetch)) fetch_rest
@@ -268,7 +268,7 @@ block = or (level BeginRest (word w.Begin) compound_of)
 
 -- labelled = name ":" block [name]
 unfoldable pub labelled_block : Gram (Block × Option Identifier)
-labelled_block = behind_token (sign s.Colon) (seq pair block (optional (token name)))
+labelled_block = after_token (sign s.Colon) (seq pair block (optional (token name)))
 
 unfoldable pub labelled_statement : Gram Statement
 labelled_statement = seq labelled (token name) labelled_block
@@ -301,14 +301,14 @@ statements = seq several ended_statement ended_statements
 
 -- branch = expr THEN statements
 unfoldable pub branch : Gram Branch
-branch = seq branch_of expr (behind_token (word w.Then) statements)
+branch = seq branch_of expr (after_token (word w.Then) statements)
 
 unfoldable pub otherwise_statements : Gram Statements
-otherwise_statements = behind_token (word w.Else) statements
+otherwise_statements = after_token (word w.Else) statements
 
 -- if_rest = branch {ELSEIF branch} [ELSE statements] END IF
 unfoldable pub elseif_branch : Gram Branch
-elseif_branch = behind_token (word w.ElseIf) branch
+elseif_branch = after_token (word w.ElseIf) branch
 
 unfoldable pub elseif_branches : Gram (List Branch)
 elseif_branches = many elseif_branch
@@ -324,7 +324,7 @@ if_rest = seq branches_of if_branches if_end
 
 -- case_statement_rest = [expr] WHEN branch {WHEN branch} [ELSE statements] END CASE
 unfoldable pub when_branch : Gram Branch
-when_branch = behind_token (word w.When) branch
+when_branch = after_token (word w.When) branch
 
 unfoldable pub when_branches : Gram (List Branch)
 when_branches = many when_branch
@@ -349,14 +349,14 @@ loop_rest = before_token (before_token statements (word w.End)) (word w.Loop)
 
 -- while_rest = expr DO statements END WHILE
 unfoldable pub while_body : Gram Statements
-while_body = behind_token (word w.Do) (before_token (before_token statements (word w.End)) (word w.While))
+while_body = after_token (word w.Do) (before_token (before_token statements (word w.End)) (word w.While))
 
 unfoldable pub while_rest : Gram (Expr × Statements)
 while_rest = seq pair expr while_body
 
 -- repeat_rest = statements UNTIL expr END REPEAT
 unfoldable pub until : Gram Expr
-until = behind_token (word w.Until) (before_token (before_token expr (word w.End)) (word w.Repeat))
+until = after_token (word w.Until) (before_token (before_token expr (word w.End)) (word w.Repeat))
 
 unfoldable pub repeat_rest : Gram (Statements × Expr)
 repeat_rest = seq pair statements until
@@ -369,42 +369,42 @@ unfoldable pub for_cursor_part : Gram ForCursor
 for_cursor_part = seq for_cursor (token name) (before_token (before_token insensitive (word w.Cursor)) (word w.For))
 
 unfoldable pub for_body : Gram Statements
-for_body = behind_token (word w.Do) (before_token (before_token statements (word w.End)) (word w.For))
+for_body = after_token (word w.Do) (before_token (before_token statements (word w.End)) (word w.For))
 
 unfoldable pub for_rest : Gram ForParts
-for_rest = seq for_parts (token name) (behind_token (word w.As)
+for_rest = seq for_parts (token name) (after_token (word w.As)
     (seq triple (optional for_cursor_part) (seq pair ordered_select for_body)))
 
 -- ---- declarations
 
--- behind its first name: {"," name} type [DEFAULT source]
+-- after its first name: {"," name} type [DEFAULT source]
 unfoldable pub default_source : Gram Expr
-default_source = behind_token (word w.Default) source
+default_source = after_token (word w.Default) source
 
 unfoldable pub typed : Gram (DataType × Option Expr)
 typed = seq pair data_type (optional default_source)
 
 unfoldable pub other_variables : Gram (List Identifier)
-other_variables = behind_token (sign s.Comma) (seq cons (token name) next_names)
+other_variables = after_token (sign s.Comma) (seq cons (token name) next_names)
 
--- behind the name: CONDITION [FOR state], or what declares variables
+-- after the name: CONDITION [FOR state], or what declares variables
 unfoldable pub for_state : Gram State
-for_state = behind_token (word w.For) state
+for_state = after_token (word w.For) state
 
 unfoldable pub declaration_rest : Gram NamedRest
 declaration_rest = or (seq condition_of (token (word w.Condition)) (optional for_state))
     (or (seq variables_of other_variables typed)
     (seq one_variable data_type (optional default_source)))
 
--- behind the name: [INSENSITIVE] CURSOR FOR select [order] [FOR (READ ONLY | UPDATE)]
+-- after the name: [INSENSITIVE] CURSOR FOR select [order] [FOR (READ ONLY | UPDATE)]
 unfoldable pub read_only_part : Gram Updatability
-read_only_part = behind_token (word w.Read) (image read_only (token (word w.Only)))
+read_only_part = after_token (word w.Read) (image read_only (token (word w.Only)))
 
 unfoldable pub updatability : Gram Updatability
-updatability = behind_token (word w.For) (or read_only_part (image updatable (token (word w.Update))))
+updatability = after_token (word w.For) (or read_only_part (image updatable (token (word w.Update))))
 
 unfoldable pub cursor_query : Gram (OrderedQuery × Option Updatability)
-cursor_query = behind_token (word w.For) (seq pair ordered_select (optional updatability))
+cursor_query = after_token (word w.For) (seq pair ordered_select (optional updatability))
 
 unfoldable pub cursor_rest : Gram NamedRest
 cursor_rest = seq cursor_of (before_token insensitive (word w.Cursor)) cursor_query
@@ -418,7 +418,7 @@ handler_value = or (image state_value state)
     (image name_value (token name)))))
 
 unfoldable pub next_handler_value : Gram HandlerValue
-next_handler_value = behind_token (sign s.Comma) handler_value
+next_handler_value = after_token (sign s.Comma) handler_value
 
 unfoldable pub next_handler_values : Gram (List HandlerValue)
 next_handler_values = many next_handler_value
@@ -427,7 +427,7 @@ unfoldable pub handler_values : Gram (Several HandlerValue)
 handler_values = seq several handler_value next_handler_values
 
 unfoldable pub handler_rest : Gram HandlerParts
-handler_rest = behind_token (word w.Handler) (behind_token (word w.For)
+handler_rest = after_token (word w.Handler) (after_token (word w.For)
     (seq handler_parts handler_values statement))
 
 -- ---- blocks
@@ -455,7 +455,7 @@ declare_rest Handlers = declared_handler
 
 -- begin_rest = [[NOT] ATOMIC] body
 unfoldable pub not_atomic : Gram Bool
-not_atomic = behind_token (word w.Not) (image «no» (token (word w.Atomic)))
+not_atomic = after_token (word w.Not) (image «no» (token (word w.Atomic)))
 
 unfoldable pub atomic : Gram Bool
 atomic = or (image yes (token (word w.Atomic)))

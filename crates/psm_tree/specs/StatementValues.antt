@@ -185,7 +185,7 @@ for_of place p = blocks.For place p.head p.statements
 abbrev pub unlabelled : Block → Statement
 unlabelled block = statements.Block None block
 
--- a block behind its label, and the label behind its end
+-- a block after its label, and the label after its end
 abbrev pub labelled : Identifier → Block × Option Identifier → Statement
 labelled start p = statements.Block (Some (record { start = start; end = p.1 })) p.0
 
@@ -198,7 +198,7 @@ case_statement_of place p = statements.Case place p.0 p.1.branches p.1.otherwise
 abbrev pub branch_of : Expr → Statements → Branch
 branch_of test s = roll-Branch (record { test = test; statements = s })
 
--- the statements behind ELSE, or none
+-- the statements after ELSE, or none
 abbrev pub listed : Option Statements → List Statement
 listed None = []
 listed (Some s) = s.first ∷ s.rest
@@ -271,7 +271,7 @@ with_named place name (Variables others kind default) body = record body { decla
 with_named place name (Condition state) body = record body { declarations = declarations.Condition place name state ∷ body.declarations }
 with_named place name (Cursor insensitive query updatability) body = record body { cursors = record { place = place; name = name; insensitive = insensitive; query = query; updatability = updatability } ∷ body.cursors }
 
--- a declaration behind its DECLARE before the others
+-- a declaration after its DECLARE before the others
 abbrev pub with_declared : Place → Declared → Body → Body
 with_declared place (Named name rest) body = with_named place name rest body
 with_declared place (Handled kind p) body = record body { handlers = roll-Handler (record { place = place; «at» = kind.place; kind = kind.value; values = p.values; action = p.action }) ∷ body.handlers }

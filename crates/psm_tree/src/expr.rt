@@ -11,7 +11,7 @@ use psm_token::Place;
 
 /// AND or OR.
 #[derive(Clone, Copy, Debug, PartialEq, Eq)]
-pub enum Junction {
+pub enum LogicalOperator {
     And,
     Or,
 }
@@ -71,8 +71,8 @@ pub enum Expr {
     },
     Name(Target),
     /// Conditions with AND, or with OR, between them: two or more.
-    Junction {
-        junction: Junction,
+    LogicalOperator {
+        logical_operator: LogicalOperator,
         operands: OneOrMore<Boxed<Expr>>,
     },
     Not {
@@ -107,9 +107,9 @@ pub enum Expr {
         escape: Option<Boxed<Expr>>,
     },
     /// Operands with operators of one level between them: two or more operands.
-    Chain {
+    OperatorChain {
         first: Boxed<Expr>,
-        links: List<Link>,
+        chain_links: List<ChainLink>,
     },
     Signed {
         place: Place,
@@ -184,13 +184,13 @@ impl Expr {
     {
         match self {
             Expr::Name(target) => target.place(),
-            Expr::Junction { operands, .. } => operands.first.get().place(),
+            Expr::LogicalOperator { operands, .. } => operands.first.get().place(),
             Expr::Compare { left, .. } => left.get().place(),
             Expr::IsNull { value, .. }
             | Expr::Between { value, .. }
             | Expr::In { value, .. }
             | Expr::Like { value, .. } => value.get().place(),
-            Expr::Chain { first, .. } => first.get().place(),
+            Expr::OperatorChain { first, .. } => first.get().place(),
             Expr::Call { function, .. } => function.place,
             Expr::Null { place }
             | Expr::Number { place, .. }
@@ -212,10 +212,10 @@ impl Expr {
     }
 }
 
-/// An operator and the operand behind it.
+/// An operator and the operand after it.
 #[cycle(expression)]
 #[derive(Drop)]
-pub struct Link {
+pub struct ChainLink {
     pub operator: Operator,
     pub operand: Boxed<Expr>,
 }

@@ -89,9 +89,9 @@ pub struct Parameter {
     pub kind: DataType,
 }
 
-/// What a note says of a routine, which has no effect.
+/// What a characteristic says of a routine, which has no effect.
 #[derive(Clone, Copy, Debug, PartialEq, Eq)]
-pub enum NoteForm {
+pub enum CharacteristicForm {
     Language,
     Deterministic,
     NotDeterministic,
@@ -100,11 +100,11 @@ pub enum NoteForm {
     ModifiesSqlData,
 }
 
-/// A note on a routine.
+/// A characteristic on a routine.
 #[derive(Clone, Copy, Debug)]
-pub struct Note {
+pub struct Characteristic {
     pub place: Place,
-    pub form: NoteForm,
+    pub form: CharacteristicForm,
 }
 
 /// A procedure, or a function with the type of its result.
@@ -114,6 +114,6 @@ pub struct Routine {
     pub name: Identifier,
     pub parameters: List<Parameter>,
     pub returns: Option<DataType>,
-    pub notes: List<Note>,
+    pub characteristics: List<Characteristic>,
     pub body: Boxed<Statement>,
 }

@@ -11,13 +11,13 @@ mod statement;
 mod types;
 
 pub use expr::{
-    Comparison, Expr, Junction, Link, Operator, Pick, Select, SetFunction, TextFunction, TrimSide,
-    When,
+    ChainLink, Comparison, Expr, LogicalOperator, Operator, Pick, Select, SetFunction,
+    TextFunction, TrimSide, When,
 };
 pub use fault::ParseFault;
 pub use file::{
-    ColumnRule, ColumnRuleForm, Element, FileTree, Mode, Module, Note, NoteForm, Parameter,
-    Routine, TableRule, TableRuleForm, TableTree,
+    Characteristic, CharacteristicForm, ColumnRule, ColumnRuleForm, Element, FileTree, Mode,
+    Module, Parameter, Routine, TableRule, TableRuleForm, TableTree,
 };
 pub use laws::one_tree;
 pub use name::{Identifier, Names, Target, Targets};

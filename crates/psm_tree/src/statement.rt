@@ -18,13 +18,13 @@ pub enum Statement {
         label: Option<Label>,
         block: Boxed<Block>,
     },
-    /// IF, with the statements behind ELSE, of which there are none where there is no ELSE.
+    /// IF, with the statements after ELSE, of which there are none where there is no ELSE.
     If {
         place: Place,
         branches: OneOrMore<Boxed<Branch>>,
         otherwise: List<Boxed<Statement>>,
     },
-    /// CASE, with its operand where it has one, and the statements behind ELSE.
+    /// CASE, with its operand where it has one, and the statements after ELSE.
     Case {
         place: Place,
         operand: Option<Boxed<Expr>>,
@@ -101,14 +101,14 @@ impl Block {
     }
 }
 
-/// The label before a block, and the one behind its end where there is one.
+/// The label before a block, and the one after its end where there is one.
 #[derive(Debug, Drop)]
 pub struct Label {
     pub start: Identifier,
     pub end: Option<Identifier>,
 }
 
-/// A test and the statements behind its THEN: one or more.
+/// A test and the statements after its THEN: one or more.
 #[cycle(statement)]
 #[derive(Drop)]
 pub struct Branch {
@@ -188,7 +188,7 @@ impl Declaration {
     }
 }
 
-/// What a cursor says of updates behind its query.
+/// What a cursor says of updates after its query.
 #[derive(Clone, Copy, Debug, PartialEq, Eq)]
 pub enum Updatability {
     ReadOnly,

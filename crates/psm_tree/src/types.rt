@@ -3,7 +3,7 @@ use psm_num::Dec;
 use psm_text::Text;
 use psm_token::Place;
 
-/// The numbers behind NUMERIC: its precision, and its scale where one is given.
+/// The numbers after NUMERIC: its precision, and its scale where one is given.
 #[derive(Clone, Copy, Debug)]
 pub struct Precision {
     pub precision: Dec,

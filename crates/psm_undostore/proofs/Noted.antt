@@ -64,10 +64,10 @@ module _ (flags : List Bool) (states : List State) (entries : List Entry) (marks
   module _ (is : IsUndo (undo_of states entries marks)) (len : ℕ) (sized : len ≡ length states) (lent new : List State) (whole : lent ≡ states) (long : length new ≡ length lent) where
     pub kept_call : (t : ℕ) (next : List Bool) (more : List Entry) (count : ℕ) → 0 < marks → next ≡ set flags t true → t < length lent → AreUndoable new more → Extends t lent new entries more count →
         IsUndo (undo_of (take len (new ++ drop (length new) states)) more marks) × IsNoted next (undo_of (take len (new ++ drop (length new) states)) more marks)
-    kept_call t next more count some note inside undoable call =
+    kept_call t next more count some listed inside undoable call =
         let wide : length new ≡ length states = long ∙ ap length whole in
         let there : Extends t states new entries more count = subst (λ (s : List State). Extends t s new entries more count) whole call in
         subst (λ (s : List State). IsUndo (undo_of s more marks) × IsNoted next (undo_of s more marks)) (sym (written states new len sized wide)) (
           called_undo states entries marks (undo_of states entries marks) refl new more is some undoable,
-          subst (λ (l : List Bool). IsNoted l (undo_of new more marks)) (sym note) (noted_call t new more count some (omega (arith, inside, ap length whole)) wide there),
+          subst (λ (l : List Bool). IsNoted l (undo_of new more marks)) (sym listed) (noted_call t new more count some (omega (arith, inside, ap length whole)) wide there),
         )

@@ -53,7 +53,7 @@ abbrev pub Records : Result (Unit {0}) RowFault → ℕ → State → State → 
 Records (Ok _) t old new entries more = (c : Change) × (more ≡ entries ++ (record { table = t; change = c }) ∷ []) × Leads c old new
 Records (Err _) t old new entries more = (new ≡ old) × (more ≡ entries)
 
--- behind the entries that were there stand so many more, which are about table number t, and from before each of the
+-- after the entries that were there stand n more, which are about table number t, and from before each of the
 -- entries that were there the tables are as they were; the other tables stay
 pub record Extends (t : ℕ) (old new : List State) (entries more : List Entry) (count : ℕ) : Type 0 where
   pub longer : length more ≡ length entries + count

@@ -42,10 +42,10 @@ stands_for s m = before m.place s.entries s.states
 abbrev pub since : Undo → Mark → ℕ
 since s m = length s.entries - m.place
 
--- so many changes more since each mark that was held
+-- n changes more since each mark that was held
 abbrev pub HasMoreSince : Undo → Undo → ℕ → Type 0
 HasMoreSince old new count = (m : Mark) → IsHeld old m → since new m ≡ since old m + count
 
--- so many changes fewer since each mark that was held outside of a mark
+-- n changes fewer since each mark that was held outside of a mark
 abbrev pub HasFewerSince : Undo → Undo → Mark → ℕ → Type 0
 HasFewerSince old new mark count = (m : Mark) → IsHeld old m → IsOutside mark m → since new m ≡ since old m - count

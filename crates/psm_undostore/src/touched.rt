@@ -30,7 +30,7 @@ impl Model for Touched {
 }
 
 impl Touched {
-    /// So many tables, none of them touched.
+    /// N tables, none of them touched.
     pub(crate) fn new(alloc: Global, count: usize) -> Result<Touched, AllocError>
         ensures size { IfOk result (λ t. length t ≡ count) }
         ensures none { IfOk result IsNoneTouched }

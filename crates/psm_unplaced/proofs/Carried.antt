@@ -6,44 +6,44 @@ use Rattle.psm_token.specs.declared.token.Token.{Token}
 use Rattle.psm_token.specs.declared.token.Placed.{Placed}
 use Rattle.psm_grammar.specs.Language.{Test}
 use Rattle.psm_grammar.specs.Grammar.{token, level, next, nothing, seq, or, ahead, many, image}
-use Rattle.psm_grammar.specs.Forms.{optional, behind_token, before_token}
+use Rattle.psm_grammar.specs.Forms.{optional, after_token, before_token}
 use Rattle.psm_grammar.specs.Places.{Carries}
 use Rattle.psm_tree.specs.Tests.{At, at, place_of, name}
 use Rattle.psm_tree.specs.Parts.{Part, V}
 use Rattle.psm_tree.specs.ExprValues.{pair, triple, several, cons}
 use Rattle.psm_tree.specs.ExprGrammar.{Gram, within_parens}
-use Rattle.psm_unplaced.specs.Unplaced.{origin, unplaced}
-use Rattle.psm_unplaced.specs.ExprUnplaced.{name_unplaced}
-use Rattle.psm_unplaced.proofs.ValuesUnplaced.{both, place_unplaced, at_unplaced, part_unplaced}
+use Rattle.psm_unplaced.specs.WithoutPositions.{origin, without_positions}
+use Rattle.psm_unplaced.specs.ExprWithoutPositions.{name_without_positions}
+use Rattle.psm_unplaced.proofs.ValuesWithoutPositions.{both, place_without_positions, at_without_positions, part_without_positions}
 
 -- what tokens without places say by this part is what the tokens say, without its places, which h forgets
 pub record Carried {X : Type 0} (h : X → X) (g : Gram X) : Type 0 where
-  pub holds : Carries unplaced part_unplaced h g
+  pub holds : Carries without_positions part_without_positions h g
 
 -- ---- tokens
 
-pub carried_token : {A : Type 0} {a : A → A} {test : Test Placed A} → ((t : Placed) → test.value (unplaced t) ≡ a (test.value t)) → Carried a (token test)
+pub carried_token : {A : Type 0} {a : A → A} {test : Test Placed A} → ((t : Placed) → test.value (without_positions t) ≡ a (test.value t)) → Carried a (token test)
 carried_token e = record { holds = λ t k. e t }
 
-pub carried_place : {kinds : List ℕ} {example : Placed} → Carried place_unplaced (token (record { kinds = kinds; value = place_of; example = example }))
+pub carried_place : {kinds : List ℕ} {example : Placed} → Carried place_without_positions (token (record { kinds = kinds; value = place_of; example = example }))
 carried_place = record { holds = λ t k. refl }
 
-pub carried_at : {A : Type 0} (f : Token → A) {kinds : List ℕ} {example : Placed} → Carried at_unplaced (token (record { kinds = kinds; value = at f; example = example }))
+pub carried_at : {A : Type 0} (f : Token → A) {kinds : List ℕ} {example : Placed} → Carried at_without_positions (token (record { kinds = kinds; value = at f; example = example }))
 carried_at f = record { holds = λ t k. refl }
 
-pub carried_name : Carried name_unplaced (token name)
+pub carried_name : Carried name_without_positions (token name)
 carried_name = record { holds = λ t k. refl }
 
--- ---- parts behind a token of their own
+-- ---- parts after a token of their own
 
-pub carried_level : {Z : Type 0} {n : Part} {kinds : List ℕ} {example : Placed} {f : Place → V n → Z} {h : Z → Z} → ((x : Place) (y : V n) → f origin (part_unplaced n y) ≡ h (f x y)) → Carried h (level n (record { kinds = kinds; value = place_of; example = example }) f)
-carried_level e = record { holds = (place_unplaced, λ t k. refl, e) }
+pub carried_level : {Z : Type 0} {n : Part} {kinds : List ℕ} {example : Placed} {f : Place → V n → Z} {h : Z → Z} → ((x : Place) (y : V n) → f origin (part_without_positions n y) ≡ h (f x y)) → Carried h (level n (record { kinds = kinds; value = place_of; example = example }) f)
+carried_level e = record { holds = (place_without_positions, λ t k. refl, e) }
 
-pub carried_level_at : {A Z : Type 0} {n : Part} (g : Token → A) {kinds : List ℕ} {example : Placed} {f : At A → V n → Z} {h : Z → Z} → ((x : At A) (y : V n) → f (at_unplaced x) (part_unplaced n y) ≡ h (f x y)) → Carried h (level n (record { kinds = kinds; value = at g; example = example }) f)
-carried_level_at g e = record { holds = (at_unplaced, λ t k. refl, e) }
+pub carried_level_at : {A Z : Type 0} {n : Part} (g : Token → A) {kinds : List ℕ} {example : Placed} {f : At A → V n → Z} {h : Z → Z} → ((x : At A) (y : V n) → f (at_without_positions x) (part_without_positions n y) ≡ h (f x y)) → Carried h (level n (record { kinds = kinds; value = at g; example = example }) f)
+carried_level_at g e = record { holds = (at_without_positions, λ t k. refl, e) }
 
-pub carried_next : {Z : Type 0} {n : Part} {kinds : List ℕ} {example : Placed} {f : Place → V n → Z} {h : Z → Z} → ((x : Place) (y : V n) → f origin (part_unplaced n y) ≡ h (f x y)) → Carried h (next n (record { kinds = kinds; value = place_of; example = example }) f)
-carried_next e = record { holds = (place_unplaced, λ t k. refl, e) }
+pub carried_next : {Z : Type 0} {n : Part} {kinds : List ℕ} {example : Placed} {f : Place → V n → Z} {h : Z → Z} → ((x : Place) (y : V n) → f origin (part_without_positions n y) ≡ h (f x y)) → Carried h (next n (record { kinds = kinds; value = place_of; example = example }) f)
+carried_next e = record { holds = (place_without_positions, λ t k. refl, e) }
 
 -- ---- what is made of other parts
 
@@ -80,12 +80,12 @@ carried_cons {a} c d = record { holds = (a, map a, c.holds, d.holds, λ x y. ref
 pub carried_optional : {X : Type 0} {p : Gram X} {a : X → X} → Carried a p → Carried (option_map a) (optional p)
 carried_optional {a} c = record { holds = ((a, c.holds, λ x. refl), refl) }
 
--- behind, and before, a token that has no value
-pub carried_behind : {X : Type 0} {kinds : List ℕ} {example : Placed} {p : Gram X} {h : X → X} → Carried h p → Carried h (behind_token (record { kinds = kinds; value = place_of; example = example }) p)
-carried_behind {h} c = record { holds = (place_unplaced, h, (λ t k. refl), c.holds, λ x y. refl) }
+-- after, and before, a token that has no value
+pub carried_after : {X : Type 0} {kinds : List ℕ} {example : Placed} {p : Gram X} {h : X → X} → Carried h p → Carried h (after_token (record { kinds = kinds; value = place_of; example = example }) p)
+carried_after {h} c = record { holds = (place_without_positions, h, (λ t k. refl), c.holds, λ x y. refl) }
 
 pub carried_before : {X : Type 0} {kinds : List ℕ} {example : Placed} {p : Gram X} {h : X → X} → Carried h p → Carried h (before_token p (record { kinds = kinds; value = place_of; example = example }))
-carried_before {h} c = record { holds = (h, place_unplaced, c.holds, (λ t k. refl), λ x y. refl) }
+carried_before {h} c = record { holds = (h, place_without_positions, c.holds, (λ t k. refl), λ x y. refl) }
 
 pub carried_within : {X : Type 0} {p : Gram X} {h : X → X} → Carried h p → Carried h (within_parens p)
-carried_within c = carried_behind (carried_before c)
+carried_within c = carried_after (carried_before c)

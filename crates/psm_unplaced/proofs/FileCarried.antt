@@ -6,170 +6,170 @@ use Rattle.psm_tree.specs.Tests.{mode_of}
 use Rattle.psm_tree.specs.FileValues.{TableRest, tables_from, table_of, last_place, ProcedureRest, FunctionRest, ModuleRest, file_of}
 use Rattle.psm_tree.specs.FileGrammar
 use Rattle.psm_tree.specs.declared.statement.Statement.{Statement}
-use Rattle.psm_tree.specs.declared.file.Note.{Note}
-use Rattle.psm_unplaced.specs.Unplaced.{origin}
-use Rattle.psm_unplaced.specs.ExprUnplaced.{name_unplaced, type_unplaced}
-use Rattle.psm_unplaced.specs.StatementUnplaced.{statement_unplaced}
-use Rattle.psm_unplaced.specs.FileUnplaced.{column_rule_unplaced, table_rule_unplaced, element_unplaced, table_unplaced, parameter_unplaced, note_unplaced, routine_unplaced, file_unplaced, argument_unplaced, row_unplaced, command_unplaced, script_unplaced}
-use Rattle.psm_unplaced.proofs.ValuesUnplaced.{same, both, place_unplaced}
-use Rattle.psm_unplaced.proofs.Carried.{Carried, carried_place, carried_at, carried_name, carried_seq, carried_or, carried_ahead, carried_many, carried_image, carried_pair, carried_triple, carried_several, carried_cons, carried_optional, carried_behind, carried_before, carried_within}
+use Rattle.psm_tree.specs.declared.file.Characteristic.{Characteristic}
+use Rattle.psm_unplaced.specs.WithoutPositions.{origin}
+use Rattle.psm_unplaced.specs.ExprWithoutPositions.{name_without_positions, type_without_positions}
+use Rattle.psm_unplaced.specs.StatementWithoutPositions.{statement_without_positions}
+use Rattle.psm_unplaced.specs.FileWithoutPositions.{column_rule_without_positions, table_rule_without_positions, element_without_positions, table_without_positions, parameter_without_positions, characteristic_without_positions, routine_without_positions, file_without_positions, argument_without_positions, row_without_positions, command_without_positions, script_without_positions}
+use Rattle.psm_unplaced.proofs.ValuesWithoutPositions.{same, both, place_without_positions}
+use Rattle.psm_unplaced.proofs.Carried.{Carried, carried_place, carried_at, carried_name, carried_seq, carried_or, carried_ahead, carried_many, carried_image, carried_pair, carried_triple, carried_several, carried_cons, carried_optional, carried_after, carried_before, carried_within}
 use Rattle.psm_unplaced.proofs.ExprCarried.{names_in_parens_carried, varying_carried, char_length_carried, plain_type_carried, data_type_carried, constant_carried, expr_carried}
 use Rattle.psm_unplaced.proofs.StatementCarried.{ordered_select_carried, statement_carried}
 
 -- ---- tables
 
-plain_column_rule_carried : Carried column_rule_unplaced FileGrammar.plain_column_rule
+plain_column_rule_carried : Carried column_rule_without_positions FileGrammar.plain_column_rule
 unfolding FileGrammar.all_files
 plain_column_rule_carried = carried_or (carried_seq carried_place carried_place (λ x y. refl))
     (carried_or (carried_seq carried_place carried_place (λ x y. refl))
     (carried_or (carried_image carried_place (λ x. refl))
     (carried_seq carried_place (carried_within expr_carried) (λ x y. refl))))
 
-column_rule_carried : Carried column_rule_unplaced FileGrammar.column_rule
+column_rule_carried : Carried column_rule_without_positions FileGrammar.column_rule
 unfolding FileGrammar.all_files
-column_rule_carried = carried_or (carried_behind (carried_seq carried_name plain_column_rule_carried (λ x y. refl))) plain_column_rule_carried
+column_rule_carried = carried_or (carried_after (carried_seq carried_name plain_column_rule_carried (λ x y. refl))) plain_column_rule_carried
 
-column_carried : Carried element_unplaced FileGrammar.column
+column_carried : Carried element_without_positions FileGrammar.column
 unfolding FileGrammar.all_files
 column_carried = carried_seq carried_name (carried_triple data_type_carried
-    (carried_pair (carried_optional (carried_behind constant_carried)) (carried_many column_rule_carried))) (λ x y. refl)
+    (carried_pair (carried_optional (carried_after constant_carried)) (carried_many column_rule_carried))) (λ x y. refl)
 
-plain_table_rule_carried : Carried table_rule_unplaced FileGrammar.plain_table_rule
+plain_table_rule_carried : Carried table_rule_without_positions FileGrammar.plain_table_rule
 unfolding FileGrammar.all_files
-plain_table_rule_carried = carried_or (carried_seq carried_place (carried_behind names_in_parens_carried) (λ x y. refl))
+plain_table_rule_carried = carried_or (carried_seq carried_place (carried_after names_in_parens_carried) (λ x y. refl))
     (carried_or (carried_seq carried_place names_in_parens_carried (λ x y. refl))
     (carried_seq carried_place (carried_within expr_carried) (λ x y. refl)))
 
-table_rule_carried : Carried table_rule_unplaced FileGrammar.table_rule
+table_rule_carried : Carried table_rule_without_positions FileGrammar.table_rule
 unfolding FileGrammar.all_files
-table_rule_carried = carried_or (carried_behind (carried_seq carried_name plain_table_rule_carried (λ x y. refl))) plain_table_rule_carried
+table_rule_carried = carried_or (carried_after (carried_seq carried_name plain_table_rule_carried (λ x y. refl))) plain_table_rule_carried
 
-element_carried : Carried element_unplaced FileGrammar.element
+element_carried : Carried element_without_positions FileGrammar.element
 unfolding FileGrammar.all_files
 element_carried = carried_or column_carried (carried_image table_rule_carried (λ x. refl))
 
-abbrev table_rest_unplaced : TableRest → TableRest
-table_rest_unplaced t = record { name = name_unplaced t.name; elements = several_map element_unplaced t.elements }
+abbrev table_rest_without_positions : TableRest → TableRest
+table_rest_without_positions t = record { name = name_without_positions t.name; elements = several_map element_without_positions t.elements }
 
-table_carried : Carried table_rest_unplaced FileGrammar.table
+table_carried : Carried table_rest_without_positions FileGrammar.table
 unfolding FileGrammar.all_files
-table_carried = carried_seq carried_name (carried_within (carried_several element_carried (carried_behind element_carried))) (λ x y. refl)
+table_carried = carried_seq carried_name (carried_within (carried_several element_carried (carried_after element_carried))) (λ x y. refl)
 
 -- ---- routines
 
-named_type_carried : Carried (both name_unplaced type_unplaced) FileGrammar.named_type
+named_type_carried : Carried (both name_without_positions type_without_positions) FileGrammar.named_type
 unfolding FileGrammar.all_files
 named_type_carried = carried_pair carried_name data_type_carried
 
-param_carried : Carried parameter_unplaced FileGrammar.param
+param_carried : Carried parameter_without_positions FileGrammar.param
 unfolding FileGrammar.all_files
 param_carried = carried_or (carried_seq (carried_at mode_of) named_type_carried (λ x y. refl)) (carried_image named_type_carried (λ x. refl))
 
-params_carried : Carried (map parameter_unplaced) FileGrammar.params
+params_carried : Carried (map parameter_without_positions) FileGrammar.params
 unfolding FileGrammar.all_files
-params_carried = carried_behind (carried_or (carried_image carried_place (λ x. refl)) (carried_before (carried_cons param_carried (carried_many (carried_behind param_carried)))))
+params_carried = carried_after (carried_or (carried_image carried_place (λ x. refl)) (carried_before (carried_cons param_carried (carried_many (carried_after param_carried)))))
 
-sql_data_carried : Carried place_unplaced FileGrammar.sql_data
+sql_data_carried : Carried place_without_positions FileGrammar.sql_data
 unfolding FileGrammar.all_files
-sql_data_carried = carried_behind carried_place
+sql_data_carried = carried_after carried_place
 
-note_carried : Carried note_unplaced FileGrammar.note
+characteristic_carried : Carried characteristic_without_positions FileGrammar.characteristic
 unfolding FileGrammar.all_files
-note_carried = carried_or (carried_seq carried_place carried_place (λ x y. refl))
+characteristic_carried = carried_or (carried_seq carried_place carried_place (λ x y. refl))
     (carried_or (carried_image carried_place (λ x. refl))
     (carried_or (carried_seq carried_place carried_place (λ x y. refl))
     (carried_or (carried_seq carried_place carried_place (λ x y. refl))
     (carried_or (carried_seq carried_place sql_data_carried (λ x y. refl))
     (carried_seq carried_place sql_data_carried (λ x y. refl))))))
 
-abbrev noted_unplaced : List Note × Statement → List Note × Statement
-noted_unplaced = both (map note_unplaced) statement_unplaced
+abbrev noted_without_positions : List Characteristic × Statement → List Characteristic × Statement
+noted_without_positions = both (map characteristic_without_positions) statement_without_positions
 
-noted_carried : Carried noted_unplaced FileGrammar.noted_statement
+noted_carried : Carried noted_without_positions FileGrammar.noted_statement
 unfolding FileGrammar.all_files
-noted_carried = carried_pair (carried_many note_carried) statement_carried
+noted_carried = carried_pair (carried_many characteristic_carried) statement_carried
 
-abbrev procedure_rest_unplaced : ProcedureRest → ProcedureRest
-procedure_rest_unplaced r = record { name = name_unplaced r.name; parameters = map parameter_unplaced r.parameters; notes = map note_unplaced r.notes; body = statement_unplaced r.body }
+abbrev procedure_rest_without_positions : ProcedureRest → ProcedureRest
+procedure_rest_without_positions r = record { name = name_without_positions r.name; parameters = map parameter_without_positions r.parameters; characteristics = map characteristic_without_positions r.characteristics; body = statement_without_positions r.body }
 
-procedure_carried : Carried routine_unplaced FileGrammar.procedure
+procedure_carried : Carried routine_without_positions FileGrammar.procedure
 unfolding FileGrammar.all_files
-procedure_carried = carried_seq carried_place (carried_seq {h = procedure_rest_unplaced} carried_name (carried_pair params_carried noted_carried) (λ x y. refl)) (λ x y. refl)
+procedure_carried = carried_seq carried_place (carried_seq {h = procedure_rest_without_positions} carried_name (carried_pair params_carried noted_carried) (λ x y. refl)) (λ x y. refl)
 
-returned_carried : Carried (both type_unplaced noted_unplaced) FileGrammar.returned
+returned_carried : Carried (both type_without_positions noted_without_positions) FileGrammar.returned
 unfolding FileGrammar.all_files
-returned_carried = carried_or (carried_seq carried_place (carried_ahead {h = both same noted_unplaced} (carried_pair varying_carried noted_carried) (carried_pair char_length_carried noted_carried)) (λ x y. refl))
+returned_carried = carried_or (carried_seq carried_place (carried_ahead {h = both same noted_without_positions} (carried_pair varying_carried noted_carried) (carried_pair char_length_carried noted_carried)) (λ x y. refl))
     (carried_pair plain_type_carried noted_carried)
 
-abbrev function_rest_unplaced : FunctionRest → FunctionRest
-function_rest_unplaced r = record { name = name_unplaced r.name; parameters = map parameter_unplaced r.parameters; returns = type_unplaced r.returns; notes = map note_unplaced r.notes; body = statement_unplaced r.body }
+abbrev function_rest_without_positions : FunctionRest → FunctionRest
+function_rest_without_positions r = record { name = name_without_positions r.name; parameters = map parameter_without_positions r.parameters; returns = type_without_positions r.returns; characteristics = map characteristic_without_positions r.characteristics; body = statement_without_positions r.body }
 
-function_carried : Carried routine_unplaced FileGrammar.function
+function_carried : Carried routine_without_positions FileGrammar.function
 unfolding FileGrammar.all_files
-function_carried = carried_seq carried_place (carried_seq {h = function_rest_unplaced} carried_name (carried_pair params_carried (carried_behind returned_carried)) (λ x y. refl)) (λ x y. refl)
+function_carried = carried_seq carried_place (carried_seq {h = function_rest_without_positions} carried_name (carried_pair params_carried (carried_after returned_carried)) (λ x y. refl)) (λ x y. refl)
 
-routine_carried : Carried routine_unplaced FileGrammar.routine
+routine_carried : Carried routine_without_positions FileGrammar.routine
 unfolding FileGrammar.all_files
-routine_carried = carried_or (carried_behind (carried_or procedure_carried function_carried)) (carried_or procedure_carried function_carried)
+routine_carried = carried_or (carried_after (carried_or procedure_carried function_carried)) (carried_or procedure_carried function_carried)
 
 -- ---- files
 
-abbrev module_rest_unplaced : ModuleRest → ModuleRest
-module_rest_unplaced m = record { name = name_unplaced m.name; routines = map routine_unplaced m.routines }
+abbrev module_rest_without_positions : ModuleRest → ModuleRest
+module_rest_without_positions m = record { name = name_without_positions m.name; routines = map routine_without_positions m.routines }
 
-module_carried : Carried module_rest_unplaced FileGrammar.module_part
+module_carried : Carried module_rest_without_positions FileGrammar.module_part
 unfolding FileGrammar.all_files
-module_carried = carried_behind (carried_seq carried_name (carried_pair (carried_optional (carried_behind carried_place)) (carried_before (carried_before (carried_many (carried_before routine_carried))))) (λ x y. refl))
+module_carried = carried_after (carried_seq carried_name (carried_pair (carried_optional (carried_after carried_place)) (carried_before (carried_before (carried_many (carried_before routine_carried))))) (λ x y. refl))
 
-created_tables_carried : Carried (map (both table_rest_unplaced place_unplaced)) FileGrammar.created_tables
+created_tables_carried : Carried (map (both table_rest_without_positions place_without_positions)) FileGrammar.created_tables
 unfolding FileGrammar.all_files
-created_tables_carried = carried_many (carried_behind (carried_pair table_carried (carried_behind carried_place)))
+created_tables_carried = carried_many (carried_after (carried_pair table_carried (carried_after carried_place)))
 
-tables_made : (place : Place) (ts : List (TableRest × Place)) → tables_from origin (map (both table_rest_unplaced place_unplaced) ts) ≡ map table_unplaced (tables_from place ts)
+tables_made : (place : Place) (ts : List (TableRest × Place)) → tables_from origin (map (both table_rest_without_positions place_without_positions) ts) ≡ map table_without_positions (tables_from place ts)
 tables_made place [] = refl
-tables_made place (t ∷ ts) = ap (λ tables. table_unplaced (table_of place t.0) ∷ tables) (tables_made t.1 ts)
+tables_made place (t ∷ ts) = ap (λ tables. table_without_positions (table_of place t.0) ∷ tables) (tables_made t.1 ts)
 
-last_place_made : (ts : List (TableRest × Place)) → last_place origin (map (both table_rest_unplaced place_unplaced) ts) ≡ origin
+last_place_made : (ts : List (TableRest × Place)) → last_place origin (map (both table_rest_without_positions place_without_positions) ts) ≡ origin
 last_place_made [] = refl
 last_place_made (t ∷ ts) = last_place_made ts
 
-file_made : (place : Place) (p : List (TableRest × Place) × ModuleRest) → file_of origin (both (map (both table_rest_unplaced place_unplaced)) module_rest_unplaced p) ≡ file_unplaced (file_of place p)
+file_made : (place : Place) (p : List (TableRest × Place) × ModuleRest) → file_of origin (both (map (both table_rest_without_positions place_without_positions)) module_rest_without_positions p) ≡ file_without_positions (file_of place p)
 file_made place p = λ i. record {
   tables = tables_made place p.0 i;
-  «module» = record { place = last_place_made p.0 i; name = name_unplaced p.1.name; routines = map routine_unplaced p.1.routines };
+  «module» = record { place = last_place_made p.0 i; name = name_without_positions p.1.name; routines = map routine_without_positions p.1.routines };
 }
 
-pub file_carried : Carried file_unplaced FileGrammar.file
+pub file_carried : Carried file_without_positions FileGrammar.file
 unfolding FileGrammar.all_files
 file_carried = carried_seq carried_place (carried_pair created_tables_carried (carried_seq module_carried (carried_optional carried_place) (λ x y. refl))) file_made
 
 -- ---- scripts
 
-argument_carried : Carried argument_unplaced FileGrammar.argument
+argument_carried : Carried argument_without_positions FileGrammar.argument
 unfolding FileGrammar.all_files
 argument_carried = carried_or (carried_image carried_place (λ x. refl)) (carried_image constant_carried (λ x. refl))
 
-script_arguments_carried : Carried (map argument_unplaced) FileGrammar.script_arguments
+script_arguments_carried : Carried (map argument_without_positions) FileGrammar.script_arguments
 unfolding FileGrammar.all_files
-script_arguments_carried = carried_or (carried_image carried_place (λ x. refl)) (carried_before (carried_cons argument_carried (carried_many (carried_behind argument_carried))))
+script_arguments_carried = carried_or (carried_image carried_place (λ x. refl)) (carried_before (carried_cons argument_carried (carried_many (carried_after argument_carried))))
 
-row_carried : Carried row_unplaced FileGrammar.row
+row_carried : Carried row_without_positions FileGrammar.row
 unfolding FileGrammar.all_files
-row_carried = carried_seq carried_place (carried_before (carried_several constant_carried (carried_behind constant_carried))) (λ x y. refl)
+row_carried = carried_seq carried_place (carried_before (carried_several constant_carried (carried_after constant_carried))) (λ x y. refl)
 
-inserting_carried : Carried command_unplaced FileGrammar.script_insert
+inserting_carried : Carried command_without_positions FileGrammar.script_insert
 unfolding FileGrammar.all_files
-inserting_carried = carried_seq carried_place (carried_behind (carried_triple carried_name
-    (carried_pair (carried_optional names_in_parens_carried) (carried_behind (carried_several row_carried (carried_behind row_carried)))))) (λ x y. refl)
+inserting_carried = carried_seq carried_place (carried_after (carried_triple carried_name
+    (carried_pair (carried_optional names_in_parens_carried) (carried_after (carried_several row_carried (carried_after row_carried)))))) (λ x y. refl)
 
-command_carried : Carried command_unplaced FileGrammar.command
+command_carried : Carried command_without_positions FileGrammar.command
 unfolding FileGrammar.all_files
-command_carried = carried_or (carried_seq carried_place (carried_pair carried_name (carried_behind script_arguments_carried)) (λ x y. refl))
+command_carried = carried_or (carried_seq carried_place (carried_pair carried_name (carried_after script_arguments_carried)) (λ x y. refl))
     (carried_or inserting_carried
     (carried_or (carried_image ordered_select_carried (λ x. refl))
     (carried_or (carried_seq carried_place (carried_optional carried_place) (λ x y. refl))
     (carried_seq carried_place (carried_optional carried_place) (λ x y. refl)))))
 
-pub script_carried : Carried script_unplaced FileGrammar.script
+pub script_carried : Carried script_without_positions FileGrammar.script
 unfolding FileGrammar.all_files
 script_carried = carried_image (carried_many (carried_before command_carried)) (λ x. refl)

@@ -1,5 +1,5 @@
 pub mod Equations
-pub mod ValuesUnplaced
+pub mod ValuesWithoutPositions
 pub mod Carried
 pub mod ExprCarried
 pub mod StatementCarried

@@ -1,5 +1,5 @@
-pub mod Unplaced
-pub mod ExprUnplaced
-pub mod StatementUnplaced
-pub mod FileUnplaced
+pub mod WithoutPositions
+pub mod ExprWithoutPositions
+pub mod StatementWithoutPositions
+pub mod FileWithoutPositions
 pub mod Elsewhere

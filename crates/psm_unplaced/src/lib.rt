@@ -1,7 +1,7 @@
-//! Trees with their places forgotten, and the law that tokens which are the same places apart spell
-//! trees that are the same places apart, wherever they stand.
+//! Trees with their places forgotten, and the law that tokens which are the same up to positions spell
+//! trees that are the same up to positions, wherever they stand.
 #![tactic(auto)]
 
 mod laws;
 
-pub use laws::{one_tree_places_apart, trees_at_other_places, trees_without_places};
+pub use laws::{one_tree_up_to_positions, trees_at_other_places, trees_without_places};

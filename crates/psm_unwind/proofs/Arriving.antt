@@ -1,4 +1,4 @@
--- What a handler and what is outside come to, by the parts of a machine.
+-- What a handler and what is outside end in, by the parts of a machine.
 use Rattle.std.proofs.Common.{◌≡◌, ℕ, zero, suc, ◌-◌, ◌<◌, Bool, true, false, List, [], ◌∷◌, map, reverse, length, Option, Some, None, Result, Ok, Err, IfOk, OnOk, refl, ap, sym, subst, ◌∙◌, arith, if◌then◌else◌}
 use Rattle.std.proofs.lemmas.List.{length-map, length-reverse}
 use Rattle.psm_sqlstate.specs.Kind.{kind_of}
@@ -14,7 +14,7 @@ use Rattle.psm_code.specs.declared.code.RawRoutine.{RawRoutine}
 use Rattle.psm_code.specs.Raising.{arrived, asked, asked_at, at_turn, chosen, frames_from, frames_inside, frames_left, met, passed_over, raised, raised_in}
 use Rattle.psm_code.specs.declared.lines.CodeLine.{CodeLine}
 use Rattle.psm_code.specs.Parts.{handler_at, routine_at}
-use Rattle.psm_code.specs.State.{Activation, Frame, Machine, holding, Turned, More, Over, Raised, with_running}
+use Rattle.psm_code.specs.State.{Activation, Frame, Machine, holding, Stepped, More, Over, Raised, with_running}
 use Rattle.psm_unwind.specs.declared.ending.Outcome.{Outcome}
 use Rattle.psm_unwind.specs.declared.ending.Outcome.TheVariants as outcome
 use Rattle.psm_unwind.specs.declared.ending.Ending.TheVariants as ending
@@ -50,11 +50,11 @@ outside_is r m running callers ts l t =
     ∙ ap {A = List Contents} (λ x. record m { running = running; tables = x }) (sym (t ∙ ap (λ g. tables_left true g m.tables) (inside_all m.running.frames)))
     ∙ ap {A = List Activation} (λ x. record m { running = running; callers = x; tables = ts }) (sym l)
 
-met_same : (r : RawRoutine) (l : CodeLine) (c : Entries) (k : Option ℕ) (outside : Machine → Turned) (m : Machine) → met r l c k outside m ≡ met_at r l.resume c k outside m
+met_same : (r : RawRoutine) (l : CodeLine) (c : Entries) (k : Option ℕ) (outside : Machine → Stepped) (m : Machine) → met r l c k outside m ≡ met_at r l.resume c k outside m
 met_same r l c None outside m = refl
 met_same r l c (Some n) outside m = refl
 
-pub meets_same : (due other : (Machine → Turned) → Turned) (x : Met) (now : Machine) → ((outside : Machine → Turned) → other outside ≡ due outside) → Meets due x now → Meets other x now
+pub meets_same : (due other : (Machine → Stepped) → Stepped) (x : Met) (now : Machine) → ((outside : Machine → Stepped) → other outside ≡ due outside) → Meets due x now → Meets other x now
 meets_same due other (Here o) now e h = λ outside. subst (λ t. LeadsTo t o now) (sym (e outside)) (h outside)
 meets_same due other Outside now e h = (h.0, λ outside. e outside ∙ h.1 outside, h.2)
 
@@ -84,7 +84,7 @@ pub placed : (r : RawRoutine) (l : Option CodeLine) (p : Place) (c : Entries) (m
     Meets (λ outside. met_at r p.resume c (choice r.handlers p.context c.first) outside held) x now → Meets (λ outside. asked_at r l c outside m) x now
 placed r None p c m held now x i e h = absurd i
 placed r (Some l) p c m held now x i e h =
-    let same : (outside : Machine → Turned) → asked_at r (Some l) c outside m ≡ met_at r p.resume c (choice r.handlers p.context c.first) outside held = λ outside.
+    let same : (outside : Machine → Stepped) → asked_at r (Some l) c outside m ≡ met_at r p.resume c (choice r.handlers p.context c.first) outside held = λ outside.
     met_same r l c (choice r.handlers l.context c.first) outside (holding c m)
     ∙ ap (λ k. met_at r l.resume c (choice r.handlers k c.first) outside (holding c m)) i.0
     ∙ ap (λ k. met_at r k c (choice r.handlers p.context c.first) outside (holding c m)) i.1

@@ -18,9 +18,9 @@ abbrev first_or : {A : Type 0} → List A → A → A
 first_or [] x = x
 first_or (y ∷ ys) x = y
 
-first_behind : {A : Type 0} (xs : List A) (x : A) → first_of (xs ++ x ∷ []) ≡ Some (first_or xs x)
-first_behind [] x = refl
-first_behind (y ∷ ys) x = refl
+first_after : {A : Type 0} (xs : List A) (x : A) → first_of (xs ++ x ∷ []) ≡ Some (first_or xs x)
+first_after [] x = refl
+first_after (y ∷ ys) x = refl
 
 first_of_two : {A : Type 0} (xs : List A) (x y : A) → first_or (xs ++ x ∷ []) y ≡ first_or xs x
 first_of_two [] x y = refl
@@ -34,7 +34,7 @@ pub last_is : {A : Type 0} (xs : List A) → slice_get xs (length xs - 1) ≡ fi
 last_is [] = refl
 last_is (x ∷ xs) =
     let e : length (x ∷ xs) - 1 ≡ length xs = omega arith in
-    ap (λ n. slice_get (x ∷ xs) n) e ∙ last_from x xs ∙ sym (first_behind (reverse xs) x) ∙ ap first_of (sym (reverse-append (x ∷ []) xs))
+    ap (λ n. slice_get (x ∷ xs) n) e ∙ last_from x xs ∙ sym (first_after (reverse xs) x) ∙ ap first_of (sym (reverse-append (x ∷ []) xs))
 
 abbrev inside_of : Option code.Frame → Option ℕ → Bool
 inside_of None stop = false

@@ -1,4 +1,4 @@
--- What frames leave behind, as the definition of a raised condition says it.
+-- What frames leave after, as the definition of a raised condition says it.
 use Rattle.std.proofs.Common.{◌≡◌, ℕ, Bool, true, false, not, List, [], ◌∷◌, ◌++◌, reverse, Option, Some, None, if◌then◌else◌, refl, ap, sym, subst, ◌∙◌}
 use Rattle.std.proofs.lemmas.List.{reverse-append}
 use Rattle.psm_table.specs.Cursors.{Cursor}

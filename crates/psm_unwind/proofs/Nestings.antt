@@ -45,9 +45,9 @@ pub nested_right : (holds : Mark → Type 0) (ms ns : List Mark) → Nested hold
 nested_right holds [] ns n = n
 nested_right holds (m ∷ ms) ns n = nested_right holds ms ns n.2
 
-pub nested_around : (holds : Mark → Type 0) (ms ns : List Mark) → Nested holds (ms ++ ns) → Each (Around ms) ns
-nested_around holds [] ns n = each_all (λ o. Unit {0}) ns (λ o. tt)
-nested_around holds (m ∷ ms) ns n = each_zip (IsOutside m) (Around ms) (Around (m ∷ ms)) ns (λ o p q. (p, q)) (each_right (IsOutside m) ms ns n.1) (nested_around holds ms ns n.2)
+pub nested_enclosing : (holds : Mark → Type 0) (ms ns : List Mark) → Nested holds (ms ++ ns) → Each (Around ms) ns
+nested_enclosing holds [] ns n = each_all (λ o. Unit {0}) ns (λ o. tt)
+nested_enclosing holds (m ∷ ms) ns n = each_zip (IsOutside m) (Around ms) (Around (m ∷ ms)) ns (λ o p q. (p, q)) (each_right (IsOutside m) ms ns n.1) (nested_enclosing holds ms ns n.2)
 
 pub nested_by : (holds new : Mark → Type 0) (ms : List Mark) → Each new ms → Nested holds ms → Nested new ms
 nested_by holds new [] e n = tt
@@ -68,7 +68,7 @@ leaves_in holds at ms new at_new left outer n l = record {
   gone = l.gone;
   split = ap (λ x. x ++ outer) l.split ∙ append_assoc l.gone left outer;
   stay = each_both (Stays at new at_new) left outer l.stay
-      (each_zip holds (Around ms) (Stays at new at_new) outer l.keeps (nested_each holds outer (nested_right holds ms outer n)) (nested_around holds ms outer n));
+      (each_zip holds (Around ms) (Stays at new at_new) outer l.keeps (nested_each holds outer (nested_right holds ms outer n)) (nested_enclosing holds ms outer n));
   keeps = λ m h a. l.keeps m h (each_left (λ x. IsOutside x m) ms outer a);
 }
 

@@ -1,4 +1,4 @@
--- What frames leave behind when the run leaves them: the cursors and the tables.
+-- What frames leave after when the run leaves them: the cursors and the tables.
 use Rattle.std.specs.Prelude.{ℕ, Bool, false, not, List, [], ◌∷◌, Option, Some, None, if◌then◌else◌}
 use Rattle.psm_table.specs.Cursors.{Cursor}
 use Rattle.psm_table.specs.Table.{Contents}

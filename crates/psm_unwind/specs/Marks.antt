@@ -46,7 +46,7 @@ abbrev pub Nested : (Mark → Type 0) → List Mark → Type 0
 Nested holds [] = Unit {0}
 Nested holds (m ∷ marks) = holds m × Each (IsOutside m) marks × Nested holds marks
 
--- so many marks are open in a store whose run opens another one, at most
+-- n marks are open in a store whose run opens another one, at most
 abbrev pub most_open : ℕ
 most_open = 2 ^ 99
 

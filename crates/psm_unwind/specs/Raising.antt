@@ -4,13 +4,13 @@ use Rattle.std.specs.List.{All}
 use Rattle.psm_sqlstate.specs.Kind.{kind_of}
 use Rattle.psm_cond.specs.Choice.{is_exception}
 use Rattle.psm_cond.specs.Condition.{Entries}
-use Rattle.psm_cond.specs.Sound.{is_sound}
+use Rattle.psm_cond.specs.WellFormed.{is_well_formed_table}
 use Rattle.psm_code.specs.declared.code.RawCode.{RawCode}
 use Rattle.psm_code.specs.declared.code.RawRoutine.{RawRoutine}
 use Rattle.psm_code.specs.declared.lines.CodeLine.{CodeLine}
 use Rattle.psm_code.specs.Parts.{handler_at}
 use Rattle.psm_code.specs.Raising.{chosen, frames_left, passed_over}
-use Rattle.psm_code.specs.State.{Machine, Turned}
+use Rattle.psm_code.specs.State.{Machine, Stepped}
 use Rattle.psm_unwind.specs.declared.parts.Place.{Place}
 use Rattle.psm_unwind.specs.declared.raising.Met.{Met}
 use Rattle.psm_unwind.specs.declared.raising.Met.TheVariants.{Here, Outside}
@@ -18,8 +18,8 @@ use Rattle.psm_unwind.specs.declared.run.Run.{Run}
 use Rattle.psm_unwind.specs.View.{LeadsTo}
 
 -- the contexts and handlers of each routine fit together
-abbrev pub HasSoundHandlers : RawCode → Type 0
-HasSoundHandlers code = All (λ (r : RawRoutine). IsTrue (is_sound r.handlers)) code.routines
+abbrev pub HasWellFormedHandlers : RawCode → Type 0
+HasWellFormedHandlers code = All (λ (r : RawRoutine). IsTrue (is_well_formed_table r.handlers)) code.routines
 
 -- where a line stands
 abbrev pub IsPlace : Option CodeLine → Option Place → Type 0
@@ -28,15 +28,15 @@ IsPlace None (Some p) = ⊥
 IsPlace (Some l) None = ⊥
 IsPlace (Some l) (Some p) = (l.context ≡ p.context) × (l.resume ≡ p.resume)
 
--- what a condition meets behind a line of a routine, where this handler is chosen
-abbrev pub met_at : RawRoutine → Option ℕ → Entries → Option ℕ → (Machine → Turned) → Machine → Turned
+-- what a condition meets after a line of a routine, where this handler is chosen
+abbrev pub met_at : RawRoutine → Option ℕ → Entries → Option ℕ → (Machine → Stepped) → Machine → Stepped
 met_at r resume c (Some n) outside m = chosen r (is_exception (kind_of c.first.state)) resume n (handler_at r n) m
 met_at r resume c None outside m = if is_exception (kind_of c.first.state) then outside (frames_left r true m.running.frames m) else passed_over resume m
 
 -- a condition meets what is due, whatever is outside; or it goes outside, with all but the activation as it is now
-abbrev pub Meets : ((Machine → Turned) → Turned) → Met → Machine → Type 0
-Meets due (Here o) now = (outside : Machine → Turned) → LeadsTo (due outside) o now
-Meets due Outside now = (m : Machine) × ((outside : Machine → Turned) → due outside ≡ outside m) × (record m { running = now.running } ≡ now)
+abbrev pub Meets : ((Machine → Stepped) → Stepped) → Met → Machine → Type 0
+Meets due (Here o) now = (outside : Machine → Stepped) → LeadsTo (due outside) o now
+Meets due Outside now = (m : Machine) × ((outside : Machine → Stepped) → due outside ≡ outside m) × (record m { running = now.running } ≡ now)
 
 -- a condition that goes outside leaves all frames
 abbrev pub HasLeft : Met → Run → Type 0

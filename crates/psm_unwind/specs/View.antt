@@ -54,10 +54,10 @@ abbrev pub end_of : Ending → code.End
 end_of (ending.Ended ds) = code.Ended ds
 end_of (ending.Raised c) = code.Raised c
 end_of ending.NoTurns = code.NoTurns
-end_of ending.Lacking = code.Lacking
+end_of ending.Stuck = code.Stuck
 
 -- a run goes on as is due; or it is over, with the end and the tables that are due
-abbrev pub LeadsTo : code.Turned → Outcome → code.Machine → Type 0
+abbrev pub LeadsTo : code.Stepped → Outcome → code.Machine → Type 0
 LeadsTo (code.More m) More now = m ≡ now
 LeadsTo (code.More m) (Over e) now = ⊥
 LeadsTo (code.Over e m) More now = ⊥

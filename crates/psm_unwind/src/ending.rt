@@ -4,7 +4,7 @@ use psm_cond::Condition;
 use psm_list::{Boxed, List};
 use psm_value::Datum;
 
-/// How a run ends. What it gives is boxed, so that what each instruction comes to is two or three words.
+/// How a run ends. What it gives is boxed, so that what each instruction ends in is two or three words.
 #[derive(Debug, Drop)]
 pub enum Ending {
     /// With the values of the OUT and INOUT parameters, or with the value of a function.
@@ -14,7 +14,7 @@ pub enum Ending {
     /// Where a turn is due and none is left.
     NoTurns,
     /// Where something isn't there that an instruction names. Code that keeps its rules never comes to it.
-    Lacking,
+    Stuck,
 }
 
 /// Whether a run goes on.

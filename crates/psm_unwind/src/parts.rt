@@ -9,7 +9,7 @@ use psm_code::{RawCode, RawRoutine};
 use psm_cond::{Block, ContextKind, Handler};
 use psm_sqlstate::Kind;
 
-/// Where a line stands: its context, and the line at which the run goes on behind a condition that it raises.
+/// Where a line stands: its context, and the line at which the run goes on after a condition that it raises.
 #[derive(Clone, Copy)]
 pub(crate) struct Place {
     pub(crate) context: u32,

@@ -3,7 +3,7 @@ ghost use Rattle.std.specs.Prelude.{◌≡◌, ◌<◌, ◌≤◌, true, IfOk, I
 ghost use Rattle.psm_sqlstate.specs.Kind.{kind_of};
 ghost use Rattle.psm_cond.specs.Choice.{is_exception};
 ghost use Rattle.psm_cond.specs.Handlers.{choice};
-ghost use Rattle.psm_cond.specs.Sound.{is_sound};
+ghost use Rattle.psm_cond.specs.WellFormed.{is_well_formed_table};
 ghost use Rattle.psm_table.specs.Table.{Contents};
 ghost use Rattle.psm_store.specs.declared.store.Mark.{Mark as MarkValue};
 ghost use Rattle.psm_store.specs.Marks.{defs_of};
@@ -11,7 +11,7 @@ ghost use Rattle.psm_code.specs.Parts.{handler_at, routine_at};
 ghost use Rattle.psm_code.specs.Raising.{acting, arrived, asked, chosen, found_first, handled, passed_over, put_back, raised, undone};
 ghost use Rattle.psm_code.specs.State.{holding};
 ghost use Rattle.psm_unwind.specs.Marks.{Leaves, MarksStand, Nested, SameFrames, Unwinds, marks_in, open_marks};
-ghost use Rattle.psm_unwind.specs.Raising.{HasLeft, HasSoundHandlers, Meets, met_at};
+ghost use Rattle.psm_unwind.specs.Raising.{HasLeft, HasWellFormedHandlers, Meets, met_at};
 ghost use Rattle.psm_unwind.specs.View.{LeadsTo, frames_of, machine_of};
 
 use crate::ending::{Ending, Outcome};
@@ -27,14 +27,14 @@ use std::alloc::{AllocError, Global};
 /// What a condition meets in an activation.
 #[derive(Drop)]
 enum Met {
-    /// A handler, or the line behind the statement; or the run is over.
+    /// A handler, or the line after the statement; or the run is over.
     Here(Outcome),
     /// No handler takes the exception, and the activation is left.
     Outside,
 }
 
 /// Raises a condition at the line that runs. The handler that is chosen for it gets its turn. Without one, a warning or no data
-/// goes on behind the statement, and an exception leaves the routine and is raised again where it was called, from then on by its
+/// goes on after the statement, and an exception leaves the routine and is raised again where it was called, from then on by its
 /// SQLSTATE alone; where nothing called it the run is over.
 ///
 /// The handlers and contexts of the code have to fit together, and the marks of the run to stand. They stand afterwards too, also
@@ -46,7 +46,7 @@ pub fn raise<S: Store>(
     store: &mut S,
     condition: Condition,
 ) -> Result<Outcome, AllocError>
-    requires sound { HasSoundHandlers code.now }
+    requires well_formed_handlers { HasWellFormedHandlers code.now }
     requires stand { MarksStand (S.holds store.old) (S.marks store.old) run.old }
     ensures due { IfOk result (λ o. LeadsTo (raised code.now condition (machine_of (S.tables store.old) (S.at store.old) run.old)) o (machine_of (S.tables store.new) (S.at store.new) run.new)) }
     ensures stand { MarksStand (S.holds store.new) (S.marks store.new) run.new }
@@ -79,7 +79,7 @@ fn ask<S: Store>(
     store: &mut S,
     condition: &Condition,
 ) -> Result<Met, AllocError>
-    requires sound { HasSoundHandlers code.now }
+    requires well_formed_handlers { HasWellFormedHandlers code.now }
     requires nested { Nested (S.holds store.old) (open_marks run.old) }
     ensures due { IfOk result (λ met. Meets (λ outside. asked (routine_at code.now run.old.running.routine) condition.now outside (machine_of (S.tables store.old) (S.at store.old) run.old)) met (machine_of (S.tables store.new) (S.at store.new) run.new)) }
     ensures left { IfOk result (λ met. HasLeft met run.new) }
@@ -88,7 +88,7 @@ fn ask<S: Store>(
     ensures unwinds { Unwinds (S.holds store.old) (S.at store.old) (S.marks store.old) (S.tables store.old) run.old (S.holds store.new) (S.at store.new) (S.marks store.new) (S.tables store.new) run.new }
 {
     match routine_at(code, run.running.routine) {
-        None => Ok(Met::Here(Outcome::Over(Ending::Lacking))),
+        None => Ok(Met::Here(Outcome::Over(Ending::Stuck))),
         Some(routine) => ask_in(alloc, routine, run, store, condition),
     }
 }
@@ -100,7 +100,7 @@ fn ask_in<S: Store>(
     store: &mut S,
     condition: &Condition,
 ) -> Result<Met, AllocError>
-    requires sound { IsTrue (is_sound routine.now.handlers) }
+    requires well_formed_handlers { IsTrue (is_well_formed_table routine.now.handlers) }
     requires nested { Nested (S.holds store.old) (open_marks run.old) }
     ensures due { IfOk result (λ met. Meets (λ outside. asked (Some routine.now) condition.now outside (machine_of (S.tables store.old) (S.at store.old) run.old)) met (machine_of (S.tables store.new) (S.at store.new) run.new)) }
     ensures left { IfOk result (λ met. HasLeft met run.new) }
@@ -109,7 +109,7 @@ fn ask_in<S: Store>(
     ensures unwinds { Unwinds (S.holds store.old) (S.at store.old) (S.marks store.old) (S.tables store.old) run.old (S.holds store.new) (S.at store.new) (S.marks store.new) (S.tables store.new) run.new }
 {
     match place_of(routine, run.running.line) {
-        None => Ok(Met::Here(Outcome::Over(Ending::Lacking))),
+        None => Ok(Met::Here(Outcome::Over(Ending::Stuck))),
         Some(place) => {
             hold(alloc, run, condition)?;
             meet(alloc, routine, place, run, store, condition)
@@ -138,7 +138,7 @@ fn meet<S: Store>(
     store: &mut S,
     condition: &Condition,
 ) -> Result<Met, AllocError>
-    requires sound { IsTrue (is_sound routine.now.handlers) }
+    requires well_formed_handlers { IsTrue (is_well_formed_table routine.now.handlers) }
     requires nested { Nested (S.holds store.old) (open_marks run.old) }
     requires entries { run.old.area.entries ≡ condition.now }
     ensures due { IfOk result (λ met. Meets (λ outside. met_at routine.now place.resume condition.now (choice routine.now.handlers place.context condition.now.first) outside (machine_of (S.tables store.old) (S.at store.old) run.old)) met (machine_of (S.tables store.new) (S.at store.new) run.new)) }
@@ -156,7 +156,7 @@ fn meet<S: Store>(
     }
 }
 
-// Without a handler an exception leaves the activation, and another condition goes on behind the statement.
+// Without a handler an exception leaves the activation, and another condition goes on after the statement.
 fn meet_none<S: Store>(
     routine: &RawRoutine,
     resume: Option<u32>,
@@ -186,14 +186,14 @@ fn meet_none<S: Store>(
     }
 }
 
-// Goes on behind a statement.
+// Goes on after a statement.
 fn pass_over(resume: Option<u32>, run: &mut Run) -> Outcome
     ensures due { (tables : List Contents) (at : MarkValue → List Contents) → LeadsTo (passed_over resume (machine_of tables at run.old)) result (machine_of tables at run.new) }
     ensures same { SameFrames run.old run.new }
     ensures below { run.new.operands.callers ≡ run.old.operands.callers }
 {
     match resume {
-        None => Outcome::Over(Ending::Lacking),
+        None => Outcome::Over(Ending::Stuck),
         Some(line) => {
             run.running.line = line as usize;
             run.operands.clear();
@@ -220,7 +220,7 @@ fn handle<S: Store>(
     ensures unwinds { Unwinds (S.holds store.old) (S.at store.old) (S.marks store.old) (S.tables store.old) run.old (S.holds store.new) (S.at store.new) (S.marks store.new) (S.tables store.new) run.new }
 {
     match handler_at(routine, number) {
-        None => Ok(Outcome::Over(Ending::Lacking)),
+        None => Ok(Outcome::Over(Ending::Stuck)),
         Some(handler) => {
             if run.turns == 0 {
                 return Ok(Outcome::Over(Ending::NoTurns));

@@ -55,6 +55,6 @@ pub struct Run {
     pub pending: Option<SqlState>,
     /// The turns that are left.
     pub turns: u64,
-    /// The store has no more marks than so many.
+    /// The store has no more marks than n.
     pub marks: u128,
 }

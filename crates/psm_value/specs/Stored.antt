@@ -10,7 +10,7 @@ use Rattle.psm_value.specs.declared.sqltype.SqlType.{SqlType}
 use Rattle.psm_value.specs.declared.sqltype.SqlType.TheVariants.{SmallInt, Integer, Numeric, Char, VarChar}
 use Rattle.psm_value.specs.TextFaults.{as_text}
 
--- how many digits behind the point the type keeps
+-- how many digits after the point the type keeps
 abbrev pub scale_of : SqlType → ℕ
 scale_of SmallInt = 0
 scale_of Integer = 0
@@ -45,7 +45,7 @@ stored to Null = Ok Null
 stored to (Num n) = stored_number to n
 stored to (Text t) = stored_text to t
 
--- whether texts of so many characters are as the type stores them; a type of numbers holds no text
+-- whether texts of n characters are as the type stores them; a type of numbers holds no text
 abbrev pub has_length : SqlType → ℕ → Bool
 has_length (Char n) count = nat_eq count n
 has_length (VarChar n) count = nat_le count n

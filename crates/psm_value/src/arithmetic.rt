@@ -1,5 +1,5 @@
 //! Arithmetic on values (ISO/IEC 9075:1992, 6.12). Null comes first: a null side gives null, and no
-//! condition is asked then. A text counts as null; none comes to an operator in a checked module.
+//! condition is asked then. A text counts as null; none evaluates to an operator in a checked module.
 ghost use Rattle.std.specs.Prelude.{◌≡◌};
 ghost use Rattle.psm_value.specs.Arithmetic.{as_datum, numbers_of, sum_of, difference_of, product_of, quotient_of, negated_of};
 

@@ -9,7 +9,7 @@ pub enum SqlType {
     SmallInt,
     /// -2147483648 to 2147483647.
     Integer,
-    /// At most `p` digits, of which `s` stand behind the point.
+    /// At most `p` digits, of which `s` stand after the point.
     Numeric { p: u8, s: u8 },
     /// Exactly `n` characters.
     Char { n: u16 },
@@ -19,7 +19,7 @@ pub enum SqlType {
 
 impl SqlType {
     /// Whether the digits, decimals and lengths are those that a type may have: 1 to 18 digits, of which at
-    /// most all stand behind the point, and 1 to 4000 characters.
+    /// most all stand after the point, and 1 to 4000 characters.
     pub fn is_within_bounds(self) -> bool
         ensures { IsTrue result ↔ IsType self }
     {

@@ -115,7 +115,7 @@ fn fetch_text(alloc: Global, to: SqlType, text: &Text) -> Result<(Datum, bool), 
     Ok((Datum::Text(cut), lost))
 }
 
-// Whether texts of so many characters are as the type stores them.
+// Whether texts of n characters are as the type stores them.
 fn has_length(to: SqlType, count: u32) -> bool
     ensures { result ≡ has_length_of to count }
 {
@@ -126,7 +126,7 @@ fn has_length(to: SqlType, count: u32) -> bool
     }
 }
 
-// How many digits behind the point the type keeps.
+// How many digits after the point the type keeps.
 fn scale(to: SqlType) -> u8
     requires { IsType to }
     ensures value { result ≡ scale_of to }

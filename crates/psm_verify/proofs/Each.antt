@@ -10,7 +10,7 @@ use Rattle.psm_verify.specs.Checked.{Finds, checked, item_at, item_in}
 use Rattle.psm_verify.proofs.Placing.{is_at}
 use Rattle.std.specs.Prelude.{option_map, slice_get}
 use Rattle.std.proofs.lemmas.Option.{get_or_from_slice_get, slice_get-map}
-use Rattle.psm_verify.proofs.Going.{going_on, stop}
+use Rattle.psm_verify.proofs.LinesInOrder.{going_on, stop}
 
 pub rest_of : {A : Type 0} (xs : List A) (at : ℕ) (a : A) → at < length xs → a ≡ get_or xs at a → drop at xs ≡ a ∷ drop (at + 1) xs
 rest_of xs at a l e =

@@ -14,7 +14,7 @@ use Rattle.psm_verify.specs.declared.fault.CodeFault.{CodeFault}
 use Rattle.psm_verify.specs.Checked.{Finds, checked}
 use Rattle.psm_verify.specs.declared.fault.Stop.{Stop}
 use Rattle.psm_verify.specs.declared.fault.Stop.TheVariants.{Fault}
-use Rattle.psm_verify.specs.Scene.{letters_with, listed}
+use Rattle.psm_verify.specs.VerifyContext.{letters_with, listed}
 
 pub all_right : (rs : List (Option CodeRule)) (n m : ℕ) → checked n rs ≡ Ok m → fault_in n rs ≡ None
 all_right [] n m h = refl

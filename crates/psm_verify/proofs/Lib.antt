@@ -2,7 +2,7 @@ pub mod Callings
 pub mod Contexts
 pub mod Each
 pub mod Ending
-pub mod Going
+pub mod LinesInOrder
 pub mod Lining
 pub mod NewValues
 pub mod Placing

@@ -8,7 +8,7 @@ use Rattle.psm_code.specs.declared.code.RawRoutine.{RawRoutine}
 use Rattle.psm_code.specs.declared.lines.CodeLine.{CodeLine}
 use Rattle.psm_code.specs.declared.rule.CodeRule.TheVariants.{Range, Target, Stack, Context, Resume, Turn, Place}
 use Rattle.psm_code.specs.Rules.{first_of, is_some, unless, where_there}
-use Rattle.psm_code.specs.RoutineRules.{are_targets, context_there, contexts_follow, jump_of, line_fault, line_faults, may_stand, names_there, resumes_right, stack_follows, stands_alone, stands_right, uses_turn}
+use Rattle.psm_code.specs.RoutineRules.{are_targets, context_there, contexts_follow, jump_of, line_fault, line_faults, may_stand, names_there, resumes_well_formed, stack_follows, stands_alone, stands_well_formed, uses_turn}
 use Rattle.psm_verify.specs.Stated.{bare_of, code_line_fault, code_line_fault_at, first_right, line_fault_with}
 use Rattle.psm_verify.proofs.Placing.{is_at, rest_at}
 use Rattle.psm_verify.proofs.Splits.{follows_is_split}
@@ -38,16 +38,16 @@ apart code r at l =
     unless (context_there r l.context && names_there code r l.instruction) Range
     ∷ unless (are_targets code r at l) Target
     ∷ unless ((not (stands_alone l.instruction) || not (is_some (reverse l.stack))) && b) Stack
-    ∷ unless (first_right at l.context (reverse l.stack) && (stands_right r l l.instruction && contexts_follow code r at l)) Context
-    ∷ unless (resumes_right r at l) Resume
+    ∷ unless (first_right at l.context (reverse l.stack) && (stands_well_formed r l l.instruction && contexts_follow code r at l)) Context
+    ∷ unless (resumes_well_formed r at l) Resume
     ∷ unless (where_there (jump_of l.instruction) (uses_turn r at)) Turn
     ∷ unless (may_stand code r l.instruction) Place ∷ [])) (sym (follows_is_split code r at (reverse l.stack) l.instruction))
     ∙ ap (λ b. first_of (
     unless (context_there r l.context && names_there code r l.instruction) Range
     ∷ unless (are_targets code r at l) Target
     ∷ unless ((not (stands_alone l.instruction) || not b) && follow) Stack
-    ∷ unless ((not (nat_eq at 0) || (nat_eq l.context 0 && not b)) && (stands_right r l l.instruction && contexts_follow code r at l)) Context
-    ∷ unless (resumes_right r at l) Resume
+    ∷ unless ((not (nat_eq at 0) || (nat_eq l.context 0 && not b)) && (stands_well_formed r l l.instruction && contexts_follow code r at l)) Context
+    ∷ unless (resumes_well_formed r at l) Resume
     ∷ unless (where_there (jump_of l.instruction) (uses_turn r at)) Turn
     ∷ unless (may_stand code r l.instruction) Place ∷ [])) (some_reversed l.stack)
 

@@ -12,13 +12,13 @@ use Rattle.psm_exprcode.specs.declared.op.Op.{Op}
 use Rattle.psm_exprcode.specs.declared.op.Op.TheVariants as op
 use Rattle.psm_exprcode.specs.Kinds.{some_letter, some_value}
 use Rattle.psm_exprcode.specs.Operations.{Effect, effect}
-use Rattle.psm_exprcode.specs.WellFormed.{are_lines, are_stated, does_fit, goes_ahead, goes_away, goes_on_with, is_bounded, is_known, is_line, is_of_kind, lands, leads, left_of}
+use Rattle.psm_exprcode.specs.WellFormed.{are_lines, are_stated, does_fit, falls_through, branches, goes_on_with, is_bounded, is_known, is_line, is_of_kind, lands, leads, left_of}
 use Rattle.psm_code.specs.declared.rule.CodeRule.TheVariants.{Range, Stack}
 use Rattle.psm_code.specs.Instructions.{known_end, letter_that}
 use Rattle.psm_code.specs.Rules.{first_of, there, unless, where_there}
 use Rattle.psm_code.specs.TableRules.{expr_at, expr_faults, expr_line_faults, names_there, possible_end}
 use Rattle.psm_verify.specs.Checked.{checked, passing}
-use Rattle.psm_verify.specs.Placed.{ahead_at, away_at, fault_at, fault_of, fault_of_line, goes_on_at, is_right, is_right_of, lands_at, leads_at, right_at}
+use Rattle.psm_verify.specs.Placed.{fall_through_at, branch_at, fault_at, fault_of, fault_of_line, goes_on_at, is_right, is_right_of, lands_at, leads_at, right_at}
 
 -- ---- lists from a place on
 
@@ -32,34 +32,34 @@ is_at [] at h = absurd (omega (arith, h))
 is_at (x ∷ xs) zero h = (x, refl)
 is_at (x ∷ xs) (suc at) h = is_at xs at (omega (arith, h))
 
-pub slice_get-behind : {A : Type 0} (k : ℕ) (xs : List A) (n m : ℕ) → m ≡ k + n → slice_get (drop k xs) n ≡ slice_get xs m
-slice_get-behind zero xs n m e = let f : n ≡ m = omega (arith, e) in ap (slice_get xs) f
-slice_get-behind (suc k) [] n m e = refl
-slice_get-behind (suc k) (x ∷ xs) n zero e = absurd (omega (arith, e))
-slice_get-behind (suc k) (x ∷ xs) n (suc m) e = slice_get-behind k xs n m (omega (arith, e))
+pub slice_get-following : {A : Type 0} (k : ℕ) (xs : List A) (n m : ℕ) → m ≡ k + n → slice_get (drop k xs) n ≡ slice_get xs m
+slice_get-following zero xs n m e = let f : n ≡ m = omega (arith, e) in ap (slice_get xs) f
+slice_get-following (suc k) [] n m e = refl
+slice_get-following (suc k) (x ∷ xs) n zero e = absurd (omega (arith, e))
+slice_get-following (suc k) (x ∷ xs) n (suc m) e = slice_get-following k xs n m (omega (arith, e))
 
 -- ---- where an operation goes on
 
-same_behind : (a b k : ℕ) → k ≤ a → k ≤ b → nat_eq (a - k) (b - k) ≡ nat_eq a b
-same_behind a b k h g = grind (arith, h, g)
+same_after : (a b k : ℕ) → k ≤ a → k ≤ b → nat_eq (a - k) (b - k) ≡ nat_eq a b
+same_after a b k h g = grind (arith, h, g)
 
 lands_is : (end : Letter) (lines : List Line) (at place : ℕ) (s : List Letter) → at < place → at < length lines → lands end (drop (suc at) lines) (place - suc at) s ≡ lands_at end lines place s
 lands_is end lines at place s h g =
     let there : place ≡ suc at + (place - suc at) = omega (arith, h) in
-    let long : nat_eq (place - suc at) (length lines - suc at) ≡ nat_eq place (length lines) = same_behind place (length lines) (suc at) (omega (arith, h)) (omega (arith, g)) in
-    ap (λ o. are_stated end o (nat_eq (place - suc at) (length (drop (suc at) lines))) s) (slice_get-behind (suc at) lines (place - suc at) place there)
+    let long : nat_eq (place - suc at) (length lines - suc at) ≡ nat_eq place (length lines) = same_after place (length lines) (suc at) (omega (arith, h)) (omega (arith, g)) in
+    ap (λ o. are_stated end o (nat_eq (place - suc at) (length (drop (suc at) lines))) s) (slice_get-following (suc at) lines (place - suc at) place there)
     ∙ ap (λ n. are_stated end (slice_get lines place) (nat_eq (place - suc at) n) s) (length-drop (suc at) lines)
     ∙ ap (λ b. are_stated end (slice_get lines place) b s) long
 
-ahead_is : (end : Letter) (lines : List Line) (at : ℕ) (puts : Option (List Letter)) (rest : List Letter) → at < length lines → goes_ahead end puts rest (drop (suc at) lines) ≡ ahead_at end at puts rest lines
-ahead_is end lines at None rest g = refl
-ahead_is end lines at (Some puts) rest g =
+fall_through_is : (end : Letter) (lines : List Line) (at : ℕ) (puts : Option (List Letter)) (rest : List Letter) → at < length lines → falls_through end puts rest (drop (suc at) lines) ≡ fall_through_at end at puts rest lines
+fall_through_is end lines at None rest g = refl
+fall_through_is end lines at (Some puts) rest g =
     let e : 0 ≡ suc at - suc at = omega arith in
     ap (λ k. lands end (drop (suc at) lines) k (puts ++ rest)) e ∙ lands_is end lines at (suc at) (puts ++ rest) (omega arith) g
 
-away_is : (end : Letter) (lines : List Line) (at : ℕ) (jump : Option (ℕ × List Letter)) (rest : List Letter) → at < length lines → goes_away end at jump rest (drop (suc at) lines) ≡ away_at end at jump rest lines
-away_is end lines at None rest g = refl
-away_is end lines at (Some jump) rest g = by (nat_lt at jump.0) refl where
+branch_is : (end : Letter) (lines : List Line) (at : ℕ) (jump : Option (ℕ × List Letter)) (rest : List Letter) → at < length lines → branches end at jump rest (drop (suc at) lines) ≡ branch_at end at jump rest lines
+branch_is end lines at None rest g = refl
+branch_is end lines at (Some jump) rest g = by (nat_lt at jump.0) refl where
   by : (t : Bool) → nat_lt at jump.0 ≡ t → (t && lands end (drop (suc at) lines) (jump.0 - suc at) (jump.1 ++ rest)) ≡ (t && lands_at end lines jump.0 (jump.1 ++ rest))
   by false e = refl
   by true e = lands_is end lines at jump.0 (jump.1 ++ rest) (ltb-true at jump.0 e) g
@@ -67,8 +67,8 @@ away_is end lines at (Some jump) rest g = by (nat_lt at jump.0) refl where
 goes_on_is : (end : Letter) (lines : List Line) (at : ℕ) (e : Effect) (o : Option (List Letter)) → at < length lines → goes_on_with end at e o (drop (suc at) lines) ≡ goes_on_at end at e o lines
 goes_on_is end lines at e None g = refl
 goes_on_is end lines at e (Some rest) g =
-    ap (λ b. b && goes_away end at e.away rest (drop (suc at) lines)) (ahead_is end lines at e.ahead rest g)
-    ∙ ap (λ b. ahead_at end at e.ahead rest lines && b) (away_is end lines at e.away rest g)
+    ap (λ b. b && branches end at e.branching rest (drop (suc at) lines)) (fall_through_is end lines at e.fall_through rest g)
+    ∙ ap (λ b. fall_through_at end at e.fall_through rest lines && b) (branch_is end lines at e.branching rest g)
 
 leads_is : (end : Letter) (lines : List Line) (at : ℕ) (e : Effect) (s : List Letter) → at < length lines → leads end at e s (drop (suc at) lines) ≡ leads_at end at e s lines
 leads_is end lines at e s g = goes_on_is end lines at e (left_of e.takes s) g
@@ -87,10 +87,10 @@ line_is may end lines at l g = ap (λ b. is_bounded l.op && b) (
     (λ k. ap (λ b. may l.op k && b) (some_letter_is (λ x. leads end at (effect l.op k x) (reverse l.stack) (drop (suc at) lines)) (λ x. leads_at end at (effect l.op k x) (reverse l.stack) lines)
     (λ x. leads_is end lines at (effect l.op k x) (reverse l.stack) g))))
 
-behind : (at : ℕ) (lines : List Line) → drop (at + 1) lines ≡ drop (suc at) lines
-behind at lines = let n : at + 1 ≡ suc at = omega arith in ap (λ k. drop k lines) n
+following : (at : ℕ) (lines : List Line) → drop (at + 1) lines ≡ drop (suc at) lines
+following at lines = let n : at + 1 ≡ suc at = omega arith in ap (λ k. drop k lines) n
 
--- the first of the lines from a place on, and those behind it
+-- the first of the lines from a place on, and those after it
 pub right_next : (may : Op → Letter → Bool) (end : Letter) (lines : List Line) (at : ℕ) → at < length lines
     → are_lines may end at (drop at lines) ≡ (right_at may end lines at && are_lines may end (at + 1) (drop (at + 1) lines))
 right_next may end lines at g =
@@ -98,7 +98,7 @@ right_next may end lines at g =
     let e : slice_get lines at ≡ Some l = (is_at lines at g).1 in
     let n : suc at ≡ at + 1 = omega arith in
     ap (are_lines may end at) (rest_at lines at l e)
-    ∙ ap (λ b. b && are_lines may end (suc at) (drop (at + 1) lines)) (ap (is_line may end at l) (behind at lines) ∙ line_is may end lines at l g)
+    ∙ ap (λ b. b && are_lines may end (suc at) (drop (at + 1) lines)) (ap (is_line may end at l) (following at lines) ∙ line_is may end lines at l g)
     ∙ ap (λ k. is_right may end at l.op (reverse l.stack) lines && are_lines may end k (drop (at + 1) lines)) n
     ∙ sym (ap (λ o. where_there o (λ m. is_right may end at m.op (reverse m.stack) lines) && are_lines may end (at + 1) (drop (at + 1) lines)) e)
 
@@ -110,7 +110,7 @@ fault_next columns variables end lines at g =
     let n : suc at ≡ at + 1 = omega arith in
     let may : Op → Letter → Bool = is_of_kind columns variables in
     ap (expr_line_faults columns variables end at) (rest_at lines at l e)
-    ∙ ap (λ b. first_of (unless (names_there columns variables l.op) Range ∷ unless b Stack ∷ []) ∷ expr_line_faults columns variables end (suc at) (drop (at + 1) lines)) (ap (is_line may end at l) (behind at lines) ∙ line_is may end lines at l g)
+    ∙ ap (λ b. first_of (unless (names_there columns variables l.op) Range ∷ unless b Stack ∷ []) ∷ expr_line_faults columns variables end (suc at) (drop (at + 1) lines)) (ap (is_line may end at l) (following at lines) ∙ line_is may end lines at l g)
     ∙ ap (λ k. fault_of columns variables end at l.op (reverse l.stack) lines ∷ expr_line_faults columns variables end k (drop (at + 1) lines)) n
     ∙ sym (ap (λ o. fault_of_line columns variables end at lines o ∷ expr_line_faults columns variables end (at + 1) (drop (at + 1) lines)) e)
 

@@ -12,7 +12,7 @@ use Rattle.psm_code.specs.Instructions.{columns_at, letters_at, parameter_letter
 use Rattle.psm_code.specs.PlanRules.{are_items, expr_in}
 use Rattle.psm_code.specs.TableRules.{expr_faults}
 use Rattle.psm_verify.specs.declared.calls.Call.{Call}
-use Rattle.psm_verify.specs.Scene.{Known, fits_column}
+use Rattle.psm_verify.specs.VerifyContext.{Known, fits_column}
 
 pub expr_in_is : (code : RawCode) (r : RawRoutine) (letters : List (List Letter)) (variables columns : List Letter) (items : List (List Letter)) (calls : List Call) (table : ℕ) (due : Letter → Bool) (lines : List Line)
     → Known code r letters variables items calls → columns ≡ columns_at code table → expr_faults columns variables due lines ≡ expr_in code r table due lines

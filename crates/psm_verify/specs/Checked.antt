@@ -6,19 +6,19 @@ use Rattle.psm_verify.specs.declared.fault.CodeFault.{CodeFault}
 use Rattle.psm_verify.specs.declared.fault.Stop.{Stop}
 use Rattle.psm_verify.specs.declared.fault.Stop.TheVariants.{Fault, Memory}
 
--- the number of the line behind some lines, the first of which has the number n, or the fault of the first that has one
+-- the number of the line after some lines, the first of which has the number n, or the fault of the first that has one
 abbrev pub checked : ℕ → List (Option CodeRule) → Result ℕ CodeFault
 checked n [] = Ok n
 checked n (None ∷ rest) = checked (suc n) rest
 checked n (Some r ∷ rest) = Err (record { line = n; rule = r })
 
--- the answer is the one that is due, but for want of memory
+-- the answer is the one that is due, unless memory runs out
 abbrev pub Finds : Result ℕ CodeFault → Result ℕ Stop → Type 0
 Finds due (Ok n) = due ≡ Ok n
 Finds due (Err (Fault f)) = due ≡ Err f
 Finds due (Err Memory) = Unit {0}
 
--- a line on which all hangs, and so many behind it that break no rule
+-- a line on which all hangs, and n after it that break no rule
 abbrev pub passing : Bool → ℕ → ℕ → Result ℕ CodeFault
 passing true n count = Ok (suc n + count)
 passing false n count = Err (record { line = n; rule = Stack })

@@ -4,6 +4,6 @@ pub mod Listed
 pub mod Moves
 pub mod NewAt
 pub mod Placed
-pub mod Scene
+pub mod VerifyContext
 pub mod Stated
 pub mod Verified

@@ -11,20 +11,20 @@ use Rattle.psm_exprcode.specs.WellFormed.{left_of}
 use Rattle.psm_code.specs.declared.code.RawCode.{RawCode}
 use Rattle.psm_code.specs.declared.code.RawRoutine.{RawRoutine}
 use Rattle.psm_code.specs.declared.instruction.Instruction.{Instruction}
-use Rattle.psm_code.specs.declared.instruction.Instruction.TheVariants.{Change}
+use Rattle.psm_code.specs.declared.instruction.Instruction.TheVariants.{Data}
 use Rattle.psm_code.specs.Instructions.{instruction_effect, of_plan, plan_letters}
-use Rattle.psm_code.specs.RoutineRules.{constant_fits, stated_ahead, stated_away}
+use Rattle.psm_code.specs.RoutineRules.{constant_fits, stated_fall_through, stated_branch}
 use Rattle.psm_verify.specs.declared.effects.Effect.{Effect}
 use Rattle.psm_verify.specs.declared.effects.Run.{Run}
 use Rattle.psm_verify.specs.declared.effects.Run.TheVariants.{Few, Items}
 
 pub record Moves : Type 0 where
   pub takes : List Letter
-  pub ahead : Option (List Letter)
-  pub away : Option (ℕ × List Letter)
+  pub fall_through : Option (List Letter)
+  pub branching : Option (ℕ × List Letter)
 
 abbrev pub moves_of : table.Effect → Moves
-moves_of e = record { takes = e.takes; ahead = e.ahead; away = e.away }
+moves_of e = record { takes = e.takes; fall_through = e.fall_through; branching = e.branching }
 
 -- what the table of instructions says
 abbrev pub known_moves : RawCode → RawRoutine → Instruction → Letter → Letter → Option Moves
@@ -32,34 +32,34 @@ known_moves code r i k x = option_map moves_of (instruction_effect code r i k x)
 
 -- the same of the instructions other than those that change rows
 abbrev pub moves_at : RawCode → RawRoutine → Instruction → Letter → Letter → Option Moves
-moves_at code r (Change p) k x = None
+moves_at code r (Data p) k x = None
 moves_at code r i k x = known_moves code r i k x
 
 abbrev pub run_of : Run → List Letter
 run_of (Few letters) = letters_of letters
 run_of (Items letters) = letters.now
 
-abbrev pub ahead_of : Option Run → Option (List Letter)
-ahead_of None = None
-ahead_of (Some r) = Some (run_of r)
+abbrev pub fall_through_of : Option Run → Option (List Letter)
+fall_through_of None = None
+fall_through_of (Some r) = Some (run_of r)
 
-abbrev pub away_of : Option (ℕ × Run) → Option (ℕ × List Letter)
-away_of None = None
-away_of (Some j) = Some (j.0, run_of j.1)
+abbrev pub branch_of : Option (ℕ × Run) → Option (ℕ × List Letter)
+branch_of None = None
+branch_of (Some j) = Some (j.0, run_of j.1)
 
 abbrev pub effect_of : Effect → Moves
-effect_of e = record { takes = run_of e.takes; ahead = ahead_of e.ahead; away = away_of e.away }
+effect_of e = record { takes = run_of e.takes; fall_through = fall_through_of e.fall_through; branching = branch_of e.branching }
 
-abbrev pub moves_behind : RawRoutine → ℕ → Moves → Option (List Letter) → Bool
-moves_behind r at m None = false
-moves_behind r at m (Some rest) = stated_ahead r at m.ahead rest && stated_away r m.away rest
+abbrev pub moves_after : RawRoutine → ℕ → Moves → Option (List Letter) → Bool
+moves_after r at m None = false
+moves_after r at m (Some rest) = stated_fall_through r at m.fall_through rest && stated_branch r m.branching rest
 
 abbrev pub moves_follow : RawRoutine → ℕ → List Letter → Moves → Bool
-moves_follow r at s m = moves_behind r at m (left_of m.takes s)
+moves_follow r at s m = moves_after r at m (left_of m.takes s)
 
-abbrev pub moves_ahead : Option Moves → Bool
-moves_ahead None = false
-moves_ahead (Some m) = there m.ahead
+abbrev pub moves_fall_through : Option Moves → Bool
+moves_fall_through None = false
+moves_fall_through (Some m) = there m.fall_through
 
 abbrev pub optional_follow : RawRoutine → ℕ → List Letter → Option Moves → Bool
 optional_follow r at s None = false
@@ -71,19 +71,19 @@ taken_by_plan code r p = of_plan (plan_letters code) (slice_get r.plans p)
 
 abbrev pub plan_follows : RawRoutine → ℕ → List Letter → Option (List Letter) → Bool
 plan_follows r at s None = false
-plan_follows r at s (Some ls) = moves_follow r at s (record { takes = ls; ahead = Some []; away = None })
+plan_follows r at s (Some ls) = moves_follow r at s (record { takes = ls; fall_through = Some []; branching = None })
 
 -- whether an instruction may go on at the line that follows, by whether it changes rows
-abbrev pub ahead_split : RawCode → RawRoutine → Instruction → Bool
-ahead_split code r (Change p) = there (taken_by_plan code r p)
-ahead_split code r i = moves_ahead (moves_at code r i N N)
+abbrev pub fall_through_split : RawCode → RawRoutine → Instruction → Bool
+fall_through_split code r (Data p) = there (taken_by_plan code r p)
+fall_through_split code r i = moves_fall_through (moves_at code r i N N)
 
 -- whether the operands follow, by whether it changes rows
 abbrev pub follows_split : RawCode → RawRoutine → ℕ → List Letter → Instruction → Bool
-follows_split code r at s (Change p) = plan_follows r at s (taken_by_plan code r p)
+follows_split code r at s (Data p) = plan_follows r at s (taken_by_plan code r p)
 follows_split code r at s i = constant_fits i && some_value (λ k. some_letter (λ x. optional_follow r at s (moves_at code r i k x)))
 
--- so many rows of operands, each with the last one first
+-- n rows of operands, each with the last one first
 abbrev pub given_rows : ℕ → List Letter → List Letter
 given_rows n row = flat_map (λ xs. xs) (replicate n row)
 

@@ -29,17 +29,17 @@ allowed (Of columns variables) = is_of_kind columns.now variables.now
 abbrev pub lands_at : Letter → List Line → ℕ → List Letter → Bool
 lands_at end lines place s = are_stated end (slice_get lines place) (nat_eq place (length lines)) s
 
-abbrev pub ahead_at : Letter → ℕ → Option (List Letter) → List Letter → List Line → Bool
-ahead_at end at None rest lines = true
-ahead_at end at (Some puts) rest lines = lands_at end lines (suc at) (puts ++ rest)
+abbrev pub fall_through_at : Letter → ℕ → Option (List Letter) → List Letter → List Line → Bool
+fall_through_at end at None rest lines = true
+fall_through_at end at (Some puts) rest lines = lands_at end lines (suc at) (puts ++ rest)
 
-abbrev pub away_at : Letter → ℕ → Option (ℕ × List Letter) → List Letter → List Line → Bool
-away_at end at None rest lines = true
-away_at end at (Some jump) rest lines = nat_lt at jump.0 && lands_at end lines jump.0 (jump.1 ++ rest)
+abbrev pub branch_at : Letter → ℕ → Option (ℕ × List Letter) → List Letter → List Line → Bool
+branch_at end at None rest lines = true
+branch_at end at (Some jump) rest lines = nat_lt at jump.0 && lands_at end lines jump.0 (jump.1 ++ rest)
 
 abbrev pub goes_on_at : Letter → ℕ → Effect → Option (List Letter) → List Line → Bool
 goes_on_at end at e None lines = false
-goes_on_at end at e (Some rest) lines = ahead_at end at e.ahead rest lines && away_at end at e.away rest lines
+goes_on_at end at e (Some rest) lines = fall_through_at end at e.fall_through rest lines && branch_at end at e.branching rest lines
 
 abbrev pub leads_at : Letter → ℕ → Effect → List Letter → List Line → Bool
 leads_at end at e s lines = goes_on_at end at e (left_of e.takes s) lines

@@ -8,7 +8,7 @@ use Rattle.psm_code.specs.declared.lines.CodeLine.{CodeLine}
 use Rattle.psm_code.specs.declared.rule.CodeRule.{CodeRule}
 use Rattle.psm_code.specs.declared.rule.CodeRule.TheVariants.{Range, Target, Stack, Context, Resume, Turn, Place}
 use Rattle.psm_code.specs.Rules.{first_of, is_some, unless, where_there}
-use Rattle.psm_code.specs.RoutineRules.{are_targets, context_there, contexts_follow, jump_of, line_fault, may_stand, names_there, resumes_right, stands_alone, stands_right, uses_turn}
+use Rattle.psm_code.specs.RoutineRules.{are_targets, context_there, contexts_follow, jump_of, line_fault, may_stand, names_there, resumes_well_formed, stands_alone, stands_well_formed, uses_turn}
 use Rattle.psm_verify.specs.declared.stating.StatedLine.{StatedLine}
 use Rattle.psm_verify.specs.Moves.{follows_split}
 
@@ -32,8 +32,8 @@ line_fault_with code r at l operands = first_of (
     unless (context_there r l.context && names_there code r l.instruction) Range
     ∷ unless (are_targets code r at l) Target
     ∷ unless (bare_before l.instruction operands && follows_split code r at operands l.instruction) Stack
-    ∷ unless (first_right at l.context operands && (stands_right r l l.instruction && contexts_follow code r at l)) Context
-    ∷ unless (resumes_right r at l) Resume
+    ∷ unless (first_right at l.context operands && (stands_well_formed r l l.instruction && contexts_follow code r at l)) Context
+    ∷ unless (resumes_well_formed r at l) Resume
     ∷ unless (where_there (jump_of l.instruction) (uses_turn r at)) Turn
     ∷ unless (may_stand code r l.instruction) Place ∷ [])
 

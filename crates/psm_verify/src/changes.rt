@@ -9,19 +9,19 @@ ghost use Rattle.psm_code.specs.TableRules as tables;
 ghost use Rattle.psm_code.specs.declared.code.Plan.TheVariants.{InsertQuery};
 ghost use Rattle.psm_verify.specs.Checked.{Finds, checked, item_at};
 ghost use Rattle.psm_verify.specs.Placed.{due_of};
-ghost use Rattle.psm_verify.specs.Scene.{fits_column};
+ghost use Rattle.psm_verify.specs.VerifyContext.{fits_column};
 
 use crate::expressions::Due;
 use crate::fault::Stop;
 use crate::listing::passed;
 use crate::numbers::{are_there, is_there};
-use crate::scene::Scene;
 use crate::tables::is_column_list;
+use crate::verify_context::VerifyContext;
 use psm_code::{CodeRule, Plan, RawCode, RawRoutine};
 use psm_exprcode::{ExprCode, Letter, SetItem};
 use std::alloc::Global;
 
-impl<'a> Scene<'a> {
+impl<'a> VerifyContext<'a> {
     /// The plans of the routine.
     pub(crate) fn plans(&self, alloc: Global, line: u64) -> Result<u64, Stop>
         ensures { Finds (checked line (flat_map (plans.plan_faults self.now.code.now self.now.routine.now) self.now.routine.now.plans)) result }

@@ -8,32 +8,32 @@ ghost use Rattle.psm_exprcode.specs.WellFormed.{left_of};
 ghost use Rattle.psm_code.specs.Instructions as instructions;
 ghost use Rattle.psm_code.specs.Rules.{there};
 ghost use Rattle.psm_code.specs.RoutineRules as routines;
-ghost use Rattle.psm_verify.specs.Moves.{ahead_split, follows_split, given_rows, moves_ahead, moves_at, optional_follow, plan_follows, taken_by_plan};
+ghost use Rattle.psm_verify.specs.Moves.{fall_through_split, follows_split, given_rows, moves_fall_through, moves_at, optional_follow, plan_follows, taken_by_plan};
 
 use crate::effects::{follows, goes_on, left_by};
 use crate::instructions::{none, plain};
 use crate::numbers::are_there;
-use crate::scene::Scene;
+use crate::verify_context::VerifyContext;
 use psm_code::{Instruction, Plan};
 use psm_exprcode::{Letter, Op};
 use std::alloc::{AllocError, Global};
 
-impl<'a> Scene<'a> {
+impl<'a> VerifyContext<'a> {
     /// Whether an instruction may go on at the line that follows.
-    pub(crate) fn goes_ahead(&self, instruction: &Instruction) -> bool
-        ensures { result ≡ ahead_split self.now.code.now self.now.routine.now instruction.now }
+    pub(crate) fn falls_through(&self, instruction: &Instruction) -> bool
+        ensures { result ≡ fall_through_split self.now.code.now self.now.routine.now instruction.now }
     {
         match instruction {
-            Instruction::Change(plan) => self.is_plan(*plan),
-            _ => self.effect_goes_ahead(instruction),
+            Instruction::Data(plan) => self.is_plan(*plan),
+            _ => self.effect_falls_through(instruction),
         }
     }
 
-    fn effect_goes_ahead(&self, instruction: &Instruction) -> bool
-        ensures { result ≡ moves_ahead (moves_at self.now.code.now self.now.routine.now instruction.now N N) }
+    fn effect_falls_through(&self, instruction: &Instruction) -> bool
+        ensures { result ≡ moves_fall_through (moves_at self.now.code.now self.now.routine.now instruction.now N N) }
     {
         match self.effect(instruction, Letter::N, Letter::N) {
-            Some(effect) => effect.ahead.is_some(),
+            Some(effect) => effect.fall_through.is_some(),
             None => false,
         }
     }
@@ -91,7 +91,7 @@ impl<'a> Scene<'a> {
         ensures { IfOk result (λ b. b ≡ follows_split self.now.code.now self.now.routine.now at operands.now instruction.now) }
     {
         match instruction {
-            Instruction::Change(plan) => self.plan_follows(alloc, at, operands, *plan),
+            Instruction::Data(plan) => self.plan_follows(alloc, at, operands, *plan),
             _ => self.effect_follows(alloc, at, operands, instruction),
         }
     }
@@ -285,7 +285,7 @@ fn row_letters(
     Ok(Some(row))
 }
 
-// What is left of the operands where so many rows are taken.
+// What is left of the operands where n rows are taken.
 #[tactic(auto, using(crate::proofs::Rows::rows_some, crate::proofs::Rows::rows_none))]
 fn left_rows<'s>(stack: &'s [Letter], row: &[Letter], rows: u32) -> Option<&'s [Letter]>
     ensures { option_copied result ≡ left_of (given_rows rows row.now) stack.now }

@@ -3,8 +3,8 @@ ghost use Rattle.std.specs.Prelude.{◌≡◌, ◌++◌, ◌&&◌, ◌<◌, leng
 ghost use Rattle.std.specs.Option.{option_copied};
 ghost use Rattle.psm_exprcode.specs.WellFormed.{left_of, same_stack};
 ghost use Rattle.psm_code.specs.Parts.{line_at};
-ghost use Rattle.psm_code.specs.RoutineRules.{is_stated, stated_ahead, stated_away};
-ghost use Rattle.psm_verify.specs.Moves.{ahead_of, away_of, effect_of, moves_follow, run_of};
+ghost use Rattle.psm_code.specs.RoutineRules.{is_stated, stated_fall_through, stated_branch};
+ghost use Rattle.psm_verify.specs.Moves.{fall_through_of, branch_of, effect_of, moves_follow, run_of};
 
 use crate::operands::{are_same, are_stated, left};
 use psm_code::{Lines, RawRoutine};
@@ -23,8 +23,8 @@ pub(crate) enum Run<'a> {
 #[derive(Clone, Copy)]
 pub(crate) struct Effect<'a> {
     pub(crate) takes: Run<'a>,
-    pub(crate) ahead: Option<Run<'a>>,
-    pub(crate) away: Option<(u32, Run<'a>)>,
+    pub(crate) fall_through: Option<Run<'a>>,
+    pub(crate) branching: Option<(u32, Run<'a>)>,
 }
 
 /// The operands that a line states, the last one first.
@@ -113,7 +113,7 @@ fn lands(
     }
 }
 
-fn goes_ahead(
+fn falls_through(
     alloc: Global,
     routine: &RawRoutine,
     at: usize,
@@ -121,7 +121,7 @@ fn goes_ahead(
     rest: &[Letter],
 ) -> Result<bool, AllocError>
     requires { at < length routine.now.lines }
-    ensures { IfOk result (λ b. b ≡ stated_ahead routine.now at (ahead_of put.entry) rest.now) }
+    ensures { IfOk result (λ b. b ≡ stated_fall_through routine.now at (fall_through_of put.entry) rest.now) }
 {
     let _ = routine.lines.len();
     match put {
@@ -130,13 +130,13 @@ fn goes_ahead(
     }
 }
 
-fn goes_away(
+fn branches(
     alloc: Global,
     routine: &RawRoutine,
     jump: Option<(u32, Run<'_>)>,
     rest: &[Letter],
 ) -> Result<bool, AllocError>
-    ensures { IfOk result (λ b. b ≡ stated_away routine.now (away_of jump.entry) rest.now) }
+    ensures { IfOk result (λ b. b ≡ stated_branch routine.now (branch_of jump.entry) rest.now) }
 {
     match jump {
         Some((place, put)) => lands(alloc, routine, place as usize, put, rest),
@@ -152,10 +152,10 @@ pub(crate) fn goes_on(
     rest: &[Letter],
 ) -> Result<bool, AllocError>
     requires { at < length routine.now.lines }
-    ensures { IfOk result (λ b. b ≡ (stated_ahead routine.now at (ahead_of effect.now.ahead) rest.now && stated_away routine.now (away_of effect.now.away) rest.now)) }
+    ensures { IfOk result (λ b. b ≡ (stated_fall_through routine.now at (fall_through_of effect.now.fall_through) rest.now && stated_branch routine.now (branch_of effect.now.branching) rest.now)) }
 {
-    if goes_ahead(alloc, routine, at, effect.ahead, rest)? {
-        goes_away(alloc, routine, effect.away, rest)
+    if falls_through(alloc, routine, at, effect.fall_through, rest)? {
+        branches(alloc, routine, effect.branching, rest)
     } else {
         Ok(false)
     }

@@ -15,7 +15,7 @@ use psm_sqlstate::Kind;
 use psm_value::SqlState;
 
 /// The declared conditions of a routine.
-#[tactic(auto, using(crate::proofs::Each::map_next, crate::proofs::Going::going_on, crate::proofs::Going::stopped))]
+#[tactic(auto, using(crate::proofs::Each::map_next, crate::proofs::LinesInOrder::going_on, crate::proofs::LinesInOrder::stopped))]
 pub(crate) fn conditions(line: u64, routine: &RawRoutine) -> Result<u64, Stop>
     ensures { Finds (checked line (map routines.declared_fault routine.now.handlers.declared)) result }
 {
@@ -55,7 +55,7 @@ pub(crate) fn line_there(routine: &RawRoutine, line: u32) -> bool
 }
 
 /// The contexts of a routine, which are numbered from 1.
-#[tactic(auto, using(crate::proofs::Contexts::contexts_next, crate::proofs::Going::going_on, crate::proofs::Going::stopped))]
+#[tactic(auto, using(crate::proofs::Contexts::contexts_next, crate::proofs::LinesInOrder::going_on, crate::proofs::LinesInOrder::stopped))]
 pub(crate) fn contexts(line: u64, routine: &RawRoutine) -> Result<u64, Stop>
     ensures { Finds (checked line (routines.context_faults routine.now 1 routine.now.handlers.contexts)) result }
 {

@@ -73,7 +73,7 @@ fn handler_fault(
 }
 
 fn definition_fault(routine: &RawRoutine, before: &[Handler], handler: &Handler) -> Option<CodeRule>
-    ensures { result ≡ rules.unless (routines.may_undo routine.now handler.now && (list_all (routines.is_value_right routine.now) (routines.values_of handler.now) && routines.are_new (routines.values_in handler.now.context before.now) (routines.values_of handler.now))) Definition }
+    ensures { result ≡ rules.unless (routines.may_undo routine.now handler.now && (list_all (routines.is_value_well_formed routine.now) (routines.values_of handler.now) && routines.are_new (routines.values_in handler.now.context before.now) (routines.values_of handler.now))) Definition }
 {
     if may_undo(routine, handler)
         && are_values_right(routine, &handler.values)
@@ -195,19 +195,19 @@ fn value_there(routine: &RawRoutine, value: &ConditionValue) -> bool
 }
 
 fn are_values_right(routine: &RawRoutine, values: &OneOrMore<ConditionValue>) -> bool
-    ensures { result ≡ list_all (routines.is_value_right routine.now) (values.now.first ∷ values.now.rest) }
+    ensures { result ≡ list_all (routines.is_value_well_formed routine.now) (values.now.first ∷ values.now.rest) }
 {
     is_value_right(routine, &values.first) && are_right(routine, values.rest.items())
 }
 
 fn are_right(routine: &RawRoutine, values: &[ConditionValue]) -> bool
-    ensures { result ≡ list_all (routines.is_value_right routine.now) values.now }
+    ensures { result ≡ list_all (routines.is_value_well_formed routine.now) values.now }
 {
     values.iter().all(|value| is_value_right(routine, value))
 }
 
 fn is_value_right(routine: &RawRoutine, value: &ConditionValue) -> bool
-    ensures { result ≡ routines.is_value_right routine.now value.now }
+    ensures { result ≡ routines.is_value_well_formed routine.now value.now }
 {
     match value {
         ConditionValue::Named(number) => is_named(routine, *number),

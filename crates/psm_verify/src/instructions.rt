@@ -5,10 +5,10 @@ ghost use Rattle.psm_exprcode.specs.Kinds.{letter_of};
 ghost use Rattle.psm_exprcode.specs.Table.{effect_of as entry_of, jump_of, letters_of};
 ghost use Rattle.psm_code.specs.Instructions as table;
 ghost use Rattle.psm_code.specs.Parts.{routine_at};
-ghost use Rattle.psm_verify.specs.Moves.{ahead_of, away_of, effect_of, moves_at, moves_of, run_of};
+ghost use Rattle.psm_verify.specs.Moves.{fall_through_of, branch_of, effect_of, moves_at, moves_of, run_of};
 
 use crate::effects::{Effect, Run};
-use crate::scene::Scene;
+use crate::verify_context::VerifyContext;
 use psm_code::Instruction;
 use psm_cond::{ConditionItem, StatementItem};
 use psm_exprcode::{Entry, Letter, Letters, Op};
@@ -31,27 +31,27 @@ fn one(letter: Letter) -> Run<'static>
 
 // One that goes on at the line that follows.
 pub(crate) fn plain<'a>(takes: Run<'a>, puts: Run<'a>) -> Effect<'a>
-    ensures { effect_of result ≡ record { takes = run_of takes.entry; ahead = Some (run_of puts.entry); away = None } }
+    ensures { effect_of result ≡ record { takes = run_of takes.entry; fall_through = Some (run_of puts.entry); branching = None } }
 {
     Effect {
         takes,
-        ahead: Some(puts),
-        away: None,
+        fall_through: Some(puts),
+        branching: None,
     }
 }
 
 // One that never goes on at the line that follows.
 fn last(takes: Run<'_>) -> Effect<'_>
-    ensures { effect_of result ≡ record { takes = run_of takes.entry; ahead = None; away = None } }
+    ensures { effect_of result ≡ record { takes = run_of takes.entry; fall_through = None; branching = None } }
 {
     Effect {
         takes,
-        ahead: None,
-        away: None,
+        fall_through: None,
+        branching: None,
     }
 }
 
-impl<'a> Scene<'a> {
+impl<'a> VerifyContext<'a> {
     /// The effect of an instruction other than one that changes rows, where `kind` is the letter of a value that may be of either kind,
     /// and `other` that of an operand that may be of any; none where it names something that isn't there.
     pub(crate) fn effect(
@@ -64,18 +64,18 @@ impl<'a> Scene<'a> {
     {
         match instruction {
             Instruction::Operation(op) => self.operation_effect(op, kind, other),
-            Instruction::Store(slot) | Instruction::Retrieve(slot) => self.store_effect(*slot),
+            Instruction::Store(slot) | Instruction::FetchStore(slot) => self.store_effect(*slot),
             Instruction::EndAction(_)
             | Instruction::End
             | Instruction::NoReturn
             | Instruction::NoCase => Some(last(none())),
             Instruction::Call(number) => self.call_effect(*number),
-            Instruction::CallFunction(number) => self.function_effect(*number),
-            Instruction::Return => self.return_effect(),
+            Instruction::FunctionCall(number) => self.function_effect(*number),
+            Instruction::ReturnValue => self.return_effect(),
             Instruction::Exists(_) => Some(plain(none(), one(Letter::B))),
             Instruction::Scalar(query) => self.scalar_effect(*query),
-            Instruction::SelectRow(query) => self.row_effect(*query),
-            Instruction::Change(_) => None,
+            Instruction::Row(query) => self.row_effect(*query),
+            Instruction::Data(_) => None,
             Instruction::Fetch(cursor) => self.fetch_effect(*cursor),
             Instruction::Next { cursor, end } => self.next_effect(*cursor, *end),
             Instruction::SignalMessage(_) | Instruction::ResignalMessage(_) => {
@@ -123,7 +123,7 @@ impl<'a> Scene<'a> {
     }
 
     fn store_effect(&self, slot: u32) -> Option<Effect<'a>>
-        ensures { option_map effect_of result ≡ option_map (λ l. record { takes = l ∷ []; ahead = Some []; away = None }) (table.slot_letter self.now.routine.now slot) }
+        ensures { option_map effect_of result ≡ option_map (λ l. record { takes = l ∷ []; fall_through = Some []; branching = None }) (table.slot_letter self.now.routine.now slot) }
     {
         match self.slot_letter(slot) {
             Some(letter) => Some(plain(one(letter), none())),
@@ -157,7 +157,7 @@ impl<'a> Scene<'a> {
     }
 
     fn return_effect(&self) -> Option<Effect<'a>>
-        ensures { option_map effect_of result ≡ option_map (λ t. record { takes = letter_of t ∷ []; ahead = None; away = None }) self.now.routine.now.returns }
+        ensures { option_map effect_of result ≡ option_map (λ t. record { takes = letter_of t ∷ []; fall_through = None; branching = None }) self.now.routine.now.returns }
     {
         match self.routine.returns {
             Some(kind) => Some(last(one(Letter::of_type(kind)))),
@@ -195,7 +195,7 @@ impl<'a> Scene<'a> {
     }
 
     fn row_effect(&self, query: u32) -> Option<Effect<'a>>
-        ensures { option_map effect_of result ≡ option_map (λ ls. record { takes = []; ahead = Some ls; away = None }) (table.query_letters self.now.code.now self.now.routine.now query) }
+        ensures { option_map effect_of result ≡ option_map (λ ls. record { takes = []; fall_through = Some ls; branching = None }) (table.query_letters self.now.code.now self.now.routine.now query) }
     {
         match self.query_letters(query) {
             Some(letters) => Some(plain(none(), Run::Items(letters))),
@@ -204,7 +204,7 @@ impl<'a> Scene<'a> {
     }
 
     fn fetch_effect(&self, cursor: u32) -> Option<Effect<'a>>
-        ensures { option_map effect_of result ≡ option_map (λ ls. record { takes = []; ahead = Some ls; away = None }) (table.cursor_letters self.now.code.now self.now.routine.now cursor) }
+        ensures { option_map effect_of result ≡ option_map (λ ls. record { takes = []; fall_through = Some ls; branching = None }) (table.cursor_letters self.now.code.now self.now.routine.now cursor) }
     {
         match self.cursor_letters(cursor) {
             Some(letters) => Some(plain(none(), Run::Items(letters))),
@@ -213,13 +213,13 @@ impl<'a> Scene<'a> {
     }
 
     fn next_effect(&self, cursor: u32, end: u32) -> Option<Effect<'a>>
-        ensures { option_map effect_of result ≡ option_map (λ ls. record { takes = []; ahead = Some ls; away = Some (end, []) }) (table.cursor_letters self.now.code.now self.now.routine.now cursor) }
+        ensures { option_map effect_of result ≡ option_map (λ ls. record { takes = []; fall_through = Some ls; branching = Some (end, []) }) (table.cursor_letters self.now.code.now self.now.routine.now cursor) }
     {
         match self.cursor_letters(cursor) {
             Some(letters) => Some(Effect {
                 takes: none(),
-                ahead: Some(Run::Items(letters)),
-                away: Some((end, none())),
+                fall_through: Some(Run::Items(letters)),
+                branching: Some((end, none())),
             }),
             None => None,
         }
@@ -241,13 +241,13 @@ fn entry_effect(entry: Entry) -> Effect<'static>
 {
     Effect {
         takes: Run::Few(entry.takes),
-        ahead: few(entry.ahead),
-        away: few_away(entry.away),
+        fall_through: few(entry.fall_through),
+        branching: few_branch(entry.branching),
     }
 }
 
 fn few(puts: Option<Letters>) -> Option<Run<'static>>
-    ensures { ahead_of result ≡ option_map letters_of puts }
+    ensures { fall_through_of result ≡ option_map letters_of puts }
 {
     match puts {
         Some(letters) => Some(Run::Few(letters)),
@@ -255,8 +255,8 @@ fn few(puts: Option<Letters>) -> Option<Run<'static>>
     }
 }
 
-fn few_away(jump: Option<(u32, Letters)>) -> Option<(u32, Run<'static>)>
-    ensures { away_of result ≡ option_map jump_of jump }
+fn few_branch(jump: Option<(u32, Letters)>) -> Option<(u32, Run<'static>)>
+    ensures { branch_of result ≡ option_map jump_of jump }
 {
     match jump {
         Some((place, letters)) => Some((place, Run::Few(letters))),

@@ -20,10 +20,10 @@ mod placed;
 mod plans;
 mod routines;
 mod same;
-mod scene;
 mod stating;
 mod tables;
 mod verify;
+mod verify_context;
 
 pub use code::Code;
 pub use fault::CodeFault;

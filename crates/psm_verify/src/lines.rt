@@ -11,12 +11,12 @@ use crate::handlers::is_block;
 use crate::handling::{is_action_of, is_bare};
 use crate::numbers::is_there;
 use crate::same::is_type;
-use crate::scene::Scene;
+use crate::verify_context::VerifyContext;
 use psm_code::{Instruction, RawCode, RawRoutine};
 use psm_exprcode::Op;
 use std::alloc::{AllocError, Global};
 
-impl<'a> Scene<'a> {
+impl<'a> VerifyContext<'a> {
     /// Whether what an instruction names is there.
     pub(crate) fn names_there(&self, instruction: &Instruction) -> bool
         ensures { result ≡ routines.names_there self.now.code.now self.now.routine.now instruction.now }
@@ -24,20 +24,19 @@ impl<'a> Scene<'a> {
         let routine = self.routine;
         match instruction {
             Instruction::Operation(op) => self.operation_there(op),
-            Instruction::Store(slot) | Instruction::Retrieve(slot) => self.slot_there(*slot),
+            Instruction::Store(slot) | Instruction::FetchStore(slot) => self.slot_there(*slot),
             Instruction::Enter(context) | Instruction::Exit(context) => {
                 routine.handlers.context(*context).is_some()
             }
             Instruction::EndAction(handler) => {
                 is_there(routine.handlers.handlers.items(), *handler)
             }
-            Instruction::Call(number) | Instruction::CallFunction(number) => {
+            Instruction::Call(number) | Instruction::FunctionCall(number) => {
                 is_there(self.code.routines.items(), *number)
             }
-            Instruction::Exists(query)
-            | Instruction::Scalar(query)
-            | Instruction::SelectRow(query) => is_there(routine.queries.items(), *query),
-            Instruction::Change(plan) => is_there(routine.plans.items(), *plan),
+            Instruction::Exists(query) | Instruction::Scalar(query) | Instruction::Row(query) =>
+                is_there(routine.queries.items(), *query),
+            Instruction::Data(plan) => is_there(routine.plans.items(), *plan),
             Instruction::Open(cursor)
             | Instruction::Close(cursor)
             | Instruction::Fetch(cursor)
@@ -78,10 +77,10 @@ impl<'a> Scene<'a> {
     {
         let is_function = self.routine.is_function;
         match instruction {
-            Instruction::Return | Instruction::NoReturn => is_function,
-            Instruction::End | Instruction::Change(_) => !is_function,
+            Instruction::ReturnValue | Instruction::NoReturn => is_function,
+            Instruction::End | Instruction::Data(_) => !is_function,
             Instruction::Call(number) => !is_function && is_procedure(self.code, *number),
-            Instruction::CallFunction(number) => is_function_at(self.code, *number),
+            Instruction::FunctionCall(number) => is_function_at(self.code, *number),
             Instruction::Operation(op) => !matches!(op, Op::Column(_)),
             _ => true,
         }
@@ -108,7 +107,7 @@ fn is_function_at(code: &RawCode, number: u32) -> bool
 
 /// Where the instructions about contexts may stand.
 pub(crate) fn stands_right(routine: &RawRoutine, context: u32, instruction: &Instruction) -> bool
-    ensures { result ≡ routines.stands_right routine.now (record { context = context; resume = None; stack = []; instruction = instruction.now }) instruction.now }
+    ensures { result ≡ routines.stands_well_formed routine.now (record { context = context; resume = None; stack = []; instruction = instruction.now }) instruction.now }
 {
     match instruction {
         Instruction::Enter(number) => {
@@ -173,8 +172,8 @@ pub(crate) fn is_in(routine: &RawRoutine, context: u32, line: usize) -> bool
 }
 
 /// The context in which an instruction goes on.
-pub(crate) fn context_behind(routine: &RawRoutine, context: u32, instruction: &Instruction) -> u32
-    ensures { result ≡ routines.context_behind routine.now (record { context = context; resume = None; stack = []; instruction = instruction.now }) instruction.now }
+pub(crate) fn context_after(routine: &RawRoutine, context: u32, instruction: &Instruction) -> u32
+    ensures { result ≡ routines.context_after routine.now (record { context = context; resume = None; stack = []; instruction = instruction.now }) instruction.now }
 {
     match instruction {
         Instruction::Enter(number) => *number,
@@ -223,7 +222,7 @@ fn is_turn(instruction: &Instruction) -> bool
 
 // ---- resume
 
-/// Whether an instruction states where the run goes on behind its condition.
+/// Whether an instruction states where the run goes on after its condition.
 pub(crate) fn wants_resume(instruction: &Instruction) -> bool
     ensures { result ≡ routines.wants_resume instruction.now }
 {
@@ -252,7 +251,7 @@ fn operation_raises(op: &Op) -> bool
     }
 }
 
-/// Whether the line behind a statement, if one is stated, is one at which the run can go on.
+/// Whether the line after a statement, if one is stated, is one at which the run can go on.
 pub(crate) fn resumes_at(
     alloc: Global,
     routine: &RawRoutine,

@@ -5,7 +5,7 @@ ghost use Rattle.psm_verify.specs.Checked.{Finds, checked};
 use crate::fault::{CodeFault, Stop};
 use psm_code::CodeRule;
 
-/// The number of the line that follows. No memory holds so many lines that there is none.
+/// The number of the line that follows. No memory holds n lines that there is none.
 pub(crate) fn next(line: u64) -> Result<u64, Stop>
     ensures { Finds (Ok (suc line)) result }
 {
@@ -25,7 +25,7 @@ pub(crate) fn passed(line: u64, fault: Option<CodeRule>) -> Result<u64, Stop>
     }
 }
 
-/// The number of the line behind so many that break no rule.
+/// The number of the line after so many that break no rule.
 pub(crate) fn skip(line: u64, count: usize) -> Result<u64, Stop>
     ensures { Finds (Ok (line + count)) result }
 {

@@ -29,7 +29,7 @@ pub(crate) fn is_among(number: u32, numbers: &[u32]) -> bool
     false
 }
 
-/// Whether no number stands twice. Each is compared with those behind it.
+/// Whether no number stands twice. Each is compared with those after it.
 pub(crate) fn are_distinct(numbers: &[u32]) -> bool
     ensures { result ≡ rules.are_distinct numbers.now }
 {

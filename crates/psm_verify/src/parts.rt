@@ -13,11 +13,11 @@ use crate::handling::handlers;
 use crate::listing::passed;
 use crate::plans::cursors;
 use crate::routines::{parameters, routine_fault, variables};
-use crate::scene::Scene;
+use crate::verify_context::VerifyContext;
 use psm_code::RawRoutine;
 use std::alloc::Global;
 
-impl<'a> Scene<'a> {
+impl<'a> VerifyContext<'a> {
     /// The line of the routine, and those of its parameters, variables, queries, cursors, plans, declared conditions, contexts and
     /// handlers.
     pub(crate) fn parts(&self, alloc: Global, line: u64, before: &[RawRoutine]) -> Result<u64, Stop>

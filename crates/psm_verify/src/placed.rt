@@ -6,7 +6,7 @@ ghost use Rattle.psm_exprcode.specs.Table.{effect_of, jump_of, letters_of};
 ghost use Rattle.psm_exprcode.specs.WellFormed.{are_lines, ends_with, is_bounded as is_op_bounded, of_any_kind};
 ghost use Rattle.psm_code.specs.TableRules.{expr_line_faults, names_there as are_names_there};
 ghost use Rattle.psm_verify.specs.Checked.{Finds, checked};
-ghost use Rattle.psm_verify.specs.Placed.{ahead_at, allowed, away_at, fault_at, fault_of, is_right as is_right_at, is_right_of as is_right_with, lands_at, leads_at, right_at};
+ghost use Rattle.psm_verify.specs.Placed.{fall_through_at, allowed, branch_at, fault_at, fault_of, is_right as is_right_at, is_right_of as is_right_with, lands_at, leads_at, right_at};
 
 use crate::fault::Stop;
 use crate::listing::passed;
@@ -96,7 +96,7 @@ impl<'a> Placed<'a> {
         }
     }
 
-    fn goes_ahead(
+    fn falls_through(
         &self,
         alloc: Global,
         at: usize,
@@ -104,7 +104,7 @@ impl<'a> Placed<'a> {
         rest: &[Letter],
     ) -> Result<bool, AllocError>
         requires { at < length self.now.lines.now }
-        ensures { IfOk result (λ b. b ≡ ahead_at self.now.end at (option_map letters_of puts) rest.now self.now.lines.now) }
+        ensures { IfOk result (λ b. b ≡ fall_through_at self.now.end at (option_map letters_of puts) rest.now self.now.lines.now) }
     {
         let _ = self.lines.len();
         match puts {
@@ -113,14 +113,14 @@ impl<'a> Placed<'a> {
         }
     }
 
-    fn goes_away(
+    fn branches(
         &self,
         alloc: Global,
         at: usize,
         jump: Option<(u32, Letters)>,
         rest: &[Letter],
     ) -> Result<bool, AllocError>
-        ensures { IfOk result (λ b. b ≡ away_at self.now.end at (option_map jump_of jump) rest.now self.now.lines.now) }
+        ensures { IfOk result (λ b. b ≡ branch_at self.now.end at (option_map jump_of jump) rest.now self.now.lines.now) }
     {
         match jump {
             Some((place, puts)) => self.jumps(alloc, at, place as usize, puts, rest),
@@ -170,10 +170,10 @@ impl<'a> Placed<'a> {
         rest: &[Letter],
     ) -> Result<bool, AllocError>
         requires { at < length self.now.lines.now }
-        ensures { IfOk result (λ b. b ≡ (ahead_at self.now.end at (option_map letters_of entry.ahead) rest.now self.now.lines.now && away_at self.now.end at (option_map jump_of entry.away) rest.now self.now.lines.now)) }
+        ensures { IfOk result (λ b. b ≡ (fall_through_at self.now.end at (option_map letters_of entry.fall_through) rest.now self.now.lines.now && branch_at self.now.end at (option_map jump_of entry.branching) rest.now self.now.lines.now)) }
     {
-        if self.goes_ahead(alloc, at, entry.ahead, rest)? {
-            self.goes_away(alloc, at, entry.away, rest)
+        if self.falls_through(alloc, at, entry.fall_through, rest)? {
+            self.branches(alloc, at, entry.branching, rest)
         } else {
             Ok(false)
         }
@@ -317,7 +317,7 @@ impl<'a> Placed<'a> {
         }
     }
 
-    #[tactic(auto, using(crate::proofs::Placing::fault_next, crate::proofs::Going::going_on, crate::proofs::Going::stopped))]
+    #[tactic(auto, using(crate::proofs::Placing::fault_next, crate::proofs::LinesInOrder::going_on, crate::proofs::LinesInOrder::stopped))]
     /// The lines one by one, over columns and variables of these letters.
     pub(crate) fn each(
         &self,

@@ -10,12 +10,12 @@ use crate::expressions::{Due, expression};
 use crate::fault::Stop;
 use crate::listing::{next, passed};
 use crate::numbers::is_there;
-use crate::scene::Scene;
+use crate::verify_context::VerifyContext;
 use psm_code::{CodeCursor, CodeRule, RawCode, RawRoutine};
 use psm_exprcode::{Aggregate, ExprCode, Items, Letter, Query, SetFunction};
 use std::alloc::Global;
 
-impl<'a> Scene<'a> {
+impl<'a> VerifyContext<'a> {
     /// An expression over the columns of a table and the variables of the routine.
     #[tactic(auto, using(crate::proofs::Scenes::expr_in_is))]
     pub(crate) fn expression(
@@ -172,7 +172,7 @@ fn has_items(items: &Items) -> bool
 }
 
 /// The cursors of a routine.
-#[tactic(auto, using(crate::proofs::Each::map_next, crate::proofs::Going::going_on, crate::proofs::Going::stopped))]
+#[tactic(auto, using(crate::proofs::Each::map_next, crate::proofs::LinesInOrder::going_on, crate::proofs::LinesInOrder::stopped))]
 pub(crate) fn cursors(line: u64, routine: &RawRoutine) -> Result<u64, Stop>
     ensures { Finds (checked line (map (plans.cursor_fault routine.now) routine.now.cursors)) result }
 {

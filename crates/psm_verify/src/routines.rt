@@ -98,7 +98,7 @@ fn is_same_kind(kind: SqlType, other: SqlType) -> bool
 }
 
 /// The parameters of a routine. Names are compared with all before them.
-#[tactic(auto, using(crate::proofs::Each::after_next, crate::proofs::Going::going_on, crate::proofs::Going::stopped))]
+#[tactic(auto, using(crate::proofs::Each::after_next, crate::proofs::LinesInOrder::going_on, crate::proofs::LinesInOrder::stopped))]
 pub(crate) fn parameters(line: u64, routine: &RawRoutine) -> Result<u64, Stop>
     ensures { Finds (checked line (each_after (routines.parameter_fault routine.now) [] routine.now.parameters)) result }
 {
@@ -145,7 +145,7 @@ fn gives(mode: ParameterMode) -> bool
 }
 
 /// The variables of a routine.
-#[tactic(auto, using(crate::proofs::Each::map_next, crate::proofs::Going::going_on, crate::proofs::Going::stopped))]
+#[tactic(auto, using(crate::proofs::Each::map_next, crate::proofs::LinesInOrder::going_on, crate::proofs::LinesInOrder::stopped))]
 pub(crate) fn variables(line: u64, routine: &RawRoutine) -> Result<u64, Stop>
     ensures { Finds (checked line (map routines.type_fault routine.now.variables)) result }
 {

@@ -11,11 +11,11 @@ use crate::effects::operands_of;
 use crate::fault::Stop;
 use crate::handling::context_there;
 use crate::lines::{
-    context_behind, is_in, is_target, jump_of, jumps_right, jumps_within, resumes_at, stands_right,
+    context_after, is_in, is_target, jump_of, jumps_right, jumps_within, resumes_at, stands_right,
     wants_resume,
 };
 use crate::listing::passed;
-use crate::scene::Scene;
+use crate::verify_context::VerifyContext;
 use psm_code::{CodeRule, Instruction, RawRoutine};
 use psm_exprcode::Letter;
 use std::alloc::{AllocError, Global};
@@ -28,9 +28,9 @@ pub(crate) struct StatedLine<'a> {
     pub(crate) instruction: &'a Instruction,
 }
 
-impl<'a> Scene<'a> {
+impl<'a> VerifyContext<'a> {
     /// The lines of the routine.
-    #[tactic(auto, using(crate::proofs::Lining::lines_next, crate::proofs::Going::going_on, crate::proofs::Going::stopped))]
+    #[tactic(auto, using(crate::proofs::Lining::lines_next, crate::proofs::LinesInOrder::going_on, crate::proofs::LinesInOrder::stopped))]
     pub(crate) fn lines(&self, alloc: Global, line: u64) -> Result<u64, Stop>
         ensures { Finds (checked line (routines.line_faults self.now.code.now self.now.routine.now 0 self.now.routine.now.lines)) result }
     {
@@ -117,11 +117,11 @@ impl<'a> Scene<'a> {
         context_there(self.routine, line.context) && self.names_there(line.instruction)
     }
 
-    #[tactic(auto, using(crate::proofs::Splits::ahead_is_split))]
-    fn may_go_ahead(&self, instruction: &Instruction) -> bool
-        ensures { result ≡ routines.line_goes_ahead self.now.code.now self.now.routine.now instruction.now }
+    #[tactic(auto, using(crate::proofs::Splits::fall_through_is_split))]
+    fn may_go_fall_through(&self, instruction: &Instruction) -> bool
+        ensures { result ≡ routines.line_falls_through self.now.code.now self.now.routine.now instruction.now }
     {
-        self.goes_ahead(instruction)
+        self.falls_through(instruction)
     }
 
     // Where the run goes on there is a line.
@@ -131,7 +131,7 @@ impl<'a> Scene<'a> {
     {
         is_target(self.routine, line.resume)
             && is_target(self.routine, jump_of(line.instruction))
-            && (!self.may_go_ahead(line.instruction) || self.has_next(at))
+            && (!self.may_go_fall_through(line.instruction) || self.has_next(at))
     }
 
     fn has_next(&self, at: usize) -> bool
@@ -144,7 +144,7 @@ impl<'a> Scene<'a> {
 
     fn context_right(&self, at: usize, line: &StatedLine<'_>, operands: &[Letter]) -> bool
         requires { at < length self.now.routine.now.lines }
-        ensures { result ≡ (first_right at line.now.context operands.now && (routines.stands_right self.now.routine.now (bare line.now) line.now.instruction.now && routines.contexts_follow self.now.code.now self.now.routine.now at (bare line.now))) }
+        ensures { result ≡ (first_right at line.now.context operands.now && (routines.stands_well_formed self.now.routine.now (bare line.now) line.now.instruction.now && routines.contexts_follow self.now.code.now self.now.routine.now at (bare line.now))) }
     {
         is_first_right(at, line.context, operands)
             && stands_right(self.routine, line.context, line.instruction)
@@ -155,16 +155,16 @@ impl<'a> Scene<'a> {
         requires { at < length self.now.routine.now.lines }
         ensures { result ≡ routines.contexts_follow self.now.code.now self.now.routine.now at (bare line.now) }
     {
-        (!self.may_go_ahead(line.instruction) || self.goes_on_in(at, line))
+        (!self.may_go_fall_through(line.instruction) || self.goes_on_in(at, line))
             && jumps_within(self.routine, line.context, jump_of(line.instruction))
     }
 
     fn goes_on_in(&self, at: usize, line: &StatedLine<'_>) -> bool
         requires { at < length self.now.routine.now.lines }
-        ensures { result ≡ routines.is_in (routines.context_behind self.now.routine.now (bare line.now) line.now.instruction.now) (parts.line_at self.now.routine.now (suc at)) }
+        ensures { result ≡ routines.is_in (routines.context_after self.now.routine.now (bare line.now) line.now.instruction.now) (parts.line_at self.now.routine.now (suc at)) }
     {
         let _ = self.routine.lines.len();
-        let context = context_behind(self.routine, line.context, line.instruction);
+        let context = context_after(self.routine, line.context, line.instruction);
         is_in(self.routine, context, at + 1)
     }
 
@@ -174,7 +174,7 @@ impl<'a> Scene<'a> {
         at: usize,
         line: &StatedLine<'_>,
     ) -> Result<bool, AllocError>
-        ensures { IfOk result (λ b. b ≡ routines.resumes_right self.now.routine.now at (bare line.now)) }
+        ensures { IfOk result (λ b. b ≡ routines.resumes_well_formed self.now.routine.now at (bare line.now)) }
     {
         if wants_resume(line.instruction) && line.resume.is_none() {
             Ok(false)

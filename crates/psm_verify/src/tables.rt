@@ -91,7 +91,7 @@ fn is_new_table(before: &[CodeTable], table: &CodeTable) -> bool
     before.iter().all(|other| !are_same_names(&other.definition.name, &table.definition.name))
 }
 
-#[tactic(auto, using(crate::proofs::Each::after_next, crate::proofs::Going::going_on, crate::proofs::Going::stopped))]
+#[tactic(auto, using(crate::proofs::Each::after_next, crate::proofs::LinesInOrder::going_on, crate::proofs::LinesInOrder::stopped))]
 fn columns(line: u64, def: &TableDef) -> Result<u64, Stop>
     ensures { Finds (checked line (each_after rules.column_fault [] def.now.columns)) result }
 {
@@ -135,7 +135,7 @@ fn is_as_stored(kind: SqlType, value: &Datum) -> bool
 }
 
 // The line of the key, and those of the UNIQUE lists.
-#[tactic(auto, using(crate::proofs::Going::going_on, crate::proofs::Going::stopped))]
+#[tactic(auto, using(crate::proofs::LinesInOrder::going_on, crate::proofs::LinesInOrder::stopped))]
 fn keys(line: u64, def: &TableDef) -> Result<u64, Stop>
     ensures { Finds (checked line (rules.key_fault def.now ∷ map (rules.unique_fault def.now) def.now.unique)) result }
 {
@@ -179,7 +179,7 @@ fn refuses_null(columns: &[Column], place: u32) -> bool
     }
 }
 
-#[tactic(auto, using(crate::proofs::Each::map_next, crate::proofs::Going::going_on, crate::proofs::Going::stopped))]
+#[tactic(auto, using(crate::proofs::Each::map_next, crate::proofs::LinesInOrder::going_on, crate::proofs::LinesInOrder::stopped))]
 fn uniques(line: u64, def: &TableDef) -> Result<u64, Stop>
     ensures { Finds (checked line (map (rules.unique_fault def.now) def.now.unique)) result }
 {

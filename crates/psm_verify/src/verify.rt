@@ -5,7 +5,7 @@ ghost use Rattle.psm_code.specs.Rules.{each_after};
 ghost use Rattle.psm_code.specs.RoutineRules.{code_faults, routine_faults};
 ghost use Rattle.psm_verify.specs.Called.{call_of};
 ghost use Rattle.psm_verify.specs.Checked.{Finds, checked, item_at};
-ghost use Rattle.psm_verify.specs.Scene.{letters_with};
+ghost use Rattle.psm_verify.specs.VerifyContext.{letters_with};
 ghost use Rattle.psm_verify.specs.Verified.{Verifies};
 ghost use Rattle.psm_code.specs.TableRules.{table_faults};
 
@@ -13,15 +13,15 @@ use crate::calls::{Call, calls_of};
 use crate::code::Code;
 use crate::fault::{CodeFault, Stop};
 use crate::listing::next;
-use crate::scene::{Scene, item_letters, letters_of_tables, letters_of_variables};
 use crate::tables::tables;
+use crate::verify_context::{VerifyContext, item_letters, letters_of_tables, letters_of_variables};
 use psm_code::{RawCode, RawRoutine};
 use psm_exprcode::{Letter, Query};
 use psm_list::List;
 use std::alloc::{AllocError, Global};
 
 /// The code as code that keeps its rules, or the first line of its listing that breaks one, and which: a line that breaks several is
-/// told by the rule that comes first in [`psm_code::CodeRule`]. Want of memory is the one other answer.
+/// told by the rule that comes first in [`psm_code::CodeRule`]. Out of memory is the one other answer.
 ///
 /// It reads the listing a few times at most, but for these. What may not stand twice is compared with all that stands before it: names
 /// of tables, of columns and of parameters, routines, columns in lists and in SETs, and the values of handlers in their routine. And an
@@ -113,7 +113,7 @@ fn routine_lines(
         variables.as_slice(),
         routine.queries.items(),
     )?;
-    let scene = Scene {
+    let verify_context = VerifyContext {
         code,
         routine,
         columns: letters,
@@ -121,10 +121,10 @@ fn routine_lines(
         items: items.as_slice(),
         calls,
     };
-    scene.routine(alloc, line, before)
+    verify_context.routine(alloc, line, before)
 }
 
-impl<'a> Scene<'a> {
+impl<'a> VerifyContext<'a> {
     // The parts of the routine, and its lines.
     fn routine(&self, alloc: Global, line: u64, before: &[RawRoutine]) -> Result<u64, Stop>
         ensures { Finds (checked line (routine_faults self.now.code.now before.now self.now.routine.now)) result }

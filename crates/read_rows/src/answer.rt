@@ -1,4 +1,4 @@
-//! What is printed behind a row.
+//! What is printed after a row.
 ghost use Rattle.std.specs.Prelude.{◌<◌, length};
 
 use crate::fault::Fault;

@@ -1,7 +1,7 @@
 //! What a tree is, in a word or two.
 
 use psm_list::{Boxed, OneOrMore};
-use psm_tree::{Block, DataType, Expr, Junction, Pick, Simple, Statement, Target, TypeForm};
+use psm_tree::{Block, DataType, Expr, LogicalOperator, Pick, Simple, Statement, Target, TypeForm};
 
 pub fn expression(expr: &Expr) -> &'static str {
     match expr {
@@ -9,9 +9,12 @@ pub fn expression(expr: &Expr) -> &'static str {
         Expr::Number { .. } => "number",
         Expr::Text { .. } => "text",
         Expr::Name(target) => name(target),
-        Expr::Junction { junction, .. } => match junction {
-            Junction::And => "and",
-            Junction::Or => "or",
+        Expr::LogicalOperator {
+            logical_operator,
+            ..
+        } => match logical_operator {
+            LogicalOperator::And => "and",
+            LogicalOperator::Or => "or",
         },
         Expr::Not { .. } => "not",
         Expr::Compare { .. } => "comparison",
@@ -19,7 +22,7 @@ pub fn expression(expr: &Expr) -> &'static str {
         Expr::Between { .. } => "between",
         Expr::In { .. } => "in",
         Expr::Like { .. } => "like",
-        Expr::Chain { .. } => "chain",
+        Expr::OperatorChain { .. } => "chain",
         Expr::Signed { .. } => "signed",
         Expr::Call { .. } => "call",
         Expr::Parenthesized { .. } => "parentheses",

@@ -6,8 +6,8 @@
 //! In the text `\n`, `\r`, `\t` and `\xHH` stand for a byte, and `\{9 PART}` stands for nine times the part.
 //! `cut` before a row has it read up to each of its blanks. An empty line, and one that begins with `#`, is printed as it is.
 //!
-//! Behind the row stands `ok` with what was read, or what is wrong and where. Of a file that is the text that is
-//! printed of it, of a script its commands, and of a run what it is and the number of the token behind it.
+//! After the row stands `ok` with what was read, or what is wrong and where. Of a file that is the text that is
+//! printed of it, of a script its commands, and of a run what it is and the number of the token after it.
 #![tactic(auto)]
 
 mod answer;

@@ -78,7 +78,7 @@ fn uncut(line: &str) -> Option<Row<'_>> {
     })
 }
 
-// What stands before the mark, and the number behind it, which is 0 where there is no mark.
+// What stands before the mark, and the number after it, which is 0 where there is no mark.
 fn numbered(head: &str, mark: char) -> Option<(&str, u32)> {
     match head.split_once(mark) {
         None => Some((head, 0)),

@@ -11,7 +11,7 @@ use std::alloc::Global;
 
 const MOST_LEVELS: u32 = 100;
 
-/// What the part is that a row asks for, and the number of the token behind it.
+/// What the part is that a row asks for, and the number of the token after it.
 pub fn run(alloc: Global, list: &TokenList, part: Part, row: Row<'_>) -> Result<String, Fault> {
     let at = row.at as usize;
     if at > list.items().len() || row.depth > MOST_LEVELS {
@@ -19,21 +19,21 @@ pub fn run(alloc: Global, list: &TokenList, part: Part, row: Row<'_>) -> Result<
     }
     match part {
         Part::Expression => {
-            let (expr, behind) = parse_expr(alloc, list, at, row.depth)?;
-            told(alloc, form::expression(expr.get()), behind)
+            let (expr, following) = parse_expr(alloc, list, at, row.depth)?;
+            told(alloc, form::expression(expr.get()), following)
         }
         Part::Picks => {
-            let (picks, behind) = parse_picks(alloc, list, at, row.depth)?;
-            told(alloc, form::picks(&picks), behind)
+            let (picks, following) = parse_picks(alloc, list, at, row.depth)?;
+            told(alloc, form::picks(&picks), following)
         }
         Part::Target => {
-            let (target, behind) = parse_target(alloc, list, at, row.depth)?;
-            told(alloc, form::name(&target), behind)
+            let (target, following) = parse_target(alloc, list, at, row.depth)?;
+            told(alloc, form::name(&target), following)
         }
         Part::DataType => data_type(alloc, list, at, row.depth),
         Part::Statement => {
-            let (statement, behind) = parse_stmt(alloc, list, at, row.depth)?;
-            told(alloc, form::statement(statement.get()), behind)
+            let (statement, following) = parse_stmt(alloc, list, at, row.depth)?;
+            told(alloc, form::statement(statement.get()), following)
         }
     }
 }
@@ -44,11 +44,11 @@ fn data_type(alloc: Global, list: &TokenList, at: usize, depth: u32) -> Result<S
     requires shallow { depth ≤ 100 }
 {
     match parse_type(alloc, list, at, depth) {
-        Ok((kind, behind)) => told(alloc, form::data_type(&kind), behind),
+        Ok((kind, following)) => told(alloc, form::data_type(&kind), following),
         Err(fault) => Err(fault.into()),
     }
 }
 
-fn told(alloc: Global, form: &str, behind: usize) -> Result<String, Fault> {
-    Ok(format!(in alloc; "ok {form} to {behind}")?)
+fn told(alloc: Global, form: &str, following: usize) -> Result<String, Fault> {
+    Ok(format!(in alloc; "ok {form} to {following}")?)
 }

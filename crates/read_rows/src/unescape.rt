@@ -16,7 +16,7 @@ pub fn unescaped(alloc: Global, text: &str) -> Result<Vec<u8>, Fault> {
     Ok(bytes)
 }
 
-// What stands behind a `\`, up to the next one.
+// What stands after a `\`, up to the next one.
 fn put_escape(bytes: &mut Vec<u8>, piece: &str) -> Result<(), Fault> {
     match piece.as_bytes() {
         [b'n', rest @ ..] => put(bytes, b'\n', rest),

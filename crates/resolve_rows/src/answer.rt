@@ -1,4 +1,4 @@
-//! What is printed behind a row.
+//! What is printed after a row.
 
 use crate::coded::coded;
 use crate::fault::Fault;
@@ -102,7 +102,7 @@ fn query_of(routine: &ResolvedRoutine) -> Option<&ResolvedQuery> {
     }
 }
 
-// What expressions and a test come to.
+// What expressions and a test evaluate to.
 fn shown(
     place: Place,
     items: &[Boxed<ResolvedExpr>],

@@ -3,7 +3,7 @@
 use crate::fault::Fault;
 use crate::read::file;
 use psm_code::{CodeRule, RawRoutine};
-use psm_emit::lower;
+use psm_codegen::lower;
 use psm_verify::{CodeFault, verified};
 use std::alloc::{AllocError, Global};
 

@@ -10,7 +10,7 @@ use psm_token::tokens;
 use psm_value::Datum;
 use std::alloc::Global;
 
-/// The module file that a text is, without names.
+/// The resolved module file that a text is.
 pub fn file(alloc: Global, text: &str) -> Result<ResolvedFile, Fault> {
     if text.len() >= 4_294_967_295 {
         return Err(Fault::Row);

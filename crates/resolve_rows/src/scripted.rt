@@ -1,9 +1,9 @@
-//! What a script over a module file comes to before it runs.
+//! What a script over a module file evaluates to before it runs.
 
 use crate::fault::Fault;
 use crate::read::file;
 use psm_check_script::{CheckFault, check_script};
-use psm_emit::lower;
+use psm_codegen::lower;
 use psm_parse_file::parse_script;
 use psm_rules::Rule;
 use psm_token::{Place, tokens};

@@ -1,11 +1,11 @@
-//! What a row expression comes to.
+//! What a row expression evaluates to.
 ghost use Rattle.std.specs.Prelude.{IsTrue};
 ghost use Rattle.psm_exprcode.specs.Kinds.{are_of};
 ghost use Rattle.psm_exprcode.specs.WellFormed.{does_fit};
-ghost use Rattle.psm_resolved.specs.Sort.{IsOfLetter};
+ghost use Rattle.psm_resolved.specs.RowType.{IsOfLetter};
 
 use crate::fault::Fault;
-use psm_emit::{Sort, sort_of};
+use psm_codegen::{RowType, row_type_of};
 use psm_exprcode::{ExprCode, Letter, Operand, eval};
 use psm_resolved::{ResolvedExpr, row_code};
 use psm_value::{Datum, Truth};
@@ -22,12 +22,12 @@ pub struct Place<'a> {
     pub vars: &'a [Datum],
 }
 
-/// Writes what an expression comes to by its code.
+/// Writes what an expression evaluates to by its code.
 pub fn print_value(place: Place, e: &ResolvedExpr, out: &mut Vec<u8>) -> Result<(), Fault> {
-    let letter = match sort_of(place.columns, place.variables, e) {
-        Sort::Wrong => return Err(Fault::Unfit),
-        Sort::Untyped => Letter::N,
-        Sort::Of(letter) => letter,
+    let letter = match row_type_of(place.columns, place.variables, e) {
+        RowType::Wrong => return Err(Fault::Unfit),
+        RowType::Untyped => Letter::N,
+        RowType::Of(letter) => letter,
     };
     let operand = value_of(place, e, letter)?;
     print(&operand, out)?;

@@ -1,6 +1,6 @@
 //! The answer to a case.
 ghost use Rattle.std.specs.Prelude.{IfSome};
-ghost use Rattle.psm_build.specs.Played.{CanRun};
+ghost use Rattle.psm_build.specs.Outcome.{CanRun};
 
 use crate::case::Case;
 use crate::play::play;
@@ -11,11 +11,11 @@ use psm_store::CopyStore;
 use psm_undostore::UndoStore;
 use std::alloc::Global;
 
-/// What a case comes to over both stores.
+/// What a case ends in over both stores.
 pub fn answer(alloc: Global, case: &Case) -> Result<String> {
     match prepare(alloc, case) {
         Ok(program) => over_both(alloc, case, &program),
-        Err(Refusal::Told(line)) => Ok(line),
+        Err(Refusal::Reported(line)) => Ok(line),
         Err(Refusal::Long) => bail!("a file is too long"),
         Err(Refusal::Memory) => bail!("no memory"),
     }
@@ -24,7 +24,7 @@ pub fn answer(alloc: Global, case: &Case) -> Result<String> {
 // The answer over both stores, or both answers.
 fn over_both(alloc: Global, case: &Case, program: &Program) -> Result<String>
     requires first { CanRun program.now.code program.now.script.commands }
-    requires second { IfSome program.now.behind (λ s. CanRun program.now.code s.commands) }
+    requires second { IfSome program.now.following (λ s. CanRun program.now.code s.commands) }
 {
     let undoing = over_undoing(alloc, case, program)?;
     let copying = over_copying(alloc, case, program)?;
@@ -36,7 +36,7 @@ fn over_both(alloc: Global, case: &Case, program: &Program) -> Result<String>
 
 fn over_undoing(alloc: Global, case: &Case, program: &Program) -> Result<String>
     requires first { CanRun program.now.code program.now.script.commands }
-    requires second { IfSome program.now.behind (λ s. CanRun program.now.code s.commands) }
+    requires second { IfSome program.now.following (λ s. CanRun program.now.code s.commands) }
 {
     let definitions = definitions_of(alloc, &program.code)?;
     let mut store = UndoStore::new(alloc, definitions)?;
@@ -45,7 +45,7 @@ fn over_undoing(alloc: Global, case: &Case, program: &Program) -> Result<String>
 
 fn over_copying(alloc: Global, case: &Case, program: &Program) -> Result<String>
     requires first { CanRun program.now.code program.now.script.commands }
-    requires second { IfSome program.now.behind (λ s. CanRun program.now.code s.commands) }
+    requires second { IfSome program.now.following (λ s. CanRun program.now.code s.commands) }
 {
     let definitions = definitions_of(alloc, &program.code)?;
     let mut store = CopyStore::new(alloc, definitions)?;

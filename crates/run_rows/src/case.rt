@@ -12,7 +12,7 @@ pub const DEFAULT_TURNS: u64 = 1_000_000;
 pub struct Case {
     pub module: String,
     pub script: String,
-    pub behind: Option<String>,
+    pub following: Option<String>,
     pub turns: u64,
     pub trouble: Option<Trouble>,
     part: Part,
@@ -24,7 +24,7 @@ enum Part {
     None,
     Module,
     Script,
-    Behind,
+    After,
 }
 
 impl Case {
@@ -33,7 +33,7 @@ impl Case {
         Case {
             module: String::new(alloc),
             script: String::new(alloc),
-            behind: None,
+            following: None,
             turns: DEFAULT_TURNS,
             trouble: None,
             part: Part::None,
@@ -75,17 +75,17 @@ impl Case {
             "module" => {
                 self.module = String::new(alloc);
                 self.script = String::new(alloc);
-                self.behind = None;
+                self.following = None;
                 self.part = Part::Module;
             }
             "script" => {
                 self.script = String::new(alloc);
-                self.behind = None;
+                self.following = None;
                 self.part = Part::Script;
             }
             "behind" => {
-                self.behind = Some(String::new(alloc));
-                self.part = Part::Behind;
+                self.following = Some(String::new(alloc));
+                self.part = Part::After;
             }
             _ => bail!("no such file"),
         }
@@ -93,10 +93,10 @@ impl Case {
     }
 
     fn read_text(&mut self, line: &str) -> Result<()> {
-        match (self.part, &mut self.behind) {
+        match (self.part, &mut self.following) {
             (Part::Module, _) => append(&mut self.module, line)?,
             (Part::Script, _) => append(&mut self.script, line)?,
-            (Part::Behind, Some(behind)) => append(behind, line)?,
+            (Part::After, Some(following)) => append(following, line)?,
             _ => bail!("a line of no file"),
         }
         Ok(())

@@ -1,7 +1,7 @@
 //! The runs of a case over a store.
 ghost use Rattle.std.specs.Prelude.{◌≡◌, IfSome};
-ghost use Rattle.psm_code.specs.Sits.{AreKept};
-ghost use Rattle.psm_build.specs.Played.{CanRun, empty_tables};
+ghost use Rattle.psm_code.specs.MachineInvariant.{AreKept};
+ghost use Rattle.psm_build.specs.Outcome.{CanRun, empty_tables};
 
 use crate::case::{Case, DEFAULT_TURNS};
 use crate::program::Program;
@@ -20,7 +20,7 @@ pub fn play<S: Store>(
     store: &mut S,
 ) -> Result<String>
     requires first { CanRun program.now.code program.now.script.commands }
-    requires second { IfSome program.now.behind (λ s. CanRun program.now.code s.commands) }
+    requires second { IfSome program.now.following (λ s. CanRun program.now.code s.commands) }
     requires empty { S.tables store.old ≡ empty_tables program.now.code }
     requires unmarked { S.marks store.old ≡ 0 }
 {
@@ -34,11 +34,11 @@ pub fn play<S: Store>(
         store,
         &mut text,
     )?;
-    match &program.behind {
-        Some(behind) => run(
+    match &program.following {
+        Some(following) => run(
             alloc,
             &program.code,
-            behind,
+            following,
             DEFAULT_TURNS,
             None,
             store,

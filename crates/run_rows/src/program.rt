@@ -1,25 +1,25 @@
 //! The code of a case and its scripts.
 ghost use Rattle.std.specs.Prelude.{IfOk, IfSome};
-ghost use Rattle.psm_build.specs.Played.{CanRun};
+ghost use Rattle.psm_build.specs.Outcome.{CanRun};
 ghost use Rattle.run_rows.specs.Built.{IsBuilt};
 
 use crate::case::Case;
 use psm_build::{BuildFault, Code, Fault, ScriptCode, build, build_script};
 use std::alloc::{AllocError, Global};
 
-/// The code of a case, its script, and the one that is run behind that.
+/// The code of a case, its script, and the one that is run after that.
 #[derive(Drop)]
 pub struct Program {
     pub code: Code,
     pub script: ScriptCode,
-    pub behind: Option<ScriptCode>,
+    pub following: Option<ScriptCode>,
 }
 
 /// Why a case isn't run.
 #[derive(Drop)]
 pub enum Refusal {
     /// A file is refused with this line.
-    Told(String),
+    Reported(String),
     /// A file is too long.
     Long,
     Memory,
@@ -34,18 +34,18 @@ impl From<AllocError> for Refusal {
 /// The code of a case and its scripts.
 pub fn prepare(alloc: Global, case: &Case) -> Result<Program, Refusal>
     ensures first { IfOk result (λ p. CanRun p.code p.script.commands) }
-    ensures second { IfOk result (λ p. IfSome p.behind (λ s. CanRun p.code s.commands)) }
+    ensures second { IfOk result (λ p. IfSome p.following (λ s. CanRun p.code s.commands)) }
 {
     let code = code_of(alloc, case.module.as_bytes())?;
     let script = script_over(alloc, &code, case.script.as_bytes())?;
-    let behind = match &case.behind {
-        Some(behind) => Some(script_over(alloc, &code, behind.as_bytes())?),
+    let following = match &case.following {
+        Some(following) => Some(script_over(alloc, &code, following.as_bytes())?),
         None => None,
     };
     Ok(Program {
         code,
         script,
-        behind,
+        following,
     })
 }
 
@@ -85,7 +85,7 @@ fn refused(alloc: Global, file: &str, fault: BuildFault) -> Refusal {
             column,
             fault,
         } => match fault_line(alloc, file, line, column, fault) {
-            Ok(line) => Refusal::Told(line),
+            Ok(line) => Refusal::Reported(line),
             Err(_) => Refusal::Memory,
         },
         BuildFault::Memory => Refusal::Memory,

@@ -4,10 +4,10 @@ ghost use Rattle.std.specs.Prelude.{Some};
 use psm_io::{MemSink, Sink, SinkFault};
 use std::alloc::{AllocError, Global};
 
-/// What comes to a put.
+/// What ends in a put.
 #[derive(Clone, Copy)]
 pub enum Fate {
-    /// It fails, and at most so many bytes of the piece are kept.
+    /// It fails, and at most n bytes of the piece are kept.
     Keeps(usize),
     /// It finds no memory.
     Memory,

@@ -10,12 +10,12 @@ use Rattle.psm_store.specs.Marks.{AnyMark, IsNewMark, IsOutside, Keeps, defs_of}
 use Rattle.store_rows.specs.Bench.{AreHeld, IsBench}
 use Rattle.store_rows.specs.Parts.{IsPartsTable}
 
--- an item of a list with one more behind it is one of the list, or that one
-get-behind : {X : Type 0} (xs : List X) (x : X) (k : ℕ) (y : X) → slice_get (xs ++ x ∷ []) k ≡ Some y → (slice_get xs k ≡ Some y) ⊎ ((k ≡ length xs) × (x ≡ y))
-get-behind [] x zero y e = inr (refl, cc)
-get-behind [] x (suc k) y e = cc
-get-behind (z ∷ zs) x zero y e = inl e
-get-behind (z ∷ zs) x (suc k) y e = elim (get-behind zs x k y e) [ inl p ↦ inl p | inr p ↦ inr (ap suc p.0, p.1) ]
+-- an item of a list with one more after it is one of the list, or that one
+get-following : {X : Type 0} (xs : List X) (x : X) (k : ℕ) (y : X) → slice_get (xs ++ x ∷ []) k ≡ Some y → (slice_get xs k ≡ Some y) ⊎ ((k ≡ length xs) × (x ≡ y))
+get-following [] x zero y e = inr (refl, cc)
+get-following [] x (suc k) y e = cc
+get-following (z ∷ zs) x zero y e = inl e
+get-following (z ∷ zs) x (suc k) y e = elim (get-following zs x k y e) [ inl p ↦ inl p | inr p ↦ inr (ap suc p.0, p.1) ]
 
 -- an item of the beginning of a list is one of the list
 get-take : {X : Type 0} (n : ℕ) (xs : List X) (k : ℕ) (y : X) → slice_get (take n xs) k ≡ Some y → (slice_get xs k ≡ Some y) × (k < n)
@@ -72,14 +72,14 @@ opened ts us m n H K old new marks mark b e more made keeps = record {
   parts = subst (λ (xs : List Contents). All IsPartsTable (defs_of xs)) (sym e) b.parts;
   counted = more ∙ ap (λ k. k + 1) b.counted ∙ sym (length-append marks (mark ∷ []));
   held = record {
-    held = λ k x g. elim (get-behind marks mark k x g) [ inl p ↦ (keeps x (b.held.held k x p) tt).0 | inr p ↦ subst K p.1 made.held ];
-    deep = λ k x g. elim (get-behind marks mark k x g) [ inl p ↦ b.held.deep k x p | inr p ↦ ap (λ y. y.depth) (sym p.1) ∙ made.deepest ∙ b.counted ∙ sym p.0 ];
-    rising = λ j k x y below g h. elim (get-behind marks mark k y h) [
-      | inl p ↦ elim (get-behind marks mark j x g) [
+    held = λ k x g. elim (get-following marks mark k x g) [ inl p ↦ (keeps x (b.held.held k x p) tt).0 | inr p ↦ subst K p.1 made.held ];
+    deep = λ k x g. elim (get-following marks mark k x g) [ inl p ↦ b.held.deep k x p | inr p ↦ ap (λ y. y.depth) (sym p.1) ∙ made.deepest ∙ b.counted ∙ sym p.0 ];
+    rising = λ j k x y below g h. elim (get-following marks mark k y h) [
+      | inl p ↦ elim (get-following marks mark j x g) [
         | inl q ↦ b.held.rising j k x y below q p
         | inr q ↦ absurd (omega (arith, below, q.0, slice_get_within marks k y p))
       ]
-      | inr p ↦ elim (get-behind marks mark j x g) [
+      | inr p ↦ elim (get-following marks mark j x g) [
         | inl q ↦ subst (λ (z : Mark). x.place ≤ z.place) p.1 (made.last x (b.held.held j x q))
         | inr q ↦ absurd (omega (arith, below, q.0, p.0))
       ]

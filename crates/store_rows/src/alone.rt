@@ -5,10 +5,10 @@ ghost use Rattle.store_rows.specs.Parts.{IsPartsKey, IsPartsRow};
 
 use crate::call::{Call, Change};
 use crate::definition::definition;
+use crate::display;
 use crate::fault::Fault;
 use crate::like::{numbered_key, numbered_row};
 use crate::look::looked;
-use crate::told;
 use psm_table::{Key, Row, Steps, Table};
 use std::alloc::Global;
 use std::sync::ledger::Ledger;
@@ -84,7 +84,7 @@ impl Alone {
         ensures { IsAlone self.new.table self.new.left }
     {
         self.table.insert(row, steps)?;
-        told::word(alloc, "ok")
+        display::word(alloc, "ok")
     }
 
     // The row that had the key. It isn't kept.
@@ -101,7 +101,7 @@ impl Alone {
     {
         self.left = None;
         let was = self.table.change(row, steps)?;
-        told::row(alloc, Some(&was))
+        display::row(alloc, Some(&was))
     }
 
     #[tactic(auto, using(crate::proofs::PartsRows::key_fits))]
@@ -117,7 +117,7 @@ impl Alone {
     {
         self.left = None;
         let was = self.table.erase(key, steps);
-        told::row(alloc, was.as_ref())
+        display::row(alloc, was.as_ref())
     }
 
     fn fill<L: Ledger>(
@@ -133,7 +133,7 @@ impl Alone {
         'fill: for size in from..to {
             let _told = self.insert(alloc, numbered_row(alloc, size, size)?, steps)?;
         }
-        told::word(alloc, "ok")
+        display::word(alloc, "ok")
     }
 
     fn drain<L: Ledger>(
@@ -149,7 +149,7 @@ impl Alone {
         'drain: for size in from..to {
             let _told = self.erase(alloc, &numbered_key(alloc, size)?, steps)?;
         }
-        told::word(alloc, "ok")
+        display::word(alloc, "ok")
     }
 
     // The row that had the key. It is kept.
@@ -165,7 +165,7 @@ impl Alone {
         ensures { IsAlone self.new.table self.new.left }
     {
         self.left = self.table.hide(key, steps);
-        told::row(alloc, self.left.as_ref())
+        display::row(alloc, self.left.as_ref())
     }
 
     // The row that had the key. It is kept.
@@ -181,7 +181,7 @@ impl Alone {
         ensures { IsAlone self.new.table self.new.left }
     {
         self.left = Some(self.table.swap(row, steps)?);
-        told::row(alloc, self.left.as_ref())
+        display::row(alloc, self.left.as_ref())
     }
 
     fn revive<L: Ledger>(&mut self, alloc: Global, steps: &mut Steps<L>) -> Result<String, Fault>
@@ -193,7 +193,7 @@ impl Alone {
         }
         let row = self.left.take().ok_or(Fault::NoRow)?;
         self.table.revive(row, steps);
-        told::word(alloc, "ok")
+        display::word(alloc, "ok")
     }
 
     fn settle(&mut self, alloc: Global) -> Result<String, Fault>
@@ -202,6 +202,6 @@ impl Alone {
     {
         self.left = None;
         self.table.settle();
-        told::word(alloc, "ok")
+        display::word(alloc, "ok")
     }
 }

@@ -1,4 +1,4 @@
-//! What is printed behind a row.
+//! What is printed after a row.
 ghost use Rattle.store_rows.specs.Alone.{IsAlone};
 ghost use Rattle.store_rows.specs.Bench.{IsBench};
 
@@ -56,10 +56,10 @@ pub fn answer<S: Store, T: Store, L: Ledger>(
 {
     match Row::of(line) {
         Ok(row) => match row.table {
-            None => told(alloc, alone.answered(alloc, &row.call, steps)),
+            None => display(alloc, alone.answered(alloc, &row.call, steps)),
             Some(t) => both(alloc, t, &row.call, copies, journal, steps),
         },
-        Err(fault) => fault.told(alloc),
+        Err(fault) => fault.display(alloc),
     }
 }
 
@@ -77,8 +77,8 @@ fn both<S: Store, T: Store, L: Ledger>(
     ensures copies { IsBench (S.tables copies.new.store) (S.marks copies.new.store) (S.holds copies.new.store) copies.new.marks.items }
     ensures journal { IsBench (T.tables journal.new.store) (T.marks journal.new.store) (T.holds journal.new.store) journal.new.marks.items }
 {
-    let first = told(alloc, copies.answered(alloc, t, call, steps))?;
-    let second = told(alloc, journal.answered(alloc, t, call, steps))?;
+    let first = display(alloc, copies.answered(alloc, t, call, steps))?;
+    let second = display(alloc, journal.answered(alloc, t, call, steps))?;
     if first.as_str() == second.as_str() {
         Ok(first)
     } else {
@@ -86,9 +86,9 @@ fn both<S: Store, T: Store, L: Ledger>(
     }
 }
 
-fn told(alloc: Global, answer: Result<String, Fault>) -> Result<String, AllocError> {
+fn display(alloc: Global, answer: Result<String, Fault>) -> Result<String, AllocError> {
     match answer {
         Ok(text) => Ok(text),
-        Err(fault) => fault.told(alloc),
+        Err(fault) => fault.display(alloc),
     }
 }

@@ -4,10 +4,10 @@ ghost use Rattle.store_rows.specs.Bench.{IsBench};
 ghost use Rattle.store_rows.specs.Parts.{IsPartsKey, IsPartsRow, IsPartsTable};
 
 use crate::call::{Call, Change, Look};
+use crate::display;
 use crate::fault::Fault;
 use crate::like::{numbered_key, numbered_row};
 use crate::look::looked;
-use crate::told;
 use psm_store::{Key, Mark, Row, Steps, Store, Table};
 use std::alloc::Global;
 use std::sync::ledger::Ledger;
@@ -35,7 +35,7 @@ impl<S: Store> Bench<S> {
     {
         match call {
             Call::Look(look) => self.looked(alloc, t, look),
-            Call::Change(change) => told::done(alloc, self.changed(alloc, t, change)),
+            Call::Change(change) => display::done(alloc, self.changed(alloc, t, change)),
             Call::Mark => self.mark(alloc),
             Call::Rollback(depth) => self.rollback(alloc, *depth, steps),
             Call::Release(depth) => self.release(alloc, *depth),
@@ -157,7 +157,7 @@ impl<S: Store> Bench<S> {
         }
         let mark = self.store.mark(alloc)?;
         match self.marks.push(mark) {
-            Ok(()) => told::depth(alloc, mark.depth),
+            Ok(()) => display::depth(alloc, mark.depth),
             Err(_) => {
                 self.store.release(mark);
                 Err(Fault::Memory)
@@ -181,7 +181,7 @@ impl<S: Store> Bench<S> {
         }
         self.store.rollback(self.marks[place], steps);
         self.marks.truncate(place + 1);
-        told::word(alloc, "ok")
+        display::word(alloc, "ok")
     }
 
     #[tactic(auto, using(crate::proofs::Benches::closed))]
@@ -195,6 +195,6 @@ impl<S: Store> Bench<S> {
         }
         self.store.release(self.marks[place]);
         self.marks.truncate(place);
-        told::word(alloc, "ok")
+        display::word(alloc, "ok")
     }
 }

@@ -17,7 +17,7 @@ pub enum Fault {
 
 impl Fault {
     /// What is wrong.
-    pub fn told(self, alloc: Global) -> Result<String, AllocError> {
+    pub fn display(self, alloc: Global) -> Result<String, AllocError> {
         match self {
             Fault::NoRow => String::from_str(alloc, "no row"),
             Fault::Refused(RowFault::Duplicate) => String::from_str(alloc, "duplicate"),

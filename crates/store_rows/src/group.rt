@@ -17,10 +17,10 @@ use std::alloc::Global;
 use std::marker::Brand;
 use std::sync::ledger::{Blank, Ledger};
 
-/// Prints each row of the groups, which stand behind an empty line each, with what is answered to it.
+/// Prints each row of the groups, which stand after an empty line each, with what is answered to it.
 pub fn print_groups(rt: &impl Print, alloc: Global, text: String) -> Result<()> {
-    let told = told_groups::<Brand>(alloc, text, Blank::new(1))?;
-    print!(rt; "{told}")?;
+    let display = told_groups::<Brand>(alloc, text, Blank::new(1))?;
+    print!(rt; "{display}")?;
     Ok(())
 }
 
@@ -31,15 +31,15 @@ fn told_groups<L: Ledger>(alloc: Global, text: String, blank: Blank) -> Result<S
     requires some { 0 < blank.parts }
 {
     let mut steps: Steps<L> = Steps::open(blank);
-    let mut told = String::new(alloc);
+    let mut display = String::new(alloc);
     for (number, rows) in text.split("\n\n").enumerate() {
         if number > 0 {
-            told.push_str("\n")?;
+            display.push_str("\n")?;
         }
         let group = told_group(alloc, rows, &mut steps)?;
-        told.push_str(group.as_str())?;
+        display.push_str(group.as_str())?;
     }
-    Ok(told)
+    Ok(display)
 }
 
 // A group begins with empty tables.
@@ -93,13 +93,13 @@ fn told_rows<S: Store, T: Store, L: Ledger>(
     requires copies { IsBench (S.tables copies.old.store) (S.marks copies.old.store) (S.holds copies.old.store) copies.old.marks.items }
     requires journal { IsBench (T.tables journal.old.store) (T.marks journal.old.store) (T.holds journal.old.store) journal.old.marks.items }
 {
-    let mut told = String::new(alloc);
+    let mut display = String::new(alloc);
     'rows: for row in rows.lines() {
         let one = told_row(alloc, row, alone, copies, journal, steps)?;
-        told.push_str(one.as_str())?;
-        told.push_str("\n")?;
+        display.push_str(one.as_str())?;
+        display.push_str("\n")?;
     }
-    Ok(told)
+    Ok(display)
 }
 
 // A line that begins with `#` is told as it is.

@@ -2,9 +2,9 @@
 ghost use Rattle.store_rows.specs.Parts.{IsPartsTable};
 
 use crate::call::Look;
+use crate::display;
 use crate::fault::Fault;
 use crate::like::{KeyLike, RowLike};
-use crate::told;
 use crate::walk::{falling, rising};
 use psm_table::{Datum, Row, Table};
 use std::alloc::Global;
@@ -14,13 +14,13 @@ pub fn looked(alloc: Global, table: &Table, look: &Look<'_>) -> Result<String, F
 {
     match look {
         Look::Get(key) => get(alloc, table, key),
-        Look::First => told::row(alloc, table.next_after(None)),
+        Look::First => display::row(alloc, table.next_after(None)),
         Look::Next(key) => next(alloc, table, key),
-        Look::Last => told::row(alloc, table.prev_before(None)),
+        Look::Last => display::row(alloc, table.prev_before(None)),
         Look::Prev(key) => prev(alloc, table, key),
         Look::Clash(row) => clash(alloc, table, row),
-        Look::Rows => told::rows(alloc, rising(alloc, table)?.as_slice()),
-        Look::Back => told::rows(alloc, falling(alloc, table)?.as_slice()),
+        Look::Rows => display::rows(alloc, rising(alloc, table)?.as_slice()),
+        Look::Back => display::rows(alloc, falling(alloc, table)?.as_slice()),
         Look::Sum => sum(alloc, table),
         Look::Copy => copied(alloc, table),
         Look::Definition => defined(alloc, table),
@@ -33,7 +33,7 @@ fn get(alloc: Global, table: &Table, key: &KeyLike<'_>) -> Result<String, Fault>
     requires { IsPartsTable table.now.contents.def }
 {
     let key = key.made(alloc)?;
-    told::row(alloc, table.get(&key))
+    display::row(alloc, table.get(&key))
 }
 
 #[tactic(auto, using(crate::proofs::PartsRows::key_fits))]
@@ -41,7 +41,7 @@ fn next(alloc: Global, table: &Table, key: &KeyLike<'_>) -> Result<String, Fault
     requires { IsPartsTable table.now.contents.def }
 {
     let key = key.made(alloc)?;
-    told::row(alloc, table.next_after(Some(&key)))
+    display::row(alloc, table.next_after(Some(&key)))
 }
 
 #[tactic(auto, using(crate::proofs::PartsRows::key_fits))]
@@ -49,7 +49,7 @@ fn prev(alloc: Global, table: &Table, key: &KeyLike<'_>) -> Result<String, Fault
     requires { IsPartsTable table.now.contents.def }
 {
     let key = key.made(alloc)?;
-    told::row(alloc, table.prev_before(Some(&key)))
+    display::row(alloc, table.prev_before(Some(&key)))
 }
 
 #[tactic(auto, using(crate::proofs::PartsRows::row_has_columns))]
@@ -57,7 +57,7 @@ fn clash(alloc: Global, table: &Table, row: &RowLike<'_>) -> Result<String, Faul
     requires { IsPartsTable table.now.contents.def }
 {
     let row = row.made(alloc)?;
-    told::word(alloc, if table.clash(&row) { "yes" } else { "no" })
+    display::word(alloc, if table.clash(&row) { "yes" } else { "no" })
 }
 
 fn sum(alloc: Global, table: &Table) -> Result<String, Fault> {
@@ -79,18 +79,18 @@ fn code(row: &Row) -> i64 {
 fn copied(alloc: Global, table: &Table) -> Result<String, Fault> {
     let copy = table.copy(alloc)?;
     let rows = rising(alloc, &copy)?;
-    told::rows(alloc, rows.as_slice())
+    display::rows(alloc, rows.as_slice())
 }
 
 fn defined(alloc: Global, table: &Table) -> Result<String, Fault> {
     let copy = table.copy(alloc)?;
-    told::definition(alloc, &copy.def().copy(alloc)?)
+    display::definition(alloc, &copy.def().copy(alloc)?)
 }
 
 fn copies(alloc: Global, like: &RowLike<'_>) -> Result<String, Fault> {
     let key = like.key.made(alloc)?.copy(alloc)?;
     let row = like.made(alloc)?.copy(alloc)?;
-    let mut told = told::values(alloc, key.values())?;
-    told.push_str(told::values(alloc, row.values())?.as_str())?;
-    Ok(told)
+    let mut display = display::values(alloc, key.values())?;
+    display.push_str(display::values(alloc, row.values())?.as_str())?;
+    Ok(display)
 }

@@ -1,8 +1,8 @@
-//! What is printed behind a row.
+//! What is printed after a row.
 
+use crate::display;
 use crate::fault::Fault;
 use crate::spelled::{read_again, written};
-use crate::told;
 use crate::unescape::unescaped;
 use psm_token::{TokenList, tokens};
 use std::alloc::{AllocError, Global};
@@ -10,9 +10,9 @@ use std::alloc::{AllocError, Global};
 /// The tokens of the row's text, or what is written of them, or what is wrong and where.
 pub fn answer(alloc: Global, line: &str) -> Result<String, AllocError> {
     match answered(alloc, line) {
-        Ok(text) => told::in_one_line(alloc, text.as_str()),
+        Ok(text) => display::in_one_line(alloc, text.as_str()),
         Err(Fault::Memory) => Err(AllocError),
-        Err(fault) => fault.told(alloc),
+        Err(fault) => fault.display(alloc),
     }
 }
 
@@ -21,7 +21,7 @@ fn answered(alloc: Global, line: &str) -> Result<String, Fault> {
     let text = unescaped(alloc, escaped)?;
     let list = read(alloc, text.as_str())?;
     match operation {
-        "tokens" => Ok(told::placed(alloc, &list)?),
+        "tokens" => Ok(display::placed(alloc, &list)?),
         "spell" => spelled(alloc, &list),
         _ => Err(Fault::Row),
     }
@@ -41,5 +41,5 @@ fn spelled(alloc: Global, list: &TokenList) -> Result<String, Fault> {
     if !read_again(alloc, list, &again)? {
         return Err(Fault::Otherwise);
     }
-    Ok(told::shortened(alloc, text.as_str())?)
+    Ok(display::shortened(alloc, text.as_str())?)
 }

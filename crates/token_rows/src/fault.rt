@@ -17,8 +17,8 @@ pub enum Fault {
 }
 
 impl Fault {
-    /// What is wrong, behind the place where it is.
-    pub fn told(self, alloc: Global) -> Result<String, AllocError> {
+    /// What is wrong, after the place where it is.
+    pub fn display(self, alloc: Global) -> Result<String, AllocError> {
         match self {
             Fault::Row => String::from_str(alloc, "no row"),
             Fault::Token(fault) => token_fault(alloc, fault),

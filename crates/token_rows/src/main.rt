@@ -4,15 +4,15 @@
 //! A row is `tokens` or `spell`, a blank, and a text, in which `\n`, `\r` and `\t` stand for a character and
 //! `\{9 PART}` for nine times the part. An empty line, and one that begins with `#`, is printed as it is.
 //!
-//! Behind a row of `tokens` stands each token behind its kind, with line and column behind an `@`, and then the end: of
-//! a number its digits, and how many of them stand behind the point. Behind a row of `spell` stands between brackets
+//! After a row of `tokens` stands each token after its kind, with line and column after an `@`, and then the end: of
+//! a number its digits, and how many of them stand after the point. After a row of `spell` stands between brackets
 //! what is written of the tokens, if they are read again of that; from 200 bytes on only how long it is.
 #![tactic(auto)]
 
 mod answer;
+mod display;
 mod fault;
 mod spelled;
-mod told;
 mod unescape;
 
 use answer::answer;

@@ -1,6 +1,6 @@
 //! Tokens that are written and read again.
 
-use crate::told;
+use crate::display;
 use psm_spell::Writer;
 use psm_token::{Placed, Token, TokenList};
 use std::alloc::{AllocError, Global};
@@ -26,7 +26,7 @@ fn write(writer: &mut Writer, token: &Token) -> Result<(), AllocError> {
 
 /// Whether two lists have the same tokens, wherever they stand.
 pub fn read_again(alloc: Global, list: &TokenList, again: &TokenList) -> Result<bool, AllocError> {
-    let first = told::unplaced(alloc, list)?;
-    let second = told::unplaced(alloc, again)?;
+    let first = display::without_positions(alloc, list)?;
+    let second = display::without_positions(alloc, again)?;
     Ok(first.as_str() == second.as_str())
 }

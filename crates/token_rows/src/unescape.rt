@@ -16,17 +16,17 @@ pub fn unescaped(alloc: Global, text: &str) -> Result<String, Fault> {
     Ok(characters)
 }
 
-// What stands behind a `\`, up to the next one.
+// What stands after a `\`, up to the next one.
 fn put_escape(characters: &mut String, piece: &str) -> Result<(), Fault> {
-    let mut behind = piece.chars();
-    match behind.next() {
+    let mut following = piece.chars();
+    match following.next() {
         Some('n') => characters.push('\n')?,
         Some('r') => characters.push('\r')?,
         Some('t') => characters.push('\t')?,
-        Some('{') => return put_repeated(characters, behind.as_str()),
+        Some('{') => return put_repeated(characters, following.as_str()),
         _ => return Err(Fault::Row),
     }
-    characters.push_str(behind.as_str())?;
+    characters.push_str(following.as_str())?;
     Ok(())
 }
 

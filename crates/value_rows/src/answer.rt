@@ -1,4 +1,4 @@
-//! What is printed behind a row.
+//! What is printed after a row.
 
 use crate::fault::Fault;
 use crate::operands::Operands;

@@ -1,12 +1,12 @@
 //! Reads rows from standard input, one a line, and prints each with what the crates of numbers, texts, names,
 //! SQLSTATEs and values answer.
 //!
-//! A row is an operation, and its operands behind a blank each: numbers as they are written, texts between single
+//! A row is an operation, and its operands after a blank each: numbers as they are written, texts between single
 //! quotes with each quote in them doubled, `NULL`, and types as SQL writes them, without a blank.
 //! In a row `\n` and `\t` stand for a character, `\xHH` for the one of that code, and `\{9 PART}` for nine times the
 //! part. An empty line, and one that begins with `#`, is printed as it is.
 //!
-//! Behind the row stands the value that the operation gives, as a script prints it, or why there is none. More than
+//! After the row stands the value that the operation gives, as a script prints it, or why there is none. More than
 //! twenty of one character are printed as `\{21 a}`.
 #![tactic(auto)]
 

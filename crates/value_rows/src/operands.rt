@@ -73,15 +73,15 @@ impl<'a> Operands<'a> {
         let mut text = String::new(alloc);
         let mut left = self.rest.strip_prefix('\'').ok_or(Fault::Row)?;
         for _ in 0..self.rest.len() {
-            let (part, behind) = left.split_once('\'').ok_or(Fault::Row)?;
+            let (part, following) = left.split_once('\'').ok_or(Fault::Row)?;
             text.push_str(part)?;
-            match behind.strip_prefix('\'') {
-                Some(behind) => {
+            match following.strip_prefix('\'') {
+                Some(following) => {
                     text.push('\'')?;
-                    left = behind;
+                    left = following;
                 }
                 None => {
-                    self.rest = behind.strip_prefix(' ').unwrap_or(behind);
+                    self.rest = following.strip_prefix(' ').unwrap_or(following);
                     return Ok(text);
                 }
             }

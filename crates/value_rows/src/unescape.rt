@@ -16,7 +16,7 @@ pub fn unescaped(alloc: Global, row: &str) -> Result<String, Fault> {
     Ok(characters)
 }
 
-// What stands behind a `\`, up to the next one.
+// What stands after a `\`, up to the next one.
 fn put_escape(characters: &mut String, piece: &str) -> Result<(), Fault> {
     let (mark, rest) = after_first(piece).ok_or(Fault::Row)?;
     match mark {

@@ -53,7 +53,7 @@ abbrev pub decreases-value::next_factors : goal.decreases-value::next_factors
 decreases-value::next_factors l = 40 * l.levels + 5
 
 abbrev pub invariant-value::next_factors-loop-turn : goal.invariant-value::next_factors-loop-turn
-invariant-value::next_factors-loop-turn l = Repeating l.levels next_factor l.initial.tokens.rest.now l.links.items (l._turn-end - l._turn) l.tokens.rest.now
+invariant-value::next_factors-loop-turn l = Repeating l.levels next_factor l.initial.tokens.rest.now l.chain_links.items (l._turn-end - l._turn) l.tokens.rest.now
 
 abbrev pub decreases-value::term : goal.decreases-value::term
 decreases-value::term l = 40 * l.levels + 6
@@ -65,7 +65,7 @@ abbrev pub decreases-value::next_terms : goal.decreases-value::next_terms
 decreases-value::next_terms l = 40 * l.levels + 8
 
 abbrev pub invariant-value::next_terms-loop-turn : goal.invariant-value::next_terms-loop-turn
-invariant-value::next_terms-loop-turn l = Repeating l.levels next_term l.initial.tokens.rest.now l.links.items (l._turn-end - l._turn) l.tokens.rest.now
+invariant-value::next_terms-loop-turn l = Repeating l.levels next_term l.initial.tokens.rest.now l.chain_links.items (l._turn-end - l._turn) l.tokens.rest.now
 
 abbrev pub decreases-value::sum : goal.decreases-value::sum
 decreases-value::sum l = 40 * l.levels + 9

@@ -9,7 +9,7 @@ returns-in-Err-TooLong-clause-gets g c =
       refl,
       record {
         bytes = file.0;
-        told = file.1;
+        reported = file.1;
         long = file.2;
         none_failed = stay_all (g.F.Shelf.faults c.args.shelf.now) (g.F.Shelf.faults c.fetch.new.self) c.args.name.now answer.2 c.in-Err-TooLong.ensures.others;
       },

@@ -23,7 +23,7 @@ returns-in_err-script g c =
     let stands = subst (λ (b : List ℕ). StandsFor b code) c.deref.ensures.value c.in_ok-code.ensures in
     rw (p.1, p.2)
     (script_refused (g.F.Shelf.held c.args.shelf.now) (g.F.Shelf.held c.fetch.new.shelf) (g.F.Shelf.faults c.args.shelf.now) (g.F.Shelf.faults c.fetch.new.shelf) (g.F.Shelf.faults c.fetch-2.new.shelf) _
-    ms code c.in_ok-bytes.ensures.gets stands c.in_ok-bytes.ensures.told
+    ms code c.in_ok-bytes.ensures.gets stands c.in_ok-bytes.ensures.reported
     c.in_ok-bytes-2.bytes.items _ c.in_ok-bytes-2.ensures.gets (subst (λ (b : List ℕ). GetsScript ms code b (Err c.in_err-script.field-0.0)) c.deref-2.ensures.value (c.in_err-script.ensures ms stands)))
 
 pub returns-in_err-bytes-2 : goal.returns-in_err-bytes-2
@@ -33,7 +33,7 @@ returns-in_err-bytes-2 g c =
     let stands = subst (λ (b : List ℕ). StandsFor b code) c.deref.ensures.value c.in_ok-code.ensures in
     rw (p.1, p.2)
     (script_unread (g.F.Shelf.held c.args.shelf.now) (g.F.Shelf.held c.fetch.new.shelf) (g.F.Shelf.faults c.args.shelf.now) (g.F.Shelf.faults c.fetch.new.shelf) (g.F.Shelf.faults c.fetch-2.new.shelf) _
-    c.in_ok-bytes.bytes.items code c.in_ok-bytes.ensures.gets stands c.in_ok-bytes.ensures.told _ c.in_err-bytes-2.ensures.gets)
+    c.in_ok-bytes.bytes.items code c.in_ok-bytes.ensures.gets stands c.in_ok-bytes.ensures.reported _ c.in_err-bytes-2.ensures.gets)
 
 pub returns : goal.returns
 returns g c =
@@ -42,5 +42,5 @@ returns g c =
     let commands = c.in_ok-script.script in
     let stands = subst (λ (b : List ℕ). StandsFor b code) c.deref.ensures.value c.in_ok-code.ensures in
     script_ready (g.F.Shelf.held c.args.shelf.now) (g.F.Shelf.held c.fetch.new.shelf) (g.F.Shelf.faults c.args.shelf.now) (g.F.Shelf.faults c.fetch.new.shelf) (g.F.Shelf.faults c.fetch-2.new.shelf) _
-    ms code c.in_ok-bytes.ensures.gets stands c.in_ok-bytes.ensures.told
+    ms code c.in_ok-bytes.ensures.gets stands c.in_ok-bytes.ensures.reported
     c.in_ok-bytes-2.bytes.items commands c.in_ok-bytes-2.ensures.gets (subst (λ (b : List ℕ). GetsScript ms code b (Ok commands)) c.deref-2.ensures.value (c.in_ok-script.ensures ms stands))

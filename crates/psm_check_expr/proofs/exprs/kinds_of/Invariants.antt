@@ -1,5 +1,5 @@
 use Rattle.std.proofs.Common.{◌≡◌, ◌++◌, drop, map}
-use Rattle.psm_rules.specs.Found.{shape_of}
+use Rattle.psm_rules.specs.Checked.{shape_of}
 use Rattle.psm_rules.specs.Shapes.{kind_of}
 use Rattle.psm_check_expr.proofs.exprs.kinds_of.Given as goal
 

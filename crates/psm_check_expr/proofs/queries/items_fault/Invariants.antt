@@ -1,9 +1,9 @@
 use Rattle.std.proofs.Common.{◌≡◌, drop, map}
 use Rattle.psm_rules.specs.ExprFaults.{items_fault}
 use Rattle.psm_rules.specs.Faults.{first_from}
-use Rattle.psm_rules.specs.Found.{as_value}
+use Rattle.psm_rules.specs.Checked.{as_value}
 use Rattle.psm_check_expr.specs.Seen.{pick_of}
 use Rattle.psm_check_expr.proofs.queries.items_fault.Given as goal
 
 abbrev pub invariant-loop-pick : goal.invariant-loop-pick
-invariant-loop-pick l = first_from l.first (map (λ p. (as_value p.found).fault) (map pick_of (drop l.pick-index l.picks))) ≡ items_fault (map pick_of l.picks)
+invariant-loop-pick l = first_from l.first (map (λ p. (as_value p.checked).fault) (map pick_of (drop l.pick-index l.picks))) ≡ items_fault (map pick_of l.picks)

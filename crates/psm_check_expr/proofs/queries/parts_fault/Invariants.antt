@@ -5,4 +5,4 @@ use Rattle.psm_check_expr.specs.Seen.{pick_of}
 use Rattle.psm_check_expr.proofs.queries.parts_fault.Given as goal
 
 abbrev pub invariant-loop-pick : goal.invariant-loop-pick
-invariant-loop-pick l = first_from l.first (map (λ p. p.found.fault) (map pick_of (drop l.pick-index l.picks))) ≡ parts_fault (map pick_of l.picks)
+invariant-loop-pick l = first_from l.first (map (λ p. p.checked.fault) (map pick_of (drop l.pick-index l.picks))) ≡ parts_fault (map pick_of l.picks)

@@ -7,21 +7,21 @@ use Rattle.psm_check_stmt.specs.InRoutine.{context}
 use Rattle.psm_check_stmt.proofs.blocks.+statement.Given as goal
 
 abbrev pub invariant-all-loop-statement : goal.invariant-all-loop-statement
-invariant-all-loop-statement l = (l.frames ≡ l.fn.frames)
-    × (first_from l.fault (map (λ p. p (context l.c l.fn.frames)) (map statement_fault (drop l.statement-index l.statement-items))) ≡ all (context l.c l.fn.frames) (map statement_fault l.statements))
+invariant-all-loop-statement l = (l.scopes ≡ l.fn.scopes)
+    × (first_from l.fault (map (λ p. p (context l.c l.fn.scopes)) (map statement_fault (drop l.statement-index l.statement-items))) ≡ all (context l.c l.fn.scopes) (map statement_fault l.statements))
 
 abbrev pub invariant-several-loop-statement : goal.invariant-several-loop-statement
-invariant-several-loop-statement l = (l.frames ≡ l.fn.frames)
-    × (first_from l.fault (map (λ p. p (context l.c l.fn.frames)) (map statement_fault (drop l.statement-index l.statement-items))) ≡ all (context l.c l.fn.frames) (several (several_map statement_fault l.statements)))
+invariant-several-loop-statement l = (l.scopes ≡ l.fn.scopes)
+    × (first_from l.fault (map (λ p. p (context l.c l.fn.scopes)) (map statement_fault (drop l.statement-index l.statement-items))) ≡ all (context l.c l.fn.scopes) (several (several_map statement_fault l.statements)))
 
 abbrev pub invariant-searched-loop-branch : goal.invariant-searched-loop-branch
-invariant-searched-loop-branch l = (l.frames ≡ l.fn.frames)
-    × (first_from l.fault (searched (context l.c l.fn.frames) (map branch_part (drop l.branch-index l.branch-items))) ≡ first_of (searched (context l.c l.fn.frames) (several (several_map branch_part l.branches))))
+invariant-searched-loop-branch l = (l.scopes ≡ l.fn.scopes)
+    × (first_from l.fault (searched (context l.c l.fn.scopes) (map branch_part (drop l.branch-index l.branch-items))) ≡ first_of (searched (context l.c l.fn.scopes) (several (several_map branch_part l.branches))))
 
 abbrev pub invariant-simple-loop-branch : goal.invariant-simple-loop-branch
-invariant-simple-loop-branch l = (l.frames ≡ l.fn.frames)
-    × (first_from l.fault (simple (context l.c l.fn.frames) l.operand (map branch_part (drop l.branch-index l.branch-items))) ≡ first_from l.operand.fault (simple (context l.c l.fn.frames) l.operand (several (several_map branch_part l.branches))))
+invariant-simple-loop-branch l = (l.scopes ≡ l.fn.scopes)
+    × (first_from l.fault (simple (context l.c l.fn.scopes) l.operand (map branch_part (drop l.branch-index l.branch-items))) ≡ first_from l.operand.fault (simple (context l.c l.fn.scopes) l.operand (several (several_map branch_part l.branches))))
 
 abbrev pub invariant-handlers_fault-loop-handler : goal.invariant-handlers_fault-loop-handler
-invariant-handlers_fault-loop-handler l = (l.frames ≡ l.fn.frames)
-    × (first_from l.fault (handlers_fault (context l.c l.fn.frames) l.atomic (map handler_part (drop l.handler-index l.handler-items))) ≡ first_of (handlers_fault (context l.c l.fn.frames) l.atomic (map handler_part l.handlers)))
+invariant-handlers_fault-loop-handler l = (l.scopes ≡ l.fn.scopes)
+    × (first_from l.fault (handlers_fault (context l.c l.fn.scopes) l.atomic (map handler_part (drop l.handler-index l.handler-items))) ≡ first_of (handlers_fault (context l.c l.fn.scopes) l.atomic (map handler_part l.handlers)))

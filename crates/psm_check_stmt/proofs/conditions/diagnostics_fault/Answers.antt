@@ -7,5 +7,5 @@ pub returns-in-Condition : goal.returns-in-Condition
 returns-in-Condition c =
     c.earlier.ensures
     ∙ ap (λ f. earlier f c.condition_items_fault.result) c.number_fault.ensures
-    ∙ ap (λ f. earlier (number_fault c.args.frames.now c.in-Condition.number) f) c.condition_items_fault.ensures
-    ∙ ap (λ d. diagnostics_fault c.args.frames.now d) (sym c.in-Condition.is)
+    ∙ ap (λ f. earlier (number_fault c.args.scopes.now c.in-Condition.number) f) c.condition_items_fault.ensures
+    ∙ ap (λ d. diagnostics_fault c.args.scopes.now d) (sym c.in-Condition.is)

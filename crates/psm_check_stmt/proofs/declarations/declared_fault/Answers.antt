@@ -9,6 +9,6 @@ pub returns-clause-outer : goal.returns-clause-outer
 returns-clause-outer c =
     let cursors = c.args.cursors.now in
     let xs = c.args.declarations.now in
-    let declared = c.in_ok-fault.ensures.frames ∙ ap (λ frames. declared_by frames xs) c.in_ok-push.ensures.ok in
-    ap (drop 1) (c.in_ok-cursors_fault.ensures.frames ∙ ap (λ frames. with_cursors (context c.args.c frames).view cursors) declared)
-    ∙ popped (option_copied c.args.label) (context c.args.c c.args.frames.now).view xs cursors
+    let declared = c.in_ok-fault.ensures.scopes ∙ ap (λ scopes. declared_by scopes xs) c.in_ok-push.ensures.ok in
+    ap (drop 1) (c.in_ok-cursors_fault.ensures.scopes ∙ ap (λ scopes. with_cursors (context c.args.c scopes).checker_scope cursors) declared)
+    ∙ popped (option_copied c.args.label) (context c.args.c c.args.scopes.now).checker_scope xs cursors

@@ -1,7 +1,7 @@
 use Rattle.std.proofs.Common.{map}
 use Rattle.psm_rules.specs.Faults.{first_of}
 use Rattle.psm_rules.specs.FileFaults.{table_fault}
-use Rattle.psm_check_stmt.proofs.Going.{first_next}
+use Rattle.psm_check_stmt.proofs.WalkSteps.{first_next}
 use Rattle.psm_check_stmt.proofs.files.tables_fault.Goals as goal
 
 pub loop-table-preserved : goal.loop-table-preserved

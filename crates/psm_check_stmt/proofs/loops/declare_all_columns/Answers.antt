@@ -6,6 +6,6 @@ use Rattle.psm_check_stmt.proofs.loops.declare_all_columns.Goals as goal
 pub loop-number-preserved : goal.loop-number-preserved
 loop-number-preserved c = (
   c.in_ok-declare_variable.ensures.«open»,
-  columns_next (with_variables_here c.args.frames.now (with_columns (variables_here c.args.frames.now) c.args.columns.now)) c.loop-number.frames c.declare_variable.new.frames
-      c.args.columns.now c.loop-number.number c.name.result.now c.at.result.now c.loop-number.invariant.0 c.name.ensures c.at.ensures c.in_ok-declare_variable.ensures.frames c.loop-number.invariant.1,
+  columns_next (with_variables_here c.args.scopes.now (with_columns (variables_here c.args.scopes.now) c.args.columns.now)) c.loop-number.scopes c.declare_variable.new.scopes
+      c.args.columns.now c.loop-number.number c.name.result.now c.at.result.now c.loop-number.invariant.0 c.name.ensures c.at.ensures c.in_ok-declare_variable.ensures.scopes c.loop-number.invariant.1,
 )

@@ -1,5 +1,5 @@
 use Rattle.std.proofs.Common.{refl}
-use Rattle.psm_cond.proofs.Sounds.{scopes_block, scopes_action}
+use Rattle.psm_cond.proofs.Contexts.{scopes_block, scopes_action}
 use Rattle.psm_cond.proofs.laws.scopes_go_outward.Goals as goal
 
 pub returns : goal.returns

@@ -1,5 +1,5 @@
 use Rattle.std.proofs.Common.{[], sym, subst}
-use Rattle.psm_tablecode.specs.Suits.{Runs}
+use Rattle.psm_tablecode.specs.TypeChecks.{Runs}
 use Rattle.psm_dml.proofs.checking.holds.Goals as goal
 
 pub truth-requires : goal.truth-requires

@@ -3,7 +3,7 @@ use Rattle.std.specs.Prelude.{All}
 use Rattle.std.proofs.lemmas.List.{get_or_default, take_all}
 use Rattle.psm_value.specs.declared.datum.Datum.{Datum}
 use Rattle.psm_tablecode.specs.Codes.{over}
-use Rattle.psm_tablecode.specs.Suits.{Runs}
+use Rattle.psm_tablecode.specs.TypeChecks.{Runs}
 use Rattle.psm_table.specs.Changing.{in_order, row_passes, rows_pass}
 use Rattle.psm_dml.specs.Judged.{result_of, verdict_with, IsWithin}
 use Rattle.psm_dml.proofs.Judging.{first_counts, seen_next, stands_next, within_next, Stands}

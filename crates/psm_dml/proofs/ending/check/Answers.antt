@@ -1,7 +1,7 @@
 use Rattle.std.proofs.Common.{ℕ, [], List, get_or, refl, ap, subst, ◌∙◌, Err}
 use Rattle.psm_table.specs.Changing.{in_order, rows_pass}
 use Rattle.psm_tablecode.specs.Codes.{over}
-use Rattle.psm_tablecode.specs.Suits.{letters_of}
+use Rattle.psm_tablecode.specs.TypeChecks.{letters_of}
 use Rattle.psm_tablecode.proofs.Fitting.{family_letters, truths_run}
 use Rattle.psm_table.specs.declared.definition.TableDef.{TableDef}
 use Rattle.psm_dml.specs.Ends.{Passes}
@@ -11,7 +11,7 @@ use Rattle.psm_dml.proofs.ending.check.Goals as goal
 pub judge-requires-clause-runs : goal.judge-requires-clause-runs
 judge-requires-clause-runs c = λ k d l.
     let whole = c.requires.rows k d l in
-    truths_run (letters_of c.args.table.now.contents.def) [] (get_or c.args.rows.now k d) [] (family_letters c.args.table.now.contents.def (get_or c.args.rows.now k d) whole.long whole.families) refl c.args.checks.now c.requires.suits
+    truths_run (letters_of c.args.table.now.contents.def) [] (get_or c.args.rows.now k d) [] (family_letters c.args.table.now.contents.def (get_or c.args.rows.now k d) whole.long whole.families) refl c.args.checks.now c.requires.type_checks
 
 pub returns-in-Err-clause-passes : goal.returns-in-Err-clause-passes
 returns-in-Err-clause-passes c =

@@ -8,9 +8,9 @@ use Rattle.psm_table.specs.Definition.{IsKey, IsRow}
 use Rattle.psm_table.specs.Evaluator.{test_of}
 use Rattle.psm_tablecode.specs.Asked.{rows_of}
 use Rattle.psm_tablecode.specs.Codes.{over}
-use Rattle.psm_tablecode.specs.Coming.{rows_coming}
-use Rattle.psm_tablecode.specs.Suits.{letters_of}
-use Rattle.psm_tablecode.proofs.Comings.{coming_here, coming_none, coming_rest, get_all}
+use Rattle.psm_tablecode.specs.RemainingRows.{rows_coming}
+use Rattle.psm_tablecode.specs.TypeChecks.{letters_of}
+use Rattle.psm_tablecode.proofs.RemainingRowsLaws.{coming_here, coming_none, coming_rest, get_all}
 use Rattle.psm_tablecode.proofs.KeyWalks.{rows_few, walked_by}
 use Rattle.psm_tablecode.proofs.Results.{gives_by}
 use Rattle.psm_tablecode.proofs.Fitting.{row_letters, test_runs}

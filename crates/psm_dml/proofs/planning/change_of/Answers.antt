@@ -1,7 +1,7 @@
 use Rattle.std.proofs.Common.{sym, subst}
 use Rattle.std.specs.Prelude.{slice_index_or}
 use Rattle.psm_table.specs.declared.definition.TableDef.{TableDef}
-use Rattle.psm_dml.specs.Suits.{Assigns}
+use Rattle.psm_dml.specs.TypeChecks.{Assigns}
 use Rattle.psm_dml.proofs.planning.change_of.Goals as goal
 
 pub set_row-requires-clause-sets : goal.set_row-requires-clause-sets

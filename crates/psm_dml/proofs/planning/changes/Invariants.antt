@@ -3,7 +3,7 @@ use Rattle.std.specs.Option.{option_copied}
 use Rattle.psm_table.specs.Evaluator.{test_of}
 use Rattle.psm_tablecode.specs.Asked.{rows_of}
 use Rattle.psm_tablecode.specs.Codes.{over}
-use Rattle.psm_tablecode.specs.Coming.{rows_coming}
+use Rattle.psm_tablecode.specs.RemainingRows.{rows_coming}
 use Rattle.psm_dml.specs.Changes.{changing, row_set}
 use Rattle.psm_dml.proofs.Walked.{Walks}
 use Rattle.psm_dml.proofs.planning.changes.Given as goal

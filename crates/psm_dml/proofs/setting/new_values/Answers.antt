@@ -1,6 +1,6 @@
 use Rattle.std.proofs.Common.{sym, subst}
 use Rattle.psm_exprcode.specs.declared.set_item.SetItem.{SetItem}
-use Rattle.psm_tablecode.specs.Suits.{Runs}
+use Rattle.psm_tablecode.specs.TypeChecks.{Runs}
 use Rattle.psm_dml.proofs.setting.new_values.Goals as goal
 
 pub value-requires : goal.value-requires

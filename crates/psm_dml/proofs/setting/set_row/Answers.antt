@@ -4,7 +4,7 @@ use Rattle.psm_value.specs.declared.datum.Datum.{Datum}
 use Rattle.psm_exprcode.specs.declared.set_item.SetItem.{SetItem}
 use Rattle.psm_exprcode.specs.Evaluated.{evaluated}
 use Rattle.psm_tablecode.specs.Codes.{value_in}
-use Rattle.psm_tablecode.specs.Suits.{Runs}
+use Rattle.psm_tablecode.specs.TypeChecks.{Runs}
 use Rattle.std.proofs.lemmas.Result.{err_from_is_err_and}
 use Rattle.psm_sqlstate.specs.declared.state.SqlState.{SqlState}
 use Rattle.psm_table.specs.Changing.{with_values}

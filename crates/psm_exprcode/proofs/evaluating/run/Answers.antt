@@ -8,7 +8,7 @@ use Rattle.psm_exprcode.proofs.evaluating.run.Goals as goal
 
 pub loop-op-init : goal.loop-op-init
 loop-op-init c =
-    going_first c.args.lines.now c.args.row.now c.args.vars.now (reverse c.args.operands.now.items) c.requires.suits.0 c.requires.suits.1 (ap reverse c.requires.empty)
+    going_first c.args.lines.now c.args.row.now c.args.vars.now (reverse c.args.operands.now.items) c.requires.type_checks.0 c.requires.type_checks.1 (ap reverse c.requires.empty)
 
 pub apply-requires : goal.apply-requires
 apply-requires c =
@@ -21,8 +21,8 @@ returns-in_err-next-clause-value c =
     c.loop-op.invariant c.in_err-next.ensures.0 in
     search rules
 
-pub returns-in_err-next-clause-lacks_nothing : goal.returns-in_err-next-clause-lacks_nothing
-returns-in_err-next-clause-lacks_nothing c = evaluated_some c.args.lines.now c.args.row.now c.args.vars.now c.requires.suits.0 c.requires.suits.1
+pub returns-in_err-next-clause-never_stuck : goal.returns-in_err-next-clause-never_stuck
+returns-in_err-next-clause-never_stuck c = evaluated_some c.args.lines.now c.args.row.now c.args.vars.now c.requires.type_checks.0 c.requires.type_checks.1
 
 pub loop-op-smaller : goal.loop-op-smaller
 loop-op-smaller c =
@@ -45,5 +45,5 @@ returns-clause-value c =
     ended_value c.args.row.now c.args.vars.now c.args.lines.now (reverse c.loop-op.operands.items) (reverse c.pop.new.operands.items) c.pop.result
     (going_end c.args.row.now c.args.vars.now c.args.lines.now c.loop-op.place (reverse c.loop-op.operands.items) (sym c.op.ensures.op ∙ ap option_copied c.in_default.is) c.loop-op.invariant) c.pop.ensures
 
-pub returns-clause-lacks_nothing : goal.returns-clause-lacks_nothing
-returns-clause-lacks_nothing c = evaluated_some c.args.lines.now c.args.row.now c.args.vars.now c.requires.suits.0 c.requires.suits.1
+pub returns-clause-never_stuck : goal.returns-clause-never_stuck
+returns-clause-never_stuck c = evaluated_some c.args.lines.now c.args.row.now c.args.vars.now c.requires.type_checks.0 c.requires.type_checks.1

@@ -1,10 +1,10 @@
 use Rattle.std.proofs.Common.{◌++◌, reverse, ap, sym, ◌∙◌, arith}
 use Rattle.std.specs.Option.{option_copied}
-use Rattle.psm_code.specs.Rows.{act_ended}
+use Rattle.psm_code.specs.Run.{act_ended}
 use Rattle.psm_code.specs.Steps.{Came}
 use Rattle.psm_unwind.specs.Marks.{marks_in, marks_of}
 use Rattle.psm_unwind.specs.View.{frames_of, machine_of}
-use Rattle.psm_machine.specs.Going.{resume_of}
+use Rattle.psm_machine.specs.Successors.{resume_of}
 use Rattle.psm_machine.proofs.ActionEnds.{act_is, acting, lacks_action, popped_rest, stopped_goes}
 use Rattle.psm_machine.proofs.actions.end_action.Goals as goal
 

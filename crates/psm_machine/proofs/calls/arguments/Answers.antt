@@ -4,7 +4,7 @@ use Rattle.psm_code.specs.Parts.{taking}
 use Rattle.psm_code.specs.Steps.{pops}
 use Rattle.psm_unwind.specs.View.{machine_of}
 use Rattle.psm_machine.proofs.Arguments.{passed_by, seen, taken_next, taken_stops}
-use Rattle.psm_machine.proofs.Comings.{same_then}
+use Rattle.psm_machine.proofs.ActSequences.{same_then}
 use Rattle.psm_machine.proofs.calls.arguments.Goals.{then-takes+in_ok-pop+in_ok-push, else-takes}
 use Rattle.psm_machine.proofs.calls.arguments.Goals as goal
 

@@ -23,7 +23,7 @@ returns-in_ok-values-in-None-clause-due g c =
     c.args.values.items c.in_ok-values-in-None.values (ap (λ xs. callers_of (g.S.Store.at c.args.store.now) c.args.run.now.operands.callers (reverse xs)) callers) (c.in_ok-values-in-None.ensures ∙ c.of.ensures)
     (c.leave_until.ensures.tables ∙ tables_kept (inside None (frames_of (g.S.Store.at c.args.store.now) (reverse c.args.run.now.running.frames.items))) (g.S.Store.tables c.args.store.now))
 
--- ---- behind an activation that had a caller
+-- ---- after an activation that had a caller
 
 -- the run once the frames of the activation are left
 abbrev bare : (g : Over) → After-resume g → Run

@@ -1,5 +1,5 @@
 use Rattle.psm_unwind.specs.View.{machine_of}
-use Rattle.psm_machine.proofs.Comings.{stopped}
+use Rattle.psm_machine.proofs.ActSequences.{stopped}
 use Rattle.psm_machine.proofs.Numbering.{item_then}
 use Rattle.psm_machine.proofs.entries.item_of_condition.Goals as goal
 

@@ -1,5 +1,5 @@
 use Rattle.psm_code.specs.Calling.{call}
-use Rattle.psm_code.specs.Rows.{here}
+use Rattle.psm_code.specs.Run.{here}
 use Rattle.psm_code.specs.Steps.{got}
 use Rattle.psm_unwind.specs.View.{machine_of}
 use Rattle.psm_machine.proofs.Doing.{goes_here}

@@ -1,11 +1,11 @@
-use Rattle.psm_code.specs.Rows.{end_action}
+use Rattle.psm_code.specs.Run.{end_action}
 use Rattle.psm_unwind.specs.View.{machine_of}
-use Rattle.psm_machine.proofs.Doing.{goes_to, stopped_way}
+use Rattle.psm_machine.proofs.Doing.{goes_to, stopped_successor}
 use Rattle.psm_machine.proofs.performing.finish_action.Goals as goal
 
 pub returns-in_err-next-clause-due : goal.returns-in_err-next-clause-due
 returns-in_err-next-clause-due c = λ tables at.
-    stopped_way (end_action c.args.routine.now c.args.number (machine_of tables at c.args.run.now)) c.in_err-next.field-0.0 (machine_of tables at c.end_action.new.run) c.from_residual.result c.from_residual.ensures.1 (c.in_err-next.ensures.due tables at)
+    stopped_successor (end_action c.args.routine.now c.args.number (machine_of tables at c.args.run.now)) c.in_err-next.field-0.0 (machine_of tables at c.end_action.new.run) c.from_residual.result c.from_residual.ensures.1 (c.in_err-next.ensures.due tables at)
 
 pub returns-clause-due : goal.returns-clause-due
 returns-clause-due c = λ tables at.

@@ -1,10 +1,10 @@
 use Rattle.std.proofs.Common.{Ok, refl, sym, subst}
 use Rattle.psm_code.specs.declared.instruction.Instruction.{Instruction}
 use Rattle.psm_code.specs.Calling.{«end»}
-use Rattle.psm_code.specs.Rows.{Way, done}
+use Rattle.psm_code.specs.Run.{Successor, done}
 use Rattle.psm_code.specs.Steps.{Came}
 use Rattle.psm_unwind.specs.View.{machine_of}
-use Rattle.psm_machine.specs.Going.{Turns, plain_act}
+use Rattle.psm_machine.specs.Successors.{StepsTo, plain_act}
 use Rattle.psm_machine.proofs.Doing.{other_done}
 use Rattle.psm_machine.proofs.Standing.{still_same, still_then}
 use Rattle.psm_machine.proofs.performing.perform.Goals as goal
@@ -13,23 +13,23 @@ pub returns-in-EndAction-clause-due : goal.returns-in-EndAction-clause-due
 returns-in-EndAction-clause-due g c =
     let tables = g.S.Store.tables c.args.store.now in
     let at = g.S.Store.at c.args.store.now in
-    subst (λ (i : Instruction). Turns (done c.args.code.now c.args.routine.now i (machine_of tables at c.args.run.now)) c.finish_action.result (machine_of tables at c.finish_action.new.run)) (sym c.in-EndAction.is) (c.finish_action.ensures.due tables at)
+    subst (λ (i : Instruction). StepsTo (done c.args.code.now c.args.routine.now i (machine_of tables at c.args.run.now)) c.finish_action.result (machine_of tables at c.finish_action.new.run)) (sym c.in-EndAction.is) (c.finish_action.ensures.due tables at)
 
 pub returns-in-Call-clause-due : goal.returns-in-Call-clause-due
 returns-in-Call-clause-due g c =
     let tables = g.S.Store.tables c.args.store.now in
     let at = g.S.Store.at c.args.store.now in
-    subst (λ (i : Instruction). Turns (done c.args.code.now c.args.routine.now i (machine_of tables at c.args.run.now)) c.call_on.result (machine_of tables at c.call_on.new.run)) (sym c.in-Call.is) (c.call_on.ensures.due tables at)
+    subst (λ (i : Instruction). StepsTo (done c.args.code.now c.args.routine.now i (machine_of tables at c.args.run.now)) c.call_on.result (machine_of tables at c.call_on.new.run)) (sym c.in-Call.is) (c.call_on.ensures.due tables at)
 
-pub returns-in-CallFunction-clause-due : goal.returns-in-CallFunction-clause-due
-returns-in-CallFunction-clause-due g c =
+pub returns-in-FunctionCall-clause-due : goal.returns-in-FunctionCall-clause-due
+returns-in-FunctionCall-clause-due g c =
     let tables = g.S.Store.tables c.args.store.now in
     let at = g.S.Store.at c.args.store.now in
-    subst (λ (i : Instruction). Turns (done c.args.code.now c.args.routine.now i (machine_of tables at c.args.run.now)) c.call_on-in-CallFunction.result (machine_of tables at c.call_on-in-CallFunction.new.run)) (sym c.in-CallFunction.is) (c.call_on-in-CallFunction.ensures.due tables at)
+    subst (λ (i : Instruction). StepsTo (done c.args.code.now c.args.routine.now i (machine_of tables at c.args.run.now)) c.call_on-in-FunctionCall.result (machine_of tables at c.call_on-in-FunctionCall.new.run)) (sym c.in-FunctionCall.is) (c.call_on-in-FunctionCall.ensures.due tables at)
 
 pub returns-in_ok-end_procedure-in-End-clause-due : goal.returns-in_ok-end_procedure-in-End-clause-due
 returns-in_ok-end_procedure-in-End-clause-due g c =
-    subst (λ (i : Instruction). Turns (done c.args.code.now c.args.routine.now i (machine_of (g.S.Store.tables c.args.store.now) (g.S.Store.at c.args.store.now) c.args.run.now)) (Ok c.in_ok-end_procedure-in-End.field-0)
+    subst (λ (i : Instruction). StepsTo (done c.args.code.now c.args.routine.now i (machine_of (g.S.Store.tables c.args.store.now) (g.S.Store.at c.args.store.now) c.args.run.now)) (Ok c.in_ok-end_procedure-in-End.field-0)
     (machine_of (g.S.Store.tables c.end_procedure.new.store) (g.S.Store.at c.end_procedure.new.store) c.end_procedure.new.run)) (sym c.in-End.is) («end» c.args.code.now, refl, c.in_ok-end_procedure-in-End.ensures.due)
 
 pub returns-in_default : goal.returns-in_default
@@ -44,8 +44,8 @@ returns-in_default g c =
     let m = machine_of (g.S.Store.tables c.args.store.now) at0 c.args.run.now in
     record {
       due =
-          subst (λ (x : Came Way). Turns x c.behind.result (machine_of tables1 at1 c.behind.new.run))
-          (sym (other_done c.args.code.now c.args.routine.now c.args.instruction.now m c.requires.kind c.requires.other c.in_default.not-EndAction c.in_default.not-Call c.in_default.not-CallFunction c.in_default.not-Return c.in_default.not-End))
-          (c.behind.ensures.due tables1 at1 (plain_act c.args.routine.now c.args.instruction.now m) c.plain-done.ensures.due);
-      still = still_then h0 at0 count0 c.args.run.now h1 at1 count1 c.plain-done.new.run h1 at1 count1 c.behind.new.run c.plain-done.ensures.still (still_same h1 at1 count1 c.plain-done.new.run c.behind.new.run c.behind.ensures.same);
+          subst (λ (x : Came Successor). StepsTo x c.following.result (machine_of tables1 at1 c.following.new.run))
+          (sym (other_done c.args.code.now c.args.routine.now c.args.instruction.now m c.requires.kind c.requires.other c.in_default.not-EndAction c.in_default.not-Call c.in_default.not-FunctionCall c.in_default.not-ReturnValue c.in_default.not-End))
+          (c.following.ensures.due tables1 at1 (plain_act c.args.routine.now c.args.instruction.now m) c.plain-done.ensures.due);
+      still = still_then h0 at0 count0 c.args.run.now h1 at1 count1 c.plain-done.new.run h1 at1 count1 c.following.new.run c.plain-done.ensures.still (still_same h1 at1 count1 c.plain-done.new.run c.following.new.run c.following.ensures.same);
     }

@@ -1,7 +1,7 @@
 use Rattle.std.proofs.Common.{sym, subst}
 use Rattle.psm_code.specs.Steps.{Came}
 use Rattle.psm_unwind.specs.View.{machine_of}
-use Rattle.psm_machine.specs.Coming.{Comes}
+use Rattle.psm_machine.specs.ActResults.{Evaluates}
 use Rattle.psm_machine.proofs.Doing.{other_within}
 use Rattle.psm_machine.proofs.performing.within.Goals as goal
 
@@ -11,8 +11,8 @@ returns-in-Clear-clause-due c = λ tables at. rw c.in-Clear.is (c.clear.ensures.
 pub returns-in-Store-clause-due : goal.returns-in-Store-clause-due
 returns-in-Store-clause-due c = λ tables at. rw c.in-Store.is (c.store.ensures.due tables at)
 
-pub returns-in-Retrieve-clause-due : goal.returns-in-Retrieve-clause-due
-returns-in-Retrieve-clause-due c = λ tables at. rw c.in-Retrieve.is (c.retrieve.ensures.due tables at)
+pub returns-in-FetchStore-clause-due : goal.returns-in-FetchStore-clause-due
+returns-in-FetchStore-clause-due c = λ tables at. rw c.in-FetchStore.is (c.retrieve.ensures.due tables at)
 
 pub returns-in-Warn-clause-due : goal.returns-in-Warn-clause-due
 returns-in-Warn-clause-due c = λ tables at. rw c.in-Warn.is (c.warn.ensures tables at)
@@ -30,8 +30,8 @@ pub returns-in_default : goal.returns-in_default
 returns-in_default c = record {
   due = λ tables at.
       let m = machine_of tables at c.args.run.now in
-      subst (λ (x : Came (Unit {0})). Comes x c.raise_anew.result (machine_of tables at c.raise_anew.new.run))
-      (sym (other_within c.args.routine.now c.args.instruction.now m c.in_default.not-Clear c.in_default.not-Store c.in_default.not-Retrieve c.in_default.not-Warn c.in_default.not-Turn c.in_default.not-NoReturn c.in_default.not-NoCase c.in_default.not-StatementItem c.in_default.not-ConditionItem))
+      subst (λ (x : Came (Unit {0})). Evaluates x c.raise_anew.result (machine_of tables at c.raise_anew.new.run))
+      (sym (other_within c.args.routine.now c.args.instruction.now m c.in_default.not-Clear c.in_default.not-Store c.in_default.not-FetchStore c.in_default.not-Warn c.in_default.not-Turn c.in_default.not-NoReturn c.in_default.not-NoCase c.in_default.not-StatementItem c.in_default.not-ConditionItem))
       (c.raise_anew.ensures.due tables at);
   same = c.raise_anew.ensures.same;
 }

@@ -8,7 +8,7 @@ use Rattle.psm_dml.specs.Ends.{Ends}
 use Rattle.psm_code.specs.Plans.{delete_rows, some_row}
 use Rattle.psm_unwind.specs.View.{machine_of}
 use Rattle.psm_machine.specs.Allowed.{MayErase}
-use Rattle.psm_machine.specs.Coming.{Comes}
+use Rattle.psm_machine.specs.ActResults.{Evaluates}
 use Rattle.psm_machine.proofs.Asking.{of_some}
 use Rattle.psm_machine.proofs.Counting.{as_err, delete_counted, Counted}
 use Rattle.psm_machine.proofs.plans.delete_rows.Goals as goal
@@ -26,7 +26,7 @@ returns-in_err-count-clause-due g c = λ at.
     let h = of_some (MayErase old n vars test) (slice_get c.args.code.now.tables n) t here c.requires.may in
     let seen = subst (λ (vs : List Datum). IfSome (slice_get old n) (λ d. Ends d (deleted (over vs) test d.rows) old n new c.delete.result)) c.as_slice-vars.ensures.value c.delete.ensures.answer in
     let counted = subst (λ p. Counted (delete_rows c.args.code.now n test) some_row old at run new p) (sym c.in_err-count.ensures) (delete_counted c.args.code.now n t here old at run new test c.delete.result h.table seen) in
-    subst (λ r. Comes (delete_rows c.args.code.now n test (machine_of old at run)) r (machine_of new at run)) (as_err c.from_residual.result c.in_err-count.field-0.0 c.from_residual.ensures.1) counted
+    subst (λ r. Evaluates (delete_rows c.args.code.now n test (machine_of old at run)) r (machine_of new at run)) (as_err c.from_residual.result c.in_err-count.field-0.0 c.from_residual.ensures.1) counted
 
 pub returns-clause-due : goal.returns-clause-due
 returns-clause-due g c = λ at.
@@ -42,4 +42,4 @@ returns-clause-due g c = λ at.
     let seen = subst (λ (vs : List Datum). IfSome (slice_get old n) (λ d. Ends d (deleted (over vs) test d.rows) old n new c.delete.result)) c.as_slice-vars.ensures.value c.delete.ensures.answer in
     let counted = subst (λ p. Counted (delete_rows c.args.code.now n test) some_row old at run new p) (sym c.in_ok-count.ensures) (delete_counted c.args.code.now n t here old at run new test c.delete.result h.table seen) in
     let now = machine_of new at (record run { area = c.set_rows.new.self }) in
-    subst (λ came. Comes came c.some_row.result now) (sym (counted ∙ ap (λ a. some_row c.in_ok-count.count (machine_of new at (record run { area = a }))) (sym c.set_rows.ensures))) (c.some_row.ensures now)
+    subst (λ came. Evaluates came c.some_row.result now) (sym (counted ∙ ap (λ a. some_row c.in_ok-count.count (machine_of new at (record run { area = a }))) (sym c.set_rows.ensures))) (c.some_row.ensures now)

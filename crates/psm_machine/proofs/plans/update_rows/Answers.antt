@@ -9,7 +9,7 @@ use Rattle.psm_dml.specs.Ends.{schema_of, Ends}
 use Rattle.psm_code.specs.Plans.{plain, set_item, some_row, update_rows}
 use Rattle.psm_unwind.specs.View.{machine_of}
 use Rattle.psm_machine.specs.Allowed.{MayChange}
-use Rattle.psm_machine.specs.Coming.{Comes}
+use Rattle.psm_machine.specs.ActResults.{Evaluates}
 use Rattle.psm_machine.proofs.Asking.{of_some}
 use Rattle.psm_machine.proofs.Counting.{as_err, update_counted, Counted}
 use Rattle.psm_machine.proofs.plans.update_rows.Goals as goal
@@ -29,7 +29,7 @@ returns-in_err-count-clause-due g c = λ at.
     let ruled = subst (λ (checks : List (List Line)). IfSome (slice_get old n) (λ d. Ends d (updated (over c.as_slice-vars.result.now) plain (schema_of d.def checks) (map set_item sets) test d.rows) old n new c.update.result)) c.items.ensures c.update.ensures.answer in
     let seen = subst (λ (vs : List Datum). IfSome (slice_get old n) (λ d. Ends d (updated (over vs) plain (schema_of d.def t.checks) (map set_item sets) test d.rows) old n new c.update.result)) c.as_slice-vars.ensures.value ruled in
     let counted = subst (λ p. Counted (update_rows c.args.code.now n sets test) some_row old at run new p) (sym c.in_err-count.ensures) (update_counted c.args.code.now n t here old at run new sets test c.update.result h.table seen) in
-    subst (λ r. Comes (update_rows c.args.code.now n sets test (machine_of old at run)) r (machine_of new at run)) (as_err c.from_residual.result c.in_err-count.field-0.0 c.from_residual.ensures.1) counted
+    subst (λ r. Evaluates (update_rows c.args.code.now n sets test (machine_of old at run)) r (machine_of new at run)) (as_err c.from_residual.result c.in_err-count.field-0.0 c.from_residual.ensures.1) counted
 
 pub returns-clause-due : goal.returns-clause-due
 returns-clause-due g c = λ at.
@@ -47,4 +47,4 @@ returns-clause-due g c = λ at.
     let seen = subst (λ (vs : List Datum). IfSome (slice_get old n) (λ d. Ends d (updated (over vs) plain (schema_of d.def t.checks) (map set_item sets) test d.rows) old n new c.update.result)) c.as_slice-vars.ensures.value ruled in
     let counted = subst (λ p. Counted (update_rows c.args.code.now n sets test) some_row old at run new p) (sym c.in_ok-count.ensures) (update_counted c.args.code.now n t here old at run new sets test c.update.result h.table seen) in
     let now = machine_of new at (record run { area = c.set_rows.new.self }) in
-    subst (λ came. Comes came c.some_row.result now) (sym (counted ∙ ap (λ a. some_row c.in_ok-count.count (machine_of new at (record run { area = a }))) (sym c.set_rows.ensures))) (c.some_row.ensures now)
+    subst (λ came. Evaluates came c.some_row.result now) (sym (counted ∙ ap (λ a. some_row c.in_ok-count.count (machine_of new at (record run { area = a }))) (sym c.set_rows.ensures))) (c.some_row.ensures now)

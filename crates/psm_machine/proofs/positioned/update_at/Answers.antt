@@ -8,7 +8,7 @@ use Rattle.psm_tablecode.specs.Codes.{over}
 use Rattle.psm_dml.specs.Ends.{schema_of, EndsAtRow}
 use Rattle.psm_code.specs.Plans.{leave_row, plain, set_item, update_at}
 use Rattle.psm_unwind.specs.View.{machine_of}
-use Rattle.psm_machine.specs.Coming.{Comes}
+use Rattle.psm_machine.specs.ActResults.{Evaluates}
 use Rattle.psm_machine.proofs.Counting.{as_err}
 use Rattle.psm_machine.proofs.Positions.{may_change_at, moves, Moves}
 use Rattle.psm_machine.proofs.positioned.update_at.Goals as goal
@@ -36,7 +36,7 @@ returns-in_err-moved-clause-due g c = λ at.
     let seen = subst (λ (vs : List Datum). IfSome (slice_get old q.table) (λ e. EndsAtRow e (λ row. updated_row (over vs) plain (schema_of e.def t.checks) (map set_item sets) row e.rows) (keyed e key) old q.table new c.update_at.result)) c.as_slice.ensures.value ruled in
     let done = moves code r n sets x q t cursor key c.table.result.now.contents old new at run c.update_at.result d a b may.table s c.table.ensures c.in-Some-key_on.ensures.some c.in-Some-key_on.ensures.row seen in
     let stopped = subst (λ p. Moves (update_at code r n sets) n cursor old at run new p) (sym c.in_err-moved.ensures) done in
-    subst (λ p. Comes (update_at code r n sets (machine_of old at run)) p (machine_of new at run)) (as_err c.from_residual.result c.in_err-moved.field-0.0 c.from_residual.ensures.1) stopped
+    subst (λ p. Evaluates (update_at code r n sets (machine_of old at run)) p (machine_of new at run)) (as_err c.from_residual.result c.in_err-moved.field-0.0 c.from_residual.ensures.1) stopped
 
 pub returns-clause-due : goal.returns-clause-due
 returns-clause-due g c = λ at.

@@ -1,15 +1,15 @@
 use Rattle.std.proofs.Common.{◌≡◌, ◌-◌, subst, sym, ap, ◌∙◌, arith}
 use Rattle.psm_code.specs.Steps.{pops}
 use Rattle.psm_unwind.specs.View.{machine_of}
-use Rattle.psm_machine.specs.Coming.{Comes}
-use Rattle.psm_machine.proofs.Comings.{same_then}
+use Rattle.psm_machine.specs.ActResults.{Evaluates}
+use Rattle.psm_machine.proofs.ActSequences.{same_then}
 use Rattle.psm_machine.proofs.Filled.{pops_end, pops_next, pops_stop}
 use Rattle.psm_machine.proofs.putting.pops.Goals as goal
 
 pub returns-in_err-pop-clause-due : goal.returns-in_err-pop-clause-due
 returns-in_err-pop-clause-due c = λ tables at.
     let m = machine_of tables at c.loop-place.run in
-    subst (λ came. Comes came c.from_residual.result (machine_of tables at c.pop.new.run)) (sym (c.loop-place.invariant.1 tables at))
+    subst (λ came. Evaluates came c.from_residual.result (machine_of tables at c.pop.new.run)) (sym (c.loop-place.invariant.1 tables at))
     (pops_stop c.args.count c.loop-place.place c.loop-place.values.items m (machine_of tables at c.pop.new.run) c.in_err-pop.field-0.0 c.from_residual.result c.loop-place-test.true c.from_residual.ensures.1 (c.in_err-pop.ensures.due tables at))
 
 pub loop-place-preserved : goal.loop-place-preserved

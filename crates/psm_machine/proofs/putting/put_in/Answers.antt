@@ -4,7 +4,7 @@ use Rattle.psm_table.specs.Table.{Contents}
 use Rattle.psm_code.specs.Plans.{put_in}
 use Rattle.psm_unwind.specs.View.{machine_of}
 use Rattle.psm_machine.specs.Allowed.{HasTable}
-use Rattle.psm_machine.specs.Coming.{Comes}
+use Rattle.psm_machine.specs.ActResults.{Evaluates}
 use Rattle.psm_machine.proofs.Asking.{of_some}
 use Rattle.psm_machine.proofs.Counting.{as_err, nothing_more, put_counted, Counted}
 use Rattle.psm_machine.proofs.putting.put_in.Goals as goal
@@ -25,7 +25,7 @@ returns-in_err-count-clause-due g c = λ at.
     let here = sym c.table_at.ensures ∙ ap option_copied c.in-Some.is in
     let h = of_some (λ t. HasTable t old n) (slice_get c.args.code.now.tables n) t here c.requires.may in
     let counted = subst (λ p. Counted (put_in c.args.code.now n columns rows) nothing_more old at c.args.run.now new p) (sym c.in_err-count.ensures) (put_counted c.args.code.now n t here old at c.args.run.now new columns rows c.put_into.result h c.put_into.ensures.puts) in
-    subst (λ r. Comes (put_in c.args.code.now n columns rows (machine_of old at c.args.run.now)) r (machine_of new at c.args.run.now)) (as_err c.from_residual.result c.in_err-count.field-0.0 c.from_residual.ensures.1) counted
+    subst (λ r. Evaluates (put_in c.args.code.now n columns rows (machine_of old at c.args.run.now)) r (machine_of new at c.args.run.now)) (as_err c.from_residual.result c.in_err-count.field-0.0 c.from_residual.ensures.1) counted
 
 pub returns-clause-due : goal.returns-clause-due
 returns-clause-due g c = λ at.

@@ -3,8 +3,8 @@ use Rattle.psm_value.specs.declared.datum.Datum.{Datum}
 use Rattle.psm_code.specs.Plans.{in_rows, put_in}
 use Rattle.psm_code.specs.Steps.{pops}
 use Rattle.psm_unwind.specs.View.{machine_of}
-use Rattle.psm_machine.specs.Coming.{Comes}
-use Rattle.psm_machine.proofs.Comings.{stopped}
+use Rattle.psm_machine.specs.ActResults.{Evaluates}
+use Rattle.psm_machine.proofs.ActSequences.{stopped}
 use Rattle.psm_machine.proofs.putting.put_operands.Goals as goal
 
 pub returns-in_err-values-clause-due : goal.returns-in_err-values-clause-due
@@ -19,5 +19,5 @@ returns-clause-due g c = λ at.
     let old = g.S.Store.tables c.args.store.now in
     let new = g.S.Store.tables c.put_in.new.store in
     rw (c.in_ok-values.ensures.due old at)
-    (subst (λ (rows : List (List Datum)). Comes (put_in c.args.code.now c.args.table c.args.columns.now rows (machine_of old at c.take_values.new.run)) c.put_in.result (machine_of new at c.put_in.new.run))
+    (subst (λ (rows : List (List Datum)). Evaluates (put_in c.args.code.now c.args.table c.args.columns.now rows (machine_of old at c.take_values.new.run)) c.put_in.result (machine_of new at c.put_in.new.run))
     (c.items.ensures ∙ c.in_ok-new.ensures) (c.put_in.ensures.due at))

@@ -1,7 +1,7 @@
 use Rattle.std.proofs.Common.{◌<◌, ◌*◌, [], refl, subst}
 use Rattle.psm_code.specs.Steps.{pops}
 use Rattle.psm_unwind.specs.View.{machine_of}
-use Rattle.psm_machine.specs.Coming.{Comes}
+use Rattle.psm_machine.specs.ActResults.{Evaluates}
 use Rattle.psm_machine.proofs.Filled.{pops_lack}
 use Rattle.psm_machine.proofs.putting.take_values.Goals as goal
 
@@ -13,4 +13,4 @@ returns-then-count-len-clause-due c = λ tables at.
 
 pub returns-clause-due : goal.returns-clause-due
 returns-clause-due c = λ tables at.
-    subst (λ n. Comes (pops (n * c.args.width) [] (machine_of tables at c.args.run.now)) c.pops.result (machine_of tables at c.pops.new.run)) c.from.ensures (c.pops.ensures.due tables at)
+    subst (λ n. Evaluates (pops (n * c.args.width) [] (machine_of tables at c.args.run.now)) c.pops.result (machine_of tables at c.pops.new.run)) c.from.ensures (c.pops.ensures.due tables at)

@@ -1,9 +1,9 @@
 use Rattle.std.proofs.Common.{ap, sym, subst, ◌∙◌}
 use Rattle.psm_code.specs.Steps.{Came, put_value, put_values}
 use Rattle.psm_unwind.specs.View.{machine_of}
-use Rattle.psm_machine.specs.Coming.{Comes}
+use Rattle.psm_machine.specs.ActResults.{Evaluates}
 use Rattle.psm_machine.proofs.Asking.{nothing, put_last}
-use Rattle.psm_machine.proofs.Comings.{same_then, stopped}
+use Rattle.psm_machine.proofs.ActSequences.{same_then, stopped}
 use Rattle.psm_machine.proofs.queries.put_values.Goals as goal
 
 pub loop-value-preserved : goal.loop-value-preserved
@@ -19,7 +19,7 @@ pub returns-in_err-put-clause-due : goal.returns-in_err-put-clause-due
 returns-in_err-put-clause-due c = λ tables at.
     let m = machine_of tables at c.loop-value.run in
     let ds = c.pop.new.self.items in
-    subst (λ came. Comes came c.from_residual.result (machine_of tables at c.put.new.run))
+    subst (λ came. Evaluates came c.from_residual.result (machine_of tables at c.put.new.run))
     (sym (c.loop-value.invariant.1 tables at ∙ ap (λ ds. put_values ds m) c.in-Some.ensures.items ∙ put_last ds c.in-Some.value m))
     (stopped {A = Unit {0}} {B = Unit {0}} (put_value c.in-Some.value m) (λ u. put_values ds) (machine_of tables at c.put.new.run) c.in_err-put.field-0.0 c.from_residual.result c.from_residual.ensures.1 (c.in_err-put.ensures.due tables at))
 

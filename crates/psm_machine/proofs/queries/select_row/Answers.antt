@@ -2,8 +2,8 @@ use Rattle.std.proofs.Common.{Err, ap, sym, subst, ◌∙◌}
 use Rattle.std.specs.Option.{option_copied}
 use Rattle.psm_code.specs.Querying.{only_row, skipping}
 use Rattle.psm_unwind.specs.View.{machine_of}
-use Rattle.psm_machine.specs.Coming.{Comes}
-use Rattle.psm_machine.proofs.Comings.{stopped}
+use Rattle.psm_machine.specs.ActResults.{Evaluates}
+use Rattle.psm_machine.proofs.ActSequences.{stopped}
 use Rattle.psm_machine.proofs.queries.select_row.Goals as goal
 
 pub returns-in_err-row-clause-due : goal.returns-in_err-row-clause-due
@@ -11,7 +11,7 @@ returns-in_err-row-clause-due g c = λ at.
     let m = machine_of (g.S.Store.tables c.args.store.now) at c.args.run.now in
     rw (sym c.query_at.ensures ∙ ap option_copied c.in-Some.is, c.in_ok-answer.ensures at)
     (stopped _ _ _ c.in_err-row.field-0.0 c.from_residual-in_err-row.result c.from_residual-in_err-row.ensures.1
-    (subst (λ rows. Comes (only_row rows m) (Err c.in_err-row.field-0.0) m) c.into_rows.ensures (c.in_err-row.ensures m)))
+    (subst (λ rows. Evaluates (only_row rows m) (Err c.in_err-row.field-0.0) m) c.into_rows.ensures (c.in_err-row.ensures m)))
 
 pub returns-clause-due : goal.returns-clause-due
 returns-clause-due g c = λ at.

@@ -3,7 +3,7 @@ use Rattle.std.specs.Option.{option_copied}
 use Rattle.psm_value.specs.SqlType.{IsType}
 use Rattle.psm_code.specs.declared.code.RawRoutine.{RawRoutine}
 use Rattle.psm_unwind.specs.View.{machine_of}
-use Rattle.psm_machine.proofs.Comings.{one_of, stopped}
+use Rattle.psm_machine.proofs.ActSequences.{one_of, stopped}
 use Rattle.psm_machine.proofs.returning.returned.Goals as goal
 
 pub returns-in_err-value-clause-due : goal.returns-in_err-value-clause-due

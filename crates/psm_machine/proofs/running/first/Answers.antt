@@ -10,9 +10,9 @@ use Rattle.psm_code.specs.Parts.{slots_of}
 use Rattle.psm_code.specs.State.{Activation}
 use Rattle.psm_code.specs.Steps.{Came, Got, got}
 use Rattle.psm_unwind.specs.View.{activation_of}
-use Rattle.psm_machine.specs.Coming.{Comes}
+use Rattle.psm_machine.specs.ActResults.{Evaluates}
 use Rattle.psm_machine.proofs.Callings.{parameter_types}
-use Rattle.psm_machine.proofs.Comings.{one_of}
+use Rattle.psm_machine.proofs.ActSequences.{one_of}
 use Rattle.psm_machine.proofs.Starting.{shown_stopped, with_first, with_values}
 use Rattle.psm_machine.proofs.running.first.Goals as goal
 
@@ -27,10 +27,10 @@ returns-in_err-parameters-clause-due c = λ at m.
     let r = c.in-Some.routine.now in
     let args = c.args.arguments.items in
     let s = c.in_err-parameters.field-0.0 in
-    subst (λ (x : Came Activation). Comes x (result_map_both (activation_of at []) (λ x. x) c.from_residual.result) m) (sym (with_first c.args.code.now n args r m (sym c.routine_at.ensures ∙ ap option_copied c.in-Some.is)))
+    subst (λ (x : Came Activation). Evaluates x (result_map_both (activation_of at []) (λ x. x) c.from_residual.result) m) (sym (with_first c.args.code.now n args r m (sym c.routine_at.ensures ∙ ap option_copied c.in-Some.is)))
     (shown_stopped (activation_of at []) (entered r.parameters args m) (λ ps. got (activation n r ps)) m s c.from_residual.result c.from_residual.ensures.1
-    (subst (λ xs. Comes (entered r.parameters xs m) (Err s) m) (ap reverse c.reverse.ensures.items ∙ reverse-reverse args)
-    (subst (λ ps. Comes (entered ps (reverse c.reverse.new.self.items) m) (Err s) m) c.items.ensures (c.in_err-parameters.ensures.due m))))
+    (subst (λ xs. Evaluates (entered r.parameters xs m) (Err s) m) (ap reverse c.reverse.ensures.items ∙ reverse-reverse args)
+    (subst (λ ps. Evaluates (entered ps (reverse c.reverse.new.self.items) m) (Err s) m) c.items.ensures (c.in_err-parameters.ensures.due m))))
 
 pub returns-clause-due : goal.returns-clause-due
 returns-clause-due c = λ at m.

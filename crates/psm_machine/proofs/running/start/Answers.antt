@@ -1,14 +1,14 @@
 use Rattle.std.proofs.Common.{[], ◌-◌, Err, reverse, ap, sym, subst, ◌∙◌, arith}
 use Rattle.psm_cond.specs.Condition.{by_state}
 use Rattle.psm_code.specs.Calling.{before_start}
-use Rattle.psm_code.specs.Sits.{StaysRight}
-use Rattle.psm_code.specs.State.{Activation, Lacking, NoTurns, Over, Raised}
+use Rattle.psm_code.specs.MachineInvariant.{StaysWellFormed}
+use Rattle.psm_code.specs.State.{Activation, Stuck, NoTurns, Over, Raised}
 use Rattle.psm_code.specs.Steps.{Came, Got}
-use Rattle.psm_code.proofs.Sound.{starts}
+use Rattle.psm_code.proofs.NeverStuck.{starts}
 use Rattle.psm_unwind.specs.View.{activation_of, callers_of}
 use Rattle.psm_machine.specs.declared.stop.Stop.{Stop}
 use Rattle.psm_machine.specs.declared.stop.Stop.TheVariants as stop
-use Rattle.psm_machine.specs.Coming.{Comes}
+use Rattle.psm_machine.specs.ActResults.{Evaluates}
 use Rattle.psm_machine.specs.Running.{first_activation}
 use Rattle.psm_machine.proofs.Starting.{begins, begins_ending, begins_late, begins_raising}
 use Rattle.psm_machine.proofs.running.start.Goals as goal
@@ -27,8 +27,8 @@ returns-else-turns-eq0-clause-due c = λ tables at.
 pub returns-in_ok-condition-in-Err-Raises-clause-due : goal.returns-in_ok-condition-in-Err-Raises-clause-due
 returns-in_ok-condition-in-Err-Raises-clause-due c = λ tables.
     let m = before_start c.args.turns tables in
-    let due : Comes (first_activation c.args.code.now c.args.number c.args.arguments.items m) (Err (stop.Raises c.in-Err-Raises.condition)) m =
-    subst (λ (s : Stop). Comes (first_activation c.args.code.now c.args.number c.args.arguments.items m) (Err s) m) c.in-Err-Raises.field-0-is (c.in-Err-Raises.ensures.due (λ m. []) m) in
+    let due : Evaluates (first_activation c.args.code.now c.args.number c.args.arguments.items m) (Err (stop.Raises c.in-Err-Raises.condition)) m =
+    subst (λ (s : Stop). Evaluates (first_activation c.args.code.now c.args.number c.args.arguments.items m) (Err s) m) c.in-Err-Raises.field-0-is (c.in-Err-Raises.ensures.due (λ m. []) m) in
     begins_raising c.args.code.now c.args.number c.args.arguments.items tables c.args.turns c.in-Err-Raises.condition (ap (λ (x : Came Activation). x.given) due)
     ∙ ap (λ x. Over (Raised (by_state x)) m) (sym c.in-Err-Raises.condition-is)
     ∙ ap (λ x. Over (Raised (by_state x)) m) (sym c.into_inner.ensures)
@@ -37,18 +37,18 @@ returns-in_ok-condition-in-Err-Raises-clause-due c = λ tables.
 pub returns-in-Err-NoTurns-clause-due : goal.returns-in-Err-NoTurns-clause-due
 returns-in-Err-NoTurns-clause-due c = λ tables.
     let m = before_start c.args.turns tables in
-    let due : Comes (first_activation c.args.code.now c.args.number c.args.arguments.items m) (Err stop.NoTurns) m =
-    subst (λ (s : Stop). Comes (first_activation c.args.code.now c.args.number c.args.arguments.items m) (Err s) m) c.in-Err-NoTurns.field-0-is (c.in-Err-NoTurns.ensures.due (λ m. []) m) in
+    let due : Evaluates (first_activation c.args.code.now c.args.number c.args.arguments.items m) (Err stop.NoTurns) m =
+    subst (λ (s : Stop). Evaluates (first_activation c.args.code.now c.args.number c.args.arguments.items m) (Err s) m) c.in-Err-NoTurns.field-0-is (c.in-Err-NoTurns.ensures.due (λ m. []) m) in
     begins_ending c.args.code.now c.args.number c.args.arguments.items tables c.args.turns NoTurns due.0
 
-pub returns-in-Err-Lacking-clause-due : goal.returns-in-Err-Lacking-clause-due
-returns-in-Err-Lacking-clause-due c = λ tables.
+pub returns-in-Err-Stuck-clause-due : goal.returns-in-Err-Stuck-clause-due
+returns-in-Err-Stuck-clause-due c = λ tables.
     let m = before_start c.args.turns tables in
-    let due : Comes (first_activation c.args.code.now c.args.number c.args.arguments.items m) (Err stop.Lacking) m =
-    subst (λ (s : Stop). Comes (first_activation c.args.code.now c.args.number c.args.arguments.items m) (Err s) m) c.in-Err-Lacking.field-0-is (c.in-Err-Lacking.ensures.due (λ m. []) m) in
-    begins_ending c.args.code.now c.args.number c.args.arguments.items tables c.args.turns Lacking due.0
+    let due : Evaluates (first_activation c.args.code.now c.args.number c.args.arguments.items m) (Err stop.Stuck) m =
+    subst (λ (s : Stop). Evaluates (first_activation c.args.code.now c.args.number c.args.arguments.items m) (Err s) m) c.in-Err-Stuck.field-0-is (c.in-Err-Stuck.ensures.due (λ m. []) m) in
+    begins_ending c.args.code.now c.args.number c.args.arguments.items tables c.args.turns Stuck due.0
 
-pub returns-else-turns-eq0-clause-sits : goal.returns-else-turns-eq0-clause-sits
-returns-else-turns-eq0-clause-sits c = λ right takes tables at kept.
-    subst (StaysRight c.args.code.now) (returns-else-turns-eq0-clause-due c tables at)
-    (starts c.args.code.now right c.args.number takes.routine takes.there c.args.arguments.items tables c.args.turns takes.many kept)
+pub returns-else-turns-eq0-clause-machine_invariant : goal.returns-else-turns-eq0-clause-machine_invariant
+returns-else-turns-eq0-clause-machine_invariant c = λ well_formed_code takes tables at kept.
+    subst (StaysWellFormed c.args.code.now) (returns-else-turns-eq0-clause-due c tables at)
+    (starts c.args.code.now well_formed_code c.args.number takes.routine takes.there c.args.arguments.items tables c.args.turns takes.many kept)

@@ -1,7 +1,7 @@
 use Rattle.std.proofs.Common.{Some, reverse, ap, sym, ◌∙◌}
 use Rattle.std.specs.Option.{option_copied}
 use Rattle.psm_unwind.specs.View.{machine_of}
-use Rattle.psm_machine.specs.Coming.{activating_of}
+use Rattle.psm_machine.specs.ActResults.{activating_of}
 use Rattle.psm_machine.proofs.Acting.{activating_found, activating_none}
 use Rattle.psm_machine.proofs.signalling.handling.Goals as goal
 

@@ -3,7 +3,7 @@ use Rattle.psm_unwind.specs.View.{machine_of}
 use Rattle.psm_code.specs.Signalling.{resignal}
 use Rattle.psm_code.specs.Steps.{raises}
 use Rattle.psm_machine.proofs.Acting.{raising_comes}
-use Rattle.psm_machine.proofs.Comings.{stopped}
+use Rattle.psm_machine.proofs.ActSequences.{stopped}
 use Rattle.psm_machine.proofs.signalling.resignal.Goals as goal
 
 pub returns-in_err-condition : goal.returns-in_err-condition

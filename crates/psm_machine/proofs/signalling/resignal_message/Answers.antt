@@ -1,5 +1,5 @@
 use Rattle.psm_unwind.specs.View.{machine_of}
-use Rattle.psm_machine.proofs.Comings.{stopped}
+use Rattle.psm_machine.proofs.ActSequences.{stopped}
 use Rattle.psm_machine.proofs.signalling.resignal_message.Goals as goal
 
 pub returns-in_err-entry-clause-due : goal.returns-in_err-entry-clause-due

@@ -1,5 +1,5 @@
 use Rattle.psm_unwind.specs.View.{machine_of}
-use Rattle.psm_machine.proofs.Comings.{stopped}
+use Rattle.psm_machine.proofs.ActSequences.{stopped}
 use Rattle.psm_machine.proofs.signalling.signal.Goals as goal
 
 pub returns-in_err-entry : goal.returns-in_err-entry

@@ -3,15 +3,15 @@ use Rattle.psm_value.specs.SqlType.{IsType}
 use Rattle.psm_code.specs.declared.code.RawRoutine.{RawRoutine}
 use Rattle.psm_code.specs.declared.instruction.Instruction.{Instruction}
 use Rattle.psm_code.specs.Parts.{slots_of}
-use Rattle.psm_code.specs.Rows.{Way, done}
+use Rattle.psm_code.specs.Run.{Successor, done}
 use Rattle.psm_code.specs.Steps.{Came}
 use Rattle.psm_unwind.specs.View.{machine_of}
-use Rattle.psm_machine.specs.Going.{Turns}
+use Rattle.psm_machine.specs.Successors.{StepsTo}
 use Rattle.psm_machine.specs.Stepping.{data_act}
-use Rattle.psm_machine.proofs.Comings.{one_of}
-use Rattle.psm_machine.proofs.OneRow.{data_done}
-use Rattle.psm_machine.proofs.RightCode.{results_right, slots_right}
-use Rattle.psm_machine.proofs.Rights.{may_move}
+use Rattle.psm_machine.proofs.ActSequences.{one_of}
+use Rattle.psm_machine.proofs.OneStep.{data_done}
+use Rattle.psm_machine.proofs.WellFormedCode.{results_well_formed, slots_well_formed}
+use Rattle.psm_machine.proofs.CodeGuarantees.{may_move}
 use Rattle.psm_machine.proofs.Standing.{still_same, still_then}
 use Rattle.psm_machine.proofs.stepping.obey.Goals as goal
 
@@ -19,7 +19,7 @@ pub returns-in-Operation-clause-due : goal.returns-in-Operation-clause-due
 returns-in-Operation-clause-due g c =
     let tables = g.S.Store.tables c.args.store.now in
     let at = g.S.Store.at c.args.store.now in
-    subst (λ (i : Instruction). Turns (done c.args.code.now c.args.routine.now i (machine_of tables at c.args.run.now)) c.operate.result (machine_of tables at c.operate.new.run)) (sym c.in-Operation.is) (c.operate.ensures.due tables at)
+    subst (λ (i : Instruction). StepsTo (done c.args.code.now c.args.routine.now i (machine_of tables at c.args.run.now)) c.operate.result (machine_of tables at c.operate.new.run)) (sym c.in-Operation.is) (c.operate.ensures.due tables at)
 
 pub take_next-requires : goal.take_next-requires
 take_next-requires g c = may_move c.args.code.now c.args.routine.now (g.S.Store.tables c.args.store.now) c.args.run.now.running.variables.items c.args.run.now.running.cursors.items c.requires.runs _
@@ -27,9 +27,9 @@ take_next-requires g c = may_move c.args.code.now c.args.routine.now (g.S.Store.
 pub perform-requires : goal.perform-requires
 perform-requires g c = record {
   kind = sym c.is_of_data.ensures ∙ c.if-is_of_data.false;
-  own = one_of (λ (r : RawRoutine). All IsType (slots_of r)) c.args.code.now.routines c.requires.runs.routine c.args.routine.now (slots_right c.args.code.now c.requires.runs.right) c.requires.runs.there;
-  slots = slots_right c.args.code.now c.requires.runs.right;
-  results = results_right c.args.code.now c.requires.runs.right;
+  own = one_of (λ (r : RawRoutine). All IsType (slots_of r)) c.args.code.now.routines c.requires.runs.routine c.args.routine.now (slots_well_formed c.args.code.now c.requires.runs.well_formed_code) c.requires.runs.there;
+  slots = slots_well_formed c.args.code.now c.requires.runs.well_formed_code;
+  results = results_well_formed c.args.code.now c.requires.runs.well_formed_code;
   other = c.in_default.not-Operation;
   stand = c.requires.stand;
 }
@@ -46,8 +46,8 @@ returns-then-is_of_data g c =
     let m = machine_of (g.S.Store.tables c.args.store.now) at0 c.args.run.now in
     record {
       due =
-          subst (λ (x : Came Way). Turns x c.behind.result (machine_of tables1 at1 c.behind.new.run))
+          subst (λ (x : Came Successor). StepsTo x c.following.result (machine_of tables1 at1 c.following.new.run))
           (sym (data_done c.args.code.now c.args.routine.now c.args.instruction.now m (sym c.is_of_data.ensures ∙ c.if-is_of_data.true) c.in_default.not-Next))
-          (c.behind.ensures.due tables1 at1 (data_act c.args.code.now c.args.routine.now c.args.instruction.now m) c.on_tables-done.ensures.due);
-      still = still_then h0 at0 count0 c.args.run.now h1 at1 count1 c.on_tables-done.new.run h1 at1 count1 c.behind.new.run c.on_tables-done.ensures.still (still_same h1 at1 count1 c.on_tables-done.new.run c.behind.new.run c.behind.ensures.same);
+          (c.following.ensures.due tables1 at1 (data_act c.args.code.now c.args.routine.now c.args.instruction.now m) c.on_tables-done.ensures.due);
+      still = still_then h0 at0 count0 c.args.run.now h1 at1 count1 c.on_tables-done.new.run h1 at1 count1 c.following.new.run c.on_tables-done.ensures.still (still_same h1 at1 count1 c.on_tables-done.new.run c.following.new.run c.following.ensures.same);
     }

@@ -1,7 +1,7 @@
 use Rattle.std.proofs.Common.{List, sym, subst}
 use Rattle.psm_store.specs.declared.store.Mark.{Mark}
 use Rattle.psm_unwind.specs.Marks.{Around}
-use Rattle.psm_machine.proofs.Rights.{may_ask, may_do, may_move, may_open}
+use Rattle.psm_machine.proofs.CodeGuarantees.{may_ask, may_do, may_move, may_open}
 use Rattle.psm_machine.proofs.Standing.{marks_same, still_same}
 use Rattle.psm_machine.proofs.stepping.on_tables.Goals as goal
 
@@ -35,11 +35,11 @@ returns-in-Scalar-clause-due g c = rw c.in-Scalar.is (c.scalar.ensures.due (g.S.
 pub returns-in-Scalar-clause-still : goal.returns-in-Scalar-clause-still
 returns-in-Scalar-clause-still g c = still_same (g.S.Store.holds c.args.store.now) (g.S.Store.at c.args.store.now) (g.S.Store.marks c.args.store.now) c.args.run.now c.scalar.new.run c.scalar.ensures.same
 
-pub returns-in-SelectRow-clause-due : goal.returns-in-SelectRow-clause-due
-returns-in-SelectRow-clause-due g c = rw c.in-SelectRow.is (c.select_row.ensures.due (g.S.Store.at c.args.store.now))
+pub returns-in-Row-clause-due : goal.returns-in-Row-clause-due
+returns-in-Row-clause-due g c = rw c.in-Row.is (c.select_row.ensures.due (g.S.Store.at c.args.store.now))
 
-pub returns-in-SelectRow-clause-still : goal.returns-in-SelectRow-clause-still
-returns-in-SelectRow-clause-still g c = still_same (g.S.Store.holds c.args.store.now) (g.S.Store.at c.args.store.now) (g.S.Store.marks c.args.store.now) c.args.run.now c.select_row.new.run c.select_row.ensures.same
+pub returns-in-Row-clause-still : goal.returns-in-Row-clause-still
+returns-in-Row-clause-still g c = still_same (g.S.Store.holds c.args.store.now) (g.S.Store.at c.args.store.now) (g.S.Store.marks c.args.store.now) c.args.run.now c.select_row.new.run c.select_row.ensures.same
 
 pub returns-in-Open-clause-due : goal.returns-in-Open-clause-due
 returns-in-Open-clause-due g c = rw c.in-Open.is (c.open.ensures.due (g.S.Store.at c.args.store.now))
@@ -59,11 +59,11 @@ returns-in-Close-clause-due g c = rw c.in-Close.is (c.close.ensures.due (g.S.Sto
 pub returns-in-Close-clause-still : goal.returns-in-Close-clause-still
 returns-in-Close-clause-still g c = still_same (g.S.Store.holds c.args.store.now) (g.S.Store.at c.args.store.now) (g.S.Store.marks c.args.store.now) c.args.run.now c.close.new.run c.close.ensures.same
 
-pub returns-in-Change-clause-due : goal.returns-in-Change-clause-due
-returns-in-Change-clause-due g c = rw c.in-Change.is c.change.ensures.due
+pub returns-in-Data-clause-due : goal.returns-in-Data-clause-due
+returns-in-Data-clause-due g c = rw c.in-Data.is c.change.ensures.due
 
-pub returns-in-Change-clause-still : goal.returns-in-Change-clause-still
-returns-in-Change-clause-still g c = record {
+pub returns-in-Data-clause-still : goal.returns-in-Data-clause-still
+returns-in-Data-clause-still g c = record {
   stand = λ s. c.change.ensures.stand;
   outer = λ m h a. (c.change.ensures.keeps m h tt, subst (λ (x : List Mark). Around x m) (sym (marks_same c.args.run.now c.change.new.run c.change.ensures.same).marks) a);
 }

@@ -1,10 +1,10 @@
 use Rattle.std.proofs.Common.{sym, ap, ◌∙◌}
-use Rattle.psm_code.specs.Rows.{Way, next_or_end}
+use Rattle.psm_code.specs.Run.{Successor, next_or_end}
 use Rattle.psm_code.specs.State.{Machine}
 use Rattle.psm_code.specs.Steps.{Got}
 use Rattle.psm_unwind.specs.View.{machine_of}
 use Rattle.psm_machine.proofs.Doing.{goes_to}
-use Rattle.psm_machine.proofs.OneRow.{stopped_act}
+use Rattle.psm_machine.proofs.OneStep.{stopped_act}
 use Rattle.psm_machine.proofs.stepping.take_next.Goals as goal
 
 pub returns-in_err-there-clause-due : goal.returns-in_err-there-clause-due
@@ -19,4 +19,4 @@ returns-clause-due g c =
     let at = g.S.Store.at c.args.store.now in
     let m : Machine = machine_of tables at c.next.new.run in
     goes_to (next_or_end c.args.routine.now c.args.cursor c.args.end (machine_of tables at c.args.run.now)) c.next_of.result m (machine_of tables at c.go.new.run) c.go.result
-    (c.in_ok-there.ensures.due c.args.end at ∙ ap (λ (w : Way). record { given = Got w; machine = m }) (sym c.next_of.ensures)) (c.go.ensures.due tables at)
+    (c.in_ok-there.ensures.due c.args.end at ∙ ap (λ (w : Successor). record { given = Got w; machine = m }) (sym c.next_of.ensures)) (c.go.ensures.due tables at)

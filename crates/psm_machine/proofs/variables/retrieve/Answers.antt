@@ -1,10 +1,10 @@
 use Rattle.std.proofs.Common.{ap, sym, ◌∙◌}
 use Rattle.psm_value.specs.SqlType.{IsType}
 use Rattle.psm_code.specs.Parts.{slots_of}
-use Rattle.psm_code.specs.Rows.{losing}
+use Rattle.psm_code.specs.Run.{losing}
 use Rattle.psm_code.specs.Steps.{Came}
 use Rattle.psm_unwind.specs.View.{machine_of}
-use Rattle.psm_machine.proofs.Comings.{one_of, stopped}
+use Rattle.psm_machine.proofs.ActSequences.{one_of, stopped}
 use Rattle.psm_machine.proofs.variables.retrieve.Goals as goal
 
 pub returns-in_err-value-clause-due : goal.returns-in_err-value-clause-due

@@ -3,7 +3,7 @@ use Rattle.psm_query.specs.Tallies.{added}
 use Rattle.psm_query.proofs.Added.{HaveRoom}
 use Rattle.psm_query.proofs.gathering.add_all.Given as goal
 
--- with the values that are left, the tallies come to what all values make of the first
+-- with the values that are left, the tallies evaluate to what all values make of the first
 abbrev pub invariant-loop-value : goal.invariant-loop-value
 invariant-loop-value l = record {
   so_far : added l.tallies.items l.values.items ≡ added l.initial.tallies.items l.initial.values.items;

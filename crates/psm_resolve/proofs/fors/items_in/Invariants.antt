@@ -9,5 +9,5 @@ use Rattle.psm_resolve.specs.Blocks.{items_in}
 use Rattle.psm_resolve.proofs.fors.items_in.Given as goal
 
 abbrev pub invariant-loop-pick : goal.invariant-loop-pick
-invariant-loop-pick l = map item_seen l.items.items ++ items_in (seen_at l.sight) (columns_known (option_copied l.columns)) (drop l.pick-index l.pick-items)
-    ≡ items_in (seen_at l.sight) (columns_known (option_copied l.columns)) (several (out-Select l.select).picks)
+invariant-loop-pick l = map item_seen l.items.items ++ items_in (seen_at l.resolver_scope) (columns_known (option_copied l.columns)) (drop l.pick-index l.pick-items)
+    ≡ items_in (seen_at l.resolver_scope) (columns_known (option_copied l.columns)) (several (out-Select l.select).picks)

@@ -4,4 +4,4 @@ use Rattle.psm_resolve.specs.Blocks.{value_of}
 use Rattle.psm_resolve.proofs.handlers.values_of.Given as goal
 
 abbrev pub invariant-loop-value : goal.invariant-loop-value
-invariant-loop-value l = l.made.items ++ map (value_of l.frames) (drop l.value-index l.values.rest) ≡ map (value_of l.frames) (several l.values)
+invariant-loop-value l = l.resolved.items ++ map (value_of l.scopes) (drop l.value-index l.values.rest) ≡ map (value_of l.scopes) (several l.values)

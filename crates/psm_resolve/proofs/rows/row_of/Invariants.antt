@@ -5,4 +5,4 @@ use Rattle.psm_resolve.specs.Statements.{row_of}
 use Rattle.psm_resolve.proofs.rows.row_of.Given as goal
 
 abbrev pub invariant-loop-e : goal.invariant-loop-e
-invariant-loop-e l = l.made.items ++ map (expr_at (seen_at l.sight)) (drop l.e-index l.row.values.rest) ≡ row_of (seen_at l.sight) l.row
+invariant-loop-e l = l.resolved.items ++ map (expr_at (seen_at l.resolver_scope)) (drop l.e-index l.row.values.rest) ≡ row_of (seen_at l.resolver_scope) l.row

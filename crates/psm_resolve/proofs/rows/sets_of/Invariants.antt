@@ -7,4 +7,4 @@ use Rattle.psm_resolve.specs.Statements.{set_of}
 use Rattle.psm_resolve.proofs.rows.sets_of.Given as goal
 
 abbrev pub invariant-loop-assignment : goal.invariant-loop-assignment
-invariant-loop-assignment l = l.made.items ++ map (set_of (seen_at l.sight) (columns_known (option_copied l.columns))) (drop l.assignment-index l.assignments.rest) ≡ map (set_of (seen_at l.sight) (columns_known (option_copied l.columns))) (several l.assignments)
+invariant-loop-assignment l = l.resolved.items ++ map (set_of (seen_at l.resolver_scope) (columns_known (option_copied l.columns))) (drop l.assignment-index l.assignments.rest) ≡ map (set_of (seen_at l.resolver_scope) (columns_known (option_copied l.columns))) (several l.assignments)

@@ -8,4 +8,4 @@ abbrev pub invariant-loop-element : goal.invariant-loop-element
 invariant-loop-element l =
     (l.parts.columns.items ++ defined_from l.key l.place (drop l.element-index l.element-items) ≡ defined_from l.key 0 (table_elements l.table))
     × (l.parts.unique.items ++ uniques_from l.columns l.place (drop l.element-index l.element-items) ≡ uniques_from l.columns 0 (table_elements l.table))
-    × (l.parts.checks.items ++ checks_of (seen_at l.sight) (drop l.element-index l.element-items) ≡ checks_of (seen_at l.sight) (table_elements l.table))
+    × (l.parts.checks.items ++ checks_of (seen_at l.resolver_scope) (drop l.element-index l.element-items) ≡ checks_of (seen_at l.resolver_scope) (table_elements l.table))

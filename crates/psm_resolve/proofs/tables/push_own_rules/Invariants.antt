@@ -6,4 +6,4 @@ use Rattle.psm_resolve.proofs.tables.push_own_rules.Given as goal
 abbrev pub invariant-loop-rule : goal.invariant-loop-rule
 invariant-loop-rule l = (l.parts.columns.items ≡ l.fn.parts.columns.items)
     × (l.parts.unique.items ++ own_uniques l.place (drop l.rule-index l.rules) ≡ l.fn.parts.unique.items ++ own_uniques l.place l.rules)
-    × (l.parts.checks.items ++ own_checks (seen_at l.sight) (drop l.rule-index l.rules) ≡ l.fn.parts.checks.items ++ own_checks (seen_at l.sight) l.rules)
+    × (l.parts.checks.items ++ own_checks (seen_at l.resolver_scope) (drop l.rule-index l.rules) ≡ l.fn.parts.checks.items ++ own_checks (seen_at l.resolver_scope) l.rules)

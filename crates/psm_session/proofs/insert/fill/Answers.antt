@@ -1,7 +1,7 @@
 use Rattle.std.proofs.Common.{true}
 use Rattle.psm_session.specs.Steps.{standing}
 use Rattle.psm_session.specs.declared.command.ScriptCommand.TheVariants as commands
-use Rattle.psm_session.proofs.Coming.{does}
+use Rattle.psm_session.proofs.CommandResults.{does}
 use Rattle.psm_session.proofs.insert.fill.Goals as goal
 
 pub returns-in-Ok-clause-does : goal.returns-in-Ok-clause-does

@@ -1,6 +1,6 @@
 use Rattle.psm_session.specs.Put.{sunk_of}
 use Rattle.psm_session.specs.declared.command.ScriptCommand.TheVariants as commands
-use Rattle.psm_session.proofs.Coming.{closed_at}
+use Rattle.psm_session.proofs.CommandResults.{closed_at}
 use Rattle.psm_session.proofs.insert.insert.Goals as goal
 
 pub returns-clause-comes : goal.returns-clause-comes

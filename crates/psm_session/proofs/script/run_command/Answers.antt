@@ -5,15 +5,15 @@ use Rattle.psm_session.specs.Put.{sunk_of}
 use Rattle.psm_session.specs.Steps.{Comes, standing}
 use Rattle.psm_session.specs.declared.command.ScriptCommand.{ScriptCommand}
 use Rattle.psm_session.specs.declared.command.ScriptCommand.TheVariants as commands
-use Rattle.psm_session.proofs.Coming.{comes_as}
-use Rattle.psm_session.proofs.Queries.{query_suits, query_there}
+use Rattle.psm_session.proofs.CommandResults.{comes_as}
+use Rattle.psm_session.proofs.Queries.{query_type_checks, query_there}
 use Rattle.psm_session.proofs.script.run_command.Goals as goal
 
 pub select-requires-clause-exists : goal.select-requires-clause-exists
 select-requires-clause-exists g c = query_there c.args.code.now (g.S.Store.tables c.args.store.now) c.in-Select.query c.requires.kept (subst (FitsCommand c.args.code.now) c.in-Select.is c.requires.fits)
 
-pub select-requires-clause-suits : goal.select-requires-clause-suits
-select-requires-clause-suits g c = query_suits c.args.code.now (g.S.Store.tables c.args.store.now) c.in-Select.query c.requires.kept (subst (FitsCommand c.args.code.now) c.in-Select.is c.requires.fits)
+pub select-requires-clause-type_checks : goal.select-requires-clause-type_checks
+select-requires-clause-type_checks g c = query_type_checks c.args.code.now (g.S.Store.tables c.args.store.now) c.in-Select.query c.requires.kept (subst (FitsCommand c.args.code.now) c.in-Select.is c.requires.fits)
 
 pub returns-in-Call-clause-comes : goal.returns-in-Call-clause-comes
 returns-in-Call-clause-comes g c =

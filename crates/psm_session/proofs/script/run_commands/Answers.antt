@@ -1,6 +1,6 @@
 use Rattle.std.proofs.Common.{◌+◌, ◌<◌, ℕ, List, ap, sym, subst, ◌∙◌, arith}
 use Rattle.psm_table.specs.Table.{Contents}
-use Rattle.psm_code.specs.Sits.{AreKept}
+use Rattle.psm_code.specs.MachineInvariant.{AreKept}
 use Rattle.psm_unwind.specs.Marks.{most_open}
 use Rattle.psm_session.specs.Ends.{beginning}
 use Rattle.psm_session.specs.Steps.{standing}

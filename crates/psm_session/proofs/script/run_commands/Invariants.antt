@@ -1,5 +1,5 @@
 use Rattle.psm_store.specs.Marks.{IsOutside, Keeps}
-use Rattle.psm_code.specs.Sits.{AreKept}
+use Rattle.psm_code.specs.MachineInvariant.{AreKept}
 use Rattle.psm_session.specs.Ends.{beginning}
 use Rattle.psm_session.specs.Steps.{StaysMarked, standing}
 use Rattle.psm_session.proofs.Puts.{sunk}

@@ -1,4 +1,4 @@
-use Rattle.psm_session.proofs.Coming.{select_comes}
+use Rattle.psm_session.proofs.CommandResults.{select_comes}
 use Rattle.psm_session.proofs.select.select.Goals as goal
 
 pub returns-in-Ok : goal.returns-in-Ok

@@ -1,5 +1,5 @@
 use Rattle.std.proofs.Common.{◌∙◌}
-use Rattle.psm_session.proofs.Coming.{commit_comes}
+use Rattle.psm_session.proofs.CommandResults.{commit_comes}
 use Rattle.psm_session.proofs.transaction.commit.Goals as goal
 
 pub returns-clause-comes : goal.returns-clause-comes

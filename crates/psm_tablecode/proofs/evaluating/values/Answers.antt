@@ -1,5 +1,5 @@
 use Rattle.std.proofs.Common.{sym, subst}
-use Rattle.psm_tablecode.specs.Suits.{Runs}
+use Rattle.psm_tablecode.specs.TypeChecks.{Runs}
 use Rattle.psm_tablecode.proofs.evaluating.values.Goals as goal
 
 pub value-requires : goal.value-requires

@@ -8,7 +8,7 @@ use Rattle.psm_table.specs.Evaluator.{collected}
 use Rattle.psm_table.specs.Queries.{operand_of, operands_of}
 use Rattle.psm_tablecode.specs.Codes.{over, set_of}
 use Rattle.psm_tablecode.specs.Rows.{values_for}
-use Rattle.psm_tablecode.specs.Suits.{Runs, RunItems}
+use Rattle.psm_tablecode.specs.TypeChecks.{Runs, RunItems}
 use Rattle.psm_tablecode.proofs.Collecting.{collected-map}
 use Rattle.psm_tablecode.proofs.Results.{gives_by}
 use Rattle.psm_tablecode.proofs.evaluating.values_of_items.Goals as goal

@@ -1,7 +1,7 @@
 use Rattle.std.proofs.Common.{◌≡◌, [], ◌∷◌, Ok, map, ap, sym, ◌∙◌}
 use Rattle.psm_code.specs.TableRules.{key_fault, unique_fault}
 use Rattle.psm_verify.specs.Checked.{checked}
-use Rattle.psm_verify.proofs.Going.{go}
+use Rattle.psm_verify.proofs.LinesInOrder.{go}
 use Rattle.psm_verify.proofs.tables.keys.Goals as goal
 
 pub returns : goal.returns

@@ -6,7 +6,7 @@ use Rattle.psm_code.specs.Instructions.{column_letters}
 use Rattle.psm_code.specs.TableRules.{column_fault, expr_faults, key_fault, name_fault, unique_fault}
 use Rattle.psm_code.specs.Rules.{each_after}
 use Rattle.psm_verify.specs.Checked.{Finds, checked}
-use Rattle.psm_verify.proofs.Going.{go, going_on, stop}
+use Rattle.psm_verify.proofs.LinesInOrder.{go, going_on, stop}
 use Rattle.psm_verify.proofs.tables.table_lines.Goals as goal
 
 pub returns-in_err-line-2 : goal.returns-in_err-line-2

@@ -2,7 +2,7 @@ use Rattle.std.proofs.Common.{[], ◌∷◌, None, rules}
 use Rattle.psm_code.specs.Rules.{each_after}
 use Rattle.psm_code.specs.RoutineRules.{routine_faults}
 use Rattle.psm_code.specs.TableRules.{table_faults}
-use Rattle.psm_verify.proofs.Going.{go, stop}
+use Rattle.psm_verify.proofs.LinesInOrder.{go, stop}
 use Rattle.psm_verify.proofs.verify.code_lines.Goals as goal
 
 pub returns-in_err-line : goal.returns-in_err-line

@@ -1,5 +1,5 @@
 use Rattle.std.proofs.Common.{◌≡◌, take, map}
-use Rattle.psm_verify.specs.Scene.{letters_with}
+use Rattle.psm_verify.specs.VerifyContext.{letters_with}
 use Rattle.psm_verify.proofs.verify.letters_of_queries.Given as goal
 
 abbrev pub invariant-loop-query : goal.invariant-loop-query

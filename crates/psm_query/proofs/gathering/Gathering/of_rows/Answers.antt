@@ -8,14 +8,14 @@ use Rattle.psm_table.specs.Evaluator.{mapped, test_of}
 use Rattle.psm_table.specs.Queries.{walked}
 use Rattle.psm_tablecode.specs.Asked.{rows_of, walk_for}
 use Rattle.psm_tablecode.specs.Codes.{over}
-use Rattle.psm_tablecode.specs.Coming.{rows_coming}
+use Rattle.psm_tablecode.specs.RemainingRows.{rows_coming}
 use Rattle.psm_query.specs.Gathered.{Gathered, nothing, with_rows, AreUpTo}
 use Rattle.psm_tablecode.specs.Rows.{values_for}
-use Rattle.psm_tablecode.proofs.Comings.{coming_here, coming_none, coming_rest, get_all}
+use Rattle.psm_tablecode.proofs.RemainingRowsLaws.{coming_here, coming_none, coming_rest, get_all}
 use Rattle.psm_tablecode.proofs.Results.{gives_by}
 use Rattle.psm_tablecode.proofs.KeyWalks.{rows_few, walked_by}
-use Rattle.psm_tablecode.proofs.Fitting.{suits_row}
-use Rattle.psm_query.proofs.Goes.{goes_end, goes_fault, goes_next, up_to_nothing, up_to_taken}
+use Rattle.psm_tablecode.proofs.Fitting.{type_checks_row}
+use Rattle.psm_query.proofs.WalkLaws.{goes_end, goes_fault, goes_next, up_to_nothing, up_to_taken}
 use Rattle.psm_query.proofs.gathering.Gathering.of_rows.Goals as goal
 use Rattle.psm_query.proofs.gathering.Gathering.of_rows.Goals.{else-loop-at-test, then-loop-at-test+in_default}
 
@@ -30,7 +30,7 @@ loop-at-init c =
 
 pub taken-requires : goal.taken-requires
 taken-requires c =
-    suits_row c.args.query.now c.args.vars.now c.args.table.now.contents.def c.in-Some.row.now c.requires
+    type_checks_row c.args.query.now c.args.vars.now c.args.table.now.contents.def c.in-Some.row.now c.requires
     (get_all (IsRow c.args.table.now.contents.def) (rows_of c.args.table.now.contents c.in_ok-walk.walk) c.loop-at.at c.in-Some.row.now c.of-coming.ensures.fit
     (coming_here (rows_of c.args.table.now.contents c.in_ok-walk.walk) c.loop-at.at c.in-Some.row.now (rows_coming c.next.new.self) (c.loop-at.invariant.left ∙ c.in-Some.ensures)))
 

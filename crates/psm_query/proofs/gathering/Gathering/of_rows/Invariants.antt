@@ -2,10 +2,10 @@ use Rattle.std.proofs.Common.{◌≡◌, drop}
 use Rattle.psm_table.specs.Evaluator.{test_of}
 use Rattle.psm_tablecode.specs.Asked.{rows_of}
 use Rattle.psm_tablecode.specs.Codes.{over}
-use Rattle.psm_tablecode.specs.Coming.{rows_coming}
+use Rattle.psm_tablecode.specs.RemainingRows.{rows_coming}
 use Rattle.psm_query.specs.Gathered.{nothing, AreUpTo}
 use Rattle.psm_tablecode.specs.Rows.{values_for}
-use Rattle.psm_query.proofs.Goes.{Goes}
+use Rattle.psm_query.proofs.WalkLaws.{Goes}
 use Rattle.psm_query.proofs.gathering.Gathering.of_rows.Given as goal
 
 abbrev pub invariant-loop-at : goal.invariant-loop-at

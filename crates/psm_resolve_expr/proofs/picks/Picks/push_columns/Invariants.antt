@@ -1,6 +1,6 @@
 use Rattle.std.proofs.Common.{◌≡◌, drop}
 use Rattle.psm_resolve_expr.specs.Exprs.{columns_from}
-use Rattle.psm_resolve_expr.specs.Made.{Values}
+use Rattle.psm_resolve_expr.specs.Resolved.{Values}
 use Rattle.psm_resolve_expr.specs.Parts.{with_pick}
 use Rattle.psm_resolve_expr.proofs.picks.Picks.push_columns.Given as goal
 

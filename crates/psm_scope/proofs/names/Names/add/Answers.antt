@@ -2,7 +2,7 @@ use Rattle.std.proofs.Common.{refl, ◌∙◌}
 use Rattle.std.specs.Prelude.{Bool}
 use Rattle.indexmap.proofs.CallerLemmas.{insert_entry-new}
 use Rattle.psm_scope.specs.declared.key.NameKey.{NameKey}
-use Rattle.psm_scope.specs.Frames.{is_spelled}
+use Rattle.psm_scope.specs.Scopes.{is_spelled}
 use Rattle.psm_scope.proofs.Named.{is_new, is_there, last_named, looked_none}
 use Rattle.psm_scope.proofs.names.Names.add.Goals as goal
 

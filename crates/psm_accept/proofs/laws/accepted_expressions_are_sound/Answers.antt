@@ -1,5 +1,0 @@
-use Rattle.psm_accept.proofs.Clauses.{on_rows, outside_of_rows, queries}
-use Rattle.psm_accept.proofs.laws.accepted_expressions_are_sound.Goals as goal
-
-pub returns : goal.returns
-returns c = record { outside_of_rows = outside_of_rows; on_rows = on_rows; queries = queries }

@@ -1,0 +1,64 @@
+-- Accepted queries are well-formed, where each table has a column, and their items have letters of their own.
+use Rattle.std.proofs.Common.{◌≡◌, true, List, [], ◌∷◌, None, sym, subst}
+use Rattle.std.specs.Prelude.{IsTrue}
+use Rattle.psm_exprcode.specs.declared.op.Letter.{Letter}
+use Rattle.psm_rules.specs.declared.query.Item.{Item}
+use Rattle.psm_rules.specs.declared.shape.Shape.{Shape}
+use Rattle.psm_rules.specs.ExprFaults.{first_set, query_fault, check_query}
+use Rattle.psm_rules.specs.CheckerScope.{CheckerScope}
+use Rattle.psm_tree.specs.declared.expr.Select.{Select}
+use Rattle.psm_resolve_expr.specs.Exprs.{resolve_query}
+use Rattle.psm_resolve_expr.specs.ResolverScope.{ResolverScope}
+use Rattle.psm_codegen.specs.declared.known.Known.{Known}
+use Rattle.psm_codegen.specs.Queries.{item_letters}
+use Rattle.psm_typing.specs.TypingContext.{Each, TypingContext}
+use Rattle.psm_wellformed.specs.Queries.{WellFormedQuery, has_rows, items_of}
+use Rattle.psm_checker_sound.specs.Agreement.{Agree, AllTypeCheck, TypeChecks}
+use Rattle.psm_checker_sound.specs.Places.{IsTyped}
+use Rattle.psm_checker_sound.specs.Stands.{select_stands}
+use Rattle.psm_checker_sound.proofs.WellFormedParts.{HaveColumns, known_in}
+use Rattle.psm_checker_sound.proofs.Queries.{IsItem, ItemsAre}
+use Rattle.psm_checker_sound.proofs.Whole.{query_accepted}
+
+pub well_formed-queries : (e : TypingContext) (known : Known) → HaveColumns e → known ≡ known_in e → (checker_scope : CheckerScope) (resolver_scope : ResolverScope) → Agree e checker_scope resolver_scope → (q : Select) → IsTrue (select_stands q) → query_fault (check_query q checker_scope) ≡ None → WellFormedQuery known (resolve_query q resolver_scope).query
+well_formed-queries e known c is checker_scope resolver_scope a q well none = subst (λ known. WellFormedQuery known (resolve_query q resolver_scope).query) (sym is) ((query_accepted q e checker_scope resolver_scope a well none).2.well_formed c)
+
+-- ---- the letters of items
+
+item_type_checks : (i : Item) (s : Shape) (k : Letter) → IsItem i s k → TypeChecks s k
+item_type_checks i s k h = subst (λ s. TypeChecks s k) (sym h.resolved) h.letter
+
+item_typed : (i : Item) (s : Shape) (k : Letter) → IsItem i s k → IsTyped s
+item_typed i s k h = subst IsTyped (sym h.resolved) tt
+
+items_suit : (is : List Item) (ss : List Shape) (ks : List Letter) → ItemsAre is ss ks → AllTypeCheck ss ks
+items_suit [] [] [] h = tt
+items_suit [] [] (k ∷ ks) h = absurd h
+items_suit [] (s ∷ ss) ks h = absurd h
+items_suit (i ∷ is) [] ks h = absurd h
+items_suit (i ∷ is) (s ∷ ss) [] h = absurd h
+items_suit (i ∷ is) (s ∷ ss) (k ∷ ks) h = (item_type_checks i s k h.0, items_suit is ss ks h.1)
+
+items_typed : (is : List Item) (ss : List Shape) (ks : List Letter) → ItemsAre is ss ks → Each IsTyped ss
+items_typed [] [] [] h = tt
+items_typed [] [] (k ∷ ks) h = absurd h
+items_typed [] (s ∷ ss) ks h = absurd h
+items_typed (i ∷ is) [] ks h = absurd h
+items_typed (i ∷ is) (s ∷ ss) [] h = absurd h
+items_typed (i ∷ is) (s ∷ ss) (k ∷ ks) h = (item_typed i s k h.0, items_typed is ss ks h.1)
+
+pub well_formed-letters : (e : TypingContext) (known : Known) → known ≡ known_in e → (checker_scope : CheckerScope) (resolver_scope : ResolverScope) → Agree e checker_scope resolver_scope → (q : Select) → IsTrue (select_stands q) → query_fault (check_query q checker_scope) ≡ None
+    → AllTypeCheck (resolve_query q resolver_scope).shapes (item_letters known (resolve_query q resolver_scope).query)
+well_formed-letters e known is checker_scope resolver_scope a q well none = let g = query_accepted q e checker_scope resolver_scope a well none in
+    subst (λ known. AllTypeCheck (resolve_query q resolver_scope).shapes (item_letters known (resolve_query q resolver_scope).query)) (sym is)
+    (subst (AllTypeCheck (resolve_query q resolver_scope).shapes) (sym g.2.known) (items_suit g.0 (resolve_query q resolver_scope).shapes g.2.letters g.2.shapes))
+
+pub well_formed-typed : (e : TypingContext) (checker_scope : CheckerScope) (resolver_scope : ResolverScope) → Agree e checker_scope resolver_scope → (q : Select) → IsTrue (select_stands q) → query_fault (check_query q checker_scope) ≡ None → Each IsTyped (resolve_query q resolver_scope).shapes
+well_formed-typed e checker_scope resolver_scope a q well none = let g = query_accepted q e checker_scope resolver_scope a well none in items_typed g.0 (resolve_query q resolver_scope).shapes g.2.letters g.2.shapes
+
+-- ---- set functions
+
+-- where no item is a set function, the query goes over rows
+pub well_formed-rows : (e : TypingContext) (checker_scope : CheckerScope) (resolver_scope : ResolverScope) → Agree e checker_scope resolver_scope → (q : Select) → IsTrue (select_stands q) → query_fault (check_query q checker_scope) ≡ None → first_set (check_query q checker_scope).picks ≡ None
+    → has_rows (items_of (resolve_query q resolver_scope).query) ≡ true
+well_formed-rows e checker_scope resolver_scope a q well none first = (query_accepted q e checker_scope resolver_scope a well none).3 first

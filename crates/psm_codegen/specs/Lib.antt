@@ -1,0 +1,16 @@
+pub mod Written
+pub mod Queries
+pub mod Seen
+pub mod Nulls
+pub mod Exprs
+pub mod Writing
+pub mod Outside
+pub mod Sizes
+pub mod FunctionBuilder
+pub mod Simples
+pub mod Statements
+pub mod StatementSizes
+pub mod StatementForms
+pub mod Files
+pub mod FileKnown
+pub mod Standing

@@ -1,0 +1,16 @@
+-- What is written for a form of statement, where the line after it is known.
+use Rattle.std.specs.Prelude.{◌≡◌, ◌+◌, ℕ, List, map}
+use Rattle.psm_resolved.specs.declared.statement.ResolvedBlock.{ResolvedBlock}
+use Rattle.psm_resolved.specs.declared.statement.ResolvedBranch.{ResolvedBranch}
+use Rattle.psm_resolved.specs.declared.statement.ResolvedHandler.{ResolvedHandler}
+use Rattle.psm_resolved.specs.declared.statement.ResolvedStatement.{ResolvedStatement, out-ResolvedStatement}
+use Rattle.psm_resolved.specs.declared.statement.ResolvedStatement.TheOpen.{ResolvedStatement-F}
+use Rattle.psm_codegen.specs.declared.enclosing.EnclosingBlock.{EnclosingBlock}
+use Rattle.psm_codegen.specs.declared.known.Known.{Known}
+use Rattle.psm_codegen.specs.FunctionBuilder.{FunctionBuilder, at}
+use Rattle.psm_codegen.specs.Statements.{WritesStatement}
+use Rattle.psm_codegen.specs.StatementSizes.{frame_of, statement_lines}
+
+abbrev pub WritesForm : Known → ℕ → ℕ → List EnclosingBlock → ResolvedStatement-F ResolvedStatement ResolvedBlock ResolvedBranch ResolvedHandler → FunctionBuilder → FunctionBuilder → Type 0
+WritesForm known context end enclosing form p q =
+    (s : ResolvedStatement) → out-ResolvedStatement s ≡ form → end ≡ at p + statement_lines s (map frame_of enclosing) → WritesStatement known context enclosing s p q

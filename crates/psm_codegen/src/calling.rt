@@ -1,0 +1,158 @@
+//! Arguments of CALL, rows of INSERT, declarations and messages of conditions: what is evaluated before a statement does its work.
+ghost use Rattle.std.specs.Prelude.{◌≡◌, ◌∷◌, ◌<◌, ◌+◌, ◌≤◌, IfOk};
+ghost use Rattle.psm_codegen.specs.Simples.{CallArguments, Declares, Default, Signals, WritesRows, letter_of_slots};
+ghost use Rattle.psm_codegen.specs.Written.{Written};
+
+use crate::emit_context::EmitContext;
+use crate::exprs::{arguments, expr};
+use crate::known::Known;
+use crate::places::letter_at;
+use crate::storing::copies;
+use crate::writer::Writer;
+use psm_code::Instruction;
+use psm_exprcode::{Letter, Op};
+use psm_list::{Boxed, List};
+use psm_resolved::{ResolvedArgument, ResolvedDeclaration, ResolvedExpr};
+use psm_value::Datum;
+use std::alloc::AllocError;
+
+/// Writes the arguments of CALL, for parameters that take one, of these letters.
+pub(crate) fn call_arguments(
+    out: &mut Writer,
+    emit_context: EmitContext<'_>,
+    letters: &[Letter],
+    list: &List<ResolvedArgument>,
+) -> Result<(), AllocError>
+    ensures { IfOk result (λ _. CallArguments emit_context.entry.known.now emit_context.entry.context emit_context.entry.resume letters.now 0 list.now out.old out.new) }
+{
+    let mut place = 0usize;
+    for argument in list.items() {
+        place = call_argument(out, emit_context, letters, place, argument)?;
+    }
+    Ok(())
+}
+
+/// Writes an argument for the parameter at a place among those that take one, and gives back the place of the next one.
+fn call_argument(
+    out: &mut Writer,
+    emit_context: EmitContext<'_>,
+    letters: &[Letter],
+    place: usize,
+    argument: &ResolvedArgument,
+) -> Result<usize, AllocError>
+    requires { place < usize.MAX }
+    ensures written { IfOk result (λ next. (others : _) (v : Written) → CallArguments emit_context.entry.known.now emit_context.entry.context emit_context.entry.resume letters.now next others out.new v → CallArguments emit_context.entry.known.now emit_context.entry.context emit_context.entry.resume letters.now place (argument.now ∷ others) out.old v) }
+    ensures near { IfOk result (λ next. next ≤ place + 1) }
+{
+    match argument {
+        ResolvedArgument::In(e) => {
+            let letter = letter_at(letters, place);
+            expr(out, emit_context, e.get(), letter)?;
+            Ok(place + 1)
+        }
+        ResolvedArgument::Out { .. } => Ok(place),
+        ResolvedArgument::InOut { slot } => {
+            let letter = letter_at(emit_context.known.variables.items(), *slot as usize);
+            out.applied(
+                emit_context.context,
+                emit_context.resume,
+                Op::Variable(*slot),
+                0,
+                letter,
+            )?;
+            Ok(place + 1)
+        }
+    }
+}
+
+/// Writes the rows of an INSERT, whose values have these letters.
+pub(crate) fn rows(
+    out: &mut Writer,
+    emit_context: EmitContext<'_>,
+    letters: &[Letter],
+    list: &List<List<Boxed<ResolvedExpr>>>,
+) -> Result<(), AllocError>
+    ensures { IfOk result (λ _. WritesRows emit_context.entry.known.now emit_context.entry.context emit_context.entry.resume letters.now list.now out.old out.new) }
+{
+    for row in list.items() {
+        arguments(out, emit_context, letters, row)?;
+    }
+    Ok(())
+}
+
+/// Writes declarations of variables.
+pub(crate) fn declares(
+    out: &mut Writer,
+    emit_context: EmitContext<'_>,
+    list: &List<Boxed<ResolvedDeclaration>>,
+) -> Result<(), AllocError>
+    ensures { IfOk result (λ _. Declares emit_context.entry.known.now emit_context.entry.context emit_context.entry.resume list.now out.old out.new) }
+{
+    for declaration in list.items() {
+        declare(out, emit_context, declaration.get())?;
+    }
+    Ok(())
+}
+
+/// Writes the variables of one declaration.
+fn declare(
+    out: &mut Writer,
+    emit_context: EmitContext<'_>,
+    declaration: &ResolvedDeclaration,
+) -> Result<(), AllocError>
+    ensures { IfOk result (λ _. (others : _) (v : Written) → Declares emit_context.entry.known.now emit_context.entry.context emit_context.entry.resume others out.new v → Declares emit_context.entry.known.now emit_context.entry.context emit_context.entry.resume (declaration.now ∷ others) out.old v) }
+{
+    let letter = letter_of_slots(emit_context.known, &declaration.slots);
+    default(out, emit_context, letter, &declaration.default)?;
+    copies(out, emit_context, &declaration.slots)
+}
+
+/// Writes the value of a DEFAULT, or null.
+fn default(
+    out: &mut Writer,
+    emit_context: EmitContext<'_>,
+    letter: Letter,
+    value: &Option<Boxed<ResolvedExpr>>,
+) -> Result<(), AllocError>
+    ensures { IfOk result (λ _. Default emit_context.entry.known.now emit_context.entry.context emit_context.entry.resume letter value.now out.old out.new) }
+{
+    match value {
+        None => out.applied(
+            emit_context.context,
+            emit_context.resume,
+            Op::Constant(letter, Datum::Null),
+            0,
+            letter,
+        ),
+        Some(e) => expr(out, emit_context, e.get(), letter),
+    }
+}
+
+/// The letter of the first of some variables; that of a number where there is none.
+fn letter_of_slots(known: &Known, slots: &List<u32>) -> Letter
+    ensures { result ≡ letter_of_slots known.now slots.now }
+{
+    match slots.items().first() {
+        None => Letter::N,
+        Some(slot) => letter_at(known.variables.items(), *slot as usize),
+    }
+}
+
+/// Puts the message of a condition, if there is one, and raises the condition.
+pub(crate) fn signals(
+    out: &mut Writer,
+    emit_context: EmitContext<'_>,
+    without: Instruction,
+    with_message: Instruction,
+    message: &Option<Boxed<ResolvedExpr>>,
+) -> Result<(), AllocError>
+    ensures { IfOk result (λ _. Signals emit_context.entry.known.now emit_context.entry.context emit_context.entry.resume without with_message message.now out.old out.new) }
+{
+    match message {
+        None => out.takes(emit_context.context, emit_context.resume, without, 0),
+        Some(e) => {
+            expr(out, emit_context, e.get(), Letter::T)?;
+            out.takes(emit_context.context, emit_context.resume, with_message, 1)
+        }
+    }
+}

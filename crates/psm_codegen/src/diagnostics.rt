@@ -1,0 +1,113 @@
+//! Items of the diagnostics area that go into variables (ISO/IEC 9075:1992, 18.1).
+ghost use Rattle.std.specs.Prelude.{◌≡◌, IfOk};
+ghost use Rattle.psm_code.specs.Instructions.{condition_letter, statement_letter};
+ghost use Rattle.psm_codegen.specs.Simples.{condition_items, item_stored, statement_items};
+
+use crate::emit_context::EmitContext;
+use crate::writer::Writer;
+use psm_code::Instruction;
+use psm_cond::{ConditionItem, StatementItem};
+use psm_exprcode::{Letter, Op};
+use psm_list::List;
+use std::alloc::AllocError;
+
+/// Stores items of the diagnostics area about the statement.
+pub(crate) fn statement_items(
+    out: &mut Writer,
+    emit_context: EmitContext<'_>,
+    items: &List<(u32, StatementItem)>,
+) -> Result<(), AllocError>
+    ensures { IfOk result (λ _. out.new ≡ statement_items emit_context.entry.context emit_context.entry.resume items.now out.old) }
+{
+    for (slot, item) in items.items() {
+        out.put(
+            emit_context.context,
+            emit_context.resume,
+            Instruction::StatementItem(*item),
+            0,
+            statement_letter(*item),
+        )?;
+        out.takes(
+            emit_context.context,
+            emit_context.resume,
+            Instruction::Store(*slot),
+            1,
+        )?;
+    }
+    Ok(())
+}
+
+/// Stores items of the diagnostics area about the condition whose number is the last operand.
+pub(crate) fn condition_items(
+    out: &mut Writer,
+    emit_context: EmitContext<'_>,
+    items: &List<(u32, ConditionItem)>,
+) -> Result<(), AllocError>
+    ensures { IfOk result (λ _. out.new ≡ condition_items emit_context.entry.context emit_context.entry.resume items.now out.old) }
+{
+    match items.items().split_last() {
+        None => Ok(()),
+        Some((last, others)) => {
+            for (slot, item) in others {
+                out.applied(
+                    emit_context.context,
+                    emit_context.resume,
+                    Op::Duplicate,
+                    0,
+                    Letter::N,
+                )?;
+                item_stored(out, emit_context, *slot, *item)?;
+            }
+            let (slot, item) = last;
+            item_stored(out, emit_context, *slot, *item)
+        }
+    }
+}
+
+/// Stores an item of the diagnostics area about the condition whose number is the last operand.
+fn item_stored(
+    out: &mut Writer,
+    emit_context: EmitContext<'_>,
+    slot: u32,
+    item: ConditionItem,
+) -> Result<(), AllocError>
+    ensures { IfOk result (λ _. out.new ≡ item_stored emit_context.entry.context emit_context.entry.resume (slot, item) out.old) }
+{
+    out.put(
+        emit_context.context,
+        emit_context.resume,
+        Instruction::ConditionItem(item),
+        1,
+        condition_letter(item),
+    )?;
+    out.takes(
+        emit_context.context,
+        emit_context.resume,
+        Instruction::Store(slot),
+        1,
+    )
+}
+
+/// The letter of an item of the diagnostics area about the statement.
+fn statement_letter(item: StatementItem) -> Letter
+    ensures { result ≡ statement_letter item }
+{
+    match item {
+        StatementItem::Number | StatementItem::RowCount => Letter::N,
+        StatementItem::More => Letter::T,
+    }
+}
+
+/// The letter of an item of the diagnostics area about a condition.
+fn condition_letter(item: ConditionItem) -> Letter
+    ensures { result ≡ condition_letter item }
+{
+    match item {
+        ConditionItem::ConditionNumber | ConditionItem::MessageLength => Letter::N,
+        ConditionItem::ReturnedSqlstate
+        | ConditionItem::ConditionIdentifier
+        | ConditionItem::MessageText
+        | ConditionItem::TableName
+        | ConditionItem::CursorName => Letter::T,
+    }
+}

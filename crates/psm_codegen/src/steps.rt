@@ -1,0 +1,214 @@
+//! Steps of statements that have statements, which write no statement.
+ghost use Rattle.std.specs.Prelude.{◌≡◌, ◌+◌, ◌∷◌, [], map, suc, ℕ, IfOk};
+ghost use Rattle.psm_code.specs.declared.instruction.Instruction.TheVariants as instruction;
+ghost use Rattle.psm_codegen.specs.Exprs.{Writes};
+ghost use Rattle.psm_codegen.specs.FunctionBuilder.{FunctionBuilder as Whole, at, block_entered, next_context, with_code};
+ghost use Rattle.psm_codegen.specs.Simples.{Declares};
+ghost use Rattle.psm_codegen.specs.Sizes.{each_with};
+ghost use Rattle.psm_codegen.specs.StatementSizes.{handler_lines, passing_lines};
+ghost use Rattle.psm_codegen.specs.Statements.{WritesCursors, fetched, jumped, opened, passed};
+ghost use Rattle.psm_codegen.specs.Written.{applied, taken, takes};
+
+use crate::calling::declares;
+use crate::emit_context::EmitContext;
+use crate::exprs::expr;
+use crate::letters::item_letters;
+use crate::parts::FunctionBuilder;
+use crate::queries::query_code;
+use crate::sizes::later;
+use crate::statement_sizes::{after_handlers, after_passing};
+use crate::storing::stores;
+use psm_code::Instruction;
+use psm_exprcode::{Letter, Op};
+use psm_list::{Boxed, List};
+use psm_resolved::{
+    ResolvedCursor, ResolvedDeclaration, ResolvedExpr, ResolvedFor, ResolvedHandler,
+};
+use std::alloc::{AllocError, Global};
+
+/// Writes an expression.
+pub(crate) fn evaluated(
+    parts: &mut FunctionBuilder,
+    emit_context: EmitContext<'_>,
+    e: &ResolvedExpr,
+    letter: Letter,
+) -> Result<(), AllocError>
+    ensures written { IfOk result (λ _. Writes emit_context.entry.known.now emit_context.entry.context emit_context.entry.resume letter e.now parts.old.code parts.new.code) }
+    ensures alone { IfOk result (λ _. parts.new ≡ with_code parts.new.code parts.old) }
+{
+    expr(&mut parts.code, emit_context, e, letter)
+}
+
+/// Writes declarations.
+pub(crate) fn declared(
+    parts: &mut FunctionBuilder,
+    emit_context: EmitContext<'_>,
+    list: &List<Boxed<ResolvedDeclaration>>,
+) -> Result<(), AllocError>
+    ensures written { IfOk result (λ _. Declares emit_context.entry.known.now emit_context.entry.context emit_context.entry.resume list.now parts.old.code parts.new.code) }
+    ensures alone { IfOk result (λ _. parts.new ≡ with_code parts.new.code parts.old) }
+{
+    declares(&mut parts.code, emit_context, list)
+}
+
+/// Writes a jump.
+pub(crate) fn jump(parts: &mut FunctionBuilder, context: u32, to: u32) -> Result<(), AllocError>
+    ensures { IfOk result (λ _. parts.new ≡ jumped context to parts.old) }
+{
+    parts.plain(context, Instruction::Operation(Op::Jump(to)))
+}
+
+/// Writes an operation that takes the last operand.
+pub(crate) fn take(
+    parts: &mut FunctionBuilder,
+    emit_context: EmitContext<'_>,
+    op: Op,
+) -> Result<(), AllocError>
+    ensures { IfOk result (λ _. parts.new ≡ with_code (taken emit_context.entry.context emit_context.entry.resume op parts.old.code) parts.old) }
+{
+    parts
+        .code
+        .taken(emit_context.context, emit_context.resume, op)
+}
+
+/// Writes an operation that takes n operands and puts one.
+pub(crate) fn apply(
+    parts: &mut FunctionBuilder,
+    emit_context: EmitContext<'_>,
+    op: Op,
+    count: usize,
+    letter: Letter,
+) -> Result<(), AllocError>
+    ensures { IfOk result (λ _. parts.new ≡ with_code (applied emit_context.entry.context emit_context.entry.resume op count letter parts.old.code) parts.old) }
+{
+    parts.code.applied(emit_context.context, emit_context.resume, op, count, letter)
+}
+
+/// Writes cursors, with their queries.
+pub(crate) fn cursors(
+    parts: &mut FunctionBuilder,
+    emit_context: EmitContext<'_>,
+    list: &List<Boxed<ResolvedCursor>>,
+) -> Result<(), AllocError>
+    ensures { IfOk result (λ _. WritesCursors emit_context.entry.known.now list.now parts.old parts.new) }
+{
+    for x in list.items() {
+        cursor(parts, emit_context, x.get())?;
+    }
+    Ok(())
+}
+
+/// Writes a cursor with its query.
+pub(crate) fn cursor(
+    parts: &mut FunctionBuilder,
+    emit_context: EmitContext<'_>,
+    x: &ResolvedCursor,
+) -> Result<(), AllocError>
+    ensures { IfOk result (λ _. (xs : _) (r : Whole) → WritesCursors emit_context.entry.known.now xs parts.new r → WritesCursors emit_context.entry.known.now (x.now ∷ xs) parts.old r) }
+{
+    let code = query_code(emit_context.alloc, emit_context.known, x.query.get())?;
+    let letters = item_letters(emit_context.alloc, emit_context.known, x.query.get())?;
+    parts.with_cursor(emit_context.alloc, x, code, letters)
+}
+
+/// The numbers of cursors.
+pub(crate) fn numbers(
+    alloc: Global,
+    list: &List<Boxed<ResolvedCursor>>,
+) -> Result<List<u32>, AllocError>
+    ensures { IfOk result (λ numbers. numbers ≡ map (λ x. x.number) list.now) }
+{
+    let mut numbers = Vec::new(alloc);
+    for x in list.items() {
+        numbers.push(x.get().number)?;
+    }
+    Ok(List::of(numbers))
+}
+
+/// Enters a block inside a context, and gives back its number.
+pub(crate) fn entered(
+    parts: &mut FunctionBuilder,
+    outer: u32,
+    atomic: bool,
+    exit: u32,
+    cursors: List<u32>,
+) -> Result<u32, AllocError>
+    ensures number { IfOk result (λ number. number ≡ next_context parts.old) }
+    ensures entered { IfOk result (λ _. parts.new ≡ block_entered outer atomic exit cursors parts.old) }
+{
+    let number = parts.next_context()?;
+    parts.block_entered(outer, atomic, exit, cursors)?;
+    Ok(number)
+}
+
+/// Passes over the actions of handlers.
+pub(crate) fn pass(
+    parts: &mut FunctionBuilder,
+    alloc: Global,
+    context: u32,
+    handlers: &List<Boxed<ResolvedHandler>>,
+) -> Result<(), AllocError>
+    ensures { IfOk result (λ _. (start : ℕ) → start ≡ at parts.old + passing_lines handlers.now + each_with 1 (map handler_lines handlers.now) → parts.new ≡ passed context start handlers.now parts.old) }
+{
+    let here = parts.at()?;
+    let passed = after_passing(handlers, here)?;
+    let start = after_handlers(handlers, alloc, passed)?;
+    if handlers.items().is_empty() {
+        Ok(())
+    } else {
+        jump(parts, context, start)
+    }
+}
+
+/// Opens the cursor of a FOR statement, and uses a turn.
+pub(crate) fn open(
+    parts: &mut FunctionBuilder,
+    context: u32,
+    exit: u32,
+    x: &ResolvedCursor,
+) -> Result<(), AllocError>
+    ensures { IfOk result (λ _. parts.new ≡ opened context exit x.now parts.old) }
+{
+    parts
+        .code
+        .takes(context, exit, Instruction::Open(x.number), 0)?;
+    parts.plain(context, Instruction::Turn)
+}
+
+/// Fetches the next row of a FOR statement into its variables.
+pub(crate) fn fetch_row(
+    parts: &mut FunctionBuilder,
+    emit_context: EmitContext<'_>,
+    head: &ResolvedFor,
+) -> Result<(), AllocError>
+    ensures { IfOk result (λ _. parts.new ≡ fetched emit_context.entry.context emit_context.entry.resume head.now parts.old) }
+{
+    let next = Instruction::Next {
+        cursor: head.cursor.number,
+        end: emit_context.resume,
+    };
+    parts.puts_row(
+        emit_context.context,
+        emit_context.resume,
+        next,
+        head.cursor.number,
+    )?;
+    stores(&mut parts.code, emit_context, &head.slots)
+}
+
+/// Raises the condition of a CASE without ELSE.
+pub(crate) fn no_case(parts: &mut FunctionBuilder, context: u32) -> Result<(), AllocError>
+    ensures { IfOk result (λ _. parts.new ≡ with_code (takes context (suc (at parts.old)) instruction.NoCase 0 parts.old.code) parts.old) }
+{
+    let resume = later(parts.at()?, 1)?;
+    parts.code.takes(context, resume, Instruction::NoCase, 0)
+}
+
+/// A list of one number.
+pub(crate) fn one(alloc: Global, number: u32) -> Result<List<u32>, AllocError>
+    ensures { IfOk result (λ list. list ≡ number ∷ []) }
+{
+    let mut list = Vec::new(alloc);
+    list.push(number)?;
+    Ok(List::of(list))
+}

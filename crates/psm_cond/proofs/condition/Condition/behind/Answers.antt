@@ -1,6 +1,0 @@
-use Rattle.std.proofs.Common.{◌||◌, nat_eq, arith}
-use Rattle.psm_cond.proofs.Fronts.{behind_is}
-use Rattle.psm_cond.proofs.condition.Condition.behind.Goals as goal
-
-pub returns : goal.returns
-returns c = behind_is c.args.entry c.args.self c.of.result (c.self.inside.more || nat_eq c.len-full.result 3) (grind arith) (grind arith) (grind arith)

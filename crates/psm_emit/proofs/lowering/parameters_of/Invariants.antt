@@ -1,6 +1,0 @@
-use Rattle.std.proofs.Common.{◌≡◌, ◌++◌, drop, map}
-use Rattle.psm_lower.specs.Simulation.{parameter_of}
-use Rattle.psm_emit.proofs.lowering.parameters_of.Given as goal
-
-abbrev pub invariant-loop-parameter : goal.invariant-loop-parameter
-invariant-loop-parameter l = map parameter_of l.parameters ≡ l.all.items ++ map parameter_of (drop l.parameter-index l.parameter-items)

@@ -1,6 +1,0 @@
-use Rattle.psm_emit.proofs.CallForms.{ok_as}
-use Rattle.psm_emit.proofs.SimpleForms.{close_written}
-use Rattle.psm_emit.proofs.simples.closed.Goals as goal
-
-pub returns : goal.returns
-returns c = ok_as c.takes.result (λ a. close_written c.args.cursor c.parts.view_is c.in_ok-plain.ensures a) c.takes.ensures

@@ -1,6 +1,0 @@
-use Rattle.psm_emit.proofs.CallForms.{ok_as}
-use Rattle.psm_emit.proofs.SimpleForms.{fetch_written}
-use Rattle.psm_emit.proofs.simples.fetch.Goals as goal
-
-pub returns : goal.returns
-returns c = ok_as c.retrieves.result (λ a. fetch_written c.args.cursor c.args.slots.now c.in_ok-plain.ensures c.in_ok-puts_row.ensures c.parts.view_is a) c.retrieves.ensures

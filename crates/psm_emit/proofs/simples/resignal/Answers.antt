@@ -1,6 +1,0 @@
-use Rattle.psm_emit.proofs.CallForms.{ok_as}
-use Rattle.psm_emit.proofs.SimpleForms.{resignal_written}
-use Rattle.psm_emit.proofs.simples.resignal.Goals as goal
-
-pub returns-in_ok-plain-in-None : goal.returns-in_ok-plain-in-None
-returns-in_ok-plain-in-None c = ok_as c.takes.result (λ a. resignal_written c.args.s.now c.parts.view_is c.in-None.is c.in_ok-plain-in-None.ensures a) c.takes.ensures

@@ -1,8 +1,0 @@
-use Rattle.std.proofs.Common.{ap, ◌∙◌}
-use Rattle.psm_emit.specs.Queries.{item_letters}
-use Rattle.psm_emit.proofs.CallForms.{ok_as}
-use Rattle.psm_emit.proofs.StatementForms.{cursor_written}
-use Rattle.psm_emit.proofs.steps.cursor.Goals as goal
-
-pub returns : goal.returns
-returns c = ok_as c.with_cursor.result (λ a. cursor_written c.in_ok-code.code c.get.ensures c.in_ok-code.ensures (a c.args.setting.known.now (c.in_ok-letters.ensures ∙ ap (item_letters c.args.setting.known.now) c.get-2.ensures))) c.with_cursor.ensures

@@ -1,6 +1,0 @@
-use Rattle.psm_emit.specs.Statements.{WritesCursors, no_cursor}
-use Rattle.psm_emit.proofs.Dropping.{comes_to}
-use Rattle.psm_emit.proofs.steps.cursors.Goals as goal
-
-pub returns : goal.returns
-returns c = comes_to (λ xs q. WritesCursors c.args.setting.known.now xs c.loop-x.parts q) (λ q. WritesCursors c.args.setting.known.now c.args.list.now c.args.parts.now q) c.items-x-items.result.now c.loop-x.x-index c.loop-x.parts c.loop-x-test.false c.loop-x.invariant no_cursor

@@ -1,8 +1,0 @@
-use Rattle.std.proofs.Common.{◌≡◌, drop}
-use Rattle.psm_code.specs.declared.instruction.Instruction.TheVariants as instruction
-use Rattle.psm_lower.specs.Scheme.{slots_given}
-use Rattle.psm_emit.specs.Simples.{stored}
-use Rattle.psm_emit.proofs.storing.gives.Given as goal
-
-abbrev pub invariant-loop-argument : goal.invariant-loop-argument
-invariant-loop-argument l = stored l.setting.context l.setting.resume (λ slot. instruction.Store slot) (slots_given l.arguments) l.fn.out ≡ stored l.setting.context l.setting.resume (λ slot. instruction.Store slot) (slots_given (drop l.argument-index l.argument-items)) l.out

@@ -1,2 +1,0 @@
-pub mod EachColumn
-pub mod OneWay

@@ -1,6 +1,0 @@
-use Rattle.std.proofs.Common.{◌≡◌, ◌++◌, drop}
-use Rattle.psm_known.specs.Columns.{all_places}
-use Rattle.psm_known.proofs.columns.each_place.Given as goal
-
-abbrev pub invariant-loop-place : goal.invariant-loop-place
-invariant-loop-place l = l.places.items ++ all_places l.place (drop l.place l.columns) ≡ all_places 0 l.columns

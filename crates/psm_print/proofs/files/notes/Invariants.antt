@@ -1,7 +1,0 @@
-use Rattle.std.proofs.Common.{◌≡◌, ◌++◌, [], drop, map}
-use Rattle.psm_print.specs.Spelling.{each}
-use Rattle.psm_print.specs.FileTokens.{note_tokens}
-use Rattle.psm_print.proofs.files.notes.Given as goal
-
-abbrev pub invariant-loop-next : goal.invariant-loop-next
-invariant-loop-next l = l.out ++ each [] (map note_tokens (drop l.next-index l.next-items)) ≡ l.fn.out ++ each [] (map note_tokens l.notes)

@@ -1,6 +1,0 @@
-pub mod Sound
-pub mod Typing
-pub mod Outside
-pub mod Standing
-pub mod Statements
-pub mod Definitions

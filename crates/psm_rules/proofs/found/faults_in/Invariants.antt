@@ -1,7 +1,0 @@
-use Rattle.std.proofs.Common.{◌≡◌, drop, map}
-use Rattle.psm_rules.specs.Faults.{first_from}
-use Rattle.psm_rules.specs.Found.{faults_in}
-use Rattle.psm_rules.proofs.found.faults_in.Given as goal
-
-abbrev pub invariant-loop-part : goal.invariant-loop-part
-invariant-loop-part l = first_from l.first (map (λ f. f.fault) (drop l.part-index l.parts)) ≡ faults_in l.parts

@@ -1,0 +1,9 @@
+use Rattle.std.proofs.Common.{◌∙◌}
+use Rattle.psm_scope.specs.KeptScopes.{the_variables}
+use Rattle.psm_scope.proofs.Inward.{declares_inside}
+use Rattle.psm_scope.proofs.scopes.Scopes.declare_variable.Goals as goal
+
+pub returns : goal.returns
+returns g c =
+    declares_inside the_variables c.args.name.now c.args.known c.self.inside.scopes.items c.args.self.now c.len-innermost.result
+    c.index_mut.result.now c.declare_variable.new.self c.declare_variable.result c.self.view_is c.requires (c.len-innermost.ensures ∙ c.self.inside.scopes.ok.0) c.index_mut.ensures.value c.declare_variable.ensures

@@ -1,0 +1,2 @@
+pub mod EachColumn
+pub mod OneSuccessor

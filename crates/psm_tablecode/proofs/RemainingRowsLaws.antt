@@ -1,0 +1,72 @@
+-- The rows of a walk, one after another.
+use Rattle.std.proofs.Common.{◌≡◌, ℕ, zero, suc, ◌+◌, Bool, true, false, List, [], ◌∷◌, drop, refl, ap, sym, subst, ◌∙◌, arith, Option, Some, None}
+use Rattle.std.specs.Prelude.{All, cond, find, reverse, slice_get}
+use Rattle.std.specs.List.{cons_option}
+use Rattle.std.specs.Ordering.{is_eq}
+use Rattle.std.proofs.lemmas.List.{reverse-append}
+use Rattle.std.proofs.lemmas.List.Elements.{All-append, All-cons, All-head, All-nil, All-tail}
+use Rattle.std.proofs.lemmas.Option.{get_or_from_slice_get, slice_get_within}
+use Rattle.psm_value.specs.declared.datum.Datum.{Datum}
+use Rattle.psm_table.specs.Definition.{IsRow}
+use Rattle.psm_table.specs.Key.{row_order}
+use Rattle.psm_table.specs.Queries.{in_walk}
+use Rattle.psm_table.specs.Table.{keyed, Contents, IsTable}
+use Rattle.psm_tablecode.specs.Asked.{rows_from, rows_of}
+use Rattle.psm_tablecode.specs.declared.walking.Walk.{Walk}
+
+-- ---- what is walked over
+
+pub of_key : (t : Contents) (walk : Walk) (key : List Datum) (o : Option (List Datum)) → walk.key ≡ Some key → o ≡ keyed t key → cons_option o [] ≡ rows_of t walk
+of_key t walk key o e f = ap (λ (r : Option (List Datum)). cons_option r []) f ∙ sym (ap (rows_from t walk.downward) e)
+
+pub of_all : (t : Contents) (walk : Walk) (rows : List (List Datum)) → walk.key ≡ None → rows ≡ in_walk walk.downward t.rows → rows ≡ rows_of t walk
+of_all t walk rows e f = f ∙ sym (ap (rows_from t walk.downward) e)
+
+module _ (P : List Datum → Type 0) where
+  all-reverse : (rows : List (List Datum)) → All P rows → All P (reverse rows)
+  all-reverse [] h = h
+  all-reverse (row ∷ rows) h =
+      subst (All P) (sym (reverse-append (row ∷ []) rows))
+      (All-append P (reverse rows) (row ∷ []) (all-reverse rows (All-tail P row rows h)) (All-cons P row [] (All-head P row rows h) (All-nil P)))
+
+  found_all : (p : List Datum → Bool) (row : List Datum) (rows : List (List Datum)) (b : Bool) → P row → All P (cons_option (find p rows) []) → All P (cons_option (cond b (Some row) (find p rows)) [])
+  found_all p row rows true f h = All-cons P row [] f (All-nil P)
+  found_all p row rows false f h = h
+
+  find_all : (p : List Datum → Bool) (rows : List (List Datum)) → All P rows → All P (cons_option (find p rows) [])
+  find_all p [] h = All-nil P
+  find_all p (row ∷ rows) h = found_all p row rows (p row) (All-head P row rows h) (find_all p rows (All-tail P row rows h))
+
+from_fit : (t : Contents) (downward : Bool) (o : Option (List Datum)) → All (IsRow t.def) t.rows → All (IsRow t.def) (rows_from t downward o)
+from_fit t true None h = all-reverse (IsRow t.def) t.rows h
+from_fit t false None h = h
+from_fit t downward (Some key) h = find_all (IsRow t.def) (λ row. is_eq (row_order t.def.key key row)) t.rows h
+
+pub coming_fit : (t : Contents) (walk : Walk) → IsTable t → All (IsRow t.def) (rows_of t walk)
+coming_fit t walk h = from_fit t walk.downward walk.key h.fit
+
+-- ---- one row after another
+
+pub coming_here : {X : Type 0} (xs : List X) (at : ℕ) (x : X) (rest : List X) → drop at xs ≡ x ∷ rest → slice_get xs at ≡ Some x
+coming_here [] zero x rest e = cc
+coming_here [] (suc at) x rest e = cc
+coming_here (y ∷ xs) zero x rest e = let same : y ≡ x = cc in ap Some same
+coming_here (y ∷ xs) (suc at) x rest e = coming_here xs at x rest e
+
+after_first : {X : Type 0} (ys : List X) (k : ℕ) (x : X) (rest : List X) → drop k ys ≡ x ∷ rest → drop (suc k) ys ≡ rest
+after_first [] zero x rest e = cc
+after_first [] (suc k) x rest e = cc
+after_first (y ∷ ys) zero x rest e = let same : ys ≡ rest = cc in same
+after_first (y ∷ ys) (suc k) x rest e = after_first ys k x rest e
+
+pub coming_rest : {X : Type 0} (xs : List X) (at : ℕ) (x : X) (rest : List X) → drop at xs ≡ x ∷ rest → drop (at + 1) xs ≡ rest
+coming_rest xs at x rest e = let n : at + 1 ≡ suc at = omega arith in ap (λ k. drop k xs) n ∙ after_first xs at x rest e
+
+pub coming_none : {X : Type 0} (xs : List X) (at : ℕ) → drop at xs ≡ [] → slice_get xs at ≡ None
+coming_none [] zero e = refl
+coming_none [] (suc at) e = refl
+coming_none (x ∷ xs) zero e = cc
+coming_none (x ∷ xs) (suc at) e = coming_none xs at e
+
+pub get_all : {X : Type 0} (P : X → Type 0) (xs : List X) (at : ℕ) (x : X) → All P xs → slice_get xs at ≡ Some x → P x
+get_all P xs at x h e = subst P (get_or_from_slice_get xs at x x e) (h at x (slice_get_within xs at x e))

@@ -1,0 +1,9 @@
+pub mod TypingContext
+pub mod Queries
+pub mod Expressions
+pub mod Statements
+pub mod Files
+pub mod States
+pub mod EvalContexts
+pub mod Ends
+pub mod Scripts
