@@ -3,7 +3,7 @@
 use crate::fault::Fault;
 use crate::operands::Operands;
 use crate::unescape::unescaped;
-use crate::{name, number, state, steps, storing, text, truth, value};
+use crate::{code, name, number, state, steps, storing, text, truth, value};
 use std::alloc::{AllocError, Global};
 
 /// What the row's operation gives, or why there is nothing.
@@ -39,6 +39,7 @@ fn operated(alloc: Global, operation: &str, operands: &mut Operands<'_>) -> Resu
         "state" => state::told(alloc, operands),
         "steps" => steps::told(alloc),
         "and" | "or" | "not" | "holds" => truth::operated(alloc, operation, operands),
+        "code" => code::told(alloc, operands),
         _ => value::operated(alloc, operation, operands),
     }
 }

@@ -14,6 +14,10 @@ pub enum Fault {
     Number(NumFault),
     Text(TextFault),
     Name(NameFault),
+    /// The lines of code break a rule.
+    IllFormed,
+    /// The code names what isn't there, or is of another kind.
+    Unfit,
     /// The condition that the operation raises.
     Condition(SqlState),
     /// There is no memory.
@@ -28,6 +32,8 @@ impl Fault {
             Fault::Number(fault) => format!(in alloc; "{fault}"),
             Fault::Text(fault) => String::from_str(alloc, text_fault(fault)),
             Fault::Name(fault) => String::from_str(alloc, name_fault(fault)),
+            Fault::IllFormed => String::from_str(alloc, "ill-formed"),
+            Fault::Unfit => String::from_str(alloc, "unfit"),
             Fault::Condition(state) => format!(in alloc; "SQLSTATE {}", state.text()),
             Fault::Memory => Err(AllocError),
         }

@@ -24,6 +24,16 @@ impl<'a> Operands<'a> {
         self.rest.is_empty()
     }
 
+    /// How many bytes are left, so no fewer than operands.
+    pub fn len(&self) -> usize {
+        self.rest.len()
+    }
+
+    /// Whether the next is a text.
+    pub fn begin_with_text(&self) -> bool {
+        self.rest.starts_with('\'')
+    }
+
     /// Refuses a row that has more operands.
     pub fn end(&self) -> Result<(), Fault> {
         if self.is_empty() {
@@ -47,6 +57,13 @@ impl<'a> Operands<'a> {
         }
     }
 
+    /// What stands before the next colon.
+    pub fn before_colon(&mut self) -> Result<&'a str, Fault> {
+        let (before, rest) = self.rest.split_once(':').ok_or(Fault::Row)?;
+        self.rest = rest;
+        Ok(before)
+    }
+
     /// A whole number.
     pub fn integer(&mut self) -> Result<i64, Fault> {
         self.word()?.parse::<i64>().ok().ok_or(Fault::Row)
@@ -65,7 +82,7 @@ impl<'a> Operands<'a> {
     }
 
     pub fn number(&mut self) -> Result<Dec, Fault> {
-        Dec::read(self.word()?).ok().ok_or(Fault::Row)
+        number(self.word()?)
     }
 
     /// The characters of a text, which may be more than a text has.
@@ -96,12 +113,12 @@ impl<'a> Operands<'a> {
 
     /// A value: null, a number or a text.
     pub fn value(&mut self, alloc: Global) -> Result<Datum, Fault> {
-        if self.rest.starts_with('\'') {
+        if self.begin_with_text() {
             return Ok(Datum::Text(self.text(alloc)?));
         }
         match self.word()? {
             "NULL" => Ok(Datum::Null),
-            number => Ok(Datum::Num(Dec::read(number).ok().ok_or(Fault::Row)?)),
+            word => Ok(Datum::Num(number(word)?)),
         }
     }
 
@@ -113,6 +130,11 @@ impl<'a> Operands<'a> {
             word => sized_type(word).ok_or(Fault::Row),
         }
     }
+}
+
+/// The number of a word.
+pub fn number(word: &str) -> Result<Dec, Fault> {
+    Dec::read(word).ok().ok_or(Fault::Row)
 }
 
 // A type with its digits or characters in parentheses.

@@ -3,7 +3,7 @@
 use crate::fault::Fault;
 use psm_num::Dec;
 use psm_text::Text;
-use psm_value::Datum;
+use psm_value::{Datum, Truth};
 use std::alloc::{AllocError, Global};
 use std::cmp::Ordering;
 use std::str;
@@ -24,6 +24,15 @@ pub fn number(alloc: Global, number: Dec) -> Result<String, Fault> {
 
 pub fn text(alloc: Global, text: Text) -> Result<String, Fault> {
     value(alloc, &Datum::Text(text))
+}
+
+pub fn truth(alloc: Global, truth: Truth) -> Result<String, Fault> {
+    let printed = match truth {
+        Truth::True => "true",
+        Truth::False => "false",
+        Truth::Unknown => "unknown",
+    };
+    word(alloc, printed)
 }
 
 /// The word, or another where the answer is no.

@@ -13,9 +13,9 @@ pub fn operated(
 ) -> Result<String, Fault> {
     let first = truth(operands)?;
     match operation {
-        "and" => told(alloc, first.and(truth(operands)?)),
-        "or" => told(alloc, first.or(truth(operands)?)),
-        "not" => told(alloc, first.not()),
+        "and" => shown::truth(alloc, first.and(truth(operands)?)),
+        "or" => shown::truth(alloc, first.or(truth(operands)?)),
+        "not" => shown::truth(alloc, first.not()),
         _ => shown::yes_or_no(alloc, first.is_true(), "yes", "no"),
     }
 }
@@ -27,13 +27,4 @@ fn truth(operands: &mut Operands<'_>) -> Result<Truth, Fault> {
         "unknown" => Ok(Truth::Unknown),
         _ => Err(Fault::Row),
     }
-}
-
-fn told(alloc: Global, truth: Truth) -> Result<String, Fault> {
-    let word = match truth {
-        Truth::True => "true",
-        Truth::False => "false",
-        Truth::Unknown => "unknown",
-    };
-    shown::word(alloc, word)
 }

@@ -1,16 +1,20 @@
-//! The lines of code of a row.
+//! Lines of code.
 
 use crate::fault::Fault;
+use crate::operands::Operands;
 use crate::operation::operation;
 use psm_exprcode::{Letter, RawExpr};
 use std::alloc::{AllocError, Global};
 
-/// The lines, if the row is lines.
-pub fn lines(alloc: Global, text: &str) -> Result<RawExpr, Fault> {
+/// The lines that are all operands left.
+pub fn lines(alloc: Global, operands: &mut Operands<'_>) -> Result<RawExpr, Fault> {
     let mut lines = RawExpr::new(alloc);
     let mut stack = Vec::new(alloc);
-    for word in text.split_whitespace() {
-        read_line(alloc, word, &mut stack, &mut lines)?;
+    for _ in 0..operands.len() {
+        if operands.is_empty() {
+            break;
+        }
+        read_line(alloc, operands, &mut stack, &mut lines)?;
     }
     Ok(lines)
 }
@@ -18,19 +22,18 @@ pub fn lines(alloc: Global, text: &str) -> Result<RawExpr, Fault> {
 // One line more. Its letters are read into the vector, which all lines share.
 fn read_line(
     alloc: Global,
-    word: &str,
+    operands: &mut Operands<'_>,
     stack: &mut Vec<Letter>,
     lines: &mut RawExpr,
 ) -> Result<(), Fault> {
-    let (letters, op) = word.split_once(':').ok_or(Fault::Row)?;
-    read_stack(letters, stack)?;
-    let op = operation(alloc, op)?;
+    read_stack(operands.before_colon()?, stack)?;
+    let op = operation(alloc, operands)?;
     lines.push(stack.as_slice(), op)?;
     Ok(())
 }
 
 // The letters, in place of those before. A number stands before as many of one letter.
-fn read_stack(letters: &str, stack: &mut Vec<Letter>) -> Result<(), AllocError> {
+fn read_stack(letters: &str, stack: &mut Vec<Letter>) -> Result<(), Fault> {
     stack.clear();
     let mut count: u16 = 0;
     for byte in letters.bytes() {
@@ -43,7 +46,8 @@ fn read_stack(letters: &str, stack: &mut Vec<Letter>) -> Result<(), AllocError> 
             b'N' => put(stack, Letter::N, count)?,
             b'T' => put(stack, Letter::T, count)?,
             b'B' => put(stack, Letter::B, count)?,
-            _ => {}
+            b'-' => {}
+            _ => return Err(Fault::Row),
         }
         count = 0;
     }

@@ -1,17 +1,22 @@
-//! The operations of a row.
+//! The operations of lines of code.
 
 use crate::fault::Fault;
+use crate::operands::{Operands, number};
 use psm_exprcode::{Letter, Op};
-use psm_num::Dec;
-use psm_text::{Side, Text};
+use psm_text::Side;
 use psm_value::{Datum, SqlType};
 use std::alloc::Global;
 
-/// The operation of a word.
-pub fn operation(alloc: Global, word: &str) -> Result<Op, Fault> {
+/// The operation of a line. A number or a text is a constant.
+pub fn operation(alloc: Global, operands: &mut Operands<'_>) -> Result<Op, Fault> {
+    if operands.begin_with_text() {
+        let text = operands.text(alloc)?;
+        return Ok(Op::Constant(Letter::T, Datum::Text(text)));
+    }
+    let word = operands.word()?;
     match plain(word).or(plain_test(word)).or(numbered(word)) {
         Some(op) => Ok(op),
-        None => constant(alloc, word),
+        None => Ok(Op::Constant(Letter::N, Datum::Num(number(word)?))),
     }
 }
 
@@ -89,20 +94,4 @@ fn sized(name: &str, number: u32) -> Option<Op> {
         "TRIMB" => Op::Trim(Side::Both),
         _ => return None,
     })
-}
-
-fn constant(alloc: Global, word: &str) -> Result<Op, Fault> {
-    match word.strip_prefix('\'') {
-        Some(text) => Ok(Op::Constant(Letter::T, text_of(alloc, text)?)),
-        None => Ok(Op::Constant(Letter::N, Datum::Num(Dec::read(word)?))),
-    }
-}
-
-/// The text of a word, in which a tilde stands for a blank.
-pub fn text_of(alloc: Global, word: &str) -> Result<Datum, Fault> {
-    let mut characters = String::new(alloc);
-    for c in word.chars() {
-        characters.push(if c == '~' { ' ' } else { c })?;
-    }
-    Ok(Datum::Text(Text::make(alloc, characters.as_str())?))
 }

@@ -1,4 +1,4 @@
-use Rattle.code_rows.proofs.answer.evaluated.Goals as goal
+use Rattle.value_rows.proofs.code.evaluated.Goals as goal
 
 pub eval-requires : goal.eval-requires
 eval-requires c = (
