@@ -7,7 +7,6 @@ use crate::call::{Call, Change};
 use crate::definition::definition;
 use crate::display;
 use crate::fault::Fault;
-use crate::like::{numbered_key, numbered_row};
 use crate::look::looked;
 use psm_table::{Key, Row, Steps, Table};
 use std::alloc::Global;
@@ -44,31 +43,14 @@ impl Alone {
     {
         match call {
             Call::Look(look) => looked(alloc, &self.table, look),
-            Call::Change(change) => self.changed(alloc, change, steps),
+            Call::Change(Change::Insert(like)) => self.insert(alloc, like.made(alloc)?, steps),
             Call::Hide(like) => self.hide(alloc, &like.made(alloc)?, steps),
             Call::Swap(like) => self.swap(alloc, like.made(alloc)?, steps),
             Call::Revive => self.revive(alloc, steps),
             Call::Settle => self.settle(alloc),
-            Call::Mark | Call::Rollback(_) | Call::Release(_) => Err(Fault::NoRow),
-        }
-    }
-
-    fn changed<L: Ledger>(
-        &mut self,
-        alloc: Global,
-        change: &Change<'_>,
-        steps: &mut Steps<L>,
-    ) -> Result<String, Fault>
-        requires { IsAlone self.old.table self.old.left }
-        ensures { IsAlone self.new.table self.new.left }
-    {
-        match change {
-            Change::Insert(like) => self.insert(alloc, like.made(alloc)?, steps),
-            Change::Replace(like) => self.replace(alloc, like.made(alloc)?, steps),
-            Change::Erase(like) => self.erase(alloc, &like.made(alloc)?, steps),
-            Change::Fill(from, to) => self.fill(alloc, *from, *to, steps),
-            Change::Drain(from, to) => self.drain(alloc, *from, *to, steps),
-            Change::Raise(..) => Err(Fault::NoRow),
+            Call::Change(_) | Call::Mark | Call::Rollback(_) | Call::Release(_) => Err(
+                Fault::NoRow,
+            ),
         }
     }
 
@@ -84,71 +66,6 @@ impl Alone {
         ensures { IsAlone self.new.table self.new.left }
     {
         self.table.insert(row, steps)?;
-        display::word(alloc, "ok")
-    }
-
-    // The row that had the key. It isn't kept.
-    #[tactic(auto, using(crate::proofs::PartsRows::row_fits))]
-    fn replace<L: Ledger>(
-        &mut self,
-        alloc: Global,
-        row: Row,
-        steps: &mut Steps<L>,
-    ) -> Result<String, Fault>
-        requires alone { IsAlone self.old.table self.old.left }
-        requires parts { IsPartsRow row }
-        ensures { IsAlone self.new.table self.new.left }
-    {
-        self.left = None;
-        let was = self.table.change(row, steps)?;
-        display::row(alloc, Some(&was))
-    }
-
-    #[tactic(auto, using(crate::proofs::PartsRows::key_fits))]
-    fn erase<L: Ledger>(
-        &mut self,
-        alloc: Global,
-        key: &Key,
-        steps: &mut Steps<L>,
-    ) -> Result<String, Fault>
-        requires alone { IsAlone self.old.table self.old.left }
-        requires parts { IsPartsKey key.now }
-        ensures { IsAlone self.new.table self.new.left }
-    {
-        self.left = None;
-        let was = self.table.erase(key, steps);
-        display::row(alloc, was.as_ref())
-    }
-
-    fn fill<L: Ledger>(
-        &mut self,
-        alloc: Global,
-        from: u32,
-        to: u32,
-        steps: &mut Steps<L>,
-    ) -> Result<String, Fault>
-        requires { IsAlone self.old.table self.old.left }
-        ensures { IsAlone self.new.table self.new.left }
-    {
-        'fill: for size in from..to {
-            let _told = self.insert(alloc, numbered_row(alloc, size, size)?, steps)?;
-        }
-        display::word(alloc, "ok")
-    }
-
-    fn drain<L: Ledger>(
-        &mut self,
-        alloc: Global,
-        from: u32,
-        to: u32,
-        steps: &mut Steps<L>,
-    ) -> Result<String, Fault>
-        requires { IsAlone self.old.table self.old.left }
-        ensures { IsAlone self.new.table self.new.left }
-    {
-        'drain: for size in from..to {
-            let _told = self.erase(alloc, &numbered_key(alloc, size)?, steps)?;
-        }
         display::word(alloc, "ok")
     }
 

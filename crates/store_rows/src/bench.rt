@@ -71,7 +71,6 @@ impl<S: Store> Bench<S> {
             Change::Replace(like) => self.replace(alloc, t, like.made(alloc)?),
             Change::Erase(like) => self.erase(alloc, t, &like.made(alloc)?),
             Change::Fill(from, to) => self.fill(alloc, t, *from, *to),
-            Change::Raise(from, to, by) => self.raise(alloc, t, *from, *to, *by),
             Change::Drain(from, to) => self.drain(alloc, t, *from, *to),
         }
     }
@@ -118,20 +117,6 @@ impl<S: Store> Bench<S> {
     {
         'fill: for size in from..to {
             self.insert(alloc, t, numbered_row(alloc, size, size)?)?;
-        }
-        Ok(())
-    }
-
-    fn raise(&mut self, alloc: Global, t: u32, from: u32, to: u32, by: u32) -> Result<(), Fault>
-        requires bench { IsBench (S.tables self.old.store) (S.marks self.old.store) (S.holds self.old.store) self.old.marks.items }
-        ensures { IsBench (S.tables self.new.store) (S.marks self.new.store) (S.holds self.new.store) self.new.marks.items }
-    {
-        'raise: for size in from..to {
-            self.replace(
-                alloc,
-                t,
-                numbered_row(alloc, size, size.saturating_add(by))?,
-            )?;
         }
         Ok(())
     }

@@ -26,24 +26,13 @@ pub enum Call<'a> {
 /// A question to a table.
 #[derive(Clone, Copy)]
 pub enum Look<'a> {
-    Get(KeyLike<'a>),
-    First,
-    Next(KeyLike<'a>),
-    Last,
-    Prev(KeyLike<'a>),
     Clash(RowLike<'a>),
     /// The rows, from the first on.
     Rows,
-    /// The rows, from the last on.
-    Back,
     /// The number of rows and the sum of their codes.
     Sum,
     /// The rows of a copy of the table.
     Copy,
-    /// A copy of the definition of a copy of the table.
-    Definition,
-    /// Copies of the row and of its key.
-    Copies(RowLike<'a>),
 }
 
 /// A change of a table.
@@ -54,8 +43,6 @@ pub enum Change<'a> {
     Erase(KeyLike<'a>),
     /// The rows of the sizes from the first number up to before the second are put in, with the size as the code.
     Fill(u32, u32),
-    /// These rows get codes that are greater by the third number.
-    Raise(u32, u32, u32),
     /// These rows are taken out.
     Drain(u32, u32),
 }
@@ -76,7 +63,7 @@ impl<'a> Call<'a> {
             "swap" => Ok(Call::Swap(operands.row()?)),
             "revive" => Ok(Call::Revive),
             "settle" => Ok(Call::Settle),
-            "insert" | "change" | "erase" | "fill" | "raise" | "drain" => {
+            "insert" | "change" | "erase" | "fill" | "drain" => {
                 Ok(Call::Change(named_change(operation, operands)?))
             }
             _ => Ok(Call::Look(named_look(operation, operands)?)),
@@ -90,39 +77,16 @@ fn named_change<'a>(operation: &str, operands: &mut Operands<'a>) -> Result<Chan
         "change" => Ok(Change::Replace(operands.row()?)),
         "erase" => Ok(Change::Erase(operands.key()?)),
         "fill" => Ok(Change::Fill(operands.count()?, operands.count()?)),
-        "raise" => Ok(Change::Raise(operands.count()?, operands.count()?, operands.count()?)),
         _ => Ok(Change::Drain(operands.count()?, operands.count()?)),
     }
 }
 
 fn named_look<'a>(operation: &str, operands: &mut Operands<'a>) -> Result<Look<'a>, Fault> {
     match operation {
-        "get" => Ok(Look::Get(operands.key()?)),
-        "next" => after(operands),
-        "prev" => before(operands),
         "clash" => Ok(Look::Clash(operands.row()?)),
         "rows" => Ok(Look::Rows),
-        "back" => Ok(Look::Back),
         "sum" => Ok(Look::Sum),
         "copy" => Ok(Look::Copy),
-        "definition" => Ok(Look::Definition),
-        "copies" => Ok(Look::Copies(operands.row()?)),
         _ => Err(Fault::NoRow),
-    }
-}
-
-fn after<'a>(operands: &mut Operands<'a>) -> Result<Look<'a>, Fault> {
-    if operands.is_empty() {
-        Ok(Look::First)
-    } else {
-        Ok(Look::Next(operands.key()?))
-    }
-}
-
-fn before<'a>(operands: &mut Operands<'a>) -> Result<Look<'a>, Fault> {
-    if operands.is_empty() {
-        Ok(Look::Last)
-    } else {
-        Ok(Look::Prev(operands.key()?))
     }
 }

@@ -6,8 +6,6 @@ ghost use Rattle.store_rows.specs.Parts.{IsPartsTable};
 
 use crate::fault::Fault;
 use psm_table::{Column, Datum, List, Name, SqlType, TableDef};
-use psm_text::Text;
-use psm_value::Dec;
 use std::alloc::Global;
 
 /// A table of a name, a size and a code, of which the first two are the key and the code is UNIQUE.
@@ -27,27 +25,19 @@ pub fn definition(alloc: Global) -> Result<TableDef, Fault>
 fn columns(alloc: Global) -> Result<List<Column>, Fault>
     ensures { IfOk result (λ columns. kinds_of columns ≡ VarChar 10 ∷ Numeric 5 2 ∷ Integer ∷ []) }
 {
-    let name = column(alloc, "name", SqlType::VarChar { n: 10 }, none(alloc)?)?;
-    let size = column(alloc, "size", SqlType::Numeric { p: 5, s: 2 }, half()?)?;
-    let code = column(alloc, "code", SqlType::Integer, Datum::Null)?;
+    let name = column(alloc, "name", SqlType::VarChar { n: 10 })?;
+    let size = column(alloc, "size", SqlType::Numeric { p: 5, s: 2 })?;
+    let code = column(alloc, "code", SqlType::Integer)?;
     Ok(List::of(vec![in alloc; name, size, code]?))
 }
 
-fn column(alloc: Global, name: &str, kind: SqlType, default: Datum) -> Result<Column, Fault>
+fn column(alloc: Global, name: &str, kind: SqlType) -> Result<Column, Fault>
     ensures { IfOk result (λ c. c.kind ≡ kind) }
 {
     Ok(Column {
         name: Name::make(alloc, name)?,
         kind,
         not_null: kind != SqlType::Integer,
-        default,
+        default: Datum::Null,
     })
-}
-
-fn none(alloc: Global) -> Result<Datum, Fault> {
-    Ok(Datum::Text(Text::make(alloc, "none")?))
-}
-
-fn half() -> Result<Datum, Fault> {
-    Ok(Datum::Num(Dec::new(50, 2).ok_or(Fault::NoRow)?))
 }

@@ -1,8 +1,8 @@
-//! Rows, keys and definitions in words.
+//! Rows and answers in words.
 
 use crate::fault::Fault;
-use psm_table::{Column, Datum, Row, SqlType, TableDef};
-use std::alloc::{AllocError, Global};
+use psm_table::{Datum, Row};
+use std::alloc::Global;
 use std::str;
 
 /// The values as a script prints them, between parentheses.
@@ -55,58 +55,4 @@ pub fn done(alloc: Global, done: Result<(), Fault>) -> Result<String, Fault> {
 /// How many marks were open before one.
 pub fn depth(alloc: Global, depth: u128) -> Result<String, Fault> {
     Ok(format!(in alloc; "{depth}")?)
-}
-
-/// The name, the columns, the places of those in the key and of those in each UNIQUE list.
-pub fn definition(alloc: Global, def: &TableDef) -> Result<String, Fault> {
-    let mut display = String::from_str(alloc, def.name.as_str())?;
-    for column in def.columns.items() {
-        put_column(alloc, &mut display, column)?;
-    }
-    display.push_str(" KEY")?;
-    put_places(alloc, &mut display, def.key.items())?;
-    for list in def.unique.items() {
-        display.push_str(" UNIQUE")?;
-        put_places(alloc, &mut display, list.items())?;
-    }
-    Ok(display)
-}
-
-fn put_column(alloc: Global, display: &mut String, column: &Column) -> Result<(), Fault> {
-    display.push_str(", ")?;
-    display.push_str(column.name.as_str())?;
-    put_type(alloc, display, column.kind)?;
-    if column.not_null {
-        display.push_str(" NOT NULL")?;
-    }
-    display.push_str(" DEFAULT ")?;
-    let default = values(alloc, &[column.default.copy(alloc)?])?;
-    display.push_str(default.as_str())?;
-    Ok(())
-}
-
-fn put_type(alloc: Global, display: &mut String, kind: SqlType) -> Result<(), AllocError> {
-    match kind {
-        SqlType::SmallInt => display.push_str(" SMALLINT"),
-        SqlType::Integer => display.push_str(" INTEGER"),
-        SqlType::Numeric { p, s } => {
-            let text = format!(in alloc; " NUMERIC({p},{s})")?;
-            display.push_str(text.as_str())
-        }
-        SqlType::Char { n } => put_sized(alloc, display, " CHAR", n),
-        SqlType::VarChar { n } => put_sized(alloc, display, " VARCHAR", n),
-    }
-}
-
-fn put_sized(alloc: Global, display: &mut String, word: &str, n: u16) -> Result<(), AllocError> {
-    let text = format!(in alloc; "{word}({n})")?;
-    display.push_str(text.as_str())
-}
-
-fn put_places(alloc: Global, display: &mut String, places: &[u32]) -> Result<(), AllocError> {
-    for place in places {
-        let text = format!(in alloc; " {place}")?;
-        display.push_str(text.as_str())?;
-    }
-    Ok(())
 }

@@ -4,8 +4,8 @@ ghost use Rattle.store_rows.specs.Parts.{IsPartsTable};
 use crate::call::Look;
 use crate::display;
 use crate::fault::Fault;
-use crate::like::{KeyLike, RowLike};
-use crate::walk::{falling, rising};
+use crate::like::RowLike;
+use crate::walk::rising;
 use psm_table::{Datum, Row, Table};
 use std::alloc::Global;
 
@@ -13,43 +13,11 @@ pub fn looked(alloc: Global, table: &Table, look: &Look<'_>) -> Result<String, F
     requires { IsPartsTable table.now.contents.def }
 {
     match look {
-        Look::Get(key) => get(alloc, table, key),
-        Look::First => display::row(alloc, table.next_after(None)),
-        Look::Next(key) => next(alloc, table, key),
-        Look::Last => display::row(alloc, table.prev_before(None)),
-        Look::Prev(key) => prev(alloc, table, key),
         Look::Clash(row) => clash(alloc, table, row),
         Look::Rows => display::rows(alloc, rising(alloc, table)?.as_slice()),
-        Look::Back => display::rows(alloc, falling(alloc, table)?.as_slice()),
         Look::Sum => sum(alloc, table),
         Look::Copy => copied(alloc, table),
-        Look::Definition => defined(alloc, table),
-        Look::Copies(row) => copies(alloc, row),
     }
-}
-
-#[tactic(auto, using(crate::proofs::PartsRows::key_fits))]
-fn get(alloc: Global, table: &Table, key: &KeyLike<'_>) -> Result<String, Fault>
-    requires { IsPartsTable table.now.contents.def }
-{
-    let key = key.made(alloc)?;
-    display::row(alloc, table.get(&key))
-}
-
-#[tactic(auto, using(crate::proofs::PartsRows::key_fits))]
-fn next(alloc: Global, table: &Table, key: &KeyLike<'_>) -> Result<String, Fault>
-    requires { IsPartsTable table.now.contents.def }
-{
-    let key = key.made(alloc)?;
-    display::row(alloc, table.next_after(Some(&key)))
-}
-
-#[tactic(auto, using(crate::proofs::PartsRows::key_fits))]
-fn prev(alloc: Global, table: &Table, key: &KeyLike<'_>) -> Result<String, Fault>
-    requires { IsPartsTable table.now.contents.def }
-{
-    let key = key.made(alloc)?;
-    display::row(alloc, table.prev_before(Some(&key)))
 }
 
 #[tactic(auto, using(crate::proofs::PartsRows::row_has_columns))]
@@ -80,17 +48,4 @@ fn copied(alloc: Global, table: &Table) -> Result<String, Fault> {
     let copy = table.copy(alloc)?;
     let rows = rising(alloc, &copy)?;
     display::rows(alloc, rows.as_slice())
-}
-
-fn defined(alloc: Global, table: &Table) -> Result<String, Fault> {
-    let copy = table.copy(alloc)?;
-    display::definition(alloc, &copy.def().copy(alloc)?)
-}
-
-fn copies(alloc: Global, like: &RowLike<'_>) -> Result<String, Fault> {
-    let key = like.key.made(alloc)?.copy(alloc)?;
-    let row = like.made(alloc)?.copy(alloc)?;
-    let mut display = display::values(alloc, key.values())?;
-    display.push_str(display::values(alloc, row.values())?.as_str())?;
-    Ok(display)
 }

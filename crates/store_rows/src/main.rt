@@ -1,4 +1,5 @@
-//! Reads rows from standard input, one a line, and prints each with what a table and the stores answer.
+//! Reads rows from standard input, one a line, and prints each with what a table and the stores answer. The stored rows are
+//! those that `run_rows` doesn't try; most are calls in an order to which no script leads.
 //!
 //! A row is an operation, and its operands after a blank each. The tables have rows of a name, a size and a code:
 //! `'a' 1.5 7`, where the code may be `NULL`. Name and size are the key, and the code is UNIQUE. An operation is on

@@ -17,18 +17,3 @@ pub fn rising(alloc: Global, table: &Table) -> Result<Vec<&Row>, AllocError> {
     }
     Ok(rows)
 }
-
-/// The rows from the last on.
-pub fn falling(alloc: Global, table: &Table) -> Result<Vec<&Row>, AllocError> {
-    let mut rows = Vec::new(alloc);
-    let mut next = table.prev_before(None);
-    'walk: for _ in 0..table.len() {
-        let Some(row) = next else {
-            break;
-        };
-        rows.push(row)?;
-        let key = table.key_of(alloc, row)?;
-        next = table.prev_before(Some(&key));
-    }
-    Ok(rows)
-}
