@@ -83,7 +83,7 @@ impl Case {
                 self.following = None;
                 self.part = Part::Script;
             }
-            "behind" => {
+            "after" => {
                 self.following = Some(String::new(alloc));
                 self.part = Part::After;
             }

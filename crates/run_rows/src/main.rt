@@ -1,7 +1,7 @@
 //! Reads cases from standard input, runs each over both stores, and prints what was written and how the runs ended.
 //!
 //! A case begins with a line `== NAME`. Its other lines are texts of files, and lines that begin with `= `: after `= module` stands the
-//! module file, after `= script` the script, and after `= following` a second script, which is run over the tables that the first one
+//! module file, after `= script` the script, and after `= after` a second script, which is run over the tables that the first one
 //! left, with 1,000,000 turns and a sink that takes all. `= turns N` gives the turns of the script; without it there are 1,000,000 too.
 //! At `= put N keeps K` put N of the sink fails, and K bytes of its piece are kept, or all of it with `= put N keeps all`; at
 //! `= put N memory` it finds no memory. Files that a case doesn't give are those of the case before: a new module comes without scripts,
