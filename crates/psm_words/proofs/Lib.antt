@@ -1,0 +1,13 @@
+pub mod Characters
+pub mod DatumLaws
+pub mod DecimalLaws
+pub mod Decimals
+pub mod Further
+pub mod HexDigits
+pub mod NumberLaws
+pub mod QuotedLaws
+pub mod Several
+pub mod StackLaws
+pub mod StateLaws
+pub mod TypeLaws
+pub mod Writing
