@@ -1,7 +1,7 @@
 pub mod Characters
 pub mod DatumLaws
+pub mod DecimalDigits
 pub mod DecimalLaws
-pub mod Decimals
 pub mod Further
 pub mod HexDigits
 pub mod NumberLaws

@@ -1,5 +1,5 @@
 -- How the words of a listing are written, as lists of bytes, which are all ASCII.
-use Rattle.std.specs.Prelude.{◌≡◌, ℕ, ◌^◌, ◌<◌, ◌≤◌, Bool, ◌&&◌, not, IsTrue, List, [], ◌∷◌, ◌++◌, map, length, codes, decimal, nat_eq, unsigned_abs, if◌then◌else◌}
+use Rattle.std.specs.Prelude.{◌≡◌, ℕ, ◌^◌, ◌<◌, ◌≤◌, Bool, true, ◌&&◌, not, IsTrue, List, [], ◌∷◌, ◌++◌, map, length, codes, decimal, nat_eq, unsigned_abs, if◌then◌else◌}
 use Rattle.std.specs.Fmt.{digits}
 use Rattle.std.specs.Int.{is_in_range}
 use Rattle.std.specs.List.{flat_map, list_all}
