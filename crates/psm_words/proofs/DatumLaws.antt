@@ -1,5 +1,5 @@
 -- A value that is written is read again, and a value that is read was written so.
-use Rattle.std.proofs.Common.{◌≡◌, ℕ, ◌^◌, ◌<◌, ◌≤◌, Bool, true, false, nat_le, List, [], ◌∷◌, ◌++◌, length, Option, Some, None, unsigned_abs, refl, sym, ap, subst, ◌∙◌, arith}
+use Rattle.std.proofs.Common.{◌≡◌, ℕ, ◌^◌, ◌<◌, ◌≤◌, Bool, true, false, nat_le, List, [], ◌∷◌, ◌++◌, length, Option, Some, unsigned_abs, refl, sym, ap, subst, ◌∙◌, arith}
 use Rattle.std.specs.Prelude.{Result, Ok, Err, codes, nat_eq, if◌then◌else◌}
 use Rattle.std.specs.Result.{result_ok}
 use Rattle.psm_text.specs.declared.fault.TextFault.{TextFault}
@@ -11,7 +11,7 @@ use Rattle.psm_num.specs.Printed.{printed}
 use Rattle.psm_value.specs.declared.datum.Datum.{Datum}
 use Rattle.psm_value.specs.declared.datum.Datum.TheVariants as data_of
 use Rattle.psm_words.specs.Words.{quoted, datum_word, IsDatum}
-use Rattle.psm_words.specs.Reading.{◌>>=◌, after, quoted_at, decimal_at, as_text, as_number, as_null, datum_at, ends_datum, most_digits}
+use Rattle.psm_words.specs.Reading.{◌>>=◌, after, quoted_at, decimal_at, as_text, as_number, as_null, datum_at, ends_datum}
 use Rattle.psm_words.proofs.QuotedLaws.{quoted_again, quoted_takes}
 use Rattle.psm_words.proofs.Several.{bind_some, some_is, after_takes}
 use Rattle.psm_words.proofs.DecimalLaws.{decimal_again, decimal_takes, first_printed}

@@ -8,7 +8,7 @@ use Rattle.std.proofs.lemmas.List.{append-nil}
 use Rattle.psm_num.specs.Num.{Num}
 use Rattle.psm_num.specs.Literal.{signed}
 use Rattle.psm_num.specs.Printed.{printed, decimals_of}
-use Rattle.psm_words.specs.Reading.{◌>>=◌, begins_with_digit, begins_with_point, longer, number_at, most_digits, Unsigned, decimals_on, point_on, unsigned_at, signed_number, with_sign, decimal_at}
+use Rattle.psm_words.specs.Reading.{◌>>=◌, begins_with_digit, begins_with_point, longer, number_at, most_digits, Unsigned, decimals_on, point_on, unsigned_at, with_sign, decimal_at}
 use Rattle.psm_words.proofs.NumberLaws.{digit_is, digit_bounds, number_again, number_takes, both_true}
 use Rattle.psm_words.proofs.Several.{bind_some, some_is}
 use Rattle.psm_words.proofs.DecimalDigits.{whole, tail, tail_text, unsigned_text, printed_unsigned, whole-more, tail-more}

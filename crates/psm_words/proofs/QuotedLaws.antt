@@ -1,5 +1,5 @@
 -- A quoted text that is written is read again, and a text that is read was written so.
-use Rattle.std.proofs.Common.{◌≡◌, ℕ, zero, suc, ◌+◌, ◌-◌, ◌*◌, ◌/◌, ◌%◌, ◌^◌, ◌<◌, ◌≤◌, Bool, true, false, ◌&&◌, not, nat_lt, nat_le, List, [], ◌∷◌, ◌++◌, Option, Some, None, refl, sym, ap, subst, ◌∙◌, append_assoc, arith, inl, inr}
+use Rattle.std.proofs.Common.{◌≡◌, ℕ, ◌+◌, ◌*◌, ◌/◌, ◌%◌, ◌<◌, ◌≤◌, Bool, true, false, ◌&&◌, not, nat_lt, List, [], ◌∷◌, ◌++◌, Option, Some, None, refl, sym, ap, subst, ◌∙◌, append_assoc, arith, inl, inr}
 use Rattle.std.specs.Prelude.{nat_eq, if◌then◌else◌}
 use Rattle.std.specs.Fmt.{digits}
 use Rattle.std.specs.List.{flat_map}
@@ -12,8 +12,8 @@ use Rattle.psm_words.specs.declared.quoting.Within.TheVariants as within
 use Rattle.psm_words.specs.declared.quoting.Step.{Step}
 use Rattle.psm_words.specs.declared.quoting.Step.TheVariants as step
 use Rattle.psm_words.specs.Words.{is_plain, character, quoted}
-use Rattle.psm_words.specs.Reading.{hex_digit, more_digits, escaped, step_of, Reader, after_step, text_on, quoted_at}
-use Rattle.psm_words.proofs.HexDigits.{glyph, hex_step, hex_more, hex_one, hex_by_steps, hex_digit-glyph, glyph-hex_digit, glyph_no_brace}
+use Rattle.psm_words.specs.Reading.{hex_digit, more_digits, escaped, step_of, after_step, text_on, quoted_at}
+use Rattle.psm_words.proofs.HexDigits.{glyph, hex_more, hex_one, hex_by_steps, hex_digit-glyph, glyph-hex_digit, glyph_no_brace}
 use Rattle.psm_words.proofs.NumberLaws.{both_true}
 
 -- ---- what is written is read

@@ -1,6 +1,6 @@
 -- A stack that is written is read again, and a stack that is read was written so.
 use Rattle.std.proofs.Common.{◌≡◌, ℕ, Bool, true, false, List, [], ◌∷◌, ◌++◌, map, Option, Some, None, refl, sym, ap, subst, ◌∙◌, append_assoc}
-use Rattle.std.specs.Prelude.{codes, is_some, nat_eq, not, if◌then◌else◌}
+use Rattle.std.specs.Prelude.{is_some, nat_eq, not, if◌then◌else◌}
 use Rattle.std.proofs.lemmas.Bool.{eqb-true}
 use Rattle.std.proofs.lemmas.List.{append-nil}
 use Rattle.psm_exprcode.specs.declared.op.Letter.{Letter}

@@ -8,8 +8,12 @@ use Rattle.psm_words.specs.Words.{is_state_byte, state_word, IsStateWord}
 use Rattle.psm_words.specs.Reading.{state_at}
 use Rattle.psm_words.proofs.Several.{some_is}
 
+-- what is read, by the tests of the size and of the bytes
+abbrev read_by : Bool → Bool → List ℕ → List ℕ → Option (List ℕ × List ℕ)
+read_by a b t rest = if a && b then Some (t, rest) else None
+
 abbrev parts : List ℕ → List ℕ → Option (List ℕ × List ℕ)
-parts t r = if nat_eq (length t) 5 && list_all is_state_byte t then Some (t, r) else None
+parts t rest = read_by (nat_eq (length t) 5) (list_all is_state_byte t) t rest
 
 pub state_again : (t rest : List ℕ) → IsStateWord t → state_at (state_word t ++ rest) ≡ Some (t, rest)
 state_again t rest h =
@@ -17,8 +21,8 @@ state_again t rest h =
     let bytes : list_all is_state_byte t ≡ true = h.1 in
     ap (λ (u : List ℕ). parts u (drop 5 (t ++ rest))) (take_at t rest 5 h.0)
     ∙ ap (λ (u : List ℕ). parts t u) (drop_at t rest 5 h.0)
-    ∙ ap (λ b. if b && list_all is_state_byte t then Some (t, rest) else None) five
-    ∙ ap (λ b. if b then Some (t, rest) else None) bytes
+    ∙ ap (λ b. read_by b (list_all is_state_byte t) t rest) five
+    ∙ ap (λ b. read_by true b t rest) bytes
 
 abbrev Took : List ℕ → List ℕ × List ℕ → Type 0
 Took s x = (s ≡ state_word x.0 ++ x.1) × IsStateWord x.0
@@ -26,7 +30,7 @@ Took s x = (s ≡ state_word x.0 ++ x.1) × IsStateWord x.0
 pub state_takes : (s t rest : List ℕ) → state_at s ≡ Some (t, rest) → (s ≡ state_word t ++ rest) × IsStateWord t
 state_takes s t rest e = by (nat_eq (length (take 5 s)) 5) (list_all is_state_byte (take 5 s)) refl refl e
   where
-    by : (a b : Bool) → nat_eq (length (take 5 s)) 5 ≡ a → list_all is_state_byte (take 5 s) ≡ b → (if a && b then Some (take 5 s, drop 5 s) else None) ≡ Some (t, rest) → Took s (t, rest)
+    by : (a b : Bool) → nat_eq (length (take 5 s)) 5 ≡ a → list_all is_state_byte (take 5 s) ≡ b → read_by a b (take 5 s) (drop 5 s) ≡ Some (t, rest) → Took s (t, rest)
     by false b f g e = absurd cc
     by true false f g e = absurd cc
     by true true f g e =

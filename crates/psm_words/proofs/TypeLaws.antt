@@ -1,6 +1,7 @@
 -- A type that is written is read again, and a type that is read was written so.
 use Rattle.std.proofs.Common.{◌≡◌, ℕ, ◌^◌, ◌<◌, ◌≤◌, Bool, true, false, List, [], ◌∷◌, ◌++◌, Option, Some, None, refl, sym, ap, subst, ◌∙◌, append_assoc, arith}
-use Rattle.std.specs.Prelude.{codes, decimal, nat_eq, if◌then◌else◌}
+use Rattle.std.specs.Prelude.{Result, Ok, Err, IfOk, codes, decimal, string_bytes, nat_eq, if◌then◌else◌}
+use Rattle.std.specs.Global.{String}
 use Rattle.psm_value.specs.declared.sqltype.SqlType.{SqlType}
 use Rattle.psm_value.specs.declared.sqltype.SqlType.TheVariants as kinds
 use Rattle.psm_words.specs.Words.{type_word, FitsType}
@@ -11,6 +12,13 @@ use Rattle.psm_words.proofs.Several.{bind_some, some_is, after_takes}
 -- two numbers, each with a byte behind it
 regroup : (a b : List ℕ) (c d : ℕ) (rest : List ℕ) → (((a ++ c ∷ []) ++ b) ++ d ∷ []) ++ rest ≡ a ++ (c ∷ (b ++ (d ∷ rest)))
 regroup a b c d rest = append_assoc ((a ++ c ∷ []) ++ b) (d ∷ []) rest ∙ append_assoc (a ++ c ∷ []) b (d ∷ rest) ∙ append_assoc a (c ∷ []) (b ++ (d ∷ rest))
+
+-- the pieces that are written one after another
+pub numeric_written : {E : Type 0} (r : Result String E) (kind : SqlType) (p d : ℕ) → kind ≡ kinds.Numeric p d
+    → IfOk r (λ w. string_bytes w ≡ codes "NUMERIC(" ++ (decimal p ++ (codes "," ++ (decimal d ++ codes ")")))) → IfOk r (λ w. string_bytes w ≡ type_word kind)
+numeric_written (Ok w) kind p d e h =
+    h ∙ ap (λ (l : List ℕ). codes "NUMERIC(" ++ l) (sym (append_assoc (decimal p ++ 44 ∷ []) (decimal d) (41 ∷ []) ∙ append_assoc (decimal p) (44 ∷ []) (decimal d ++ 41 ∷ []))) ∙ ap type_word (sym e)
+numeric_written (Err x) kind p d e h = tt
 
 -- ---- what is written is read
 
@@ -50,37 +58,42 @@ plain_takes word kind s x w fits e =
     let made : SqlType × List ℕ = (kind, a.0) in
     subst (Took s) (some_is made x a.2) (after_takes word s a.0 a.1 ∙ ap (λ (u : List ℕ). u ++ a.0) w, fits)
 
+-- what the parts of a type say of the whole
+numeric_spelled : (s a m b rest : List ℕ) (p d : ℕ) → s ≡ codes "NUMERIC(" ++ a → a ≡ decimal p ++ m → m ≡ 44 ∷ b → b ≡ decimal d ++ (41 ∷ rest) → s ≡ type_word (kinds.Numeric p d) ++ rest
+numeric_spelled s a m b rest p d e f g h =
+    let inner : a ≡ decimal p ++ (44 ∷ (decimal d ++ (41 ∷ rest))) = f ∙ ap (λ (l : List ℕ). decimal p ++ l) (g ∙ ap (λ (l : List ℕ). 44 ∷ l) h) in
+    e ∙ ap (λ (l : List ℕ). codes "NUMERIC(" ++ l) (inner ∙ sym (regroup (decimal p) (decimal d) 44 41 rest))
+
+closed_spelled : (word s a rest : List ℕ) (n : ℕ) → s ≡ word ++ a → a ≡ decimal n ++ (41 ∷ rest) → s ≡ word ++ ((decimal n ++ 41 ∷ []) ++ rest)
+closed_spelled word s a rest n e f = e ∙ ap (λ (l : List ℕ). word ++ l) (f ∙ sym (append_assoc (decimal n) (41 ∷ []) rest))
+
 numeric_takes : (s : List ℕ) (x : SqlType × List ℕ) → numeric_at s ≡ Some x → Took s x
 numeric_takes s x e =
     let a = bind_some (after (codes "NUMERIC(") s) digits_and_decimals x e in
     let b = bind_some (number_at 255 a.0) (λ p. after (codes ",") p.1 >>= λ t. closed_number 255 t >>= λ d. Some (kinds.Numeric p.0 d.0, d.1)) x a.2 in
     let c = bind_some (after (codes ",") b.0.1) (λ t. closed_number 255 t >>= λ d. Some (kinds.Numeric b.0.0 d.0, d.1)) x b.2 in
     let d = bind_some (closed_number 255 c.0) (λ d. Some (kinds.Numeric b.0.0 d.0, d.1)) x c.2 in
-    let front : s ≡ codes "NUMERIC(" ++ a.0 = after_takes (codes "NUMERIC(") s a.0 a.1 in
     let digits = number_takes 255 b.0.0 a.0 b.0.1 (omega arith) b.1 in
-    let comma : b.0.1 ≡ 44 ∷ c.0 = after_takes (codes ",") b.0.1 c.0 c.1 in
     let decimals = closed_takes 255 c.0 d.0 (omega arith) d.1 in
-    let inner : a.0 ≡ decimal b.0.0 ++ (44 ∷ (decimal d.0.0 ++ (41 ∷ d.0.1))) = digits.0 ∙ ap (λ (l : List ℕ). decimal b.0.0 ++ l) (comma ∙ ap (λ (l : List ℕ). 44 ∷ l) decimals.0) in
     let made : SqlType × List ℕ = (kinds.Numeric b.0.0 d.0.0, d.0.1) in
-    subst (Took s) (some_is made x d.2) (front ∙ ap (λ (l : List ℕ). codes "NUMERIC(" ++ l) (inner ∙ sym (regroup (decimal b.0.0) (decimal d.0.0) 44 41 d.0.1)), (digits.1, decimals.1))
+    subst (Took s) (some_is made x d.2)
+    (numeric_spelled s a.0 b.0.1 c.0 d.0.1 b.0.0 d.0.0 (after_takes (codes "NUMERIC(") s a.0 a.1) digits.0 (after_takes (codes ",") b.0.1 c.0 c.1) decimals.0, (digits.1, decimals.1))
 
 char_takes : (s : List ℕ) (x : SqlType × List ℕ) → (length_after (codes "CHAR(") s >>= as_char) ≡ Some x → Took s x
 char_takes s x e =
     let a = bind_some (length_after (codes "CHAR(") s) as_char x e in
     let b = bind_some (after (codes "CHAR(") s) (closed_number 65535) a.0 a.1 in
-    let front : s ≡ codes "CHAR(" ++ b.0 = after_takes (codes "CHAR(") s b.0 b.1 in
     let inner = closed_takes 65535 b.0 a.0 (omega arith) b.2 in
     let made : SqlType × List ℕ = (kinds.Char a.0.0, a.0.1) in
-    subst (Took s) (some_is made x a.2) (front ∙ ap (λ (l : List ℕ). codes "CHAR(" ++ l) (inner.0 ∙ sym (append_assoc (decimal a.0.0) (41 ∷ []) a.0.1)), inner.1)
+    subst (Took s) (some_is made x a.2) (closed_spelled (codes "CHAR(") s b.0 a.0.1 a.0.0 (after_takes (codes "CHAR(") s b.0 b.1) inner.0, inner.1)
 
 varchar_takes : (s : List ℕ) (x : SqlType × List ℕ) → (length_after (codes "VARCHAR(") s >>= as_varchar) ≡ Some x → Took s x
 varchar_takes s x e =
     let a = bind_some (length_after (codes "VARCHAR(") s) as_varchar x e in
     let b = bind_some (after (codes "VARCHAR(") s) (closed_number 65535) a.0 a.1 in
-    let front : s ≡ codes "VARCHAR(" ++ b.0 = after_takes (codes "VARCHAR(") s b.0 b.1 in
     let inner = closed_takes 65535 b.0 a.0 (omega arith) b.2 in
     let made : SqlType × List ℕ = (kinds.VarChar a.0.0, a.0.1) in
-    subst (Took s) (some_is made x a.2) (front ∙ ap (λ (l : List ℕ). codes "VARCHAR(" ++ l) (inner.0 ∙ sym (append_assoc (decimal a.0.0) (41 ∷ []) a.0.1)), inner.1)
+    subst (Took s) (some_is made x a.2) (closed_spelled (codes "VARCHAR(") s b.0 a.0.1 a.0.0 (after_takes (codes "VARCHAR(") s b.0 b.1) inner.0, inner.1)
 
 type_takes_by : (a b c d e : Bool) (s : List ℕ) (x : SqlType × List ℕ)
     → (if a then plain_type (codes "SMALLINT") kinds.SmallInt s
