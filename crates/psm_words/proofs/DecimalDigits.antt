@@ -80,22 +80,22 @@ filled-tail zero m h small =
 filled-tail (suc k) m h small =
     elim (cases_lt m 10) [
       | inl l ↦
-        let last : m ≡ m % 10 = omega arith in
-        let front : 0 ≡ m / 10 = omega arith in
-        let low : 0 < 10 ^ suc k = power_pos (suc k) in
-        let zeros : replicate (suc k) 48 ≡ tail (suc k) 0 =
-        (let j : suc k ≡ k + 1 = omega arith in ap (λ i. replicate i 48) j) ∙ sym (replicate_more k 48) ∙ sym (filled_one k 0 (omega arith)) ∙ filled-tail k 0 low (omega arith) in
-        filled_one (suc k) m l ∙ ap (λ (u : List ℕ). u ++ (48 + m) ∷ []) zeros ∙ ap (λ j. tail (suc k) j ++ (48 + m) ∷ []) front ∙ ap (λ j. tail (suc k) (m / 10) ++ (48 + j) ∷ []) last
+          let last : m ≡ m % 10 = omega arith in
+          let front : 0 ≡ m / 10 = omega arith in
+          let low : 0 < 10 ^ suc k = power_pos (suc k) in
+          let zeros : replicate (suc k) 48 ≡ tail (suc k) 0 =
+          (let j : suc k ≡ k + 1 = omega arith in ap (λ i. replicate i 48) j) ∙ sym (replicate_more k 48) ∙ sym (filled_one k 0 (omega arith)) ∙ filled-tail k 0 low (omega arith) in
+          filled_one (suc k) m l ∙ ap (λ (u : List ℕ). u ++ (48 + m) ∷ []) zeros ∙ ap (λ j. tail (suc k) j ++ (48 + m) ∷ []) front ∙ ap (λ j. tail (suc k) (m / 10) ++ (48 + j) ∷ []) last
       | inr l ↦
-        let n : 10 ^ suc (suc k) ≡ 10 * 10 ^ suc k = power_next (suc k) in
-        let b : m / 10 < 10 ^ suc k = omega (arith, h, n) in
-        let d : decimal m ≡ decimal (m / 10) ++ (48 + m % 10) ∷ [] = decimal_step m l small in
-        let len : length (decimal (m / 10) ++ (48 + m % 10) ∷ []) ≡ length (decimal (m / 10)) + 1 = length-append (decimal (m / 10)) ((48 + m % 10) ∷ []) in
-        let fill : suc (suc k) - length (decimal (m / 10) ++ (48 + m % 10) ∷ []) ≡ suc k - length (decimal (m / 10)) = omega (arith, len) in
-        ap (λ (u : List ℕ). replicate (suc (suc k) - length u) 48 ++ u) d
-        ∙ ap (λ j. replicate j 48 ++ (decimal (m / 10) ++ (48 + m % 10) ∷ [])) fill
-        ∙ sym (append_assoc (replicate (suc k - length (decimal (m / 10))) 48) (decimal (m / 10)) ((48 + m % 10) ∷ []))
-        ∙ ap (λ (u : List ℕ). u ++ (48 + m % 10) ∷ []) (filled-tail k (m / 10) b (omega arith))
+          let n : 10 ^ suc (suc k) ≡ 10 * 10 ^ suc k = power_next (suc k) in
+          let b : m / 10 < 10 ^ suc k = omega (arith, h, n) in
+          let d : decimal m ≡ decimal (m / 10) ++ (48 + m % 10) ∷ [] = decimal_step m l small in
+          let len : length (decimal (m / 10) ++ (48 + m % 10) ∷ []) ≡ length (decimal (m / 10)) + 1 = length-append (decimal (m / 10)) ((48 + m % 10) ∷ []) in
+          let fill : suc (suc k) - length (decimal (m / 10) ++ (48 + m % 10) ∷ []) ≡ suc k - length (decimal (m / 10)) = omega (arith, len) in
+          ap (λ (u : List ℕ). replicate (suc (suc k) - length u) 48 ++ u) d
+          ∙ ap (λ j. replicate j 48 ++ (decimal (m / 10) ++ (48 + m % 10) ∷ [])) fill
+          ∙ sym (append_assoc (replicate (suc k - length (decimal (m / 10))) 48) (decimal (m / 10)) ((48 + m % 10) ∷ []))
+          ∙ ap (λ (u : List ℕ). u ++ (48 + m % 10) ∷ []) (filled-tail k (m / 10) b (omega arith))
     ]
 
 -- the digits of a number, in the words of its printed form

@@ -95,6 +95,7 @@ first_of n small = decimal_by_steps (λ m ds. First ds) one more n small
   where
     one : (m : ℕ) → m < 10 → First ((48 + m) ∷ [])
     one m h = record { byte = 48 + m; others = []; is = refl; low = omega arith; high = omega arith }
+
     more : (m : ℕ) (ds : List ℕ) → 10 ≤ m → First ds → First (ds ++ ((48 + m % 10) ∷ []))
     more m ds h f = record { byte = f.byte; others = f.others ++ ((48 + m % 10) ∷ []); is = ap (λ u. u ++ ((48 + m % 10) ∷ [])) f.is; low = f.low; high = f.high }
 

@@ -71,6 +71,7 @@ hex_digit-glyph d h = elim (cases_lt d 10) [ inl l ↦ small l | inr l ↦ large
   where
     small : d < 10 → hex_digit (glyph d) ≡ Some d
     small l = let e : glyph d ≡ 48 + d = rw (lt-ltb d 10 l) refl in rw e (grind arith)
+
     large : 10 ≤ d → hex_digit (glyph d) ≡ Some d
     large l = let e : glyph d ≡ 55 + d = rw (le-ltb d 10 l) refl in rw e (grind arith)
 

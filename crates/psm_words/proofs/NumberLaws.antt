@@ -32,6 +32,7 @@ number_at-decimal most n s small = decimal_by_steps (λ m ds. (s : List ℕ) →
   where
     one : (m : ℕ) → m < 10 → (s : List ℕ) → m ≤ most → number_at most (((48 + m) ∷ []) ++ s) ≡ number_on most m s
     one m h s le = first_digit most m s h le
+
     more : (m : ℕ) (ds : List ℕ) → 10 ≤ m → ((s : List ℕ) → m / 10 ≤ most → number_at most (ds ++ s) ≡ number_on most (m / 10) s)
         → (s : List ℕ) → m ≤ most → number_at most ((ds ++ ((48 + m % 10) ∷ [])) ++ s) ≡ number_on most m s
     more m ds h p s le =

@@ -38,6 +38,7 @@ text_on-digits before n s small = hex_by_steps (λ m ds. (s : List ℕ) → m < 
         let same : 0 * 16 + m ≡ m = omega arith in
         read_step before within.Brace (glyph m) s (step.To (within.CodePoint (0 * 16 + m))) (ap (more_digits 0) (hex_digit-glyph m h))
         ∙ ap (λ k. text_on before (within.CodePoint k) s) same
+
     more : (m : ℕ) (ds : List ℕ) → 16 ≤ m → ((s : List ℕ) → m / 16 < 1114112 → text_on before within.Brace (ds ++ s) ≡ text_on before (within.CodePoint (m / 16)) s)
         → (s : List ℕ) → m < 1114112 → text_on before within.Brace ((ds ++ glyph (m % 16) ∷ []) ++ s) ≡ text_on before (within.CodePoint m) s
     more m ds h p s le =
@@ -107,6 +108,7 @@ stepped within.Text c = by (is_plain c) (nat_eq c 39) (nat_eq c 92) refl refl re
   where
     plain_bound : is_plain c ≡ true → c < 128
     plain_bound e = grind arith
+
     by : (a b d : Bool) → is_plain c ≡ a → nat_eq c 39 ≡ b → nat_eq c 92 ≡ d
         → Stepped within.Text c (if a then step.Character c else if b then step.Close else if d then step.To within.Backslash else step.Wrong)
     by true b d e f g = (rw e refl, low_scalar c (omega (arith, plain_bound e)))
@@ -182,8 +184,7 @@ quoted_takes (c ∷ s) t rest e = by (nat_eq c 39) refl e
     by : (a : Bool) → nat_eq c 39 ≡ a → (if a then text_on [] within.Text s else None) ≡ Some (t, rest) → (c ∷ s ≡ quoted t ++ rest) × (all_scalars t ≡ true)
     by false f e = absurd cc
     by true f e =
-        let k : Took [] within.Text s t rest = text_on-takes [] within.Text s t rest e in
-        (
+        let k : Took [] within.Text s t rest = text_on-takes [] within.Text s t rest e in (
           ap (λ n. n ∷ s) (eqb-true c 39 f) ∙ ap (λ u. 39 ∷ u) (k.spelled ∙ ap (λ u. flat_map character u ++ 39 ∷ rest) (sym k.after) ∙ sym (append_assoc (flat_map character t) (39 ∷ []) rest)),
           ap all_scalars k.after ∙ k.scalars,
         )

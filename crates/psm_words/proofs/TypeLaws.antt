@@ -1,7 +1,6 @@
 -- A type that is written is read again, and a type that is read was written so.
 use Rattle.std.proofs.Common.{◌≡◌, ℕ, ◌^◌, ◌<◌, ◌≤◌, Bool, true, false, List, [], ◌∷◌, ◌++◌, Option, Some, None, refl, sym, ap, subst, ◌∙◌, append_assoc, arith}
-use Rattle.std.specs.Prelude.{Result, Ok, Err, IfOk, codes, decimal, string_bytes, nat_eq, if◌then◌else◌}
-use Rattle.std.specs.Global.{String}
+use Rattle.std.specs.Prelude.{Result, Ok, Err, IfOk, codes, decimal, String, string_bytes, nat_eq, if◌then◌else◌}
 use Rattle.psm_value.specs.declared.sqltype.SqlType.{SqlType}
 use Rattle.psm_value.specs.declared.sqltype.SqlType.TheVariants as kinds
 use Rattle.psm_words.specs.Words.{type_word, FitsType}
@@ -14,7 +13,7 @@ regroup : (a b : List ℕ) (c d : ℕ) (rest : List ℕ) → (((a ++ c ∷ []) +
 regroup a b c d rest = append_assoc ((a ++ c ∷ []) ++ b) (d ∷ []) rest ∙ append_assoc (a ++ c ∷ []) b (d ∷ rest) ∙ append_assoc a (c ∷ []) (b ++ (d ∷ rest))
 
 -- the pieces that are written one after another
-pub numeric_written : {E : Type 0} (r : Result String E) (kind : SqlType) (p d : ℕ) → kind ≡ kinds.Numeric p d
+pub numeric_written : {Z E : Type 0} (r : Result (String Z) E) (kind : SqlType) (p d : ℕ) → kind ≡ kinds.Numeric p d
     → IfOk r (λ w. string_bytes w ≡ codes "NUMERIC(" ++ (decimal p ++ (codes "," ++ (decimal d ++ codes ")")))) → IfOk r (λ w. string_bytes w ≡ type_word kind)
 numeric_written (Ok w) kind p d e h =
     h ∙ ap (λ (l : List ℕ). codes "NUMERIC(" ++ l) (sym (append_assoc (decimal p ++ 44 ∷ []) (decimal d) (41 ∷ []) ∙ append_assoc (decimal p) (44 ∷ []) (decimal d ++ 41 ∷ []))) ∙ ap type_word (sym e)
@@ -97,11 +96,11 @@ varchar_takes s x e =
 
 type_takes_by : (a b c d e : Bool) (s : List ℕ) (x : SqlType × List ℕ)
     → (if a then plain_type (codes "SMALLINT") kinds.SmallInt s
-      else if b then plain_type (codes "INTEGER") kinds.Integer s
-      else if c then numeric_at s
-      else if d then (length_after (codes "CHAR(") s >>= as_char)
-      else if e then (length_after (codes "VARCHAR(") s >>= as_varchar)
-      else None) ≡ Some x → Took s x
+    else if b then plain_type (codes "INTEGER") kinds.Integer s
+    else if c then numeric_at s
+    else if d then (length_after (codes "CHAR(") s >>= as_char)
+    else if e then (length_after (codes "VARCHAR(") s >>= as_varchar)
+    else None) ≡ Some x → Took s x
 type_takes_by true b c d e s x h = plain_takes (codes "SMALLINT") kinds.SmallInt s x refl tt h
 type_takes_by false true c d e s x h = plain_takes (codes "INTEGER") kinds.Integer s x refl tt h
 type_takes_by false false true d e s x h = numeric_takes s x h

@@ -37,7 +37,7 @@ fn put_decimal(out: &mut Vec<u8>, number: Dec) -> Result<(), AllocError>
 
 /// The value at the front of a text, and how many bytes it has. There is none where it is written in another way than
 /// [`put_datum`] does, as with a leading zero or a minus before zero, where a number has more than 18 digits or decimals, or
-/// where a text has more than 4000 characters.
+/// where a text has more than 4000 characters. The only error is that memory runs out.
 pub fn datum(alloc: Global, text: &[u8]) -> Result<Option<(Datum, usize)>, AllocError>
     ensures value { IfOk result (λ o. option_map (λ x. (x.0, drop x.1 text.now)) o ≡ datum_at text.now) }
     ensures within { IfOk result (λ o. IfSome o (λ x. x.1 ≤ length text.now)) }

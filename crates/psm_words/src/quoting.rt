@@ -83,7 +83,7 @@ fn is_plain(code_point: u32) -> bool
 
 /// The text between single quotes at the front, and how many bytes it has with its quotes. There is none where another
 /// byte stands first, where the closing quote is missing, or where a character is written in another way than
-/// [`put_quoted`] does.
+/// [`put_quoted`] does. The only error is that memory runs out.
 pub fn quoted(alloc: Global, text: &[u8]) -> Result<Option<(String, usize)>, AllocError>
     ensures value { IfOk result (λ o. option_map (λ x. (chars (string_bytes x.0), drop x.1 text.now)) o ≡ quoted_at text.now) }
     ensures within { IfOk result (λ o. IfSome o (λ x. x.1 ≤ length text.now)) }

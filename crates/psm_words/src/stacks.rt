@@ -51,7 +51,7 @@ fn byte_of(letter: Letter) -> u8
 }
 
 /// The stack at the front of a text, the top last, and how many bytes it has: as many letters as stand there, or none for
-/// `-`. There is none where neither stands there.
+/// `-`. There is no stack where neither stands there. The only error is that memory runs out.
 pub fn stack(alloc: Global, text: &[u8]) -> Result<Option<(Vec<Letter>, usize)>, AllocError>
     ensures value { IfOk result (λ o. option_map (λ x. (x.0.items, drop x.1 text.now)) o ≡ stack_at text.now) }
     ensures within { IfOk result (λ o. IfSome o (λ x. x.1 ≤ length text.now)) }
