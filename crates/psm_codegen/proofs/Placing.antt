@@ -2,7 +2,7 @@
 use Rattle.std.specs.Prelude.{reverse}
 use Rattle.std.proofs.Common.{◌≡◌, ◌-◌, ◌<◌, ◌≤◌, ℕ, suc, Bool, true, false, List, [], ◌∷◌, ◌++◌, length, nat_lt, slice_get, Some, None, if◌then◌else◌, ap, refl, ◌∙◌, inl, inr, arith}
 use Rattle.psm_cond.specs.declared.handlers.Context.{Context}
-use Rattle.psm_cond.specs.declared.handlers.HandlerTable.{HandlerTable}
+use Rattle.psm_cond.specs.Tables.{HandlerTable}
 use Rattle.psm_cond.specs.Handlers.{context_at, own_handlers}
 use Rattle.psm_code.specs.declared.code.RawRoutine.{RawRoutine}
 use Rattle.psm_code.specs.declared.instruction.Instruction.{Instruction}

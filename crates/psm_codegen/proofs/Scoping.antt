@@ -4,7 +4,7 @@ use Rattle.psm_cond.specs.declared.handlers.Block.{Block}
 use Rattle.psm_cond.specs.declared.handlers.ContextKind.TheVariants as kinds
 use Rattle.psm_cond.specs.declared.handlers.Declared.TheVariants as declares
 use Rattle.psm_cond.specs.declared.handlers.Handler.{Handler}
-use Rattle.psm_cond.specs.declared.handlers.HandlerTable.{HandlerTable}
+use Rattle.psm_cond.specs.Tables.{HandlerTable}
 use Rattle.psm_cond.specs.Handlers.{Numbered, block_of, context_at, own_handlers, parent_of, scopes_from, scopes_within}
 use Rattle.psm_resolved.specs.declared.file.ResolvedFile.{ResolvedFile}
 use Rattle.psm_resolved.specs.declared.file.ResolvedRoutine.{ResolvedRoutine}

@@ -14,7 +14,7 @@ use crate::parts::FunctionBuilder;
 use crate::statements::statement;
 use crate::tables::tables_code;
 use psm_code::{Instruction, Parameter, ParameterMode as Mode, RawCode, RawRoutine};
-use psm_cond::{Declared, HandlerTable};
+use psm_cond::Declared;
 use psm_list::List;
 use psm_resolved::{ParameterMode, ResolvedFile, ResolvedParameter, ResolvedRoutine};
 use psm_text::Name;
@@ -93,7 +93,7 @@ fn finished(
     let name = routine.name.copy(alloc)?;
     let parameters = parameters_of(alloc, &routine.parameters)?;
     let variables = variables_of(alloc, routine)?;
-    let (lines, queries, cursors, plans, handlers) = parts.into_code();
+    let (lines, queries, cursors, plans, handlers) = parts.into_code(alloc)?;
     Ok(RawRoutine {
         name,
         is_function: routine.returns.is_some(),

@@ -205,20 +205,24 @@ impl FunctionBuilder {
     /// Gives all that is written back: the lines, the queries, the cursors, the plans, and the conditions, contexts and handlers.
     pub fn into_code(
         self,
-    ) -> (
-        Lines,
-        List<Query>,
-        List<CodeCursor>,
-        List<Plan>,
-        HandlerTable,
-    )
-        ensures lines { result.0 ≡ self.code.lines }
-        ensures queries { result.1 ≡ self.code.queries }
-        ensures cursors { result.2 ≡ self.cursors }
-        ensures plans { result.3 ≡ self.plans }
-        ensures declared { result.4.declared ≡ self.declared }
-        ensures contexts { result.4.contexts ≡ self.contexts }
-        ensures handlers { result.4.handlers ≡ self.handlers }
+        alloc: Global,
+    ) -> Result<
+        (
+            Lines,
+            List<Query>,
+            List<CodeCursor>,
+            List<Plan>,
+            HandlerTable,
+        ),
+        AllocError,
+    >
+        ensures lines { IfOk result (λ parts. parts.0 ≡ self.code.lines) }
+        ensures queries { IfOk result (λ parts. parts.1 ≡ self.code.queries) }
+        ensures cursors { IfOk result (λ parts. parts.2 ≡ self.cursors) }
+        ensures plans { IfOk result (λ parts. parts.3 ≡ self.plans) }
+        ensures declared { IfOk result (λ parts. parts.4.declared ≡ self.declared) }
+        ensures contexts { IfOk result (λ parts. parts.4.contexts ≡ self.contexts) }
+        ensures handlers { IfOk result (λ parts. parts.4.handlers ≡ self.handlers) }
     {
         let FunctionBuilder {
             code,
@@ -229,13 +233,14 @@ impl FunctionBuilder {
             cursors,
             ..
         } = self;
+        let table = HandlerTable::try_new(
+            alloc,
+            List::of(declared),
+            List::of(contexts),
+            List::of(handlers),
+        )?;
         let (lines, queries) = code.into_parts();
-        let table = HandlerTable {
-            declared: List::of(declared),
-            contexts: List::of(contexts),
-            handlers: List::of(handlers),
-        };
-        (lines, queries, List::of(cursors), List::of(plans), table)
+        Ok((lines, queries, List::of(cursors), List::of(plans), table))
     }
 
     /// A plan more, which is carried out with n operands.

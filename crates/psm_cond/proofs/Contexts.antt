@@ -9,7 +9,7 @@ use Rattle.psm_cond.specs.declared.handlers.Context.{Context}
 use Rattle.psm_cond.specs.declared.handlers.ContextKind.{ContextKind}
 use Rattle.psm_cond.specs.declared.handlers.ContextKind.TheVariants.{Block, Action}
 use Rattle.psm_cond.specs.declared.handlers.Handler.{Handler}
-use Rattle.psm_cond.specs.declared.handlers.HandlerTable.{HandlerTable}
+use Rattle.psm_cond.specs.Tables.{HandlerTable}
 use Rattle.psm_cond.specs.Choice.{chosen, chosen_in, or_else}
 use Rattle.psm_cond.specs.Handlers.{Numbered, Asks, choice, handler_rank, number_of, own_handlers, context_at, parent_of, block_of, outside, scopes, scopes_within, scopes_from, scopes_of_kind}
 use Rattle.psm_cond.specs.WellFormed.{is_well_formed_table, is_numbered, is_well_formed_context, is_well_formed_handler, are_well_formed_contexts, can_stand, is_of, is_block}

@@ -1,5 +1,6 @@
 pub mod Choices
 pub mod Fronts
+pub mod Indexes
 pub mod MostSpecific
 pub mod Messages
 pub mod Numbers

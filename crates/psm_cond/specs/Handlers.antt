@@ -1,7 +1,7 @@
 -- The handlers that are in scope in a context of a routine (ISO/IEC 9075-4:1996).
 use Rattle.std.specs.Prelude.{◌≡◌, ◌-◌, ◌<◌, ℕ, zero, suc, nat_eq, nat_lt, Option, Some, None, List, [], ◌∷◌, slice_get, if◌then◌else◌}
 use Rattle.std.specs.List.{filter}
-use Rattle.psm_cond.specs.declared.handlers.HandlerTable.{HandlerTable}
+use Rattle.psm_cond.specs.Tables.{HandlerTable}
 use Rattle.psm_cond.specs.declared.handlers.Context.{Context}
 use Rattle.psm_cond.specs.declared.handlers.ContextKind.{ContextKind}
 use Rattle.psm_cond.specs.declared.handlers.ContextKind.TheVariants.{Block, Action}

@@ -3,5 +3,8 @@ pub mod Choice
 pub mod Condition
 pub mod Entry
 pub mod Handlers
+pub mod Index
 pub mod Item
+pub mod Keys
+pub mod Tables
 pub mod WellFormed

@@ -2,7 +2,7 @@
 use Rattle.std.specs.Prelude.{ℕ, ◌^◌, suc, nat_eq, nat_lt, nat_le, Bool, true, false, ◌&&◌, Option, Some, None, List, [], ◌∷◌, length, slice_get}
 use Rattle.std.specs.List.{list_all}
 use Rattle.psm_list.specs.Several.{Several}
-use Rattle.psm_cond.specs.declared.handlers.HandlerTable.{HandlerTable}
+use Rattle.psm_cond.specs.Tables.{HandlerTable}
 use Rattle.psm_cond.specs.declared.handlers.Context.{Context}
 use Rattle.psm_cond.specs.declared.handlers.ContextKind.{ContextKind}
 use Rattle.psm_cond.specs.declared.handlers.ContextKind.TheVariants.{Block, Action}

@@ -1,13 +1,13 @@
 //! The choice of a handler.
-ghost use Rattle.std.specs.Prelude.{◌≡◌, ◌<◌, nat_eq, nat_lt, IsTrue, Some, if◌then◌else◌};
-ghost use Rattle.psm_cond.specs.Choice.{chosen_in, is_exception, is_match, is_no_data, is_warning, rank, rank_of_values, specificity};
+ghost use Rattle.std.specs.Prelude.{◌≡◌, ◌<◌, IsTrue};
+ghost use Rattle.psm_cond.specs.Choice.{chosen_in};
 ghost use Rattle.psm_cond.specs.Handlers.{Asks, choice, handler_rank, number_of, outside, own_handlers};
+ghost use Rattle.psm_cond.specs.Index.{class_value, first_for_any, own_value};
 ghost use Rattle.psm_cond.specs.WellFormed.{is_well_formed_table};
 
 use crate::condition::Condition;
 use crate::entry::Entry;
-use crate::handlers::{ConditionValue, ContextKind, Handler, HandlerTable};
-use psm_list::OneOrMore;
+use crate::handlers::{ConditionValue, ContextKind, HandlerTable};
 use psm_sqlstate::Kind;
 
 /// What a context answers to a condition.
@@ -58,7 +58,7 @@ fn ask(table: &HandlerTable, context: u32, entry: &Entry) -> Asked
 fn outside(table: &HandlerTable, handler: u32) -> u32
     ensures { result ≡ outside table.now handler }
 {
-    match table.handlers.items().get(handler as usize) {
+    match table.handlers().get(handler as usize) {
         None => 0,
         Some(handler) => match table.context(handler.context) {
             None => 0,
@@ -68,118 +68,48 @@ fn outside(table: &HandlerTable, handler: u32) -> u32
 }
 
 /// The number of the handler that is chosen among those that the block of a context declares.
+#[tactic(auto, using(crate::proofs::Choices::chosen_own, crate::proofs::Choices::chosen_state, crate::proofs::Choices::chosen_class))]
 fn chosen_in(table: &HandlerTable, context: u32, entry: &Entry) -> Option<u32>
     requires { IsTrue (is_well_formed_table table.now) }
     ensures { result ≡ number_of (chosen_in (handler_rank entry.now) (own_handlers table.now context)) }
 {
-    let mut best = Best {
-        rank: 0,
-        number: None,
-    };
-    for (number, handler) in table.handlers.items().iter().enumerate() {
-        best = better(best, rank_in(entry, context, handler), number as u32);
+    if let Some(handler) = first_for_any(table, context, own_value(entry.own)) {
+        return Some(handler);
     }
-    best.number
-}
-
-/// The best handler so far, and its rank.
-#[derive(Clone, Copy)]
-struct Best {
-    rank: u8,
-    number: Option<u32>,
-}
-
-// The handler with that number, where its rank is higher.
-fn better(best: Best, rank: u8, number: u32) -> Best
-    ensures rank { result.rank ≡ (if nat_lt best.rank rank then rank else best.rank) }
-    ensures number { result.number ≡ (if nat_lt best.rank rank then Some number else best.number) }
-{
-    if rank > best.rank {
-        Best {
-            rank,
-            number: Some(number),
-        }
-    } else {
-        best
+    if let Some(handler) = table.first_for(context, ConditionValue::State(entry.state)) {
+        return Some(handler);
     }
+    first_for_any(table, context, class_value(entry.state.kind()))
 }
 
-// How specific a handler's match is, 0 where it is declared elsewhere or doesn't match.
-fn rank_in(entry: &Entry, context: u32, handler: &Handler) -> u8
-    ensures { result ≡ (if nat_eq handler.now.context context then rank_of_values entry.now handler.now.values else 0) }
-{
-    if handler.context == context {
-        rank_of_values(entry, &handler.values)
-    } else {
-        0
-    }
-}
-
-fn rank_of_values(entry: &Entry, values: &OneOrMore<ConditionValue>) -> u8
-    ensures { result ≡ rank_of_values entry.now values.now }
-{
-    let mut highest = rank(entry, &values.first);
-    for value in values.rest.items() {
-        highest = highest.max(rank(entry, value));
-    }
-    highest
-}
-
-fn rank(entry: &Entry, value: &ConditionValue) -> u8
-    ensures { result ≡ rank entry.now value.now }
-{
-    if is_match(entry, value) {
-        specificity(value)
-    } else {
-        0
-    }
-}
-
-fn specificity(value: &ConditionValue) -> u8
-    ensures { result ≡ specificity value.now }
+// The number of the first handler that the block of a context declares for a value, where there is one.
+fn first_for_any(table: &HandlerTable, context: u32, value: Option<ConditionValue>) -> Option<u32>
+    ensures { result ≡ first_for_any table.now.handlers context value }
 {
     match value {
-        ConditionValue::Named(_) => 3,
-        ConditionValue::State(_) => 2,
-        ConditionValue::SqlException | ConditionValue::SqlWarning | ConditionValue::NotFound => 1,
+        None => None,
+        Some(value) => table.first_for(context, value),
     }
 }
 
-fn is_match(entry: &Entry, value: &ConditionValue) -> bool
-    ensures { result ≡ is_match entry.now value.now }
+// The value for a declared condition without SQLSTATE.
+fn own_value(own: Option<u32>) -> Option<ConditionValue>
+    ensures { result ≡ own_value own }
 {
-    match value {
-        ConditionValue::Named(number) => entry.own == Some(*number),
-        ConditionValue::State(state) => entry.state.text() == state.text(),
-        ConditionValue::SqlException => is_exception(entry.state.kind()),
-        ConditionValue::SqlWarning => is_warning(entry.state.kind()),
-        ConditionValue::NotFound => is_no_data(entry.state.kind()),
+    match own {
+        None => None,
+        Some(number) => Some(ConditionValue::Named(number)),
     }
 }
 
-fn is_exception(kind: Kind) -> bool
-    ensures { result ≡ is_exception kind }
+// The value for a class of SQLSTATEs. Success is in none.
+fn class_value(kind: Kind) -> Option<ConditionValue>
+    ensures { result ≡ class_value kind }
 {
     match kind {
-        Kind::Exception => true,
-        Kind::Success | Kind::Warning | Kind::NotFound => false,
-    }
-}
-
-fn is_warning(kind: Kind) -> bool
-    ensures { result ≡ is_warning kind }
-{
-    match kind {
-        Kind::Warning => true,
-        Kind::Success | Kind::NotFound | Kind::Exception => false,
-    }
-}
-
-fn is_no_data(kind: Kind) -> bool
-    ensures { result ≡ is_no_data kind }
-{
-    match kind {
-        Kind::NotFound => true,
-        Kind::Success | Kind::Warning | Kind::Exception => false,
+        Kind::Success => None,
+        Kind::Warning => Some(ConditionValue::SqlWarning),
+        Kind::NotFound => Some(ConditionValue::NotFound),
+        Kind::Exception => Some(ConditionValue::SqlException),
     }
 }

@@ -4,7 +4,7 @@ ghost use Rattle.std.specs.List.{All};
 ghost use Rattle.psm_cond.specs.declared.handlers.Block.{Block};
 ghost use Rattle.psm_cond.specs.declared.handlers.Context.{Context};
 ghost use Rattle.psm_cond.specs.declared.handlers.ContextKind.TheVariants as kind;
-ghost use Rattle.psm_cond.specs.declared.handlers.HandlerTable.{HandlerTable};
+ghost use Rattle.psm_cond.specs.Tables.{HandlerTable};
 ghost use Rattle.psm_cond.specs.Choice.{HasNoMatch, IsMostSpecific, chosen, chosen_in};
 ghost use Rattle.psm_cond.specs.Handlers.{Numbered, context_at, outside, own_handlers, scopes};
 ghost use Rattle.psm_cond.specs.WellFormed.{is_well_formed_table};

@@ -8,7 +8,9 @@ mod condition;
 mod entry;
 mod fault;
 mod handlers;
+mod index;
 mod item;
+mod key;
 mod laws;
 
 pub use area::Area;

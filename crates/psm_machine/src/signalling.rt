@@ -126,7 +126,7 @@ fn declared(alloc: Global, routine: &RawRoutine, number: u32) -> Result<Entry, S
 fn declared_at(routine: &RawRoutine, number: u32) -> Option<&Declared>
     ensures { option_copied result ≡ slice_get routine.now.handlers.declared number }
 {
-    routine.handlers.declared.items().get(number as usize)
+    routine.handlers.declared().get(number as usize)
 }
 
 fn entry_for(alloc: Global, number: u32, declared: &Declared) -> Result<Entry, AllocError>

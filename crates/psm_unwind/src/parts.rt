@@ -41,7 +41,7 @@ pub fn routine_at(code: &RawCode, number: u32) -> Option<&RawRoutine>
 pub fn handler_at(routine: &RawRoutine, number: u32) -> Option<&Handler>
     ensures { option_copied result ≡ handler_at routine.now number }
 {
-    routine.handlers.handlers.items().get(number as usize)
+    routine.handlers.handlers().get(number as usize)
 }
 
 /// The block of a context. `None` comes where the context is that of an action, and where there is none.

@@ -20,7 +20,7 @@ pub(crate) fn conditions(line: u64, routine: &RawRoutine) -> Result<u64, Stop>
     ensures { Finds (checked line (map routines.declared_fault routine.now.handlers.declared)) result }
 {
     let mut line = line;
-    for declared in routine.handlers.declared.items() {
+    for declared in routine.handlers.declared() {
         line = passed(line, declared_fault(declared))?;
     }
     Ok(line)
@@ -60,7 +60,7 @@ pub(crate) fn contexts(line: u64, routine: &RawRoutine) -> Result<u64, Stop>
     ensures { Finds (checked line (routines.context_faults routine.now 1 routine.now.handlers.contexts)) result }
 {
     let mut line = line;
-    for (at, context) in routine.handlers.contexts.items().iter().enumerate() {
+    for (at, context) in routine.handlers.contexts().iter().enumerate() {
         line = passed(line, context_fault(routine, at + 1, context))?;
     }
     Ok(line)
@@ -110,7 +110,7 @@ fn exits(context: usize, instruction: &Instruction) -> bool
 fn action_fault(routine: &RawRoutine, number: usize, parent: u32, handler: u32) -> Option<CodeRule>
     ensures { result ≡ routines.context_fault routine.now number parent (kinds.Action handler) }
 {
-    if (parent as usize) >= number || !is_there(routine.handlers.handlers.items(), handler) {
+    if (parent as usize) >= number || !is_there(routine.handlers.handlers(), handler) {
         Some(CodeRule::Range)
     } else if !is_declared_in(routine, parent, handler) {
         Some(CodeRule::Context)
@@ -123,7 +123,7 @@ fn action_fault(routine: &RawRoutine, number: usize, parent: u32, handler: u32) 
 fn is_declared_in(routine: &RawRoutine, parent: u32, handler: u32) -> bool
     ensures { result ≡ rules.where_there (parts.handler_at routine.now handler) (routines.is_parent routine.now parent) }
 {
-    match routine.handlers.handlers.items().get(handler as usize) {
+    match routine.handlers.handlers().get(handler as usize) {
         Some(handler) => handler.context == parent && is_block(routine, parent),
         None => true,
     }

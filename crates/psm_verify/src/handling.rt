@@ -24,7 +24,7 @@ pub(crate) fn handlers(alloc: Global, line: u64, routine: &RawRoutine) -> Result
     ensures { Finds (checked line (rules.each_after (routines.handler_fault routine.now) [] routine.now.handlers.handlers)) result }
 {
     let mut line = line;
-    for at in 0..routine.handlers.handlers.items().len() {
+    for at in 0..routine.handlers.handlers().len() {
         line = handler_at(alloc, line, routine, at)?;
     }
     Ok(line)
@@ -33,7 +33,7 @@ pub(crate) fn handlers(alloc: Global, line: u64, routine: &RawRoutine) -> Result
 fn handler_at(alloc: Global, line: u64, routine: &RawRoutine, at: usize) -> Result<u64, Stop>
     ensures { Finds (checked line (item_at (routines.handler_fault routine.now) routine.now.handlers.handlers at)) result }
 {
-    let handlers = routine.handlers.handlers.items();
+    let handlers = routine.handlers.handlers();
     match handlers.get(at) {
         Some(handler) => handler_line(alloc, line, routine, &handlers[..at], handler),
         None => Ok(line),
@@ -89,7 +89,7 @@ fn definition_fault(routine: &RawRoutine, before: &[Handler], handler: &Handler)
 pub(crate) fn context_there(routine: &RawRoutine, context: u32) -> bool
     ensures { result ≡ routines.context_there routine.now context }
 {
-    (context as usize) <= routine.handlers.contexts.items().len()
+    (context as usize) <= routine.handlers.contexts().len()
 }
 
 // ---- the line at which an action begins
@@ -189,7 +189,7 @@ fn value_there(routine: &RawRoutine, value: &ConditionValue) -> bool
     ensures { result ≡ routines.value_there routine.now value.now }
 {
     match value {
-        ConditionValue::Named(number) => is_there(routine.handlers.declared.items(), *number),
+        ConditionValue::Named(number) => is_there(routine.handlers.declared(), *number),
         _ => true,
     }
 }
@@ -219,7 +219,7 @@ fn is_value_right(routine: &RawRoutine, value: &ConditionValue) -> bool
 fn is_named(routine: &RawRoutine, number: u32) -> bool
     ensures { result ≡ rules.where_there (slice_get routine.now.handlers.declared number) routines.is_named }
 {
-    match routine.handlers.declared.items().get(number as usize) {
+    match routine.handlers.declared().get(number as usize) {
         Some(Declared::OfState(_)) => false,
         _ => true,
     }

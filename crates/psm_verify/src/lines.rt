@@ -29,7 +29,7 @@ impl<'a> VerifyContext<'a> {
                 routine.handlers.context(*context).is_some()
             }
             Instruction::EndAction(handler) => {
-                is_there(routine.handlers.handlers.items(), *handler)
+                is_there(routine.handlers.handlers(), *handler)
             }
             Instruction::Call(number) | Instruction::FunctionCall(number) => {
                 is_there(self.code.routines.items(), *number)
@@ -45,7 +45,7 @@ impl<'a> VerifyContext<'a> {
             | Instruction::SignalMessage(number)
             | Instruction::ResignalCondition(number)
             | Instruction::ResignalMessage(number) => {
-                is_there(routine.handlers.declared.items(), *number)
+                is_there(routine.handlers.declared(), *number)
             }
             _ => true,
         }

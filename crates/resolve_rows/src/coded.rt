@@ -26,8 +26,8 @@ pub fn coded(alloc: Global, text: &str) -> Result<String, Fault> {
 fn measured(routine: &RawRoutine, out: &mut String) -> Result<(), AllocError> {
     out.push_str(routine.name.as_str())?;
     counted(out, " lines", routine.lines.len())?;
-    counted(out, " contexts", routine.handlers.contexts.items().len())?;
-    counted(out, " handlers", routine.handlers.handlers.items().len())?;
+    counted(out, " contexts", routine.handlers.contexts().len())?;
+    counted(out, " handlers", routine.handlers.handlers().len())?;
     counted(out, " queries", routine.queries.items().len())?;
     counted(out, " plans", routine.plans.items().len())?;
     counted(out, " cursors", routine.cursors.items().len())?;
