@@ -13,7 +13,7 @@ use Rattle.psm_cond.specs.declared.handlers.Handler.{Handler}
 use Rattle.psm_cond.specs.declared.index.Index.{Index}
 use Rattle.psm_cond.specs.declared.key.HandlerKey.{HandlerKey}
 use Rattle.psm_cond.specs.Choice.{or_else}
-use Rattle.psm_cond.specs.Index.{IsIndex, Notes, first_from, is_among, is_own_for}
+use Rattle.psm_cond.specs.Index.{IsIndex, Notes, first_from, is_own_for}
 use Rattle.psm_cond.specs.Keys.{is_value, own_number, same_key, state_text, value_kind}
 
 -- ---- keys that are the same

@@ -111,7 +111,7 @@ impl HandlerTable {
         if handlers.items().len() > u32::MAX as usize {
             return Err(AllocError);
         }
-        let index = Index::of(alloc, handlers.items())?;
+        let index = Index::of(alloc, &handlers)?;
         Ok(HandlerTable {
             declared,
             contexts,

@@ -7,6 +7,7 @@ ghost use Rattle.psm_cond.specs.Keys.{same_key};
 use crate::handlers::{ConditionValue, Handler};
 use crate::key::HandlerKey;
 use indexmap::IndexMap;
+use psm_list::List;
 use std::alloc::{AllocError, Global};
 
 /// The number of the first handler of each context and condition value.
@@ -17,14 +18,14 @@ pub(crate) struct Index {
 
 impl Index {
     /// The index of some handlers, which are numbered from 0.
-    pub(crate) fn of(alloc: Global, handlers: &[Handler]) -> Result<Index, AllocError>
+    pub(crate) fn of(alloc: Global, handlers: &List<Handler>) -> Result<Index, AllocError>
         requires { length handlers.now < 2 ^ 32 }
         ensures { IfOk result (λ index. IsIndex index handlers.now) }
     {
         let mut index = Index {
             first: IndexMap::new(alloc),
         };
-        for (number, handler) in handlers.iter().enumerate() {
+        for (number, handler) in handlers.items().iter().enumerate() {
             index.add_handler(handler, number as u32)?;
         }
         Ok(index)
