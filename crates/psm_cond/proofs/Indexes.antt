@@ -13,7 +13,7 @@ use Rattle.psm_cond.specs.declared.handlers.Handler.{Handler}
 use Rattle.psm_cond.specs.declared.index.Index.{Index}
 use Rattle.psm_cond.specs.declared.key.HandlerKey.{HandlerKey}
 use Rattle.psm_cond.specs.Choice.{or_else}
-use Rattle.psm_cond.specs.Index.{IsIndex, Notes, first_from, is_own_for}
+use Rattle.psm_cond.specs.Index.{IsIndex, Notes, first_from, has_value, is_own_for}
 use Rattle.psm_cond.specs.Keys.{is_value, own_number, same_key, state_text, value_kind}
 
 -- ---- keys that are the same
@@ -119,40 +119,34 @@ both_or : (c a b : Bool) → (c && (a || b)) ≡ ((c && a) || (c && b))
 both_or true a b = refl
 both_or false a b = refl
 
--- whether the block of a context has one of some values
-abbrev pub is_own : ℕ → List ConditionValue → HandlerKey → Bool
-is_own k values key = nat_eq key.context k && list_any (is_value key.value) values
-
 pub notes_first : (old new : Index) (k n : ℕ) (v : ConditionValue) (vs : List ConditionValue) → vs ≡ [] → Notes (λ key. same_key key (record { context = k; value = v })) n old new
-    → Notes (is_own k (v ∷ vs)) n old new
+    → Notes (has_value k (v ∷ vs)) n old new
 notes_first old new k n v vs e noted key =
     noted key
     ∙ ap (λ b. or_else (lookup (same_key key) old.first.entries) (if nat_eq key.context k && b then Some n else None)) (by (is_value key.value v))
-    ∙ ap (λ vs. or_else (lookup (same_key key) old.first.entries) (if is_own k (v ∷ vs) key then Some n else None)) (sym e)
+    ∙ ap (λ vs. or_else (lookup (same_key key) old.first.entries) (if has_value k (v ∷ vs) key then Some n else None)) (sym e)
   where
     by : (b : Bool) → b ≡ (b || false)
     by true = refl
     by false = refl
 
 pub notes_next : (old mid new : Index) (k n i : ℕ) (first v : ConditionValue) (vs : List ConditionValue) → i < length vs → v ≡ get_or vs i v
-    → Notes (is_own k (first ∷ take i vs)) n old mid → Notes (λ key. same_key key (record { context = k; value = v })) n mid new → Notes (is_own k (first ∷ take (i + 1) vs)) n old new
+    → Notes (has_value k (first ∷ take i vs)) n old mid → Notes (λ key. same_key key (record { context = k; value = v })) n mid new → Notes (has_value k (first ∷ take (i + 1) vs)) n old new
 notes_next old mid new k n i first v vs lt at before noted key =
     let values : take (i + 1) vs ≡ take i vs ++ v ∷ [] = take_more vs i v lt ∙ ap (λ w. take i vs ++ w ∷ []) (sym at) in
     noted key
     ∙ ap (λ o. or_else o (if nat_eq key.context k && is_value key.value v then Some n else None)) (before key)
-    ∙ noted_twice (lookup (same_key key) old.first.entries) n (is_own k (first ∷ take i vs) key) (nat_eq key.context k && is_value key.value v)
+    ∙ noted_twice (lookup (same_key key) old.first.entries) n (has_value k (first ∷ take i vs) key) (nat_eq key.context k && is_value key.value v)
     ∙ ap (λ b. or_else (lookup (same_key key) old.first.entries) (if b then Some n else None)) (
-      sym (both_or (nat_eq key.context k) (list_any (is_value key.value) (first ∷ take i vs)) (is_value key.value v))
-      ∙ ap (λ b. nat_eq key.context k && b) (sym (any_last (is_value key.value) (first ∷ take i vs) v))
-      ∙ ap (λ vs. is_own k (first ∷ vs) key) (sym values)
+    sym (both_or (nat_eq key.context k) (list_any (is_value key.value) (first ∷ take i vs)) (is_value key.value v))
+    ∙ ap (λ b. nat_eq key.context k && b) (sym (any_last (is_value key.value) (first ∷ take i vs) v))
+    ∙ ap (λ vs. has_value k (first ∷ vs) key) (sym values)
     )
 
-pub notes_all : (old new : Index) (h : Handler) (k n i : ℕ) → k ≡ h.context → length h.values.rest ≤ i → Notes (is_own k (h.values.first ∷ take i h.values.rest)) n old new
-    → Notes (λ key. is_own_for key h) n old new
-notes_all old new h k n i e le noted key =
-    noted key
-    ∙ ap (λ vs. or_else (lookup (same_key key) old.first.entries) (if is_own k (h.values.first ∷ vs) key then Some n else None)) (take_all i h.values.rest le)
-    ∙ ap (λ k. or_else (lookup (same_key key) old.first.entries) (if is_own k (h.values.first ∷ h.values.rest) key then Some n else None)) e
+pub notes_all : (old new : Index) (k n i : ℕ) (first : ConditionValue) (rest : List ConditionValue) → length rest ≤ i → Notes (has_value k (first ∷ take i rest)) n old new
+    → Notes (has_value k (first ∷ rest)) n old new
+notes_all old new k n i first rest le noted key =
+    noted key ∙ ap (λ vs. or_else (lookup (same_key key) old.first.entries) (if has_value k (first ∷ vs) key then Some n else None)) (take_all i rest le)
 
 -- ---- the index of some handlers
 

@@ -19,6 +19,10 @@ use Rattle.psm_cond.specs.Keys.{is_value, same_key}
 abbrev pub is_among : ConditionValue → Several ConditionValue → Bool
 is_among v values = list_any (is_value v) (values.first ∷ values.rest)
 
+-- whether a key has that context and one of some values
+abbrev pub has_value : ℕ → List ConditionValue → HandlerKey → Bool
+has_value k values key = nat_eq key.context k && list_any (is_value key.value) values
+
 -- whether a handler is one that the block of a context declares for a value
 abbrev pub is_own_for : HandlerKey → Handler → Bool
 is_own_for key h = nat_eq key.context h.context && is_among key.value h.values

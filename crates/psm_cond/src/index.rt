@@ -1,7 +1,7 @@
 //! The index by which a handler is found.
-ghost use Rattle.std.specs.Prelude.{◌≡◌, ◌<◌, ◌^◌, length, IfOk, OnOk};
+ghost use Rattle.std.specs.Prelude.{◌≡◌, ◌<◌, ◌^◌, ◌∷◌, length, IfOk, OnOk};
 ghost use Rattle.indexmap.specs.IndexMap.{get};
-ghost use Rattle.psm_cond.specs.Index.{IsIndex, Notes, is_own_for};
+ghost use Rattle.psm_cond.specs.Index.{IsIndex, Notes, has_value, is_own_for};
 ghost use Rattle.psm_cond.specs.Keys.{same_key};
 
 use crate::handlers::{ConditionValue, Handler};
@@ -35,9 +35,22 @@ impl Index {
     fn add_handler(&mut self, handler: &Handler, number: u32) -> Result<(), AllocError>
         ensures { OnOk result (Notes (λ key. is_own_for key handler.now) number self.old self.new) }
     {
-        let context = handler.context;
-        self.add(context, handler.values.first, number)?;
-        for value in handler.values.rest.items() {
+        let values = &handler.values;
+        self.add_values(handler.context, values.first, values.rest.items(), number)
+    }
+
+    /// Notes a number for a context and each of one or more values, where they have none.
+    fn add_values(
+        &mut self,
+        context: u32,
+        first: ConditionValue,
+        rest: &[ConditionValue],
+        number: u32,
+    ) -> Result<(), AllocError>
+        ensures { OnOk result (Notes (has_value context (first ∷ rest.now)) number self.old self.new) }
+    {
+        self.add(context, first, number)?;
+        for value in rest {
             self.add(context, *value, number)?;
         }
         Ok(())

@@ -21,7 +21,7 @@ pub(crate) fn stored_rows(
     requires long { All (λ row. length row ≡ length columns.now) rows.now }
     ensures { Gives (rows_as_stored (kinds_of columns.now) rows.now) result }
 {
-    let mut stored = Vec::new(alloc);
+    let mut stored = Vec::with_capacity(alloc, rows.len())?;
     for row in rows {
         stored.push(stored_row(alloc, columns, row.values())?)?;
     }
@@ -33,7 +33,7 @@ fn stored_row(alloc: Global, columns: &[Column], values: &[Datum]) -> Result<Row
     requires long { length values.now ≡ length columns.now }
     ensures { Gives (row_as_stored (kinds_of columns.now) values.now) result }
 {
-    let mut stored = Vec::new(alloc);
+    let mut stored = Vec::with_capacity(alloc, columns.len())?;
     for at in 0..columns.len() {
         let value = stored_value(alloc, &columns[at], &values[at])?;
         stored.push(value)?;

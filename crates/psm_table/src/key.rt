@@ -1,4 +1,4 @@
-ghost use Rattle.std.specs.Prelude.{◌≡◌, ◌++◌, IfOk};
+ghost use Rattle.std.specs.Prelude.{◌≡◌, ◌++◌, IfOk, OnOk};
 ghost use Rattle.psm_table.specs.Key.{key_order, number_of, values_at, AreColumnsOf};
 ghost use Rattle.psm_table.specs.Place.{probe_key, FitsProbe};
 
@@ -118,8 +118,9 @@ impl Key {
         requires key { AreColumnsOf row.now key.now }
         ensures { IfOk result (λ entry. entry ≡ values_at columns.now row.now ++ values_at key.now row.now) }
     {
-        let mut values = values_in(alloc, columns, row)?;
-        values.append(&mut values_in(alloc, key, row)?)?;
+        let mut values = Vec::with_capacity(alloc, columns.len() + key.len())?;
+        add_values(alloc, &mut values, columns, row)?;
+        add_values(alloc, &mut values, key, row)?;
         Ok(Key::of(values))
     }
 }
@@ -128,11 +129,25 @@ fn values_in(alloc: Global, columns: &[u32], row: &[Datum]) -> Result<Vec<Datum>
     requires { AreColumnsOf row.now columns.now }
     ensures { IfOk result (λ values. values.items ≡ values_at columns.now row.now) }
 {
-    let mut values = Vec::new(alloc);
+    let mut values = Vec::with_capacity(alloc, columns.len())?;
+    add_values(alloc, &mut values, columns, row)?;
+    Ok(values)
+}
+
+/// Appends the row's values in the columns.
+fn add_values(
+    alloc: Global,
+    values: &mut Vec<Datum>,
+    columns: &[u32],
+    row: &[Datum],
+) -> Result<(), AllocError>
+    requires { AreColumnsOf row.now columns.now }
+    ensures { OnOk result (values.new.items ≡ values.old.items ++ values_at columns.now row.now) }
+{
     for column in columns {
         values.push(row[*column as usize].copy(alloc)?)?;
     }
-    Ok(values)
+    Ok(())
 }
 
 /// The order of two lists of values: the first that differ decide, and else the lengths do.

@@ -56,7 +56,7 @@ impl Row {
 pub(crate) fn copied(alloc: Global, values: &[Datum]) -> Result<Vec<Datum>, AllocError>
     ensures { IfOk result (λ copy. copy.items ≡ values.now) }
 {
-    let mut copy = Vec::new(alloc);
+    let mut copy = Vec::with_capacity(alloc, values.len())?;
     for value in values {
         copy.push(value.copy(alloc)?)?;
     }

@@ -28,9 +28,7 @@ impl<'a> VerifyContext<'a> {
             Instruction::Enter(context) | Instruction::Exit(context) => {
                 routine.handlers.context(*context).is_some()
             }
-            Instruction::EndAction(handler) => {
-                is_there(routine.handlers.handlers(), *handler)
-            }
+            Instruction::EndAction(handler) => { is_there(routine.handlers.handlers(), *handler) }
             Instruction::Call(number) | Instruction::FunctionCall(number) => {
                 is_there(self.code.routines.items(), *number)
             }

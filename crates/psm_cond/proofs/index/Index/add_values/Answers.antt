@@ -1,0 +1,17 @@
+use Rattle.std.proofs.Common.{take, refl, arith}
+use Rattle.psm_cond.proofs.Indexes.{notes_all, notes_first, notes_next}
+use Rattle.psm_cond.proofs.index.Index.add_values.Goals as goal
+
+pub loop-value-init : goal.loop-value-init
+loop-value-init c = notes_first c.args.self.now c.add.new.self c.args.context c.args.number c.args.first (take 0 c.args.rest.now) refl c.in_ok-add.ensures
+
+pub loop-value-preserved : goal.loop-value-preserved
+loop-value-preserved c =
+    let place = c.loop-value in
+    notes_next c.args.self.now place.self c.add-in-loop-value.new.self c.args.context c.args.number place.value-index c.args.first c.value-item.result c.args.rest.now
+    (grind arith) (grind arith) place.invariant c.in_ok-add-2.ensures
+
+pub returns : goal.returns
+returns c =
+    let place = c.loop-value in
+    notes_all c.args.self.now place.self c.args.context c.args.number place.value-index c.args.first c.args.rest.now (grind arith) place.invariant
