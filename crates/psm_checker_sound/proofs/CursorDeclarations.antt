@@ -95,11 +95,11 @@ each_first symbols so_far (x ∷ xs) ys =
 
 -- ---- shapes and letters
 
-pub suit_many : (ss : List Shape) (ks : List Letter) → AllTypeCheck ss ks → length ss ≡ length ks
-suit_many [] [] h = refl
-suit_many [] (k ∷ ks) h = absurd h
-suit_many (s ∷ ss) [] h = absurd h
-suit_many (s ∷ ss) (k ∷ ks) h = ap suc (suit_many ss ks h.1)
+pub many_type_check : (ss : List Shape) (ks : List Letter) → AllTypeCheck ss ks → length ss ≡ length ks
+many_type_check [] [] h = refl
+many_type_check [] (k ∷ ks) h = absurd h
+many_type_check (s ∷ ss) [] h = absurd h
+many_type_check (s ∷ ss) (k ∷ ks) h = ap suc (many_type_check ss ks h.1)
 
 plain_by : (insensitive : Bool) (o : Option Updatability) → is_updatable insensitive o ≡ true → insensitive ≡ false
 plain_by false o h = refl
@@ -133,7 +133,7 @@ module _ (e : TypingContext) (known : Known) (letters : Letters) (s : places.Sta
     known = q.items;
     shape = record { width = length (item_letters known (ordered_query (resolver_scope_at resolved) x.query)); insensitive = x.insensitive };
     there = numbered.shape;
-    many = mapped_many (λ s. Some s) q.shapes ∙ suit_many q.shapes (item_letters known (ordered_query (resolver_scope_at resolved) x.query)) q.suit;
+    many = mapped_many (λ s. Some s) q.shapes ∙ many_type_check q.shapes (item_letters known (ordered_query (resolver_scope_at resolved) x.query)) q.type_check;
   }
 
   known_is : (d : Checked) (resolved : Resolved) (n : Numbering) (x : CursorDeclaration) → IsCursorQuery e known (block_context c label d).checker_scope (resolver_scope_at resolved) x.query → IsNumbered e known letters (cursor_of symbols (numbered_at resolved n) x)
@@ -146,7 +146,7 @@ module _ (e : TypingContext) (known : Known) (letters : Letters) (s : places.Sta
     plain = plain_by x.insensitive x.updatability;
     shapes = q.shapes;
     items = q.items;
-    suit = q.suit;
+    type_check = q.type_check;
     typed = q.typed;
     lettered = numbered.items;
   }

@@ -109,7 +109,7 @@ pub record IsCursorQuery (e : TypingContext) (known : Known) (checker_scope : Ch
   pub may : (insensitive : Bool) → MayBe insensitive (query_of (ordered_query resolver_scope q)).items
   pub shapes : List Shape
   pub items : option_map (map (λ i. i.shape)) (faults.items_of (checked_query checker_scope q)) ≡ Some (map (λ s. Some s) shapes)
-  pub suit : AllTypeCheck shapes (item_letters known (ordered_query resolver_scope q))
+  pub type_check : AllTypeCheck shapes (item_letters known (ordered_query resolver_scope q))
   pub typed : Each IsTyped shapes
   pub table : (query_of (ordered_query resolver_scope q)).table ≡ number_of (table_at resolver_scope (checked_query checker_scope q).table.name)
 
@@ -123,16 +123,16 @@ cursor_query e known letters parts checker_scope resolver_scope a q well none se
     let resolved : ResolvedQuery = (resolve_query q.query resolver_scope).query in
     let downward : Bool = is_downward q.order in
     let g = queries e checker_scope resolver_scope a q.query well none in
-    let suit : AllTypeCheck (resolve_query q.query resolver_scope).shapes (item_letters known resolved) = parts.suit checker_scope resolver_scope a q.query well none in
+    let type_check : AllTypeCheck (resolve_query q.query resolver_scope).shapes (item_letters known resolved) = parts.type_check checker_scope resolver_scope a q.query well none in
     let same : item_letters known resolved ≡ item_letters known (ordered downward resolved) = sym (ordered_letters known downward resolved) in
     let rows : has_rows (asked.items_of (ordered downward resolved)) ≡ true = ordered_rows downward resolved (parts.rows checker_scope resolver_scope a q.query well none (no_set (first_set (checked_query checker_scope q).picks) sets)) in record {
       well_formed = ordered_well_formed known downward resolved (parts.queries checker_scope resolver_scope a q.query well none);
       rows = rows;
-      well_typed = ordered_well_typed e downward resolved (item_letters known (ordered downward resolved)) (subst (IsQuery e resolved) same (g.3 (item_letters known resolved) suit));
+      well_typed = ordered_well_typed e downward resolved (item_letters known (ordered downward resolved)) (subst (IsQuery e resolved) same (g.3 (item_letters known resolved) type_check));
       may = λ insensitive. may_by insensitive (asked.items_of (ordered downward resolved)) rows;
       shapes = (resolve_query q.query resolver_scope).shapes;
       items = ap (option_map (map (λ i. i.shape))) g.1 ∙ ap (λ ss. Some ss) g.2;
-      suit = subst (AllTypeCheck (resolve_query q.query resolver_scope).shapes) same suit;
+      type_check = subst (AllTypeCheck (resolve_query q.query resolver_scope).shapes) same type_check;
       typed = parts.typed checker_scope resolver_scope a q.query well none;
       table = ap (λ o. o.table) (opened downward resolved) ∙ resolved_table q.query resolver_scope ∙ ap (λ t. number_of (table_at resolver_scope t.name)) (sym (checked_table q.query checker_scope));
     }

@@ -33,14 +33,14 @@ use Rattle.psm_checker_sound.specs.Agreement.{HasSlot, kinds_in}
 use Rattle.psm_checker_sound.specs.Meant.{HasShape, IsCursorMeant, IsLabelMeant, Meant}
 use Rattle.psm_checker_sound.specs.Numbered.{AreBelow, Fills, IsCursorBelow, IsNumbered}
 use Rattle.psm_checker_sound.specs.Places.{IsCursorKnown, IsKnown, StandsAt}
-use Rattle.psm_checker_sound.proofs.CursorDeclarations.{checked_past, same_number, suit_many, there_past}
+use Rattle.psm_checker_sound.proofs.CursorDeclarations.{checked_past, same_number, many_type_check, there_past}
 use Rattle.psm_checker_sound.proofs.Declarations.{AreTypes}
 use Rattle.psm_checker_sound.proofs.Declaring.{Checked, Resolved, at_scopes, kinds}
 use Rattle.psm_checker_sound.proofs.DeclaredOnce.{looked}
 use Rattle.psm_checker_sound.proofs.EnteringBlocks.{below_by}
 use Rattle.psm_checker_sound.proofs.ForItems.{declared_kinds}
 use Rattle.psm_checker_sound.proofs.ForQueries.{IsForHead}
-use Rattle.psm_checker_sound.proofs.ForSlots.{for_items_are, items_numbered, slots_suit}
+use Rattle.psm_checker_sound.proofs.ForSlots.{for_items_are, items_numbered, slots_type_check}
 use Rattle.psm_checker_sound.proofs.Growing.{Grows, grows-cursor, grows-on, items-grow}
 use Rattle.psm_checker_sound.proofs.Moving.{IsHere, below-grown, known_moved}
 use Rattle.psm_checker_sound.proofs.Simples.{mapped_many, there_is}
@@ -102,7 +102,7 @@ module _ (e : TypingContext) (known : Known) (letters : Letters) (s : places.Sta
     known = q.query.items;
     shape = record { width = length (item_letters known own.query); insensitive = own.insensitive };
     there = numbered.shape;
-    many = mapped_many (λ s. Some s) q.query.shapes ∙ suit_many q.query.shapes (item_letters known own.query) q.query.suit;
+    many = mapped_many (λ s. Some s) q.query.shapes ∙ many_type_check q.query.shapes (item_letters known own.query) q.query.type_check;
   }
 
   cursor_meant : (cursor : ForCursor) → IsCursorMeant e there (Some (named_cursor c.checker_scope head cursor)) n.cursors
@@ -117,7 +117,7 @@ module _ (e : TypingContext) (known : Known) (letters : Letters) (s : places.Sta
     plain = λ may. ap is_insensitive is ∙ not_true cursor.insensitive may;
     shapes = q.query.shapes;
     items = q.query.items;
-    suit = q.query.suit;
+    type_check = q.query.type_check;
     typed = q.query.typed;
     lettered = numbered.items;
   }
@@ -206,7 +206,7 @@ module _ (e : TypingContext) (known : Known) (letters : Letters) (s : places.Sta
       let so_far : Numbered = numbered_items after_cursor items_of_head in
       let w = items_numbered e label head.name.name outer n items_of_head q.values q.items (resolved_part []) (with_cursor n) tt (λ a. a) f in
       let g : Grows (with_cursor n) so_far.1 = items-grow after_cursor items_of_head in
-      let slots : AreSlots e (head_of resolver_scope head n).slots (item_letters known own.query) = slots_suit e (head_of resolver_scope head n).slots items_of_head q.values (item_letters known own.query) w.typed q.items q.suit in record {
+      let slots : AreSlots e (head_of resolver_scope head n).slots (item_letters known own.query) = slots_type_check e (head_of resolver_scope head n).slots items_of_head q.values (item_letters known own.query) w.typed q.items q.type_check in record {
         here = record {
           stands = subst (λ fs. StandsAt e known letters there (statement_faults.inside c (head_scope c.checker_scope label head)) (at_scopes symbols fs)) (sym w.scopes) (stands_there w.variables w.kinds w.have h);
           below = subst (AreBelow so_far.1) (sym w.scopes) (below_there w.variables so_far.1 (grows-on (grows-cursor n) g) (omega (arith, g.cursors)) h.below);

@@ -129,7 +129,7 @@ pub record IsForHead (e : TypingContext) (known : Known) (checker_scope : Checke
   pub query : IsCursorQuery e known checker_scope resolver_scope head.query
   pub values : List Resolved
   pub items : AreNamed (blocks.for_items resolver_scope head.query.query) values
-  pub suit : AllTypeCheck (map (λ m. m.shape) values) (item_letters known (ordered_query resolver_scope head.query))
+  pub type_check : AllTypeCheck (map (λ m. m.shape) values) (item_letters known (ordered_query resolver_scope head.query))
   pub kinds : kinds (faults.for_variables (columns_known (checked_query checker_scope head.query).columns) [] (faults.items_in checker_scope head.query.query)) ≡ declared_kinds [] (blocks.for_items resolver_scope head.query.query)
 
 clean_query : (q : QueryChecked) → items_fault q.picks ≡ None → first_set q.picks ≡ None → table_fault q.table q.columns ≡ None → test_fault q.test ≡ None → query_fault q ≡ None
@@ -162,6 +162,6 @@ head_is e known letters parts checker_scope resolver_scope a head well none =
       query = cursor_query e known letters parts checker_scope resolver_scope a head.query well clean inner.0;
       values = picks.values;
       items = picks.items;
-      suit = subst (AllTypeCheck (map (λ m. m.shape) picks.values)) same (subst (λ ss. AllTypeCheck ss (item_letters known (resolve_query s resolver_scope).query)) shapes (parts.suit checker_scope resolver_scope a s well clean));
+      type_check = subst (AllTypeCheck (map (λ m. m.shape) picks.values)) same (subst (λ ss. AllTypeCheck ss (item_letters known (resolve_query s resolver_scope).query)) shapes (parts.type_check checker_scope resolver_scope a s well clean));
       kinds = ap (λ cs. kinds (faults.for_variables cs [] items)) columns ∙ picks.kinds;
     }

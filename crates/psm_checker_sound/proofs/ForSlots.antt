@@ -39,15 +39,15 @@ slot_type_checks e slot i m k there n type_checks =
     let due : k ≡ letter_in (family_of n.type.kind) = subst (λ s. TypeChecks s k) n.shape type_checks in
     subst (SlotOf e slot) (n.letter ∙ sym due) (slot_typed e slot i.1 there)
 
-pub slots_suit : (e : TypingContext) (slots : List ℕ) (is : List ForItem) (ms : List ResolvedExpr) (ks : List Letter) → AreTyped e slots is → AreNamed is ms → AllTypeCheck (map (λ m. m.shape) ms) ks → AreSlots e slots ks
-slots_suit e [] [] [] [] t n s = tt
-slots_suit e [] [] [] (k ∷ ks) t n s = absurd s
-slots_suit e [] [] (m ∷ ms) ks t n s = absurd n
-slots_suit e [] (i ∷ is) ms ks t n s = absurd t
-slots_suit e (slot ∷ slots) [] ms ks t n s = absurd t
-slots_suit e (slot ∷ slots) (i ∷ is) [] ks t n s = absurd n
-slots_suit e (slot ∷ slots) (i ∷ is) (m ∷ ms) [] t n s = absurd s
-slots_suit e (slot ∷ slots) (i ∷ is) (m ∷ ms) (k ∷ ks) t n s = (slot_type_checks e slot i m k t.0 n.0 s.0, slots_suit e slots is ms ks t.1 n.1 s.1)
+pub slots_type_check : (e : TypingContext) (slots : List ℕ) (is : List ForItem) (ms : List ResolvedExpr) (ks : List Letter) → AreTyped e slots is → AreNamed is ms → AllTypeCheck (map (λ m. m.shape) ms) ks → AreSlots e slots ks
+slots_type_check e [] [] [] [] t n s = tt
+slots_type_check e [] [] [] (k ∷ ks) t n s = absurd s
+slots_type_check e [] [] (m ∷ ms) ks t n s = absurd n
+slots_type_check e [] (i ∷ is) ms ks t n s = absurd t
+slots_type_check e (slot ∷ slots) [] ms ks t n s = absurd t
+slots_type_check e (slot ∷ slots) (i ∷ is) [] ks t n s = absurd n
+slots_type_check e (slot ∷ slots) (i ∷ is) (m ∷ ms) [] t n s = absurd s
+slots_type_check e (slot ∷ slots) (i ∷ is) (m ∷ ms) (k ∷ ks) t n s = (slot_type_checks e slot i m k t.0 n.0 s.0, slots_type_check e slots is ms ks t.1 n.1 s.1)
 
 slots_many : (e : TypingContext) (slots : List ℕ) (ks : List Letter) → AreSlots e slots ks → length slots ≡ length ks
 slots_many e [] [] h = refl

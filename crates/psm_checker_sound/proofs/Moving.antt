@@ -62,7 +62,7 @@ known_moved e known letters s t resolver_scope scopes (Some cursor) (Some k) sam
   plain = h.plain;
   shapes = h.shapes;
   items = h.items;
-  suit = h.suit;
+  type_check = h.type_check;
   typed = h.typed;
   lettered = h.lettered;
 }

@@ -39,7 +39,7 @@ pub record PartsWellFormed (e : TypingContext) (known : Known) (letters : Letter
   pub defaults : (checker_scope : CheckerScope) (resolver_scope : ResolverScope) → Agree e checker_scope resolver_scope → resolver_scope.row ≡ None → (x : Option Expr) → DefaultStands x → (o : Option SqlType) → default_fault checker_scope o x ≡ None → PerhapsWellFormed known true (option_map (expr_at resolver_scope) x)
   pub compared : (checker_scope : CheckerScope) (resolver_scope : ResolverScope) → Agree e checker_scope resolver_scope → resolver_scope.row ≡ None → (x : Expr) → Tested x → (as_value (check_expr x checker_scope)).fault ≡ None → IsCompared e known checker_scope resolver_scope x
   pub queries : (checker_scope : CheckerScope) (resolver_scope : ResolverScope) → Agree e checker_scope resolver_scope → (q : Select) → IsTrue (select_stands q) → query_fault (check_query q checker_scope) ≡ None → WellFormedQuery known (resolve_query q resolver_scope).query
-  pub suit : (checker_scope : CheckerScope) (resolver_scope : ResolverScope) → Agree e checker_scope resolver_scope → (q : Select) → IsTrue (select_stands q) → query_fault (check_query q checker_scope) ≡ None → AllTypeCheck (resolve_query q resolver_scope).shapes (item_letters known (resolve_query q resolver_scope).query)
+  pub type_check : (checker_scope : CheckerScope) (resolver_scope : ResolverScope) → Agree e checker_scope resolver_scope → (q : Select) → IsTrue (select_stands q) → query_fault (check_query q checker_scope) ≡ None → AllTypeCheck (resolve_query q resolver_scope).shapes (item_letters known (resolve_query q resolver_scope).query)
   pub typed : (checker_scope : CheckerScope) (resolver_scope : ResolverScope) → Agree e checker_scope resolver_scope → (q : Select) → IsTrue (select_stands q) → query_fault (check_query q checker_scope) ≡ None → Each IsTyped (resolve_query q resolver_scope).shapes
   pub rows : (checker_scope : CheckerScope) (resolver_scope : ResolverScope) → Agree e checker_scope resolver_scope → (q : Select) → IsTrue (select_stands q) → query_fault (check_query q checker_scope) ≡ None → first_set (check_query q checker_scope).picks ≡ None → has_rows (items_of (resolve_query q resolver_scope).query) ≡ true
 
@@ -50,7 +50,7 @@ parts_well_formed e known letters h is = record {
   defaults = well_formed-defaults e known h is;
   compared = well_formed-compared e known h is;
   queries = well_formed-queries e known h is;
-  suit = well_formed-letters e known is;
+  type_check = well_formed-letters e known is;
   typed = well_formed-typed e;
   rows = well_formed-rows e;
 }

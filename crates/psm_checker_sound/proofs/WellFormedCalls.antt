@@ -192,4 +192,4 @@ fetch_well_formed e known letters s checker_scope resolver_scope a n ts (Some c)
 fetch_well_formed e known letters s checker_scope resolver_scope a n ts (Some c) (Some m) h opened targets into =
     let shapes = not_of_for checker_scope ts n c.items c.of_for opened into in
     subst (AreSlots e (slots_of resolver_scope.scopes (several ts))) (sym (ap letters_or h.lettered))
-    (fetched_slots e checker_scope resolver_scope a h.shapes (item_letters known h.x.query) h.suit h.typed ts targets (ap (fetch_items checker_scope.scopes ts) (sym h.items) ∙ shapes))
+    (fetched_slots e checker_scope resolver_scope a h.shapes (item_letters known h.x.query) h.type_check h.typed ts targets (ap (fetch_items checker_scope.scopes ts) (sym h.items) ∙ shapes))

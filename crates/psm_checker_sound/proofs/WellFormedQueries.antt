@@ -31,13 +31,13 @@ item_type_checks i s k h = subst (λ s. TypeChecks s k) (sym h.resolved) h.lette
 item_typed : (i : Item) (s : Shape) (k : Letter) → IsItem i s k → IsTyped s
 item_typed i s k h = subst IsTyped (sym h.resolved) tt
 
-items_suit : (is : List Item) (ss : List Shape) (ks : List Letter) → ItemsAre is ss ks → AllTypeCheck ss ks
-items_suit [] [] [] h = tt
-items_suit [] [] (k ∷ ks) h = absurd h
-items_suit [] (s ∷ ss) ks h = absurd h
-items_suit (i ∷ is) [] ks h = absurd h
-items_suit (i ∷ is) (s ∷ ss) [] h = absurd h
-items_suit (i ∷ is) (s ∷ ss) (k ∷ ks) h = (item_type_checks i s k h.0, items_suit is ss ks h.1)
+items_type_check : (is : List Item) (ss : List Shape) (ks : List Letter) → ItemsAre is ss ks → AllTypeCheck ss ks
+items_type_check [] [] [] h = tt
+items_type_check [] [] (k ∷ ks) h = absurd h
+items_type_check [] (s ∷ ss) ks h = absurd h
+items_type_check (i ∷ is) [] ks h = absurd h
+items_type_check (i ∷ is) (s ∷ ss) [] h = absurd h
+items_type_check (i ∷ is) (s ∷ ss) (k ∷ ks) h = (item_type_checks i s k h.0, items_type_check is ss ks h.1)
 
 items_typed : (is : List Item) (ss : List Shape) (ks : List Letter) → ItemsAre is ss ks → Each IsTyped ss
 items_typed [] [] [] h = tt
@@ -51,7 +51,7 @@ pub well_formed-letters : (e : TypingContext) (known : Known) → known ≡ know
     → AllTypeCheck (resolve_query q resolver_scope).shapes (item_letters known (resolve_query q resolver_scope).query)
 well_formed-letters e known is checker_scope resolver_scope a q well none = let g = query_accepted q e checker_scope resolver_scope a well none in
     subst (λ known. AllTypeCheck (resolve_query q resolver_scope).shapes (item_letters known (resolve_query q resolver_scope).query)) (sym is)
-    (subst (AllTypeCheck (resolve_query q resolver_scope).shapes) (sym g.2.known) (items_suit g.0 (resolve_query q resolver_scope).shapes g.2.letters g.2.shapes))
+    (subst (AllTypeCheck (resolve_query q resolver_scope).shapes) (sym g.2.known) (items_type_check g.0 (resolve_query q resolver_scope).shapes g.2.letters g.2.shapes))
 
 pub well_formed-typed : (e : TypingContext) (checker_scope : CheckerScope) (resolver_scope : ResolverScope) → Agree e checker_scope resolver_scope → (q : Select) → IsTrue (select_stands q) → query_fault (check_query q checker_scope) ≡ None → Each IsTyped (resolve_query q resolver_scope).shapes
 well_formed-typed e checker_scope resolver_scope a q well none = let g = query_accepted q e checker_scope resolver_scope a well none in items_typed g.0 (resolve_query q resolver_scope).shapes g.2.letters g.2.shapes

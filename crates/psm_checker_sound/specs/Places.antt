@@ -39,7 +39,7 @@ pub record IsKnown (e : TypingContext) (known : Known) (letters : Letters) (s : 
   pub plain : cursor.updatable ≡ true → x.insensitive ≡ false
   pub shapes : List Shape
   pub items : cursor.items ≡ Some (map (λ s. Some s) shapes)
-  pub suit : AllTypeCheck shapes (item_letters known x.query)
+  pub type_check : AllTypeCheck shapes (item_letters known x.query)
   pub typed : Each IsTyped shapes
   pub lettered : slice_get letters number ≡ Some (item_letters known x.query)
 

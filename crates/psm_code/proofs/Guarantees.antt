@@ -149,8 +149,8 @@ query_type_checks code r q g vars s =
 -- ---- CHECKs
 
 -- the CHECKs of a table end with truth values, and see its columns alone
-pub checks_suit : (code : RawCode) (n : ℕ) (t : CodeTable) → first_fault code ≡ None → slice_get code.tables n ≡ Some t → list_all (gives_truth (letters_of t.definition) []) t.checks ≡ true
-checks_suit code n t well_formed_code e =
+pub checks_type_check : (code : RawCode) (n : ℕ) (t : CodeTable) → first_fault code ≡ None → slice_get code.tables n ≡ Some t → list_all (gives_truth (letters_of t.definition) []) t.checks ≡ true
+checks_type_check code n t well_formed_code e =
     let h = table_well_formed code n t well_formed_code e in
     let front = each_after column_fault [] t.definition.columns in
     let checks = flat_map (expr_faults (column_letters t) [] (is_letter B)) t.checks in
@@ -173,10 +173,10 @@ abbrev pub sets_value : List Letter → List Letter → SetItem → Bool
 sets_value columns variables s = nat_lt s.column (length columns) && gives_value columns variables s.source
 
 -- the assignments of a plan set columns of its table to values
-pub sets_suit : (code : RawCode) (r : RawRoutine) (table : ℕ) (t : CodeTable) (before sets : List SetItem) → slice_get code.tables table ≡ Some t → Clean (each_after (set_faults code r table) before sets)
+pub sets_type_check : (code : RawCode) (r : RawRoutine) (table : ℕ) (t : CodeTable) (before sets : List SetItem) → slice_get code.tables table ≡ Some t → Clean (each_after (set_faults code r table) before sets)
     → list_all (sets_value (letters_of t.definition) (variables_of r)) sets ≡ true
-sets_suit code r table t before [] e h = refl
-sets_suit code r table t before (s ∷ sets) e h =
+sets_type_check code r table t before [] e h = refl
+sets_type_check code r table t before (s ∷ sets) e h =
     let columns = letters_of t.definition in
     let variables = variables_of r in
     let letters : columns_at code table ≡ columns = ap columns_of_table e in
@@ -192,4 +192,4 @@ sets_suit code r table t before (s ∷ sets) e h =
     let value = value_by (columns_at code table) variables s.source f.end (column_value (columns_at code table) variables (slice_get (columns_at code table) s.column) f.end (λ l q. column_known (columns_at code table) s.column values l q) f.is_due) f.fits in
     both_true (sets_value columns variables s) (list_all (sets_value columns variables) sets)
     (both_true (nat_lt s.column (length columns)) (gives_value columns variables s.source) (ap (nat_lt s.column) long ∙ below) (ap (λ ks. gives_value ks variables s.source) (sym letters) ∙ value))
-    (sets_suit code r table t (before ++ s ∷ []) sets e rest)
+    (sets_type_check code r table t (before ++ s ∷ []) sets e rest)

@@ -1,4 +1,4 @@
--- All that code keeps of a file where it is written for one of its routines, and that simple statements which are well-formed suit it.
+-- All that code keeps of a file where it is written for one of its routines, and that simple statements which are well-formed type-check over it.
 use Rattle.std.proofs.Common.{◌≡◌, ◌++◌, ℕ, zero, suc, true, List, [], ◌∷◌, map, Option, Some, None, option_map, ap, ap₂, refl, sym, ◌∙◌}
 use Rattle.std.specs.Prelude.{slice_get}
 use Rattle.std.proofs.lemmas.Bool.{false≢true}

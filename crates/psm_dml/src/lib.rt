@@ -21,5 +21,5 @@ pub use inserting::insert;
 pub use moving::update_at;
 pub use psm_cond::DataFault;
 pub use psm_exprcode::{ExprCode, SetItem};
-pub use typing::{suit_checks, suit_sets};
+pub use typing::{checks_type_check, sets_type_check};
 pub use updating::update;

@@ -35,7 +35,7 @@ use Rattle.psm_code.proofs.Operating.{stored_letters}
 use Rattle.psm_code.proofs.Planning.{kept_set}
 use Rattle.psm_code.proofs.Queried.{kept_at, well_formed_query, WellFormedQueryCode}
 use Rattle.psm_code.proofs.Rowing.{inserted_rows}
-use Rattle.psm_code.proofs.Guarantees.{checks_suit, query_type_checks, sets_suit, test_given}
+use Rattle.psm_code.proofs.Guarantees.{checks_type_check, query_type_checks, sets_type_check, test_given}
 use Rattle.psm_machine.specs.Allowed.{HasTable, MayAsk, MayChange, MayChangeAt, MayDo, MayErase, MayEraseAt, MayMove, MayOpen, MayPut, OfCursor, OverQuery, RunsWellFormed}
 use Rattle.psm_machine.specs.Inserting.{put_due}
 use Rattle.psm_machine.proofs.Asking.{of_some, some_of}
@@ -68,7 +68,7 @@ module _ (code : RawCode) (tables : List Contents) (well_formed_code : first_fau
   has_table : (n : ℕ) (t : CodeTable) → slice_get code.tables n ≡ Some t → HasTable t tables n
   has_table n t e =
       let k = kept_at code.tables tables n t kept e in
-      record { contents = k.0; there = k.1; kept = k.2; checks = subst (λ d. ChecksTypeCheck t.checks d) (sym k.2.same) (checks_suit code n t well_formed_code e) }
+      record { contents = k.0; there = k.1; kept = k.2; checks = subst (λ d. ChecksTypeCheck t.checks d) (sym k.2.same) (checks_type_check code n t well_formed_code e) }
 
   -- rows may be put in
   pub put_right : (n : ℕ) → MayPut code tables n
@@ -143,7 +143,7 @@ module _ (code : RawCode) (r : RawRoutine) (tables : List Contents) (vars : List
       }
 
   sets_do : (n : ℕ) (t : CodeTable) (sets : List SetItem) → slice_get code.tables n ≡ Some t → Clean (sets_in code r n sets) → SetsTypeCheck sets vars t.definition
-  sets_do n t sets e c = record { variables = variables_of r; kinds = stored_letters (slots_of r) vars h.stored; fits = sets_suit code r n t [] sets e c }
+  sets_do n t sets e c = record { variables = variables_of r; kinds = stored_letters (slots_of r) vars h.stored; fits = sets_type_check code r n t [] sets e c }
 
   may_do_by : (p : Plan) → Clean (plan_faults code r p) → MayDo code r tables vars cursors p
   may_do_by (plans.Insert table columns rows) c = put_right code tables h.well_formed_code h.kept table

@@ -266,13 +266,13 @@ fn routines(out: &mut Writer, routines: &List<Routine>) -> Result<(), AllocError
 }
 
 /// The module.
-fn module_part(out: &mut Writer, module: &Module) -> Result<(), AllocError>
-    ensures { IfOk result (λ _. out.new ≡ out.old ++ module_tokens module.now) }
+fn module_part(out: &mut Writer, part: &Module) -> Result<(), AllocError>
+    ensures { IfOk result (λ _. out.new ≡ out.old ++ module_tokens part.now) }
 {
     out.word(Word::Create)?;
     out.word(Word::Module)?;
-    name(out, &module.name)?;
-    routines(out, &module.routines)?;
+    name(out, &part.name)?;
+    routines(out, &part.routines)?;
     out.word(Word::End)?;
     out.word(Word::Module)
 }

@@ -72,9 +72,9 @@ select_is file h q well none =
     let query = (resolve_query q.query (resolver_scope_of known)).query in
     let clear = (neither (query_fault (check_query q.query (checker_scope_of known))) (order_fault known (check_query q.query (checker_scope_of known)).table q.order) none).0 in
     let letters = item_letters (known_of file no_routine) query in
-    let suit = well_formed-letters (outside file) (known_of file no_routine) refl (checker_scope_of known) (resolver_scope_of known) agree q.query well clear in
+    let type_check = well_formed-letters (outside file) (known_of file no_routine) refl (checker_scope_of known) (resolver_scope_of known) agree q.query well clear in
     record {
       letters = letters;
-      well_typed = ordered_well_typed (is_downward q.order) query (outside file) letters ((queries (outside file) (checker_scope_of known) (resolver_scope_of known) agree q.query well clear).3 letters suit);
+      well_typed = ordered_well_typed (is_downward q.order) query (outside file) letters ((queries (outside file) (checker_scope_of known) (resolver_scope_of known) agree q.query well clear).3 letters type_check);
       well_formed = ordered_well_formed (is_downward q.order) query (known_of file no_routine) (well_formed-queries (outside file) (known_of file no_routine) columns refl (checker_scope_of known) (resolver_scope_of known) agree q.query well clear);
     }

@@ -15,8 +15,8 @@ ghost use Rattle.psm_session.specs.CommandSteps.{CommandExecutes, Runs};
 ghost use Rattle.psm_session_simulation.specs.Pieces.{following};
 ghost use Rattle.psm_session_simulation.specs.Standing.{CommandStands, CommandsStand};
 
-/// Over code that stands for a well-typed module file, a command runs what the command for which it stands means, whether it goes on or
-/// stops: the same piece of text, and the same tables and turns left, with any fuel that is enough for the turns. So do commands one
+/// Over code that stands for a well-typed module file, a command of the machine has the result that the script's command means, whether
+/// it goes on or stops: the same piece of text, and the same tables and turns left, with any fuel that is enough for the turns. So do commands one
 /// after another, and a whole script from empty tables on. Where all of its commands are run, their pieces are those of the session,
 /// and so are the tables and the turns that are left. Where the turns run out in a command, the session is cut there, and its tables
 /// are those before that command. Whatever was run by then, the pieces of the session begin with its pieces.

@@ -98,8 +98,8 @@ with_operand-evaluates scale x b ws us s a y p q h =
 
 -- one layer, the parts of which type-check
 module _ (columns variables : List Letter) (row vars : List Datum) where
-  abbrev SortsOf : ResolvedExpr-F ResolvedExpr ResolvedItems ResolvedItem ResolvedOperation ResolvedQuery ResolvedWhen → RowTypeLayer
-  SortsOf layer = map-ResolvedExpr ResolvedExpr ResolvedItems ResolvedItem ResolvedOperation ResolvedQuery ResolvedWhen RowType (Unit {0}) (Unit {0}) (Operator × RowType) (Unit {0}) (RowType × RowType) (row_type_of columns variables) (fold-ResolvedItems RowType (Unit {0}) (Unit {0}) (Operator × RowType) (Unit {0}) (RowType × RowType) (row_type_layer columns variables) row_types.items_none row_types.item_none row_types.chain_link_layer row_types.query_none row_types.when_layer) (fold-ResolvedItem RowType (Unit {0}) (Unit {0}) (Operator × RowType) (Unit {0}) (RowType × RowType) (row_type_layer columns variables) row_types.items_none row_types.item_none row_types.chain_link_layer row_types.query_none row_types.when_layer) (chain_link_row_type columns variables) (fold-ResolvedQuery RowType (Unit {0}) (Unit {0}) (Operator × RowType) (Unit {0}) (RowType × RowType) (row_type_layer columns variables) row_types.items_none row_types.item_none row_types.chain_link_layer row_types.query_none row_types.when_layer) (when_row_type columns variables) layer
+  abbrev RowTypesOf : ResolvedExpr-F ResolvedExpr ResolvedItems ResolvedItem ResolvedOperation ResolvedQuery ResolvedWhen → RowTypeLayer
+  RowTypesOf layer = map-ResolvedExpr ResolvedExpr ResolvedItems ResolvedItem ResolvedOperation ResolvedQuery ResolvedWhen RowType (Unit {0}) (Unit {0}) (Operator × RowType) (Unit {0}) (RowType × RowType) (row_type_of columns variables) (fold-ResolvedItems RowType (Unit {0}) (Unit {0}) (Operator × RowType) (Unit {0}) (RowType × RowType) (row_type_layer columns variables) row_types.items_none row_types.item_none row_types.chain_link_layer row_types.query_none row_types.when_layer) (fold-ResolvedItem RowType (Unit {0}) (Unit {0}) (Operator × RowType) (Unit {0}) (RowType × RowType) (row_type_layer columns variables) row_types.items_none row_types.item_none row_types.chain_link_layer row_types.query_none row_types.when_layer) (chain_link_row_type columns variables) (fold-ResolvedQuery RowType (Unit {0}) (Unit {0}) (Operator × RowType) (Unit {0}) (RowType × RowType) (row_type_layer columns variables) row_types.items_none row_types.item_none row_types.chain_link_layer row_types.query_none row_types.when_layer) (when_row_type columns variables) layer
 
   abbrev OutcomesOf : ResolvedExpr-F ResolvedExpr ResolvedItems ResolvedItem ResolvedOperation ResolvedQuery ResolvedWhen → OutcomeLayer
   OutcomesOf layer = map-ResolvedExpr ResolvedExpr ResolvedItems ResolvedItem ResolvedOperation ResolvedQuery ResolvedWhen Outcome (Unit {0}) (Unit {0}) (Operator × Outcome) (Unit {0}) (Outcome × Outcome) (row_value row vars) (fold-ResolvedItems Outcome (Unit {0}) (Unit {0}) (Operator × Outcome) (Unit {0}) (Outcome × Outcome) (value_layer row vars) values.items_none values.item_none values.chain_link_layer values.query_none values.when_layer) (fold-ResolvedItem Outcome (Unit {0}) (Unit {0}) (Operator × Outcome) (Unit {0}) (Outcome × Outcome) (value_layer row vars) values.items_none values.item_none values.chain_link_layer values.query_none values.when_layer) (chain_link_value row vars) (fold-ResolvedQuery Outcome (Unit {0}) (Unit {0}) (Operator × Outcome) (Unit {0}) (Outcome × Outcome) (value_layer row vars) values.items_none values.item_none values.chain_link_layer values.query_none values.when_layer) (when_value row vars) layer
@@ -111,32 +111,32 @@ module _ (columns variables : List Letter) (row vars : List Datum) where
   abbrev Up : ℕ → Type 0
   Up n = (x : ResolvedExpr) → expr_size x ≤ n → TypeCheck x
 
-  all-suit : (n : ℕ) → Up n → (xs : List ResolvedExpr) → total (map expr_size xs) ≤ n → AllTypeCheck (map (row_type_of columns variables) xs) (map (row_value row vars) xs)
-  all-suit n up [] p = tt
-  all-suit n up (x ∷ xs) p = (up x (omega (arith, p)), all-suit n up xs (omega (arith, p)))
+  all-type_check : (n : ℕ) → Up n → (xs : List ResolvedExpr) → total (map expr_size xs) ≤ n → AllTypeCheck (map (row_type_of columns variables) xs) (map (row_value row vars) xs)
+  all-type_check n up [] p = tt
+  all-type_check n up (x ∷ xs) p = (up x (omega (arith, p)), all-type_check n up xs (omega (arith, p)))
 
   one-chain_link : (l : ResolvedOperation) → TypeCheck (out-ResolvedOperation l).operand → ((chain_link_row_type columns variables l).0 ≡ (chain_link_value row vars l).0) × TypeChecks (chain_link_row_type columns variables l).1 (chain_link_value row vars l).1
   one-chain_link l h =
       subst (λ s. (s.0 ≡ (chain_link_value row vars l).0) × TypeChecks s.1 (chain_link_value row vars l).1) (sym (row_type_of_chain_link columns variables l))
       (subst (λ a. ((out-ResolvedOperation l).operator ≡ a.0) × TypeChecks (row_type_of columns variables (out-ResolvedOperation l).operand) a.1) (sym (value_of_chain_link row vars l)) (refl, h))
 
-  chain_links-suit : (n : ℕ) → Up n → (ls : List ResolvedOperation) → total (map chain_link_size ls) ≤ n → ChainLinksTypeCheck (map (chain_link_row_type columns variables) ls) (map (chain_link_value row vars) ls)
-  chain_links-suit n up [] p = tt
-  chain_links-suit n up (l ∷ ls) p = let h = one-chain_link l (up (out-ResolvedOperation l).operand (omega (arith, p, chain_link_size-out l))) in (h.0, h.1, chain_links-suit n up ls (omega (arith, p)))
+  chain_links-type_check : (n : ℕ) → Up n → (ls : List ResolvedOperation) → total (map chain_link_size ls) ≤ n → ChainLinksTypeCheck (map (chain_link_row_type columns variables) ls) (map (chain_link_value row vars) ls)
+  chain_links-type_check n up [] p = tt
+  chain_links-type_check n up (l ∷ ls) p = let h = one-chain_link l (up (out-ResolvedOperation l).operand (omega (arith, p, chain_link_size-out l))) in (h.0, h.1, chain_links-type_check n up ls (omega (arith, p)))
 
   one-when : (w : ResolvedWhen) → TypeCheck (out-ResolvedWhen w).test → TypeCheck (out-ResolvedWhen w).result → TypeChecks (when_row_type columns variables w).0 (when_value row vars w).0 × TypeChecks (when_row_type columns variables w).1 (when_value row vars w).1
   one-when w g h =
       subst (λ s. TypeChecks s.0 (when_value row vars w).0 × TypeChecks s.1 (when_value row vars w).1) (sym (row_type_of_when columns variables w))
       (subst (λ a. TypeChecks (row_type_of columns variables (out-ResolvedWhen w).test) a.0 × TypeChecks (row_type_of columns variables (out-ResolvedWhen w).result) a.1) (sym (value_of_when row vars w)) (g, h))
 
-  whens-suit : (n : ℕ) → Up n → (ws : List ResolvedWhen) → total (map when_size ws) ≤ suc n → WhensTypeCheck (map (when_row_type columns variables) ws) (map (when_value row vars) ws)
-  whens-suit n up [] p = tt
-  whens-suit n up (w ∷ ws) p =
+  whens-type_check : (n : ℕ) → Up n → (ws : List ResolvedWhen) → total (map when_size ws) ≤ suc n → WhensTypeCheck (map (when_row_type columns variables) ws) (map (when_value row vars) ws)
+  whens-type_check n up [] p = tt
+  whens-type_check n up (w ∷ ws) p =
       let h = one-when w (up (out-ResolvedWhen w).test (omega (arith, p, when_size-out w))) (up (out-ResolvedWhen w).result (omega (arith, p, when_size-out w))) in
-      (h.0, h.1, whens-suit n up ws (omega (arith, p)))
+      (h.0, h.1, whens-type_check n up ws (omega (arith, p)))
 
   layer-type_checks : are_of columns row ≡ true → are_of variables vars ≡ true → (n : ℕ) → Up n → (layer : ResolvedExpr-F ResolvedExpr ResolvedItems ResolvedItem ResolvedOperation ResolvedQuery ResolvedWhen) → size_of layer ≤ suc n
-      → TypeChecks (row_type_layer columns variables (SortsOf layer)) (value_layer row vars (OutcomesOf layer))
+      → TypeChecks (row_type_layer columns variables (RowTypesOf layer)) (value_layer row vars (OutcomesOf layer))
   layer-type_checks f g n up layers.Null p = refl
   layer-type_checks f g n up (layers.Number m) p = refl
   layer-type_checks f g n up (layers.Text t) p = refl
@@ -147,7 +147,7 @@ module _ (columns variables : List Letter) (row vars : List Datum) where
       let ss : List RowType = map (row_type_of columns variables) xs.rest in
       type_checks-where (is_of B s && list_all (is_of B) ss) B _ (λ h.
       joined-evaluates j (row_value row vars xs.first) ss (map (row_value row vars) xs.rest) (type_checks-of B s _ (and_first (is_of B s) (list_all (is_of B) ss) h) (up xs.first (omega (arith, p))))
-      (and_second (is_of B s) (list_all (is_of B) ss) h) (all-suit n up xs.rest (omega (arith, p))))
+      (and_second (is_of B s) (list_all (is_of B) ss) h) (all-type_check n up xs.rest (omega (arith, p))))
   layer-type_checks f g n up (layers.Not x) p = type_checks-where (is_of B (row_type_of columns variables x)) B _ (λ h. Layers.not-evaluates row vars _ (type_checks-of B _ _ h (up x (omega (arith, p)))))
   layer-type_checks f g n up (layers.Compare operator x y) p =
       let s : Letter → Bool = λ k. is_of k (row_type_of columns variables x) in
@@ -173,7 +173,7 @@ module _ (columns variables : List Letter) (row vars : List Datum) where
       type_checks-where (some_value (λ k. s k && list_all (is_of k) ss)) B _ (λ h.
       let k = value_found (λ k. s k && list_all (is_of k) ss) h in
       Layers.in-evaluates row vars negated _ (record { first = row_value row vars xs.first; rest = map (row_value row vars) xs.rest }) (type_checks-valued k.0 _ _ k.1 (and_first (s k.0) (list_all (is_of k.0) ss) k.2) (up x (omega (arith, p))))
-      (all_valued k.0 ss (map (row_value row vars) (listed xs)) k.1 (and_second (s k.0) (list_all (is_of k.0) ss) k.2) (up xs.first (omega (arith, p)), all-suit n up xs.rest (omega (arith, p)))))
+      (all_valued k.0 ss (map (row_value row vars) (listed xs)) k.1 (and_second (s k.0) (list_all (is_of k.0) ss) k.2) (up xs.first (omega (arith, p)), all-type_check n up xs.rest (omega (arith, p)))))
   layer-type_checks f g n up (layers.Like negated x y None) p =
       let s : Bool = is_of T (row_type_of columns variables x) in
       let t : Bool = is_of T (row_type_of columns variables y) in
@@ -186,20 +186,20 @@ module _ (columns variables : List Letter) (row vars : List Datum) where
       type_checks-where (s && (t && u)) B _ (λ h.
       Layers.like_escaped-evaluates row vars negated _ _ _ (type_checks-valued T _ _ refl (and_first s (t && u) h) (up x (omega (arith, p)))) (type_checks-valued T _ _ refl (and_first t u (and_second s (t && u) h)) (up y (omega (arith, p))))
       (type_checks-valued T _ _ refl (and_second t u (and_second s (t && u) h)) (up z (omega (arith, p)))))
-  layer-type_checks f g n up (layers.OperatorChain x ls) p = linked-type_checks _ _ _ _ (typed-type_checks _ _ (up x (omega (arith, p)))) (chain_links-suit n up ls (omega (arith, p)))
+  layer-type_checks f g n up (layers.OperatorChain x ls) p = linked-type_checks _ _ _ _ (typed-type_checks _ _ (up x (omega (arith, p)))) (chain_links-type_check n up ls (omega (arith, p)))
   layer-type_checks f g n up (layers.Negated x) p = type_checks-where (is_of N (row_type_of columns variables x)) N _ (λ h. Layers.negated-evaluates row vars _ (type_checks-valued N _ _ refl h (up x (omega (arith, p)))))
   layer-type_checks f g n up (layers.Call function arguments) p = tt
   layer-type_checks f g n up (layers.Scalar query) p = tt
   layer-type_checks f g n up (layers.Exists query) p = tt
   layer-type_checks f g n up (layers.Case None ws None scale) p = type_checks-where _ (letter_at scale) _ (λ h.
-      searched-evaluates scale (map (when_row_type columns variables) (listed ws)) (map (when_value row vars) (listed ws)) None None (whens-suit n up (listed ws) (omega (arith, p))) tt h)
+      searched-evaluates scale (map (when_row_type columns variables) (listed ws)) (map (when_value row vars) (listed ws)) None None (whens-type_check n up (listed ws) (omega (arith, p))) tt h)
   layer-type_checks f g n up (layers.Case None ws (Some y) scale) p = type_checks-where _ (letter_at scale) _ (λ h.
-      searched-evaluates scale (map (when_row_type columns variables) (listed ws)) (map (when_value row vars) (listed ws)) (Some (row_type_of columns variables y)) (Some (row_value row vars y)) (whens-suit n up (listed ws) (omega (arith, p))) (up y (omega (arith, p))) h)
+      searched-evaluates scale (map (when_row_type columns variables) (listed ws)) (map (when_value row vars) (listed ws)) (Some (row_type_of columns variables y)) (Some (row_value row vars y)) (whens-type_check n up (listed ws) (omega (arith, p))) (up y (omega (arith, p))) h)
   layer-type_checks f g n up (layers.Case (Some x) ws None scale) p = type_checks-where _ (letter_at scale) _ (λ h.
-      with_operand-evaluates scale (row_type_of columns variables x) (row_value row vars x) (map (when_row_type columns variables) (listed ws)) (map (when_value row vars) (listed ws)) None None (up x (omega (arith, p))) (whens-suit n up (listed ws) (omega (arith, p))) tt h)
+      with_operand-evaluates scale (row_type_of columns variables x) (row_value row vars x) (map (when_row_type columns variables) (listed ws)) (map (when_value row vars) (listed ws)) None None (up x (omega (arith, p))) (whens-type_check n up (listed ws) (omega (arith, p))) tt h)
   layer-type_checks f g n up (layers.Case (Some x) ws (Some y) scale) p = type_checks-where _ (letter_at scale) _ (λ h.
       with_operand-evaluates scale (row_type_of columns variables x) (row_value row vars x) (map (when_row_type columns variables) (listed ws)) (map (when_value row vars) (listed ws)) (Some (row_type_of columns variables y)) (Some (row_value row vars y)) (up x (omega (arith, p)))
-      (whens-suit n up (listed ws) (omega (arith, p))) (up y (omega (arith, p))) h)
+      (whens-type_check n up (listed ws) (omega (arith, p))) (up y (omega (arith, p))) h)
   layer-type_checks f g n up (layers.Coalesce xs scale) p =
       let k : Letter = letter_at scale in
       let s : RowType = row_type_of columns variables xs.first in
@@ -207,7 +207,7 @@ module _ (columns variables : List Letter) (row vars : List Datum) where
       type_checks-where ((goes_as k s && list_all (goes_as k) ss) && is_scale scale) k _ (λ h.
       let r : (goes_as k s && list_all (goes_as k) ss) ≡ true = and_first (goes_as k s && list_all (goes_as k) ss) (is_scale scale) h in
       Layers.scale-evaluates scale _ (first_set-evaluates k s (row_value row vars xs.first) ss (map (row_value row vars) xs.rest) (Layers.letter_at-value scale) (and_first (goes_as k s) (list_all (goes_as k) ss) r) (and_second (goes_as k s) (list_all (goes_as k) ss) r)
-      (up xs.first (omega (arith, p))) (all-suit n up xs.rest (omega (arith, p)))))
+      (up xs.first (omega (arith, p))) (all-type_check n up xs.rest (omega (arith, p)))))
   layer-type_checks f g n up (layers.Cast x to) p =
       let s : Bool = some_value (λ k. is_of k (given N (row_type_of columns variables x))) in
       type_checks-where (s && is_type to) (letter_of to) _ (λ h.
@@ -237,7 +237,7 @@ module _ (columns variables : List Letter) (row vars : List Datum) where
   up-to f g zero x p = absurd (not-suc-le-zero (le_trans (expr_size-pos x) p))
   up-to f g (suc n) x p =
       subst (λ s. TypeChecks s (row_value row vars x)) (sym (fold_out-ResolvedExpr RowType (Unit {0}) (Unit {0}) (Operator × RowType) (Unit {0}) (RowType × RowType) (row_type_layer columns variables) row_types.items_none row_types.item_none row_types.chain_link_layer row_types.query_none row_types.when_layer x))
-      (subst (TypeChecks (row_type_layer columns variables (SortsOf (out-ResolvedExpr x)))) (sym (fold_out-ResolvedExpr Outcome (Unit {0}) (Unit {0}) (Operator × Outcome) (Unit {0}) (Outcome × Outcome) (value_layer row vars) values.items_none values.item_none values.chain_link_layer values.query_none values.when_layer x))
+      (subst (TypeChecks (row_type_layer columns variables (RowTypesOf (out-ResolvedExpr x)))) (sym (fold_out-ResolvedExpr Outcome (Unit {0}) (Unit {0}) (Operator × Outcome) (Unit {0}) (Outcome × Outcome) (value_layer row vars) values.items_none values.item_none values.chain_link_layer values.query_none values.when_layer x))
       (layer-type_checks f g n (up-to f g n) (out-ResolvedExpr x) (omega (arith, p, expr_size-out x))))
 
   pub row-evaluates : are_of columns row ≡ true → are_of variables vars ≡ true → (x : ResolvedExpr) (k : Letter) → goes_as k (row_type_of columns variables x) ≡ true → Evaluates k (row_value row vars x)
