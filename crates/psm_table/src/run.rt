@@ -25,7 +25,7 @@ use std::marker::Model;
 use std::mem;
 
 /// A run has memory for n pairs.
-const MOST_PAIRS: usize = 64;
+pub(crate) const MOST_PAIRS: usize = 64;
 
 /// Pairs in ascending order of their keys.
 #[derive(Drop)]
@@ -220,16 +220,18 @@ impl<V: Drop> Run<V> {
         Err(low)
     }
 
-    /// Moves the greater half of the pairs of a full run into an empty one.
-    pub(crate) fn cut(&mut self, spare: Run<V>) -> Run<V>
+    /// Moves the greatest pairs of a full run into an empty one, but for as many of the smallest as are kept.
+    pub(crate) fn cut(&mut self, spare: Run<V>, kept: usize) -> Run<V>
         requires full { length self.old ≡ most_pairs }
+        requires some { 0 < kept }
+        requires fewer { kept < most_pairs }
         requires empty { spare ≡ [] }
         ensures pairs { self.old ≡ self.new ++ result }
         ensures lower { IsRun self.new }
         ensures upper { IsRun result }
     {
         let mut upper = spare;
-        while self.pairs.len() > MOST_PAIRS / 2 {
+        while self.pairs.len() > kept {
             if let Some(pair) = self.pairs.pop() {
                 insert_reserved(&mut upper.pairs, 0, pair);
             }

@@ -12,7 +12,7 @@ ghost use Rattle.psm_table.specs.Runs.{joined, most_pairs, AreRunsBut, IsIn, IsR
 use crate::key::Key;
 use crate::map::{Pair, Test};
 use crate::probe::Probe;
-use crate::run::{Run, insert_reserved};
+use crate::run::{MOST_PAIRS, Run, insert_reserved};
 
 /// The run in which a key stands, or would: the last whose first pair hasn't a greater key, or the first.
 pub(crate) fn locate<V: Drop>(runs: &[Run<V>], probe: Probe<'_>) -> usize
@@ -118,7 +118,7 @@ fn start<V: Drop>(runs: &mut Vec<Run<V>>, spare: Run<V>, key: Key, value: V)
     insert_reserved(runs, 0, run);
 }
 
-/// Cuts a full run in two.
+/// Cuts a full run in two, the last one before its last pair.
 fn cut_at<V: Drop>(runs: &mut Vec<Run<V>>, at: usize, spare: Run<V>)
     requires inside { at < length runs.old.items }
     requires full { length (slice_index_or runs.old.items at []) ≡ most_pairs }
@@ -128,8 +128,22 @@ fn cut_at<V: Drop>(runs: &mut Vec<Run<V>>, at: usize, spare: Run<V>)
     ensures pairs { joined runs.new.items ≡ joined runs.old.items }
     ensures runs { All IsRun runs.new.items }
 {
-    let upper = runs[at].cut(spare);
+    let kept = pairs_kept(at + 1 == runs.len());
+    let upper = runs[at].cut(spare, kept);
     insert_reserved(runs, at + 1, upper);
+}
+
+/// How many pairs a run keeps where it is cut: half of them, and in the last run all but one. Keys often rise, and
+/// then each run is filled.
+fn pairs_kept(is_last: bool) -> usize
+    ensures some { 0 < result }
+    ensures fewer { result < most_pairs }
+{
+    if is_last {
+        MOST_PAIRS - 1
+    } else {
+        MOST_PAIRS / 2
+    }
 }
 
 /// Keeps the pairs of a run that pass a test, and the run if there are any.

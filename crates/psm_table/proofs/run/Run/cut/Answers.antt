@@ -8,12 +8,12 @@ use Rattle.psm_table.proofs.run.Run.cut.Goals as goal
 
 pub invariant_of-self : goal.invariant_of-self
 invariant_of-self g c =
-    let long : 32 ≤ length c.loop-self.self-inside.pairs.items = c.loop-self.invariant.1 in (
+    let long : c.args.kept ≤ length c.loop-self.self-inside.pairs.items = c.loop-self.invariant.1 in (
       ascending-first c.loop-self.self-inside.pairs.items c.loop-self.upper-inside.pairs.items (subst AreAscending c.loop-self.invariant.0 c.self.invariant.0),
       omega (arith, ap length c.loop-self.invariant.0, length-append c.loop-self.self-inside.pairs.items c.loop-self.upper-inside.pairs.items, c.self.invariant.1),
       c.loop-self.invariant.2,
       c.loop-self.invariant.4 ∙ c.self.invariant.3 ∙ ap head_of c.loop-self.invariant.0
-          ∙ head-append c.loop-self.self-inside.pairs.items c.loop-self.upper-inside.pairs.items (omega (arith, long)),
+          ∙ head-append c.loop-self.self-inside.pairs.items c.loop-self.upper-inside.pairs.items (omega (arith, long, c.requires.some)),
     )
 
 pub invariant_of-upper : goal.invariant_of-upper
