@@ -21,7 +21,7 @@ returns-in_err-value c =
     let long : length pairs ≡ length c.args.columns.now = length-paired c.args.columns.now c.args.values.now c.requires.long in
     let inside : c.loop-at.at < length pairs = omega (arith, long, c.loop-at-test.true) in
     let here = pair_at c.args.columns.now c.args.values.now c.loop-at.at c.index-columns-at.result c.index-values-at.result pair c.loop-at-test.true c.requires.long c.index-columns-at.is c.index-values-at.is in
-    let p = err_from_is_err_and c.from_residual.result c.from_residual.ensures.1 in
+    let p = err_from_is_err_and c.from_residual-in_err-value.result c.from_residual-in_err-value.ensures.1 in
     rw (p.1, p.2)
     (gives_by (changing_of.stored_row (kinds_of c.args.columns.now) c.args.values.now) (collected storing pairs) (Err c.in_err-value.field-0.0) (row_collected c.args.columns.now c.args.values.now)
     (collects_fault storing pairs c.loop-at.at pair c.loop-at.stored.items c.in_err-value.field-0.0 inside (sym here) c.in_err-value.ensures c.loop-at.invariant))
