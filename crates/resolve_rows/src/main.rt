@@ -1,22 +1,16 @@
 //! Reads rows with module files from standard input, and prints for each what the resolved file is.
 //!
-//! A row is a kind, a blank, and what it asks for; ` | ` stands between its parts. `file FILE` prints of each routine
+//! A row is a kind, a blank, and a file. `file FILE` prints of each routine
 //! how many slots and cursors it has, the names of its conditions without an SQLSTATE, and its body without expressions.
-//! `code FILE` prints how much code is written for each routine, and whether all of it is right, and `script SCRIPT | FILE` how many
-//! commands a script over the file has, or its first fault.
-//! `check COLUMNS | FILE` prints what each CHECK of the first table evaluates to on a row, and `query COLUMNS | VARIABLES |
-//! FILE` what the items and the test of the SELECT that is the first routine evaluate to. A value is a number, a text after a
-//! single quote, in which a tilde stands for a blank, or NULL. An empty line, and one that begins with `#`, is printed as it is.
+//! `code FILE` prints how much code is written for each routine, and whether all of it is well-formed. An empty line, and one that
+//! begins with `#`, is printed as it is.
 #![tactic(auto)]
 
 mod answer;
 mod coded;
 mod fault;
-mod letters;
 mod outline;
 mod read;
-mod scripted;
-mod value;
 
 use answer::answer;
 use anyhow::Result;
