@@ -40,6 +40,7 @@ forbid psm_termination psm_tree psm_resolved psm_store psm_io
 forbid psm_codegen psm_tree psm_scope psm_store psm_io
 forbid psm_codegen_wellformed psm_tree psm_scope psm_store psm_io
 forbid psm_verify psm_tree psm_resolved psm_meaning psm_store psm_io
+forbid psm_words psm_code psm_table psm_tree psm_io
 forbid psm_cursor psm_code psm_tree psm_undostore psm_io
 for crate in psm_unwind psm_machine; do forbid $crate psm_tree psm_resolved psm_meaning psm_undostore psm_io; done
 forbid psm_cond psm_tree psm_table
