@@ -2,12 +2,12 @@ pub mod Callings
 pub mod Contexts
 pub mod Each
 pub mod Ending
+pub mod KnownLetters
 pub mod LinesInOrder
 pub mod Lining
 pub mod NewValues
 pub mod Placing
 pub mod Rows
-pub mod Scenes
 pub mod Slots
 pub mod Splits
 pub mod Stable

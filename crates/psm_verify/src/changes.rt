@@ -172,7 +172,7 @@ impl<'a> VerifyContext<'a> {
 }
 
 // Whether the items are of the letters of columns, one for one.
-#[tactic(auto, using(crate::proofs::Scenes::items_first, crate::proofs::Scenes::items_end))]
+#[tactic(auto, using(crate::proofs::KnownLetters::items_first, crate::proofs::KnownLetters::items_end))]
 fn are_items(letters: &[Letter], columns: &[u32], items: &[Letter]) -> bool
     ensures { result ≡ plans.are_items (instructions.letters_at letters.now columns.now) items.now }
 {

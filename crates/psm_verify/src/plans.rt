@@ -17,7 +17,7 @@ use std::alloc::Global;
 
 impl<'a> VerifyContext<'a> {
     /// An expression over the columns of a table and the variables of the routine.
-    #[tactic(auto, using(crate::proofs::Scenes::expr_in_is))]
+    #[tactic(auto, using(crate::proofs::KnownLetters::expr_in_is))]
     pub(crate) fn expression(
         &self,
         alloc: Global,

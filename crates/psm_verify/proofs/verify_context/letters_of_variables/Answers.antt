@@ -1,4 +1,4 @@
-use Rattle.psm_verify.proofs.Scenes.{variables_are}
+use Rattle.psm_verify.proofs.KnownLetters.{variables_are}
 use Rattle.psm_verify.proofs.verify_context.letters_of_variables.Goals as goal
 
 pub returns : goal.returns

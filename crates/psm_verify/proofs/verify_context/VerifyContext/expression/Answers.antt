@@ -1,7 +1,7 @@
 use Rattle.std.proofs.Common.{subst}
 use Rattle.psm_verify.specs.Checked.{Finds, checked}
 use Rattle.psm_verify.specs.Placed.{due_of}
-use Rattle.psm_verify.proofs.Scenes.{expr_in_is}
+use Rattle.psm_verify.proofs.KnownLetters.{expr_in_is}
 use Rattle.psm_verify.proofs.verify_context.VerifyContext.expression.Goals as goal
 
 pub returns : goal.returns

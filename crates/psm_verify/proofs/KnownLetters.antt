@@ -1,4 +1,4 @@
--- Expressions over what is known of code and of a routine.
+-- Known letters of columns and variables: expressions over them, the items for columns, and the letters of a routine's variables.
 use Rattle.std.proofs.Common.{◌≡◌, ℕ, Bool, true, false, ◌&&◌, List, [], ◌∷◌, Option, Some, None, refl, ap, ◌∙◌}
 use Rattle.std.specs.Prelude.{map, ◌++◌, slice_get}
 use Rattle.psm_exprcode.specs.declared.op.Letter.{Letter}
