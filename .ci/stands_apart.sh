@@ -39,7 +39,7 @@ forbid psm_simulation psm_tree psm_scope psm_store psm_io
 forbid psm_termination psm_tree psm_resolved psm_store psm_io
 forbid psm_codegen psm_tree psm_scope psm_store psm_io
 forbid psm_codegen_wellformed psm_tree psm_scope psm_store psm_io
-forbid psm_verify psm_tree psm_resolved psm_meaning psm_store psm_io
+for crate in psm_verify_line psm_verify; do forbid $crate psm_tree psm_resolved psm_meaning psm_store psm_io; done
 forbid psm_words psm_code psm_table psm_tree psm_io
 forbid psm_cursor psm_code psm_tree psm_undostore psm_io
 for crate in psm_unwind psm_machine; do forbid $crate psm_tree psm_resolved psm_meaning psm_undostore psm_io; done
@@ -49,7 +49,7 @@ forbid psm_session psm_tree psm_simulation psm_codegen psm_undostore
 forbid psm_wellformed psm_tree psm_scope psm_store psm_io
 forbid psm_script_code psm_check_stmt psm_io psm_undostore
 forbid psm_session_simulation psm_tree psm_scope psm_machine psm_io
-forbid psm_build psm_undostore psm_verify
+forbid psm_build psm_undostore psm_verify_line psm_verify
 # shellcheck disable=SC2086
 {
     forbid psm_print $parsers
@@ -57,7 +57,7 @@ forbid psm_build psm_undostore psm_verify
     # checker, code generator or engine could be made.
     forbid psm psm_token psm_value psm_text psm_num psm_grammar psm_tree psm_resolved psm_machine $parsers
     forbid psm psm_scope psm_rules psm_check_expr psm_symbols psm_check_stmt psm_check_script psm_resolve_expr psm_declare psm_resolve
-    forbid psm psm_codegen psm_verify psm_exprcode psm_tablecode psm_store psm_query psm_dml psm_cursor psm_unwind psm_script_code
+    forbid psm psm_codegen psm_verify_line psm_verify psm_exprcode psm_tablecode psm_store psm_query psm_dml psm_cursor psm_unwind psm_script_code
 }
 forbid psm_spell psm_grammar psm_tree
 forbid psm_io psm_value

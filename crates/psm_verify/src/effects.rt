@@ -6,9 +6,9 @@ ghost use Rattle.psm_code.specs.Parts.{line_at};
 ghost use Rattle.psm_code.specs.RoutineRules.{is_stated, stated_fall_through, stated_branch};
 ghost use Rattle.psm_verify.specs.Moves.{fall_through_of, branch_of, effect_of, moves_follow, run_of};
 
-use crate::operands::{are_same, are_stated, left};
 use psm_code::{Lines, RawRoutine};
 use psm_exprcode::{Letter, Letters};
+use psm_verify_line::{are_same, are_stated, left};
 use std::alloc::{AllocError, Global};
 
 /// Letters of operands, the last one first.

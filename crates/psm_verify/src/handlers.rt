@@ -13,6 +13,7 @@ use psm_code::{CodeRule, Instruction, RawRoutine};
 use psm_cond::{Block, Context, ContextKind, Declared};
 use psm_sqlstate::Kind;
 use psm_value::SqlState;
+use psm_verify_line::is_block;
 
 /// The declared conditions of a routine.
 #[tactic(auto, using(crate::proofs::Each::map_next, crate::proofs::LinesInOrder::going_on, crate::proofs::LinesInOrder::stopped))]
@@ -126,24 +127,5 @@ fn is_declared_in(routine: &RawRoutine, parent: u32, handler: u32) -> bool
     match routine.handlers.handlers().get(handler as usize) {
         Some(handler) => handler.context == parent && is_block(routine, parent),
         None => true,
-    }
-}
-
-/// Whether the context of that number is that of a block.
-pub(crate) fn is_block(routine: &RawRoutine, context: u32) -> bool
-    ensures { result ≡ rules.there (parts.block_at routine.now context) }
-{
-    match routine.handlers.context(context) {
-        Some(context) => is_block_kind(&context.kind),
-        None => false,
-    }
-}
-
-fn is_block_kind(kind: &ContextKind) -> bool
-    ensures { result ≡ rules.there (parts.block_of_kind kind.now) }
-{
-    match kind {
-        ContextKind::Block(_) => true,
-        ContextKind::Action(_) => false,
     }
 }

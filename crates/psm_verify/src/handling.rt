@@ -1,8 +1,7 @@
 //! The handlers of a routine (ISO/IEC 9075-4:1996, handler declaration).
 ghost use Rattle.psm_code.specs.declared.rule.CodeRule.TheVariants.{Definition};
-ghost use Rattle.std.specs.Prelude.{◌≡◌, ◌&&◌, ◌||◌, [], ◌∷◌, not, length, slice_get, IfOk};
+ghost use Rattle.std.specs.Prelude.{◌≡◌, ◌&&◌, ◌||◌, [], ◌∷◌, not, slice_get, IfOk};
 ghost use Rattle.std.specs.List.{list_all};
-ghost use Rattle.psm_cond.specs.Handlers.{context_at};
 ghost use Rattle.psm_code.specs.Parts as parts;
 ghost use Rattle.psm_code.specs.Rules as rules;
 ghost use Rattle.psm_code.specs.RoutineRules as routines;
@@ -14,9 +13,10 @@ use crate::handlers::{is_condition, line_there};
 use crate::listing::passed;
 use crate::numbers::is_there;
 use crate::same::are_same_states;
-use psm_code::{CodeRule, Lines, RawRoutine};
+use psm_code::{CodeRule, RawRoutine};
 use psm_cond::{ConditionValue, ContextKind, Declared, Handler, HandlerKind};
 use psm_list::OneOrMore;
+use psm_verify_line::{is_action_of, is_bare};
 use std::alloc::{AllocError, Global};
 
 /// The handlers of a routine. Their values are compared with those of all handlers before them in the same block.
@@ -108,38 +108,6 @@ fn begins_action(
         }
         Some(_) => Ok(false),
         None => Ok(true),
-    }
-}
-
-/// Whether the context of that number is an action of the handler.
-pub(crate) fn is_action_of(routine: &RawRoutine, handler: usize, context: u32) -> bool
-    ensures { result ≡ routines.is_action_context handler (context_at routine.now.handlers context) }
-{
-    match routine.handlers.context(context) {
-        Some(context) => is_action_kind(handler, &context.kind),
-        None => false,
-    }
-}
-
-fn is_action_kind(handler: usize, kind: &ContextKind) -> bool
-    ensures { result ≡ routines.is_action_kind handler kind.now }
-{
-    match kind {
-        ContextKind::Block(_) => false,
-        ContextKind::Action(number) => handler == *number as usize,
-    }
-}
-
-/// Whether a line, if it is there, states no operand.
-pub(crate) fn is_bare(alloc: Global, lines: &Lines, at: usize) -> Result<bool, AllocError>
-    ensures { IfOk result (λ b. b ≡ rules.where_there (slice_get lines.now at) (λ l. not (rules.is_some l.stack))) }
-{
-    if at < lines.len() {
-        let mut letters = Vec::new(alloc);
-        lines.stack(at, &mut letters)?;
-        Ok(letters.is_empty())
-    } else {
-        Ok(true)
     }
 }
 

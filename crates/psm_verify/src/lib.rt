@@ -14,7 +14,6 @@ mod instructions;
 mod lines;
 mod listing;
 mod numbers;
-mod operands;
 mod parts;
 mod placed;
 mod plans;

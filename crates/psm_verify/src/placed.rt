@@ -10,10 +10,10 @@ ghost use Rattle.psm_verify.specs.Placed.{fall_through_at, allowed, branch_at, f
 
 use crate::fault::Stop;
 use crate::listing::passed;
-use crate::operands::{are_stated, is_known, left};
 use crate::same::is_type;
 use psm_code::CodeRule;
 use psm_exprcode::{Entry, Letter, Letters, Op, RawExpr};
+use psm_verify_line::{are_stated, is_known, left};
 use std::alloc::{AllocError, Global};
 
 /// The kinds of the columns and of the variables, where they are known.

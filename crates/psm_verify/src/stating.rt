@@ -10,14 +10,14 @@ ghost use Rattle.psm_verify.specs.Stated.{bare, bare_before, bare_of, code_line_
 use crate::effects::operands_of;
 use crate::fault::Stop;
 use crate::handling::context_there;
-use crate::lines::{
-    context_after, is_in, is_target, jump_of, jumps_right, jumps_within, resumes_at, stands_right,
-    wants_resume,
-};
 use crate::listing::passed;
 use crate::verify_context::VerifyContext;
 use psm_code::{CodeRule, Instruction, RawRoutine};
 use psm_exprcode::Letter;
+use psm_verify_line::{
+    context_after, is_in, is_target, jump_of, jumps_right, jumps_within, resumes_at, stands_right,
+    wants_resume,
+};
 use std::alloc::{AllocError, Global};
 
 /// A line, without the operands that it states.

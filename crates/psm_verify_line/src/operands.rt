@@ -7,7 +7,7 @@ ghost use Rattle.psm_exprcode.specs.WellFormed.{is_known as is_of_known, left_of
 use psm_exprcode::{Letter, Letters};
 
 /// Whether the letter stands at that place.
-pub(crate) fn is_known(letter: Letter, letters: &[Letter], place: usize) -> bool
+pub fn is_known(letter: Letter, letters: &[Letter], place: usize) -> bool
     ensures { result ≡ is_of_known letter (slice_get letters.now place) }
 {
     match letters.get(place) {
@@ -18,7 +18,7 @@ pub(crate) fn is_known(letter: Letter, letters: &[Letter], place: usize) -> bool
 
 /// What is left of the operands where those letters are taken; none where others stand there.
 #[tactic(auto, using(psm_exprcode::proofs::Stripping::left_below_some, psm_exprcode::proofs::Stripping::left_below_none))]
-pub(crate) fn left(stack: &[Letter], taken: Letters) -> Option<&[Letter]>
+pub fn left(stack: &[Letter], taken: Letters) -> Option<&[Letter]>
     ensures { option_copied result ≡ left_of (letters_of taken) stack.now }
 {
     match left_by_many(stack, taken.letter, taken.count) {
@@ -53,7 +53,7 @@ fn left_by_one(stack: &[Letter], letter: Option<Letter>) -> Option<&[Letter]>
 
 /// Whether the operands are those below, with the letters that are put on them.
 #[tactic(auto, using(psm_exprcode::proofs::Stripping::same_on_some, psm_exprcode::proofs::Stripping::same_on_none))]
-pub(crate) fn are_stated(put: Letters, below: &[Letter], stated: &[Letter]) -> bool
+pub fn are_stated(put: Letters, below: &[Letter], stated: &[Letter]) -> bool
     ensures { result ≡ same_stack (letters_of put ++ below.now) stated.now }
 {
     match left(stated, put) {
@@ -62,7 +62,8 @@ pub(crate) fn are_stated(put: Letters, below: &[Letter], stated: &[Letter]) -> b
     }
 }
 
-pub(crate) fn are_same(stack: &[Letter], other: &[Letter]) -> bool
+/// Whether the operands are the same, one for one.
+pub fn are_same(stack: &[Letter], other: &[Letter]) -> bool
     ensures { result ≡ same_stack stack.now other.now }
 {
     let mut left = stack;
