@@ -28,7 +28,7 @@ def states():
 
 def statuses():
     """Returns the numbers of the statuses, which are those of their places in the list."""
-    listed = re.search(r"^pub enum Status \{(.*?)^\}", read("crates/psm/src/status.rt"), re.M | re.S)[1]
+    listed = re.search(r"^pub enum Status \{(.*?)^\}", read("crates/psm_files/src/status.rt"), re.M | re.S)[1]
     return [str(it) for it, _ in enumerate(re.findall(r"^    \w+,$", listed, re.M))]
 
 

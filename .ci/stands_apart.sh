@@ -53,11 +53,17 @@ forbid psm_build psm_undostore psm_verify_line psm_verify
 # shellcheck disable=SC2086
 {
     forbid psm_print $parsers
-    # The program knows arguments, files, stores and statuses: no token, value or tree, and none of the crates of which a second
-    # checker, code generator or engine could be made.
-    forbid psm psm_token psm_value psm_text psm_num psm_grammar psm_tree psm_resolved psm_machine $parsers
-    forbid psm psm_scope psm_rules psm_check_expr psm_symbols psm_check_stmt psm_check_script psm_resolve_expr psm_declare psm_resolve
-    forbid psm psm_codegen psm_verify_line psm_verify psm_exprcode psm_tablecode psm_store psm_query psm_dml psm_cursor psm_unwind psm_script_code
+    # The program and its command know arguments, files, stores and statuses: no token, value or tree, and none of the crates of
+    # which a second checker, code generator or engine could be made.
+    for crate in psm psm_run; do
+        forbid $crate psm_token psm_value psm_text psm_num psm_grammar psm_tree psm_resolved psm_machine $parsers
+        forbid $crate psm_scope psm_rules psm_check_expr psm_symbols psm_check_stmt psm_check_script psm_resolve_expr psm_declare psm_resolve
+        forbid $crate psm_codegen psm_verify_line psm_verify psm_exprcode psm_tablecode psm_store psm_query psm_dml psm_cursor psm_unwind psm_script_code
+    done
+    # A program without a compiler can stand on psm_files.
+    forbid psm_files psm_build psm_token psm_grammar psm_tree psm_resolved $parsers
+    forbid psm_files psm_scope psm_rules psm_check_expr psm_symbols psm_check_stmt psm_check_script psm_resolve_expr psm_declare psm_resolve
+    forbid psm_files psm_checker_sound psm_codegen psm_script_code
 }
 forbid psm_spell psm_grammar psm_tree
 forbid psm_io psm_value

@@ -1,9 +1,3 @@
-pub mod Status
 pub mod Words
 pub mod Message
-pub mod Found
-pub mod Program
-pub mod Fetches
 pub mod Contract
-pub mod Prepared
-pub mod Report

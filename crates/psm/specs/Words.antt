@@ -4,15 +4,7 @@ use Rattle.std.specs.Char.{is_ascii_digit}
 use Rattle.std.specs.Cmp.Lexicographic.{pointwise}
 use Rattle.std.specs.List.{list_all}
 use Rattle.std.specs.Str.Parse.{digits_value}
-
--- the names of the two files of `run`, and the turns of the session
-pub record Files : Type 0 where
-  pub for_module : List ℕ
-  pub for_script : List ℕ
-  pub turns : ℕ
-
-abbrev pub named : List ℕ → List ℕ → ℕ → Files
-named m s n = record { for_module = m; for_script = s; turns = n }
+use Rattle.psm_run.specs.Files.{Files, named}
 
 -- the turns where the words tell none
 abbrev pub default_turns : ℕ

@@ -1,10 +1,6 @@
 //! `psm`: compiles an SQL server module and runs it over a script.
 #![tactic(auto)]
 
-mod line;
-mod prepare;
-mod report;
-mod status;
 mod top;
 mod words;
 

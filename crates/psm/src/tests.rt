@@ -1,6 +1,6 @@
 //! The top call over a shelf and a sink in memory.
-use crate::status::Status;
 use crate::top::psm;
+use psm_files::Status;
 use psm_io::{MemShelf, MemSink};
 use std::alloc::Global;
 use std::test::Fail;

@@ -1,14 +1,16 @@
 //! The program's one call.
 ghost use Rattle.psm_session.specs.Put.{sunk_of};
-ghost use Rattle.psm.specs.Fetches.{fetches_of};
+ghost use Rattle.psm_files.specs.Answer.{PutsLine};
+ghost use Rattle.psm_files.specs.Expected.{with_line};
+ghost use Rattle.psm_files.specs.Fetches.{fetches_of};
+ghost use Rattle.psm_files.specs.declared.status.Status.TheVariants as status;
 ghost use Rattle.psm.specs.Contract.{asked_of, Says, Completes};
+ghost use Rattle.psm.specs.Message.{usage};
 
-use crate::prepare::prepare;
-use crate::report::{play, report, report_usage};
-use crate::status::Status;
 use crate::words::files_in;
-use psm_build::files_are_one_thing;
+use psm_files::{Status, put_line};
 use psm_io::{Shelf, Sink};
+use psm_run::run;
 use std::alloc::Global;
 
 /// Does what the words after the program's name say, and tells how it ended.
@@ -20,12 +22,15 @@ pub fn psm<F: Shelf, K: Sink>(alloc: Global, words: &[String], shelf: &mut F, ou
     ensures completes { Completes (asked_of words.now (fetches_of F.held F.faults shelf.old shelf.new))
         (sunk_of K.written K.faults out.old out.new) result }
 {
-    files_are_one_thing();
     match files_in(words) {
         None => report_usage(out),
-        Some(files) => match prepare(alloc, &files, shelf) {
-            Ok(ready) => play(alloc, &ready.0, &ready.1, files.turns, out),
-            Err(refusal) => report(alloc, &files, refusal, out),
-        },
+        Some(files) => run(alloc, &files, shelf, out),
     }
+}
+
+// Puts the line that shows the form of the words.
+fn report_usage<K: Sink>(out: &mut K) -> Status
+    ensures { PutsLine (with_line status.Usage usage) (sunk_of K.written K.faults out.old out.new) result }
+{
+    put_line(b"usage: psm run M S [--turns N]\n", Status::Usage, out)
 }

@@ -2,18 +2,13 @@
 ghost use Rattle.std.specs.Char.{is_ascii_digit};
 ghost use Rattle.std.specs.List.{list_all};
 ghost use Rattle.std.specs.Prelude.{◌≡◌, None, Some, MatchOption, map, string_bytes};
-ghost use Rattle.psm.specs.Words.{begins_with_zero, files_of, is_number, named, number_of, run_with, turns_of};
+ghost use Rattle.psm_run.specs.Files.{named};
+ghost use Rattle.psm.specs.Words.{begins_with_zero, files_of, is_number, number_of, run_with, turns_of};
+
+use psm_run::Files;
 
 /// The turns of a session where the words tell none.
 const DEFAULT_TURNS: u64 = 1_000_000;
-
-/// The names of the two files of `run`, and the turns of the session.
-#[derive(Clone, Copy, Debug)]
-pub struct Files<'a> {
-    pub for_module: &'a str,
-    pub for_script: &'a str,
-    pub turns: u64,
-}
 
 /// The files that the words after the program's name give, where they have the form `run M S` or `run M S --turns N`.
 pub fn files_in(words: &[String]) -> Option<Files<'_>>
