@@ -18,16 +18,16 @@ use Rattle.psm_code.specs.State.{Activation, Frame, InBlock, InAction, Machine, 
 use Rattle.psm_code.specs.Steps.{Came, Given}
 use Rattle.psm_unwind.specs.declared.ending.Outcome.{Outcome}
 use Rattle.psm_unwind.specs.declared.ending.Outcome.TheVariants as outcome
-use Rattle.psm_unwind.specs.View.{LeadsTo}
+use Rattle.psm_unwind.specs.View.{LeadsTo, at_end}
 use Rattle.psm_machine.specs.declared.stop.Stop.TheVariants as stop
 use Rattle.psm_machine.specs.Successors.{StepsTo, bare}
 
--- the same machine, or the same end with the same tables
+-- the same machine, or the same end that leaves the same of the machine
 abbrev Like : Stepped → Stepped → Type 0
 Like (More m) (More n) = m ≡ n
 Like (More m) (Over e n) = ⊥
 Like (Over e m) (More n) = ⊥
-Like (Over e m) (Over f n) = (e ≡ f) × (m.tables ≡ n.tables)
+Like (Over e m) (Over f n) = (e ≡ f) × (at_end m ≡ at_end n)
 
 leads_like : (t u : Stepped) (o : Outcome) (now : Machine) → Like t u → LeadsTo t o now → LeadsTo u o now
 leads_like (More m) (More n) outcome.More now l h = sym l ∙ h

@@ -13,6 +13,7 @@ use Rattle.psm_tablecode.specs.NewRows.{new_row, row_from, value_for}
 use Rattle.psm_code.specs.Plans.{in_rows}
 use Rattle.psm_code.specs.State.{Machine, Stuck, with_running}
 use Rattle.psm_code.specs.Steps.{Came, Ends, Got, go_on, got, pop, pops}
+use Rattle.psm_unwind.specs.View.{at_end}
 use Rattle.psm_machine.specs.declared.stop.Stop.{Stop}
 use Rattle.psm_machine.specs.ActResults.{Evaluates}
 use Rattle.psm_machine.specs.Over.{part_of}
@@ -42,7 +43,7 @@ pub pops_end : (count place : ℕ) (ds : List Datum) (m : Machine) → place ≡
 pops_end count place ds m e = let none : count - place ≡ 0 = omega (arith, e) in ap (λ k. pops k ds m) none
 
 -- there are fewer operands
-pub pops_lack : (os : List Operand) (n : ℕ) (ds : List Datum) (m : Machine) → m.running.operands ≡ os → length os < n → ((pops n ds m).given ≡ Ends Stuck) × ((pops n ds m).machine.tables ≡ m.tables)
+pub pops_lack : (os : List Operand) (n : ℕ) (ds : List Datum) (m : Machine) → m.running.operands ≡ os → length os < n → ((pops n ds m).given ≡ Ends Stuck) × (at_end (pops n ds m).machine ≡ at_end m)
 pops_lack os zero ds m e h = absurd (omega (arith, h))
 pops_lack [] (suc n) ds m e h = rw e (refl, refl)
 pops_lack (Value d ∷ os) (suc n) ds m e h = rw e (pops_lack os n (d ∷ ds) (with_running (λ a. record a { operands = os }) m) refl (omega (arith, h)))

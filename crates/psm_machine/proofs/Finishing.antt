@@ -40,7 +40,7 @@ module _ (code : RawCode) (well_formed_code : first_fault code ≡ None) (from :
         last = n;
         leads = ap (λ j. steps code j from) one ∙ rows-more code k 1 from ∙ ap (step_on code) r ∙ e ∙ ap (λ y. Over y n) h.0;
         left = sym (subst (FallsTo code (shape m)) e (step_falls code well_formed_code m s) ∙ l);
-        tables_left = h.1 ∙ q;
+        tables_left = ap (λ (x : Machine). x.tables) h.1 ∙ q;
       }
 
   -- a row that is the last one

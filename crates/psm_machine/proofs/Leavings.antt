@@ -26,7 +26,7 @@ use Rattle.psm_unwind.specs.declared.run.Activation.{Activation}
 use Rattle.psm_unwind.specs.declared.run.Run.{Run}
 use Rattle.psm_unwind.specs.Leaving.{tables_left}
 use Rattle.psm_unwind.specs.Marks.{Nested, SameFrames, Unwinds, open_marks}
-use Rattle.psm_unwind.specs.View.{LeadsTo}
+use Rattle.psm_unwind.specs.View.{LeadsTo, at_end}
 use Rattle.psm_unwind.proofs.Unwinding.{nested_unwound, unwinds_returned, unwinds_same, unwinds_then}
 use Rattle.psm_machine.specs.declared.stop.Stop.{Stop}
 use Rattle.psm_machine.specs.declared.stop.Stop.TheVariants as stop
@@ -78,9 +78,9 @@ pub tables_kept : (frames : List code.Frame) (ts : List Contents) → tables_lef
 tables_kept [] ts = refl
 tables_kept (f ∷ frames) ts = tables_kept frames ts
 
-pub left_over : (m now : Machine) (ds all : List Datum) → m.callers ≡ [] → all ≡ ds → now.tables ≡ m.tables → LeadsTo (left_values ds m.callers (cleared m)) (outcome.Over (ending.Ended all)) now
+pub left_over : (m now : Machine) (ds all : List Datum) → m.callers ≡ [] → all ≡ ds → cleared m ≡ now → LeadsTo (left_values ds m.callers (cleared m)) (outcome.Over (ending.Ended all)) now
 left_over m now ds all e f t =
-    subst (λ cs. LeadsTo (left_values ds cs (cleared m)) (outcome.Over (ending.Ended all)) now) (sym e) (ap code.Ended (sym f), sym t)
+    subst (λ cs. LeadsTo (left_values ds cs (cleared m)) (outcome.Over (ending.Ended all)) now) (sym e) (ap code.Ended (sym f), ap at_end t)
 
 pub left_to : (m back now : Machine) (ds : List Datum) (a : code.Activation) (callers : List code.Activation) (ts : List Contents) → m.callers ≡ a ∷ callers → ts ≡ m.tables → record m { running = a; callers = callers; tables = ts } ≡ back →
     resumed ds back ≡ now → LeadsTo (left_values ds m.callers (cleared m)) outcome.More now
@@ -126,16 +126,16 @@ returns_to code m n now d ds o e f h = (
 record Lacks (code : RawCode) (m : Machine) : Type 0 where
   last : Machine
   is : result code m ≡ ends Stuck last
-  tables : last.tables ≡ m.tables
+  as_was : at_end last ≡ at_end m
 
 lacks_result : (code : RawCode) (os : List Operand) (m : Machine) → m.running.operands ≡ os → routine_at code m.running.routine ≡ None → Lacks code m
-lacks_result code [] m q e = record { last = m; is = rw q refl; tables = refl }
-lacks_result code (Value d ∷ os) m q e = record { last = record m { running = record m.running { operands = os } }; is = rw (q, e) refl; tables = refl }
-lacks_result code (Truth t ∷ os) m q e = record { last = m; is = rw q refl; tables = refl }
+lacks_result code [] m q e = record { last = m; is = rw q refl; as_was = refl }
+lacks_result code (Value d ∷ os) m q e = record { last = record m { running = record m.running { operands = os } }; is = rw (q, e) refl; as_was = refl }
+lacks_result code (Truth t ∷ os) m q e = record { last = m; is = rw q refl; as_was = refl }
 
 pub no_routine : (code : RawCode) (m : Machine) → routine_at code m.running.routine ≡ None → EndsWith Stuck (return code m) m
 no_routine code m e =
     let l = lacks_result code m.running.operands m refl e in (
       ap (λ (came : Came Datum). (go_on came.given (λ d. got (returning d)) came.machine).given) l.is,
-      ap (λ (came : Came Datum). (go_on came.given (λ d. got (returning d)) came.machine).machine.tables) l.is ∙ l.tables,
+      ap (λ (came : Came Datum). at_end (go_on came.given (λ d. got (returning d)) came.machine).machine) l.is ∙ l.as_was,
     )

@@ -13,6 +13,7 @@ pub marks_same : (r new : Run) → SameFrames r new → SameMarks r new
 marks_same r new s = record {
   marks = ap (λ v. marks_in (reverse v.items) ++ marks_of (reverse new.callers.items)) s.frames ∙ ap (λ v. marks_in (reverse r.running.frames.items) ++ marks_of (reverse v.items)) s.callers;
   bound = s.bound;
+  base = s.base;
 }
 
 -- where no mark is opened or closed
@@ -20,6 +21,7 @@ pub still_marks : (holds : Mark → Type 0) (at : Mark → List Contents) (count
 still_marks holds at count r new s = record {
   stand = λ m. record {
     nested = subst (λ (x : List Mark). Nested holds x) (sym s.marks) m.nested;
+    deepest = rw (s.base, s.marks) m.deepest;
     counted = omega (arith, s.bound, m.counted);
     most = omega (arith, s.bound, m.most);
   };

@@ -17,6 +17,7 @@ module _ (holds : Mark → Type 0) (at : Mark → List Contents) (new : Mark →
   pub still_stand : (count count_new : ℕ) → count_new ≡ count → MarksStand holds count r → MarksStand new count_new n
   still_stand count count_new c h = record {
     nested = subst (λ (ms : List Mark). Nested new ms) (sym (same_marks r n s)) (nested_still holds at new at_new (open_marks r) h.nested k);
+    deepest = rw (s.base, same_marks r n s, c) h.deepest;
     counted = omega (arith, c, s.bound, h.counted);
     most = omega (arith, s.bound, h.most);
   }

@@ -11,13 +11,13 @@ use Rattle.psm_cond.specs.Condition.{Entries}
 use Rattle.psm_unwind.specs.declared.run.Frame.{Frame}
 use Rattle.psm_unwind.specs.declared.run.Frame.TheVariants.{Block, Action}
 use Rattle.psm_unwind.specs.declared.run.Run.{Run}
-use Rattle.psm_unwind.specs.View.{machine_of}
+use Rattle.psm_unwind.specs.View.{at_end, machine_of}
 use Rattle.psm_machine.specs.declared.stop.Stop.{Stop}
 use Rattle.psm_machine.specs.declared.stop.Stop.TheVariants as stop
 
--- the run is over, with these tables
+-- the run is over, with what the end leaves of this machine
 abbrev pub EndsWith : {A : Type 0} → code.End → Came A → code.Machine → Type 0
-EndsWith e came now = (came.given ≡ Ends e) × (came.machine.tables ≡ now.tables)
+EndsWith e came now = (came.given ≡ Ends e) × (at_end came.machine ≡ at_end now)
 
 -- what is due comes, with the machine as it is now; memory may always run out
 abbrev pub Evaluates : {A : Type 0} → Came A → Result A Stop → code.Machine → Type 0

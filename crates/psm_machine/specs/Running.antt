@@ -42,9 +42,9 @@ abbrev pub BeginsWellFormed : RawCode → Beginning → Type 0
 BeginsWellFormed code (Runs r) = (tables : List Contents) (at : Mark → List Contents) → AreKept code.tables tables → MachineInvariant code (machine_of tables at r)
 BeginsWellFormed code (Over e) = Unit {0}
 
--- a run that begins has no mark open, in a store that has n at most
+-- a run that begins has no mark of its own, in a store in which n are open
 abbrev pub HasNoMarks : ℕ → Beginning → Type 0
-HasNoMarks marks (Runs r) = (open_marks r ≡ []) × (r.marks ≡ marks)
+HasNoMarks marks (Runs r) = (open_marks r ≡ []) × (r.base ≡ marks) × (r.marks ≡ marks)
 HasNoMarks marks (Over e) = Unit {0}
 
 -- the routine is there, and takes as many arguments

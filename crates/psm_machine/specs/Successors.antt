@@ -176,6 +176,7 @@ resumed ds m = cleared (with_running (λ a. record (with_values ds a) { line = s
 pub record SameMarks (r new : Run) : Type 0 where
   pub marks : open_marks new ≡ open_marks r
   pub bound : new.marks ≡ r.marks
+  pub base : new.base ≡ r.base
 
 -- The marks of a run stand still, if they stood. A mark outside all of them stays: it is held, stands for the same tables, and is
 -- outside all of them still. So who holds such a mark can put the tables back, whatever an instruction ends in.

@@ -64,7 +64,7 @@ fn enter_plain(run: &mut Run, context: u32) -> Result<(), Stop>
     Ok(())
 }
 
-// Enters a block that is ATOMIC.
+// Enters a block that is ATOMIC. Where there is no memory for its frame, its mark is closed again.
 fn enter_atomic<S: Store>(
     alloc: Global,
     run: &mut Run,
@@ -83,10 +83,14 @@ fn enter_atomic<S: Store>(
     }
     run.marks += 1;
     let mark = store.mark(alloc)?;
-    run.running.frames.push(Frame::Block {
+    let frame = Frame::Block {
         context,
         found: Some(mark),
-    })?;
+    };
+    if let Err(_) = run.running.frames.push(frame) {
+        store.release(mark);
+        return Err(Stop::Memory);
+    }
     Ok(())
 }
 

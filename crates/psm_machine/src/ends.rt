@@ -24,7 +24,7 @@ use psm_value::Datum;
 use std::alloc::{AllocError, Global};
 
 /// The end of a procedure: the values of its OUT and INOUT parameters are left on the operands of the activation that called it,
-/// which goes on after the call. Where nothing called it, the run is over.
+/// which goes on after the call. Where nothing called it, the run is over, and its blocks stay as they are.
 ///
 /// The store has to hold the marks of the run. Those of the blocks that are left are closed.
 pub fn end_procedure<S: Store>(
@@ -49,7 +49,8 @@ pub fn end_procedure<S: Store>(
 }
 
 /// RETURN: the value is the last operand, as the type of the function's result stores it. It is left on the operands of the
-/// activation that called the function, which goes on after the call. Where nothing called it, the run is over.
+/// activation that called the function, which goes on after the call. Where nothing called it, the run is over, and its blocks stay
+/// as they are.
 ///
 /// The store has to hold the marks of the run. Those of the blocks that are left are closed.
 pub fn return_value<S: Store>(
@@ -75,7 +76,7 @@ pub fn return_value<S: Store>(
     }
 }
 
-// Leaves the activation that runs, with values for the one that called it.
+// Leaves the activation that runs, with values for the one that called it. Where nothing called it, its blocks stay as they are.
 fn leave<S: Store>(
     alloc: Global,
     routine: &RawRoutine,
@@ -87,20 +88,21 @@ fn leave<S: Store>(
     ensures due { IfOk result (λ o. LeadsTo (left_values values.items (machine_of (S.tables store.old) (S.at store.old) run.old).callers (cleared (machine_of (S.tables store.old) (S.at store.old) run.old))) o (machine_of (S.tables store.new) (S.at store.new) run.new)) }
     ensures unwinds { Unwinds (S.holds store.old) (S.at store.old) (S.marks store.old) (S.tables store.old) run.old (S.holds store.new) (S.at store.new) (S.marks store.new) (S.tables store.new) run.new }
 {
-    leave_until(
-        routine,
-        false,
-        None,
-        &mut run.running.frames,
-        &mut run.running.cursors,
-        store,
-    );
     match run.callers.pop() {
         None => {
             let values = Boxed::new(alloc, List::of(values))?;
+            clear(run);
             Ok(Outcome::Over(Ending::Ended(values)))
         }
         Some(caller) => {
+            leave_until(
+                routine,
+                false,
+                None,
+                &mut run.running.frames,
+                &mut run.running.cursors,
+                store,
+            );
             run.running = caller;
             run.operands.end();
             resume(run, values)?;

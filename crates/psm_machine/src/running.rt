@@ -43,8 +43,8 @@ pub struct Finished {
     pub turns: u64,
 }
 
-/// Begins a run of a routine, with one argument for each of its IN and INOUT parameters and n turns. The store over which it
-/// runs has no more than n marks.
+/// Begins a run of a routine, with one argument for each of its IN and INOUT parameters and n turns. In the store over which
+/// it runs as many marks are open as the last argument says.
 pub fn start(
     alloc: Global,
     code: &RawCode,
@@ -70,6 +70,7 @@ pub fn start(
                 area: Area::new(),
                 pending: None,
                 turns: turns - 1,
+                base: marks,
                 marks,
             }))
         }
@@ -161,7 +162,7 @@ fn leaves_tables(finished: &Result<Finished, AllocError>) -> bool
     }
 }
 
-// Runs a routine in a store that has no more than n marks.
+// Runs a routine in a store in which n marks are open.
 fn run_after<S: Store>(
     alloc: Global,
     code: &RawCode,
@@ -175,7 +176,7 @@ fn run_after<S: Store>(
     requires numbered { All (λ r. IsTrue (is_numbered r.handlers)) code.now.routines }
     requires takes { Takes code.now number arguments.items }
     requires kept { AreKept code.now.tables (S.tables store.old) }
-    requires counted { S.marks store.old ≤ marks }
+    requires counted { S.marks store.old ≡ marks }
     requires most { marks ≤ most_open }
     ensures due { IfOk result (λ f. Finishes code.now (started code.now number arguments.items (S.tables store.old) turns) f (S.tables store.new)) }
     ensures keeps { Keeps AnyMark (S.holds store.old) (S.at store.old) (S.holds store.new) (S.at store.new) }

@@ -24,7 +24,7 @@ use Rattle.psm_unwind.specs.declared.raising.Met.TheVariants.{Here, Outside}
 use Rattle.psm_unwind.specs.Raising.{IsPlace, Meets, met_at}
 use Rattle.psm_unwind.specs.declared.run.Frame.{Frame as OpenFrame}
 use Rattle.psm_unwind.specs.Leaving.{cursors_left, inside, outward, tables_left}
-use Rattle.psm_unwind.specs.View.{LeadsTo, frame_of, frames_of}
+use Rattle.psm_unwind.specs.View.{LeadsTo, at_end, frame_of, frames_of}
 use Rattle.psm_unwind.proofs.Leavings.{inside_all, inside_block, left_is, outward_all, outward_block}
 
 -- a machine with these parts in place of its own
@@ -42,13 +42,15 @@ arrived_is r undo h m cs fs callers ts c f l t =
     ∙ ap (λ x. with_parts cs fs m.callers x m) (sym (t ∙ ap (λ g. tables_left undo g m.tables) (inside_block h.context m.running.frames)))
     ∙ ap (λ x. with_parts cs fs x ts m) (sym l)
 
--- what is outside sees all but the activation that is left
-pub outside_is : (r : RawRoutine) (m : Machine) (running : Activation) (callers : List Activation) (ts : List Contents) → callers ≡ m.callers →
-    ts ≡ tables_left true (inside None m.running.frames) m.tables → record (frames_left r true m.running.frames m) { running = running } ≡ record m { running = running; callers = callers; tables = ts }
-outside_is r m running callers ts l t =
-    ap (λ (x : Machine). record x { running = running }) (left_is r true m.running.frames m)
-    ∙ ap {A = List Contents} (λ x. record m { running = running; tables = x }) (sym (t ∙ ap (λ g. tables_left true g m.tables) (inside_all m.running.frames)))
-    ∙ ap {A = List Activation} (λ x. record m { running = running; callers = x; tables = ts }) (sym l)
+-- what is outside sees the machine as the end of the activation leaves it
+outside_is : (r : RawRoutine) (m : Machine) (cs : List Cursor) (fs : List Frame) (callers : List Activation) (ts : List Contents) →
+    cs ≡ cursors_left r (inside None m.running.frames) m.running.cursors → callers ≡ m.callers → ts ≡ tables_left true (inside None m.running.frames) m.tables →
+    at_end (frames_left r true m.running.frames m) ≡ at_end (with_parts cs fs callers ts m)
+outside_is r m cs fs callers ts c l t =
+    ap at_end (left_is r true m.running.frames m)
+    ∙ ap (λ x. at_end (with_parts x fs m.callers (tables_left true m.running.frames m.tables) m)) (sym (c ∙ ap (λ g. cursors_left r g m.running.cursors) (inside_all m.running.frames)))
+    ∙ ap (λ x. at_end (with_parts cs fs m.callers x m)) (sym (t ∙ ap (λ g. tables_left true g m.tables) (inside_all m.running.frames)))
+    ∙ ap (λ x. at_end (with_parts cs fs x ts m)) (sym l)
 
 met_same : (r : RawRoutine) (l : CodeLine) (c : Entries) (k : Option ℕ) (outside : Machine → Stepped) (m : Machine) → met r l c k outside m ≡ met_at r l.resume c k outside m
 met_same r l c None outside m = refl
@@ -59,13 +61,13 @@ meets_same due other (Here o) now e h = λ outside. subst (λ t. LeadsTo t o now
 meets_same due other Outside now e h = (h.0, λ outside. e outside ∙ h.1 outside, h.2)
 
 -- without a handler an exception goes outside
-pub goes_outside : (r : RawRoutine) (resume : Option ℕ) (c : Entries) (m : Machine) (running : Activation) (callers : List Activation) (ts : List Contents) →
-    is_exception (kind_of c.first.state) ≡ true → callers ≡ m.callers → ts ≡ tables_left true (inside None m.running.frames) m.tables →
-    Meets (λ outside. met_at r resume c None outside m) Outside (record m { running = running; callers = callers; tables = ts })
-goes_outside r resume c m running callers ts e l t = (
+pub goes_outside : (r : RawRoutine) (resume : Option ℕ) (c : Entries) (m : Machine) (cs : List Cursor) (fs : List Frame) (callers : List Activation) (ts : List Contents) →
+    is_exception (kind_of c.first.state) ≡ true → cs ≡ cursors_left r (inside None m.running.frames) m.running.cursors → callers ≡ m.callers → ts ≡ tables_left true (inside None m.running.frames) m.tables →
+    Meets (λ outside. met_at r resume c None outside m) Outside (with_parts cs fs callers ts m)
+goes_outside r resume c m cs fs callers ts e k l t = (
   frames_left r true m.running.frames m,
   λ outside. ap (λ b. if b then outside (frames_left r true m.running.frames m) else passed_over resume m) e,
-  outside_is r m running callers ts l t,
+  outside_is r m cs fs callers ts k l t,
 )
 
 -- and another condition is passed over
@@ -135,10 +137,10 @@ raised_here code c m o now h = here_in code c m.callers m o now h
 
 -- without a caller the run is over
 pub raised_out : (code : RawCode) (c : Entries) (m now last : Machine) → m.callers ≡ [] →
-    Meets (λ outside. asked (routine_at code m.running.routine) c outside m) Outside now → now.tables ≡ last.tables → LeadsTo (raised code c m) (outcome.Over (ending.Raised (by_state c))) last
+    Meets (λ outside. asked (routine_at code m.running.routine) c outside m) Outside now → at_end now ≡ at_end last → LeadsTo (raised code c m) (outcome.Over (ending.Raised (by_state c))) last
 raised_out code c m now last e h t =
     let is : raised code c m ≡ Over (Raised (by_state c)) h.0 = ap (λ cs. raised_in code c cs m) e ∙ h.1 (λ n. Over (Raised (by_state c)) n) in
-    subst (λ x. LeadsTo x (outcome.Over (ending.Raised (by_state c))) last) (sym is) (refl, ap (λ (x : Machine). x.tables) h.2 ∙ t)
+    subst (λ x. LeadsTo x (outcome.Over (ending.Raised (by_state c))) last) (sym is) (refl, h.2 ∙ t)
 
 -- at the caller it is raised again
 pub raised_again : (code : RawCode) (c : Entries) (m now : Machine) (a : Activation) (callers : List Activation) → m.callers ≡ a ∷ callers →

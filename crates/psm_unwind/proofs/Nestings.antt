@@ -95,7 +95,7 @@ leaves_none holds at ms n = record {
   keeps = λ m h a. (h, refl);
 }
 
-abbrev mark_or : Option Mark → Mark → Mark
+abbrev pub mark_or : Option Mark → Mark → Mark
 mark_or None m = m
 mark_or (Some n) m = n
 

@@ -1,5 +1,5 @@
 -- Frames of a run that are left, one step after another.
-use Rattle.std.proofs.Common.{◌≡◌, ℕ, ◌≤◌, List, [], ◌∷◌, ◌++◌, drop, reverse, refl, ap, sym, subst, ◌∙◌, arith, append_assoc, append-nil}
+use Rattle.std.proofs.Common.{◌≡◌, ℕ, List, [], ◌∷◌, ◌++◌, drop, reverse, refl, ap, sym, subst, ◌∙◌, arith, append_assoc, append-nil}
 use Rattle.std.proofs.lemmas.List.{reverse-append}
 use Rattle.std.specs.declared.alloc.Global.{Global}
 use Rattle.std.specs.declared.vec.Vec.{Vec}
@@ -9,19 +9,21 @@ use Rattle.psm_store.specs.declared.store.Mark.{Mark}
 use Rattle.psm_store.specs.Marks.{defs_of}
 use Rattle.psm_unwind.specs.declared.run.Activation.{Activation}
 use Rattle.psm_unwind.specs.declared.run.Run.{Run}
-use Rattle.psm_unwind.specs.Marks.{Each, Leaves, MarksStand, Nested, SameFrames, Stays, Unwinds, marks_in, marks_of, open_marks}
+use Rattle.psm_unwind.specs.Marks.{AreDeepest, Each, Leaves, MarksStand, Nested, SameFrames, StayDeepest, Stays, Unwinds, marks_in, marks_of, open_marks}
 use Rattle.psm_unwind.specs.View.{activation_of, callers_of}
 use Rattle.psm_unwind.proofs.Views.{callers_stay}
+use Rattle.psm_unwind.proofs.Depths.{deepest_fewer, deepest_in}
 use Rattle.psm_unwind.proofs.Nestings.{each_right, leaves_in, leaves_none, leaves_then, nested_after, nested_left}
 
 -- nothing of the store has changed, and no frame with a mark
 pub unwinds_none : (holds : Mark → Type 0) (at : Mark → List Contents) (count : ℕ) (tables : List Contents) (r new : Run) →
-    Nested holds (open_marks r) → open_marks new ≡ open_marks r → new.marks ≡ r.marks → new.callers ≡ r.callers → Unwinds holds at count tables r holds at count tables new
-unwinds_none holds at count tables r new n e b c = record {
+    Nested holds (open_marks r) → open_marks new ≡ open_marks r → new.marks ≡ r.marks → new.base ≡ r.base → new.callers ≡ r.callers → Unwinds holds at count tables r holds at count tables new
+unwinds_none holds at count tables r new n e b s c = record {
   leaves = subst (λ (x : List Mark). Leaves holds at (open_marks r) holds at x) (sym e) (leaves_none holds at (open_marks r) n);
-  fewer = omega arith;
+  deepest = subst (λ (x : List Mark). StayDeepest (open_marks r) count x count) (sym e) (λ n d. d);
   defs = refl;
   bound = b;
+  base = s;
   callers = ([], sym (append-nil new.callers.items ∙ ap (λ v. v.items) c));
 }
 
@@ -30,23 +32,29 @@ pub unwinds_same : (holds : Mark → Type 0) (at : Mark → List Contents) (coun
 unwinds_same holds at count tables r new n s =
     let marks : open_marks new ≡ open_marks r =
     ap (λ v. marks_in (reverse v.items) ++ marks_of (reverse new.callers.items)) s.frames ∙ ap (λ v. marks_in (reverse r.running.frames.items) ++ marks_of (reverse v.items)) s.callers in
-    unwinds_none holds at count tables r new n marks s.bound s.callers
+    unwinds_none holds at count tables r new n marks s.bound s.base s.callers
 
 -- only the store and the frames of the activation that runs have changed
 pub unwinds_frames : (h0 : Mark → Type 0) (at0 : Mark → List Contents) (count0 : ℕ) (tables0 : List Contents) (r : Run)
     (h1 : Mark → Type 0) (at1 : Mark → List Contents) (count1 : ℕ) (tables1 : List Contents) (new : Run) →
     Nested h0 (open_marks r) → Leaves h0 at0 (marks_in (reverse r.running.frames.items)) h1 at1 (marks_in (reverse new.running.frames.items)) →
-    count1 ≤ count0 → defs_of tables1 ≡ defs_of tables0 → new.marks ≡ r.marks → new.callers ≡ r.callers → Unwinds h0 at0 count0 tables0 r h1 at1 count1 tables1 new
-unwinds_frames h0 at0 count0 tables0 r h1 at1 count1 tables1 new n l f d b c = record {
+    StayDeepest (marks_in (reverse r.running.frames.items)) count0 (marks_in (reverse new.running.frames.items)) count1 →
+    defs_of tables1 ≡ defs_of tables0 → new.marks ≡ r.marks → new.base ≡ r.base → new.callers ≡ r.callers → Unwinds h0 at0 count0 tables0 r h1 at1 count1 tables1 new
+unwinds_frames h0 at0 count0 tables0 r h1 at1 count1 tables1 new n l f d b s c = record {
   leaves =
       let outer : List Mark = marks_of (reverse r.callers.items) in
       let whole : Leaves h0 at0 (open_marks r) h1 at1 (marks_in (reverse new.running.frames.items) ++ outer) =
       leaves_in h0 at0 (marks_in (reverse r.running.frames.items)) h1 at1 (marks_in (reverse new.running.frames.items)) outer n l in
       let same : marks_in (reverse new.running.frames.items) ++ outer ≡ open_marks new = ap (λ v. marks_in (reverse new.running.frames.items) ++ marks_of (reverse v.items)) (sym c) in
       subst (λ (x : List Mark). Leaves h0 at0 (open_marks r) h1 at1 x) same whole;
-  fewer = f;
+  deepest =
+      let outer : List Mark = marks_of (reverse r.callers.items) in
+      let same : marks_in (reverse new.running.frames.items) ++ outer ≡ open_marks new = ap (λ v. marks_in (reverse new.running.frames.items) ++ marks_of (reverse v.items)) (sym c) in
+      subst (λ (x : List Mark). StayDeepest (open_marks r) count0 x count1) same
+      (deepest_in (marks_in (reverse r.running.frames.items)) (marks_in (reverse new.running.frames.items)) outer count0 count1 f);
   defs = d;
   bound = b;
+  base = s;
   callers = ([], sym (append-nil new.callers.items ∙ ap (λ v. v.items) c));
 }
 
@@ -56,9 +64,10 @@ pub unwinds_then : (h0 : Mark → Type 0) (at0 : Mark → List Contents) (count0
     Unwinds h0 at0 count0 tables0 r0 h1 at1 count1 tables1 r1 → Unwinds h1 at1 count1 tables1 r1 h2 at2 count2 tables2 r2 → Unwinds h0 at0 count0 tables0 r0 h2 at2 count2 tables2 r2
 unwinds_then h0 at0 count0 tables0 r0 h1 at1 count1 tables1 r1 h2 at2 count2 tables2 r2 u v = record {
   leaves = leaves_then h0 at0 (open_marks r0) h1 at1 (open_marks r1) h2 at2 (open_marks r2) u.leaves v.leaves;
-  fewer = omega (arith, u.fewer, v.fewer);
+  deepest = λ n d. v.deepest n (u.deepest n d);
   defs = v.defs ∙ u.defs;
   bound = v.bound ∙ u.bound;
+  base = v.base ∙ u.base;
   callers = (v.callers.0 ++ u.callers.0, u.callers.1 ∙ ap (λ x. x ++ u.callers.0) v.callers.1 ∙ append_assoc r2.callers.items v.callers.0 u.callers.0);
 }
 
@@ -72,7 +81,10 @@ pub stand_unwound : (h0 : Mark → Type 0) (at0 : Mark → List Contents) (count
     MarksStand h0 count0 r → Unwinds h0 at0 count0 tables0 r h1 at1 count1 tables1 new → MarksStand h1 count1 new
 stand_unwound h0 at0 count0 tables0 r h1 at1 count1 tables1 new s u = record {
   nested = nested_unwound h0 at0 count0 tables0 r h1 at1 count1 tables1 new s.nested u;
-  counted = omega (arith, u.fewer, u.bound, s.counted);
+  deepest = subst (λ b. AreDeepest b (open_marks new) count1) (sym u.base) (u.deepest r.base s.deepest);
+  counted =
+      let before : AreDeepest r.base (u.leaves.gone ++ open_marks new) count0 = subst (λ (x : List Mark). AreDeepest r.base x count0) u.leaves.split s.deepest in
+      omega (arith, deepest_fewer r.base u.leaves.gone (open_marks new) count0 count1 before (u.deepest r.base s.deepest), u.bound, s.counted);
   most = omega (arith, u.bound, s.most);
 }
 
@@ -100,9 +112,10 @@ pub unwinds_returned : (holds : Mark → Type 0) (at : Mark → List Contents) (
     Unwinds holds at count tables r holds at count tables (record r { running = caller; callers = rest; operands = operands })
 unwinds_returned holds at count tables r caller rest operands n e f = record {
   leaves = subst (λ (x : List Mark). Leaves holds at (open_marks r) holds at x) (returned_marks r.running caller r.callers.items rest.items e f) (leaves_none holds at (open_marks r) n);
-  fewer = omega arith;
+  deepest = subst (λ (x : List Mark). StayDeepest (open_marks r) count x count) (returned_marks r.running caller r.callers.items rest.items e f) (λ n d. d);
   defs = refl;
   bound = refl;
+  base = refl;
   callers = (caller ∷ [], f);
 }
 
@@ -110,9 +123,10 @@ pub unwinds_items : (holds : Mark → Type 0) (at : Mark → List Contents) (cou
     Nested holds (open_marks r) → r.callers.items ≡ rest.items ++ [] → Unwinds holds at count tables r holds at count tables (record r { callers = rest })
 unwinds_items holds at count tables r rest n e = record {
   leaves = subst (λ (x : List Mark). Leaves holds at (open_marks r) holds at x) (ap (λ xs. marks_in (reverse r.running.frames.items) ++ marks_of (reverse xs)) (e ∙ append-nil rest.items)) (leaves_none holds at (open_marks r) n);
-  fewer = omega arith;
+  deepest = subst (λ (x : List Mark). StayDeepest (open_marks r) count x count) (ap (λ xs. marks_in (reverse r.running.frames.items) ++ marks_of (reverse xs)) (e ∙ append-nil rest.items)) (λ n d. d);
   defs = refl;
   bound = refl;
+  base = refl;
   callers = ([], e);
 }
 

@@ -1,5 +1,5 @@
 -- The marks that blocks hold in a store.
-use Rattle.std.specs.Prelude.{◌≡◌, ℕ, ◌≤◌, ◌^◌, List, [], ◌∷◌, ◌++◌, reverse, Option, Some, None}
+use Rattle.std.specs.Prelude.{◌≡◌, ℕ, ◌+◌, ◌≤◌, ◌^◌, List, [], ◌∷◌, ◌++◌, reverse, Option, Some, None}
 use Rattle.psm_table.specs.Table.{Contents}
 use Rattle.psm_store.specs.declared.store.Mark.{Mark}
 use Rattle.psm_store.specs.Marks.{IsOutside, defs_of}
@@ -46,13 +46,20 @@ abbrev pub Nested : (Mark → Type 0) → List Mark → Type 0
 Nested holds [] = Unit {0}
 Nested holds (m ∷ marks) = holds m × Each (IsOutside m) marks × Nested holds marks
 
+-- the marks, innermost first, are the deepest of the open ones, one at each depth; below them n marks are open
+abbrev pub AreDeepest : ℕ → List Mark → ℕ → Type 0
+AreDeepest n [] count = count ≡ n
+AreDeepest n (m ∷ marks) count = (count ≡ m.depth + 1) × AreDeepest n marks m.depth
+
 -- n marks are open in a store whose run opens another one, at most
 abbrev pub most_open : ℕ
 most_open = 2 ^ 99
 
--- the marks of a run stand: they are nested, and the store has no more than the run says
+-- the marks of a run stand: they are nested, the store has no open mark beside them but those that were open when the run began, and
+-- it has no more than the run says
 pub record MarksStand (holds : Mark → Type 0) (count : ℕ) (r : Run) : Type 0 where
   pub nested : Nested holds (open_marks r)
+  pub deepest : AreDeepest r.base (open_marks r) count
   pub counted : count ≤ r.marks
   pub most : r.marks ≤ most_open
 
@@ -69,14 +76,19 @@ pub record Leaves (holds : Mark → Type 0) (at : Mark → List Contents) (marks
   pub stay : Each (Stays at holds_new at_new) left
   pub keeps : (m : Mark) → holds m → Around marks m → Stays at holds_new at_new m
 
--- what a run and its store come to where frames are left: no mark is new, the definitions of the tables stay, and of the callers
--- only inner ones are gone
+-- those that are left are the deepest of the open ones, if the marks were, whatever is open below them
+abbrev pub StayDeepest : List Mark → ℕ → List Mark → ℕ → Type 0
+StayDeepest marks count left count_new = (n : ℕ) → AreDeepest n marks count → AreDeepest n left count_new
+
+-- what a run and its store come to where frames are left: no mark is new, those of the frames are closed, the definitions of the tables
+-- stay, and of the callers only inner ones are gone
 pub record Unwinds (holds : Mark → Type 0) (at : Mark → List Contents) (count : ℕ) (tables : List Contents) (r : Run)
     (holds_new : Mark → Type 0) (at_new : Mark → List Contents) (count_new : ℕ) (tables_new : List Contents) (new : Run) : Type 0 where
   pub leaves : Leaves holds at (open_marks r) holds_new at_new (open_marks new)
-  pub fewer : count_new ≤ count
+  pub deepest : StayDeepest (open_marks r) count (open_marks new) count_new
   pub defs : defs_of tables_new ≡ defs_of tables
   pub bound : new.marks ≡ r.marks
+  pub base : new.base ≡ r.base
   pub callers : (gone : List Activation) × (r.callers.items ≡ new.callers.items ++ gone)
 
 -- a run of which other frames and callers don't change
@@ -84,3 +96,4 @@ pub record SameFrames (r new : Run) : Type 0 where
   pub frames : new.running.frames ≡ r.running.frames
   pub callers : new.callers ≡ r.callers
   pub bound : new.marks ≡ r.marks
+  pub base : new.base ≡ r.base

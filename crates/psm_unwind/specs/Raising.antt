@@ -15,7 +15,7 @@ use Rattle.psm_unwind.specs.declared.parts.Place.{Place}
 use Rattle.psm_unwind.specs.declared.raising.Met.{Met}
 use Rattle.psm_unwind.specs.declared.raising.Met.TheVariants.{Here, Outside}
 use Rattle.psm_unwind.specs.declared.run.Run.{Run}
-use Rattle.psm_unwind.specs.View.{LeadsTo}
+use Rattle.psm_unwind.specs.View.{LeadsTo, at_end}
 
 -- the contexts and handlers of each routine fit together
 abbrev pub HasWellFormedHandlers : RawCode → Type 0
@@ -33,10 +33,10 @@ abbrev pub met_at : RawRoutine → Option ℕ → Entries → Option ℕ → (Ma
 met_at r resume c (Some n) outside m = chosen r (is_exception (kind_of c.first.state)) resume n (handler_at r n) m
 met_at r resume c None outside m = if is_exception (kind_of c.first.state) then outside (frames_left r true m.running.frames m) else passed_over resume m
 
--- a condition meets what is due, whatever is outside; or it goes outside, with all but the activation as it is now
+-- a condition meets what is due, whatever is outside; or it goes outside, with the machine as the end of the activation leaves it
 abbrev pub Meets : ((Machine → Stepped) → Stepped) → Met → Machine → Type 0
 Meets due (Here o) now = (outside : Machine → Stepped) → LeadsTo (due outside) o now
-Meets due Outside now = (m : Machine) × ((outside : Machine → Stepped) → due outside ≡ outside m) × (record m { running = now.running } ≡ now)
+Meets due Outside now = (m : Machine) × ((outside : Machine → Stepped) → due outside ≡ outside m) × (at_end m ≡ at_end now)
 
 -- a condition that goes outside leaves all frames
 abbrev pub HasLeft : Met → Run → Type 0

@@ -56,9 +56,13 @@ end_of (ending.Raised c) = code.Raised c
 end_of ending.NoTurns = code.NoTurns
 end_of ending.Stuck = code.Stuck
 
--- a run goes on as is due; or it is over, with the end and the tables that are due
+-- what an end leaves of a machine: all but the operands and the frames of the activation that runs, some of which are gone by then
+abbrev pub at_end : code.Machine → code.Machine
+at_end m = code.with_running (λ a. record a { operands = []; frames = [] }) m
+
+-- a run goes on as is due; or it is over, with the end that is due, and with what that leaves of the machine
 abbrev pub LeadsTo : code.Stepped → Outcome → code.Machine → Type 0
 LeadsTo (code.More m) More now = m ≡ now
 LeadsTo (code.More m) (Over e) now = ⊥
 LeadsTo (code.Over e m) More now = ⊥
-LeadsTo (code.Over e m) (Over f) now = (e ≡ end_of f) × (m.tables ≡ now.tables)
+LeadsTo (code.Over e m) (Over f) now = (e ≡ end_of f) × (at_end m ≡ at_end now)

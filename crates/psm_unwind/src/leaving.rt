@@ -1,5 +1,5 @@
 //! Frames that are left.
-ghost use Rattle.std.specs.Prelude.{◌≡◌, ◌<◌, ◌≤◌, false, List, [], ◌∷◌, ◌++◌, reverse, Some, IfNone, IfSome};
+ghost use Rattle.std.specs.Prelude.{◌≡◌, false, List, [], ◌∷◌, ◌++◌, reverse, Some, IfNone, IfSome};
 ghost use Rattle.psm_table.specs.Table.{Contents};
 ghost use Rattle.psm_store.specs.declared.store.Mark.{Mark as MarkValue};
 ghost use Rattle.psm_store.specs.Marks.{IsOutside, Keeps, defs_of};
@@ -7,7 +7,7 @@ ghost use Rattle.psm_code.specs.Parts.{block_at};
 ghost use Rattle.psm_code.specs.Raising.{cursors_of, found_by, put_back};
 ghost use Rattle.psm_code.specs.State.{closed_cursors};
 ghost use Rattle.psm_unwind.specs.Leaving.{cursors_by, cursors_left, inside, is_at, is_innermost_inside, outward, tables_left};
-ghost use Rattle.psm_unwind.specs.Marks.{Leaves, Nested, marks_in};
+ghost use Rattle.psm_unwind.specs.Marks.{Leaves, Nested, StayDeepest, marks_in};
 ghost use Rattle.psm_unwind.specs.View.{frame_of, frames_of};
 
 use crate::parts::block_at;
@@ -33,7 +33,7 @@ pub fn leave_until<S: Store>(
     ensures cursors { cursors.new.items ≡ cursors_left routine.now (inside stop (frames_of (S.at store.old) (reverse frames.old.items))) cursors.old.items }
     ensures tables { S.tables store.new ≡ tables_left undo (inside stop (frames_of (S.at store.old) (reverse frames.old.items))) (S.tables store.old) }
     ensures defs { defs_of (S.tables store.new) ≡ defs_of (S.tables store.old) }
-    ensures marks { S.marks store.new ≤ S.marks store.old }
+    ensures deepest { StayDeepest (marks_in (reverse frames.old.items)) (S.marks store.old) (marks_in (reverse frames.new.items)) (S.marks store.new) }
     ensures leaves { Leaves (S.holds store.old) (S.at store.old) (marks_in (reverse frames.old.items)) (S.holds store.new) (S.at store.new) (marks_in (reverse frames.new.items)) }
 {
     while let Some(frame) = pop_inside(stop, frames) {
@@ -93,7 +93,7 @@ pub fn leave_frame<S: Store>(
     ensures cursors { cursors.new.items ≡ cursors_by routine.now (frame_of (S.at store.old) frame) cursors.old.items }
     ensures tables { S.tables store.new ≡ put_back undo (found_by (frame_of (S.at store.old) frame)) (S.tables store.old) }
     ensures defs { defs_of (S.tables store.new) ≡ defs_of (S.tables store.old) }
-    ensures marks { S.marks store.new ≤ S.marks store.old }
+    ensures deepest { StayDeepest (marks_in (frame ∷ [])) (S.marks store.old) [] (S.marks store.new) }
     ensures leaves { Leaves (S.holds store.old) (S.at store.old) (marks_in (frame ∷ [])) (S.holds store.new) (S.at store.new) [] }
 {
     if let Frame::Block { context, found } = frame {
@@ -109,7 +109,6 @@ fn let_go<S: Store>(undo: bool, mark: Mark, store: &mut S)
     requires { S.holds store.old mark }
     ensures tables { S.tables store.new ≡ put_back undo (Some (S.at store.old mark)) (S.tables store.old) }
     ensures defs { defs_of (S.tables store.new) ≡ defs_of (S.tables store.old) }
-    ensures marks { S.marks store.new ≤ S.marks store.old }
     ensures closed { S.marks store.new ≡ mark.depth }
     ensures keeps { Keeps (IsOutside mark) (S.holds store.old) (S.at store.old) (S.holds store.new) (S.at store.new) }
 {

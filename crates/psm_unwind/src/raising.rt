@@ -1,5 +1,5 @@
 //! Conditions that a line raises (ISO/IEC 9075-4:1996).
-ghost use Rattle.std.specs.Prelude.{◌≡◌, ◌<◌, ◌≤◌, true, IfOk, IsTrue, OnOk, List, None, Some, reverse};
+ghost use Rattle.std.specs.Prelude.{◌≡◌, true, IfOk, IsTrue, OnOk, List, None, Some, reverse};
 ghost use Rattle.psm_sqlstate.specs.Kind.{kind_of};
 ghost use Rattle.psm_cond.specs.Choice.{is_exception};
 ghost use Rattle.psm_cond.specs.Handlers.{choice};
@@ -10,7 +10,7 @@ ghost use Rattle.psm_store.specs.Marks.{defs_of};
 ghost use Rattle.psm_code.specs.Parts.{handler_at, routine_at};
 ghost use Rattle.psm_code.specs.Raising.{acting, arrived, asked, chosen, found_first, handled, passed_over, put_back, raised, undone};
 ghost use Rattle.psm_code.specs.State.{holding};
-ghost use Rattle.psm_unwind.specs.Marks.{Leaves, MarksStand, Nested, SameFrames, Unwinds, marks_in, open_marks};
+ghost use Rattle.psm_unwind.specs.Marks.{Leaves, MarksStand, Nested, SameFrames, StayDeepest, Unwinds, marks_in, open_marks};
 ghost use Rattle.psm_unwind.specs.Raising.{HasLeft, HasWellFormedHandlers, Meets, met_at};
 ghost use Rattle.psm_unwind.specs.View.{LeadsTo, frames_of, machine_of};
 
@@ -307,7 +307,7 @@ fn restore<S: Store>(frames: &[Frame], store: &mut S)
     requires { Nested (S.holds store.old) (marks_in (reverse frames.now)) }
     ensures tables { S.tables store.new ≡ put_back true (found_first (frames_of (S.at store.old) (reverse frames.now))) (S.tables store.old) }
     ensures defs { defs_of (S.tables store.new) ≡ defs_of (S.tables store.old) }
-    ensures fewer { S.marks store.new ≤ S.marks store.old }
+    ensures deepest { StayDeepest (marks_in (reverse frames.now)) (S.marks store.old) (marks_in (reverse frames.now)) (S.marks store.new) }
     ensures leaves { Leaves (S.holds store.old) (S.at store.old) (marks_in (reverse frames.now)) (S.holds store.new) (S.at store.new) (marks_in (reverse frames.now)) }
 {
     if let Some(
@@ -336,6 +336,7 @@ fn act(
     ensures callers { run.new.callers ≡ run.old.callers }
     ensures below { run.new.operands.callers ≡ run.old.operands.callers }
     ensures bound { run.new.marks ≡ run.old.marks }
+    ensures base { run.new.base ≡ run.old.base }
 {
     let activating = Boxed::new(alloc, condition.copy(alloc)?)?;
     let rows = run.area.rows();

@@ -55,6 +55,8 @@ pub struct Run {
     pub pending: Option<SqlState>,
     /// The turns that are left.
     pub turns: u64,
+    /// How many marks were open in the store when the run began.
+    pub base: u128,
     /// The store has no more marks than n.
     pub marks: u128,
 }

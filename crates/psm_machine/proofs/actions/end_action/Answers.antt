@@ -3,7 +3,7 @@ use Rattle.std.specs.Option.{option_copied}
 use Rattle.psm_code.specs.Run.{act_ended}
 use Rattle.psm_code.specs.Steps.{Came}
 use Rattle.psm_unwind.specs.Marks.{marks_in, marks_of}
-use Rattle.psm_unwind.specs.View.{frames_of, machine_of}
+use Rattle.psm_unwind.specs.View.{at_end, frames_of, machine_of}
 use Rattle.psm_machine.specs.Successors.{resume_of}
 use Rattle.psm_machine.proofs.ActionEnds.{act_is, acting, lacks_action, popped_rest, stopped_goes}
 use Rattle.psm_machine.proofs.actions.end_action.Goals as goal
@@ -12,7 +12,7 @@ pub returns-in_default-clause-due : goal.returns-in_default-clause-due
 returns-in_default-clause-due c = λ tables at.
     let lacks = lacks_action c.args.routine.now c.args.number (machine_of tables at c.args.run.now)
     (sym c.in_default.is ∙ c.innermost_resume.ensures at ∙ ap (λ fs. resume_of c.args.number (frames_of at (reverse fs))) c.as_slice.ensures.value) in
-    (ap (λ x. x.given) lacks, ap (λ x. x.machine.tables) lacks)
+    (ap (λ x. x.given) lacks, ap (λ x. at_end x.machine) lacks)
 
 pub returns-in_err-line-clause-due : goal.returns-in_err-line-clause-due
 returns-in_err-line-clause-due c = λ tables at.
@@ -42,4 +42,5 @@ returns-clause-marks c =
           ∙ ap (λ ms. ms ++ marks_of (reverse c.args.run.now.callers.items))
           (sym (acts.marks ∙ ap marks_in (popped_rest c.args.run.now.running.frames.items c.pop.new.self.items _ c.pop.result acts.first acts.rest c.pop.ensures.items (omega (arith, c.args.run.now.running.frames.ok.0)) c.pop.ensures.rest acts.is)));
       bound = c.clear.ensures.same.bound;
+      base = c.clear.ensures.same.base;
     }

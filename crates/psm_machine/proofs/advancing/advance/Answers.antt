@@ -37,7 +37,7 @@ pub common-init : goal.common-init
 common-init g c = record {
   before = (0, refl);
   machine_invariant = c.requires.machine_invariant;
-  same = record { frames = refl; callers = refl; bound = refl };
+  same = record { frames = refl; callers = refl; bound = refl; base = refl };
   routine = sym c.routine_at.ensures ∙ ap option_copied c.in-Some.is;
   store = refl;
 }

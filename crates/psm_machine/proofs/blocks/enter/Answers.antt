@@ -9,7 +9,7 @@ returns-else-block-clause-due g c =
 
 pub returns-in-None-clause-still : goal.returns-in-None-clause-still
 returns-in-None-clause-still g c =
-    still_marks (g.S.Store.holds c.args.store.now) (g.S.Store.at c.args.store.now) (g.S.Store.marks c.args.store.now) c.args.run.now c.args.run.now (record { marks = refl; bound = refl })
+    still_marks (g.S.Store.holds c.args.store.now) (g.S.Store.at c.args.store.now) (g.S.Store.marks c.args.store.now) c.args.run.now c.args.run.now (record { marks = refl; bound = refl; base = refl })
 
 pub returns-else-block-clause-still : goal.returns-else-block-clause-still
 returns-else-block-clause-still g c =

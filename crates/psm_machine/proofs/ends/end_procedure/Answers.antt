@@ -5,11 +5,11 @@ use Rattle.psm_machine.proofs.ends.end_procedure.Goals as goal
 
 pub returns-in_err-values-in-Some-clause-unwinds : goal.returns-in_err-values-in-Some-clause-unwinds
 returns-in_err-values-in-Some-clause-unwinds g c =
-    unwinds_none (g.S.Store.holds c.args.store.now) (g.S.Store.at c.args.store.now) (g.S.Store.marks c.args.store.now) (g.S.Store.tables c.args.store.now) c.args.run.now c.args.run.now c.requires refl refl refl
+    unwinds_none (g.S.Store.holds c.args.store.now) (g.S.Store.at c.args.store.now) (g.S.Store.marks c.args.store.now) (g.S.Store.tables c.args.store.now) c.args.run.now c.args.run.now c.requires refl refl refl refl
 
 pub returns-in-None-clause-unwinds : goal.returns-in-None-clause-unwinds
 returns-in-None-clause-unwinds g c =
-    unwinds_none (g.S.Store.holds c.args.store.now) (g.S.Store.at c.args.store.now) (g.S.Store.marks c.args.store.now) (g.S.Store.tables c.args.store.now) c.args.run.now c.args.run.now c.requires refl refl refl
+    unwinds_none (g.S.Store.holds c.args.store.now) (g.S.Store.at c.args.store.now) (g.S.Store.marks c.args.store.now) (g.S.Store.tables c.args.store.now) c.args.run.now c.args.run.now c.requires refl refl refl refl
 
 pub returns-in_ok-values-in-Some-clause-still : goal.returns-in_ok-values-in-Some-clause-still
 returns-in_ok-values-in-Some-clause-still g c =

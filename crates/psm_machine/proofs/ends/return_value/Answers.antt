@@ -36,7 +36,7 @@ returns-in_err-leave-in-Some-clause-still g c =
 
 pub returns-in-None-clause-unwinds : goal.returns-in-None-clause-unwinds
 returns-in-None-clause-unwinds g c =
-    unwinds_none (g.S.Store.holds c.args.store.now) (g.S.Store.at c.args.store.now) (g.S.Store.marks c.args.store.now) (g.S.Store.tables c.args.store.now) c.args.run.now c.args.run.now c.requires.nested refl refl refl
+    unwinds_none (g.S.Store.holds c.args.store.now) (g.S.Store.at c.args.store.now) (g.S.Store.marks c.args.store.now) (g.S.Store.tables c.args.store.now) c.args.run.now c.args.run.now c.requires.nested refl refl refl refl
 
 pub returns-in_ok-leave-in-Some-clause-due : goal.returns-in_ok-leave-in-Some-clause-due
 returns-in_ok-leave-in-Some-clause-due g c =

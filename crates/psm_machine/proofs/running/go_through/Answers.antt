@@ -29,7 +29,7 @@ rows-init g c = record {
   before = (0, refl);
   machine_invariant = c.requires.machine_invariant;
   stand = c.requires.stand;
-  still = still_same (g.S.Store.holds c.args.store.now) (g.S.Store.at c.args.store.now) (g.S.Store.marks c.args.store.now) c.args.run c.args.run (record { frames = refl; callers = refl; bound = refl });
+  still = still_same (g.S.Store.holds c.args.store.now) (g.S.Store.at c.args.store.now) (g.S.Store.marks c.args.store.now) c.args.run c.args.run (record { frames = refl; callers = refl; bound = refl; base = refl });
 }
 
 pub rows-smaller : goal.rows-smaller

@@ -1,10 +1,11 @@
 use Rattle.std.proofs.Common.{refl, subst}
 use Rattle.psm_code.specs.MachineInvariant.{StaysWellFormed}
 use Rattle.psm_code.proofs.NeverStuck.{starts}
-use Rattle.psm_machine.specs.Running.{Begins}
+use Rattle.psm_machine.specs.Running.{Begins, HasNoMarks}
 use Rattle.psm_machine.specs.declared.running.Beginning.{Beginning}
 use Rattle.psm_code.specs.Calling.{before_start, started}
 use Rattle.psm_machine.proofs.Finishing.{finishes_at_once}
+use Rattle.psm_machine.proofs.Marking.{stand_first}
 use Rattle.psm_machine.proofs.WellFormedCode.{slots_well_formed}
 use Rattle.psm_machine.proofs.running.run_after.Goals as goal
 
@@ -17,6 +18,11 @@ go_through-requires-clause-machine_invariant g c =
     subst (StaysWellFormed c.args.code.now)
     (subst (λ (b : Beginning). Begins (λ tables. started c.args.code.now c.args.number args tables c.args.turns) c.args.turns b) c.in-Runs.is c.in_ok-ending.ensures.due (g.S.Store.tables c.args.store.now) (g.S.Store.at c.args.store.now))
     (starts c.args.code.now c.requires.well_formed_code c.args.number c.requires.takes.routine c.requires.takes.there args (g.S.Store.tables c.args.store.now) c.args.turns c.requires.takes.many c.requires.kept)
+
+pub go_through-requires-clause-stand : goal.go_through-requires-clause-stand
+go_through-requires-clause-stand g c =
+    let own = subst (λ (b : Beginning). HasNoMarks c.args.marks b) c.in-Runs.is c.in_ok-ending.ensures.marks in
+    stand_first (g.S.Store.holds c.args.store.now) (g.S.Store.marks c.args.store.now) c.args.marks c.in-Runs.run own.0 own.1 own.2 c.requires.counted c.requires.most
 
 pub returns-in-Over-clause-due : goal.returns-in-Over-clause-due
 returns-in-Over-clause-due g c =

@@ -1,8 +1,9 @@
-use Rattle.std.proofs.Common.{List, reverse, refl, ap, sym, subst, ◌∙◌, arith}
+use Rattle.std.proofs.Common.{List, reverse, refl, ap, sym, subst, ◌∙◌}
 use Rattle.psm_unwind.specs.declared.run.Frame.{Frame}
 use Rattle.psm_unwind.specs.Leaving.{cursors_left, inside, outward, tables_left}
 use Rattle.psm_unwind.specs.Marks.{Each, Stays, marks_in}
 use Rattle.psm_unwind.specs.View.{frames_of}
+use Rattle.psm_unwind.proofs.Depths.{deepest_next}
 use Rattle.psm_unwind.proofs.Leavings.{cursors_next, frame_nested, frame_stays, inside_end, leaves_next, outward_end, outward_next, tables_next}
 use Rattle.psm_unwind.proofs.Nestings.{leaves_none}
 use Rattle.psm_unwind.proofs.Views.{frames_stay}
@@ -14,7 +15,7 @@ loop-frame-init g c = record {
   cursors = refl;
   tables = refl;
   defs = refl;
-  marks = omega arith;
+  deepest = λ n d. d;
   leaves = leaves_none (g.S.Store.holds c.args.store.now) (g.S.Store.at c.args.store.now) (marks_in (reverse c.args.frames.now.items)) c.requires;
 }
 
@@ -41,7 +42,7 @@ loop-frame-preserved g c =
           (tables_left c.args.undo (inside c.args.stop (frames_of at0 (reverse c.args.frames.now.items))) (g.S.Store.tables c.args.store.now))
           (frame_stays holds0 at0 marks holds1 at1 xs ys f c.requires c.in-Some.ensures.some c.loop-frame.invariant.leaves) c.leave_frame.ensures.tables c.loop-frame.invariant.tables;
       defs = c.leave_frame.ensures.defs ∙ c.loop-frame.invariant.defs;
-      marks = omega (arith, c.leave_frame.ensures.marks, c.loop-frame.invariant.marks);
+      deepest = deepest_next marks (g.S.Store.marks c.args.store.now) (g.S.Store.marks c.loop-frame.store) (g.S.Store.marks c.leave_frame.new.store) xs ys f c.in-Some.ensures.some c.loop-frame.invariant.deepest c.leave_frame.ensures.deepest;
       leaves = leaves_next holds0 at0 marks holds1 at1 xs ys f c.requires c.in-Some.ensures.some c.loop-frame.invariant.leaves (g.S.Store.holds c.leave_frame.new.store) (g.S.Store.at c.leave_frame.new.store) c.leave_frame.ensures.leaves;
     }
 

@@ -23,4 +23,4 @@ pub returns-clause-unwinds : goal.returns-clause-unwinds
 returns-clause-unwinds g c =
     unwinds_frames (g.S.Store.holds c.args.store.now) (g.S.Store.at c.args.store.now) (g.S.Store.marks c.args.store.now) (g.S.Store.tables c.args.store.now) c.args.run.now
     (g.S.Store.holds c.leave_until.new.store) (g.S.Store.at c.leave_until.new.store) (g.S.Store.marks c.leave_until.new.store) (g.S.Store.tables c.leave_until.new.store) (record c.args.run.now { running = record c.args.run.now.running { cursors = c.leave_until.new.cursors; frames = c.leave_until.new.frames } })
-    c.requires.nested c.leave_until.ensures.leaves c.leave_until.ensures.marks c.leave_until.ensures.defs refl refl
+    c.requires.nested c.leave_until.ensures.leaves c.leave_until.ensures.deepest c.leave_until.ensures.defs refl refl refl

@@ -8,7 +8,7 @@ use Rattle.psm_unwind.proofs.Unwinding.{unwinds_none}
 use Rattle.psm_unwind.proofs.raising.ask.Goals as goal
 
 pub returns-in-None-clause-unwinds : goal.returns-in-None-clause-unwinds
-returns-in-None-clause-unwinds g c = unwinds_none (g.S.Store.holds c.args.store.now) (g.S.Store.at c.args.store.now) (g.S.Store.marks c.args.store.now) (g.S.Store.tables c.args.store.now) c.args.run.now c.args.run.now c.requires.nested refl refl refl
+returns-in-None-clause-unwinds g c = unwinds_none (g.S.Store.holds c.args.store.now) (g.S.Store.at c.args.store.now) (g.S.Store.marks c.args.store.now) (g.S.Store.tables c.args.store.now) c.args.run.now c.args.run.now c.requires.nested refl refl refl refl
 
 pub returns-in-Some-clause-due : goal.returns-in-Some-clause-due
 returns-in-Some-clause-due g c =

@@ -9,7 +9,7 @@ pub returns-in_err-hold-in-Some-clause-unwinds : goal.returns-in_err-hold-in-Som
 returns-in_err-hold-in-Some-clause-unwinds g c = unwinds_same (g.S.Store.holds c.args.store.now) (g.S.Store.at c.args.store.now) (g.S.Store.marks c.args.store.now) (g.S.Store.tables c.args.store.now) c.args.run.now c.hold.new.run c.requires.nested c.hold.ensures.same
 
 pub returns-in-None-clause-unwinds : goal.returns-in-None-clause-unwinds
-returns-in-None-clause-unwinds g c = unwinds_none (g.S.Store.holds c.args.store.now) (g.S.Store.at c.args.store.now) (g.S.Store.marks c.args.store.now) (g.S.Store.tables c.args.store.now) c.args.run.now c.args.run.now c.requires.nested refl refl refl
+returns-in-None-clause-unwinds g c = unwinds_none (g.S.Store.holds c.args.store.now) (g.S.Store.at c.args.store.now) (g.S.Store.marks c.args.store.now) (g.S.Store.tables c.args.store.now) c.args.run.now c.args.run.now c.requires.nested refl refl refl refl
 
 pub returns-in_ok-hold-in-Some-clause-due : goal.returns-in_ok-hold-in-Some-clause-due
 returns-in_ok-hold-in-Some-clause-due g c =

@@ -17,7 +17,7 @@ returns-in-Continue-clause-due g c =
 
 pub returns-in-Continue-clause-unwinds : goal.returns-in-Continue-clause-unwinds
 returns-in-Continue-clause-unwinds g c =
-    unwinds_none (g.S.Store.holds c.args.store.now) (g.S.Store.at c.args.store.now) (g.S.Store.marks c.args.store.now) (g.S.Store.tables c.args.store.now) c.args.run.now c.act.new.run c.requires.nested c.act.ensures.marks c.act.ensures.bound c.act.ensures.callers
+    unwinds_none (g.S.Store.holds c.args.store.now) (g.S.Store.at c.args.store.now) (g.S.Store.marks c.args.store.now) (g.S.Store.tables c.args.store.now) c.args.run.now c.act.new.run c.requires.nested c.act.ensures.marks c.act.ensures.bound c.act.ensures.base c.act.ensures.callers
 
 pub returns-in-Exit-clause-due : goal.returns-in-Exit-clause-due
 returns-in-Exit-clause-due g c =
@@ -31,7 +31,7 @@ pub returns-in-Exit-clause-unwinds : goal.returns-in-Exit-clause-unwinds
 returns-in-Exit-clause-unwinds g c =
     unwinds_then (g.S.Store.holds c.args.store.now) (g.S.Store.at c.args.store.now) (g.S.Store.marks c.args.store.now) (g.S.Store.tables c.args.store.now) c.args.run.now (g.S.Store.holds c.arrive.new.store) (g.S.Store.at c.arrive.new.store) (g.S.Store.marks c.arrive.new.store) (g.S.Store.tables c.arrive.new.store) c.arrive.new.run (g.S.Store.holds c.arrive.new.store) (g.S.Store.at c.arrive.new.store) (g.S.Store.marks c.arrive.new.store) (g.S.Store.tables c.arrive.new.store) c.act-in-Exit.new.run c.arrive.ensures.unwinds
     (unwinds_none (g.S.Store.holds c.arrive.new.store) (g.S.Store.at c.arrive.new.store) (g.S.Store.marks c.arrive.new.store) (g.S.Store.tables c.arrive.new.store) c.arrive.new.run c.act-in-Exit.new.run (nested_unwound (g.S.Store.holds c.args.store.now) (g.S.Store.at c.args.store.now) (g.S.Store.marks c.args.store.now) (g.S.Store.tables c.args.store.now) c.args.run.now (g.S.Store.holds c.arrive.new.store) (g.S.Store.at c.arrive.new.store) (g.S.Store.marks c.arrive.new.store) (g.S.Store.tables c.arrive.new.store) c.arrive.new.run c.requires.nested c.arrive.ensures.unwinds)
-    c.act-in-Exit.ensures.marks c.act-in-Exit.ensures.bound c.act-in-Exit.ensures.callers)
+    c.act-in-Exit.ensures.marks c.act-in-Exit.ensures.bound c.act-in-Exit.ensures.base c.act-in-Exit.ensures.callers)
 
 pub returns-in-Undo-clause-due : goal.returns-in-Undo-clause-due
 returns-in-Undo-clause-due g c =
@@ -48,4 +48,4 @@ returns-in-Undo-clause-unwinds g c =
     unwinds_then (g.S.Store.holds c.args.store.now) (g.S.Store.at c.args.store.now) (g.S.Store.marks c.args.store.now) (g.S.Store.tables c.args.store.now) c.args.run.now (g.S.Store.holds c.arrive-in-Undo.new.store) (g.S.Store.at c.arrive-in-Undo.new.store) (g.S.Store.marks c.arrive-in-Undo.new.store) (g.S.Store.tables c.arrive-in-Undo.new.store) c.arrive-in-Undo.new.run (g.S.Store.holds c.take_back.new.store) (g.S.Store.at c.take_back.new.store) (g.S.Store.marks c.take_back.new.store) (g.S.Store.tables c.take_back.new.store) c.act-in-Undo.new.run c.arrive-in-Undo.ensures.unwinds
     (unwinds_then (g.S.Store.holds c.arrive-in-Undo.new.store) (g.S.Store.at c.arrive-in-Undo.new.store) (g.S.Store.marks c.arrive-in-Undo.new.store) (g.S.Store.tables c.arrive-in-Undo.new.store) c.arrive-in-Undo.new.run (g.S.Store.holds c.take_back.new.store) (g.S.Store.at c.take_back.new.store) (g.S.Store.marks c.take_back.new.store) (g.S.Store.tables c.take_back.new.store) c.arrive-in-Undo.new.run (g.S.Store.holds c.take_back.new.store) (g.S.Store.at c.take_back.new.store) (g.S.Store.marks c.take_back.new.store) (g.S.Store.tables c.take_back.new.store) c.act-in-Undo.new.run c.take_back.ensures.unwinds
     (unwinds_none (g.S.Store.holds c.take_back.new.store) (g.S.Store.at c.take_back.new.store) (g.S.Store.marks c.take_back.new.store) (g.S.Store.tables c.take_back.new.store) c.arrive-in-Undo.new.run c.act-in-Undo.new.run (nested_unwound (g.S.Store.holds c.arrive-in-Undo.new.store) (g.S.Store.at c.arrive-in-Undo.new.store) (g.S.Store.marks c.arrive-in-Undo.new.store) (g.S.Store.tables c.arrive-in-Undo.new.store) c.arrive-in-Undo.new.run (g.S.Store.holds c.take_back.new.store) (g.S.Store.at c.take_back.new.store) (g.S.Store.marks c.take_back.new.store) (g.S.Store.tables c.take_back.new.store) c.arrive-in-Undo.new.run n c.take_back.ensures.unwinds)
-    c.act-in-Undo.ensures.marks c.act-in-Undo.ensures.bound c.act-in-Undo.ensures.callers))
+    c.act-in-Undo.ensures.marks c.act-in-Undo.ensures.bound c.act-in-Undo.ensures.base c.act-in-Undo.ensures.callers))

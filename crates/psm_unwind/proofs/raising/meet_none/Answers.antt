@@ -1,7 +1,7 @@
 use Rattle.std.proofs.Common.{reverse, refl, ap, sym, ◌∙◌}
 use Rattle.psm_cond.specs.Choice.{is_exception}
 use Rattle.psm_unwind.specs.Marks.{marks_in}
-use Rattle.psm_unwind.specs.View.{activation_of, callers_of, frames_of, machine_of}
+use Rattle.psm_unwind.specs.View.{callers_of, frames_of, machine_of}
 use Rattle.psm_unwind.proofs.Arriving.{all_left, goes_on, goes_outside}
 use Rattle.psm_unwind.proofs.Unwinding.{outer_stay, running_nested, unwinds_frames, unwinds_same}
 use Rattle.psm_unwind.proofs.Views.{callers_stay}
@@ -13,9 +13,10 @@ leave_until-requires g c = running_nested (g.S.Store.holds c.args.store.now) c.a
 pub returns-then-is_exception-clause-due : goal.returns-then-is_exception-clause-due
 returns-then-is_exception-clause-due g c =
     goes_outside c.args.routine.now c.args.resume c.args.condition.now (machine_of (g.S.Store.tables c.args.store.now) (g.S.Store.at c.args.store.now) c.args.run.now)
-    (activation_of (g.S.Store.at c.leave_until.new.store) c.args.run.now.operands.own (record c.args.run.now.running { cursors = c.leave_until.new.cursors; frames = c.leave_until.new.frames }))
+    c.leave_until.new.cursors.items (frames_of (g.S.Store.at c.leave_until.new.store) (reverse c.leave_until.new.frames.items))
     (callers_of (g.S.Store.at c.leave_until.new.store) c.args.run.now.operands.callers (reverse c.args.run.now.callers.items)) (g.S.Store.tables c.leave_until.new.store)
     (ap is_exception (sym c.kind.ensures) ∙ sym c.is_exception.ensures ∙ c.if-is_exception.true)
+    c.leave_until.ensures.cursors
     (callers_stay (g.S.Store.at c.args.store.now) (g.S.Store.holds c.leave_until.new.store) (g.S.Store.at c.leave_until.new.store) c.args.run.now.operands.callers (reverse c.args.run.now.callers.items)
     (outer_stay (g.S.Store.holds c.args.store.now) (g.S.Store.at c.args.store.now) c.args.run.now (g.S.Store.holds c.leave_until.new.store) (g.S.Store.at c.leave_until.new.store) (marks_in (reverse c.leave_until.new.frames.items)) c.requires.nested c.leave_until.ensures.leaves))
     c.leave_until.ensures.tables
@@ -28,7 +29,7 @@ pub returns-then-is_exception-clause-unwinds : goal.returns-then-is_exception-cl
 returns-then-is_exception-clause-unwinds g c =
     unwinds_frames (g.S.Store.holds c.args.store.now) (g.S.Store.at c.args.store.now) (g.S.Store.marks c.args.store.now) (g.S.Store.tables c.args.store.now) c.args.run.now
     (g.S.Store.holds c.leave_until.new.store) (g.S.Store.at c.leave_until.new.store) (g.S.Store.marks c.leave_until.new.store) (g.S.Store.tables c.leave_until.new.store) (record c.args.run.now { running = record c.args.run.now.running { cursors = c.leave_until.new.cursors; frames = c.leave_until.new.frames } })
-    c.requires.nested c.leave_until.ensures.leaves c.leave_until.ensures.marks c.leave_until.ensures.defs refl refl
+    c.requires.nested c.leave_until.ensures.leaves c.leave_until.ensures.deepest c.leave_until.ensures.defs refl refl refl
 
 pub returns-else-is_exception-clause-due : goal.returns-else-is_exception-clause-due
 returns-else-is_exception-clause-due g c =

@@ -1,4 +1,4 @@
-use Rattle.std.proofs.Common.{◌≡◌, ◌-◌, [], ◌++◌, drop, reverse, take, refl, ap, sym, subst, ◌∙◌}
+use Rattle.std.proofs.Common.{◌≡◌, ◌-◌, [], ◌++◌, drop, reverse, take, refl, ap, sym, subst, ◌∙◌, append-nil}
 use Rattle.std.specs.declared.alloc.Global.{Global}
 use Rattle.std.specs.declared.vec.Vec.{Vec}
 use Rattle.psm_cond.specs.Condition.{by_state}
@@ -9,13 +9,13 @@ use Rattle.psm_unwind.specs.declared.ending.Ending.TheVariants.{Raised}
 use Rattle.psm_unwind.specs.declared.ending.Outcome.TheVariants.{Over}
 use Rattle.psm_unwind.specs.declared.run.Activation.{Activation}
 use Rattle.psm_unwind.specs.Raising.{HasLeft, Meets}
-use Rattle.psm_unwind.specs.View.{LeadsTo, activation_of, callers_of, machine_of}
+use Rattle.psm_unwind.specs.View.{LeadsTo, activation_of, at_end, callers_of, machine_of}
 use Rattle.psm_unwind.proofs.Arriving.{raised_again, raised_here, raised_out}
 use Rattle.psm_unwind.proofs.Unwinding.{callers_now, nested_unwound, stand_unwound, unwinds_items, unwinds_none, unwinds_returned, unwinds_then}
 use Rattle.psm_unwind.proofs.raising.raise.Goals as goal
 
 pub loop-condition-init : goal.loop-condition-init
-loop-condition-init g c = record { due = refl; unwinds = unwinds_none (g.S.Store.holds c.args.store.now) (g.S.Store.at c.args.store.now) (g.S.Store.marks c.args.store.now) (g.S.Store.tables c.args.store.now) c.args.run.now c.args.run.now c.requires.stand.nested refl refl refl }
+loop-condition-init g c = record { due = refl; unwinds = unwinds_none (g.S.Store.holds c.args.store.now) (g.S.Store.at c.args.store.now) (g.S.Store.marks c.args.store.now) (g.S.Store.tables c.args.store.now) c.args.run.now c.args.run.now c.requires.stand.nested refl refl refl refl }
 
 pub ask-requires-clause-nested : goal.ask-requires-clause-nested
 ask-requires-clause-nested g c = nested_unwound (g.S.Store.holds c.args.store.now) (g.S.Store.at c.args.store.now) (g.S.Store.marks c.args.store.now) (g.S.Store.tables c.args.store.now) c.args.run.now (g.S.Store.holds c.loop-condition.store) (g.S.Store.at c.loop-condition.store) (g.S.Store.marks c.loop-condition.store) (g.S.Store.tables c.loop-condition.store) c.loop-condition.run c.requires.stand.nested c.loop-condition.invariant.unwinds
@@ -63,7 +63,8 @@ returns-in-None-clause-due g c =
     subst (λ e. LeadsTo (raised c.args.code.now c.args.condition (machine_of (g.S.Store.tables c.args.store.now) (g.S.Store.at c.args.store.now) c.args.run.now)) (Over (Raised e)) (machine_of (g.S.Store.tables c.ask.new.store) (g.S.Store.at c.ask.new.store) (record c.ask.new.run { callers = c.pop.new.self }))) (sym (c.in_ok-last-in-None.ensures ∙ c.by_state.ensures))
     (subst (λ t. LeadsTo t (Over (Raised (by_state c.loop-condition.condition))) (machine_of (g.S.Store.tables c.ask.new.store) (g.S.Store.at c.ask.new.store) (record c.ask.new.run { callers = c.pop.new.self }))) (sym c.loop-condition.invariant.due)
     (raised_out c.args.code.now c.loop-condition.condition (machine_of (g.S.Store.tables c.loop-condition.store) (g.S.Store.at c.loop-condition.store) c.loop-condition.run) (machine_of (g.S.Store.tables c.ask.new.store) (g.S.Store.at c.ask.new.store) c.ask.new.run) (machine_of (g.S.Store.tables c.ask.new.store) (g.S.Store.at c.ask.new.store) (record c.ask.new.run { callers = c.pop.new.self })) (ap (λ xs. callers_of (g.S.Store.at c.loop-condition.store) c.loop-condition.run.operands.callers (reverse xs)) callers)
-    (subst (λ x. Meets (λ outside. asked (routine_at c.args.code.now c.loop-condition.run.running.routine) c.loop-condition.condition outside (machine_of (g.S.Store.tables c.loop-condition.store) (g.S.Store.at c.loop-condition.store) c.loop-condition.run)) x (machine_of (g.S.Store.tables c.ask.new.store) (g.S.Store.at c.ask.new.store) c.ask.new.run)) c.in-Outside.is c.in_ok-outcome.ensures.due) refl))
+    (subst (λ x. Meets (λ outside. asked (routine_at c.args.code.now c.loop-condition.run.running.routine) c.loop-condition.condition outside (machine_of (g.S.Store.tables c.loop-condition.store) (g.S.Store.at c.loop-condition.store) c.loop-condition.run)) x (machine_of (g.S.Store.tables c.ask.new.store) (g.S.Store.at c.ask.new.store) c.ask.new.run)) c.in-Outside.is c.in_ok-outcome.ensures.due)
+    (ap (λ xs. at_end (record (machine_of (g.S.Store.tables c.ask.new.store) (g.S.Store.at c.ask.new.store) c.ask.new.run) { callers = callers_of (g.S.Store.at c.ask.new.store) c.ask.new.run.operands.callers (reverse xs) })) (c.in-None.ensures.items ∙ append-nil c.pop.new.self.items))))
 
 pub loop-condition-preserved : goal.loop-condition-preserved
 loop-condition-preserved g c = record {

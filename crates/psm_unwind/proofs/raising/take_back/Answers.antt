@@ -1,7 +1,7 @@
 use Rattle.std.proofs.Common.{List, true, reverse, refl, ap, sym, subst, ◌∙◌}
 use Rattle.psm_code.specs.Raising.{found_first, put_back}
 use Rattle.psm_unwind.specs.declared.run.Frame.{Frame}
-use Rattle.psm_unwind.specs.Marks.{Leaves, Nested, Unwinds, marks_in}
+use Rattle.psm_unwind.specs.Marks.{Leaves, Nested, StayDeepest, Unwinds, marks_in}
 use Rattle.psm_unwind.specs.View.{frames_of, machine_of}
 use Rattle.psm_unwind.proofs.Unwinding.{running_nested, unwinds_frames}
 use Rattle.psm_unwind.proofs.Views.{machine_stays}
@@ -15,7 +15,8 @@ pub returns-clause-unwinds : goal.returns-clause-unwinds
 returns-clause-unwinds g c =
     unwinds_frames (g.S.Store.holds c.args.store.now) (g.S.Store.at c.args.store.now) (g.S.Store.marks c.args.store.now) (g.S.Store.tables c.args.store.now) c.args.run.now (g.S.Store.holds c.restore.new.store) (g.S.Store.at c.restore.new.store) (g.S.Store.marks c.restore.new.store) (g.S.Store.tables c.restore.new.store) c.args.run.now c.requires
     (subst (λ (fs : List Frame). Leaves (g.S.Store.holds c.args.store.now) (g.S.Store.at c.args.store.now) (marks_in (reverse fs)) (g.S.Store.holds c.restore.new.store) (g.S.Store.at c.restore.new.store) (marks_in (reverse fs))) c.as_slice.ensures.value c.restore.ensures.leaves)
-    c.restore.ensures.fewer c.restore.ensures.defs refl refl
+    (subst (λ (fs : List Frame). StayDeepest (marks_in (reverse fs)) (g.S.Store.marks c.args.store.now) (marks_in (reverse fs)) (g.S.Store.marks c.restore.new.store)) c.as_slice.ensures.value c.restore.ensures.deepest)
+    c.restore.ensures.defs refl refl refl
 
 pub returns-clause-due : goal.returns-clause-due
 returns-clause-due g c =
