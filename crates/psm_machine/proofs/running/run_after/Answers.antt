@@ -22,7 +22,7 @@ go_through-requires-clause-machine_invariant g c =
 pub go_through-requires-clause-stand : goal.go_through-requires-clause-stand
 go_through-requires-clause-stand g c =
     let own = subst (λ (b : Beginning). HasNoMarks c.args.marks b) c.in-Runs.is c.in_ok-ending.ensures.marks in
-    stand_first (g.S.Store.holds c.args.store.now) (g.S.Store.marks c.args.store.now) c.args.marks c.in-Runs.run own.0 own.1 own.2 c.requires.counted c.requires.most
+    stand_first (g.S.Store.holds c.args.store.now) (g.S.Store.marks c.args.store.now) c.args.marks c.in-Runs.run' own.0 own.1 own.2 c.requires.counted c.requires.most
 
 pub returns-in-Over-clause-due : goal.returns-in-Over-clause-due
 returns-in-Over-clause-due g c =
