@@ -1,4 +1,5 @@
 pub mod AsStored
+pub mod Deleting
 pub mod Checks
 pub mod Counts
 pub mod Entered
