@@ -10,4 +10,5 @@ pub mod Procedures
 pub mod Routines
 pub mod Rows
 pub mod KeptScopes
+pub mod Shapes
 pub mod Signatures

@@ -24,7 +24,8 @@ struct Best<'a> {
 /// the parameter's: upwards in SMALLINT, INTEGER, NUMERIC; upwards in CHAR, VARCHAR; NULL goes to all. For each argument that isn't
 /// NULL, from the left, the candidates with the lowest kind of parameter stay. `NoRoutine` comes exactly where there is no candidate,
 /// and `Ambiguous` exactly where more than one stays. It takes no memory. Where no argument is NULL, a function with exactly the
-/// arguments' kinds is found at once. Else only functions of that name and number of parameters are looked at, each once.
+/// arguments' kinds is found at once. Else only functions of that name and number of parameters are looked at, each once, and
+/// where no argument is NULL only those whose parameters have the arguments' shape: numbers for numbers, texts for texts.
 pub fn choose_routine(
     routines: &Signatures,
     name: &Name,
@@ -71,18 +72,19 @@ fn is_typed(kind: ArgKind) -> bool
     }
 }
 
-// The choice among all functions of that name and number of parameters.
+// The choice among all functions of that name and number of parameters, and of the arguments' shape where none is NULL.
 fn best_routine(routines: &Signatures, name: &Name, kinds: &[ArgKind]) -> Result<u32, ChoiceFault>
     ensures { result ≡ chosen routines.now name.now kinds.now }
 {
+    let alike = are_typed(kinds);
     let mut best = None;
-    let mut at = routines.last(name, kinds.len());
+    let mut at = routines.last(name, kinds, alike);
     while let Some(number) = at {
         let parameters = routines.kinds(number);
         if all_go(kinds, parameters) {
             best = Some(better(best, number, parameters, kinds));
         }
-        at = routines.earlier(number);
+        at = routines.earlier(number, alike);
     }
     only(best)
 }

@@ -14,6 +14,7 @@ mod procedures;
 mod row;
 mod scope;
 mod scopes;
+mod shape;
 mod signatures;
 
 pub use choice::choose_routine;

@@ -4,11 +4,13 @@ ghost use Rattle.std.specs.Option.{option_map};
 ghost use Rattle.std.specs.Cow.{cow_slice_items};
 ghost use Rattle.psm_scope.specs.Choice.{Signature};
 ghost use Rattle.psm_scope.specs.Exact.{exact, exact_of};
+ghost use Rattle.psm_scope.specs.Shapes.{form_of};
 ghost use Rattle.psm_scope.specs.Signatures.{last_below};
 
 use crate::index::{Exact, Index};
-use crate::key::{CallKey, FunctionKey, NameKey};
+use crate::key::{FormKey, FunctionKey, NameKey};
 use crate::kinds::ArgKind;
+use crate::shape::form_of;
 use indexmap::IndexMap;
 use psm_list::List;
 use psm_text::Name;
@@ -23,10 +25,12 @@ struct Function<'a> {
     kinds: List<ArgKind>,
     /// The number of the last function before it with its name and as many parameters.
     earlier: Option<u32>,
+    /// That of the last one whose parameters have the same shape too.
+    alike: Option<u32>,
 }
 
-/// A list of functions, each a name with the kinds of its parameters, numbered from 0. A look-up by name and number of parameters, or
-/// by name and kinds, goes through an index. The names are lent.
+/// A list of functions, each a name with the kinds of its parameters, numbered from 0. A look-up by name and number of parameters,
+/// with their shape or without, or by name and kinds, goes through an index. The names are lent.
 #[derive(Drop)]
 pub struct Signatures<'a> {
     alloc: Global,
@@ -35,7 +39,7 @@ pub struct Signatures<'a> {
 }
 
 impl<'a> Model for Signatures<'a> {
-    ghost use Rattle.std.specs.Prelude.{List, map};
+    ghost use Rattle.std.specs.Prelude.{List, map, true, false};
     ghost use Rattle.psm_scope.specs.Choice.{Signature};
     ghost use Rattle.psm_scope.specs.Signatures.{IsFound, IsLinked, signature_of};
 
@@ -43,7 +47,7 @@ impl<'a> Model for Signatures<'a> {
 
     ghost view = { λ s. map signature_of s.functions.items };
 
-    ghost invariant = { λ s. IsLinked s.functions.items s.index.latest.entries × IsFound s.functions.items s.index.exact.entries };
+    ghost invariant = { λ s. IsLinked false s.functions.items s.index.latest.entries × IsLinked true s.functions.items s.index.alike.entries × IsFound s.functions.items s.index.exact.entries };
 }
 
 impl<'a> Signatures<'a> {
@@ -56,6 +60,7 @@ impl<'a> Signatures<'a> {
             functions: Vec::new(alloc),
             index: Index {
                 latest: IndexMap::new(alloc),
+                alike: IndexMap::new(alloc),
                 exact: IndexMap::new(alloc),
             },
         }
@@ -71,16 +76,15 @@ impl<'a> Signatures<'a> {
             return Err(AllocError);
         }
         self.functions.reserve(1)?;
-        let call = CallKey {
-            name: NameKey { name },
-            count: kinds.items().len(),
-        };
+        let call = form_key(name, kinds.items(), false);
+        let shaped = form_key(name, kinds.items(), true);
         let function = function_key(self.alloc, name, kinds.items())?;
-        let earlier = self.index.add(call, function, number as u32)?;
+        let links = self.index.add(call, shaped, function, number as u32)?;
         self.functions.push(Function {
             name,
             kinds,
-            earlier,
+            earlier: links.earlier,
+            alike: links.alike,
         })?;
         Ok(())
     }
@@ -100,15 +104,19 @@ impl<'a> Signatures<'a> {
         self.functions[number as usize].kinds.items()
     }
 
-    /// The number of the last function with that name and number of parameters.
-    pub(crate) fn last(&self, name: &Name, count: usize) -> Option<u32>
-        ensures { result ≡ last_below self.now name.now count (length self.now) }
+    /// The number of the last function with that name and as many parameters as there are kinds, and with their shape if that is asked
+    /// for.
+    pub(crate) fn last(&self, name: &Name, kinds: &[ArgKind], alike: bool) -> Option<u32>
+        ensures { result ≡ last_below alike self.now name.now (form_of alike kinds.now) (length self.now) }
     {
-        let key = CallKey {
-            name: NameKey { name },
-            count,
-        };
-        self.index.latest.get(&key).copied()
+        if alike {
+            self.index.alike.get(&form_key(name, kinds, true)).copied()
+        } else {
+            self.index
+                .latest
+                .get(&form_key(name, kinds, false))
+                .copied()
+        }
     }
 
     /// The functions with that name and exactly those kinds of parameters.
@@ -122,12 +130,28 @@ impl<'a> Signatures<'a> {
         self.index.exact.get(&key).copied()
     }
 
-    /// The number of the last function before that one with its name and number of parameters.
-    pub(crate) fn earlier(&self, number: u32) -> Option<u32>
+    /// The number of the last function before that one with its name and number of parameters, and with their shape if that is asked
+    /// for.
+    pub(crate) fn earlier(&self, number: u32, alike: bool) -> Option<u32>
         requires { number < length self.now }
-        ensures { IfSome (slice_get self.now number) (λ s. result ≡ last_below self.now s.name (length s.kinds) number) }
+        ensures { IfSome (slice_get self.now number) (λ s. result ≡ last_below alike self.now s.name (form_of alike s.kinds) number) }
     {
-        self.functions[number as usize].earlier
+        let function = &self.functions[number as usize];
+        if alike {
+            function.alike
+        } else {
+            function.earlier
+        }
+    }
+}
+
+fn form_key<'a>(name: &'a Name, kinds: &[ArgKind], alike: bool) -> FormKey<'a>
+    ensures name { result.name.name ≡ name.entry }
+    ensures form { result.form ≡ form_of alike kinds.now }
+{
+    FormKey {
+        name: NameKey { name },
+        form: form_of(kinds, alike),
     }
 }
 
