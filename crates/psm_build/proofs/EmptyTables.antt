@@ -20,7 +20,7 @@ use Rattle.psm_build.specs.Outcome.{definitions, empty_tables}
 -- no row breaks a rule
 tables_kept : (ts : List CodeTable) → AreKept ts (map empty_table (map (λ t. t.definition) ts))
 tables_kept [] = tt
-tables_kept (t ∷ ts) = (record { same = refl; rows = All-nil (IsRow t.definition); legal = record { pass = refl; rules = refl } }, tables_kept ts)
+tables_kept (t ∷ ts) = (record { same = refl; rows = All-nil (IsRow t.definition); legal = record { stored = refl; pass = refl; rules = refl } }, tables_kept ts)
 
 pub empty_tables_kept : (code : RawCode) → AreKept code.tables (empty_tables code)
 empty_tables_kept code = tables_kept code.tables

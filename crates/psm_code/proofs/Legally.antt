@@ -5,15 +5,17 @@ use Rattle.std.specs.List.{list_all}
 use Rattle.std.specs.Ordering.{is_eq, is_gt, is_lt}
 use Rattle.std.specs.declared.cmp.Ordering.{Ordering}
 use Rattle.std.specs.declared.cmp.Ordering.TheVariants.{Less, Equal, Greater}
-use Rattle.std.proofs.lemmas.List.Elements.{All-head, All-tail}
+use Rattle.std.proofs.lemmas.List.Elements.{All-cons, All-head, All-nil, All-tail}
 use Rattle.psm_num.proofs.Literals.{and_first, and_second}
 use Rattle.psm_value.specs.declared.datum.Datum.{Datum}
 use Rattle.psm_exprcode.proofs.Standing.{both_true}
 use Rattle.psm_table.specs.declared.definition.TableDef.{TableDef}
-use Rattle.psm_table.specs.Changing.{all_apart, are_apart, is_filled, rows_but, IsLegal, Schema}
+use Rattle.psm_table.specs.Changing.{all_apart, are_apart, is_filled, row_is_stored, rows_but, IsLegal, Schema}
+use Rattle.psm_table.specs.Definition.{kinds_of}
 use Rattle.psm_table.specs.Cursors.{current, row_at, row_of_key, Position}
 use Rattle.psm_table.specs.Evaluator.{Evaluator}
 use Rattle.psm_table.specs.Key.{key_order, row_order, values_at}
+use Rattle.psm_table.proofs.AsStored.{but_one_all}
 use Rattle.psm_table.proofs.Checks.{all_pass, each_passes, Passes}
 use Rattle.psm_table.proofs.Rules.{apart-turned}
 use Rattle.psm_code.proofs.Rowing.{but_all}
@@ -75,11 +77,17 @@ legal_but ev schema row rows h =
     let filled = and_first (list_all (is_filled schema.def) rows) (all_apart schema.def rows) h.rules in
     let apart = and_second (list_all (is_filled schema.def) rows) (all_apart schema.def rows) h.rules in
     record {
+      stored = but_one_all (row_is_stored (kinds_of schema.def.columns)) schema.def row rows h.stored;
       pass = all_pass ev schema.checks (rows_but schema.def row rows) (but_all (Passes ev schema.checks) schema.def row rows (each_passes ev schema.checks rows h.pass));
       rules = both_true (list_all (is_filled schema.def) (rows_but schema.def row rows)) (all_apart schema.def (rows_but schema.def row rows))
           (append_list (is_filled schema.def) (filter below rows) (filter above rows) (filter_list (is_filled schema.def) below rows filled) (filter_list (is_filled schema.def) above rows filled))
           (split_apart schema.def below above (λ r a b. not_less_greater (row_order schema.def.key (values_at schema.def.key row) r) a b) rows apart);
     }
+
+-- a test that all rows pass holds of each
+pub each_of : (t : Row → Bool) (rows : List Row) → list_all t rows ≡ true → All (λ row. t row ≡ true) rows
+each_of t [] h = All-nil (λ row. t row ≡ true)
+each_of t (row ∷ rows) h = All-cons (λ row. t row ≡ true) row rows (and_first (t row) (list_all t rows) h) (each_of t rows (and_second (t row) (list_all t rows) h))
 
 -- ---- the row on which a cursor stands
 

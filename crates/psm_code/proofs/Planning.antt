@@ -6,9 +6,9 @@ use Rattle.psm_exprcode.specs.declared.op.Letter.{Letter}
 use Rattle.psm_exprcode.specs.declared.op.Line.{Line}
 use Rattle.psm_exprcode.specs.declared.set_item.SetItem as set_code
 use Rattle.psm_table.specs.declared.definition.TableDef.{TableDef}
-use Rattle.psm_table.specs.Changing.{deleted, inserted, updated, Changed, Failure, IsLegal, OfTable, Raised, Schema}
+use Rattle.psm_table.specs.Changing.{deleted, inserted, row_is_stored, updated, Changed, Failure, IsLegal, OfTable, Raised, Schema}
 use Rattle.psm_table.specs.Cursors.{current, Closed, Cursor, Insensitive, Plain}
-use Rattle.psm_table.specs.Definition.{IsRow}
+use Rattle.psm_table.specs.Definition.{kinds_of, IsRow}
 use Rattle.psm_table.specs.Table.{Contents}
 use Rattle.psm_table.proofs.Legal.{legal_deleted, legal_inserted, legal_updated}
 use Rattle.psm_tablecode.specs.Codes.{over}
@@ -24,7 +24,7 @@ use Rattle.psm_code.specs.MachineInvariant.{AreKept, IsKept, Keeps}
 use Rattle.psm_code.specs.State.{Machine}
 use Rattle.psm_code.proofs.Acts.{Does, Has, and_then, present_does}
 use Rattle.psm_code.proofs.Fetching.{with_cursor_has, WellFormedCursorCode}
-use Rattle.psm_code.proofs.Legally.{stands_on}
+use Rattle.psm_code.proofs.Legally.{each_of, stands_on}
 use Rattle.psm_code.proofs.Queried.{table_does, variables_do}
 use Rattle.psm_code.proofs.Rowing.{deleted_rows, inserted_rows, updated_rows}
 
@@ -88,7 +88,7 @@ module _ (code : RawCode) (r : RawRoutine) (l : CodeLine) (may : may_raise l.ins
       and_then code r l (λ (a : Changed) n. Fine t a.rows × Has code r l s n) _ _ _ k
       (failed_does (λ (a : Changed). Fine t a.rows) x.def (inserted plain x (map (new_row x.def columns) new) c.rows) s k y.1 (λ a q.
       let q2 : inserted plain (schema_of t) (map (new_row t.definition columns) new) c.rows ≡ Ok a = ap (λ (x : Schema (List Line)). inserted plain x (map (new_row x.def columns) new) c.rows) (sym f.0) ∙ q in
-      record { fit = inserted_rows plain (schema_of t) columns new c.rows a y.0.rows q2; legal = legal_inserted plain (schema_of t) (map (new_row t.definition columns) new) c.rows a q2 })) (λ a j z.
+      record { fit = inserted_rows plain (schema_of t) columns new c.rows a y.0.rows q2; legal = legal_inserted plain (schema_of t) (map (new_row t.definition columns) new) c.rows a y.0.legal.stored q2 })) (λ a j z.
       leaves_does i t c a.rows a.count s j e y.0.same z.0 z.1)))
 
   pub update_rows_does : (i : ℕ) (t : CodeTable) (sets : List set_code.SetItem) (test : Option (List Line)) (s : List Letter) (m : Machine) → slice_get code.tables i ≡ Some t → Has code r l s m
@@ -100,7 +100,7 @@ module _ (code : RawCode) (r : RawRoutine) (l : CodeLine) (may : may_raise l.ins
       and_then code r l (λ (a : Changed) n. Fine t a.rows × Has code r l s n) _ _ _ k
       (failed_does (λ (a : Changed). Fine t a.rows) x.def (updated (over vs) plain x (map set_item sets) test c.rows) s k v.1 (λ a q.
       let q2 : updated (over vs) plain (schema_of t) (map set_item sets) test c.rows ≡ Ok a = ap (λ (x : Schema (List Line)). updated (over vs) plain x (map set_item sets) test c.rows) (sym f.0) ∙ q in
-      record { fit = updated_rows (over vs) plain (schema_of t) (map set_item sets) test c.rows a y.0.rows q2; legal = legal_updated (over vs) plain (schema_of t) (map set_item sets) test c.rows a q2 })) (λ a j z.
+      record { fit = updated_rows (over vs) plain (schema_of t) (map set_item sets) test c.rows a y.0.rows q2; legal = legal_updated (over vs) plain (schema_of t) (map set_item sets) test c.rows a y.0.legal.stored q2 })) (λ a j z.
       and_then code r l _ _ _ _ j (leaves_does i t c a.rows a.count s j e y.0.same z.0 z.1) (λ u j w. some_row_does a.count s j w)))))
 
   pub delete_rows_does : (i : ℕ) (t : CodeTable) (test : Option (List Line)) (s : List Letter) (m : Machine) → slice_get code.tables i ≡ Some t → Has code r l s m → Does code r l (λ u n. Has code r l s n) (delete_rows code i test) m
@@ -120,11 +120,17 @@ module _ (code : RawCode) (r : RawRoutine) (l : CodeLine) (may : may_raise l.ins
     standing_does P None s m k h = record { evaluates = (may, h.body) }
     standing_does P (Some row) s m k h = record { evaluates = (k row refl, h) }
 
-    pub row_does : (c : Contents) (cursor : Cursor) (s : List Letter) (m : Machine) → IsKept g.well_formed_code.table c → Has code r l s m → Does code r l (λ row n. IsRow g.well_formed_code.table.definition row × Has code r l s n) (row_of_cursor x c cursor) m
+    -- a row that fits the table, with values as its columns store them
+    abbrev IsStoredRow : List Datum → Type 0
+    IsStoredRow row = IsRow g.well_formed_code.table.definition row × (row_is_stored (kinds_of g.well_formed_code.table.definition.columns) row ≡ true)
+
+    pub row_does : (c : Contents) (cursor : Cursor) (s : List Letter) (m : Machine) → IsKept g.well_formed_code.table c → Has code r l s m → Does code r l (λ row n. IsStoredRow row × Has code r l s n) (row_of_cursor x c cursor) m
     row_does c Closed s m k h = record { evaluates = (may, h.body) }
     row_does c (Insensitive rows) s m k h = record { evaluates = (may, h.body) }
     row_does c (Plain p vs) s m k h =
-        standing_does (IsRow g.well_formed_code.table.definition) (current c.def.key c.rows p) s m (λ row e. stands_on (IsRow g.well_formed_code.table.definition) c.def.key p c.rows row k.rows e) h
+        let is_stored = row_is_stored (kinds_of g.well_formed_code.table.definition.columns) in
+        standing_does IsStoredRow (current c.def.key c.rows p) s m
+        (λ row e. (stands_on (IsRow g.well_formed_code.table.definition) c.def.key p c.rows row k.rows e, stands_on (λ row. is_stored row ≡ true) c.def.key p c.rows row (each_of is_stored c.rows k.legal.stored) e)) h
 
     left_kept : (c : Cursor) → Keeps code r g.query c → Keeps code r g.query (left_by c)
     left_kept Closed h = h

@@ -59,7 +59,7 @@ module _ (code : RawCode) (r : RawRoutine) (l : CodeLine) (may : may_raise l.ins
       and_then code r l (λ (a : Moved) n. Fine code r l may t a.rows × Has code r l s n) _ _ _ k
       (failed_does code r l may (λ (a : Moved). Fine code r l may t a.rows) y.def (updated_at (over vs) plain y (map set_item sets) row c.rows) s k u.1 (λ a q.
       let q2 : updated_at (over vs) plain (schema_of t) (map set_item sets) row c.rows ≡ Ok a = ap (λ (y : Schema (List Line)). updated_at (over vs) plain y (map set_item sets) row c.rows) (sym f.0) ∙ q in
-      record { fit = updated_at_rows (over vs) plain (schema_of t) (map set_item sets) row c.rows a v.0 z.0.rows q2; legal = legal_updated_at (over vs) plain (schema_of t) (map set_item sets) row c.rows a q2 })) (λ a j e.
+      record { fit = updated_at_rows (over vs) plain (schema_of t) (map set_item sets) row c.rows a v.0.0 z.0.rows q2; legal = legal_updated_at (over vs) plain (schema_of t) (map set_item sets) row c.rows a v.0.1 z.0.legal.stored q2 })) (λ a j e.
       and_then code r l _ _ _ _ j (leaves_does code r l may g.query.table t c a.rows 1 s j g.well_formed_code.there z.0.same e.0 e.1) (λ u j b. leave_does code r l may number x declared g a.moved cursor s j w.0 b)))))))
 
   pub update_at_does : (sets : List set_code.SetItem) (s : List Letter) (m : Machine) → Has code r l s m → Does code r l (Same s) (update_at code r number sets) m

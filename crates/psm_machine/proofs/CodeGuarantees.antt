@@ -83,7 +83,7 @@ module _ (code : RawCode) (tables : List Contents) (well_formed_code : first_fau
       kept_set code.tables tables n t (record c { rows = changed.rows }) kept e (record {
         same = y.same;
         rows = inserted_rows plain (schema_of t) columns rows c.rows changed y.rows q;
-        legal = legal_inserted plain (schema_of t) (map (new_row t.definition columns) rows) c.rows changed q;
+        legal = legal_inserted plain (schema_of t) (map (new_row t.definition columns) rows) c.rows changed y.legal.stored q;
       })
 
 module _ (code : RawCode) (r : RawRoutine) (tables : List Contents) (vars : List Datum) (cursors : List Cursor) (h : RunsWellFormed code r tables vars cursors) where

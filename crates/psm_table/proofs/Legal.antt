@@ -8,13 +8,14 @@ use Rattle.psm_value.specs.declared.datum.Datum.{Datum}
 use Rattle.psm_value.specs.declared.truth.Truth.{Truth}
 use Rattle.psm_value.specs.declared.truth.Truth.TheVariants.{True, False, Unknown}
 use Rattle.psm_table.specs.declared.definition.TableDef.{TableDef}
-use Rattle.psm_table.specs.Changing.{all_apart, are_apart, counting, deleted, divided, ended, ended_with, has_moved, in_order, inserted, is_filled, keep_rules, moving, rows_but, rows_pass, set_row, stored_rows, then_of, updated, updated_at, with_left, with_made, Changed, Division, Failure, IsLegal, Moved, OfTable, Schema, SetItem}
+use Rattle.psm_table.specs.Changing.{all_apart, are_apart, counting, deleted, divided, ended, ended_with, has_moved, in_order, inserted, is_filled, keep_rules, moving, row_is_stored, rows_but, rows_pass, set_row, stored_rows, then_of, updated, updated_at, with_left, with_made, Changed, Division, Failure, IsLegal, Moved, OfTable, Schema, SetItem}
 use Rattle.psm_table.specs.Definition.{kinds_of}
 use Rattle.psm_table.specs.Evaluator.{Evaluator, and_then, mapped, test_of}
 use Rattle.psm_table.specs.Queries.{is_met}
 use Rattle.psm_table.specs.Table.{most_rows}
 use Rattle.psm_table.proofs.Checks.{all_pass, each_passes, Passes}
-use Rattle.psm_table.proofs.Rules.{both, first_true, keep-in_order, second_true}
+use Rattle.psm_table.proofs.Rules.{all-in_order, both, first_true, keep-in_order, second_true}
+use Rattle.psm_table.proofs.AsStored.{append_all, but_one_all, rows_as_stored, set_row_as_stored}
 
 abbrev Row : Type 0
 Row = List Datum
@@ -58,7 +59,7 @@ module _ {E : Type 0} (ev : Evaluator E) (test : Option E) (make : Row → Resul
       (λ row rows p q h. All-cons P row p.left (All-head P row rows h) (q (All-tail P row rows h)))
       (λ row new rows p e q h. q (All-tail P row rows h)) rows p
 
-  left_test : (t : Row → Bool) (rows : List Row) (p : Division) → divided ev test make rows ≡ Ok p → list_all t rows ≡ true → list_all t p.left ≡ true
+  pub left_test : (t : Row → Bool) (rows : List Row) (p : Division) → divided ev test make rows ≡ Ok p → list_all t rows ≡ true → list_all t p.left ≡ true
   left_test t rows p = by_division ev test make (λ rows p. list_all t rows ≡ true → list_all t p.left ≡ true) (λ h. h)
       (λ row rows p q h. both (t row) (list_all t p.left) (first_true (t row) (list_all t rows) h) (q (second_true (t row) (list_all t rows) h)))
       (λ row new rows p e q h. q (second_true (t row) (list_all t rows) h)) rows p
@@ -80,9 +81,20 @@ module _ {E : Type 0} (ev : Evaluator E) (test : Option E) (make : Row → Resul
       ((left_apart def rows p e).0 (is_filled def) (first_true (list_all (is_filled def) rows) (all_apart def rows) h))
       ((left_apart def rows p e).1 (second_true (list_all (is_filled def) rows) (all_apart def rows) h))
 
+-- what is made of stored rows is stored
+made_stored : {E : Type 0} (ev : Evaluator E) (def : TableDef) (sets : List (SetItem E)) (test : Option E) (rows : List Row) (p : Division) → divided ev test (set_row ev def sets) rows ≡ Ok p → list_all (row_is_stored (kinds_of def.columns)) rows ≡ true
+    → list_all (row_is_stored (kinds_of def.columns)) p.made ≡ true
+made_stored ev def sets test rows p = by_division ev test (set_row ev def sets) (λ rows p. list_all (row_is_stored (kinds_of def.columns)) rows ≡ true → list_all (row_is_stored (kinds_of def.columns)) p.made ≡ true) (λ h. refl)
+    (λ row rows p q h. q (second_true (row_is_stored (kinds_of def.columns) row) (list_all (row_is_stored (kinds_of def.columns)) rows) h))
+    (λ row new rows p e q h.
+    both (row_is_stored (kinds_of def.columns) new) (list_all (row_is_stored (kinds_of def.columns)) p.made)
+    (set_row_as_stored ev def sets row new (first_true (row_is_stored (kinds_of def.columns) row) (list_all (row_is_stored (kinds_of def.columns)) rows) h) e)
+    (q (second_true (row_is_stored (kinds_of def.columns) row) (list_all (row_is_stored (kinds_of def.columns)) rows) h))) rows p
+
 -- the rows that are left of a legal table are legal
 pub legal_left : {E : Type 0} (ev plain : Evaluator E) (schema : Schema E) (test : Option E) (make : Row → Result Row SqlState) (rows : List Row) (p : Division) → divided ev test make rows ≡ Ok p → IsLegal plain schema rows → IsLegal plain schema p.left
 legal_left ev plain schema test make rows p e h = record {
+  stored = left_test ev test make (row_is_stored (kinds_of schema.def.columns)) rows p e h.stored;
   pass = all_pass plain schema.checks p.left (left_all ev test make (Passes plain schema.checks) rows p e (legal_passes plain schema rows h));
   rules = left_rules ev test make schema.def rows p e h.rules;
 }
@@ -107,10 +119,10 @@ module _ {E : Type 0} (ev : Evaluator E) (schema : Schema E) where
   ended_is rows after e =
       ended_ok schema.def (nat_lt most_rows (length rows)) (rows_pass ev schema.checks (in_order schema.def.key rows)) (keep_rules schema.def rows) (in_order schema.def.key rows) after e
 
-  pub legal_ended : (rows after : List Row) → ended ev schema rows ≡ Ok after → IsLegal ev schema after
-  legal_ended rows after e =
+  pub legal_ended : (rows after : List Row) → list_all (row_is_stored (kinds_of schema.def.columns)) rows ≡ true → ended ev schema rows ≡ Ok after → IsLegal ev schema after
+  legal_ended rows after s e =
       let h = ended_is rows after e in
-      let order : IsLegal ev schema (in_order schema.def.key rows) = record { pass = h.pass; rules = keep-in_order schema.def schema.def.key rows ∙ h.rules } in
+      let order : IsLegal ev schema (in_order schema.def.key rows) = record { stored = all-in_order schema.def schema.def.key (row_is_stored (kinds_of schema.def.columns)) rows ∙ s; pass = h.pass; rules = keep-in_order schema.def schema.def.key rows ∙ h.rules } in
       subst (IsLegal ev schema) h.same order
 
 -- ---- statements
@@ -128,16 +140,19 @@ moving_ok b (Ok rows) m e = let one : Moved = record { rows = rows; moved = b } 
 moving_ok b (Err failure) m e = cc
 
 module _ {E : Type 0} (plain : Evaluator E) (schema : Schema E) where
-  pub legal_inserted : (new rows : List Row) (c : Changed) → inserted plain schema new rows ≡ Ok c → IsLegal plain schema c.rows
-  legal_inserted new rows c e =
+  pub legal_inserted : (new rows : List Row) (c : Changed) → list_all (row_is_stored (kinds_of schema.def.columns)) rows ≡ true → inserted plain schema new rows ≡ Ok c → IsLegal plain schema c.rows
+  legal_inserted new rows c l e =
       let h = then_ok (stored_rows (kinds_of schema.def.columns) new) (λ more. counting (length more) (ended plain schema (rows ++ more))) c e in
-      legal_ended plain schema (rows ++ h.0) c.rows (counting_ok (length h.0) (ended plain schema (rows ++ h.0)) c h.2)
+      legal_ended plain schema (rows ++ h.0) c.rows
+      (append_all (row_is_stored (kinds_of schema.def.columns)) rows h.0 l (rows_as_stored (kinds_of schema.def.columns) new h.0 h.1)) (counting_ok (length h.0) (ended plain schema (rows ++ h.0)) c h.2)
 
 module _ {E : Type 0} (ev plain : Evaluator E) (schema : Schema E) where
-  pub legal_updated : (sets : List (SetItem E)) (test : Option E) (rows : List Row) (c : Changed) → updated ev plain schema sets test rows ≡ Ok c → IsLegal plain schema c.rows
-  legal_updated sets test rows c e =
+  pub legal_updated : (sets : List (SetItem E)) (test : Option E) (rows : List Row) (c : Changed) → list_all (row_is_stored (kinds_of schema.def.columns)) rows ≡ true → updated ev plain schema sets test rows ≡ Ok c → IsLegal plain schema c.rows
+  legal_updated sets test rows c l e =
       let h = then_ok (divided ev test (set_row ev schema.def sets) rows) (λ p. counting (length p.made) (ended plain schema (p.left ++ p.made))) c e in
-      legal_ended plain schema (h.0.left ++ h.0.made) c.rows (counting_ok (length h.0.made) (ended plain schema (h.0.left ++ h.0.made)) c h.2)
+      legal_ended plain schema (h.0.left ++ h.0.made) c.rows
+      (append_all (row_is_stored (kinds_of schema.def.columns)) h.0.left h.0.made (left_test ev test (set_row ev schema.def sets) (row_is_stored (kinds_of schema.def.columns)) rows h.0 h.1 l)
+      (made_stored ev schema.def sets test rows h.0 h.1 l)) (counting_ok (length h.0.made) (ended plain schema (h.0.left ++ h.0.made)) c h.2)
 
   pub legal_deleted : (test : Option E) (rows : List Row) (c : Changed) → IsLegal plain schema rows → deleted ev test rows ≡ Ok c → IsLegal plain schema c.rows
   legal_deleted test rows c l e =
@@ -146,7 +161,10 @@ module _ {E : Type 0} (ev plain : Evaluator E) (schema : Schema E) where
       let same : one ≡ c = cc (h.2) in
       subst (λ (d : Changed). IsLegal plain schema d.rows) same (legal_left ev plain schema test (λ row. Ok row) rows h.0 h.1 l)
 
-  pub legal_updated_at : (sets : List (SetItem E)) (row : Row) (rows : List Row) (m : Moved) → updated_at ev plain schema sets row rows ≡ Ok m → IsLegal plain schema m.rows
-  legal_updated_at sets row rows m e =
+  pub legal_updated_at : (sets : List (SetItem E)) (row : Row) (rows : List Row) (m : Moved) → row_is_stored (kinds_of schema.def.columns) row ≡ true → list_all (row_is_stored (kinds_of schema.def.columns)) rows ≡ true → updated_at ev plain schema sets row rows ≡ Ok m → IsLegal plain schema m.rows
+  legal_updated_at sets row rows m r l e =
       let h = then_ok (set_row ev schema.def sets row) (λ new. moving (has_moved schema.def row new) (ended plain schema (rows_but schema.def row rows ++ new ∷ []))) m e in
-      legal_ended plain schema (rows_but schema.def row rows ++ h.0 ∷ []) m.rows (moving_ok (has_moved schema.def row h.0) (ended plain schema (rows_but schema.def row rows ++ h.0 ∷ [])) m h.2)
+      legal_ended plain schema (rows_but schema.def row rows ++ h.0 ∷ []) m.rows
+      (append_all (row_is_stored (kinds_of schema.def.columns)) (rows_but schema.def row rows) (h.0 ∷ [])
+      (but_one_all (row_is_stored (kinds_of schema.def.columns)) schema.def row rows l)
+      (both (row_is_stored (kinds_of schema.def.columns) h.0) true (set_row_as_stored ev schema.def sets row h.0 r h.1) refl)) (moving_ok (has_moved schema.def row h.0) (ended plain schema (rows_but schema.def row rows ++ h.0 ∷ [])) m h.2)

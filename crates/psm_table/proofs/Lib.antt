@@ -1,3 +1,4 @@
+pub mod AsStored
 pub mod Checks
 pub mod Counts
 pub mod Entered

@@ -4,7 +4,7 @@ use Rattle.std.specs.Prelude.{◌≡◌, Bool, true, false, ℕ, List, [], ◌�
 use Rattle.psm_sqlstate.specs.declared.state.SqlState.{SqlState}
 use Rattle.std.specs.List.{list_all}
 use Rattle.std.specs.Ordering.{is_le, is_eq, is_ne}
-use Rattle.psm_value.specs.Stored.{stored}
+use Rattle.psm_value.specs.Stored.{is_stored, stored}
 use Rattle.psm_value.specs.declared.datum.Datum.{Datum}
 use Rattle.psm_value.specs.declared.sqltype.SqlType.{SqlType}
 use Rattle.psm_value.specs.declared.truth.Truth.{Truth}
@@ -92,8 +92,14 @@ all_apart def (row ∷ rows) = list_all (are_apart def row) rows && all_apart de
 abbrev pub keep_rules : TableDef → List (List Datum) → Bool
 keep_rules def rows = list_all (is_filled def) rows && all_apart def rows
 
--- a table is legal for its CHECKs: its rows keep all its rules, and no CHECK raises a condition
+-- whether a row's values are as these types store them
+abbrev pub row_is_stored : List SqlType → List Datum → Bool
+row_is_stored types row = list_all (λ p. is_stored p.0 p.1) (zip types row)
+
+-- a table is legal for its CHECKs: its values are as its columns store them, its rows keep all its rules, and no CHECK raises a
+-- condition
 pub record IsLegal {E : Type 0} (ev : Evaluator E) (schema : Schema E) (rows : List (List Datum)) : Type 0 where
+  pub stored : list_all (row_is_stored (kinds_of schema.def.columns)) rows ≡ true
   pub pass : rows_pass ev schema.checks rows ≡ Ok true
   pub rules : keep_rules schema.def rows ≡ true
 

@@ -3,7 +3,8 @@ ghost use Rattle.std.specs.Prelude.{◌≡◌, ◌&&◌, ◌∷◌, ◌++◌, []
 ghost use Rattle.std.specs.List.{list_all};
 ghost use Rattle.psm_value.specs.declared.datum.Datum.{Datum};
 ghost use Rattle.psm_table.specs.declared.definition.TableDef.{TableDef};
-ghost use Rattle.psm_table.specs.Changing.{are_apart, deleted, in_order, inserted, is_before, is_filled, keep_rules, rows_pass, updated, updated_at, Changed, IsLegal, Moved, Schema, SetItem};
+ghost use Rattle.psm_table.specs.Changing.{are_apart, deleted, in_order, inserted, is_before, is_filled, keep_rules, row_is_stored, rows_pass, updated, updated_at, Changed, IsLegal, Moved, Schema, SetItem};
+ghost use Rattle.psm_table.specs.Definition.{kinds_of};
 ghost use Rattle.psm_table.specs.Cursors.{Position, advanced, current, lies_past, without_row as left_row};
 ghost use Rattle.psm_table.specs.Evaluator.{Evaluator};
 ghost use Rattle.psm_table.specs.Queries.{Query};
@@ -43,12 +44,13 @@ pub fn order_of_rows()
 {}
 
 /// A statement that ended leaves the table legal for its CHECKs (ISO/IEC 9075:1992, 11.7 to 11.9): after INSERT and UPDATE
-/// whatever it was, after DELETE if it was so. CHECKs see no variables, so what evaluates them is their own.
+/// if its values were as its columns store them, after DELETE if it was legal. CHECKs see no variables, so what evaluates them is
+/// their own.
 pub fn statements_leave_legal_tables()
-    ensures inserted { (ev : Evaluator ℕ) (schema : Schema ℕ) (new rows : List (List Datum)) (c : Changed) → inserted ev schema new rows ≡ Ok c → IsLegal ev schema c.rows }
-    ensures updated { (ev plain : Evaluator ℕ) (schema : Schema ℕ) (sets : List (SetItem ℕ)) (test : Option ℕ) (rows : List (List Datum)) (c : Changed) → updated ev plain schema sets test rows ≡ Ok c → IsLegal plain schema c.rows }
+    ensures inserted { (ev : Evaluator ℕ) (schema : Schema ℕ) (new rows : List (List Datum)) (c : Changed) → list_all (row_is_stored (kinds_of schema.def.columns)) rows ≡ true → inserted ev schema new rows ≡ Ok c → IsLegal ev schema c.rows }
+    ensures updated { (ev plain : Evaluator ℕ) (schema : Schema ℕ) (sets : List (SetItem ℕ)) (test : Option ℕ) (rows : List (List Datum)) (c : Changed) → list_all (row_is_stored (kinds_of schema.def.columns)) rows ≡ true → updated ev plain schema sets test rows ≡ Ok c → IsLegal plain schema c.rows }
     ensures deleted { (ev plain : Evaluator ℕ) (schema : Schema ℕ) (test : Option ℕ) (rows : List (List Datum)) (c : Changed) → IsLegal plain schema rows → deleted ev test rows ≡ Ok c → IsLegal plain schema c.rows }
-    ensures updated_at { (ev plain : Evaluator ℕ) (schema : Schema ℕ) (sets : List (SetItem ℕ)) (row : List Datum) (rows : List (List Datum)) (m : Moved) → updated_at ev plain schema sets row rows ≡ Ok m → IsLegal plain schema m.rows }
+    ensures updated_at { (ev plain : Evaluator ℕ) (schema : Schema ℕ) (sets : List (SetItem ℕ)) (row : List Datum) (rows : List (List Datum)) (m : Moved) → row_is_stored (kinds_of schema.def.columns) row ≡ true → list_all (row_is_stored (kinds_of schema.def.columns)) rows ≡ true → updated_at ev plain schema sets row rows ≡ Ok m → IsLegal plain schema m.rows }
 {}
 
 /// What a cursor does (ISO/IEC 9075:1992, 13.3): a row that FETCH finds lies past the key that the cursor reached, a cursor that is
