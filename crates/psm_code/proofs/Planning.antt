@@ -109,8 +109,9 @@ module _ (code : RawCode) (r : RawRoutine) (l : CodeLine) (may : may_raise l.ins
       and_then code r l _ _ _ _ n (table_does code r l i t s n e f.1) (λ c k y.
       and_then code r l _ _ _ _ k (variables_do code r l s k y.1) (λ vs k v.
       and_then code r l (λ (a : Changed) n. Fine t a.rows × Has code r l s n) _ _ _ k
-      (failed_does (λ (a : Changed). Fine t a.rows) x.def (deleted (over vs) test c.rows) s k v.1 (λ a q.
-      record { fit = deleted_rows (over vs) (IsRow t.definition) test c.rows a y.0.rows q; legal = legal_deleted (over vs) plain (schema_of t) test c.rows a y.0.legal q })) (λ a j z.
+      (failed_does (λ (a : Changed). Fine t a.rows) x.def (deleted (over vs) plain x test c.rows) s k v.1 (λ a q.
+      let q2 : deleted (over vs) plain (schema_of t) test c.rows ≡ Ok a = ap (λ (x : Schema (List Line)). deleted (over vs) plain x test c.rows) (sym f.0) ∙ q in
+      record { fit = deleted_rows (over vs) plain (schema_of t) test c.rows a y.0.rows q2; legal = legal_deleted (over vs) plain (schema_of t) test c.rows a y.0.legal.stored q2 })) (λ a j z.
       and_then code r l _ _ _ _ j (leaves_does i t c a.rows a.count s j e y.0.same z.0 z.1) (λ u j w. some_row_does a.count s j w)))))
 
   -- ---- positioned statements

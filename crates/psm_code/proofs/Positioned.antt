@@ -5,10 +5,9 @@ use Rattle.psm_exprcode.specs.declared.op.Letter.{Letter}
 use Rattle.psm_exprcode.specs.declared.op.Line.{Line}
 use Rattle.psm_exprcode.specs.declared.query.Query.{Query}
 use Rattle.psm_exprcode.specs.declared.set_item.SetItem as set_code
-use Rattle.psm_table.specs.declared.definition.TableDef.{TableDef}
-use Rattle.psm_table.specs.Changing.{rows_but, updated_at, Moved, Schema}
+use Rattle.psm_table.specs.Changing.{deleted_at, updated_at, Moved, Schema}
 use Rattle.psm_table.specs.Definition.{IsRow}
-use Rattle.psm_table.proofs.Legal.{legal_updated_at}
+use Rattle.psm_table.proofs.Legal.{legal_deleted_at, legal_updated_at}
 use Rattle.psm_tablecode.specs.Codes.{over}
 use Rattle.psm_code.specs.declared.code.CodeCursor.{CodeCursor}
 use Rattle.psm_code.specs.declared.code.RawCode.{RawCode}
@@ -20,9 +19,8 @@ use Rattle.psm_code.specs.State.{Machine}
 use Rattle.psm_code.specs.Steps.{Act, read, table_now, ◌>>=◌, ◌>>◌}
 use Rattle.psm_code.proofs.Acts.{Does, Has, and_then}
 use Rattle.psm_code.proofs.Fetching.{cursor_does, declared_does, WellFormedCursorCode}
-use Rattle.psm_code.proofs.Legally.{legal_but}
 use Rattle.psm_code.proofs.Queried.{query_does, table_does, variables_do}
-use Rattle.psm_code.proofs.Rowing.{but_all, updated_at_rows}
+use Rattle.psm_code.proofs.Rowing.{deleted_at_rows, updated_at_rows}
 use Rattle.psm_code.specs.Querying.{cursor_now, query_at}
 use Rattle.psm_code.proofs.Planning.{failed_does, leave_does, leaves_does, row_does, schema_does, Fine}
 
@@ -73,10 +71,12 @@ module _ (code : RawCode) (r : RawRoutine) (l : CodeLine) (may : may_raise l.ins
 
   abbrev delete_query : CodeCursor → Query → Act (Unit {0})
   delete_query x query = do
+    s ← schema_at code query.table
     t ← table_now query.table
     c ← cursor_now number
     row ← row_of_cursor x t c
-    leaves query.table t (rows_but t.def row t.rows) 1
+    rows ← unless_failed s.def (deleted_at plain s row t.rows)
+    leaves query.table t rows 1
     leave_row true number c
 
   abbrev delete_cursor : CodeCursor → Act (Unit {0})
@@ -87,14 +87,17 @@ module _ (code : RawCode) (r : RawRoutine) (l : CodeLine) (may : may_raise l.ins
   delete_query_does : (s : List Letter) (m : Machine) → Has code r l s m → Does code r l (Same s) (delete_query x g.query) m
   delete_query_does s m h =
       let t = g.well_formed_code.table in
-      and_then code r l _ _ _ _ m (table_does code r l g.query.table t s m g.well_formed_code.there h) (λ c k z.
+      and_then code r l _ _ _ _ m (schema_does code r l may g.query.table t s m g.well_formed_code.there h) (λ y n f.
+      and_then code r l _ _ _ _ n (table_does code r l g.query.table t s n g.well_formed_code.there f.1) (λ c k z.
       and_then code r l _ _ _ _ k (cursor_does code r l number x declared g s k z.1) (λ cursor k w.
       and_then code r l _ _ _ _ k (row_does code r l may number x declared g c cursor s k z.0 w.1) (λ row k v.
-      let fine : Fine code r l may t (rows_but c.def row c.rows) = subst (λ (d : TableDef). Fine code r l may t (rows_but d row c.rows)) (sym z.0.same)
-      (record { fit = but_all (IsRow t.definition) t.definition row c.rows z.0.rows; legal = legal_but plain (schema_of t) row c.rows z.0.legal }) in
-      and_then code r l _ _ _ _ k (leaves_does code r l may g.query.table t c (rows_but c.def row c.rows) 1 s k g.well_formed_code.there z.0.same fine v.1) (λ u j b. leave_does code r l may number x declared g true cursor s j w.0 b))))
+      and_then code r l (λ rows n. Fine code r l may t rows × Has code r l s n) _ _ _ k
+      (failed_does code r l may (λ rows. Fine code r l may t rows) y.def (deleted_at plain y row c.rows) s k v.1 (λ rows q.
+      let q2 : deleted_at plain (schema_of t) row c.rows ≡ Ok rows = ap (λ (y : Schema (List Line)). deleted_at plain y row c.rows) (sym f.0) ∙ q in
+      record { fit = deleted_at_rows plain (schema_of t) row c.rows rows z.0.rows q2; legal = legal_deleted_at plain plain (schema_of t) row c.rows rows z.0.legal.stored q2 })) (λ rows j e.
+      and_then code r l _ _ _ _ j (leaves_does code r l may g.query.table t c rows 1 s j g.well_formed_code.there z.0.same e.0 e.1) (λ u j b. leave_does code r l may number x declared g true cursor s j w.0 b))))))
 
-  pub delete_at_does : (s : List Letter) (m : Machine) → Has code r l s m → Does code r l (Same s) (delete_at r number) m
+  pub delete_at_does : (s : List Letter) (m : Machine) → Has code r l s m → Does code r l (Same s) (delete_at code r number) m
   delete_at_does s m h =
       and_then code r l _ _ _ _ m (declared_does code r l number x declared g s m h) (λ y n f.
       subst (λ (y : CodeCursor). Does code r l (Same s) (delete_cursor y) n) (sym f.0)

@@ -16,7 +16,7 @@ use Rattle.psm_value.specs.Stored.{stored}
 use Rattle.psm_value.proofs.Stable.{stored-of_family}
 use Rattle.psm_table.specs.declared.definition.Column.{Column}
 use Rattle.psm_table.specs.declared.definition.TableDef.{TableDef}
-use Rattle.psm_table.specs.Changing.{all_apart, counting, deleted, divided, ended, has_moved, in_order, inserted, is_before, is_filled, kind_of, moving, new_values, placed_in, rows_but, set_row, stored_row, stored_rows, then_of, updated, updated_at, with_values, Changed, Division, Failure, Moved, Schema, SetItem}
+use Rattle.psm_table.specs.Changing.{all_apart, counting, deleted, deleted_at, divided, ended, has_moved, in_order, inserted, is_before, is_filled, kind_of, moving, new_values, placed_in, rows_but, set_row, stored_row, stored_rows, then_of, updated, updated_at, with_values, Changed, Division, Failure, Moved, Schema, SetItem}
 use Rattle.psm_table.specs.Definition.{kinds_of, AreOfFamilies, IsRow}
 use Rattle.psm_table.specs.Evaluator.{and_then, mapped, Evaluator}
 use Rattle.psm_table.specs.Key.{row_order, values_at}
@@ -181,18 +181,21 @@ updated_rows ev plain schema sets test rows c h e =
     (All-append (Whole schema.def) a.0.left a.0.made (left_all ev test (set_row ev schema.def sets) (Whole schema.def) rows a.0 a.1 w) (made_whole ev schema.def sets test rows a.0 a.1 w))
     (counted (length a.0.made) (ended plain schema (a.0.left ++ a.0.made)) c a.2)
 
-pub deleted_rows : {E : Type 0} (ev : Evaluator E) (P : Row → Type 0) (test : Option E) (rows : List Row) (c : Changed) → All P rows → deleted ev test rows ≡ Ok c → All P c.rows
-deleted_rows ev P test rows c h e =
-    let a = then_ok (divided ev test (λ row. Ok row) rows) (λ p. Ok (record { rows = p.left; count = length p.made })) c e in
-    let one : Changed = record { rows = a.0.left; count = length a.0.made } in
-    let same : one ≡ c = cc (a.2) in
-    subst (λ (c : Changed). All P c.rows) same (left_all ev test (λ row. Ok row) P rows a.0 a.1 h)
+pub deleted_rows : {E : Type 0} (ev plain : Evaluator E) (schema : Schema E) (test : Option E) (rows : List Row) (c : Changed) → All (IsRow schema.def) rows → deleted ev plain schema test rows ≡ Ok c → All (IsRow schema.def) c.rows
+deleted_rows ev plain schema test rows c h e =
+    let a = then_ok (divided ev test (λ row. Ok row) rows) (λ p. counting (length p.made) (ended plain schema p.left)) c e in
+    ended_rows plain schema a.0.left c.rows (left_all ev test (λ row. Ok row) (Whole schema.def) rows a.0 a.1 (rows_whole schema.def rows h))
+    (counted (length a.0.made) (ended plain schema a.0.left) c a.2)
 
 pub but_all : (P : Row → Type 0) (def : TableDef) (row : Row) (rows : List Row) → All P rows → All P (rows_but def row rows)
 but_all P def row rows h =
     let below : Row → Bool = λ r. is_lt (row_order def.key (values_at def.key row) r) in
     let above : Row → Bool = λ r. is_gt (row_order def.key (values_at def.key row) r) in
     All-append P (filter below rows) (filter above rows) (All-filter below P rows h) (All-filter above P rows h)
+
+pub deleted_at_rows : {E : Type 0} (plain : Evaluator E) (schema : Schema E) (row : Row) (rows after : List Row) → All (IsRow schema.def) rows → deleted_at plain schema row rows ≡ Ok after → All (IsRow schema.def) after
+deleted_at_rows plain schema row rows after h e =
+    ended_rows plain schema (rows_but schema.def row rows) after (but_all (Whole schema.def) schema.def row rows (rows_whole schema.def rows h)) e
 
 pub updated_at_rows : {E : Type 0} (ev plain : Evaluator E) (schema : Schema E) (sets : List (SetItem E)) (row : Row) (rows : List Row) (m : Moved) → IsRow schema.def row → All (IsRow schema.def) rows → updated_at ev plain schema sets row rows ≡ Ok m
     → All (IsRow schema.def) m.rows

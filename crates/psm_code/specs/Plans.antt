@@ -5,7 +5,7 @@ use Rattle.psm_cond.specs.Condition.{alone}
 use Rattle.psm_cond.specs.Entry.{entry_of, name_text}
 use Rattle.psm_exprcode.specs.declared.op.Line.{Line}
 use Rattle.psm_exprcode.specs.declared.set_item.SetItem as set_code
-use Rattle.psm_table.specs.Changing.{Failure, Raised, OfTable, Schema, SetItem, deleted, inserted, rows_but, updated, updated_at}
+use Rattle.psm_table.specs.Changing.{Failure, Raised, OfTable, Schema, SetItem, deleted, deleted_at, inserted, updated, updated_at}
 use Rattle.psm_table.specs.Cursors.{Cursor, Closed, Plain, Insensitive, current, without_row}
 use Rattle.psm_table.specs.Evaluator.{Evaluator}
 use Rattle.psm_table.specs.Table.{Contents}
@@ -85,7 +85,7 @@ delete_rows code table test = do
   s ← schema_at code table
   t ← table_now table
   vars ← read (λ m. m.running.variables)
-  c ← unless_failed s.def (deleted (over vars) test t.rows)
+  c ← unless_failed s.def (deleted (over vars) plain s test t.rows)
   leaves table t c.rows c.count
   some_row c.count
 
@@ -125,14 +125,16 @@ update_at code r number sets = do
   leaves query.table t moved.rows 1
   leave_row moved.moved number c
 
-abbrev pub delete_at : RawRoutine → ℕ → Act (Unit {0})
-delete_at r number = do
+abbrev pub delete_at : RawCode → RawRoutine → ℕ → Act (Unit {0})
+delete_at code r number = do
   x ← declared_at r number
   query ← query_at r x.query
+  s ← schema_at code query.table
   t ← table_now query.table
   c ← cursor_now number
   row ← row_of_cursor x t c
-  leaves query.table t (rows_but t.def row t.rows) 1
+  rows ← unless_failed s.def (deleted_at plain s row t.rows)
+  leaves query.table t rows 1
   leave_row true number c
 
 -- ---- plans
@@ -149,7 +151,7 @@ done code r (InsertQuery table columns n) = do
 done code r (Update table sets test) = update_rows code table sets test
 done code r (Delete table test) = delete_rows code table test
 done code r (UpdateAt cursor sets) = update_at code r cursor sets
-done code r (DeleteAt cursor) = delete_at r cursor
+done code r (DeleteAt cursor) = delete_at code r cursor
 
 abbrev pub plan : RawCode → RawRoutine → ℕ → Act (Unit {0})
 plan code r n = do

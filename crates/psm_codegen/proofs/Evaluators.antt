@@ -7,7 +7,7 @@ use Rattle.psm_value.specs.declared.truth.Truth.{Truth}
 use Rattle.psm_value.specs.Stored.{stored}
 use Rattle.std.specs.Prelude.{nat_lt, codes, slice_set, ◌&&◌, Err}
 use Rattle.psm_table.specs.declared.definition.TableDef.{TableDef}
-use Rattle.psm_table.specs.Changing.{Changed, Division, Failure, Moved, OfTable, Schema, SetItem, counting, deleted, divided, ended, ended_with, has_moved, in_order, inserted, is_kept, keep_rules, kind_of, moving, new_values, row_passes, rows_but, rows_pass, set_row, stored_rows, then_of, updated, updated_at, with_left, with_made, with_values}
+use Rattle.psm_table.specs.Changing.{Changed, Division, Failure, Moved, OfTable, Schema, SetItem, counting, deleted, deleted_at, divided, ended, ended_with, has_moved, in_order, inserted, is_kept, keep_rules, kind_of, moving, new_values, row_passes, rows_but, rows_pass, set_row, stored_rows, then_of, updated, updated_at, with_left, with_made, with_values}
 use Rattle.psm_table.specs.Cursors.{Position, advanced, arrived, first_met, rows_past}
 use Rattle.psm_table.specs.Definition.{kinds_of}
 use Rattle.psm_table.specs.Evaluator.{Evaluator, and_then, collected, mapped, test_of, values_of}
@@ -168,9 +168,6 @@ module _ {E F : Type 0} (ev : Evaluator E) (fv : Evaluator F) where
       ∙ ap (λ new. made (test_of fv b row) new (divided ev a make rows)) (m row)
       ∙ ap (λ more. made (test_of fv b row) (other row) more) (divided-same a b t make other m rows)
 
-  pub deleted-same : (a : Option E) (b : Option F) → SamePerhaps a b → (rows : List (List Datum)) → deleted ev a rows ≡ deleted fv b rows
-  deleted-same a b t rows = ap (λ d. then_of d (λ p. Ok (record { rows = p.left; count = length p.made }))) (divided-same a b t (λ row. Ok row) (λ row. Ok row) (λ row. refl) rows)
-
   -- ---- the rules of a table
 
   -- one definition, and the same CHECKs
@@ -207,7 +204,7 @@ module _ {E F : Type 0} (ev : Evaluator E) (fv : Evaluator F) where
       ap (λ end. then_of (stored_rows (kinds_of a.def.columns) new) (λ new. counting (length new) (end (rows ++ new)))) (fun_ext (ended-same a b h))
       ∙ ap (λ def. then_of (stored_rows (kinds_of def.columns) new) (λ new. counting (length new) (ended fv b (rows ++ new)))) h.def
 
--- ---- UPDATE, where CHECKs have evaluators of their own
+-- ---- UPDATE and DELETE, where CHECKs have evaluators of their own
 
 module _ {E F : Type 0} (ev ep : Evaluator E) (fv fp : Evaluator F) where
   pub updated-same : (a : Schema E) (b : Schema F) → SameSchema ep fp a b → (xs : List (SetItem E)) (ys : List (SetItem F)) → SameSets ev fv xs ys → (t : Option E) (u : Option F) → SamePerhaps ev fv t u → (rows : List (List Datum))
@@ -225,3 +222,13 @@ module _ {E F : Type 0} (ev ep : Evaluator E) (fv fp : Evaluator F) where
       ap (λ end. makes end a.def (set_row ev a.def xs row)) (fun_ext (ended-same ep fp a b s))
       ∙ ap (λ def. makes (ended fp b) def (set_row ev def xs row)) s.def
       ∙ ap (makes (ended fp b) b.def) (set_row-same ev fv b.def xs ys h row)
+
+  pub deleted-same : (a : Schema E) (b : Schema F) → SameSchema ep fp a b → (t : Option E) (u : Option F) → SamePerhaps ev fv t u → (rows : List (List Datum)) → deleted ev ep a t rows ≡ deleted fv fp b u rows
+  deleted-same a b s t u o rows =
+      let makes : (List (List Datum) → Result (List (List Datum)) Failure) → Result Division SqlState → Result Changed Failure = λ end d. then_of d (λ p. counting (length p.made) (end p.left)) in
+      ap (λ end. makes end (divided ev t (λ row. Ok row) rows)) (fun_ext (ended-same ep fp a b s))
+      ∙ ap (makes (ended fp b)) (divided-same ev fv t u o (λ row. Ok row) (λ row. Ok row) (λ row. refl) rows)
+
+  pub deleted_at-same : (a : Schema E) (b : Schema F) → SameSchema ep fp a b → (row : List Datum) (rows : List (List Datum)) → deleted_at ep a row rows ≡ deleted_at fp b row rows
+  deleted_at-same a b s row rows =
+      ap (λ def. ended ep a (rows_but def row rows)) s.def ∙ ended-same ep fp a b s (rows_but b.def row rows)

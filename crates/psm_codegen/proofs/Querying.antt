@@ -26,14 +26,14 @@ use Rattle.psm_code.specs.declared.code.CodeTable.{CodeTable}
 use Rattle.psm_code.specs.declared.code.RawCode.{RawCode}
 use Rattle.psm_code.specs.declared.code.RawRoutine.{RawRoutine}
 use Rattle.psm_code.specs.Plans as plans
-use Rattle.psm_simulation.specs.Changes.{IsDelete, IsUpdate, IsUpdateAt, SameTable, TableStands, TablesStand}
+use Rattle.psm_simulation.specs.Changes.{IsDelete, IsDeleteAt, IsUpdate, IsUpdateAt, SameTable, TableStands, TablesStand}
 use Rattle.psm_simulation.specs.Cursors.{IsCursor, SameItems}
 use Rattle.psm_simulation.specs.Expressions.{IsQuery}
 use Rattle.psm_codegen.specs.declared.known.Known.{Known}
 use Rattle.psm_codegen.specs.Outside.{ChecksAreTests}
 use Rattle.psm_codegen.specs.Queries.{AggregatesAre, ExprIs, ExprsAre, ItemsAre, Layer, PerhapsIs, QueryIs, QueryMade, SetsAre, SetsMade, TableMade, TablesMade, column_letters, cursor_of, is_query, is_set, is_test}
 use Rattle.psm_codegen.specs.Written.{letters_at}
-use Rattle.psm_codegen.proofs.Evaluators.{Same, SameAggregates, SameAll, SameOf, SamePerhaps, SameQuery, SameSchema, SameSets, advanced-same, answer-same, deleted-same, inserted-same, updated-same, updated_at-same, values-same}
+use Rattle.psm_codegen.proofs.Evaluators.{Same, SameAggregates, SameAll, SameOf, SamePerhaps, SameQuery, SameSchema, SameSets, advanced-same, answer-same, deleted-same, deleted_at-same, inserted-same, updated-same, updated_at-same, values-same}
 
 -- ---- over the same variables
 
@@ -160,5 +160,13 @@ module _ (file : ResolvedFile) (code : RawCode) (made : TablesMade file.tables c
         updated_at-same (codes.over vars) plans.plain (trees.over vars) meaning.plain (plans.schema_of u) (meaning.schema_of t) (schemas-same t u p q) (map plans.set_item coded) (map meaning.set_item sets) (sets-same vars sets coded (sets_made.are h)) row rows;
   }
 
-pub delete_stands : (test : Option ResolvedExpr) (coded_test : Option (List Line)) → PerhapsIs test coded_test → IsDelete test coded_test
-delete_stands test coded_test same = record { same = λ vars rows. deleted-same (codes.over vars) (trees.over vars) coded_test test (perhaps-same vars test coded_test same) rows }
+  pub delete_stands : (known : Known) (test : Option ResolvedExpr) (coded_test : Option (List Line)) → PerhapsIs test coded_test → IsDelete file code table test coded_test
+  delete_stands known test coded_test same = record {
+    same = λ t u p q vars rows.
+        deleted-same (codes.over vars) plans.plain (trees.over vars) meaning.plain (plans.schema_of u) (meaning.schema_of t) (schemas-same t u p q) coded_test test (perhaps-same vars test coded_test same) rows;
+  }
+
+  pub delete_at_stands : IsDeleteAt file code table
+  delete_at_stands = record {
+    same = λ t u p q row rows. deleted_at-same plans.plain plans.plain meaning.plain meaning.plain (plans.schema_of u) (meaning.schema_of t) (schemas-same t u p q) row rows;
+  }

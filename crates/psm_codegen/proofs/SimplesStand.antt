@@ -44,7 +44,7 @@ use Rattle.psm_codegen.proofs.Growth.{begins-earlier, grows-puts, grows-query, g
 use Rattle.psm_codegen.proofs.GrowthSimples.{grows-call, grows-condition_items, grows-iterates, grows-leaves, grows-retrieved, grows-rows, grows-signals, grows-stored}
 use Rattle.psm_codegen.proofs.Numbers.{known_functions, known_procedures}
 use Rattle.psm_codegen.proofs.Placing.{Kept}
-use Rattle.psm_codegen.proofs.Querying.{delete_stands, query_stands, update_at_stands, update_stands}
+use Rattle.psm_codegen.proofs.Querying.{delete_at_stands, delete_stands, query_stands, update_at_stands, update_stands}
 use Rattle.psm_codegen.proofs.Scoping.{AllCursors, Given, Seen, enclosing_of, labels_of, loops_of}
 use Rattle.psm_codegen.proofs.Standing.{puts_written}
 use Rattle.psm_codegen.proofs.StandingSimples.{call_stands, condition_items_stand, procedure_stands, rows_stand, signals_stand, statement_items_stand, stored_stands}
@@ -187,13 +187,13 @@ module _ (file : ResolvedFile) (code : RawCode) (routine : ResolvedRoutine) (r :
       → Kept (changed context resume plan 0 (with_code (cleared context p) p)) r → resume ≡ at (changed context resume plan 0 (with_code (cleared context p) p)) → Simple file code routine r env resume (simples.Delete table rows) (at p)
   deletes_stand {table = table} p written.delete_all seen f kept e =
       let x = plan-following (plans.Delete table None) p kept e in
-      (length p.plans, None, x.0, delete_stands None None tt, x.1, x.2, x.3)
+      (length p.plans, None, x.0, delete_stands file code given.tables given.checks table known None None tt, x.1, x.2, x.3)
   deletes_stand {table = table} p (written.delete_where {e = t} {test = test} tested) seen f kept e =
       let x = plan-following (plans.Delete table test) p kept e in
-      (length p.plans, test, x.0, delete_stands (Some t) test (tested.is f), x.1, x.2, x.3)
+      (length p.plans, test, x.0, delete_stands file code given.tables given.checks table known (Some t) test (tested.is f), x.1, x.2, x.3)
   deletes_stand {table = table} p (written.delete_current {cursor = cursor}) seen f kept e =
       let x = plan-following (plans.DeleteAt cursor) p kept e in
-      (length p.plans, f.0, x.0, sees seen f.1, f.2, x.1, x.2, x.3)
+      (length p.plans, f.0, x.0, sees seen f.1, f.2, delete_at_stands file code given.tables given.checks table, x.1, x.2, x.3)
 
   -- a condition that is signalled
   signalled_stand : (plain with_message : ℕ → Instruction) (s : ResolvedSignal) (p : FunctionBuilder) {w : Written} → Signals known context resume (plain (condition_number s.condition p.declared)) (with_message (condition_number s.condition p.declared)) s.message (cleared context p) w

@@ -13,7 +13,7 @@ use Rattle.psm_cond.specs.declared.handlers.ConditionValue.TheVariants.{Named, S
 use Rattle.psm_cond.specs.declared.handlers.Handler.{Handler}
 use Rattle.psm_cond.specs.Choice.{highest, chosen_in, is_exception, is_no_data, is_own, is_warning, or_else, rank, specificity}
 use Rattle.psm_cond.specs.Handlers.{Numbered, numbered, handler_rank, number_of, own_handlers}
-use Rattle.psm_cond.specs.Index.{class_value, first_for, first_for_any, first_from, is_among, own_value}
+use Rattle.psm_cond.specs.Index.{class_value, first_for, first_for_any, first_from, own_value}
 use Rattle.psm_cond.specs.Keys.{is_value}
 use Rattle.psm_cond.specs.Tables.{HandlerTable}
 
@@ -243,12 +243,12 @@ first_own : (k : ℕ) (v : ConditionValue) (n : ℕ) (handlers : List Handler)
 first_own k v n [] = refl
 first_own k v n (h ∷ hs) =
     by (nat_eq h.context k) (first_own k v (suc n) hs)
-    ∙ ap (λ b. if b && is_among v h.values then Some n else first_from (record { context = k; value = v }) (suc n) hs) (back h.context k)
+    ∙ ap (λ b. if b && list_any (is_value v) (h.values.first ∷ h.values.rest) then Some n else first_from (record { context = k; value = v }) (suc n) hs) (back h.context k)
   where
     by : (own : Bool) → number_of (find (has (Some v)) (those k (suc n) hs)) ≡ first_from (record { context = k; value = v }) (suc n) hs
         → number_of (find (has (Some v)) (cond own ((n, h) ∷ those k (suc n) hs) (those k (suc n) hs)))
-        ≡ (if own && is_among v h.values then Some n else first_from (record { context = k; value = v }) (suc n) hs)
-    by true rec = picked n h (is_among v h.values) (find (has (Some v)) (those k (suc n) hs)) (first_from (record { context = k; value = v }) (suc n) hs) rec
+        ≡ (if own && list_any (is_value v) (h.values.first ∷ h.values.rest) then Some n else first_from (record { context = k; value = v }) (suc n) hs)
+    by true rec = picked n h (list_any (is_value v) (h.values.first ∷ h.values.rest)) (find (has (Some v)) (those k (suc n) hs)) (first_from (record { context = k; value = v }) (suc n) hs) rec
     by false rec = rec
 
 first_sought : (t : HandlerTable) (k : ℕ) (sought : Option ConditionValue) → number_of (find (has sought) (own_handlers t k)) ≡ first_for_any t.handlers k sought

@@ -2,7 +2,6 @@
 use Rattle.std.specs.Prelude.{◌≡◌, ℕ, suc, nat_eq, Bool, ◌&&◌, List, [], ◌∷◌, Option, Some, None, if◌then◌else◌}
 use Rattle.std.specs.List.{list_any}
 use Rattle.indexmap.specs.IndexMap.{get}
-use Rattle.psm_list.specs.Several.{Several}
 use Rattle.psm_sqlstate.specs.declared.kind.Kind.{Kind}
 use Rattle.psm_sqlstate.specs.declared.kind.Kind.TheVariants as kind
 use Rattle.psm_sqlstate.specs.Kind.{kind_of}
@@ -15,17 +14,13 @@ use Rattle.psm_cond.specs.declared.key.HandlerKey.{HandlerKey}
 use Rattle.psm_cond.specs.Choice.{or_else}
 use Rattle.psm_cond.specs.Keys.{is_value, same_key}
 
--- whether a value is among those of a handler
-abbrev pub is_among : ConditionValue → Several ConditionValue → Bool
-is_among v values = list_any (is_value v) (values.first ∷ values.rest)
-
 -- whether a key has that context and one of some values
 abbrev pub has_value : ℕ → List ConditionValue → HandlerKey → Bool
 has_value k values key = nat_eq key.context k && list_any (is_value key.value) values
 
 -- whether a handler is one that the block of a context declares for a value
 abbrev pub is_own_for : HandlerKey → Handler → Bool
-is_own_for key h = nat_eq key.context h.context && is_among key.value h.values
+is_own_for key h = has_value h.context (h.values.first ∷ h.values.rest) key
 
 -- the number of the first such handler, where the numbers count from n
 abbrev pub first_from : HandlerKey → ℕ → List Handler → Option ℕ

@@ -28,7 +28,7 @@ module _ (old new : List Contents) (t : ℕ) (c : Contents) (due : Contents → 
   ends_done rows n e f = at_c (Ok n) (rows, e, f)
 
   -- an expression raises a condition
-  told : (fault : ValueFault) (told : DataFault) → ((s : SqlState) → fault ≡ Condition s → due c ≡ Err (Raised s)) → Tells fault told → new ≡ old → Ends c (due c) old t new (Err told)
+  pub told : (fault : ValueFault) (told : DataFault) → ((s : SqlState) → fault ≡ Condition s → due c ≡ Err (Raised s)) → Tells fault told → new ≡ old → Ends c (due c) old t new (Err told)
   told (Condition s) (told_as.Raised condition) h g f = (subst (λ d. IsDue c.def d condition) (sym (h s refl)) g, f)
   told (Condition s) told_as.Memory h g f = f
   told Memory (told_as.Raised condition) h g f = absurd g

@@ -2,6 +2,7 @@ pub mod Answering
 pub mod Assigned
 pub mod Assigning
 pub mod Effects
+pub mod Erased
 pub mod Finished
 pub mod Finishing
 pub mod Holding

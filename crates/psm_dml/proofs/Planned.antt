@@ -9,11 +9,12 @@ use Rattle.psm_sqlstate.specs.declared.state.SqlState.{SqlState}
 use Rattle.psm_value.specs.declared.datum.Datum.{Datum}
 use Rattle.psm_value.specs.declared.truth.Truth.{Truth}
 use Rattle.psm_value.specs.declared.truth.Truth.TheVariants.{True, False, Unknown}
-use Rattle.psm_table.specs.Changing.{deleted, divided, then_of, with_left, with_made, Changed, Division, Failure, Raised}
+use Rattle.psm_table.specs.Changing.{divided, then_of, with_left, with_made, Changed, Division, Failure, Raised}
 use Rattle.psm_table.specs.Evaluator.{Evaluator, and_then, mapped, test_of}
 use Rattle.psm_table.specs.Key.{key_order, row_order, values_at}
 use Rattle.psm_table.specs.Queries.{is_met, walked}
 use Rattle.psm_table.specs.Rows.{rows_above, without, IsAscending}
+use Rattle.psm_table.proofs.Deleting.{taken_out}
 use Rattle.psm_table.proofs.Filters.{AllPairs-first, AllPairs-rest}
 use Rattle.psm_table.proofs.KeyLaws.{key_order-refl}
 use Rattle.psm_table.proofs.Undo.{all-above, after_equal, none-below}
@@ -112,7 +113,7 @@ module _ (columns : List ℕ) where
 
     -- the rows without those of the keys that are found
     pub deleted_is : (rows : List Row) (keys : List (List Datum)) → IsAscending columns rows → walked (test_of ev test) (key_in columns) rows ≡ Ok keys
-        → deleted ev test rows ≡ Ok (record { rows = without_all columns keys rows; count = length keys })
+        → taken_out ev test rows ≡ Ok (record { rows = without_all columns keys rows; count = length keys })
     deleted_is rows keys up e =
         ap (λ r. then_of r ending) (divided_by ev test kept rows up)
         ∙ deleted_step rows keys (walked (test_of ev test) (changing columns kept) rows) (sym (keys_are rows) ∙ e)
@@ -122,7 +123,7 @@ module _ (columns : List ℕ) where
     raised_step rows s (Ok cs) e = cc
     raised_step rows s (Err q) e = let same : q ≡ s = cc in ap (λ x. Err (Raised x)) same
 
-    pub deleted_raises : (rows : List Row) (s : SqlState) → IsAscending columns rows → walked (test_of ev test) (key_in columns) rows ≡ Err s → deleted ev test rows ≡ Err (Raised s)
+    pub deleted_raises : (rows : List Row) (s : SqlState) → IsAscending columns rows → walked (test_of ev test) (key_in columns) rows ≡ Err s → taken_out ev test rows ≡ Err (Raised s)
     deleted_raises rows s up e =
         ap (λ r. then_of r ending) (divided_by ev test kept rows up)
         ∙ raised_step rows s (walked (test_of ev test) (changing columns kept) rows) (sym (keys_are rows) ∙ e)

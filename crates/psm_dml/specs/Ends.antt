@@ -1,5 +1,5 @@
 -- How a statement on one table of a store ends.
-use Rattle.std.specs.Prelude.{◌≡◌, ℕ, Bool, true, false, List, codes, slice_set, Option, Some, None, Result, Ok, Err}
+use Rattle.std.specs.Prelude.{◌≡◌, ℕ, Bool, true, false, List, [], codes, slice_set, Option, Some, None, Result, Ok, Err}
 use Rattle.psm_cond.specs.Condition.{Entries, alone}
 use Rattle.psm_cond.specs.Entry.{entry_of, name_text}
 use Rattle.psm_cond.specs.declared.fault.DataFault.{DataFault}
@@ -8,8 +8,10 @@ use Rattle.psm_exprcode.specs.declared.op.Line.{Line}
 use Rattle.psm_sqlstate.specs.declared.state.SqlState.{SqlState}
 use Rattle.psm_value.specs.declared.datum.Datum.{Datum}
 use Rattle.psm_table.specs.declared.definition.TableDef.{TableDef}
-use Rattle.psm_table.specs.Changing.{Changed, Failure, Moved, OfTable, Raised, Schema}
-use Rattle.psm_table.specs.Table.{Contents}
+use Rattle.psm_table.specs.Changing.{deleted_at, Changed, Failure, IsLegal, Moved, OfTable, Raised, Schema}
+use Rattle.psm_table.specs.Key.{values_at}
+use Rattle.psm_table.specs.Table.{without_row, Contents}
+use Rattle.psm_tablecode.specs.Codes.{over}
 
 -- the condition is that of the SQLSTATE alone, and bears the name of the table where it is one of the table
 abbrev pub IsOf : TableDef → Failure → Entries → Type 0
@@ -61,3 +63,7 @@ EndsAtRow c due (Some row) old t new result = EndsAt c (due row) old t new resul
 EndsAtRow c due None old t new (Ok b) = (b ≡ false) × (new ≡ old)
 EndsAtRow c due None old t new (Err (fault.Raised condition)) = ⊥
 EndsAtRow c due None old t new (Err fault.Memory) = new ≡ old
+
+-- for all CHECKs for which the table is legal, DELETE of a row that has the key leaves the others
+abbrev pub ErasesByRules : List Datum → Contents → Type 0
+ErasesByRules key c = (row : List Datum) → key ≡ values_at c.def.key row → (checks : List (List Line)) → IsLegal (over []) (schema_of c.def checks) c.rows → deleted_at (over []) (schema_of c.def checks) row c.rows ≡ Ok (without_row key c).rows

@@ -90,8 +90,8 @@ pub(crate) fn erase_row<S: Store>(
     }
 }
 
-// The rows of a table ascend by its key.
-fn ascends(table: &Table)
+/// The rows of a table ascend by its key.
+pub(crate) fn ascends(table: &Table)
     ensures { IsTable table.now.contents }
 {
     let _rows = table.len();

@@ -1,16 +1,17 @@
 //! DELETE (ISO/IEC 9075:1992, 13.6 and 13.7).
-ghost use Rattle.std.specs.Prelude.{◌≡◌, ◌<◌, IfErr, IfSome, OnErr, OnOk, length, slice_get};
+ghost use Rattle.std.specs.Prelude.{◌≡◌, ◌<◌, [], IfErr, IfSome, List, OnErr, OnOk, length, slice_get};
 ghost use Rattle.std.specs.Option.{option_copied};
-ghost use Rattle.psm_table.specs.Changing.{deleted};
+ghost use Rattle.psm_exprcode.specs.declared.op.Line.{Line};
+ghost use Rattle.psm_table.specs.Changing.{deleted, IsLegal};
 ghost use Rattle.psm_table.specs.Definition.{IsKey};
 ghost use Rattle.psm_table.specs.Table.{without_row};
 ghost use Rattle.psm_store.specs.Marks.{AnyMark, Keeps, most_marks};
 ghost use Rattle.psm_store.specs.RowCalls.{changed_at};
 ghost use Rattle.psm_tablecode.specs.Codes.{over};
-ghost use Rattle.psm_dml.specs.Ends.{Ends};
+ghost use Rattle.psm_dml.specs.Ends.{schema_of, Ends, ErasesByRules};
 ghost use Rattle.psm_dml.specs.TypeChecks.{TypeChecksTest};
 
-use crate::applying::{erase_row, erase_rows};
+use crate::applying::{ascends, erase_row, erase_rows};
 use crate::finding::met_keys;
 use psm_cond::DataFault;
 use psm_exprcode::ExprCode;
@@ -21,7 +22,8 @@ use std::alloc::Global;
 
 /// Takes the rows that meet a test out of a table, and gives how many these are. Without a test it takes out all. The
 /// tests are evaluated in the order of the keys, before the first row goes; the first condition that one raises
-/// is that of the statement, and then no row goes. Where memory runs out, the tables are as before.
+/// is that of the statement, and then no row goes. What is left of a table that is legal for some CHECKs is legal for them, so
+/// the statement ends by their rules without evaluating one. Where memory runs out, the tables are as before.
 ///
 /// The table has to be there, and the test has to fit its columns and the variables. `vars` are the values of the
 /// variables. Marks stay as they are; fewer than 2^100 have to be open.
@@ -35,7 +37,7 @@ pub fn delete<S: Store>(
     requires exists { t < length (S.tables store.old) }
     requires type_checks { IfSome (slice_get (S.tables store.old) t) (λ c. TypeChecksTest (option_copied test) vars.now c.def) }
     requires room { S.marks store.old < most_marks }
-    ensures answer { IfSome (slice_get (S.tables store.old) t) (λ c. Ends c (deleted (over vars.now) (option_copied test.entry) c.rows) (S.tables store.old) t (S.tables store.new) result) }
+    ensures answer { IfSome (slice_get (S.tables store.old) t) (λ c. (checks : List (List Line)) → IsLegal (over []) (schema_of c.def checks) c.rows → Ends c (deleted (over vars.now) (over []) (schema_of c.def checks) (option_copied test.entry) c.rows) (S.tables store.old) t (S.tables store.new) result) }
     ensures marks { S.marks store.new ≡ S.marks store.old }
     ensures keeps { Keeps AnyMark (S.holds store.old) (S.at store.old) (S.holds store.new) (S.at store.new) }
 {
@@ -48,18 +50,21 @@ pub fn delete<S: Store>(
 }
 
 /// Takes the row that has a key out of a table (DELETE WHERE CURRENT OF, ISO/IEC 9075:1992, 13.6). A key without a row
-/// changes nothing. Where memory runs out, the tables are as before.
+/// changes nothing. What is left of a table that is legal for some CHECKs is what the statement leaves by their rules. Where
+/// memory runs out, the tables are as before.
 ///
 /// The table has to be there. Marks stay as they are, and none is opened.
 pub fn delete_at<S: Store>(alloc: Global, store: &mut S, t: u32, key: &Key) -> Result<(), DataFault>
     requires exists { t < length (S.tables store.old) }
     requires fits { IfSome (slice_get (S.tables store.old) t) (λ c. IsKey c.def key.now) }
     ensures ok { OnOk result (S.tables store.new ≡ changed_at (without_row key.now) (S.tables store.old) t) }
+    ensures rules { IfSome (slice_get (S.tables store.old) t) (ErasesByRules key.now) }
     ensures fault { IfErr result (λ fault. fault ≡ DataFault.Memory) }
     ensures err { OnErr result (S.tables store.new ≡ S.tables store.old) }
     ensures marks { S.marks store.new ≡ S.marks store.old }
     ensures keeps { Keeps AnyMark (S.holds store.old) (S.at store.old) (S.holds store.new) (S.at store.new) }
 {
+    ascends(store.table(t));
     erase_row(alloc, store, t, key)?;
     Ok(())
 }

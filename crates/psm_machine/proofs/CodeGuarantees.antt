@@ -176,13 +176,13 @@ module _ (code : RawCode) (r : RawRoutine) (tables : List Contents) (vars : List
         stands = stands q t k.contents d b k.kept.same (kept_here cursor x d q e f a);
       }))))
   may_do_by (plans.DeleteAt cursor) c =
-      let P : CodeCursor → Cursor → Type 0 = λ x c. OverQuery r x (λ n. MayEraseAt tables n c) in
+      let P : CodeCursor → Cursor → Type 0 = λ x c. OverQuery r x (λ n. IfSome (slice_get code.tables n) (MayEraseAt tables n c)) in
       if_some (λ x. IfSome (slice_get cursors cursor) (P x)) (slice_get r.cursors cursor) (λ x e.
       if_some (P x) (slice_get cursors cursor) (λ d f.
-      if_some (λ q. MayEraseAt tables q.table d) (slice_get r.queries x.query) (λ q a.
-      let g = well_formed_query code r x.query q well_formed_code a in
-      let k = kept_at code.tables tables q.table g.table h.kept g.there in
-      record { table = k.0; there = k.1; stands = stands q g.table k.0 d g.there k.2.same (kept_here cursor x d q e f a) })))
+      if_some (λ q. IfSome (slice_get code.tables q.table) (MayEraseAt tables q.table d)) (slice_get r.queries x.query) (λ q a.
+      if_some (MayEraseAt tables q.table d) (slice_get code.tables q.table) (λ t b.
+      let k = has_table code tables h.well_formed_code h.kept q.table t b in
+      record { table = k; stands = stands q t k.contents d b k.kept.same (kept_here cursor x d q e f a) }))))
 
   pub may_do : (n : ℕ) → IfSome (slice_get r.plans n) (MayDo code r tables vars cursors)
   may_do n = if_some (MayDo code r tables vars cursors) (slice_get r.plans n) (λ p e. may_do_by p (clean_flat (plan_faults code r) r.plans n p well_formed_code.plans e))

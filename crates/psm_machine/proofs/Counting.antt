@@ -7,7 +7,7 @@ use Rattle.psm_value.specs.declared.datum.Datum.{Datum}
 use Rattle.psm_exprcode.specs.declared.op.Line.{Line}
 use Rattle.psm_exprcode.specs.declared.set_item.SetItem.{SetItem}
 use Rattle.psm_table.specs.declared.definition.TableDef.{TableDef}
-use Rattle.psm_table.specs.Changing.{deleted, inserted, updated, Changed, Failure, OfTable, Raised, Schema}
+use Rattle.psm_table.specs.Changing.{deleted, inserted, updated, Changed, Failure, IsLegal, OfTable, Raised, Schema}
 use Rattle.psm_table.specs.Table.{Contents}
 use Rattle.psm_tablecode.specs.Codes.{over}
 use Rattle.psm_tablecode.specs.NewRows.{new_row}
@@ -96,6 +96,10 @@ schema_there (u ∷ ts) (suc i) t e = schema_there ts i t e
 pub schema_same : (t : CodeTable) (def : TableDef) → def ≡ t.definition → ends.schema_of def t.checks ≡ schema_of t
 schema_same t def e = ap (λ d. ends.schema_of d t.checks) e
 
+-- a table that is there is legal
+pub legal_there : {t : CodeTable} {tables : List Contents} {n : ℕ} → (h : HasTable t tables n) → IsLegal plain (ends.schema_of h.contents.def t.checks) h.contents.rows
+legal_there {t} h = subst (λ s. IsLegal plain s h.contents.rows) (sym (schema_same t h.contents.def h.kept.same)) h.kept.legal
+
 -- the definition of a table that is there is that of the code
 ended_in : (t : CodeTable) (c : Contents) (due : Result Changed Failure) (old : List Contents) (n : ℕ) (new : List Contents) (res : Result ℕ DataFault) → c.def ≡ t.definition → Ends c due old n new res → EndsIn t c due old n new res
 ended_in t c due old n new (Ok count) e h = h
@@ -117,29 +121,32 @@ module _ (code : RawCode) (table : ℕ) (t : CodeTable) (declared : slice_get co
   abbrev Vars : List Datum
   Vars = r.running.variables.items
 
+  -- a statement that is due by the rules of the table, as the code has them
+  ruled_counted : (act : Act (Unit {0})) (due : Contents → Schema (List Line) → Result Changed Failure) (res : Result ℕ DataFault) → (h : HasTable t old table)
+      → act (machine_of old at r) ≡ ◌>>=◌ (unless_failed t.definition (due h.contents (schema_of t))) (left_with table h.contents some_row) (machine_of old at r)
+      → Ends h.contents (due h.contents (ends.schema_of h.contents.def t.checks)) old table new res → Counted act some_row old at r new (part_of res)
+  ruled_counted act due res h is e =
+      let c = h.contents in
+      let act_of : TableDef → Schema (List Line) → Act (Unit {0}) = λ d s. ◌>>=◌ (unless_failed d (due c s)) (left_with table c some_row) in
+      let done = counted_by c (due c (ends.schema_of c.def t.checks)) some_row table old at r new res e in
+      let named = subst (λ d. Counted (act_of d (ends.schema_of c.def t.checks)) some_row old at r new (part_of res)) h.kept.same done in
+      let ruled = subst (λ s. Counted (act_of t.definition s) some_row old at r new (part_of res)) (schema_same t c.def h.kept.same) named in
+      counted_like act (act_of t.definition (schema_of t)) some_row old at r new (part_of res) is ruled
+
   pub update_counted : (sets : List SetItem) (test : Option (List Line)) (res : Result ℕ DataFault) → (h : HasTable t old table)
       → IfSome (slice_get old table) (λ c. Ends c (updated (over Vars) plain (ends.schema_of c.def t.checks) (map set_item sets) test c.rows) old table new res)
       → Counted (update_rows code table sets test) some_row old at r new (part_of res)
   update_counted sets test res h f =
-      let c = h.contents in
-      let e = of_some (λ (c : Contents). Ends c (updated (over Vars) plain (ends.schema_of c.def t.checks) (map set_item sets) test c.rows) old table new res) (slice_get old table) c h.there f in
-      let due : Schema (List Line) → Result Changed Failure = λ s. updated (over Vars) plain s (map set_item sets) test c.rows in
-      let act : TableDef → Schema (List Line) → Act (Unit {0}) = λ d s. ◌>>=◌ (unless_failed d (due s)) (left_with table c some_row) in
-      let done = counted_by c (due (ends.schema_of c.def t.checks)) some_row table old at r new res e in
-      let named = subst (λ d. Counted (act d (ends.schema_of c.def t.checks)) some_row old at r new (part_of res)) h.kept.same done in
-      let ruled = subst (λ s. Counted (act t.definition s) some_row old at r new (part_of res)) (schema_same t c.def h.kept.same) named in
-      counted_like (update_rows code table sets test) (act t.definition (schema_of t)) some_row old at r new (part_of res) (rw (schema_there code.tables table t declared, h.there) refl) ruled
+      ruled_counted (update_rows code table sets test) (λ c s. updated (over Vars) plain s (map set_item sets) test c.rows) res h (rw (schema_there code.tables table t declared, h.there) refl)
+      (of_some (λ (c : Contents). Ends c (updated (over Vars) plain (ends.schema_of c.def t.checks) (map set_item sets) test c.rows) old table new res) (slice_get old table) h.contents h.there f)
 
   pub delete_counted : (test : Option (List Line)) (res : Result ℕ DataFault) → (h : HasTable t old table)
-      → IfSome (slice_get old table) (λ c. Ends c (deleted (over Vars) test c.rows) old table new res)
+      → IfSome (slice_get old table) (λ c. (checks : List (List Line)) → IsLegal plain (ends.schema_of c.def checks) c.rows → Ends c (deleted (over Vars) plain (ends.schema_of c.def checks) test c.rows) old table new res)
       → Counted (delete_rows code table test) some_row old at r new (part_of res)
   delete_counted test res h f =
-      let c = h.contents in
-      let e = of_some (λ (c : Contents). Ends c (deleted (over Vars) test c.rows) old table new res) (slice_get old table) c h.there f in
-      let due : Result Changed Failure = deleted (over Vars) test c.rows in
-      let done = counted_by c due some_row table old at r new res e in
-      let named = subst (λ d. Counted (◌>>=◌ (unless_failed d due) (left_with table c some_row)) some_row old at r new (part_of res)) h.kept.same done in
-      counted_like (delete_rows code table test) (◌>>=◌ (unless_failed t.definition due) (left_with table c some_row)) some_row old at r new (part_of res) (rw (schema_there code.tables table t declared, h.there) refl) named
+      ruled_counted (delete_rows code table test) (λ c s. deleted (over Vars) plain s test c.rows) res h (rw (schema_there code.tables table t declared, h.there) refl)
+      (of_some (λ (c : Contents). (checks : List (List Line)) → IsLegal plain (ends.schema_of c.def checks) c.rows → Ends c (deleted (over Vars) plain (ends.schema_of c.def checks) test c.rows) old table new res) (slice_get old table) h.contents h.there f
+      t.checks (legal_there h))
 
   -- ---- INSERT
 

@@ -8,7 +8,7 @@ use Rattle.psm_exprcode.specs.declared.op.Line.{Line}
 use Rattle.psm_exprcode.specs.declared.query.Query.{Query}
 use Rattle.psm_exprcode.specs.declared.set_item.SetItem.{SetItem}
 use Rattle.psm_table.specs.declared.definition.TableDef.{TableDef}
-use Rattle.psm_table.specs.Changing.{rows_but, updated_at as updated_row, Failure, Moved, Schema}
+use Rattle.psm_table.specs.Changing.{deleted_at as deleted_row, rows_but, updated_at as updated_row, Failure, IsLegal, Moved, Schema}
 use Rattle.psm_table.specs.Cursors.{Closed, Cursor, Insensitive, Plain}
 use Rattle.psm_table.specs.Key.{values_at}
 use Rattle.psm_table.specs.Table.{keyed, without_row, Contents}
@@ -16,7 +16,7 @@ use Rattle.psm_tablecode.specs.Codes.{over}
 use Rattle.psm_store.specs.declared.store.Mark.{Mark}
 use Rattle.psm_store.specs.RowCalls.{changed_at, put_table}
 use Rattle.psm_dml.specs.Ends as ends
-use Rattle.psm_dml.specs.Ends.{EndsAt, EndsAtRow}
+use Rattle.psm_dml.specs.Ends.{EndsAt, EndsAtRow, ErasesByRules}
 use Rattle.psm_cursor.specs.Current.{current_key, current_row, off_row}
 use Rattle.psm_cursor.proofs.Standing.{current_found}
 use Rattle.psm_code.specs.declared.code.CodeCursor.{CodeCursor}
@@ -24,12 +24,13 @@ use Rattle.psm_code.specs.declared.code.CodeTable.{CodeTable}
 use Rattle.psm_code.specs.declared.code.RawCode.{RawCode}
 use Rattle.psm_code.specs.declared.code.RawRoutine.{RawRoutine}
 use Rattle.psm_code.specs.Plans.{delete_at, leave_row, leaves, left_by, plain, row_of_cursor, schema_of, set_item, standing_on, unless_failed, update_at}
+use Rattle.psm_code.specs.MachineInvariant.{IsKept}
 use Rattle.psm_code.specs.State.{Machine, with_cursor}
 use Rattle.psm_code.specs.Steps.{Act, Came, change, got, ◌>>=◌, ◌>>◌}
 use Rattle.psm_unwind.specs.declared.run.Run.{Run}
 use Rattle.psm_unwind.specs.View.{machine_of}
 use Rattle.psm_machine.specs.declared.stop.Stop.{Stop}
-use Rattle.psm_machine.specs.Allowed.{HasTable, MayChangeAt, OfCursor, OverQuery}
+use Rattle.psm_machine.specs.Allowed.{HasTable, OfCursor, OverQuery}
 use Rattle.psm_machine.specs.ActResults.{Evaluates}
 use Rattle.psm_machine.specs.Over.{part_of}
 use Rattle.psm_machine.proofs.Asking.{of_some}
@@ -55,30 +56,52 @@ row_found x t Closed row m e = absurd (cc)
 row_found x t (Plain p vars) row m e = ap (λ o. standing_on x o m) e
 row_found x t (Insensitive rows) row m e = absurd (cc)
 
+-- what is allowed of the row on which the cursor stands
+pub may_at : (P : ℕ → Cursor → CodeTable → Type 0) (code : RawCode) (r : RawRoutine) (cursors : List Cursor) (number : ℕ) (x : CodeCursor) (q : Query) (t : CodeTable) (c : Cursor)
+    → slice_get r.cursors number ≡ Some x → slice_get r.queries x.query ≡ Some q → slice_get code.tables q.table ≡ Some t → slice_get cursors number ≡ Some c
+    → OfCursor r cursors number (λ x c. OverQuery r x (λ n. IfSome (slice_get code.tables n) (P n c))) → P q.table c t
+may_at P code r cursors number x q t c d a b s h =
+    let Over : CodeCursor → Cursor → Type 0 = λ x c. OverQuery r x (λ n. IfSome (slice_get code.tables n) (P n c)) in
+    of_some (P q.table c) (slice_get code.tables q.table) t b
+    (of_some (λ (q : Query). IfSome (slice_get code.tables q.table) (P q.table c)) (slice_get r.queries x.query) q a
+    (of_some (Over x) (slice_get cursors number) c s (of_some (λ (x : CodeCursor). IfSome (slice_get cursors number) (Over x)) (slice_get r.cursors number) x d h)))
+
 -- ---- DELETE
 
 taken_out : (key row : List Datum) (t : Contents) (old new : List Contents) (n : ℕ) → slice_get old n ≡ Some t → key ≡ values_at t.def.key row → new ≡ changed_at (without_row key) old n
     → new ≡ slice_set old n (record t { rows = rows_but t.def row t.rows })
 taken_out key row t old new n e k h = h ∙ ap (λ o. put_table old n (option_map (without_row key) o)) e ∙ ap (λ k. slice_set old n (without_row k t)) k
 
-pub erases : (r : RawRoutine) (number : ℕ) (x : CodeCursor) (q : Query) (c : Cursor) (t : Contents) (key row : List Datum) (old new : List Contents) (at : Mark → List Contents) (run : Run)
-    → slice_get r.cursors number ≡ Some x → slice_get r.queries x.query ≡ Some q → slice_get old q.table ≡ Some t → slice_get run.running.cursors.items number ≡ Some c
-    → current_row t c ≡ Some row → key ≡ values_at t.def.key row → new ≡ changed_at (without_row key) old q.table
-    → delete_at r number (machine_of old at run) ≡ change (with_cursor number (left_by c)) (machine_of new at (counting 1 run))
-erases r number x q c t key row old new at run d a e s f k h =
-    rw (d, a, e, s, row_found x t c row (machine_of old at run) f)
-    (ap (λ tables. change (with_cursor number (left_by c)) (machine_of tables at (counting 1 run))) (sym (taken_out key row t old new q.table e k h)))
+abbrev erasing : ℕ → Contents → ℕ → Cursor → List (List Datum) → Act (Unit {0})
+erasing n t number c rows = do
+  leaves n t rows 1
+  leave_row true number c
+
+delete_is : (code : RawCode) (r : RawRoutine) (number : ℕ) (x : CodeCursor) (q : Query) (y : CodeTable) (c : Cursor) (t : Contents) (row : List Datum) (old : List Contents) (at : Mark → List Contents) (run : Run)
+    → slice_get r.cursors number ≡ Some x → slice_get r.queries x.query ≡ Some q → slice_get code.tables q.table ≡ Some y → slice_get old q.table ≡ Some t → slice_get run.running.cursors.items number ≡ Some c → current_row t c ≡ Some row
+    → delete_at code r number (machine_of old at run) ≡ ◌>>=◌ (unless_failed y.definition (deleted_row plain (schema_of y) row t.rows)) (erasing q.table t number c) (machine_of old at run)
+delete_is code r number x q y c t row old at run d a b e s f = rw (d, a, schema_there code.tables q.table y b, e, s, row_found x t c row (machine_of old at run) f) refl
+
+-- the statement ends by the rules of the table, which the rows that are left keep
+left_by_rules : (y : CodeTable) (old : List Contents) (n : ℕ) (t : Contents) (key row : List Datum) → HasTable y old n → slice_get old n ≡ Some t → key ≡ values_at t.def.key row → IfSome (slice_get old n) (ErasesByRules key)
+    → deleted_row plain (schema_of y) row t.rows ≡ Ok (rows_but t.def row t.rows)
+left_by_rules y old n t key row h e k f =
+    let kept : IsKept y t = subst (IsKept y) (same_some (slice_get old n) h.contents t h.there e) h.kept in
+    let schema = schema_same y t.def kept.same in
+    let legal = subst (λ s. IsLegal plain s t.rows) (sym schema) kept.legal in
+    subst (λ s. deleted_row plain s row t.rows ≡ Ok (rows_but t.def row t.rows)) schema
+    (of_some (ErasesByRules key) (slice_get old n) t e f row k y.checks legal ∙ ap (λ k. Ok (without_row k t).rows) k)
+
+pub erases : (code : RawCode) (r : RawRoutine) (number : ℕ) (x : CodeCursor) (q : Query) (y : CodeTable) (c : Cursor) (t : Contents) (key row : List Datum) (old new : List Contents) (at : Mark → List Contents) (run : Run)
+    → slice_get r.cursors number ≡ Some x → slice_get r.queries x.query ≡ Some q → slice_get code.tables q.table ≡ Some y → HasTable y old q.table → slice_get old q.table ≡ Some t → slice_get run.running.cursors.items number ≡ Some c
+    → current_row t c ≡ Some row → key ≡ values_at t.def.key row → IfSome (slice_get old q.table) (ErasesByRules key) → new ≡ changed_at (without_row key) old q.table
+    → delete_at code r number (machine_of old at run) ≡ change (with_cursor number (left_by c)) (machine_of new at (counting 1 run))
+erases code r number x q y c t key row old new at run d a b i e s f k l h =
+    delete_is code r number x q y c t row old at run d a b e s f
+    ∙ ap (λ due. ◌>>=◌ (unless_failed y.definition due) (erasing q.table t number c) (machine_of old at run)) (left_by_rules y old q.table t key row i e k l)
+    ∙ ap (λ tables. change (with_cursor number (left_by c)) (machine_of tables at (counting 1 run))) (sym (taken_out key row t old new q.table e k h))
 
 -- ---- UPDATE
-
-pub may_change_at : (code : RawCode) (r : RawRoutine) (tables : List Contents) (vars : List Datum) (cursors : List Cursor) (number : ℕ) (sets : List SetItem) (x : CodeCursor) (q : Query) (t : CodeTable) (c : Cursor)
-    → slice_get r.cursors number ≡ Some x → slice_get r.queries x.query ≡ Some q → slice_get code.tables q.table ≡ Some t → slice_get cursors number ≡ Some c
-    → OfCursor r cursors number (λ x c. OverQuery r x (λ n. IfSome (slice_get code.tables n) (MayChangeAt tables n vars sets c))) → MayChangeAt tables q.table vars sets c t
-may_change_at code r tables vars cursors number sets x q t c d a b s h =
-    let P : CodeCursor → Cursor → Type 0 = λ x c. OverQuery r x (λ n. IfSome (slice_get code.tables n) (MayChangeAt tables n vars sets c)) in
-    of_some (MayChangeAt tables q.table vars sets c) (slice_get code.tables q.table) t b
-    (of_some (λ (q : Query). IfSome (slice_get code.tables q.table) (MayChangeAt tables q.table vars sets c)) (slice_get r.queries x.query) q a
-    (of_some (P x) (slice_get cursors number) c s (of_some (λ (x : CodeCursor). IfSome (slice_get cursors number) (P x)) (slice_get r.cursors number) x d h)))
 
 -- a positioned UPDATE is done and leaves the row where the key has changed, or it stops as is due
 abbrev pub Moves : Act (Unit {0}) → ℕ → Cursor → List Contents → (Mark → List Contents) → Run → List Contents → Result Bool Stop → Type 0

@@ -76,10 +76,9 @@ pub record MayChangeAt (tables : List Contents) (n : ℕ) (vars : List Datum) (s
   pub stands : StandsIn table.contents.def c
 
 -- the same row may be taken out
-pub record MayEraseAt (tables : List Contents) (n : ℕ) (c : Cursor) : Type 0 where
-  pub table : Contents
-  pub there : slice_get tables n ≡ Some table
-  pub stands : StandsIn table.def c
+pub record MayEraseAt (tables : List Contents) (n : ℕ) (c : Cursor) (t : CodeTable) : Type 0 where
+  pub table : HasTable t tables n
+  pub stands : StandsIn table.contents.def c
 
 -- the table of a cursor's query
 abbrev pub OverQuery : RawRoutine → CodeCursor → (ℕ → Type 0) → Type 0
@@ -92,7 +91,7 @@ MayDo code r tables vars cursors (InsertQuery table columns query) = IfSome (sli
 MayDo code r tables vars cursors (Update table sets test) = IfSome (slice_get code.tables table) (MayChange tables table vars sets test)
 MayDo code r tables vars cursors (Delete table test) = IfSome (slice_get code.tables table) (MayErase tables table vars test)
 MayDo code r tables vars cursors (UpdateAt cursor sets) = OfCursor r cursors cursor (λ x c. OverQuery r x (λ n. IfSome (slice_get code.tables n) (MayChangeAt tables n vars sets c)))
-MayDo code r tables vars cursors (DeleteAt cursor) = OfCursor r cursors cursor (λ x c. OverQuery r x (λ n. MayEraseAt tables n c))
+MayDo code r tables vars cursors (DeleteAt cursor) = OfCursor r cursors cursor (λ x c. OverQuery r x (λ n. IfSome (slice_get code.tables n) (MayEraseAt tables n c)))
 
 -- ---- well-formed code
 

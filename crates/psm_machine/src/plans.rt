@@ -96,7 +96,7 @@ fn carry_out<S: Store>(
         Plan::UpdateAt { cursor, sets } => {
             update_at(alloc, code, routine, run, store, *cursor, sets.items())
         }
-        Plan::DeleteAt { cursor } => delete_at(alloc, routine, run, store, *cursor),
+        Plan::DeleteAt { cursor } => delete_at(alloc, code, routine, run, store, *cursor),
     }
 }
 

@@ -94,13 +94,14 @@ fn key_on<'a>(cursor: &'a Cursor, table: &Table) -> Option<&'a Key>
 /// Takes out the row on which a cursor stands, which then stands on none. 24000 comes where it stands on none.
 pub(crate) fn delete_at<S: Store>(
     alloc: Global,
+    code: &RawCode,
     routine: &RawRoutine,
     run: &mut Run,
     store: &mut S,
     number: u32,
 ) -> Result<(), Stop>
-    requires may { OfCursor routine.now run.old.running.cursors.items number (λ x c. OverQuery routine.now x (λ n. MayEraseAt (S.tables store.old) n c)) }
-    ensures due { DoesOver (S.tables store.old) (delete_at routine.now number) run.old result (S.tables store.new) run.new }
+    requires may { OfCursor routine.now run.old.running.cursors.items number (λ x c. OverQuery routine.now x (λ n. IfSome (slice_get code.now.tables n) (MayEraseAt (S.tables store.old) n c))) }
+    ensures due { DoesOver (S.tables store.old) (delete_at code.now routine.now number) run.old result (S.tables store.new) run.new }
     ensures marks { S.marks store.new ≡ S.marks store.old }
     ensures keeps { Keeps AnyMark (S.holds store.old) (S.at store.old) (S.holds store.new) (S.at store.new) }
     ensures same { SameFrames run.old run.new }
@@ -109,6 +110,9 @@ pub(crate) fn delete_at<S: Store>(
         return Err(Stop::Stuck);
     };
     let Some(query) = query_at(routine, declared.query) else {
+        return Err(Stop::Stuck);
+    };
+    let Some(_declared) = table_at(code, query.table) else {
         return Err(Stop::Stuck);
     };
     let Some(cursor) = cursor_at(run, number) else {

@@ -264,7 +264,7 @@ pure-update_at : (file : ResolvedFile) (eval_context : EvalContext) (table : ℕ
 pure-update_at file eval_context table sets cursor = search (pure, pure-table_now, pure-cursor_now, pure-found, pure-unless_failed, pure-leave_row) depth 12
 
 pure-delete_at : (file : ResolvedFile) (eval_context : EvalContext) (table cursor : ℕ) → Pure (delete_at file eval_context table cursor)
-pure-delete_at file eval_context table cursor = search (pure, pure-table_now, pure-cursor_now, pure-found) depth 9
+pure-delete_at file eval_context table cursor = search (pure, pure-table_now, pure-cursor_now, pure-found, pure-unless_failed) depth 11
 
 pub pure-update : (file : ResolvedFile) (eval_context : EvalContext) (table : ℕ) (sets : List ResolvedSet) (which : ResolvedWhere) → Pure (update file eval_context table sets which)
 pure-update file eval_context table sets All = search (pure, pure-update_rows)

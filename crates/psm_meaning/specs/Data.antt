@@ -3,7 +3,7 @@ use Rattle.std.specs.Prelude.{ℕ, zero, suc, Bool, true, false, List, [], ◌�
 use Rattle.psm_value.specs.declared.datum.Datum.{Datum}
 use Rattle.psm_cond.specs.Condition.{alone}
 use Rattle.psm_cond.specs.Entry.{entry_of, name_text}
-use Rattle.psm_table.specs.Changing.{Failure, Raised, OfTable, Schema, SetItem, deleted, inserted, rows_but, updated, updated_at}
+use Rattle.psm_table.specs.Changing.{Failure, Raised, OfTable, Schema, SetItem, deleted, deleted_at, inserted, updated, updated_at}
 use Rattle.psm_table.specs.Cursors.{Cursor, Closed, Plain, Insensitive, current, without_row}
 use Rattle.psm_table.specs.Evaluator.{Evaluator}
 use Rattle.psm_table.specs.Table.{Contents}
@@ -104,7 +104,7 @@ delete_rows file table test = do
   s ← schema_at file table
   t ← table_now table
   vars ← read (λ st. st.variables)
-  c ← unless_failed s.def (deleted (over vars) test t.rows)
+  c ← unless_failed s.def (deleted (over vars) plain s test t.rows)
   leaves table t c.rows c.count
   some_row c.count
 
@@ -145,11 +145,13 @@ update_at file eval_context table sets cursor = do
 
 abbrev pub delete_at : ResolvedFile → EvalContext → ℕ → ℕ → Act (Unit {0})
 delete_at file eval_context table cursor = do
+  s ← schema_at file table
   t ← table_now table
   x ← declared_at eval_context cursor
   c ← cursor_now cursor
   row ← row_of_cursor x t c
-  leaves table t (rows_but t.def row t.rows) 1
+  rows ← unless_failed s.def (deleted_at plain s row t.rows)
+  leaves table t rows 1
   leave_row true x c
 
 -- ---- UPDATE and DELETE

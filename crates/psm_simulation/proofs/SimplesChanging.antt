@@ -183,7 +183,7 @@ does-update {file = file} {routine = routine} {env = env} {spot = spot} site sam
 -- ---- DELETE
 
 evals-delete : (file : ResolvedFile) {code : RawCode} {r : RawRoutine} {k following : ℕ} {spot : Spot} {m : Meaning} → routine_at code spot.number ≡ Some r → (table : ℕ) (test : Option ResolvedExpr) (coded_test : Option (List Line)) {pc n : ℕ}
-    → SameTable (slice_get file.tables table) (slice_get code.tables table) → IsDelete test coded_test → Raising r k following pc (instruction.Data n) → slice_get r.plans n ≡ Some (plan_of.Delete table coded_test)
+    → SameTable (slice_get file.tables table) (slice_get code.tables table) → IsDelete file code table test coded_test → Raising r k following pc (instruction.Data n) → slice_get r.plans n ≡ Some (plan_of.Delete table coded_test)
     → Evals code r k following spot m (meaning.delete_rows file table test) (at_line spot pc []) (λ u. at_line spot (suc pc) [])
 evals-delete file {code = code} {r = r} {k = k} {following = following} {spot = spot} {m = m} p table test coded_test {pc = pc} {n = n} same is l there = record {
   by = λ st d. let act = meaning.delete_rows file table test in
@@ -197,7 +197,7 @@ does-delete {file = file} site same table which.All (n, test, clear, is, there, 
     does-stated site (evals-bind (evals-cleared site.there clear []) (λ u. evals-end last (evals-delete file site.there table None test (same table) is l there)))
 does-delete {file = file} site same table (which.Test e) (n, test, clear, is, there, l, last) =
     does-stated site (evals-bind (evals-cleared site.there clear []) (λ u. evals-end last (evals-delete file site.there table (Some e) test (same table) is l there)))
-does-delete {file = file} {routine = routine} {env = env} {spot = spot} site same table (which.Current cursor) (n, x, clear, sees, over, there, l, last) =
+does-delete {file = file} {routine = routine} {env = env} {spot = spot} site same table (which.Current cursor) (n, x, clear, sees, over, is, there, l, last) =
     let own = found-owned cursor x env.cursors (owns spot.standing) site.fits.cursors.sees sees.first in
     does-stated site (evals-bind (evals-cleared site.there clear []) (λ u. evals-end last
-    (evals-delete_at file (eval_context_of routine env (areas spot.standing)) site.there table cursor x sees.cursor own.0 own.1 sees.first over l there)))
+    (evals-delete_at file (eval_context_of routine env (areas spot.standing)) site.there table cursor x sees.cursor own.0 own.1 sees.first over (same table) is l there)))

@@ -8,7 +8,7 @@ use Rattle.psm_cond.specs.Entry.{entry_of, name_text}
 use Rattle.psm_exprcode.specs.declared.op.Line.{Line}
 use Rattle.psm_exprcode.specs.declared.query.Query.{Query}
 use Rattle.psm_exprcode.specs.declared.set_item.SetItem.{SetItem}
-use Rattle.psm_table.specs.Changing.{Moved, Schema, rows_but, updated_at}
+use Rattle.psm_table.specs.Changing.{Moved, Schema, deleted_at, updated_at}
 use Rattle.psm_table.specs.Cursors.{Cursor, Closed, Plain, Insensitive, current}
 use Rattle.psm_table.specs.Table.{Contents}
 use Rattle.psm_tablecode.specs.Codes as row_codes
@@ -35,7 +35,7 @@ use Rattle.psm_code.specs.Plans as plans
 use Rattle.psm_code.specs.Querying as coded
 use Rattle.psm_code.specs.Steps as steps
 use Rattle.psm_simulation.specs.Agreement.{Evaluates, IsReady, Spot, machine, owns}
-use Rattle.psm_simulation.specs.Changes.{IsOver, IsUpdateAt, SameTable, TableStands}
+use Rattle.psm_simulation.specs.Changes.{IsDeleteAt, IsOver, IsUpdateAt, SameTable, TableStands}
 use Rattle.psm_simulation.specs.Cursors.{IsCursor}
 use Rattle.psm_simulation.specs.Env.{Raising}
 use Rattle.psm_simulation.specs.Simulation.{Evals}
@@ -43,7 +43,7 @@ use Rattle.psm_simulation.proofs.Doing.{at_line}
 use Rattle.psm_simulation.proofs.Evaluating.{evaluates-from}
 use Rattle.psm_simulation.proofs.Moving.{deep-set}
 use Rattle.psm_simulation.proofs.Runs.{after_line, leads-here}
-use Rattle.psm_simulation.proofs.SimplesTables.{found-evaluates, leads-plan, same-evaluates, table-evaluates}
+use Rattle.psm_simulation.proofs.SimplesTables.{leads-plan, same-evaluates, table-evaluates}
 
 module _ (code : RawCode) (r : RawRoutine) (k following : ℕ) (spot : Spot) (m : Meaning) (pc : ℕ) (i : Instruction) (l : Raising r k following pc i) (x : ResolvedCursor) (is : IsCursor r x) (owned : owns spot.standing x.number ≡ true) where
   abbrev Agrees : steps.Act (Unit {0}) → acts.Act (Unit {0}) → State → Type 0
@@ -138,21 +138,34 @@ module _ (code : RawCode) (r : RawRoutine) (k following : ℕ) (spot : Spot) (m 
 
   -- ---- DELETE
 
-  abbrev delete_coded : ℕ → CodeCursor → Contents → steps.Act (Unit {0})
-  delete_coded table y t = steps.◌>>=◌ (coded.cursor_now x.number) (λ c. steps.◌>>=◌ (plans.row_of_cursor y t c) (λ row. steps.◌>>◌ (plans.leaves table t (rows_but t.def row t.rows) 1) (plans.leave_row true x.number c)))
+  abbrev delete_row : ℕ → Schema (List Line) → Contents → Cursor → Going
+  delete_row table s t c row = steps.◌>>=◌ (plans.unless_failed s.def (deleted_at plans.plain s row t.rows)) (λ rows. steps.◌>>◌ (plans.leaves table t rows 1) (plans.leave_row true x.number c))
 
-  abbrev delete_meant : ℕ → Contents → ResolvedCursor → acts.Act (Unit {0})
-  delete_meant table t y = acts.◌>>=◌ (cursors.cursor_now x.number) (λ c. acts.◌>>=◌ (meaning.row_of_cursor y t c) (λ row. acts.◌>>◌ (meaning.leaves table t (rows_but t.def row t.rows) 1) (meaning.leave_row true y c)))
+  abbrev delete_coded : ℕ → CodeCursor → Schema (List Line) → Contents → steps.Act (Unit {0})
+  delete_coded table y s t = steps.◌>>=◌ (coded.cursor_now x.number) (λ c. steps.◌>>=◌ (plans.row_of_cursor y t c) (delete_row table s t c))
 
-  delete-evaluates : (file : ResolvedFile) (eval_context : EvalContext) (table : ℕ) → find (λ y. nat_eq y.number x.number) eval_context.cursors ≡ Some x → IsOver x table → (st : State) → IsReady code spot st
-      → Agrees (plans.delete_at r x.number) (meaning.delete_at file eval_context table x.number) st
-  delete-evaluates file eval_context table first over st d =
-      let go : ℕ → CodeCursor → steps.Act (Unit {0}) = λ n y. steps.◌>>=◌ (steps.table_now n) (delete_coded n y) in
+  abbrev delete_row_meant : ℕ → Schema ResolvedExpr → Contents → ResolvedCursor → Cursor → Meant
+  delete_row_meant table s t y c row = acts.◌>>=◌ (meaning.unless_failed s.def (deleted_at meaning.plain s row t.rows)) (λ rows. acts.◌>>◌ (meaning.leaves table t rows 1) (meaning.leave_row true y c))
+
+  abbrev delete_meant : ℕ → Schema ResolvedExpr → Contents → ResolvedCursor → acts.Act (Unit {0})
+  delete_meant table s t y = acts.◌>>=◌ (cursors.cursor_now x.number) (λ c. acts.◌>>=◌ (meaning.row_of_cursor y t c) (delete_row_meant table s t y c))
+
+  delete-row-evaluates : (file : ResolvedFile) (table : ℕ) → IsDeleteAt file code table → (a : ResolvedTable) (b : CodeTable) → slice_get file.tables table ≡ Some a → slice_get code.tables table ≡ Some b → TableStands a b
+      → (t : Contents) (st : State) → IsReady code spot st → (c : Cursor) (row : List Datum) → Agrees (delete_row table (plans.schema_of b) t c row) (delete_row_meant table (meaning.schema_of a) t x c row) st
+  delete-row-evaluates file table u a b p q e t st d c row =
+      let thens : List (List Datum) → steps.Act (Unit {0}) = λ rows. steps.◌>>◌ (plans.leaves table t rows 1) (plans.leave_row true x.number c) in
+      let means : List (List Datum) → acts.Act (Unit {0}) = λ rows. acts.◌>>◌ (meaning.leaves table t rows 1) (meaning.leave_row true x c) in
+      same-evaluates code r k following spot m pc i l thens means (λ st d rows. left-evaluates true c (meaning.leaves table t rows 1 m st).state d) st d b.definition a.definition e.definition
+      (deleted_at plans.plain (plans.schema_of b) row t.rows) (deleted_at meaning.plain (meaning.schema_of a) row t.rows) (u.same a b p q row t.rows)
+
+  delete-evaluates : (file : ResolvedFile) (eval_context : EvalContext) (table : ℕ) → SameTable (slice_get file.tables table) (slice_get code.tables table) → find (λ y. nat_eq y.number x.number) eval_context.cursors ≡ Some x → IsOver x table
+      → IsDeleteAt file code table → (st : State) → IsReady code spot st → Agrees (plans.delete_at code r x.number) (meaning.delete_at file eval_context table x.number) st
+  delete-evaluates file eval_context table s first over u st d =
+      let go : ℕ → CodeCursor → steps.Act (Unit {0}) = λ n y. steps.◌>>=◌ (plans.schema_at code n) (λ s. steps.◌>>=◌ (steps.table_now n) (delete_coded n y s)) in
       over-evaluates table over go (meaning.delete_at file eval_context table x.number) st
-      (found-evaluates code r k following spot m pc i l (delete_coded table is.code) (λ t. seen_in eval_context.cursors (delete_meant table t)) st d (λ t.
-      seen-evaluates eval_context.cursors first (delete_coded table is.code t) (delete_meant table t) st
-      (row-evaluates t (λ c row. steps.◌>>◌ (plans.leaves table t (rows_but t.def row t.rows) 1) (plans.leave_row true x.number c)) (λ c row. acts.◌>>◌ (meaning.leaves table t (rows_but t.def row t.rows) 1) (meaning.leave_row true x c)) st d
-      (λ c row. left-evaluates true c (meaning.leaves table t (rows_but t.def row t.rows) 1 m st).state d) (slice_get st.cursors x.number))) (slice_get st.tables table))
+      (table-evaluates code r k following spot m pc i l file table (delete_coded table is.code) (λ s t. seen_in eval_context.cursors (delete_meant table s t)) st d s (λ a b p q e t.
+      seen-evaluates eval_context.cursors first (delete_coded table is.code (plans.schema_of b) t) (delete_meant table (meaning.schema_of a) t) st
+      (row-evaluates t (delete_row table (plans.schema_of b) t) (delete_row_meant table (meaning.schema_of a) t x) st d (delete-row-evaluates file table u a b p q e t st d) (slice_get st.cursors x.number))))
 
 -- ---- the line of a positioned statement
 
@@ -170,12 +183,13 @@ module _ (file : ResolvedFile) {code : RawCode} {r : RawRoutine} {k following : 
       subst (λ q. find (λ y. nat_eq y.number q) eval_context.cursors ≡ Some x → slice_get r.plans n ≡ Some (plan_of.UpdateAt q items) → Evals code r k following spot m (meaning.update_at file eval_context table sets q) (at_line spot pc []) (λ u. at_line spot (suc pc) [])) e by_number first there
 
   pub evals-delete_at : (table number : ℕ) (x : ResolvedCursor) → IsCursor r x → x.number ≡ number → owns spot.standing x.number ≡ true → find (λ y. nat_eq y.number number) eval_context.cursors ≡ Some x → IsOver x table
+      → SameTable (slice_get file.tables table) (slice_get code.tables table) → IsDeleteAt file code table
       → {pc n : ℕ} → Raising r k following pc (instruction.Data n) → slice_get r.plans n ≡ Some (plan_of.DeleteAt number) → Evals code r k following spot m (meaning.delete_at file eval_context table number) (at_line spot pc []) (λ u. at_line spot (suc pc) [])
-  evals-delete_at table number x is e owned first over {pc = pc} {n = n} l there =
+  evals-delete_at table number x is e owned first over s u {pc = pc} {n = n} l there =
       let by_number : find (λ y. nat_eq y.number x.number) eval_context.cursors ≡ Some x → slice_get r.plans n ≡ Some (plan_of.DeleteAt x.number) → Evals code r k following spot m (meaning.delete_at file eval_context table x.number) (at_line spot pc []) (λ u. at_line spot (suc pc) [])
       = λ first there. record {
         by = λ st d. let act = meaning.delete_at file eval_context table x.number in
             evaluates-from code r k following spot (λ u. at_line spot (suc pc) []) (leads-plan spot at l (plan_of.DeleteAt x.number) there [] st) (act m st).given (act m st).state
-            (delete-evaluates code r k following spot m pc (instruction.Data n) l x is owned file eval_context table first over st d);
+            (delete-evaluates code r k following spot m pc (instruction.Data n) l x is owned file eval_context table s first over u st d);
       } in
       subst (λ q. find (λ y. nat_eq y.number q) eval_context.cursors ≡ Some x → slice_get r.plans n ≡ Some (plan_of.DeleteAt q) → Evals code r k following spot m (meaning.delete_at file eval_context table q) (at_line spot pc []) (λ u. at_line spot (suc pc) [])) e by_number first there

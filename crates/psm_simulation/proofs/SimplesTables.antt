@@ -141,11 +141,11 @@ module _ (code : RawCode) (r : RawRoutine) (k following : ℕ) (spot : Spot) (m 
 
   abbrev delete_coded : ℕ → Option (List Line) → Coded
   delete_coded table test s t = steps.◌>>=◌ (steps.read (λ m. m.running.variables)) (λ vars.
-      steps.◌>>=◌ (plans.unless_failed s.def (deleted (codes.over vars) test t.rows)) (λ c. steps.◌>>◌ (plans.leaves table t c.rows c.count) (plans.some_row c.count)))
+      steps.◌>>=◌ (plans.unless_failed s.def (deleted (codes.over vars) plans.plain s test t.rows)) (λ c. steps.◌>>◌ (plans.leaves table t c.rows c.count) (plans.some_row c.count)))
 
   abbrev delete_meant : ℕ → Option ResolvedExpr → Meant
   delete_meant table test s t = acts.◌>>=◌ (acts.read (λ st. st.variables)) (λ vars.
-      acts.◌>>=◌ (meaning.unless_failed s.def (deleted (trees.over vars) test t.rows)) (λ c. acts.◌>>◌ (meaning.leaves table t c.rows c.count) (meaning.some_row c.count)))
+      acts.◌>>=◌ (meaning.unless_failed s.def (deleted (trees.over vars) meaning.plain s test t.rows)) (λ c. acts.◌>>◌ (meaning.leaves table t c.rows c.count) (meaning.some_row c.count)))
 
   -- rows that are changed as the statement changes them, under a definition that is the same
   changed-evaluates : (table : ℕ) (t : Contents) (st : State) → IsReady code spot st → (own def : TableDef) → own ≡ def → (coded meant : Result Changed Failure) → coded ≡ meant
@@ -164,7 +164,8 @@ module _ (code : RawCode) (r : RawRoutine) (k following : ℕ) (spot : Spot) (m 
       (updated (trees.over st.variables) meaning.plain (meaning.schema_of x) (map meaning.set_item sets) test c.rows) (u.same x y p q st.variables c.rows))
 
   pub delete-evaluates : (file : ResolvedFile) (table : ℕ) → SameTable (slice_get file.tables table) (slice_get code.tables table) → (test : Option ResolvedExpr) (coded_test : Option (List Line))
-      → IsDelete test coded_test → (st : State) → IsReady code spot st → Agrees (plans.delete_rows code table coded_test) (meaning.delete_rows file table test) st
+      → IsDelete file code table test coded_test → (st : State) → IsReady code spot st → Agrees (plans.delete_rows code table coded_test) (meaning.delete_rows file table test) st
   delete-evaluates file table s test coded_test u st d =
       table-evaluates file table (delete_coded table coded_test) (delete_meant table test) st d s (λ x y p q e c.
-      changed-evaluates table c st d y.definition x.definition e.definition (deleted (codes.over st.variables) coded_test c.rows) (deleted (trees.over st.variables) test c.rows) (u.same st.variables c.rows))
+      changed-evaluates table c st d y.definition x.definition e.definition (deleted (codes.over st.variables) plans.plain (plans.schema_of y) coded_test c.rows)
+      (deleted (trees.over st.variables) meaning.plain (meaning.schema_of x) test c.rows) (u.same x y p q st.variables c.rows))

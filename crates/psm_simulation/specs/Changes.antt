@@ -3,7 +3,7 @@ use Rattle.std.specs.Prelude.{◌≡◌, ℕ, List, [], ◌∷◌, length, map, 
 use Rattle.psm_value.specs.declared.datum.Datum.{Datum}
 use Rattle.psm_exprcode.specs.declared.op.Line.{Line}
 use Rattle.psm_exprcode.specs.declared.set_item.SetItem.{SetItem}
-use Rattle.psm_table.specs.Changing.{deleted, inserted, updated, updated_at}
+use Rattle.psm_table.specs.Changing.{deleted, deleted_at, inserted, updated, updated_at}
 use Rattle.psm_tablecode.specs.Codes as codes
 use Rattle.psm_resolved.specs.declared.expr.ResolvedExpr.{ResolvedExpr}
 use Rattle.psm_resolved.specs.declared.file.ResolvedFile.{ResolvedFile}
@@ -50,15 +50,21 @@ pub record IsUpdate (file : ResolvedFile) (code : RawCode) (table : ℕ) (sets :
   pub same : (t : ResolvedTable) (u : CodeTable) → slice_get file.tables table ≡ Some t → slice_get code.tables table ≡ Some u → (vars : List Datum) (rows : List (List Datum))
       → updated (codes.over vars) plans.plain (plans.schema_of u) (map plans.set_item coded) coded_test rows ≡ updated (trees.over vars) meaning.plain (meaning.schema_of t) (map meaning.set_item sets) test rows
 
--- the test takes the same rows out
-pub record IsDelete (test : Option ResolvedExpr) (coded_test : Option (List Line)) : Type 0 where
-  pub same : (vars : List Datum) (rows : List (List Datum)) → deleted (codes.over vars) coded_test rows ≡ deleted (trees.over vars) test rows
+-- the test takes the same rows out of a table
+pub record IsDelete (file : ResolvedFile) (code : RawCode) (table : ℕ) (test : Option ResolvedExpr) (coded_test : Option (List Line)) : Type 0 where
+  pub same : (t : ResolvedTable) (u : CodeTable) → slice_get file.tables table ≡ Some t → slice_get code.tables table ≡ Some u → (vars : List Datum) (rows : List (List Datum))
+      → deleted (codes.over vars) plans.plain (plans.schema_of u) coded_test rows ≡ deleted (trees.over vars) meaning.plain (meaning.schema_of t) test rows
 
 -- ---- positioned statements
 
 -- The query of the cursor is over the table that the statement names: a plan takes its table from the cursor.
 abbrev pub IsOver : ResolvedCursor → ℕ → Type 0
 IsOver x table = (trees.query_of x.query).table ≡ table
+
+-- a table is left without a row as it is in the statement
+pub record IsDeleteAt (file : ResolvedFile) (code : RawCode) (table : ℕ) : Type 0 where
+  pub same : (t : ResolvedTable) (u : CodeTable) → slice_get file.tables table ≡ Some t → slice_get code.tables table ≡ Some u → (row : List Datum) (rows : List (List Datum))
+      → deleted_at plans.plain (plans.schema_of u) row rows ≡ deleted_at meaning.plain (meaning.schema_of t) row rows
 
 -- the columns that are set change each row of a table as they do in the statement
 pub record IsUpdateAt (file : ResolvedFile) (code : RawCode) (table : ℕ) (sets : List ResolvedSet) (coded : List SetItem) : Type 0 where

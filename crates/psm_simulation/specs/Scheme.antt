@@ -48,7 +48,7 @@ use Rattle.psm_code.specs.RoutineRules.{may_undo}
 use Rattle.psm_simulation.specs.Env.{Apart, Env, Iterates, Leaves, Numbers, Plain, Raising, Visible, Within, are, for_block, in_action, inside_block, inside_loop, over_rows, with_cursor}
 use Rattle.psm_simulation.specs.Expressions.{IsQuery, Puts}
 use Rattle.psm_simulation.specs.Cursors.{IsCursor, Sees}
-use Rattle.psm_simulation.specs.Changes.{IsDelete, IsOver, IsUpdate, IsUpdateAt, PutsRows}
+use Rattle.psm_simulation.specs.Changes.{IsDelete, IsDeleteAt, IsOver, IsUpdate, IsUpdateAt, PutsRows}
 
 -- ---- operands that go into variables
 
@@ -163,11 +163,11 @@ Simple file code routine r env end (simples.Update table sets (which.Test e)) pc
     × (slice_get r.plans n ≡ Some (plans.Update table coded test)) × Raising r env.context end (suc pc) (instruction.Data n) × (suc (suc pc) ≡ end)
 Simple file code routine r env end (simples.Update table sets (which.Current cursor)) pc = (n : ℕ) × (coded : List SetItem) × (x : ResolvedCursor) × Plain r pc instruction.Clear × Sees r env cursor x × IsOver x table × IsUpdateAt file code table sets coded
     × (slice_get r.plans n ≡ Some (plans.UpdateAt cursor coded)) × Raising r env.context end (suc pc) (instruction.Data n) × (suc (suc pc) ≡ end)
-Simple file code routine r env end (simples.Delete table which.All) pc = (n : ℕ) × (test : Option (List Line)) × Plain r pc instruction.Clear × IsDelete None test
+Simple file code routine r env end (simples.Delete table which.All) pc = (n : ℕ) × (test : Option (List Line)) × Plain r pc instruction.Clear × IsDelete file code table None test
     × (slice_get r.plans n ≡ Some (plans.Delete table test)) × Raising r env.context end (suc pc) (instruction.Data n) × (suc (suc pc) ≡ end)
-Simple file code routine r env end (simples.Delete table (which.Test e)) pc = (n : ℕ) × (test : Option (List Line)) × Plain r pc instruction.Clear × IsDelete (Some e) test
+Simple file code routine r env end (simples.Delete table (which.Test e)) pc = (n : ℕ) × (test : Option (List Line)) × Plain r pc instruction.Clear × IsDelete file code table (Some e) test
     × (slice_get r.plans n ≡ Some (plans.Delete table test)) × Raising r env.context end (suc pc) (instruction.Data n) × (suc (suc pc) ≡ end)
-Simple file code routine r env end (simples.Delete table (which.Current cursor)) pc = (n : ℕ) × (x : ResolvedCursor) × Plain r pc instruction.Clear × Sees r env cursor x × IsOver x table
+Simple file code routine r env end (simples.Delete table (which.Current cursor)) pc = (n : ℕ) × (x : ResolvedCursor) × Plain r pc instruction.Clear × Sees r env cursor x × IsOver x table × IsDeleteAt file code table
     × (slice_get r.plans n ≡ Some (plans.DeleteAt cursor)) × Raising r env.context end (suc pc) (instruction.Data n) × (suc (suc pc) ≡ end)
 Simple file code routine r env end (simples.Open cursor) pc = (x : ResolvedCursor) × Plain r pc instruction.Clear × Sees r env cursor x × Raising r env.context end (suc pc) (instruction.Open cursor) × (suc (suc pc) ≡ end)
 Simple file code routine r env end (simples.Fetch cursor slots) pc = (x : ResolvedCursor) × (mid : ℕ) × Plain r pc instruction.Clear × Sees r env cursor x × Raising r env.context end (suc pc) (instruction.Fetch cursor)

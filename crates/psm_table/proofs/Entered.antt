@@ -1,9 +1,8 @@
 -- The entries of a row in the sets of UNIQUE lists.
-use Rattle.std.proofs.Common.{◌≡◌, ℕ, zero, suc, ◌+◌, ◌<◌, List, [], ◌∷◌, ◌++◌, length, length-append, below_more, get_or, set, take, true, false, refl, ap, sym, subst, ◌∙◌, add-one, arith, inl, inr, Some, None}
+use Rattle.std.proofs.Common.{◌≡◌, ℕ, zero, suc, ◌+◌, ◌<◌, List, [], ◌∷◌, ◌++◌, length, length-append, below_more, get_or, set, take, false, refl, ap, sym, subst, ◌∙◌, add-one, arith, Some, None}
 use Rattle.std.specs.Prelude.{is_some, Option}
 use Rattle.std.specs.List.{AllZip}
-use Rattle.std.proofs.lemmas.Bool.{cases_eq, cases_lt}
-use Rattle.std.proofs.lemmas.List.{map-append, length-map, length-set, get_or_append_left, get_or-map, get_or_default, get_or-take}
+use Rattle.std.proofs.lemmas.List.{map-append, length-map, get_or_append_left, get_or-map, get_or_default, get_or-take}
 use Rattle.std.proofs.Math.Seq.{get_or-append_seam}
 use Rattle.psm_value.specs.declared.datum.Datum.{Datum}
 use Rattle.psm_table.specs.declared.definition.TableDef.{TableDef}
@@ -13,8 +12,6 @@ use Rattle.psm_table.specs.Index.{ArePrepared, ArePut, Grow, GrowByOne, HasRoom,
 use Rattle.psm_table.specs.Map.{keys_of, value_of, with_pair}
 use Rattle.psm_table.specs.Mapped.{Mapped}
 use Rattle.psm_table.specs.State.{entry_of, has_key, HasEntry}
-use Rattle.psm_table.specs.Unique.{has_null}
-use Rattle.psm_table.specs.Key.{values_at}
 use Rattle.psm_table.proofs.Keys.{has-grown, has-new, has_value, keys-longer}
 
 abbrev pub Sets : Type 0

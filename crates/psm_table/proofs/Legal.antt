@@ -8,7 +8,7 @@ use Rattle.psm_value.specs.declared.datum.Datum.{Datum}
 use Rattle.psm_value.specs.declared.truth.Truth.{Truth}
 use Rattle.psm_value.specs.declared.truth.Truth.TheVariants.{True, False, Unknown}
 use Rattle.psm_table.specs.declared.definition.TableDef.{TableDef}
-use Rattle.psm_table.specs.Changing.{all_apart, are_apart, counting, deleted, divided, ended, ended_with, has_moved, in_order, inserted, is_filled, keep_rules, moving, row_is_stored, rows_but, rows_pass, set_row, stored_rows, then_of, updated, updated_at, with_left, with_made, Changed, Division, Failure, IsLegal, Moved, OfTable, Schema, SetItem}
+use Rattle.psm_table.specs.Changing.{all_apart, are_apart, counting, deleted, deleted_at, divided, ended, ended_with, has_moved, in_order, inserted, is_filled, keep_rules, moving, row_is_stored, rows_but, rows_pass, set_row, stored_rows, then_of, updated, updated_at, with_left, with_made, Changed, Division, Failure, IsLegal, Moved, OfTable, Schema, SetItem}
 use Rattle.psm_table.specs.Definition.{kinds_of}
 use Rattle.psm_table.specs.Evaluator.{Evaluator, and_then, mapped, test_of}
 use Rattle.psm_table.specs.Queries.{is_met}
@@ -154,12 +154,11 @@ module _ {E : Type 0} (ev plain : Evaluator E) (schema : Schema E) where
       (append_all (row_is_stored (kinds_of schema.def.columns)) h.0.left h.0.made (left_test ev test (set_row ev schema.def sets) (row_is_stored (kinds_of schema.def.columns)) rows h.0 h.1 l)
       (made_stored ev schema.def sets test rows h.0 h.1 l)) (counting_ok (length h.0.made) (ended plain schema (h.0.left ++ h.0.made)) c h.2)
 
-  pub legal_deleted : (test : Option E) (rows : List Row) (c : Changed) → IsLegal plain schema rows → deleted ev test rows ≡ Ok c → IsLegal plain schema c.rows
+  pub legal_deleted : (test : Option E) (rows : List Row) (c : Changed) → list_all (row_is_stored (kinds_of schema.def.columns)) rows ≡ true → deleted ev plain schema test rows ≡ Ok c → IsLegal plain schema c.rows
   legal_deleted test rows c l e =
-      let h = then_ok (divided ev test (λ row. Ok row) rows) (λ p. Ok (record { rows = p.left; count = length p.made })) c e in
-      let one : Changed = record { rows = h.0.left; count = length h.0.made } in
-      let same : one ≡ c = cc (h.2) in
-      subst (λ (d : Changed). IsLegal plain schema d.rows) same (legal_left ev plain schema test (λ row. Ok row) rows h.0 h.1 l)
+      let h = then_ok (divided ev test (λ row. Ok row) rows) (λ p. counting (length p.made) (ended plain schema p.left)) c e in
+      legal_ended plain schema h.0.left c.rows (left_test ev test (λ row. Ok row) (row_is_stored (kinds_of schema.def.columns)) rows h.0 h.1 l)
+      (counting_ok (length h.0.made) (ended plain schema h.0.left) c h.2)
 
   pub legal_updated_at : (sets : List (SetItem E)) (row : Row) (rows : List Row) (m : Moved) → row_is_stored (kinds_of schema.def.columns) row ≡ true → list_all (row_is_stored (kinds_of schema.def.columns)) rows ≡ true → updated_at ev plain schema sets row rows ≡ Ok m → IsLegal plain schema m.rows
   legal_updated_at sets row rows m r l e =
@@ -168,3 +167,7 @@ module _ {E : Type 0} (ev plain : Evaluator E) (schema : Schema E) where
       (append_all (row_is_stored (kinds_of schema.def.columns)) (rows_but schema.def row rows) (h.0 ∷ [])
       (but_one_all (row_is_stored (kinds_of schema.def.columns)) schema.def row rows l)
       (both (row_is_stored (kinds_of schema.def.columns) h.0) true (set_row_as_stored ev schema.def sets row h.0 r h.1) refl)) (moving_ok (has_moved schema.def row h.0) (ended plain schema (rows_but schema.def row rows ++ h.0 ∷ [])) m h.2)
+
+  pub legal_deleted_at : (row : Row) (rows after : List Row) → list_all (row_is_stored (kinds_of schema.def.columns)) rows ≡ true → deleted_at plain schema row rows ≡ Ok after → IsLegal plain schema after
+  legal_deleted_at row rows after l e =
+      legal_ended plain schema (rows_but schema.def row rows) after (but_one_all (row_is_stored (kinds_of schema.def.columns)) schema.def row rows l) e

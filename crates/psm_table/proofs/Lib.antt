@@ -1,4 +1,6 @@
 pub mod AsStored
+pub mod Deleting
+pub mod Leaving
 pub mod Checks
 pub mod Counts
 pub mod Entered

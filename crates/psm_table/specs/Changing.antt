@@ -176,9 +176,9 @@ divided ev test make (row ∷ rows) = and_then (test_of ev test row) (λ met. if
 abbrev pub updated : {E : Type 0} → Evaluator E → Evaluator E → Schema E → List (SetItem E) → Option E → List (List Datum) → Result Changed Failure
 updated ev plain schema sets test rows = then_of (divided ev test (set_row ev schema.def sets) rows) (λ p. counting (length p.made) (ended plain schema (p.left ++ p.made)))
 
--- DELETE of the rows that meet the test: what is left keeps the rules that the table kept
-abbrev pub deleted : {E : Type 0} → Evaluator E → Option E → List (List Datum) → Result Changed Failure
-deleted ev test rows = then_of (divided ev test (λ row. Ok row) rows) (λ p. Ok (record { rows = p.left; count = length p.made }))
+-- DELETE of the rows that meet the test
+abbrev pub deleted : {E : Type 0} → Evaluator E → Evaluator E → Schema E → Option E → List (List Datum) → Result Changed Failure
+deleted ev plain schema test rows = then_of (divided ev test (λ row. Ok row) rows) (λ p. counting (length p.made) (ended plain schema p.left))
 
 -- ---- positioned statements, of one row of the table
 
@@ -202,3 +202,7 @@ moving b (Err failure) = Err failure
 -- UPDATE of the row
 abbrev pub updated_at : {E : Type 0} → Evaluator E → Evaluator E → Schema E → List (SetItem E) → List Datum → List (List Datum) → Result Moved Failure
 updated_at ev plain schema sets row rows = then_of (set_row ev schema.def sets row) (λ new. moving (has_moved schema.def row new) (ended plain schema (rows_but schema.def row rows ++ new ∷ [])))
+
+-- DELETE of the row
+abbrev pub deleted_at : {E : Type 0} → Evaluator E → Schema E → List Datum → List (List Datum) → Result (List (List Datum)) Failure
+deleted_at plain schema row rows = ended plain schema (rows_but schema.def row rows)

@@ -1,16 +1,16 @@
 //! Laws of tables.
-ghost use Rattle.std.specs.Prelude.{◌≡◌, ◌&&◌, ◌∷◌, ◌++◌, [], ℕ, true, All, AllPairs, List, None, Ok, Option, Some, false};
+ghost use Rattle.std.specs.Prelude.{◌≡◌, ◌≤◌, length, ◌&&◌, ◌∷◌, ◌++◌, [], ℕ, true, All, AllPairs, List, None, Ok, Option, Some, false};
 ghost use Rattle.std.specs.List.{list_all};
 ghost use Rattle.psm_value.specs.declared.datum.Datum.{Datum};
 ghost use Rattle.psm_table.specs.declared.definition.TableDef.{TableDef};
-ghost use Rattle.psm_table.specs.Changing.{are_apart, deleted, in_order, inserted, is_before, is_filled, keep_rules, row_is_stored, rows_pass, updated, updated_at, Changed, IsLegal, Moved, Schema, SetItem};
+ghost use Rattle.psm_table.specs.Changing.{are_apart, deleted, deleted_at, ended, in_order, inserted, is_before, is_filled, keep_rules, row_is_stored, rows_pass, updated, updated_at, Changed, IsLegal, Moved, Schema, SetItem};
 ghost use Rattle.psm_table.specs.Definition.{kinds_of};
 ghost use Rattle.psm_table.specs.Cursors.{Position, advanced, current, lies_past, without_row as left_row};
 ghost use Rattle.psm_table.specs.Evaluator.{Evaluator};
 ghost use Rattle.psm_table.specs.Queries.{Query};
 ghost use Rattle.psm_table.specs.Key.{values_at};
-ghost use Rattle.psm_table.specs.Rows.{put, row_with, IsAscending};
-ghost use Rattle.psm_table.specs.Table.{keyed, namesake, with_row, without_row, Contents, IsTable};
+ghost use Rattle.psm_table.specs.Rows.{put, row_with, without, IsAscending};
+ghost use Rattle.psm_table.specs.Table.{keyed, most_rows, namesake, with_row, without_row, Contents, IsTable};
 ghost use Rattle.psm_table.specs.Unique.{clashes, AreUnique};
 
 /// What `Table::clash` tells (ISO/IEC 9075:1992, 8.9 and 11.7). Where no row of a table clashes with the others,
@@ -43,14 +43,17 @@ pub fn order_of_rows()
     ensures last { (key : List ℕ) (rows : List (List Datum)) (row : List Datum) → IsAscending key rows → row_with key (values_at key row) rows ≡ None → in_order key (rows ++ row ∷ []) ≡ put key row rows }
 {}
 
-/// A statement that ended leaves the table legal for its CHECKs (ISO/IEC 9075:1992, 11.7 to 11.9): after INSERT and UPDATE
-/// if its values were as its columns store them, after DELETE if it was legal. CHECKs see no variables, so what evaluates them is
-/// their own.
+/// A statement that ended leaves the table legal for its CHECKs (ISO/IEC 9075:1992, 11.7 to 11.9) if its values were as its columns
+/// store them. CHECKs see no variables, so what evaluates them is their own. The rows of a legal table are left as they are where no
+/// row is new, so a DELETE from it never fails at its end.
 pub fn statements_leave_legal_tables()
     ensures inserted { (ev : Evaluator ℕ) (schema : Schema ℕ) (new rows : List (List Datum)) (c : Changed) → list_all (row_is_stored (kinds_of schema.def.columns)) rows ≡ true → inserted ev schema new rows ≡ Ok c → IsLegal ev schema c.rows }
     ensures updated { (ev plain : Evaluator ℕ) (schema : Schema ℕ) (sets : List (SetItem ℕ)) (test : Option ℕ) (rows : List (List Datum)) (c : Changed) → list_all (row_is_stored (kinds_of schema.def.columns)) rows ≡ true → updated ev plain schema sets test rows ≡ Ok c → IsLegal plain schema c.rows }
-    ensures deleted { (ev plain : Evaluator ℕ) (schema : Schema ℕ) (test : Option ℕ) (rows : List (List Datum)) (c : Changed) → IsLegal plain schema rows → deleted ev test rows ≡ Ok c → IsLegal plain schema c.rows }
+    ensures deleted { (ev plain : Evaluator ℕ) (schema : Schema ℕ) (test : Option ℕ) (rows : List (List Datum)) (c : Changed) → list_all (row_is_stored (kinds_of schema.def.columns)) rows ≡ true → deleted ev plain schema test rows ≡ Ok c → IsLegal plain schema c.rows }
     ensures updated_at { (ev plain : Evaluator ℕ) (schema : Schema ℕ) (sets : List (SetItem ℕ)) (row : List Datum) (rows : List (List Datum)) (m : Moved) → row_is_stored (kinds_of schema.def.columns) row ≡ true → list_all (row_is_stored (kinds_of schema.def.columns)) rows ≡ true → updated_at ev plain schema sets row rows ≡ Ok m → IsLegal plain schema m.rows }
+    ensures deleted_at { (plain : Evaluator ℕ) (schema : Schema ℕ) (row : List Datum) (rows after : List (List Datum)) → list_all (row_is_stored (kinds_of schema.def.columns)) rows ≡ true → deleted_at plain schema row rows ≡ Ok after → IsLegal plain schema after }
+    ensures unchanged { (plain : Evaluator ℕ) (schema : Schema ℕ) (rows : List (List Datum)) → IsLegal plain schema rows → IsAscending schema.def.key rows → length rows ≤ most_rows → ended plain schema rows ≡ Ok rows }
+    ensures left { (plain : Evaluator ℕ) (schema : Schema ℕ) (row : List Datum) (rows : List (List Datum)) → IsLegal plain schema rows → IsAscending schema.def.key rows → length rows ≤ most_rows → deleted_at plain schema row rows ≡ Ok (without schema.def.key (values_at schema.def.key row) rows) }
 {}
 
 /// What a cursor does (ISO/IEC 9075:1992, 13.3): a row that FETCH finds lies past the key that the cursor reached, a cursor that is

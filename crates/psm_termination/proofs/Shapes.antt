@@ -17,7 +17,7 @@ use Rattle.psm_exprcode.specs.declared.operand.Operand.TheVariants.{Value, Truth
 use Rattle.psm_exprcode.specs.declared.query.Query.{Query}
 use Rattle.psm_exprcode.specs.declared.set_item.SetItem.{SetItem}
 use Rattle.psm_table.specs.declared.definition.TableDef.{TableDef}
-use Rattle.psm_table.specs.Changing.{deleted, inserted, rows_but, updated, updated_at, Failure, OfTable, Raised}
+use Rattle.psm_table.specs.Changing.{deleted, deleted_at, inserted, updated, updated_at, Failure, OfTable, Raised}
 use Rattle.psm_table.specs.Cursors.{Closed, Cursor, Insensitive, Plain, advanced, current}
 use Rattle.psm_table.specs.Evaluator.{values_of}
 use Rattle.psm_table.specs.Queries.{answer}
@@ -244,7 +244,7 @@ module _ (code : RawCode) where
       then_keeps (schema_keeps n) (λ s.
       then_keeps (table_keeps n) (λ t.
       then_keeps (read_keeps (λ m. m.running.variables)) (λ vars.
-      then_keeps (failed_keeps s.def (deleted (over vars) test t.rows)) (λ c.
+      then_keeps (failed_keeps s.def (deleted (over vars) plans.plain s test t.rows)) (λ c.
       then_keeps (leaves_keeps n t c.rows c.count) (λ u. some_keeps c.count)))))
 
   module _ (r : RawRoutine) where
@@ -260,14 +260,16 @@ module _ (code : RawCode) where
         then_keeps (failed_keeps s.def (updated_at (over vars) plans.plain s (map plans.set_item sets) row t.rows)) (λ moved.
         then_keeps (leaves_keeps q.table t moved.rows 1) (λ u. leave_keeps moved.moved n c)))))))))
 
-    delete_at_keeps : (n : ℕ) → KeepsShape (plans.delete_at r n)
+    delete_at_keeps : (n : ℕ) → KeepsShape (plans.delete_at code r n)
     delete_at_keeps n =
         then_keeps (declared_keeps r n) (λ x.
         then_keeps (query_keeps r x.query) (λ q.
+        then_keeps (schema_keeps q.table) (λ s.
         then_keeps (table_keeps q.table) (λ t.
         then_keeps (cursor_keeps r n) (λ c.
         then_keeps (step_keeps x t c) (λ row.
-        then_keeps (leaves_keeps q.table t (rows_but t.def row t.rows) 1) (λ u. leave_keeps true n c))))))
+        then_keeps (failed_keeps s.def (deleted_at plans.plain s row t.rows)) (λ rows.
+        then_keeps (leaves_keeps q.table t rows 1) (λ u. leave_keeps true n c))))))))
 
     done_keeps : (p : Plan) → KeepsShape (plans.done code r p)
     done_keeps (Insert table columns rows) = then_keeps (pops_keep (rows * length columns) []) (λ ds. put_in_keeps table columns (plans.in_rows rows (length columns) ds))

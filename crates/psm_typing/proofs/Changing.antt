@@ -195,8 +195,11 @@ updated-kept t vars sets test rows h =
     (divided-right (Row (columns_of t)) (over vars) test (set_row (over vars) t.definition sets) rows (λ row g. set_row-right (over vars) t sets row g) h)
     (λ d g. counting-kept (Row (columns_of t)) (length d.made) _ (ended-kept (Row (columns_of t)) plain (schema_of t) (d.left ++ d.made) (each-append (Row (columns_of t)) d.left d.made g.left g.made)))
 
-deleted-kept : (P : List Datum → Type 0) (vars : List Datum) (test : Option ResolvedExpr) (rows : List (List Datum)) → Each P rows → Kept (λ c. Each P c.rows) (deleted (over vars) test rows)
-deleted-kept P vars test rows h = kept-then (IsDivided P) (λ c. Each P c.rows) (divided (over vars) test (λ row. Ok row) rows) _ (divided-right P (over vars) test (λ row. Ok row) rows (λ row g. g) h) (λ d g. g.left)
+deleted-kept : (t : ResolvedTable) (vars : List Datum) (test : Option ResolvedExpr) (rows : List (List Datum)) → Each (Row (columns_of t)) rows → Kept (λ c. Each (Row (columns_of t)) c.rows) (deleted (over vars) plain (schema_of t) test rows)
+deleted-kept t vars test rows h =
+    kept-then (IsDivided (Row (columns_of t))) (λ c. Each (Row (columns_of t)) c.rows) (divided (over vars) test (λ row. Ok row) rows) _
+    (divided-right (Row (columns_of t)) (over vars) test (λ row. Ok row) rows (λ row g. g) h)
+    (λ d g. counting-kept (Row (columns_of t)) (length d.made) _ (ended-kept (Row (columns_of t)) plain (schema_of t) d.left g.left))
 
 holds-some_row : {e : TypingContext} {m : Meaning} (n : ℕ) → Holds e m Anything (some_row n)
 holds-some_row zero = holds-raises _
@@ -211,7 +214,7 @@ holds-update_rows table t sets test h =
 holds-delete_rows : {e : TypingContext} {m : Meaning} (table : ℕ) (t : ResolvedTable) (test : Option ResolvedExpr) → slice_get e.file.tables table ≡ Some t → Holds e m Anything (delete_rows e.file table test)
 holds-delete_rows table t test h =
     holds-bind (holds-schema_at table t h) (λ s p. holds-bind (holds-table_now table t h) (λ c f. holds-bind (holds-read {P = Anything} (λ st. st.variables) (λ st s. tt)) (λ vars u.
-    holds-bind (holds-unless_failed {P = λ (x : Changed). Each (Row (columns_of t)) x.rows} s.def (deleted (over vars) test c.rows) (deleted-kept (Row (columns_of t)) vars test c.rows f)) (λ x g.
+    holds-bind (holds-unless_failed {P = λ (x : Changed). Each (Row (columns_of t)) x.rows} s.def (deleted (over vars) plain s test c.rows) (subst (λ x. Kept (λ y. Each (Row (columns_of t)) y.rows) (deleted (over vars) plain x test c.rows)) (sym p) (deleted-kept t vars test c.rows f))) (λ x g.
     holds-bind (holds-leaves table t c x.rows x.count h g) (λ w y. holds-some_row x.count)))))
 
 -- ---- positioned statements
@@ -267,8 +270,10 @@ holds-update_at eval_context p table t sets cursor h seen =
 holds-delete_at : {e : TypingContext} {m : Meaning} {s : StatementScope} (eval_context : EvalContext) → IsEvalContext e s eval_context → (table : ℕ) (t : ResolvedTable) (cursor : ℕ) → slice_get e.file.tables table ≡ Some t → IsSeen s cursor → Holds e m Anything (delete_at e.file eval_context table cursor)
 holds-delete_at eval_context p table t cursor h seen =
     let P : List Datum → Type 0 = Row (columns_of t) in
-    holds-bind (holds-table_now table t h) (λ c f. holds-bind (holds-declared_at eval_context p cursor seen) (λ x g. holds-bind (now-at x cursor g.cursor g.same) (λ now k.
-    holds-bind (holds-row_of_cursor P x c now f) (λ row r. holds-bind (holds-leaves table t c (rows_but c.def row c.rows) 1 h (each-but P c.def row c.rows f)) (λ w z. holds-leave_row true x g.cursor now k)))))
+    holds-bind (holds-schema_at table t h) (λ s q. holds-bind (holds-table_now table t h) (λ c f. holds-bind (holds-declared_at eval_context p cursor seen) (λ x g. holds-bind (now-at x cursor g.cursor g.same) (λ now k.
+    holds-bind (holds-row_of_cursor P x c now f) (λ row r.
+    holds-bind (holds-unless_failed {P = Each P} s.def (deleted_at plain s row c.rows) (subst (λ y. Kept (Each P) (deleted_at plain y row c.rows)) (sym q) (ended-kept P plain (schema_of t) (rows_but t.definition row c.rows) (each-but P t.definition row c.rows f)))) (λ rows l.
+    holds-bind (holds-leaves table t c rows 1 h l) (λ w z. holds-leave_row true x g.cursor now k)))))))
 
 -- ---- UPDATE and DELETE
 

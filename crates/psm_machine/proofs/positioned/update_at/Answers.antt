@@ -8,9 +8,10 @@ use Rattle.psm_tablecode.specs.Codes.{over}
 use Rattle.psm_dml.specs.Ends.{schema_of, EndsAtRow}
 use Rattle.psm_code.specs.Plans.{leave_row, plain, set_item, update_at}
 use Rattle.psm_unwind.specs.View.{machine_of}
+use Rattle.psm_machine.specs.Allowed.{MayChangeAt}
 use Rattle.psm_machine.specs.ActResults.{Evaluates}
 use Rattle.psm_machine.proofs.Counting.{as_err}
-use Rattle.psm_machine.proofs.Positions.{may_change_at, moves, Moves}
+use Rattle.psm_machine.proofs.Positions.{may_at, moves, Moves}
 use Rattle.psm_machine.proofs.positioned.update_at.Goals as goal
 
 pub returns-in_err-moved-clause-due : goal.returns-in_err-moved-clause-due
@@ -31,7 +32,7 @@ returns-in_err-moved-clause-due g c = λ at.
     let a = sym c.query_at.ensures ∙ ap option_copied c.in-Some-query_at.is in
     let b = sym c.table_at.ensures ∙ ap option_copied c.in-Some-table_at.is in
     let s = sym c.cursor_at.ensures ∙ ap option_copied c.in-Some-cursor_at.is in
-    let may = may_change_at code r old run.running.variables.items run.running.cursors.items n sets x q t cursor d a b s c.requires.may in
+    let may = may_at (λ n c. MayChangeAt old n run.running.variables.items sets c) code r run.running.cursors.items n x q t cursor d a b s c.requires.may in
     let ruled = subst (λ (checks : List (List Line)). IfSome (slice_get old q.table) (λ e. EndsAtRow e (λ row. updated_row (over c.as_slice.result.now) plain (schema_of e.def checks) (map set_item sets) row e.rows) (keyed e key) old q.table new c.update_at.result)) c.items.ensures c.update_at.ensures.answer in
     let seen = subst (λ (vs : List Datum). IfSome (slice_get old q.table) (λ e. EndsAtRow e (λ row. updated_row (over vs) plain (schema_of e.def t.checks) (map set_item sets) row e.rows) (keyed e key) old q.table new c.update_at.result)) c.as_slice.ensures.value ruled in
     let done = moves code r n sets x q t cursor key c.table.result.now.contents old new at run c.update_at.result d a b may.table s c.table.ensures c.in-Some-key_on.ensures.some c.in-Some-key_on.ensures.row seen in
@@ -56,7 +57,7 @@ returns-clause-due g c = λ at.
     let a = sym c.query_at.ensures ∙ ap option_copied c.in-Some-query_at.is in
     let b = sym c.table_at.ensures ∙ ap option_copied c.in-Some-table_at.is in
     let s = sym c.cursor_at.ensures ∙ ap option_copied c.in-Some-cursor_at.is in
-    let may = may_change_at code r old run.running.variables.items run.running.cursors.items n sets x q t cursor d a b s c.requires.may in
+    let may = may_at (λ n c. MayChangeAt old n run.running.variables.items sets c) code r run.running.cursors.items n x q t cursor d a b s c.requires.may in
     let ruled = subst (λ (checks : List (List Line)). IfSome (slice_get old q.table) (λ e. EndsAtRow e (λ row. updated_row (over c.as_slice.result.now) plain (schema_of e.def checks) (map set_item sets) row e.rows) (keyed e key) old q.table new c.update_at.result)) c.items.ensures c.update_at.ensures.answer in
     let seen = subst (λ (vs : List Datum). IfSome (slice_get old q.table) (λ e. EndsAtRow e (λ row. updated_row (over vs) plain (schema_of e.def t.checks) (map set_item sets) row e.rows) (keyed e key) old q.table new c.update_at.result)) c.as_slice.ensures.value ruled in
     let done = moves code r n sets x q t cursor key c.table.result.now.contents old new at run c.update_at.result d a b may.table s c.table.ensures c.in-Some-key_on.ensures.some c.in-Some-key_on.ensures.row seen in
