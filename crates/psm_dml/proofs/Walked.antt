@@ -4,18 +4,16 @@ use Rattle.std.specs.Prelude.{All, IfSome, map, slice_get, if◌then◌else◌}
 use Rattle.std.specs.List.{cons_option}
 use Rattle.std.proofs.lemmas.List.{append-nil}
 use Rattle.std.proofs.lemmas.List.Elements.{All-append, All-cons, All-head, All-nil, All-tail}
-use Rattle.std.proofs.lemmas.Option.{get_or_from_slice_get, slice_get_within}
 use Rattle.psm_sqlstate.specs.declared.state.SqlState.{SqlState}
 use Rattle.psm_value.specs.Answer.{Gives}
 use Rattle.psm_value.specs.declared.datum.Datum.{Datum}
 use Rattle.psm_value.specs.declared.fault.ValueFault.{ValueFault}
-use Rattle.psm_value.specs.declared.fault.ValueFault.TheVariants.{Condition, Memory}
 use Rattle.psm_value.specs.declared.truth.Truth.{Truth}
 use Rattle.psm_value.specs.declared.truth.Truth.TheVariants.{True, False, Unknown}
 use Rattle.psm_table.specs.Evaluator.{and_then, mapped}
 use Rattle.psm_table.specs.Queries.{is_met, taken, walked}
-use Rattle.psm_tablecode.proofs.Collecting.{first_of}
 use Rattle.psm_tablecode.proofs.Results.{mapped-same}
+use Rattle.psm_tablecode.proofs.WalkLaws as walk
 use Rattle.psm_dml.specs.Rows.{with_option}
 
 module _ {A : Type 0} (test : List Datum → Result Truth SqlState) (take : List Datum → Result A SqlState) (order : List (List Datum)) where
@@ -26,39 +24,18 @@ module _ {A : Type 0} (test : List Datum → Result Truth SqlState) (take : List
   pub walks_first : (done : List A) → done ≡ [] → Walks 0 done
   walks_first done e = subst (λ d. Walks 0 d) (sym e) (mapped-same (walked test take order))
 
-  all_after : (done : List A) (o : Option A) (r : Result (List A) SqlState) → mapped (λ more. done ++ more) (mapped (λ more. cons_option o more) r) ≡ mapped (λ more. with_option done o ++ more) r
-  all_after done None (Ok more) = refl
-  all_after done (Some a) (Ok more) = ap Ok (sym (append_assoc done (a ∷ []) more))
-  all_after done None (Err s) = refl
-  all_after done (Some a) (Err s) = refl
-
-  rest_is : (at : ℕ) (row : List Datum) → slice_get order at ≡ Some row → walked test take (drop at order) ≡ and_then (taken test take row) (λ a. mapped (λ more. cons_option a more) (walked test take (drop (at + 1) order)))
-  rest_is at row e = ap (walked test take) (first_of order at row (slice_get_within order at row e) (sym (get_or_from_slice_get order at row row e)))
+  all_after : (done : List A) (o : Option A) (more : List A) → done ++ cons_option o more ≡ with_option done o ++ more
+  all_after done None more = refl
+  all_after done (Some a) more = sym (append_assoc done (a ∷ []) more)
 
   pub walks_next : (at : ℕ) (row : List Datum) (o : Option A) (done more : List A) → slice_get order at ≡ Some row → taken test take row ≡ Ok o → more ≡ with_option done o → Walks at done → Walks (at + 1) more
-  walks_next at row o done more e t n h =
-      subst (Walks (at + 1)) (sym n)
-      (sym (all_after done o (walked test take (drop (at + 1) order)))
-      ∙ sym (ap (λ r. mapped (λ bs. done ++ bs) (and_then r (λ a. mapped (λ bs. cons_option a bs) (walked test take (drop (at + 1) order))))) t)
-      ∙ sym (ap (mapped (λ bs. done ++ bs)) (rest_is at row e)) ∙ h)
-
-  raised : (at : ℕ) (row : List Datum) (s : SqlState) (done : List A) → slice_get order at ≡ Some row → taken test take row ≡ Err s → Walks at done → walked test take order ≡ Err s
-  raised at row s done e t h =
-      sym h ∙ ap (mapped (λ bs. done ++ bs)) (rest_is at row e)
-      ∙ ap (λ r. mapped (λ bs. done ++ bs) (and_then r (λ a. mapped (λ bs. cons_option a bs) (walked test take (drop (at + 1) order))))) t
+  walks_next = walk.goes_next (λ done more. done ++ more) with_option all_after test take order (walked test take order)
 
   pub walks_fault : (at : ℕ) (row : List Datum) (fault : ValueFault) (done : List A) → slice_get order at ≡ Some row → Gives (taken test take row) (Err fault) → Walks at done → Gives (walked test take order) (Err fault)
-  walks_fault at row (Condition s) done e t h = raised at row s done e t h
-  walks_fault at row Memory done e t h = tt
-
-  past : (rows : List (List Datum)) (i : ℕ) → slice_get rows i ≡ None → drop i rows ≡ []
-  past [] zero e = refl
-  past [] (suc i) e = refl
-  past (r ∷ rows) zero e = cc
-  past (r ∷ rows) (suc i) e = past rows i e
+  walks_fault = walk.goes_fault (λ done more. done ++ more) with_option all_after test take order (walked test take order)
 
   pub walks_end : (at : ℕ) (done : List A) → slice_get order at ≡ None → Walks at done → walked test take order ≡ Ok done
-  walks_end at done e h = sym h ∙ ap (λ l. mapped (λ bs. done ++ bs) (walked test take l)) (past order at e) ∙ ap Ok (append-nil done)
+  walks_end at done e h = walk.goes_end (λ done more. done ++ more) with_option all_after test take order (walked test take order) at done e h ∙ ap Ok (append-nil done)
 
 -- ---- what is said of each that is taken
 

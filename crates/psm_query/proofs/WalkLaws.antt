@@ -1,22 +1,20 @@
 -- A walk over rows, one after another.
-use Rattle.std.proofs.Common.{◌≡◌, ℕ, zero, suc, ◌+◌, ◌<◌, ◌≤◌, Bool, true, false, List, [], ◌∷◌, drop, refl, ap, sym, subst, ◌∙◌, arith, Option, Some, None, Result, Ok, Err}
+use Rattle.std.proofs.Common.{◌≡◌, ℕ, zero, suc, ◌+◌, ◌<◌, ◌≤◌, Bool, true, false, List, [], ◌∷◌, refl, arith, Option, Some, None, Result, Ok, Err}
 use Rattle.std.specs.Prelude.{All, map, slice_get, if◌then◌else◌}
 use Rattle.std.specs.List.{cons_option}
 use Rattle.std.proofs.lemmas.List.Elements.{All-nil, All-cons, All-head, All-tail}
-use Rattle.std.proofs.lemmas.Option.{get_or_from_slice_get, slice_get_within}
 use Rattle.psm_sqlstate.specs.declared.state.SqlState.{SqlState}
 use Rattle.psm_num.specs.Num.{Num}
 use Rattle.psm_value.specs.Answer.{Gives}
 use Rattle.psm_value.specs.declared.datum.Datum.{Datum}
 use Rattle.psm_value.specs.declared.fault.ValueFault.{ValueFault}
-use Rattle.psm_value.specs.declared.fault.ValueFault.TheVariants.{Condition, Memory}
 use Rattle.psm_value.specs.declared.truth.Truth.{Truth}
 use Rattle.psm_exprcode.specs.declared.aggregate.Aggregate.{Aggregate}
 use Rattle.psm_exprcode.specs.declared.items.Items.{Items}
 use Rattle.psm_exprcode.specs.declared.items.Items.TheVariants.{Rows, Sets}
-use Rattle.psm_table.specs.Evaluator.{and_then, mapped}
+use Rattle.psm_table.specs.Evaluator.{mapped}
 use Rattle.psm_table.specs.Queries as q
-use Rattle.psm_table.specs.Queries.{in_walk, plus, taken, walked}
+use Rattle.psm_table.specs.Queries.{plus, taken, walked}
 use Rattle.psm_table.specs.Table.{most_rows}
 use Rattle.psm_table.specs.Unique.{is_null}
 use Rattle.psm_tablecode.specs.Codes.{set_function}
@@ -26,50 +24,30 @@ use Rattle.psm_query.specs.declared.tally.Tally.{Tally}
 use Rattle.psm_query.specs.declared.tally.Tally.TheVariants.{Count, Sum, Min, Max, Avg}
 use Rattle.psm_query.specs.declared.total.Summing.{Summing}
 use Rattle.psm_query.specs.declared.total.Summing.TheVariants.{Empty, OutOfRange, Of}
-use Rattle.psm_tablecode.proofs.Collecting.{first_of}
+use Rattle.psm_tablecode.proofs.WalkLaws as walk
 
 -- ---- what is kept, and the rest of the rows
 
 module _ (items : Items) (start : Gathered) (test : List Datum → Result Truth SqlState) (take : List Datum → Result (List Datum) SqlState) (order : List (List Datum)) where
-  -- with what is kept, the rest evaluates to what all rows evaluate to
-  abbrev pub Goes : ℕ → Gathered → Type 0
-  Goes at now = mapped (with_rows items now) (walked test take (drop at order)) ≡ mapped (with_rows items start) (walked test take order)
+  abbrev Due : Result Gathered SqlState
+  Due = mapped (with_rows items start) (walked test take order)
 
   rows_after : (now : Gathered) (o : Option (List Datum)) (more : List (List Datum)) → with_rows items now (cons_option o more) ≡ with_rows items (with_taken items now o) more
   rows_after now None more = refl
   rows_after now (Some vs) more = refl
 
-  all_after : (now : Gathered) (o : Option (List Datum)) (r : Result (List (List Datum)) SqlState) → mapped (with_rows items now) (mapped (λ more. cons_option o more) r) ≡ mapped (with_rows items (with_taken items now o)) r
-  all_after now o (Ok more) = ap Ok (rows_after now o more)
-  all_after now o (Err s) = refl
-
-  rest_is : (at : ℕ) (row : List Datum) → slice_get order at ≡ Some row → walked test take (drop at order) ≡ and_then (taken test take row) (λ a. mapped (λ more. cons_option a more) (walked test take (drop (at + 1) order)))
-  rest_is at row e = ap (walked test take) (first_of order at row (slice_get_within order at row e) (sym (get_or_from_slice_get order at row row e)))
+  -- with what is kept, the rest evaluates to what all rows evaluate to
+  abbrev pub Goes : ℕ → Gathered → Type 0
+  Goes = walk.Goes (with_rows items) (with_taken items) rows_after test take order Due
 
   pub goes_next : (at : ℕ) (row : List Datum) (o : Option (List Datum)) (now next : Gathered) → slice_get order at ≡ Some row → taken test take row ≡ Ok o → next ≡ with_taken items now o → Goes at now → Goes (at + 1) next
-  goes_next at row o now next e t n h =
-      subst (Goes (at + 1)) (sym n)
-      (sym (all_after now o (walked test take (drop (at + 1) order)))
-      ∙ sym (ap (λ r. mapped (with_rows items now) (and_then r (λ a. mapped (λ more. cons_option a more) (walked test take (drop (at + 1) order))))) t)
-      ∙ sym (ap (mapped (with_rows items now)) (rest_is at row e)) ∙ h)
+  goes_next = walk.goes_next (with_rows items) (with_taken items) rows_after test take order Due
 
-  raised : (at : ℕ) (row : List Datum) (s : SqlState) (now : Gathered) → slice_get order at ≡ Some row → taken test take row ≡ Err s → Goes at now → mapped (with_rows items start) (walked test take order) ≡ Err s
-  raised at row s now e t h =
-      sym h ∙ ap (mapped (with_rows items now)) (rest_is at row e)
-      ∙ ap (λ r. mapped (with_rows items now) (and_then r (λ a. mapped (λ more. cons_option a more) (walked test take (drop (at + 1) order))))) t
+  pub goes_fault : (at : ℕ) (row : List Datum) (fault : ValueFault) (now : Gathered) → slice_get order at ≡ Some row → Gives (taken test take row) (Err fault) → Goes at now → Gives Due (Err fault)
+  goes_fault = walk.goes_fault (with_rows items) (with_taken items) rows_after test take order Due
 
-  pub goes_fault : (at : ℕ) (row : List Datum) (fault : ValueFault) (now : Gathered) → slice_get order at ≡ Some row → Gives (taken test take row) (Err fault) → Goes at now
-      → Gives (mapped (with_rows items start) (walked test take order)) (Err fault)
-  goes_fault at row (Condition s) now e t h = raised at row s now e t h
-  goes_fault at row Memory now e t h = tt
-
-  pub goes_end : (at : ℕ) (now : Gathered) → slice_get order at ≡ None → Goes at now → mapped (with_rows items start) (walked test take order) ≡ Ok now
-  goes_end at now e h = sym h ∙ ap (λ l. mapped (with_rows items now) (walked test take l)) (past order at e) where
-    past : (rows : List (List Datum)) (i : ℕ) → slice_get rows i ≡ None → drop i rows ≡ []
-    past [] zero e = refl
-    past [] (suc i) e = refl
-    past (r ∷ rows) zero e = cc
-    past (r ∷ rows) (suc i) e = past rows i e
+  pub goes_end : (at : ℕ) (now : Gathered) → slice_get order at ≡ None → Goes at now → Due ≡ Ok now
+  goes_end = walk.goes_end (with_rows items) (with_taken items) rows_after test take order Due
 
 -- ---- how many values a tally may have counted
 

@@ -7,4 +7,5 @@ pub mod KeyWalks
 pub mod Results
 pub mod Sought
 pub mod Stepped
+pub mod WalkLaws
 pub mod Windows
