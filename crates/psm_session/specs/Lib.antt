@@ -1,4 +1,5 @@
 pub mod Put
+pub mod Selected
 pub mod CommandSteps
 pub mod Pieces
 pub mod Steps

@@ -8,6 +8,7 @@ mod lines;
 mod piece;
 mod script;
 mod select;
+mod selecting;
 mod step;
 mod transaction;
 

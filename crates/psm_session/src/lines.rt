@@ -138,7 +138,8 @@ pub(crate) fn put_rows(out: &mut Vec<u8>, rows: &[Row]) -> Result<(), AllocError
     Ok(())
 }
 
-fn put_row(out: &mut Vec<u8>, row: &Row) -> Result<(), AllocError>
+/// The line of a row.
+pub(crate) fn put_row(out: &mut Vec<u8>, row: &Row) -> Result<(), AllocError>
     ensures { OnOk result (out.new.items ≡ out.old.items ++ row_line row.now) }
 {
     out.extend_from_slice(b"ROW ")?;

@@ -88,7 +88,8 @@ fn put_end_of_rows(alloc: Global, out: &mut Vec<u8>, skipped: bool) -> Result<()
     }
 }
 
-fn put_state(alloc: Global, out: &mut Vec<u8>, state: SqlState) -> Result<(), AllocError>
+/// The lines of the condition of an SQLSTATE alone.
+pub(crate) fn put_state(alloc: Global, out: &mut Vec<u8>, state: SqlState) -> Result<(), AllocError>
     ensures { OnOk result (out.new.items ≡ out.old.items ++ condition_lines (of_state state)) }
 {
     let condition = Condition::raised(alloc, state)?;

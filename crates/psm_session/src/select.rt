@@ -12,9 +12,10 @@ ghost use Rattle.psm_session.specs.Steps.{EndsIn, standing};
 ghost use Rattle.psm_session.specs.declared.command.ScriptCommand.TheVariants as commands;
 
 use crate::piece::{piece_of, piece_of_answer};
+use crate::selecting::piece_of_rows;
 use crate::step::{Made, Step, put};
 use psm_cond::DataFault;
-use psm_exprcode::Query;
+use psm_exprcode::{Items, Query};
 use psm_io::Sink;
 use psm_query::rows;
 use psm_store::Store;
@@ -45,6 +46,23 @@ pub(crate) fn select<S: Store, K: Sink>(
 }
 
 fn piece_of_query<S: Store>(
+    alloc: Global,
+    number: u64,
+    query: &Query,
+    store: &S,
+) -> Result<Vec<u8>, AllocError>
+    requires exists { query.now.table < length (S.tables store.now) }
+    requires type_checks { IfSome (slice_get (S.tables store.now) query.now.table) (λ c. TypeChecksTable query.now [] c.def) }
+    ensures { IfOk result (λ piece. IfSome (slice_get (S.tables store.now) query.now.table) (λ c. piece.items ≡ first_line number (codes "SELECT") ++ selected_lines (answer (over []) (query_of query.now) c.rows))) }
+{
+    match &query.items {
+        Items::Rows(_) => piece_of_rows(alloc, number, query, store.table(query.table), &[]),
+        Items::Sets(_) => piece_of_sets(alloc, number, query, store),
+    }
+}
+
+// The row of set functions is there after the last row of the table.
+fn piece_of_sets<S: Store>(
     alloc: Global,
     number: u64,
     query: &Query,

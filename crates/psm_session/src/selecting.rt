@@ -1,19 +1,67 @@
 //! The rows that a query without set functions selects (ISO/IEC 9075:1992, 7.9), written one by one.
-ghost use Rattle.std.specs.Prelude.{◌≡◌, ◌++◌, OnOk};
+ghost use Rattle.std.specs.Prelude.{◌≡◌, ◌++◌, [], IfOk, OnOk, codes, length};
 ghost use Rattle.psm_table.specs.Evaluator.{mapped, test_of};
 ghost use Rattle.psm_table.specs.Queries.{in_walk, walked};
 ghost use Rattle.psm_tablecode.specs.Codes.{over};
 ghost use Rattle.psm_tablecode.specs.Rows.{values_for};
 ghost use Rattle.psm_tablecode.specs.TypeChecks.{TypeChecksTable};
-ghost use Rattle.psm_meaning.specs.Lines.{row_lines};
-ghost use Rattle.psm_session.specs.Selected.{taken_line, Writes};
+ghost use Rattle.psm_meaning.specs.Acts.{of_state};
+ghost use Rattle.psm_meaning.specs.Lines.{condition_lines, first_line, row_lines};
+ghost use Rattle.psm_session.specs.Pieces.{selected_lines};
+ghost use Rattle.psm_session.specs.Selected.{end_of_selected, found_rows, taken_line, Writes};
 
-use crate::lines::put_row;
+use crate::lines::{put_first_line, put_ok, put_row};
+use crate::piece::{piece_of, put_state};
+use psm_cond::Condition;
 use psm_exprcode::Query;
+use psm_sqlstate::SqlState;
 use psm_store::{Row, Table};
 use psm_tablecode::{Coming, taken, walk_of};
 use psm_value::{Datum, ValueFault};
 use std::alloc::{AllocError, Global};
+
+/// The piece of a query without set functions: a line for each row that it selects, or the condition that it raises.
+pub(crate) fn piece_of_rows(
+    alloc: Global,
+    number: u64,
+    query: &Query,
+    table: &Table,
+    vars: &[Datum],
+) -> Result<Vec<u8>, AllocError>
+    requires { TypeChecksTable query.now vars.now table.now.contents.def }
+    ensures { IfOk result (λ piece. piece.items ≡ first_line number (codes "SELECT") ++ selected_lines (found_rows vars.now query.now table.now.contents.rows)) }
+{
+    let mut out = Vec::new(alloc);
+    put_first_line(&mut out, number, "SELECT", "")?;
+    let first = out.len();
+    match put_selected(alloc, &mut out, query, table, vars) {
+        Ok(()) => {
+            put_end(alloc, &mut out, first)?;
+            Ok(out)
+        }
+        Err(ValueFault::Condition(state)) => piece_of_condition(alloc, number, state),
+        Err(ValueFault::Memory) => Err(AllocError),
+    }
+}
+
+// The piece of a query that raises a condition. No row stands before it.
+fn piece_of_condition(alloc: Global, number: u64, state: SqlState) -> Result<Vec<u8>, AllocError>
+    ensures { IfOk result (λ piece. piece.items ≡ first_line number (codes "SELECT") ++ condition_lines (of_state state)) }
+{
+    let condition = Condition::raised(alloc, state)?;
+    piece_of(alloc, number, "SELECT", "", Some(condition.get()))
+}
+
+// The last line, where rows stand behind the first `first` bytes or none does.
+fn put_end(alloc: Global, out: &mut Vec<u8>, first: usize) -> Result<(), AllocError>
+    ensures { OnOk result (out.new.items ≡ out.old.items ++ end_of_selected first (length out.old.items)) }
+{
+    if out.len() == first {
+        put_state(alloc, out, SqlState::NO_DATA)
+    } else {
+        put_ok(out)
+    }
+}
 
 /// A line for each row that the query selects, in the order of the walk. No more than one row is kept at a time.
 pub(crate) fn put_selected(
