@@ -17,7 +17,7 @@ forbid() {
 }
 
 parsers='psm_parse_token psm_parse_expr psm_parse_stmt psm_parse_file'
-readers="psm_token psm_spell psm_tree psm_unplaced psm_print $parsers"
+readers="psm_token psm_spell psm_tree psm_print $parsers"
 for crate in $readers psm_value psm_cond psm_exprcode psm_table psm_tablecode psm_store psm_undostore psm_query; do
     forbid "$crate" psm_io
 done
@@ -52,7 +52,6 @@ forbid psm_session_simulation psm_tree psm_scope psm_machine psm_io
 forbid psm_build psm_undostore psm_verify_line psm_verify
 # shellcheck disable=SC2086
 {
-    forbid psm_print $parsers
     # The program and its command know arguments, files, stores and statuses: no token, value or tree, and none of the crates of
     # which a second checker, code generator or engine could be made.
     for crate in psm psm_run; do

@@ -18,9 +18,9 @@ use Rattle.psm_tree.specs.FileGrammar.{file}
 use Rattle.psm_tree.specs.declared.file.FileTree.{FileTree}
 use Rattle.psm_print.specs.FileTokens.{file_tokens}
 use Rattle.psm_print.proofs.Printed.{AllGood, Kept, Printed}
-use Rattle.psm_unplaced.specs.WithoutPositions.{origin, without_positions}
-use Rattle.psm_unplaced.proofs.FileCarried.{file_carried}
-use Rattle.psm_unplaced.proofs.Apart.{spelled_elsewhere}
+use Rattle.psm_print.specs.WithoutPositions.{origin, without_positions}
+use Rattle.psm_print.proofs.FileCarried.{file_carried}
+use Rattle.psm_print.proofs.Apart.{spelled_elsewhere}
 use Rattle.psm_print.specs.Printing.{Derives, IsSpelledTree, IsFileOfTree}
 use Rattle.psm_print.proofs.FilePrinted.{file_printed}
 

@@ -1,5 +1,11 @@
+pub mod WithoutPositions
+pub mod ExprWithoutPositions
+pub mod StatementWithoutPositions
+pub mod FileWithoutPositions
+pub mod Elsewhere
 pub mod Spelling
 pub mod ExprTokens
 pub mod StatementTokens
 pub mod FileTokens
 pub mod Printing
+pub mod Formatting

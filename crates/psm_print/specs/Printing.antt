@@ -9,8 +9,8 @@ use Rattle.psm_grammar.specs.Grammar.{Spells}
 use Rattle.psm_tree.specs.Productions.{productions}
 use Rattle.psm_tree.specs.FileGrammar.{file}
 use Rattle.psm_tree.specs.declared.file.FileTree.{FileTree}
-use Rattle.psm_unplaced.specs.FileWithoutPositions.{file_without_positions}
-use Rattle.psm_unplaced.specs.Elsewhere.{SpellsUpToPositions}
+use Rattle.psm_print.specs.FileWithoutPositions.{file_without_positions}
+use Rattle.psm_print.specs.Elsewhere.{SpellsUpToPositions}
 
 -- these tokens spell the tree
 pub record Derives (tokens : List Placed) (tree : FileTree) : Type 0 where

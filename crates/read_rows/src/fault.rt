@@ -1,6 +1,6 @@
 //! Why a row has no other answer.
 
-use psm_format::FormatFault;
+use psm_print::FormatFault;
 use psm_token::{LexFault, Place};
 use psm_tree::ParseFault;
 use std::alloc::{AllocError, AllocFailed, Global};

@@ -2,7 +2,7 @@
 ghost use Rattle.std.specs.Prelude.{◌<◌, length};
 
 use crate::fault::Fault;
-use psm_format::format_module;
+use psm_print::format_module;
 use std::alloc::Global;
 
 /// The text that is printed of a file, and of that text too, with `\n` for the end of a line.

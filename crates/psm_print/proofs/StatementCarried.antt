@@ -16,14 +16,14 @@ use Rattle.psm_tree.specs.declared.statement.Block.TheOpen as layers
 use Rattle.psm_tree.specs.declared.statement.Branch.{Branch}
 use Rattle.psm_tree.specs.declared.statement.Simple.{Simple}
 use Rattle.psm_tree.specs.declared.statement.Simple.TheVariants as simples
-use Rattle.psm_unplaced.specs.WithoutPositions.{origin}
-use Rattle.psm_unplaced.specs.ExprWithoutPositions.{state_without_positions, expr_without_positions, name_without_positions, targets_without_positions}
-use Rattle.psm_unplaced.specs.StatementWithoutPositions
-use Rattle.psm_unplaced.specs.StatementWithoutPositions.{ordered_query_without_positions, order_without_positions, order_column_without_positions, signalled_without_positions, where_without_positions, values_without_positions, insert_source_without_positions, assignment_without_positions, statement_info_without_positions, condition_info_without_positions, diagnostics_without_positions, simple_without_positions, block_without_positions, statement_without_positions, branch_without_positions}
-use Rattle.psm_unplaced.proofs.ValuesWithoutPositions.{same, both, statements_without_positions, branches_without_positions}
-use Rattle.psm_unplaced.proofs.Equations.{block_rolled, statement_rolled, branch_rolled}
-use Rattle.psm_unplaced.proofs.Carried.{Carried, carried_place, carried_at, carried_name, carried_level, carried_nothing, carried_seq, carried_or, carried_ahead, carried_many, carried_image, carried_pair, carried_triple, carried_several, carried_optional, carried_after, carried_before}
-use Rattle.psm_unplaced.proofs.ExprCarried.{target_carried, names_in_parens_carried, targets_carried, expr_carried, source_carried, sources_carried, picks_carried, from_table_carried, select_carried, select_made, arguments_carried}
+use Rattle.psm_print.specs.WithoutPositions.{origin}
+use Rattle.psm_print.specs.ExprWithoutPositions.{state_without_positions, expr_without_positions, name_without_positions, targets_without_positions}
+use Rattle.psm_print.specs.StatementWithoutPositions
+use Rattle.psm_print.specs.StatementWithoutPositions.{ordered_query_without_positions, order_without_positions, order_column_without_positions, signalled_without_positions, where_without_positions, values_without_positions, insert_source_without_positions, assignment_without_positions, statement_info_without_positions, condition_info_without_positions, diagnostics_without_positions, simple_without_positions, block_without_positions, statement_without_positions, branch_without_positions}
+use Rattle.psm_print.proofs.ValuesWithoutPositions.{same, both, statements_without_positions, branches_without_positions}
+use Rattle.psm_print.proofs.PlacelessEquations.{block_rolled, statement_rolled, branch_rolled}
+use Rattle.psm_print.proofs.Carried.{Carried, carried_place, carried_at, carried_name, carried_level, carried_nothing, carried_seq, carried_or, carried_ahead, carried_many, carried_image, carried_pair, carried_triple, carried_several, carried_optional, carried_after, carried_before}
+use Rattle.psm_print.proofs.ExprCarried.{target_carried, names_in_parens_carried, targets_carried, expr_carried, source_carried, sources_carried, picks_carried, from_table_carried, select_carried, select_made, arguments_carried}
 
 -- ---- parts of statements
 

@@ -12,8 +12,8 @@ use Rattle.psm_tree.specs.Reading.{ReadsAll}
 use Rattle.psm_tree.specs.declared.fault.ParseFault.{ParseFault}
 use Rattle.psm_tree.specs.declared.file.FileTree.{FileTree}
 use Rattle.psm_print.specs.Printing.{Derives, IsFileOfTree}
-use Rattle.psm_format.specs.declared.format.FormatFault.{FormatFault}
-use Rattle.psm_format.specs.declared.format.FormatFault.TheVariants as faults
+use Rattle.psm_print.specs.declared.format.FormatFault.{FormatFault}
+use Rattle.psm_print.specs.declared.format.FormatFault.TheVariants as faults
 
 -- the file has this tree
 pub record HasTree (bytes : List ℕ) (tree : FileTree) : Type 0 where

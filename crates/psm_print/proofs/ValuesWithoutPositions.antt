@@ -6,9 +6,9 @@ use Rattle.psm_tree.specs.Tests.{At}
 use Rattle.psm_tree.specs.Parts.{Part, Enclosed, Arguments, ExistsRest, CaseRest, CastRest, CoalesceRest, NullIfRest, FunctionRest, PositionRest, SubstringRest, TrimRest, BeginRest, LoopRest, WhileRest, RepeatRest, ForRest, IfRest, CaseStatementRest, HandlerRest, BodyRest, DeclareRest, Inside, Value, Query, Cases, Statements, Branches, ForParts, HandlerParts, NamedRest, Variables, Condition, Cursor, Declared, Named, Handled, Body, V}
 use Rattle.psm_tree.specs.ExprValues as exprs
 use Rattle.psm_tree.specs.ExprValues.{Whens, From, Item, NameRest}
-use Rattle.psm_unplaced.specs.WithoutPositions.{origin}
-use Rattle.psm_unplaced.specs.ExprWithoutPositions.{name_without_positions, type_without_positions, state_without_positions, alias_without_positions, expr_without_positions, when_without_positions, select_without_positions}
-use Rattle.psm_unplaced.specs.StatementWithoutPositions.{ordered_query_without_positions, declaration_without_positions, cursor_without_positions, for_head_without_positions, handler_value_without_positions, statement_without_positions, branch_without_positions, handler_without_positions}
+use Rattle.psm_print.specs.WithoutPositions.{origin}
+use Rattle.psm_print.specs.ExprWithoutPositions.{name_without_positions, type_without_positions, state_without_positions, alias_without_positions, expr_without_positions, when_without_positions, select_without_positions}
+use Rattle.psm_print.specs.StatementWithoutPositions.{ordered_query_without_positions, declaration_without_positions, cursor_without_positions, for_head_without_positions, handler_value_without_positions, statement_without_positions, branch_without_positions, handler_without_positions}
 
 abbrev pub same : {A : Type 0} → A → A
 same a = a

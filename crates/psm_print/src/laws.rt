@@ -12,11 +12,11 @@ ghost use Rattle.psm_tree.specs.declared.expr.Expr.{Expr as ExprTree};
 ghost use Rattle.psm_tree.specs.declared.statement.Statement.{Statement as StatementTree};
 ghost use Rattle.psm_tree.specs.declared.file.FileTree.{FileTree as TheFile};
 ghost use Rattle.psm_tree.specs.declared.script.ScriptTree.{ScriptTree as TheScript};
-ghost use Rattle.psm_unplaced.specs.WithoutPositions.{without_positions};
-ghost use Rattle.psm_unplaced.specs.Elsewhere.{SpellsUpToPositions};
-ghost use Rattle.psm_unplaced.specs.ExprWithoutPositions.{expr_without_positions};
-ghost use Rattle.psm_unplaced.specs.StatementWithoutPositions.{statement_without_positions};
-ghost use Rattle.psm_unplaced.specs.FileWithoutPositions.{file_without_positions, script_without_positions};
+ghost use Rattle.psm_print.specs.WithoutPositions.{without_positions};
+ghost use Rattle.psm_print.specs.Elsewhere.{SpellsUpToPositions};
+ghost use Rattle.psm_print.specs.ExprWithoutPositions.{expr_without_positions};
+ghost use Rattle.psm_print.specs.StatementWithoutPositions.{statement_without_positions};
+ghost use Rattle.psm_print.specs.FileWithoutPositions.{file_without_positions, script_without_positions};
 
 /// Tokens that are the same, up to positions, spell trees that are the same, up to positions: of files and
 /// scripts, and of expressions and statements at each depth of nesting.

@@ -12,9 +12,9 @@ use Rattle.psm_tree.specs.Tests.{At, at, place_of, name}
 use Rattle.psm_tree.specs.Parts.{Part, V}
 use Rattle.psm_tree.specs.ExprValues.{pair, triple, several, cons}
 use Rattle.psm_tree.specs.ExprGrammar.{Gram, within_parens}
-use Rattle.psm_unplaced.specs.WithoutPositions.{origin, without_positions}
-use Rattle.psm_unplaced.specs.ExprWithoutPositions.{name_without_positions}
-use Rattle.psm_unplaced.proofs.ValuesWithoutPositions.{both, place_without_positions, at_without_positions, part_without_positions}
+use Rattle.psm_print.specs.WithoutPositions.{origin, without_positions}
+use Rattle.psm_print.specs.ExprWithoutPositions.{name_without_positions}
+use Rattle.psm_print.proofs.ValuesWithoutPositions.{both, place_without_positions, at_without_positions, part_without_positions}
 
 -- what tokens without places say by this part is what the tokens say, without its places, which h forgets
 pub record Carried {X : Type 0} (h : X → X) (g : Gram X) : Type 0 where

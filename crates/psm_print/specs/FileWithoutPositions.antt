@@ -21,9 +21,9 @@ use Rattle.psm_tree.specs.declared.script.Argument.TheVariants as arguments
 use Rattle.psm_tree.specs.declared.script.ConstantRow.{ConstantRow}
 use Rattle.psm_tree.specs.declared.script.Command.{Command}
 use Rattle.psm_tree.specs.declared.script.Command.TheVariants as commands
-use Rattle.psm_unplaced.specs.WithoutPositions.{origin}
-use Rattle.psm_unplaced.specs.ExprWithoutPositions.{name_without_positions, names_without_positions, type_without_positions, constant_without_positions, expr_without_positions}
-use Rattle.psm_unplaced.specs.StatementWithoutPositions.{ordered_query_without_positions, statement_without_positions}
+use Rattle.psm_print.specs.WithoutPositions.{origin}
+use Rattle.psm_print.specs.ExprWithoutPositions.{name_without_positions, names_without_positions, type_without_positions, constant_without_positions, expr_without_positions}
+use Rattle.psm_print.specs.StatementWithoutPositions.{ordered_query_without_positions, statement_without_positions}
 
 -- ---- tables
 

@@ -12,13 +12,13 @@ use Rattle.psm_tree.specs.ExprGrammar.{Gram}
 use Rattle.psm_tree.specs.Productions.{productions}
 use Rattle.psm_tree.proofs.ExprFits.{after}
 use Rattle.psm_tree.proofs.Readable.{height, readable}
-use Rattle.psm_unplaced.specs.WithoutPositions.{without_positions}
-use Rattle.psm_unplaced.specs.Elsewhere.{SpellsUpToPositions}
-use Rattle.psm_unplaced.proofs.ValuesWithoutPositions.{part_without_positions}
-use Rattle.psm_unplaced.proofs.Carried.{Carried}
-use Rattle.psm_unplaced.proofs.ExprCarried.{enclosed_carried, arguments_carried, exists_carried, case_carried, cast_carried, coalesce_carried, nullif_carried, function_carried, position_carried, substring_carried, trim_carried}
-use Rattle.psm_unplaced.proofs.StatementCarried.{if_carried, case_carried as case_statement_carried}
-use Rattle.psm_unplaced.proofs.BlockCarried.{loop_carried, while_carried, repeat_carried, for_carried, handler_carried, body_carried, declare_carried, begin_carried}
+use Rattle.psm_print.specs.WithoutPositions.{without_positions}
+use Rattle.psm_print.specs.Elsewhere.{SpellsUpToPositions}
+use Rattle.psm_print.proofs.ValuesWithoutPositions.{part_without_positions}
+use Rattle.psm_print.proofs.Carried.{Carried}
+use Rattle.psm_print.proofs.ExprCarried.{enclosed_carried, arguments_carried, exists_carried, case_carried, cast_carried, coalesce_carried, nullif_carried, function_carried, position_carried, substring_carried, trim_carried}
+use Rattle.psm_print.proofs.StatementCarried.{if_carried, case_carried as case_statement_carried}
+use Rattle.psm_print.proofs.BlockCarried.{loop_carried, while_carried, repeat_carried, for_carried, handler_carried, body_carried, declare_carried, begin_carried}
 
 part_carried : (n : Part) → Carried (part_without_positions n) (productions n)
 part_carried Enclosed = enclosed_carried

@@ -22,11 +22,11 @@ use Rattle.psm_tree.specs.declared.expr.Operator.{Operator}
 use Rattle.psm_tree.specs.declared.expr.ChainLink.{ChainLink}
 use Rattle.psm_tree.specs.declared.expr.When.{When}
 use Rattle.psm_tree.specs.declared.expr.Pick.{Pick, roll-Pick}
-use Rattle.psm_unplaced.specs.WithoutPositions.{origin}
-use Rattle.psm_unplaced.specs.ExprWithoutPositions.{name_without_positions, target_without_positions, names_without_positions, targets_without_positions, type_without_positions, constant_without_positions, alias_without_positions, expr_without_positions, chain_link_without_positions, when_without_positions, select_without_positions, pick_without_positions}
-use Rattle.psm_unplaced.proofs.ValuesWithoutPositions.{same, both, all_three, place_without_positions, at_without_positions, test_without_positions, name_rest_without_positions, inside_without_positions, whens_without_positions, cases_without_positions, from_without_positions, item_without_positions}
-use Rattle.psm_unplaced.proofs.Equations.{expr_rolled, chain_link_rolled, when_rolled, select_rolled, pick_rolled}
-use Rattle.psm_unplaced.proofs.Carried.{Carried, carried_token, carried_place, carried_at, carried_name, carried_level, carried_level_at, carried_nothing, carried_seq, carried_or, carried_ahead, carried_many, carried_image, carried_pair, carried_triple, carried_several, carried_cons, carried_optional, carried_after, carried_before, carried_within}
+use Rattle.psm_print.specs.WithoutPositions.{origin}
+use Rattle.psm_print.specs.ExprWithoutPositions.{name_without_positions, target_without_positions, names_without_positions, targets_without_positions, type_without_positions, constant_without_positions, alias_without_positions, expr_without_positions, chain_link_without_positions, when_without_positions, select_without_positions, pick_without_positions}
+use Rattle.psm_print.proofs.ValuesWithoutPositions.{same, both, all_three, place_without_positions, at_without_positions, test_without_positions, name_rest_without_positions, inside_without_positions, whens_without_positions, cases_without_positions, from_without_positions, item_without_positions}
+use Rattle.psm_print.proofs.PlacelessEquations.{expr_rolled, chain_link_rolled, when_rolled, select_rolled, pick_rolled}
+use Rattle.psm_print.proofs.Carried.{Carried, carried_token, carried_place, carried_at, carried_name, carried_level, carried_level_at, carried_nothing, carried_seq, carried_or, carried_ahead, carried_many, carried_image, carried_pair, carried_triple, carried_several, carried_cons, carried_optional, carried_after, carried_before, carried_within}
 
 -- ---- names
 

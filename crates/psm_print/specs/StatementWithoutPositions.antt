@@ -36,8 +36,8 @@ use Rattle.psm_tree.specs.declared.statement.Where.{Where}
 use Rattle.psm_tree.specs.declared.statement.Where.TheVariants as wheres
 use Rattle.psm_tree.specs.declared.statement.Simple.{Simple}
 use Rattle.psm_tree.specs.declared.statement.Simple.TheVariants as simples
-use Rattle.psm_unplaced.specs.WithoutPositions.{origin}
-use Rattle.psm_unplaced.specs.ExprWithoutPositions.{name_without_positions, target_without_positions, names_without_positions, targets_without_positions, type_without_positions, state_without_positions, expr_without_positions, select_without_positions}
+use Rattle.psm_print.specs.WithoutPositions.{origin}
+use Rattle.psm_print.specs.ExprWithoutPositions.{name_without_positions, target_without_positions, names_without_positions, targets_without_positions, type_without_positions, state_without_positions, expr_without_positions, select_without_positions}
 
 -- ---- parts of statements
 

@@ -6,14 +6,14 @@ use Rattle.psm_tree.specs.Parts.{Phase, Declarations, Cursors, Handlers, Handler
 use Rattle.psm_tree.specs.StatementValues.{with_declared}
 use Rattle.psm_tree.specs.StatementGrammar
 use Rattle.psm_tree.specs.declared.statement.HandlerKind.{HandlerKind}
-use Rattle.psm_unplaced.specs.WithoutPositions.{origin}
-use Rattle.psm_unplaced.specs.ExprWithoutPositions.{type_without_positions, expr_without_positions, name_without_positions}
-use Rattle.psm_unplaced.specs.StatementWithoutPositions.{ordered_query_without_positions, for_cursor_without_positions, handler_value_without_positions, handler_without_positions}
-use Rattle.psm_unplaced.proofs.ValuesWithoutPositions.{same, both, at_without_positions, statements_without_positions, for_parts_without_positions, handler_parts_without_positions, named_rest_without_positions, declared_without_positions, body_without_positions}
-use Rattle.psm_unplaced.proofs.Equations.{handler_rolled}
-use Rattle.psm_unplaced.proofs.Carried.{Carried, carried_place, carried_name, carried_level_at, carried_next, carried_nothing, carried_seq, carried_or, carried_image, carried_pair, carried_triple, carried_several, carried_cons, carried_optional, carried_after, carried_before}
-use Rattle.psm_unplaced.proofs.ExprCarried.{next_names_carried, data_type_carried, expr_carried, source_carried}
-use Rattle.psm_unplaced.proofs.StatementCarried.{state_carried, ordered_select_carried, statement_carried, ended_statements_carried, statements_carried}
+use Rattle.psm_print.specs.WithoutPositions.{origin}
+use Rattle.psm_print.specs.ExprWithoutPositions.{type_without_positions, expr_without_positions, name_without_positions}
+use Rattle.psm_print.specs.StatementWithoutPositions.{ordered_query_without_positions, for_cursor_without_positions, handler_value_without_positions, handler_without_positions}
+use Rattle.psm_print.proofs.ValuesWithoutPositions.{same, both, at_without_positions, statements_without_positions, for_parts_without_positions, handler_parts_without_positions, named_rest_without_positions, declared_without_positions, body_without_positions}
+use Rattle.psm_print.proofs.PlacelessEquations.{handler_rolled}
+use Rattle.psm_print.proofs.Carried.{Carried, carried_place, carried_name, carried_level_at, carried_next, carried_nothing, carried_seq, carried_or, carried_image, carried_pair, carried_triple, carried_several, carried_cons, carried_optional, carried_after, carried_before}
+use Rattle.psm_print.proofs.ExprCarried.{next_names_carried, data_type_carried, expr_carried, source_carried}
+use Rattle.psm_print.proofs.StatementCarried.{state_carried, ordered_select_carried, statement_carried, ended_statements_carried, statements_carried}
 
 -- ---- loops
 

@@ -13,8 +13,8 @@ use Rattle.psm_tree.specs.declared.statement.Block.TheOpen.{Branch-F, Handler-F}
 use Rattle.psm_tree.specs.declared.statement.Block.TheFolds.{map-Block, map-Statement, map-Branch, map-Handler, fold-roll-Block, fold-roll-Statement, fold-roll-Branch, fold-roll-Handler}
 use Rattle.psm_tree.specs.declared.statement.Branch.{Branch, roll-Branch}
 use Rattle.psm_tree.specs.declared.statement.Handler.{Handler, roll-Handler}
-use Rattle.psm_unplaced.specs.ExprWithoutPositions.{Layer, expr_step, pick_step, chain_link_step, select_step, when_step, expr_without_positions, pick_without_positions, chain_link_without_positions, select_without_positions, when_without_positions}
-use Rattle.psm_unplaced.specs.StatementWithoutPositions.{BlockLayer, Layer as StatementLayer, block_step, statement_step, branch_step, handler_step, block_without_positions, statement_without_positions, branch_without_positions, handler_without_positions}
+use Rattle.psm_print.specs.ExprWithoutPositions.{Layer, expr_step, pick_step, chain_link_step, select_step, when_step, expr_without_positions, pick_without_positions, chain_link_without_positions, select_without_positions, when_without_positions}
+use Rattle.psm_print.specs.StatementWithoutPositions.{BlockLayer, Layer as StatementLayer, block_step, statement_step, branch_step, handler_step, block_without_positions, statement_without_positions, branch_without_positions, handler_without_positions}
 
 pub expr_rolled : (layer : Layer) → expr_without_positions (roll-Expr layer) ≡ expr_step (map-Expr Expr Pick ChainLink Select When Expr Pick ChainLink Select When expr_without_positions pick_without_positions chain_link_without_positions select_without_positions when_without_positions layer)
 expr_rolled layer = fold-roll-Expr Expr Pick ChainLink Select When expr_step pick_step chain_link_step select_step when_step layer

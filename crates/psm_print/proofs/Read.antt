@@ -13,7 +13,7 @@ use Rattle.psm_tree.specs.Reading.{most_levels, ReadsAll}
 use Rattle.psm_tree.specs.declared.file.FileTree.{FileTree}
 use Rattle.psm_print.specs.Printing.{Derives, IsSpelledTree}
 use Rattle.psm_print.proofs.TreePrinted.{file_tree}
-use Rattle.psm_format.specs.Formatting.{HasTree}
+use Rattle.psm_print.specs.Formatting.{HasTree}
 
 derived : (ts : List Placed) (t : FileTree) → Good (Spells productions 0 file) AtEnd most_levels ts t [] → Derives ts t
 derived ts t g = record { word = g.front; whole = sym (g.parts ∙ append-nil (toks g.front)); spells = g.spelled }

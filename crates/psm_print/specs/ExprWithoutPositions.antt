@@ -17,7 +17,7 @@ use Rattle.psm_tree.specs.declared.expr.When.{When, roll-When}
 use Rattle.psm_tree.specs.declared.expr.Select.{Select, roll-Select}
 use Rattle.psm_tree.specs.declared.expr.Pick.{Pick}
 use Rattle.psm_tree.specs.declared.expr.Pick.TheVariants as picked
-use Rattle.psm_unplaced.specs.WithoutPositions.{origin}
+use Rattle.psm_print.specs.WithoutPositions.{origin}
 
 -- ---- names, types and constants
 

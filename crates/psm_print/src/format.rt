@@ -1,9 +1,9 @@
 //! From the bytes of a module file to its text.
 ghost use Rattle.std.specs.Prelude.{◌<◌, length};
-ghost use Rattle.psm_format.specs.Formatting.{Formats};
+ghost use Rattle.psm_print.specs.Formatting.{Formats};
 
+use crate::tree_text::print;
 use psm_parse_file::parse_file;
-use psm_print::print;
 use psm_token::{LexFault, tokens};
 use psm_tree::ParseFault;
 use std::alloc::{AllocError, Global};
@@ -21,7 +21,7 @@ pub enum FormatFault {
 
 impl From<AllocError> for FormatFault {
     ghost use Rattle.std.specs.Prelude.{◌≡◌};
-    ghost use Rattle.psm_format.specs.declared.format.FormatFault.TheVariants.{Memory};
+    ghost use Rattle.psm_print.specs.declared.format.FormatFault.TheVariants.{Memory};
 
     ghost from_gives = { λ _ e. e ≡ Memory };
 

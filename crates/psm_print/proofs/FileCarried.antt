@@ -7,14 +7,14 @@ use Rattle.psm_tree.specs.FileValues.{TableRest, tables_from, table_of, last_pla
 use Rattle.psm_tree.specs.FileGrammar
 use Rattle.psm_tree.specs.declared.statement.Statement.{Statement}
 use Rattle.psm_tree.specs.declared.file.Characteristic.{Characteristic}
-use Rattle.psm_unplaced.specs.WithoutPositions.{origin}
-use Rattle.psm_unplaced.specs.ExprWithoutPositions.{name_without_positions, type_without_positions}
-use Rattle.psm_unplaced.specs.StatementWithoutPositions.{statement_without_positions}
-use Rattle.psm_unplaced.specs.FileWithoutPositions.{column_rule_without_positions, table_rule_without_positions, element_without_positions, table_without_positions, parameter_without_positions, characteristic_without_positions, routine_without_positions, file_without_positions, argument_without_positions, row_without_positions, command_without_positions, script_without_positions}
-use Rattle.psm_unplaced.proofs.ValuesWithoutPositions.{same, both, place_without_positions}
-use Rattle.psm_unplaced.proofs.Carried.{Carried, carried_place, carried_at, carried_name, carried_seq, carried_or, carried_ahead, carried_many, carried_image, carried_pair, carried_triple, carried_several, carried_cons, carried_optional, carried_after, carried_before, carried_within}
-use Rattle.psm_unplaced.proofs.ExprCarried.{names_in_parens_carried, varying_carried, char_length_carried, plain_type_carried, data_type_carried, constant_carried, expr_carried}
-use Rattle.psm_unplaced.proofs.StatementCarried.{ordered_select_carried, statement_carried}
+use Rattle.psm_print.specs.WithoutPositions.{origin}
+use Rattle.psm_print.specs.ExprWithoutPositions.{name_without_positions, type_without_positions}
+use Rattle.psm_print.specs.StatementWithoutPositions.{statement_without_positions}
+use Rattle.psm_print.specs.FileWithoutPositions.{column_rule_without_positions, table_rule_without_positions, element_without_positions, table_without_positions, parameter_without_positions, characteristic_without_positions, routine_without_positions, file_without_positions, argument_without_positions, row_without_positions, command_without_positions, script_without_positions}
+use Rattle.psm_print.proofs.ValuesWithoutPositions.{same, both, place_without_positions}
+use Rattle.psm_print.proofs.Carried.{Carried, carried_place, carried_at, carried_name, carried_seq, carried_or, carried_ahead, carried_many, carried_image, carried_pair, carried_triple, carried_several, carried_cons, carried_optional, carried_after, carried_before, carried_within}
+use Rattle.psm_print.proofs.ExprCarried.{names_in_parens_carried, varying_carried, char_length_carried, plain_type_carried, data_type_carried, constant_carried, expr_carried}
+use Rattle.psm_print.proofs.StatementCarried.{ordered_select_carried, statement_carried}
 
 -- ---- tables
 

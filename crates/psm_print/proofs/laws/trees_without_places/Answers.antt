@@ -1,8 +1,8 @@
-use Rattle.psm_unplaced.proofs.ExprCarried.{expr_carried}
-use Rattle.psm_unplaced.proofs.StatementCarried.{statement_carried}
-use Rattle.psm_unplaced.proofs.FileCarried.{file_carried, script_carried}
-use Rattle.psm_unplaced.proofs.Apart.{spelled_without_positions}
-use Rattle.psm_unplaced.proofs.laws.trees_without_places.Goals as goal
+use Rattle.psm_print.proofs.ExprCarried.{expr_carried}
+use Rattle.psm_print.proofs.StatementCarried.{statement_carried}
+use Rattle.psm_print.proofs.FileCarried.{file_carried, script_carried}
+use Rattle.psm_print.proofs.Apart.{spelled_without_positions}
+use Rattle.psm_print.proofs.laws.trees_without_places.Goals as goal
 
 pub returns-clause-of_file : goal.returns-clause-of_file
 returns-clause-of_file c = spelled_without_positions file_carried 0

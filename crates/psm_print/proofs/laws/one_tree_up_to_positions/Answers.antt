@@ -1,11 +1,11 @@
 use Rattle.psm_tree.proofs.ExprFits.{expr_fit}
 use Rattle.psm_tree.proofs.StatementFits.{statement_fit}
 use Rattle.psm_tree.proofs.FileFits.{file_fit, script_fit}
-use Rattle.psm_unplaced.proofs.ExprCarried.{expr_carried}
-use Rattle.psm_unplaced.proofs.StatementCarried.{statement_carried}
-use Rattle.psm_unplaced.proofs.FileCarried.{file_carried, script_carried}
-use Rattle.psm_unplaced.proofs.Apart.{spelled_apart}
-use Rattle.psm_unplaced.proofs.laws.one_tree_up_to_positions.Goals as goal
+use Rattle.psm_print.proofs.ExprCarried.{expr_carried}
+use Rattle.psm_print.proofs.StatementCarried.{statement_carried}
+use Rattle.psm_print.proofs.FileCarried.{file_carried, script_carried}
+use Rattle.psm_print.proofs.Apart.{spelled_apart}
+use Rattle.psm_print.proofs.laws.one_tree_up_to_positions.Goals as goal
 
 pub returns-clause-of_file : goal.returns-clause-of_file
 returns-clause-of_file c = spelled_apart file_fit file_carried 0
