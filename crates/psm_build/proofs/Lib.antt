@@ -1,6 +1,7 @@
 pub mod Reading
 pub mod Sources
 pub mod Files
+pub mod Total
 pub mod Compiled
 pub mod Ending
 pub mod EmptyTables

@@ -1,7 +1,7 @@
 //! Laws of what bytes are.
 ghost use Rattle.std.specs.Prelude.{◌≡◌, ℕ, List};
 ghost use Rattle.psm_meaning.specs.Session.{Session};
-ghost use Rattle.psm_build.specs.Once.{Exclusive, IsEnd};
+ghost use Rattle.psm_build.specs.Once.{Exclusive, IsEnd, Total};
 ghost use Rattle.psm_build.specs.Program.{EndsIn, IsModuleFault, IsModuleFile, IsScriptFault, IsScriptFile};
 
 /// The bytes of a file are at most one thing: a module file or the one first fault of one, and, over a module file, a script or the one
@@ -12,4 +12,11 @@ pub fn files_are_one_thing()
     ensures scripts { (ms ss : List ℕ) → Exclusive (IsScriptFile ms ss) (IsScriptFault ms ss) }
     ensures sessions { (ms ss : List ℕ) (turns : ℕ) (a b : Session) → EndsIn ms ss turns a → EndsIn ms ss turns b → a ≡ b }
     ensures ends { (ms ss : List ℕ) (turns : ℕ) (s : Session) → EndsIn ms ss turns s → IsEnd s.end }
+{}
+
+/// The bytes of a file are at least one thing: a module file or a first fault of one, and, over a module file, a script or a first
+/// fault of one.
+pub fn files_are_something()
+    ensures modules { (ms : List ℕ) → Total (IsModuleFile ms) (IsModuleFault ms) }
+    ensures scripts { (ms ss : List ℕ) → IsModuleFile ms → Total (IsScriptFile ms ss) (IsScriptFault ms ss) }
 {}
