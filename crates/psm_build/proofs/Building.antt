@@ -15,13 +15,14 @@ use Rattle.psm_code.specs.declared.code.RawCode.{RawCode}
 use Rattle.psm_session.specs.declared.command.ScriptCode.{ScriptCode}
 use Rattle.psm_build.specs.Source.{module_files, scripts, IsTreeOf, IsAccepted, IsAcceptedScript}
 use Rattle.psm_build.specs.Reported.{reported_of_script}
-use Rattle.psm_build.specs.Program.{IsModuleFile, StandsFor}
-use Rattle.psm_build.specs.Building.{ReadsTree, Accepts, Compiles, Builds, BuildsScript, BuildsOver}
+use Rattle.psm_build.specs.Program.{IsModuleFault, IsModuleFile, IsScriptFault, IsScriptFile, StandsFor}
+use Rattle.psm_build.specs.Building.{ReadsTree, Accepts, Compiles, Builds, BuildsScript, BuildsOver, GivesRefusal}
 use Rattle.psm_build.specs.Outcome.{RunsOver}
 use Rattle.psm_build.specs.declared.fault.BuildFault.{BuildFault}
+use Rattle.psm_build.specs.declared.fault.Fault.{Fault}
 use Rattle.psm_build.specs.declared.fault.BuildFault.TheVariants.{Refused, Memory}
 use Rattle.psm_build.proofs.Compiled.{compiled_stands, fault_over, script_file_over}
-use Rattle.psm_build.proofs.Files.{module_exclusive}
+use Rattle.psm_build.proofs.Files.{module_exclusive, script_exclusive}
 use Rattle.psm_build.proofs.Scripts.{runs_over}
 
 -- a file without a tree
@@ -61,6 +62,12 @@ module_given bytes (Ok code) h is = tt
 module_given bytes (Err (Refused line column fault)) h is = absurd ((module_exclusive bytes).file_or_fault line column fault is h)
 module_given bytes (Err Memory) h is = refl
 
+-- and its refusal, where the bytes are none
+pub module_refused : (bytes : List ℕ) (answer : Result RawCode BuildFault) → Builds bytes answer → (l c : ℕ) (f : Fault) → IsModuleFault bytes l c f → GivesRefusal l c f answer
+module_refused bytes (Ok code) h l c f k = (module_exclusive bytes).file_or_fault l c f h.file k
+module_refused bytes (Err (Refused line column fault)) h l c f k = inl ((module_exclusive bytes).one_fault line column l c fault f h k)
+module_refused bytes (Err Memory) h l c f k = inr refl
+
 -- the answer over the module file for which the code stands
 pub built_over : (code : RawCode) (ss : List ℕ) (answer : Result ScriptCode BuildFault) → BuildsScript code ss answer → (ms : List ℕ) → StandsFor ms code → BuildsOver ms ss answer
 built_over code ss (Ok s) h ms stands = script_file_over ms ss code s.commands stands h
@@ -71,3 +78,17 @@ built_over code ss (Err Memory) h ms stands = tt
 pub given_runs : (code : RawCode) (ss : List ℕ) (answer : Result ScriptCode BuildFault) → BuildsScript code ss answer → (ms : List ℕ) → StandsFor ms code → IfOk answer (λ s. RunsOver ms ss code s.commands)
 given_runs code ss (Ok s) h ms stands = runs_over ms ss code s.commands stands h
 given_runs code ss (Err e) h ms stands = tt
+
+-- the answer for a script over that file
+pub script_given : (code : RawCode) (ss : List ℕ) (answer : Result ScriptCode BuildFault) → BuildsScript code ss answer → (ms : List ℕ) → StandsFor ms code → IsScriptFile ms ss → IsOkUnless answer Memory
+script_given code ss (Ok s) h ms stands is = tt
+script_given code ss (Err (Refused line column fault)) h ms stands is = absurd ((script_exclusive ms ss).file_or_fault line column fault is (fault_over ms ss code line column fault stands h))
+script_given code ss (Err Memory) h ms stands is = refl
+
+-- and its refusal, where the bytes are none
+pub script_refused_over : (code : RawCode) (ss : List ℕ) (answer : Result ScriptCode BuildFault) → BuildsScript code ss answer → (ms : List ℕ) → StandsFor ms code → (l c : ℕ) (f : Fault) → IsScriptFault ms ss l c f
+    → GivesRefusal l c f answer
+script_refused_over code ss (Ok s) h ms stands l c f k = (script_exclusive ms ss).file_or_fault l c f (script_file_over ms ss code s.commands stands h) k
+script_refused_over code ss (Err (Refused line column fault)) h ms stands l c f k =
+    inl ((script_exclusive ms ss).one_fault line column l c fault f (fault_over ms ss code line column fault stands h) k)
+script_refused_over code ss (Err Memory) h ms stands l c f k = inr refl

@@ -1,5 +1,5 @@
 -- What is answered for the bytes of a file.
-use Rattle.std.specs.Prelude.{ℕ, ◌⊎◌, List, Result, Ok, Err, All, IsTrue}
+use Rattle.std.specs.Prelude.{◌≡◌, ℕ, ◌⊎◌, List, Result, Ok, Err, All, IsTrue}
 use Rattle.psm_token.specs.declared.token.Placed.{Placed}
 use Rattle.psm_token.specs.Listed.{Tokens}
 use Rattle.psm_token.specs.Spells.{Spells}
@@ -16,6 +16,7 @@ use Rattle.psm_session.specs.declared.command.ScriptCode.{ScriptCode}
 use Rattle.psm_build.specs.Source.{scripts, IsTreeOf, IsTokenFault, IsFaultAt, IsAccepted, BreaksRule, IsScriptRuleFault}
 use Rattle.psm_build.specs.Program.{IsModuleFault, IsScriptFault, IsScriptFile, IsScriptOf, StandsFor}
 use Rattle.psm_build.specs.declared.fault.BuildFault.{BuildFault}
+use Rattle.psm_build.specs.declared.fault.Fault.{Fault}
 use Rattle.psm_build.specs.declared.fault.BuildFault.TheVariants.{Refused, Memory}
 
 -- ---- tokens and trees
@@ -65,3 +66,10 @@ abbrev pub BuildsOver : List ℕ → List ℕ → Result ScriptCode BuildFault �
 BuildsOver ms ss (Ok s) = IsScriptFile ms ss
 BuildsOver ms ss (Err (Refused line column fault)) = IsScriptFault ms ss line column fault
 BuildsOver ms ss (Err Memory) = Unit {0}
+
+-- ---- refusals
+
+-- the answer is that refusal, unless memory runs out
+abbrev pub GivesRefusal : {A : Type 0} → ℕ → ℕ → Fault → Result A BuildFault → Type 0
+GivesRefusal line column fault (Ok a) = ⊥
+GivesRefusal line column fault (Err e) = (e ≡ Refused line column fault) ⊎ (e ≡ Memory)

@@ -1,8 +1,9 @@
 //! Code of a module file, and scripts over it.
 ghost use Rattle.std.specs.Prelude.{◌<◌, ℕ, List as Seq, length, IfOk, IsOkUnless};
-ghost use Rattle.psm_build.specs.Program.{IsModuleFile, StandsFor};
+ghost use Rattle.psm_build.specs.Program.{IsModuleFault, IsModuleFile, IsScriptFault, IsScriptFile, StandsFor};
 ghost use Rattle.psm_build.specs.Outcome.{RunsOver};
-ghost use Rattle.psm_build.specs.Building.{Accepts, Builds, BuildsScript, BuildsOver, Compiles};
+ghost use Rattle.psm_build.specs.Building.{Accepts, Builds, BuildsScript, BuildsOver, Compiles, GivesRefusal};
+ghost use Rattle.psm_build.specs.declared.fault.Fault.{Fault as FirstFault};
 
 use crate::fault::{BuildFault, refused_rule, refused_script};
 use crate::read::{module_tree, script_tree};
@@ -23,13 +24,15 @@ use std::alloc::Global;
 /// `Refused` exactly where the bytes are no tokens, spell no module file or one with a fault, with the first fault: that
 /// of the tokens, the place where they stop to spell a module file, the token that opens level 101 of nesting, or the
 /// earliest part that breaks a rule. `Memory`.
-#[tactic(auto, using(crate::proofs::Building::module_given))]
+#[tactic(auto, using(crate::proofs::Building::module_given, crate::proofs::Building::module_refused))]
 pub fn build(alloc: Global, bytes: &[u8]) -> Result<RawCode, BuildFault>
     requires { length bytes.now < 4294967295 }
     // What is given stands for the module file, and a fault is the file's.
     ensures builds { Builds bytes.now result }
     // A module file is built, unless memory runs out.
     ensures only { IsModuleFile bytes.now → IsOkUnless result BuildFault.Memory }
+    // Other bytes are refused for their first fault, unless memory runs out.
+    ensures only_fault { (l c : ℕ) (f : FirstFault) → IsModuleFault bytes.now l c f → GivesRefusal l c f result }
 {
     code_of(alloc, bytes)
 }
@@ -73,13 +76,16 @@ fn compiled(alloc: Global, tree: &FileTree) -> Result<RawCode, BuildFault>
 /// # Errors
 /// `Refused` exactly where the bytes are no tokens, spell no script or one with a fault over the tables and procedures of the code,
 /// with the first fault, as of a module file. `Memory`.
-#[tactic(auto, using(crate::proofs::Building::built_over, crate::proofs::Building::given_runs))]
+#[tactic(auto, using(crate::proofs::Building::built_over, crate::proofs::Building::given_runs, crate::proofs::Building::script_given, crate::proofs::Building::script_refused_over))]
 pub fn build_script(alloc: Global, code: &RawCode, bytes: &[u8]) -> Result<ScriptCode, BuildFault>
     requires { length bytes.now < 4294967295 }
     // What is given is the file's script, and a fault is the file's.
     ensures builds { BuildsScript code.now bytes.now result }
     // Over code that stands for a module file, it is a script over that file, or has that fault over it.
     ensures over { (ms : Seq ℕ) → StandsFor ms code.now → BuildsOver ms bytes.now result }
+    // Over such code a script over the file is given, and other bytes are refused for their first fault, unless memory runs out.
+    ensures only { (ms : Seq ℕ) → StandsFor ms code.now → IsScriptFile ms bytes.now → IsOkUnless result BuildFault.Memory }
+    ensures only_fault { (ms : Seq ℕ) → StandsFor ms code.now → (l c : ℕ) (f : FirstFault) → IsScriptFault ms bytes.now l c f → GivesRefusal l c f result }
     // Its commands can be run, and each run of them shows the session that the two files end in, with its tables and turns.
     ensures runs { (ms : Seq ℕ) → StandsFor ms code.now → IfOk result (λ s. RunsOver ms bytes.now code.now s.commands) }
 {

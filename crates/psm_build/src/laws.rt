@@ -15,8 +15,9 @@ pub fn files_are_one_thing()
 {}
 
 /// The bytes of a file are at least one thing: a module file or a first fault of one, and, over a module file, a script or a first
-/// fault of one.
+/// fault of one. A module file and a script over it have a session with each number of turns.
 pub fn files_are_something()
     ensures modules { (ms : List ℕ) → Total (IsModuleFile ms) (IsModuleFault ms) }
     ensures scripts { (ms ss : List ℕ) → IsModuleFile ms → Total (IsScriptFile ms ss) (IsScriptFault ms ss) }
+    ensures sessions { (ms ss : List ℕ) (turns : ℕ) → IsScriptFile ms ss → (s : Session) × EndsIn ms ss turns s }
 {}

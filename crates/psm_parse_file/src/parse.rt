@@ -4,6 +4,7 @@ ghost use Rattle.psm_grammar.specs.Grammar.{Spells};
 ghost use Rattle.psm_tree.specs.FileGrammar.{file as file_grammar, script as script_grammar};
 ghost use Rattle.psm_tree.specs.Productions.{productions};
 ghost use Rattle.psm_tree.specs.Reading.{ReadsAll};
+ghost use Rattle.psm_parse_file.specs.Only.{GivesFault, GivesTree};
 ghost use Rattle.psm_parse_file.specs.Whole.{whole as whole_of};
 
 use crate::command::script;
@@ -24,7 +25,12 @@ const MOST_LEVELS: u32 = 100;
 /// comes where each file that begins with the tokens before it opens level 101 of nesting there. `Memory`
 /// may come at any tokens, where memory runs out.
 pub fn parse_file(alloc: Global, tokens: &TokenList) -> Result<FileTree, ParseFault>
-    ensures { ReadsAll (Spells productions 0 file_grammar) (λ t. t) tokens.now result }
+    // The tree or the fault is that of the tokens.
+    ensures reads { ReadsAll (Spells productions 0 file_grammar) (λ t. t) tokens.now result }
+    // Their tree is given, unless memory runs out.
+    ensures only { GivesTree (Spells productions 0 file_grammar) tokens.now result }
+    // Their fault is given, unless memory runs out.
+    ensures only_fault { GivesFault (Spells productions 0 file_grammar) tokens.now result }
 {
     let mut cursor = Tokens::of(tokens.items());
     let read = file(alloc, &mut cursor, MOST_LEVELS);
@@ -39,7 +45,12 @@ pub fn parse_file(alloc: Global, tokens: &TokenList) -> Result<FileTree, ParseFa
 /// comes where each script that begins with the tokens before it opens level 101 of nesting there. `Memory`
 /// may come at any tokens, where memory runs out.
 pub fn parse_script(alloc: Global, tokens: &TokenList) -> Result<ScriptTree, ParseFault>
-    ensures { ReadsAll (Spells productions 0 script_grammar) (λ t. t) tokens.now result }
+    // The tree or the fault is that of the tokens.
+    ensures reads { ReadsAll (Spells productions 0 script_grammar) (λ t. t) tokens.now result }
+    // Their tree is given, unless memory runs out.
+    ensures only { GivesTree (Spells productions 0 script_grammar) tokens.now result }
+    // Their fault is given, unless memory runs out.
+    ensures only_fault { GivesFault (Spells productions 0 script_grammar) tokens.now result }
 {
     let mut cursor = Tokens::of(tokens.items());
     let read = script(alloc, &mut cursor, MOST_LEVELS);
