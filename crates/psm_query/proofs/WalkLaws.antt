@@ -32,7 +32,7 @@ module _ (items : Items) (start : Gathered) (test : List Datum → Result Truth 
   abbrev Due : Result Gathered SqlState
   Due = mapped (with_rows items start) (walked test take order)
 
-  rows_after : (now : Gathered) (o : Option (List Datum)) (more : List (List Datum)) → with_rows items now (cons_option o more) ≡ with_rows items (with_taken items now o) more
+  pub rows_after : (now : Gathered) (o : Option (List Datum)) (more : List (List Datum)) → with_rows items now (cons_option o more) ≡ with_rows items (with_taken items now o) more
   rows_after now None more = refl
   rows_after now (Some vs) more = refl
 

@@ -23,7 +23,7 @@ with_lines out rows = out ++ row_lines rows
 abbrev with_line : List ℕ → Option (List Datum) → List ℕ
 with_line out o = out ++ taken_line o
 
-lines_after : (out : List ℕ) (o : Option (List Datum)) (more : List (List Datum)) → with_lines out (cons_option o more) ≡ with_lines (with_line out o) more
+pub lines_after : (out : List ℕ) (o : Option (List Datum)) (more : List (List Datum)) → with_lines out (cons_option o more) ≡ with_lines (with_line out o) more
 lines_after out None more = ap (λ l. l ++ row_lines more) (sym (append-nil out))
 lines_after out (Some row) more = sym (append_assoc out (row_line row) (row_lines more))
 
