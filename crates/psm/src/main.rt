@@ -5,7 +5,7 @@ mod top;
 mod words;
 
 use psm_io::{FileShelf, StdSink};
-use std::alloc::{AllocError, Global};
+use std::alloc::Global;
 use std::env;
 use std::process::ExitCode;
 use std::rt::Env;
