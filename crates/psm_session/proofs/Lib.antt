@@ -6,4 +6,4 @@ pub mod Marking
 pub mod Puts
 pub mod Queries
 pub mod Scripts
-pub mod Selecting
+pub mod WrittenRows

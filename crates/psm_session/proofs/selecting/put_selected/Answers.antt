@@ -14,7 +14,7 @@ use Rattle.psm_tablecode.proofs.Results.{gives_by}
 use Rattle.psm_tablecode.proofs.KeyWalks.{rows_few, walked_by}
 use Rattle.psm_tablecode.proofs.Fitting.{type_checks_row}
 use Rattle.psm_meaning.specs.Lines.{row_lines}
-use Rattle.psm_session.proofs.Selecting.{goes_end, goes_fault, goes_next}
+use Rattle.psm_session.proofs.WrittenRows.{goes_end, goes_fault, goes_next}
 use Rattle.psm_session.proofs.selecting.put_selected.Goals as goal
 use Rattle.psm_session.proofs.selecting.put_selected.Goals.{else-loop-at-test, then-loop-at-test+in_default}
 

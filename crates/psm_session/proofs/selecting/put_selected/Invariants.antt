@@ -4,7 +4,7 @@ use Rattle.psm_tablecode.specs.Asked.{rows_of}
 use Rattle.psm_tablecode.specs.Codes.{over}
 use Rattle.psm_tablecode.specs.RemainingRows.{rows_coming}
 use Rattle.psm_tablecode.specs.Rows.{values_for}
-use Rattle.psm_session.proofs.Selecting.{Goes}
+use Rattle.psm_session.proofs.WrittenRows.{Goes}
 use Rattle.psm_session.proofs.selecting.put_selected.Given as goal
 
 abbrev pub invariant-loop-at : goal.invariant-loop-at
