@@ -121,8 +121,7 @@ def line(kind, sizes, runs):
     return above
 
 
-def measure(chosen):
-    program = program_of([])
+def measure(chosen, program):
     above, failed = [], []
     print(HEAD, flush=True)
     for kind in chosen.kinds:
@@ -170,7 +169,15 @@ def main(words):
         for kind in chosen.kinds:
             print(f"{kind.name:28} {kind.largest:7} of {kind.most:7}  {kind.make.__doc__}")
         return 0
-    return write_files(chosen) if chosen.write else measure(chosen)
+    return write_files(chosen) if chosen.write else measure(chosen, program_of([]))
+
+
+def grow(program, runs):
+    """Prints the lines of the kinds of which the run is measured, or of the others."""
+    chosen = options([])
+    chosen.kinds = [kind for kind in chosen.kinds if kind.runs == runs]
+    print()
+    return measure(chosen, program)
 
 
 if __name__ == "__main__":

@@ -10,7 +10,7 @@ import string
 
 from measure import MOST_ROWS, in_module
 
-Kind = collections.namedtuple("Kind", "name make largest most counts_rows")
+Kind = collections.namedtuple("Kind", "name make largest most counts_rows runs")
 # The end of the output is compared with `ends`.
 Files = collections.namedtuple("Files", "module script ends")
 
@@ -19,11 +19,14 @@ TABLE = "CREATE TABLE t (k INTEGER PRIMARY KEY, v INTEGER);\n"
 REFUSED = "SQLSTATE 23000 integrity constraint violation\n"
 
 
-def kind(largest, most, counts_rows=False):
-    """Marks a function as a kind, with the largest size that is measured unless another is asked for."""
+def kind(largest, most, counts_rows=False, runs=False):
+    """Marks a function as a kind, with the largest size that is measured unless another is asked for.
+
+    Of a kind marked by `runs` the run is measured; of the others reading, checking and code generation take most of the time.
+    """
 
     def mark(make):
-        KINDS[make.__name__] = Kind(make.__name__, make, largest, most, counts_rows)
+        KINDS[make.__name__] = Kind(make.__name__, make, largest, most, counts_rows, runs)
         return make
 
     return mark
@@ -174,7 +177,7 @@ def for_items(n):
     return Files(TABLE + in_module(body), ONE_ROW, called(n, 2))
 
 
-@kind(4_000, 450_000)
+@kind(4_000, 450_000, runs=True)
 def select_items_in_script(n):
     """a script's SELECT of n items over 300 rows"""
     rows = many(300, lambda i: f"({i},{i % 10})", ",")
@@ -207,28 +210,28 @@ def tables(n):
     return many(n, lambda i: f"CREATE TABLE t{i} (k INT PRIMARY KEY);\n", "")
 
 
-@kind(8_000, 195_000)
+@kind(8_000, 195_000, runs=True)
 def commits(n):
     """n tables, and n COMMITs of nothing in a script"""
     script = many(n, lambda i: "COMMIT;\n", "") + f"INSERT INTO t{n - 1} VALUES (7);\nSELECT k FROM t{n - 1};\n"
     return Files(tables(n) + in_module(""), script, f"{n + 2} SELECT\nROW 7\nOK\n")
 
 
-@kind(8_000, 195_000)
+@kind(8_000, 195_000, runs=True)
 def commits_of_changes(n):
     """n tables, and an INSERT into each in a script, with a COMMIT after each"""
     script = many(n, lambda i: f"INSERT INTO t{i} VALUES ({i});\nCOMMIT;\n", "") + f"SELECT k FROM t{n - 1};\n"
     return Files(tables(n) + in_module(""), script, f"{2 * n + 1} SELECT\nROW {n - 1}\nOK\n")
 
 
-@kind(8_000, 195_000)
+@kind(8_000, 195_000, runs=True)
 def rollbacks_of_changes(n):
     """n tables, and an INSERT into each in a script, with a ROLLBACK after each"""
     script = many(n, lambda i: f"INSERT INTO t{i} VALUES ({i});\nROLLBACK;\n", "") + f"SELECT COUNT(*) FROM t{n - 1};\n"
     return Files(tables(n) + in_module(""), script, f"{2 * n + 1} SELECT\nROW 0\nOK\n")
 
 
-@kind(8_000, 110_000)
+@kind(8_000, 110_000, runs=True)
 def tables_in_routine(n):
     """a routine that inserts a row into each of n tables"""
     inserts = many(n, lambda i: f"INSERT INTO t{i} VALUES ({i});")
@@ -270,7 +273,7 @@ END;"""
     return Files(in_module(body), f"CALL p({n}, ?);\n", called(n))
 
 
-@kind(8_000, 180_000)
+@kind(8_000, 180_000, runs=True)
 def handlers(n):
     """a block with n handlers, and n conditions that are raised for the last one"""
     head = "DECLARE CONTINUE HANDLER FOR SQLSTATE"
@@ -278,7 +281,7 @@ def handlers(n):
     return raised(n, f"{others}{head} '{state(n - 1)}' SET r = r + 1;")
 
 
-@kind(20_000, 660_000)
+@kind(20_000, 660_000, runs=True)
 def handler_values(n):
     """a handler of n SQLSTATEs, and n conditions that are raised for the last one"""
     values = many(n, lambda i: f"SQLSTATE '{state(i)}'", ",")
@@ -344,14 +347,14 @@ END;"""
     return Files(in_module(made + "\n" + body), "CALL p(?);\n", called(n * (n - 1) // 2))
 
 
-@kind(8_000, 300_000)
+@kind(8_000, 300_000, runs=True)
 def long_variables(n):
     """n variables of CHAR(4000) with a DEFAULT"""
     body = f"PROCEDURE p (OUT r INTEGER) BEGIN DECLARE {names('v', n)} CHAR(4000) DEFAULT 'x'; SET r = CHAR_LENGTH(v{n - 1}); END;"
     return Files(in_module(body), "CALL p(?);\n", called(4000))
 
 
-@kind(20_000, 115_000)
+@kind(20_000, 115_000, runs=True)
 def cursors(n):
     """n cursors that are open at once, and a FETCH of each"""
     declared = many(n, lambda i: f"DECLARE c{i} CURSOR FOR SELECT k FROM t;")
@@ -394,32 +397,32 @@ def committed(n, unique="", more="", at_end=""):
     return Files(table + in_module(INSERTS + more), script + at_end + counted, f" SELECT\nROW {n}\nOK\n")
 
 
-@kind(100_000, MOST_ROWS, counts_rows=True)
+@kind(100_000, MOST_ROWS, counts_rows=True, runs=True)
 def rows(n):
     """n rows of two INTEGERs, with a COMMIT after each thousand"""
     return committed(n)
 
 
-@kind(100_000, MOST_ROWS, counts_rows=True)
+@kind(100_000, MOST_ROWS, counts_rows=True, runs=True)
 def unique_rows(n):
     """the same with the second column UNIQUE"""
     return committed(n, " UNIQUE")
 
 
-@kind(100_000, MOST_ROWS, counts_rows=True)
+@kind(100_000, MOST_ROWS, counts_rows=True, runs=True)
 def uncommitted_rows(n):
     """n rows of two INTEGERs that one CALL inserts, without a COMMIT"""
     script = f"CALL p(0,{n});\nSELECT COUNT(*) FROM t;\n"
     return Files(TABLE + in_module(INSERTS), script, f"2 SELECT\nROW {n}\nOK\n")
 
 
-@kind(100_000, MOST_ROWS, counts_rows=True)
+@kind(100_000, MOST_ROWS, counts_rows=True, runs=True)
 def updated_rows(n):
     """the rows of `rows`, and an UPDATE of them all"""
     return committed(n, more="  PROCEDURE u () UPDATE t SET v = v + 1;\n", at_end="CALL u();\n")
 
 
-@kind(100_000, MOST_ROWS, counts_rows=True)
+@kind(100_000, MOST_ROWS, counts_rows=True, runs=True)
 def undone_rows(n):
     """n rows with a UNIQUE column that an ATOMIC block inserts and undoes"""
     body = INSERTS + f"  PROCEDURE u () BEGIN ATOMIC CALL p(0,{n}); SIGNAL SQLSTATE '45000'; END;\n"
