@@ -1,5 +1,5 @@
 -- Positioned statements as parts of an instruction.
-use Rattle.std.proofs.Common.{◌≡◌, ℕ, Bool, List, map, slice_get, slice_set, Option, Some, None, IfSome, IsSome, Result, Ok, Err, refl, ap, sym, subst, ◌∙◌}
+use Rattle.std.proofs.Common.{◌≡◌, ℕ, Bool, true, List, map, slice_get, slice_set, Option, Some, None, IfSome, IsSome, Result, Ok, Err, refl, ap, sym, subst, ◌∙◌}
 use Rattle.std.specs.Prelude.{option_map}
 use Rattle.psm_cond.specs.declared.fault.DataFault.{DataFault}
 use Rattle.psm_cond.specs.declared.fault.DataFault.TheVariants as fault

@@ -12,7 +12,7 @@ use Rattle.psm_cond.specs.Condition.{alone}
 use Rattle.psm_cond.specs.Entry.{entry_of, name_text}
 use Rattle.psm_exprcode.specs.Kinds.{are_of, has_letter, letter_of}
 use Rattle.psm_exprcode.proofs.Standing.{both_true}
-use Rattle.psm_table.specs.Changing.{Changed, Division, Failure, OfTable, Raised, Schema, SetItem, counting, deleted, divided, ended, ended_with, in_order, inserted, is_before, kind_of, moving, new_values, placed_in, rows_but, rows_pass, set_row, stored_row, stored_rows, then_of, updated, updated_at, with_values}
+use Rattle.psm_table.specs.Changing.{Changed, Division, Failure, OfTable, Raised, Schema, SetItem, counting, deleted, deleted_at, divided, ended, ended_with, in_order, inserted, is_before, kind_of, moving, new_values, placed_in, rows_but, rows_pass, set_row, stored_row, stored_rows, then_of, updated, updated_at, with_values}
 use Rattle.psm_table.specs.Changing as changing
 use Rattle.psm_table.specs.Cursors.{Cursor, Closed, Plain, Insensitive, current, row_at, row_of_key}
 use Rattle.psm_table.specs.Definition.{kinds_of}
