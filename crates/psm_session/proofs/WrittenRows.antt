@@ -8,14 +8,20 @@ use Rattle.psm_sqlstate.specs.declared.state.SqlState.{SqlState}
 use Rattle.psm_value.specs.Answer.{Gives}
 use Rattle.psm_value.specs.declared.datum.Datum.{Datum}
 use Rattle.psm_value.specs.declared.fault.ValueFault.{ValueFault}
+use Rattle.psm_value.specs.declared.fault.ValueFault.TheVariants.{Condition, Memory}
 use Rattle.psm_value.specs.declared.truth.Truth.{Truth}
-use Rattle.psm_table.specs.Evaluator.{mapped}
-use Rattle.psm_table.specs.Queries.{taken, walked, Answer}
+use Rattle.psm_exprcode.specs.declared.items.Items.TheVariants.{Rows}
+use Rattle.psm_exprcode.specs.declared.op.Line.{Line}
+use Rattle.psm_exprcode.specs.declared.query.Query.{Query}
+use Rattle.psm_table.specs.Evaluator.{mapped, test_of}
+use Rattle.psm_table.specs.Queries.{answer, answered, in_walk, taken, walked, Answer}
+use Rattle.psm_tablecode.specs.Codes.{items_of, over, query_of}
+use Rattle.psm_tablecode.specs.Rows.{values_for}
 use Rattle.psm_tablecode.proofs.WalkLaws as walk
 use Rattle.psm_meaning.specs.Acts.{of_state}
 use Rattle.psm_meaning.specs.Lines.{condition_lines, ok_line, row_line, row_lines, values}
 use Rattle.psm_session.specs.Pieces.{selected_lines}
-use Rattle.psm_session.specs.Selected.{end_of_selected, taken_line}
+use Rattle.psm_session.specs.Selected.{end_of_selected, found_rows, taken_line, Shows, Writes}
 
 abbrev with_lines : List ℕ → List (List Datum) → List ℕ
 with_lines out rows = out ++ row_lines rows
@@ -70,6 +76,16 @@ rows_piece first out (Ok (row ∷ rows)) e =
     ∙ ap (λ o. o ++ ok_line) (sym some) ∙ append_assoc first (row_lines (row ∷ rows)) ok_line
 rows_piece first out (Err s) e = cc
 
-pub condition_piece : (first : List ℕ) (taken : Result (List (List Datum)) SqlState) (s : SqlState) → mapped (with_lines first) taken ≡ Err s → first ++ condition_lines (of_state s) ≡ first ++ selected_lines (mapped found taken)
-condition_piece first (Ok rows) s e = cc
-condition_piece first (Err t) s e = let same : t ≡ s = cc in ap (λ x. first ++ condition_lines (of_state x)) (sym same)
+pub fault_piece : (first piece : List ℕ) (taken : Result (List (List Datum)) SqlState) (fault : ValueFault) → Writes (mapped (with_lines first) taken) piece (Err fault) → (shown : List ℕ) → Shows first fault shown
+    → shown ≡ first ++ selected_lines (mapped found taken)
+fault_piece first piece (Ok rows) (Condition s) e shown h = cc
+fault_piece first piece (Err t) (Condition s) e shown h = let same : t ≡ s = cc in h ∙ ap (λ x. first ++ condition_lines (of_state x)) (sym same)
+fault_piece first piece taken Memory e shown h = absurd h
+
+-- ---- the answer
+
+-- without set functions the answer is what is taken of the rows
+pub found_is : (q : Query) (exprs : List (List Line)) (rows : List (List Datum)) → q.items ≡ Rows exprs → answer (over []) (query_of q) rows ≡ found_rows [] q rows
+found_is q exprs rows e =
+    let order = in_walk q.downward rows in
+    subst (λ i. answered (over []) q.test (items_of i) order ≡ mapped found (walked (test_of (over []) q.test) (values_for [] i) order)) (sym e) refl

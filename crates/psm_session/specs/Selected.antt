@@ -1,9 +1,10 @@
 -- The rows that a query selects, written one by one.
-use Rattle.std.specs.Prelude.{◌≡◌, ℕ, false, List, [], codes, nat_eq, Option, Some, None, Result, Ok, Err, if◌then◌else◌}
+use Rattle.std.specs.Prelude.{◌≡◌, ◌++◌, ℕ, false, List, [], codes, nat_eq, Option, Some, None, Result, Ok, Err, if◌then◌else◌}
 use Rattle.psm_sqlstate.specs.declared.state.SqlState.{SqlState}
 use Rattle.psm_value.specs.Answer.{Gives}
 use Rattle.psm_value.specs.declared.datum.Datum.{Datum}
 use Rattle.psm_value.specs.declared.fault.ValueFault.{ValueFault}
+use Rattle.psm_value.specs.declared.fault.ValueFault.TheVariants.{Condition, Memory}
 use Rattle.psm_exprcode.specs.declared.query.Query.{Query}
 use Rattle.psm_table.specs.Evaluator.{mapped, test_of}
 use Rattle.psm_table.specs.Queries.{in_walk, walked, Answer}
@@ -29,3 +30,8 @@ taken_line (Some row) = row_line row
 abbrev pub Writes : Result (List ℕ) SqlState → List ℕ → Result (Unit {0}) ValueFault → Type 0
 Writes due new (Ok u) = due ≡ Ok new
 Writes due new (Err fault) = Gives due (Err fault)
+
+-- the piece of a query that raises a condition, after its first line
+abbrev pub Shows : List ℕ → ValueFault → List ℕ → Type 0
+Shows first (Condition state) piece = piece ≡ first ++ condition_lines (of_state state)
+Shows first Memory piece = ⊥

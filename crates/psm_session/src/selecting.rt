@@ -5,18 +5,17 @@ ghost use Rattle.psm_table.specs.Queries.{in_walk, walked};
 ghost use Rattle.psm_tablecode.specs.Codes.{over};
 ghost use Rattle.psm_tablecode.specs.Rows.{values_for};
 ghost use Rattle.psm_tablecode.specs.TypeChecks.{TypeChecksTable};
-ghost use Rattle.psm_meaning.specs.Acts.{of_state};
-ghost use Rattle.psm_meaning.specs.Lines.{condition_lines, first_line, row_lines};
+ghost use Rattle.psm_meaning.specs.Lines.{first_line, row_lines};
 ghost use Rattle.psm_session.specs.Pieces.{selected_lines};
-ghost use Rattle.psm_session.specs.Selected.{end_of_selected, found_rows, taken_line, Writes};
+ghost use Rattle.psm_session.specs.Selected.{end_of_selected, found_rows, taken_line, Shows, Writes};
 
 use crate::lines::{put_first_line, put_ok, put_row};
 use crate::piece::{piece_of, put_state};
-use psm_cond::Condition;
+use psm_cond::DataFault;
 use psm_exprcode::Query;
 use psm_sqlstate::SqlState;
 use psm_store::{Row, Table};
-use psm_tablecode::{Coming, taken, walk_of};
+use psm_tablecode::{Coming, raised, taken, walk_of};
 use psm_value::{Datum, ValueFault};
 use std::alloc::{AllocError, Global};
 
@@ -39,17 +38,20 @@ pub(crate) fn piece_of_rows(
             put_end(alloc, &mut out, first)?;
             Ok(out)
         }
-        Err(ValueFault::Condition(state)) => piece_of_condition(alloc, number, state),
-        Err(ValueFault::Memory) => Err(AllocError),
+        Err(fault) => piece_of_fault(alloc, number, &fault),
     }
 }
 
 // The piece of a query that raises a condition. No row stands before it.
-fn piece_of_condition(alloc: Global, number: u64, state: SqlState) -> Result<Vec<u8>, AllocError>
-    ensures { IfOk result (λ piece. piece.items ≡ first_line number (codes "SELECT") ++ condition_lines (of_state state)) }
+fn piece_of_fault(alloc: Global, number: u64, fault: &ValueFault) -> Result<Vec<u8>, AllocError>
+    ensures { IfOk result (λ piece. Shows (first_line number (codes "SELECT")) fault.now piece.items) }
 {
-    let condition = Condition::raised(alloc, state)?;
-    piece_of(alloc, number, "SELECT", "", Some(condition.get()))
+    match raised(alloc, fault) {
+        DataFault::Raised(condition) => {
+            piece_of(alloc, number, "SELECT", "", Some(condition.get()))
+        }
+        DataFault::Memory => Err(AllocError),
+    }
 }
 
 // The last line, where rows stand behind the first `first` bytes or none does.
