@@ -1,0 +1,4 @@
+pub mod Characters
+pub mod LineCounts
+pub mod LinesInOrder
+pub mod Mnemonics
