@@ -1,5 +1,5 @@
 -- The lines of a list from a place on.
-use Rattle.std.proofs.Common.{◌≡◌, ℕ, suc, ◌+◌, List, [], ◌∷◌, ◌++◌, drop, map, refl, sym, ap, ◌∙◌, append_assoc, arith}
+use Rattle.std.proofs.Common.{◌≡◌, ℕ, suc, ◌+◌, List, [], ◌∷◌, ◌++◌, drop, map, inl, inr, refl, sym, ap, ◌∙◌, append_assoc, arith}
 use Rattle.std.specs.Prelude.{Option, Some, None, option_map, slice_get}
 use Rattle.std.proofs.Math.Seq.{drop-cons}
 use Rattle.std.proofs.lemmas.List.{append-nil, drop_all}
@@ -26,16 +26,16 @@ one_more line xs at x before after all e f h =
     let rest : List ℕ = text (map line (drop (at + 1) xs)) in
     ap (λ t. t ++ rest) f ∙ append_assoc before (ended (line x)) rest ∙ ap (λ ys. before ++ text (map line ys)) (sym (rest_at xs at x e)) ∙ h
 
+not_there : {A B : Type 0} (f : A → B) (x : A) → None ≡ Some (f x) → ⊥
+not_there f x g = cc
+
 -- none is left
 pub no_more : {A B : Type 0} (line : A → List ℕ) (f : A → B) (xs : List A) (at : ℕ) (before all : List ℕ) → None ≡ option_map f (slice_get xs at)
     → before ++ text (map line (drop at xs)) ≡ all → before ≡ all
 no_more line f xs at before all e h = elim (slice_get_cases xs at).1 as (λ _. before ≡ all) [
-  | inl p ↦ absurd (not_there p.0 (e ∙ ap (option_map f) p.2))
+  | inl p ↦ absurd (not_there f p.0 (e ∙ ap (option_map f) p.2))
   | inr p ↦ sym (append-nil before) ∙ ap (λ ys. before ++ text (map line ys)) (sym (drop_all at xs p.0)) ∙ h
 ]
-  where
-    not_there : (x : A) → None ≡ Some (f x) → ⊥
-    not_there x g = cc
 
 -- ---- lines of expressions
 

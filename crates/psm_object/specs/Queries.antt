@@ -19,7 +19,7 @@
 --     - COL 1
 --     T CONST T 'x'
 --     TT EQ
-use Rattle.std.specs.Prelude.{ℕ, Bool, true, false, List, [], ◌∷◌, ◌++◌, codes, Option, Some, None}
+use Rattle.std.specs.Prelude.{ℕ, Bool, true, false, List, [], ◌∷◌, ◌++◌, codes, is_some, Option, Some, None}
 use Rattle.std.specs.List.{flat_map}
 use Rattle.psm_exprcode.specs.declared.aggregate.Aggregate.{Aggregate}
 use Rattle.psm_exprcode.specs.declared.aggregate.SetFunction.{SetFunction}
@@ -31,7 +31,7 @@ use Rattle.psm_exprcode.specs.declared.query.Query.{Query}
 use Rattle.psm_code.specs.declared.code.CodeCursor.{CodeCursor}
 use Rattle.psm_words.specs.Words.{number, quoted}
 use Rattle.psm_object.specs.Expressions.{expression_lines, test_lines}
-use Rattle.psm_object.specs.Words.{count, presence, spaced}
+use Rattle.psm_object.specs.Words.{count, flag, spaced}
 
 -- ---- items
 
@@ -67,7 +67,7 @@ direction_word false = codes "UP"
 direction_word true = codes "DOWN"
 
 abbrev pub query_line : Query → List ℕ
-query_line q = spaced (codes "QUERY" ∷ number q.table ∷ direction_word q.downward ∷ items_count q.items ∷ presence q.test ∷ [])
+query_line q = spaced (codes "QUERY" ∷ number q.table ∷ direction_word q.downward ∷ items_count q.items ∷ flag (is_some q.test) ∷ [])
 
 abbrev pub query_lines : Query → List (List ℕ)
 query_lines q = query_line q ∷ items_lines q.items ++ test_lines q.test

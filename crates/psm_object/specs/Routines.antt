@@ -34,13 +34,14 @@ result_word None = codes "-"
 result_word (Some kind) = type_word kind
 
 -- how many there are of each part
-abbrev pub part_counts : RawRoutine → List (List ℕ)
-part_counts r =
-    count r.parameters ∷ count r.variables ∷ count r.queries ∷ count r.cursors ∷ count r.plans
-    ∷ count r.handlers.declared ∷ count r.handlers.contexts ∷ count r.handlers.handlers ∷ count r.lines ∷ []
+abbrev pub data_counts : RawRoutine → List (List ℕ)
+data_counts r = count r.parameters ∷ count r.variables ∷ count r.queries ∷ count r.cursors ∷ count r.plans ∷ []
+
+abbrev pub control_counts : RawRoutine → List (List ℕ)
+control_counts r = count r.handlers.declared ∷ count r.handlers.contexts ∷ count r.handlers.handlers ∷ count r.lines ∷ []
 
 abbrev pub routine_line : RawRoutine → List ℕ
-routine_line r = spaced (codes "ROUTINE" ∷ routine_kind_word r.is_function ∷ quoted r.name ∷ part_counts r ++ result_word r.returns ∷ [])
+routine_line r = spaced (codes "ROUTINE" ∷ routine_kind_word r.is_function ∷ quoted r.name ∷ data_counts r ++ control_counts r ++ result_word r.returns ∷ [])
 
 abbrev pub mode_word : ParameterMode → List ℕ
 mode_word In = codes "IN"
@@ -53,15 +54,17 @@ parameter_line p = spaced (codes "PAR" ∷ mode_word p.mode ∷ quoted p.name �
 abbrev pub slot_line : SqlType → List ℕ
 slot_line kind = spaced (codes "SLOT" ∷ type_word kind ∷ [])
 
+-- PAR and SLOT
+abbrev pub variable_lines : RawRoutine → List (List ℕ)
+variable_lines r = map parameter_line r.parameters ++ map slot_line r.variables
+
+-- QUERY, CURSOR and PLAN with what belongs to them
+abbrev pub access_lines : RawRoutine → List (List ℕ)
+access_lines r = flat_map query_lines r.queries ++ map cursor_line r.cursors ++ flat_map plan_lines r.plans
+
+-- COND, CTX and HANDLER
+abbrev pub handling_lines : RawRoutine → List (List ℕ)
+handling_lines r = map condition_line r.handlers.declared ++ map context_line r.handlers.contexts ++ map handler_line r.handlers.handlers
+
 abbrev pub routine_lines : RawRoutine → List (List ℕ)
-routine_lines r =
-    routine_line r
-    ∷ map parameter_line r.parameters
-    ++ map slot_line r.variables
-    ++ flat_map query_lines r.queries
-    ++ map cursor_line r.cursors
-    ++ flat_map plan_lines r.plans
-    ++ map condition_line r.handlers.declared
-    ++ map context_line r.handlers.contexts
-    ++ map handler_line r.handlers.handlers
-    ++ map code_line r.lines
+routine_lines r = routine_line r ∷ variable_lines r ++ access_lines r ++ handling_lines r ++ map code_line r.lines

@@ -1,5 +1,5 @@
 -- The words of a line of a listing, and the text of lines.
-use Rattle.std.specs.Prelude.{ℕ, Bool, true, false, List, [], ◌∷◌, ◌++◌, length, map, codes, Option, Some, None}
+use Rattle.std.specs.Prelude.{ℕ, Bool, true, false, List, [], ◌∷◌, ◌++◌, length, map, codes}
 use Rattle.std.specs.List.{flat_map}
 use Rattle.psm_words.specs.Words.{number}
 
@@ -32,8 +32,3 @@ count xs = number (length xs)
 abbrev pub flag : Bool → List ℕ
 flag false = codes "0"
 flag true = codes "1"
-
--- 1 where there is one
-abbrev pub presence : {A : Type 0} → Option A → List ℕ
-presence None = flag false
-presence (Some a) = flag true

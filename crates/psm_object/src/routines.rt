@@ -1,8 +1,9 @@
 //! The lines of routines.
-ghost use Rattle.std.specs.Prelude.{◌≡◌, ◌++◌, ◌∷◌, map, OnOk};
+ghost use Rattle.std.specs.Prelude.{◌≡◌, ◌++◌, ◌∷◌, [], codes, map, OnOk};
 ghost use Rattle.std.specs.List.{flat_map};
-ghost use Rattle.psm_object.specs.Routines.{mode_word, parameter_line, part_counts, result_word, routine_line, routine_lines, slot_line};
-ghost use Rattle.psm_object.specs.Words.{ended, further, text};
+ghost use Rattle.psm_words.specs.Words.{quoted};
+ghost use Rattle.psm_object.specs.Routines.{access_lines, control_counts, data_counts, handling_lines, mode_word, parameter_line, result_word, routine_kind_word, routine_line, routine_lines, slot_line, variable_lines};
+ghost use Rattle.psm_object.specs.Words.{ended, further, spaced, text};
 
 use crate::handlers::{put_conditions, put_contexts, put_handlers};
 use crate::instructions::put_code_lines;
@@ -27,36 +28,68 @@ fn put_routine(out: &mut Vec<u8>, routine: &RawRoutine) -> Result<(), AllocError
     ensures { OnOk result (out.new.items ≡ out.old.items ++ text (routine_lines routine.now)) }
 {
     put_routine_line(out, routine)?;
-    put_parameters(out, routine.parameters.items())?;
-    put_slots(out, routine.variables.items())?;
-    put_queries(out, routine.queries.items())?;
-    put_cursors(out, routine.cursors.items())?;
-    put_plans(out, routine.plans.items())?;
-    put_conditions(out, routine.handlers.declared())?;
-    put_contexts(out, routine.handlers.contexts())?;
-    put_handlers(out, routine.handlers.handlers())?;
+    put_variables(out, routine)?;
+    put_access(out, routine)?;
+    put_handling(out, routine)?;
     put_code_lines(out, &routine.lines)
 }
+
+fn put_variables(out: &mut Vec<u8>, routine: &RawRoutine) -> Result<(), AllocError>
+    ensures { OnOk result (out.new.items ≡ out.old.items ++ text (variable_lines routine.now)) }
+{
+    put_parameters(out, routine.parameters.items())?;
+    put_slots(out, routine.variables.items())
+}
+
+fn put_access(out: &mut Vec<u8>, routine: &RawRoutine) -> Result<(), AllocError>
+    ensures { OnOk result (out.new.items ≡ out.old.items ++ text (access_lines routine.now)) }
+{
+    put_queries(out, routine.queries.items())?;
+    put_cursors(out, routine.cursors.items())?;
+    put_plans(out, routine.plans.items())
+}
+
+fn put_handling(out: &mut Vec<u8>, routine: &RawRoutine) -> Result<(), AllocError>
+    ensures { OnOk result (out.new.items ≡ out.old.items ++ text (handling_lines routine.now)) }
+{
+    put_conditions(out, routine.handlers.declared())?;
+    put_contexts(out, routine.handlers.contexts())?;
+    put_handlers(out, routine.handlers.handlers())
+}
+
+// ---- the line of a routine
 
 fn put_routine_line(out: &mut Vec<u8>, routine: &RawRoutine) -> Result<(), AllocError>
     ensures { OnOk result (out.new.items ≡ out.old.items ++ ended (routine_line routine.now)) }
 {
-    out.extend_from_slice(b"ROUTINE")?;
-    put_word(out, if routine.is_function { "F" } else { "P" })?;
-    put_name(out, &routine.name)?;
-    put_part_counts(out, routine)?;
+    put_routine_name(out, routine)?;
+    put_data_counts(out, routine)?;
+    put_control_counts(out, routine)?;
     put_result(out, routine.returns)?;
     end_line(out)
 }
 
-fn put_part_counts(out: &mut Vec<u8>, routine: &RawRoutine) -> Result<(), AllocError>
-    ensures { OnOk result (out.new.items ≡ out.old.items ++ further (part_counts routine.now)) }
+fn put_routine_name(out: &mut Vec<u8>, routine: &RawRoutine) -> Result<(), AllocError>
+    ensures { OnOk result (out.new.items ≡ out.old.items ++ spaced (codes "ROUTINE" ∷ routine_kind_word routine.now.is_function ∷ quoted routine.now.name ∷ [])) }
+{
+    out.extend_from_slice(b"ROUTINE")?;
+    put_word(out, if routine.is_function { "F" } else { "P" })?;
+    put_name(out, &routine.name)
+}
+
+fn put_data_counts(out: &mut Vec<u8>, routine: &RawRoutine) -> Result<(), AllocError>
+    ensures { OnOk result (out.new.items ≡ out.old.items ++ further (data_counts routine.now)) }
 {
     put_count(out, routine.parameters.items().len())?;
     put_count(out, routine.variables.items().len())?;
     put_count(out, routine.queries.items().len())?;
     put_count(out, routine.cursors.items().len())?;
-    put_count(out, routine.plans.items().len())?;
+    put_count(out, routine.plans.items().len())
+}
+
+fn put_control_counts(out: &mut Vec<u8>, routine: &RawRoutine) -> Result<(), AllocError>
+    ensures { OnOk result (out.new.items ≡ out.old.items ++ further (control_counts routine.now)) }
+{
     put_count(out, routine.handlers.declared().len())?;
     put_count(out, routine.handlers.contexts().len())?;
     put_count(out, routine.handlers.handlers().len())?;
@@ -71,6 +104,8 @@ fn put_result(out: &mut Vec<u8>, returns: Option<SqlType>) -> Result<(), AllocEr
         Some(kind) => put_kind(out, kind),
     }
 }
+
+// ---- parameters and slots
 
 fn put_parameters(out: &mut Vec<u8>, parameters: &[Parameter]) -> Result<(), AllocError>
     ensures { OnOk result (out.new.items ≡ out.old.items ++ text (map parameter_line parameters.now)) }
