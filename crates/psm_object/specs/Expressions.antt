@@ -17,7 +17,7 @@
 --     NN ADD
 --     N VAR 2
 --     NN GT
-use Rattle.std.specs.Prelude.{ℕ, List, [], ◌∷◌, ◌++◌, codes, map, Option, Some, None}
+use Rattle.std.specs.Prelude.{ℕ, List, [], ◌∷◌, codes, map, Option, Some, None}
 use Rattle.psm_text.specs.declared.parts.Side.{Side}
 use Rattle.psm_text.specs.declared.parts.Side.TheVariants.{Leading, Trailing, Both}
 use Rattle.psm_exprcode.specs.declared.op.Letter.TheVariants.{N}

@@ -5,6 +5,7 @@
 mod expressions;
 mod handlers;
 mod instructions;
+mod laws;
 mod listing;
 mod plans;
 mod queries;
@@ -12,4 +13,5 @@ mod routines;
 mod tables;
 mod words;
 
+pub use laws::{mnemonics_are_those_of_the_table, rules_count_the_lines_of_a_listing};
 pub use listing::write;
