@@ -1,0 +1,5 @@
+pub mod Characters
+pub mod LineCounts
+pub mod LinesInOrder
+pub mod Mnemonics
+pub mod Pieces

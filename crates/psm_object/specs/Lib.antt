@@ -1,0 +1,10 @@
+pub mod Words
+pub mod Expressions
+pub mod Instructions
+pub mod Tables
+pub mod Queries
+pub mod Plans
+pub mod Handlers
+pub mod Routines
+pub mod Listing
+pub mod StatedLines
