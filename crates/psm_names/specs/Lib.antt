@@ -1,0 +1,4 @@
+pub mod Referents
+pub mod Occurrences
+pub mod ExprOccurrences
+pub mod ExprReferents
