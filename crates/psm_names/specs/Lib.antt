@@ -2,3 +2,4 @@ pub mod Referents
 pub mod Occurrences
 pub mod ExprOccurrences
 pub mod ExprReferents
+pub mod Sites

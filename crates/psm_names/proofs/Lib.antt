@@ -1,0 +1,4 @@
+pub mod ReferentsOfForms
+pub mod Knowing
+pub mod LookedUp
+pub mod Exprs
