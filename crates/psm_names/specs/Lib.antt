@@ -3,3 +3,7 @@ pub mod Occurrences
 pub mod ExprOccurrences
 pub mod ExprReferents
 pub mod Sites
+pub mod Declaring
+pub mod SimpleOccurrences
+pub mod StatementOccurrences
+pub mod StatementReferents

@@ -3,4 +3,4 @@
 
 mod laws;
 
-pub use laws::names_in_expressions_are_resolved;
+pub use laws::{names_are_resolved, names_in_expressions_are_resolved};
