@@ -291,7 +291,7 @@ picks-picked : (s : ResolverScope) (ps : List P) → AllPicked s.symbols (map (�
 picks-picked s [] = tt
 picks-picked s (p ∷ ps) = (p.1 s, picks-picked s ps)
 
-table-number : (o : Option (ℕ × Columns)) → number_of o ≡ place_of o
+pub table-number : (o : Option (ℕ × Columns)) → number_of o ≡ place_of o
 table-number None = refl
 table-number (Some t) = refl
 
