@@ -34,13 +34,13 @@ use Rattle.psm_resolved.specs.declared.expr.ResolvedItem.{ResolvedItem}
 use Rattle.psm_resolve_expr.specs.declared.resolved.Resolved.{Resolved}
 use Rattle.psm_resolve_expr.specs.declared.resolved.ShapedQuery.{ShapedQuery}
 use Rattle.psm_resolve_expr.specs.ResolverScope.{ResolverScope, name_in, on_row, table_at}
-use Rattle.psm_resolve_expr.specs.Resolved.{ShapedPick, Values, OfAll, called, of_meaning, sets_in, shape_of_type, values_in}
-use Rattle.psm_resolve_expr.specs.Exprs.{Of, all_at, any_at, at, chain_link_of, columns_from, columns_in, columns_on, comparison_of, expr_in, expr_layer, function_of, items_of, logical_operator_of, number_of, operator_of, optional_in, side_of, pick_layer, chain_link_layer, select_layer, set_of, when_layer, when_of, resolve_expr, resolve_pick, resolve_chain_link, resolve_query, resolve_when, signed, type_known}
-use Rattle.psm_names.specs.Referents.{Referent, Null, Column, Table, together, in_several, perhaps}
+use Rattle.psm_resolve_expr.specs.Resolved.{ShapedPick, Values, OfAll, called, joined_in, of_meaning, operated, sets_in, shape_of_result, shape_of_type, values_in}
+use Rattle.psm_resolve_expr.specs.Exprs.{Of, all_at, any_at, at, chain_link_of, chained, columns_from, columns_in, columns_on, comparison_of, expr_in, expr_layer, function_of, items_of, logical_operator_of, number_of, only_shape, operator_of, optional_in, side_of, pick_layer, chain_link_layer, select_layer, set_of, when_layer, when_of, resolve_expr, resolve_pick, resolve_chain_link, resolve_query, resolve_when, shape_of_set, shapes_of, shapes_of_else, signed, type_known}
+use Rattle.psm_names.specs.Referents.{Referent, Null, Column, Table, Function, together, in_several, perhaps}
 use Rattle.psm_names.specs.Occurrences as occurring
-use Rattle.psm_names.specs.Occurrences.{Occurrence, EachColumn, Site, TableName, referents, place_of}
+use Rattle.psm_names.specs.Occurrences.{EachColumn, FunctionName, Occurrence, Site, TableName, function_number, place_of, referents}
 use Rattle.psm_names.specs.ExprOccurrences as places
-use Rattle.psm_names.specs.ExprOccurrences.{At, Listed, PickOccurrences, OfRow, at_any, at_each, at_several, columns_known, expr_occurrences, in_items, in_query, of_all, of_rows, pick_occurrences, chain_link_occurrences, query_occurrences, row_columns, when_occurrences}
+use Rattle.psm_names.specs.ExprOccurrences.{At, PickSeen, QuerySeen, Seen, OfRow, at_any, at_each, at_several, chain_link_seen, columns_known, expr_seen, in_all, in_any, in_items, in_more, in_query, kinds_of, of_all, of_rows, pick_seen, query_seen, returned, row_columns, shape_of_meaning, shapes_in, when_seen}
 use Rattle.psm_names.specs.ExprReferents.{expr_referents, item_referents, items_referents, chain_link_referents, query_referents, when_referents}
 use Rattle.psm_names.specs.Sites.{known, site_of}
 use Rattle.psm_names.proofs.Knowing.{meaning_known, name-known}
@@ -49,26 +49,47 @@ use Rattle.psm_names.proofs.ReferentsOfForms.{referents-Null, referents-Number, 
 
 -- ---- what is claimed
 
+-- what is made of a part and what is seen of it
+pub record As (symbols : SymbolTable) (m : Resolved) (x : Seen) : Type 0 where
+  pub shape : m.shape ≡ x.shape
+  pub gives : Gives symbols (expr_referents m.expr) x.occurrences
+
+pub record AsQuery (symbols : SymbolTable) (m : ShapedQuery) (x : QuerySeen) : Type 0 where
+  pub shapes : m.shapes ≡ x.shapes
+  pub gives : Gives symbols (query_referents m.query) x.occurrences
+
+record AsLink (symbols : SymbolTable) (m : WrittenOperator × Resolved) (x : WrittenOperator × Seen) : Type 0 where
+  operator : m.0 ≡ x.0
+  shape : m.1.shape ≡ x.1.shape
+  gives : Gives symbols (chain_link_referents (chain_link_of m)) x.1.occurrences
+
+record AsWhen (symbols : SymbolTable) (m : Resolved × Resolved) (x : Seen) : Type 0 where
+  shape : m.1.shape ≡ x.shape
+  gives : Gives symbols (when_referents (when_of m)) x.occurrences
+
+abbrev shapes_at : List Resolved → List Shape
+shapes_at ms = map (λ m. m.shape) ms
+
+abbrev AsPicked : SymbolTable → ShapedPick → PickSeen → Type 0
+AsPicked symbols (Values resolved) (OfRow shapes os) = (shapes_at resolved ≡ shapes) × Gives symbols (together (map expr_referents (map expr_in resolved))) os
+AsPicked symbols (Values resolved) (places.OfAll shape os) = ⊥
+AsPicked symbols (OfAll item shape) (OfRow shapes os) = ⊥
+AsPicked symbols (OfAll item shape) (places.OfAll shape_seen os) = (shape ≡ shape_seen) × Gives symbols (item_referents item) os
+
 abbrev OfExpr : Expr → Type 0
-OfExpr e = (s : ResolverScope) → Gives s.symbols (expr_referents (resolve_expr e s).expr) (expr_occurrences e (site_of s))
+OfExpr e = (s : ResolverScope) → As s.symbols (resolve_expr e s) (expr_seen e (site_of s))
 
 abbrev OfChainLink : ChainLink → Type 0
-OfChainLink l = (s : ResolverScope) → Gives s.symbols (chain_link_referents (chain_link_of (resolve_chain_link l s))) (chain_link_occurrences l (site_of s))
+OfChainLink l = (s : ResolverScope) → AsLink s.symbols (resolve_chain_link l s) (chain_link_seen l (site_of s))
 
 abbrev OfWhen : When → Type 0
-OfWhen w = (s : ResolverScope) → Gives s.symbols (when_referents (when_of (resolve_when w s))) (when_occurrences w (site_of s))
-
-abbrev AsPicked : SymbolTable → ShapedPick → PickOccurrences → Type 0
-AsPicked symbols (Values resolved) (OfRow os) = Gives symbols (together (map expr_referents (map expr_in resolved))) os
-AsPicked symbols (Values resolved) (places.OfAll os) = ⊥
-AsPicked symbols (OfAll item shape) (OfRow os) = ⊥
-AsPicked symbols (OfAll item shape) (places.OfAll os) = Gives symbols (item_referents item) os
+OfWhen w = (s : ResolverScope) → AsWhen s.symbols (resolve_when w s) (when_seen w (site_of s))
 
 abbrev OfPick : Pick → Type 0
-OfPick p = (s : ResolverScope) → AsPicked s.symbols (resolve_pick p s) (pick_occurrences p (site_of s))
+OfPick p = (s : ResolverScope) → AsPicked s.symbols (resolve_pick p s) (pick_seen p (site_of s))
 
 abbrev OfSelect : Select → Type 0
-OfSelect q = (s : ResolverScope) → Gives s.symbols (query_referents (resolve_query q s).query) (query_occurrences q (site_of s))
+OfSelect q = (s : ResolverScope) → AsQuery s.symbols (resolve_query q s) (query_seen q (site_of s))
 
 -- parts with what they prove
 abbrev E : Type 0
@@ -88,27 +109,70 @@ W = (w : When) × OfWhen w
 
 -- ---- lists of parts
 
-exprs-give : (s : ResolverScope) (es : List E) → Gives s.symbols (together (map expr_referents (map expr_in (all_at s (map resolve_expr (map (λ e. e.0) es)))))) (together (at_each (site_of s) (map expr_occurrences (map (λ e. e.0) es))))
+abbrev resolved_in : ResolverScope → List E → List Resolved
+resolved_in s es = all_at s (map resolve_expr (map (λ e. e.0) es))
+
+abbrev seen_in : ResolverScope → List E → List Seen
+seen_in s es = at_each (site_of s) (map expr_seen (map (λ e. e.0) es))
+
+exprs-give : (s : ResolverScope) (es : List E) → Gives s.symbols (together (map expr_referents (map expr_in (resolved_in s es)))) (in_all (seen_in s es))
 exprs-give s [] = gives-none
-exprs-give s (e ∷ es) = gives-both (e.1 s) (exprs-give s es)
+exprs-give s (e ∷ es) = gives-both (e.1 s).gives (exprs-give s es)
 
-several-give : (s : ResolverScope) (es : Several E) → Gives s.symbols (in_several (several_map expr_referents (several_map expr_in (at s (several_map resolve_expr (several_map (λ e. e.0) es)))))) (in_several (at_several (site_of s) (several_map expr_occurrences (several_map (λ e. e.0) es))))
-several-give s es = gives-both (es.first.1 s) (exprs-give s es.rest)
+several-give : (s : ResolverScope) (es : Several E) → Gives s.symbols (in_several (several_map expr_referents (several_map expr_in (at s (several_map resolve_expr (several_map (λ e. e.0) es)))))) (in_more (at_several (site_of s) (several_map expr_seen (several_map (λ e. e.0) es))))
+several-give s es = gives-both (es.first.1 s).gives (exprs-give s es.rest)
 
-links-give : (s : ResolverScope) (ls : List L) → Gives s.symbols (together (map chain_link_referents (map chain_link_of (all_at s (map resolve_chain_link (map (λ e. e.0) ls)))))) (together (at_each (site_of s) (map chain_link_occurrences (map (λ e. e.0) ls))))
+shapes-same : (s : ResolverScope) (es : List E) → shapes_at (resolved_in s es) ≡ shapes_in (seen_in s es)
+shapes-same s [] = refl
+shapes-same s (e ∷ es) = ap (λ x. x ∷ shapes_at (resolved_in s es)) (e.1 s).shape ∙ ap (λ l. (expr_seen e.0 (site_of s)).shape ∷ l) (shapes-same s es)
+
+kinds-same : (s : ResolverScope) (es : List E) → map (λ m. kind_of m.shape) (resolved_in s es) ≡ kinds_of (seen_in s es)
+kinds-same s [] = refl
+kinds-same s (e ∷ es) = ap (λ x. kind_of x ∷ map (λ m. kind_of m.shape) (resolved_in s es)) (e.1 s).shape ∙ ap (λ l. kind_of (expr_seen e.0 (site_of s)).shape ∷ l) (kinds-same s es)
+
+abbrev resolved_links : ResolverScope → List L → List (WrittenOperator × Resolved)
+resolved_links s ls = all_at s (map resolve_chain_link (map (λ e. e.0) ls))
+
+abbrev seen_links : ResolverScope → List L → List (WrittenOperator × Seen)
+seen_links s ls = at_each (site_of s) (map chain_link_seen (map (λ e. e.0) ls))
+
+links-give : (s : ResolverScope) (ls : List L) → Gives s.symbols (together (map chain_link_referents (map chain_link_of (resolved_links s ls)))) (together (map (λ l. l.1.occurrences) (seen_links s ls)))
 links-give s [] = gives-none
-links-give s (l ∷ ls) = gives-both (l.1 s) (links-give s ls)
+links-give s (l ∷ ls) = gives-both (l.1 s).gives (links-give s ls)
 
-whens-give : (s : ResolverScope) (ws : List W) → Gives s.symbols (together (map when_referents (map when_of (all_at s (map resolve_when (map (λ e. e.0) ws)))))) (together (at_each (site_of s) (map when_occurrences (map (λ e. e.0) ws))))
+operated-same : (o p : WrittenOperator) (a b c d : Shape) → o ≡ p → a ≡ b → c ≡ d → operated o a c ≡ operated p b d
+operated-same o p a b c d e f g = ap (λ x. operated x a c) e ∙ ap (λ x. operated p x c) f ∙ ap (operated p b) g
+
+links-shape : (s : ResolverScope) (ls : List L) (a b : Shape) → a ≡ b → chained a (resolved_links s ls) ≡ places.chained b (seen_links s ls)
+links-shape s [] a b e = e
+links-shape s (l ∷ ls) a b e =
+    let m : WrittenOperator × Resolved = resolve_chain_link l.0 s in
+    let x : WrittenOperator × Seen = chain_link_seen l.0 (site_of s) in
+    links-shape s ls (operated m.0 a m.1.shape) (operated x.0 b x.1.shape) (operated-same m.0 x.0 a b m.1.shape x.1.shape (l.1 s).operator e (l.1 s).shape)
+
+abbrev resolved_whens : ResolverScope → List W → List (Resolved × Resolved)
+resolved_whens s ws = all_at s (map resolve_when (map (λ e. e.0) ws))
+
+abbrev seen_whens : ResolverScope → List W → List Seen
+seen_whens s ws = at_each (site_of s) (map when_seen (map (λ e. e.0) ws))
+
+whens-give : (s : ResolverScope) (ws : List W) → Gives s.symbols (together (map when_referents (map when_of (resolved_whens s ws)))) (in_all (seen_whens s ws))
 whens-give s [] = gives-none
-whens-give s (w ∷ ws) = gives-both (w.1 s) (whens-give s ws)
+whens-give s (w ∷ ws) = gives-both (w.1 s).gives (whens-give s ws)
 
-branches-give : (s : ResolverScope) (ws : Several W) → Gives s.symbols (in_several (several_map when_referents (several_map when_of (at s (several_map resolve_when (several_map (λ e. e.0) ws)))))) (in_several (at_several (site_of s) (several_map when_occurrences (several_map (λ e. e.0) ws))))
-branches-give s ws = gives-both (ws.first.1 s) (whens-give s ws.rest)
+branches-give : (s : ResolverScope) (ws : Several W) → Gives s.symbols (in_several (several_map when_referents (several_map when_of (at s (several_map resolve_when (several_map (λ e. e.0) ws)))))) (in_more (at_several (site_of s) (several_map when_seen (several_map (λ e. e.0) ws))))
+branches-give s ws = gives-both (ws.first.1 s).gives (whens-give s ws.rest)
 
-any-gives : (s : ResolverScope) (e : Option E) → Gives s.symbols (perhaps (option_map expr_referents (optional_in (any_at s (option_map resolve_expr (option_map (λ e. e.0) e)))))) (perhaps (at_any (site_of s) (option_map expr_occurrences (option_map (λ e. e.0) e))))
-any-gives s None = gives-none
-any-gives s (Some e) = e.1 s
+whens-shape : (s : ResolverScope) (ws : List W) → map (λ w. w.1.shape) (resolved_whens s ws) ≡ shapes_in (seen_whens s ws)
+whens-shape s [] = refl
+whens-shape s (w ∷ ws) = ap (λ x. x ∷ map (λ w. w.1.shape) (resolved_whens s ws)) (w.1 s).shape ∙ ap (λ l. (when_seen w.0 (site_of s)).shape ∷ l) (whens-shape s ws)
+
+-- the result of CASE without ELSE, and with it
+abbrev results : ResolverScope → Several W → List Shape → Shape
+results s ws more = shape_of_result (joined_in None (map (λ w. w.1.shape) (resolved_whens s (ws.first ∷ ws.rest)) ++ more))
+
+case-shape : (s : ResolverScope) (ws : Several W) (a b : List Shape) → a ≡ b → results s ws a ≡ places.result_of (shapes_in (seen_whens s (ws.first ∷ ws.rest)) ++ b)
+case-shape s ws a b e = ap (λ l. shape_of_result (joined_in None (l ++ a))) (whens-shape s (ws.first ∷ ws.rest)) ∙ ap (λ l. shape_of_result (joined_in None (shapes_in (seen_whens s (ws.first ∷ ws.rest)) ++ l))) e
 
 -- ---- forms
 
@@ -117,13 +181,22 @@ meaning-gives None = referents-Null
 meaning-gives (Some (lookup.Column i t)) = referents-Column i
 meaning-gives (Some (lookup.Variable v)) = referents-Variable v.slot
 
-signed-gives : (symbols : SymbolTable) (sign : Sign) (m : Resolved) (os : List Occurrence) → Gives symbols (expr_referents m.expr) os → Gives symbols (expr_referents (signed sign m).expr) os
-signed-gives symbols Plus m os h = h
-signed-gives symbols Minus m os h = gives-as (referents-Negated m.expr) h
+meaning-shape : (m : Option (Meaning Variable (Option SqlType))) → (of_meaning m).shape ≡ shape_of_meaning (option_map meaning_known m)
+meaning-shape None = refl
+meaning-shape (Some (lookup.Column i t)) = refl
+meaning-shape (Some (lookup.Variable v)) = refl
 
-called-gives : (arguments : List ResolvedExpr) (r : Result (ℕ × Option SqlType) ChoiceFault) → expr_referents (called arguments r).expr ≡ together (map expr_referents arguments)
+signed-as : (symbols : SymbolTable) (sign : Sign) (m : Resolved) (x : Seen) → As symbols m x → As symbols (signed sign m) x
+signed-as symbols Plus m x h = h
+signed-as symbols Minus m x h = record { shape = h.shape; gives = gives-as (referents-Negated m.expr) h.gives }
+
+called-gives : (arguments : List ResolvedExpr) (r : Result (ℕ × Option SqlType) ChoiceFault) → expr_referents (called arguments r).expr ≡ Function (function_number r) ∷ together (map expr_referents arguments)
 called-gives arguments (Ok p) = referents-Call p.0 arguments
 called-gives arguments (Err fault) = referents-Call 0 arguments
+
+called-shape : (arguments : List ResolvedExpr) (r : Result (ℕ × Option SqlType) ChoiceFault) → (called arguments r).shape ≡ returned r
+called-shape arguments (Ok p) = refl
+called-shape arguments (Err fault) = refl
 
 abbrev bare : Expr-F E P L S W → Expr-F Expr Pick ChainLink Select When
 bare y = map-Expr E P L S W Expr Pick ChainLink Select When (λ e. e.0) (λ e. e.0) (λ e. e.0) (λ e. e.0) (λ e. e.0) y
@@ -131,47 +204,56 @@ bare y = map-Expr E P L S W Expr Pick ChainLink Select When (λ e. e.0) (λ e. e
 abbrev resolved_layer : Expr-F Expr Pick ChainLink Select When → ResolverScope → Resolved
 resolved_layer layer = expr_layer (map-Expr Expr Pick ChainLink Select When (Of Resolved) (Of ShapedPick) (Of (WrittenOperator × Resolved)) (Of ShapedQuery) (Of (Resolved × Resolved)) resolve_expr resolve_pick resolve_chain_link resolve_query resolve_when layer)
 
-abbrev listed_layer : Expr-F Expr Pick ChainLink Select When → Listed
-listed_layer layer = places.expr_layer (map-Expr Expr Pick ChainLink Select When Listed (At PickOccurrences) Listed Listed Listed expr_occurrences pick_occurrences chain_link_occurrences query_occurrences when_occurrences layer)
+abbrev seen_layer : Expr-F Expr Pick ChainLink Select When → At Seen
+seen_layer layer = places.expr_layer (map-Expr Expr Pick ChainLink Select When (At Seen) (At PickSeen) (At (WrittenOperator × Seen)) (At QuerySeen) (At Seen) expr_seen pick_seen chain_link_seen query_seen when_seen layer)
 
-layer-claim : (y : Expr-F E P L S W) (s : ResolverScope) → Gives s.symbols (expr_referents (resolved_layer (bare y) s).expr) (listed_layer (bare y) (site_of s))
-layer-claim (layers.Null place) s = gives-lone referents-Null
-layer-claim (layers.Number place number) s = gives-as (referents-Number number) gives-none
-layer-claim (layers.Text place text) s = gives-as (referents-Text text) gives-none
-layer-claim (layers.Name target) s = gives-lone (meaning-gives (name_in s target) ∙ ap (λ m. occurring.of_meaning m ∷ []) (sym (name-known target s.scopes s.row)))
-layer-claim (layers.LogicalOperator logical_operator operands) s = gives-as (referents-LogicalOperator _ _) (several-give s operands)
-layer-claim (layers.Not place negated) s = gives-as (referents-Not _) (negated.1 s)
-layer-claim (layers.Compare operator left right) s = gives-as (referents-Compare _ _ _) (gives-both (left.1 s) (right.1 s))
-layer-claim (layers.IsNull negated operand) s = gives-as (referents-IsNull _ _) (operand.1 s)
-layer-claim (layers.Between negated operand low high) s = gives-as (referents-Between _ _ _ _) (gives-both (operand.1 s) (gives-both (low.1 s) (high.1 s)))
-layer-claim (layers.In negated operand list) s = gives-as (referents-In _ _ _) (gives-both (operand.1 s) (several-give s list))
-layer-claim (layers.Like negated operand pattern None) s = gives-as (referents-Like _ _ _ None) (gives-both (operand.1 s) (gives-both (pattern.1 s) gives-none))
-layer-claim (layers.Like negated operand pattern (Some escape)) s = gives-as (referents-Like _ _ _ (Some _)) (gives-both (operand.1 s) (gives-both (pattern.1 s) (escape.1 s)))
-layer-claim (layers.OperatorChain first chain_links) s = gives-as (referents-OperatorChain _ _) (gives-both (first.1 s) (links-give s chain_links))
-layer-claim (layers.Signed place sign operand) s = signed-gives s.symbols sign (resolve_expr operand.0 s) (expr_occurrences operand.0 (site_of s)) (operand.1 s)
+layer-claim : (y : Expr-F E P L S W) (s : ResolverScope) → As s.symbols (resolved_layer (bare y) s) (seen_layer (bare y) (site_of s))
+layer-claim (layers.Null place) s = record { shape = refl; gives = gives-lone referents-Null }
+layer-claim (layers.Number place number) s = record { shape = refl; gives = gives-as (referents-Number number) gives-none }
+layer-claim (layers.Text place text) s = record { shape = refl; gives = gives-as (referents-Text text) gives-none }
+layer-claim (layers.Name target) s = record {
+  shape = meaning-shape (name_in s target) ∙ ap shape_of_meaning (sym (name-known target s.scopes s.row));
+  gives = gives-lone (meaning-gives (name_in s target) ∙ ap (λ m. occurring.of_meaning m ∷ []) (sym (name-known target s.scopes s.row)));
+}
+layer-claim (layers.LogicalOperator logical_operator operands) s = record { shape = refl; gives = gives-as (referents-LogicalOperator _ _) (several-give s operands) }
+layer-claim (layers.Not place negated) s = record { shape = refl; gives = gives-as (referents-Not _) (negated.1 s).gives }
+layer-claim (layers.Compare operator left right) s = record { shape = refl; gives = gives-as (referents-Compare _ _ _) (gives-both (left.1 s).gives (right.1 s).gives) }
+layer-claim (layers.IsNull negated operand) s = record { shape = refl; gives = gives-as (referents-IsNull _ _) (operand.1 s).gives }
+layer-claim (layers.Between negated operand low high) s = record { shape = refl; gives = gives-as (referents-Between _ _ _ _) (gives-both (operand.1 s).gives (gives-both (low.1 s).gives (high.1 s).gives)) }
+layer-claim (layers.In negated operand list) s = record { shape = refl; gives = gives-as (referents-In _ _ _) (gives-both (operand.1 s).gives (several-give s list)) }
+layer-claim (layers.Like negated operand pattern None) s = record { shape = refl; gives = gives-as (referents-Like _ _ _ None) (gives-both (operand.1 s).gives (gives-both (pattern.1 s).gives gives-none)) }
+layer-claim (layers.Like negated operand pattern (Some escape)) s = record { shape = refl; gives = gives-as (referents-Like _ _ _ (Some _)) (gives-both (operand.1 s).gives (gives-both (pattern.1 s).gives (escape.1 s).gives)) }
+layer-claim (layers.OperatorChain first chain_links) s = record {
+  shape = links-shape s chain_links (resolve_expr first.0 s).shape (expr_seen first.0 (site_of s)).shape (first.1 s).shape;
+  gives = gives-as (referents-OperatorChain _ _) (gives-both (first.1 s).gives (links-give s chain_links));
+}
+layer-claim (layers.Signed place sign operand) s = signed-as s.symbols sign (resolve_expr operand.0 s) (expr_seen operand.0 (site_of s)) (operand.1 s)
 layer-claim (layers.Call name arguments) s =
-    let resolved : List Resolved = all_at s (map resolve_expr (map (λ e. e.0) arguments)) in
-    gives-as (called-gives (map expr_in resolved) (function s.symbols.functions name.name (map (λ m. kind_of m.shape) resolved))) (exprs-give s arguments)
+    let resolved : List Resolved = resolved_in s arguments in
+    let chosen : Result (ℕ × Option SqlType) ChoiceFault = function s.symbols.functions name.name (map (λ m. kind_of m.shape) resolved) in record {
+      shape = called-shape (map expr_in resolved) chosen ∙ ap (λ kinds. returned (function s.symbols.functions name.name kinds)) (kinds-same s arguments);
+      gives = gives-as (called-gives (map expr_in resolved) chosen) (gives-one (ap (λ kinds. Function (function_number (function s.symbols.functions name.name kinds)) ∷ []) (kinds-same s arguments)) (exprs-give s arguments));
+    }
 layer-claim (layers.Parenthesized place expr) s = expr.1 s
-layer-claim (layers.Subquery place query) s = gives-as (referents-Scalar _) (query.1 s)
-layer-claim (layers.Exists place query) s = gives-as (referents-Exists _) (query.1 s)
-layer-claim (layers.Case place None whens None) s = gives-as (referents-Case None _ None _) (gives-both gives-none (gives-both (branches-give s whens) gives-none))
-layer-claim (layers.Case place None whens (Some otherwise)) s = gives-as (referents-Case None _ (Some _) _) (gives-both gives-none (gives-both (branches-give s whens) (otherwise.1 s)))
-layer-claim (layers.Case place (Some operand) whens None) s = gives-as (referents-Case (Some _) _ None _) (gives-both (operand.1 s) (gives-both (branches-give s whens) gives-none))
-layer-claim (layers.Case place (Some operand) whens (Some otherwise)) s = gives-as (referents-Case (Some _) _ (Some _) _) (gives-both (operand.1 s) (gives-both (branches-give s whens) (otherwise.1 s)))
-layer-claim (layers.Cast place source to) s = gives-as (referents-Cast _ _) (source.1 s)
-layer-claim (layers.Coalesce place values) s = gives-as (referents-Coalesce _ _) (several-give s values)
-layer-claim (layers.NullIf place left right) s = gives-as (referents-NullIf _ _) (gives-both (left.1 s) (right.1 s))
-layer-claim (layers.Function place function text) s = gives-as (referents-Function _ _) (text.1 s)
-layer-claim (layers.Position place part whole) s = gives-as (referents-Position _ _) (gives-both (part.1 s) (whole.1 s))
-layer-claim (layers.Substring place text from None) s = gives-as (referents-Substring _ _ None) (gives-both (text.1 s) (gives-both (from.1 s) gives-none))
-layer-claim (layers.Substring place text from (Some length)) s = gives-as (referents-Substring _ _ (Some _)) (gives-both (text.1 s) (gives-both (from.1 s) (length.1 s)))
-layer-claim (layers.Trim place side text) s = gives-as (referents-Trim _ _) (text.1 s)
+layer-claim (layers.Subquery place query) s = record { shape = ap only_shape (query.1 s).shapes; gives = gives-as (referents-Scalar _) (query.1 s).gives }
+layer-claim (layers.Exists place query) s = record { shape = refl; gives = gives-as (referents-Exists _) (query.1 s).gives }
+layer-claim (layers.Case place None whens None) s = record { shape = case-shape s whens [] [] refl; gives = gives-as (referents-Case None _ None _) (gives-both gives-none (gives-both (branches-give s whens) gives-none)) }
+layer-claim (layers.Case place None whens (Some otherwise)) s = record { shape = case-shape s whens _ _ (ap (λ x. x ∷ []) (otherwise.1 s).shape); gives = gives-as (referents-Case None _ (Some _) _) (gives-both gives-none (gives-both (branches-give s whens) (otherwise.1 s).gives)) }
+layer-claim (layers.Case place (Some operand) whens None) s = record { shape = case-shape s whens [] [] refl; gives = gives-as (referents-Case (Some _) _ None _) (gives-both (operand.1 s).gives (gives-both (branches-give s whens) gives-none)) }
+layer-claim (layers.Case place (Some operand) whens (Some otherwise)) s = record { shape = case-shape s whens _ _ (ap (λ x. x ∷ []) (otherwise.1 s).shape); gives = gives-as (referents-Case (Some _) _ (Some _) _) (gives-both (operand.1 s).gives (gives-both (branches-give s whens) (otherwise.1 s).gives)) }
+layer-claim (layers.Cast place source to) s = record { shape = refl; gives = gives-as (referents-Cast _ _) (source.1 s).gives }
+layer-claim (layers.Coalesce place values) s = record { shape = ap (λ l. shape_of_result (joined_in None l)) (shapes-same s (values.first ∷ values.rest)); gives = gives-as (referents-Coalesce _ _) (several-give s values) }
+layer-claim (layers.NullIf place left right) s = record { shape = (left.1 s).shape; gives = gives-as (referents-NullIf _ _) (gives-both (left.1 s).gives (right.1 s).gives) }
+layer-claim (layers.Function place function text) s = record { shape = refl; gives = gives-as (referents-Function _ _) (text.1 s).gives }
+layer-claim (layers.Position place part whole) s = record { shape = refl; gives = gives-as (referents-Position _ _) (gives-both (part.1 s).gives (whole.1 s).gives) }
+layer-claim (layers.Substring place text from None) s = record { shape = refl; gives = gives-as (referents-Substring _ _ None) (gives-both (text.1 s).gives (gives-both (from.1 s).gives gives-none)) }
+layer-claim (layers.Substring place text from (Some length)) s = record { shape = refl; gives = gives-as (referents-Substring _ _ (Some _)) (gives-both (text.1 s).gives (gives-both (from.1 s).gives (length.1 s).gives)) }
+layer-claim (layers.Trim place side text) s = record { shape = refl; gives = gives-as (referents-Trim _ _) (text.1 s).gives }
 
-expr-rolled : (x : Expr-F Expr Pick ChainLink Select When) → ((s : ResolverScope) → Gives s.symbols (expr_referents (resolved_layer x s).expr) (listed_layer x (site_of s))) → OfExpr (roll-Expr x)
+expr-rolled : (x : Expr-F Expr Pick ChainLink Select When) → ((s : ResolverScope) → As s.symbols (resolved_layer x s) (seen_layer x (site_of s))) → OfExpr (roll-Expr x)
 expr-rolled x c s =
-    subst (λ f. Gives s.symbols (expr_referents (resolve_expr (roll-Expr x) s).expr) (f (site_of s))) (sym (fold-roll-Expr Listed (At PickOccurrences) Listed Listed Listed places.expr_layer places.pick_layer places.chain_link_layer places.select_layer places.when_layer x))
-    (subst (λ f. Gives s.symbols (expr_referents (f s).expr) (listed_layer x (site_of s))) (sym (fold-roll-Expr (Of Resolved) (Of ShapedPick) (Of (WrittenOperator × Resolved)) (Of ShapedQuery) (Of (Resolved × Resolved)) expr_layer pick_layer chain_link_layer select_layer when_layer x)) (c s))
+    subst (λ f. As s.symbols (resolve_expr (roll-Expr x) s) (f (site_of s))) (sym (fold-roll-Expr (At Seen) (At PickSeen) (At (WrittenOperator × Seen)) (At QuerySeen) (At Seen) places.expr_layer places.pick_layer places.chain_link_layer places.select_layer places.when_layer x))
+    (subst (λ f. As s.symbols (f s) (seen_layer x (site_of s))) (sym (fold-roll-Expr (Of Resolved) (Of ShapedPick) (Of (WrittenOperator × Resolved)) (Of ShapedQuery) (Of (Resolved × Resolved)) expr_layer pick_layer chain_link_layer select_layer when_layer x)) (c s))
 
 expr-step : (x : Expr-F Expr Pick ChainLink Select When) (y : Expr-F E P L S W) → bare y ≡ x → OfExpr (roll-Expr x)
 expr-step x y is = subst (λ z. OfExpr (roll-Expr z)) is (expr-rolled (bare y) (layer-claim y))
@@ -184,28 +266,36 @@ bare_pick y = map-Pick E P L S W Expr Pick ChainLink Select When (λ e. e.0) (λ
 abbrev resolve_pick_layer : Pick-F Expr Pick ChainLink Select When → ResolverScope → ShapedPick
 resolve_pick_layer layer = pick_layer (map-Pick Expr Pick ChainLink Select When (Of Resolved) (Of ShapedPick) (Of (WrittenOperator × Resolved)) (Of ShapedQuery) (Of (Resolved × Resolved)) resolve_expr resolve_pick resolve_chain_link resolve_query resolve_when layer)
 
-abbrev listed_pick : Pick-F Expr Pick ChainLink Select When → At PickOccurrences
-listed_pick layer = places.pick_layer (map-Pick Expr Pick ChainLink Select When Listed (At PickOccurrences) Listed Listed Listed expr_occurrences pick_occurrences chain_link_occurrences query_occurrences when_occurrences layer)
+abbrev seen_pick : Pick-F Expr Pick ChainLink Select When → At PickSeen
+seen_pick layer = places.pick_layer (map-Pick Expr Pick ChainLink Select When (At Seen) (At PickSeen) (At (WrittenOperator × Seen)) (At QuerySeen) (At Seen) expr_seen pick_seen chain_link_seen query_seen when_seen layer)
 
 each-column : (i : ℕ) (columns : Columns) → together (map expr_referents (map expr_in (columns_from i columns))) ≡ occurring.columns_from i columns
 each-column i [] = refl
 each-column i (c ∷ columns) = ap (λ l. l ++ together (map expr_referents (map expr_in (columns_from (suc i) columns)))) (referents-Column i) ∙ ap (λ l. Column i ∷ l) (each-column (suc i) columns)
 
+each-shape : (i : ℕ) (columns : Columns) → shapes_at (columns_from i columns) ≡ map (λ c. shape_of_type c.1) columns
+each-shape i [] = refl
+each-shape i (c ∷ columns) = ap (λ l. shape_of_type c.1 ∷ l) (each-shape (suc i) columns)
+
 row-columns : (symbols : SymbolTable) (row : Option (RowTable (Option SqlType))) → together (map expr_referents (map expr_in (columns_on row))) ≡ referents symbols (EachColumn (row_columns row))
 row-columns symbols None = refl
 row-columns symbols (Some row) = each-column 0 row.columns
 
-pick-claim : (y : Pick-F E P L S W) (s : ResolverScope) → AsPicked s.symbols (resolve_pick_layer (bare_pick y) s) (listed_pick (bare_pick y) (site_of s))
-pick-claim (layers.All place) s = gives-lone (row-columns s.symbols s.row)
-pick-claim (layers.Expr expr alias) s = gives-as (append-nil (expr_referents (resolve_expr expr.0 s).expr)) (expr.1 s)
-pick-claim (layers.CountRows place alias) s = gives-as (referents-item _ None) gives-none
-pick-claim (layers.Aggregate place function argument alias) s = gives-as (referents-item _ (Some _)) (argument.1 s)
+row-shapes : (row : Option (RowTable (Option SqlType))) → shapes_at (columns_on row) ≡ map (λ c. shape_of_type c.1) (row_columns row)
+row-shapes None = refl
+row-shapes (Some row) = each-shape 0 row.columns
+
+pick-claim : (y : Pick-F E P L S W) (s : ResolverScope) → AsPicked s.symbols (resolve_pick_layer (bare_pick y) s) (seen_pick (bare_pick y) (site_of s))
+pick-claim (layers.All place) s = (row-shapes s.row, gives-lone (row-columns s.symbols s.row))
+pick-claim (layers.Expr expr alias) s = (ap (λ x. x ∷ []) (expr.1 s).shape, gives-as (append-nil (expr_referents (resolve_expr expr.0 s).expr)) (expr.1 s).gives)
+pick-claim (layers.CountRows place alias) s = (refl, gives-as (referents-item _ None) gives-none)
+pick-claim (layers.Aggregate place function argument alias) s = (ap (shape_of_set function) (argument.1 s).shape, gives-as (referents-item _ (Some _)) (argument.1 s).gives)
 
 pick-step : (x : Pick-F Expr Pick ChainLink Select When) (y : Pick-F E P L S W) → bare_pick y ≡ x → OfPick (roll-Pick x)
 pick-step x y is s =
-    subst (λ z. AsPicked s.symbols (resolve_pick (roll-Pick z) s) (pick_occurrences (roll-Pick z) (site_of s))) is
-    (subst (λ f. AsPicked s.symbols (resolve_pick (roll-Pick (bare_pick y)) s) (f (site_of s))) (sym (fold-roll-Pick Listed (At PickOccurrences) Listed Listed Listed places.expr_layer places.pick_layer places.chain_link_layer places.select_layer places.when_layer (bare_pick y)))
-    (subst (λ f. AsPicked s.symbols (f s) (listed_pick (bare_pick y) (site_of s))) (sym (fold-roll-Pick (Of Resolved) (Of ShapedPick) (Of (WrittenOperator × Resolved)) (Of ShapedQuery) (Of (Resolved × Resolved)) expr_layer pick_layer chain_link_layer select_layer when_layer (bare_pick y)))
+    subst (λ z. AsPicked s.symbols (resolve_pick (roll-Pick z) s) (pick_seen (roll-Pick z) (site_of s))) is
+    (subst (λ f. AsPicked s.symbols (resolve_pick (roll-Pick (bare_pick y)) s) (f (site_of s))) (sym (fold-roll-Pick (At Seen) (At PickSeen) (At (WrittenOperator × Seen)) (At QuerySeen) (At Seen) places.expr_layer places.pick_layer places.chain_link_layer places.select_layer places.when_layer (bare_pick y)))
+    (subst (λ f. AsPicked s.symbols (f s) (seen_pick (bare_pick y) (site_of s))) (sym (fold-roll-Pick (Of Resolved) (Of ShapedPick) (Of (WrittenOperator × Resolved)) (Of ShapedQuery) (Of (Resolved × Resolved)) expr_layer pick_layer chain_link_layer select_layer when_layer (bare_pick y)))
     (pick-claim y s)))
 
 -- ---- parts
@@ -215,25 +305,28 @@ bare_chain_link y = map-ChainLink E P L S W Expr Pick ChainLink Select When (λ 
 
 chain_link-step : (x : ChainLink-F Expr Pick ChainLink Select When) (y : ChainLink-F E P L S W) → bare_chain_link y ≡ x → OfChainLink (roll-ChainLink x)
 chain_link-step x y is s =
-    subst (λ z. Gives s.symbols (chain_link_referents (chain_link_of (resolve_chain_link (roll-ChainLink z) s))) (chain_link_occurrences (roll-ChainLink z) (site_of s))) is
-    (subst (λ f. Gives s.symbols (chain_link_referents (chain_link_of (resolve_chain_link (roll-ChainLink (bare_chain_link y)) s))) (f (site_of s))) (sym (fold-roll-ChainLink Listed (At PickOccurrences) Listed Listed Listed places.expr_layer places.pick_layer places.chain_link_layer places.select_layer places.when_layer (bare_chain_link y)))
-    (subst (λ f. Gives s.symbols (chain_link_referents (chain_link_of (f s))) (expr_occurrences y.operand.0 (site_of s))) (sym (fold-roll-ChainLink (Of Resolved) (Of ShapedPick) (Of (WrittenOperator × Resolved)) (Of ShapedQuery) (Of (Resolved × Resolved)) expr_layer pick_layer chain_link_layer select_layer when_layer (bare_chain_link y)))
-    (gives-as (referents-link _ _) (y.operand.1 s))))
+    subst (λ z. AsLink s.symbols (resolve_chain_link (roll-ChainLink z) s) (chain_link_seen (roll-ChainLink z) (site_of s))) is
+    (subst (λ f. AsLink s.symbols (resolve_chain_link (roll-ChainLink (bare_chain_link y)) s) (f (site_of s))) (sym (fold-roll-ChainLink (At Seen) (At PickSeen) (At (WrittenOperator × Seen)) (At QuerySeen) (At Seen) places.expr_layer places.pick_layer places.chain_link_layer places.select_layer places.when_layer (bare_chain_link y)))
+    (subst (λ f. AsLink s.symbols (f s) (y.operator, expr_seen y.operand.0 (site_of s))) (sym (fold-roll-ChainLink (Of Resolved) (Of ShapedPick) (Of (WrittenOperator × Resolved)) (Of ShapedQuery) (Of (Resolved × Resolved)) expr_layer pick_layer chain_link_layer select_layer when_layer (bare_chain_link y)))
+    (record { operator = refl; shape = (y.operand.1 s).shape; gives = gives-as (referents-link _ _) (y.operand.1 s).gives })))
 
 abbrev bare_when : When-F E P L S W → When-F Expr Pick ChainLink Select When
 bare_when y = map-When E P L S W Expr Pick ChainLink Select When (λ e. e.0) (λ e. e.0) (λ e. e.0) (λ e. e.0) (λ e. e.0) y
 
+abbrev seen_when : When-F E P L S W → At Seen
+seen_when y site = record { shape = (expr_seen y.result.0 site).shape; occurrences = (expr_seen y.test.0 site).occurrences ++ (expr_seen y.result.0 site).occurrences }
+
 when-step : (x : When-F Expr Pick ChainLink Select When) (y : When-F E P L S W) → bare_when y ≡ x → OfWhen (roll-When x)
 when-step x y is s =
-    subst (λ z. Gives s.symbols (when_referents (when_of (resolve_when (roll-When z) s))) (when_occurrences (roll-When z) (site_of s))) is
-    (subst (λ f. Gives s.symbols (when_referents (when_of (resolve_when (roll-When (bare_when y)) s))) (f (site_of s))) (sym (fold-roll-When Listed (At PickOccurrences) Listed Listed Listed places.expr_layer places.pick_layer places.chain_link_layer places.select_layer places.when_layer (bare_when y)))
-    (subst (λ f. Gives s.symbols (when_referents (when_of (f s))) (expr_occurrences y.test.0 (site_of s) ++ expr_occurrences y.result.0 (site_of s))) (sym (fold-roll-When (Of Resolved) (Of ShapedPick) (Of (WrittenOperator × Resolved)) (Of ShapedQuery) (Of (Resolved × Resolved)) expr_layer pick_layer chain_link_layer select_layer when_layer (bare_when y)))
-    (gives-as (referents-when _ _) (gives-both (y.test.1 s) (y.result.1 s)))))
+    subst (λ z. AsWhen s.symbols (resolve_when (roll-When z) s) (when_seen (roll-When z) (site_of s))) is
+    (subst (λ f. AsWhen s.symbols (resolve_when (roll-When (bare_when y)) s) (f (site_of s))) (sym (fold-roll-When (At Seen) (At PickSeen) (At (WrittenOperator × Seen)) (At QuerySeen) (At Seen) places.expr_layer places.pick_layer places.chain_link_layer places.select_layer places.when_layer (bare_when y)))
+    (subst (λ f. AsWhen s.symbols (f s) (seen_when y (site_of s))) (sym (fold-roll-When (Of Resolved) (Of ShapedPick) (Of (WrittenOperator × Resolved)) (Of ShapedQuery) (Of (Resolved × Resolved)) expr_layer pick_layer chain_link_layer select_layer when_layer (bare_when y)))
+    (record { shape = (y.result.1 s).shape; gives = gives-as (referents-when _ _) (gives-both (y.test.1 s).gives (y.result.1 s).gives) })))
 
 -- ---- queries
 
 -- what the items of a query are, one for one
-abbrev AllPicked : SymbolTable → List ShapedPick → List PickOccurrences → Type 0
+abbrev AllPicked : SymbolTable → List ShapedPick → List PickSeen → Type 0
 AllPicked symbols [] [] = Unit {0}
 AllPicked symbols [] (o ∷ os) = ⊥
 AllPicked symbols (p ∷ ps) [] = ⊥
@@ -247,47 +340,62 @@ map-append : {A B : Type 0} (g : A → B) (xs ys : List A) → map g (xs ++ ys) 
 map-append g [] ys = refl
 map-append g (x ∷ xs) ys = ap (λ l. g x ∷ l) (map-append g xs ys)
 
-values-give : (symbols : SymbolTable) (ps : List ShapedPick) (os : List PickOccurrences) → AllPicked symbols ps os → Gives symbols (together (map expr_referents (map expr_in (values_in ps)))) (of_rows os)
-values-give symbols [] [] h = gives-none
-values-give symbols [] (o ∷ os) h = absurd h
-values-give symbols (p ∷ ps) [] h = absurd h
-values-give symbols (Values resolved ∷ ps) (OfRow o ∷ os) h =
-    gives-as (ap (λ l. together (map expr_referents l)) (map-append expr_in resolved (values_in ps)) ∙ together-append expr_referents (map expr_in resolved) (map expr_in (values_in ps)))
-    (gives-both h.0 (values-give symbols ps os h.1))
-values-give symbols (Values resolved ∷ ps) (places.OfAll o ∷ os) h = absurd h.0
-values-give symbols (OfAll item shape ∷ ps) (OfRow o ∷ os) h = absurd h.0
-values-give symbols (OfAll item shape ∷ ps) (places.OfAll o ∷ os) h = values-give symbols ps os h.1
+record AsValues (symbols : SymbolTable) (values : List Resolved) (x : QuerySeen) : Type 0 where
+  shapes : shapes_at values ≡ x.shapes
+  gives : Gives symbols (together (map expr_referents (map expr_in values))) x.occurrences
+
+values-as : (symbols : SymbolTable) (ps : List ShapedPick) (os : List PickSeen) → AllPicked symbols ps os → AsValues symbols (values_in ps) (of_rows os)
+values-as symbols [] [] h = record { shapes = refl; gives = gives-none }
+values-as symbols [] (o ∷ os) h = absurd h
+values-as symbols (p ∷ ps) [] h = absurd h
+values-as symbols (Values resolved ∷ ps) (OfRow shapes o ∷ os) h =
+    let rest : AsValues symbols (values_in ps) (of_rows os) = values-as symbols ps os h.1 in record {
+      shapes = map-append (λ m. m.shape) resolved (values_in ps) ∙ ap (λ l. l ++ shapes_at (values_in ps)) h.0.0 ∙ ap (λ l. shapes ++ l) rest.shapes;
+      gives = gives-as (ap (λ l. together (map expr_referents l)) (map-append expr_in resolved (values_in ps)) ∙ together-append expr_referents (map expr_in resolved) (map expr_in (values_in ps))) (gives-both h.0.1 rest.gives);
+    }
+values-as symbols (Values resolved ∷ ps) (places.OfAll shape o ∷ os) h = absurd h.0
+values-as symbols (OfAll item shape ∷ ps) (OfRow shapes o ∷ os) h = absurd h.0
+values-as symbols (OfAll item shape ∷ ps) (places.OfAll shape_seen o ∷ os) h = values-as symbols ps os h.1
 
 -- set functions, one for one
-abbrev AllOfAll : SymbolTable → List (ResolvedItem × Shape) → List (List Occurrence) → Type 0
+abbrev AllOfAll : SymbolTable → List (ResolvedItem × Shape) → List Seen → Type 0
 AllOfAll symbols [] [] = Unit {0}
 AllOfAll symbols [] (o ∷ os) = ⊥
 AllOfAll symbols (p ∷ ps) [] = ⊥
-AllOfAll symbols (p ∷ ps) (o ∷ os) = Gives symbols (item_referents p.0) o × AllOfAll symbols ps os
+AllOfAll symbols (p ∷ ps) (o ∷ os) = ((p.1 ≡ o.shape) × Gives symbols (item_referents p.0) o.occurrences) × AllOfAll symbols ps os
 
-sets-picked : (symbols : SymbolTable) (ps : List ShapedPick) (os : List PickOccurrences) → AllPicked symbols ps os → AllOfAll symbols (sets_in ps) (of_all os)
+sets-picked : (symbols : SymbolTable) (ps : List ShapedPick) (os : List PickSeen) → AllPicked symbols ps os → AllOfAll symbols (sets_in ps) (of_all os)
 sets-picked symbols [] [] h = tt
 sets-picked symbols [] (o ∷ os) h = absurd h
 sets-picked symbols (p ∷ ps) [] h = absurd h
-sets-picked symbols (Values resolved ∷ ps) (OfRow o ∷ os) h = sets-picked symbols ps os h.1
-sets-picked symbols (Values resolved ∷ ps) (places.OfAll o ∷ os) h = absurd h.0
-sets-picked symbols (OfAll item shape ∷ ps) (OfRow o ∷ os) h = absurd h.0
-sets-picked symbols (OfAll item shape ∷ ps) (places.OfAll o ∷ os) h = (h.0, sets-picked symbols ps os h.1)
+sets-picked symbols (Values resolved ∷ ps) (OfRow shapes o ∷ os) h = sets-picked symbols ps os h.1
+sets-picked symbols (Values resolved ∷ ps) (places.OfAll shape o ∷ os) h = absurd h.0
+sets-picked symbols (OfAll item shape ∷ ps) (OfRow shapes o ∷ os) h = absurd h.0
+sets-picked symbols (OfAll item shape ∷ ps) (places.OfAll shape_seen o ∷ os) h = (h.0, sets-picked symbols ps os h.1)
 
-sets-give : (symbols : SymbolTable) (ps : List (ResolvedItem × Shape)) (os : List (List Occurrence)) → AllOfAll symbols ps os → Gives symbols (together (map item_referents (map (λ p. p.0) ps))) (together os)
+sets-give : (symbols : SymbolTable) (ps : List (ResolvedItem × Shape)) (os : List Seen) → AllOfAll symbols ps os → Gives symbols (together (map item_referents (map (λ p. p.0) ps))) (in_all os)
 sets-give symbols [] [] h = gives-none
 sets-give symbols [] (o ∷ os) h = absurd h
 sets-give symbols (p ∷ ps) [] h = absurd h
-sets-give symbols (p ∷ ps) (o ∷ os) h = gives-both h.0 (sets-give symbols ps os h.1)
+sets-give symbols (p ∷ ps) (o ∷ os) h = gives-both h.0.1 (sets-give symbols ps os h.1)
 
-items-give : (symbols : SymbolTable) (values : List Resolved) (sets : List (ResolvedItem × Shape)) (rows : List Occurrence) (all : List (List Occurrence))
-    → Gives symbols (together (map expr_referents (map expr_in values))) rows → AllOfAll symbols sets all → Gives symbols (items_referents (items_of values sets)) (in_items rows all)
-items-give symbols values [] rows [] h k = gives-as (referents-Rows _) h
-items-give symbols values [] rows (o ∷ os) h k = absurd k
-items-give symbols values (s ∷ ss) rows [] h k = absurd k
-items-give symbols values (s ∷ ss) rows (o ∷ os) h k = gives-as (referents-Sets _) (sets-give symbols (s ∷ ss) (o ∷ os) k)
+sets-shape : (symbols : SymbolTable) (ps : List (ResolvedItem × Shape)) (os : List Seen) → AllOfAll symbols ps os → map (λ p. p.1) ps ≡ shapes_in os
+sets-shape symbols [] [] h = refl
+sets-shape symbols [] (o ∷ os) h = absurd h
+sets-shape symbols (p ∷ ps) [] h = absurd h
+sets-shape symbols (p ∷ ps) (o ∷ os) h = ap (λ x. x ∷ map (λ p. p.1) ps) h.0.0 ∙ ap (λ l. o.shape ∷ l) (sets-shape symbols ps os h.1)
 
-picks-picked : (s : ResolverScope) (ps : List P) → AllPicked s.symbols (map (λ p. p s) (map resolve_pick (map (λ e. e.0) ps))) (at_each (site_of s) (map pick_occurrences (map (λ e. e.0) ps)))
+record AsItems (symbols : SymbolTable) (values : List Resolved) (sets : List (ResolvedItem × Shape)) (x : QuerySeen) : Type 0 where
+  shapes : shapes_of values sets ≡ x.shapes
+  gives : Gives symbols (items_referents (items_of values sets)) x.occurrences
+
+items-as : (symbols : SymbolTable) (values : List Resolved) (sets : List (ResolvedItem × Shape)) (rows : QuerySeen) (all : List Seen) → AsValues symbols values rows → AllOfAll symbols sets all → AsItems symbols values sets (in_items rows all)
+items-as symbols values [] rows [] h k = record { shapes = h.shapes; gives = gives-as (referents-Rows _) h.gives }
+items-as symbols values [] rows (o ∷ os) h k = absurd k
+items-as symbols values (s ∷ ss) rows [] h k = absurd k
+items-as symbols values (s ∷ ss) rows (o ∷ os) h k = record { shapes = sets-shape symbols (s ∷ ss) (o ∷ os) k; gives = gives-as (referents-Sets _) (sets-give symbols (s ∷ ss) (o ∷ os) k) }
+
+picks-picked : (s : ResolverScope) (ps : List P) → AllPicked s.symbols (map (λ p. p s) (map resolve_pick (map (λ e. e.0) ps))) (at_each (site_of s) (map pick_seen (map (λ e. e.0) ps)))
 picks-picked s [] = tt
 picks-picked s (p ∷ ps) = (p.1 s, picks-picked s ps)
 
@@ -305,8 +413,8 @@ bare_select y = map-Select E P L S W Expr Pick ChainLink Select When (λ e. e.0)
 abbrev resolve_select_layer : Select-F Expr Pick ChainLink Select When → ResolverScope → ShapedQuery
 resolve_select_layer layer = select_layer (map-Select Expr Pick ChainLink Select When (Of Resolved) (Of ShapedPick) (Of (WrittenOperator × Resolved)) (Of ShapedQuery) (Of (Resolved × Resolved)) resolve_expr resolve_pick resolve_chain_link resolve_query resolve_when layer)
 
-abbrev listed_select : Select-F Expr Pick ChainLink Select When → Listed
-listed_select layer = places.select_layer (map-Select Expr Pick ChainLink Select When Listed (At PickOccurrences) Listed Listed Listed expr_occurrences pick_occurrences chain_link_occurrences query_occurrences when_occurrences layer)
+abbrev seen_select : Select-F Expr Pick ChainLink Select When → At QuerySeen
+seen_select layer = places.select_layer (map-Select Expr Pick ChainLink Select When (At Seen) (At PickSeen) (At (WrittenOperator × Seen)) (At QuerySeen) (At Seen) expr_seen pick_seen chain_link_seen query_seen when_seen layer)
 
 -- on the rows of its table
 abbrev within : ResolverScope → Identifier → Option Identifier → ResolverScope
@@ -315,46 +423,62 @@ within s table alias = on_row s (record { name = table.name; alias = spelling al
 rows-known : (s : ResolverScope) (table : Identifier) (alias : Option Identifier) → site_of (within s table alias) ≡ places.on_row (site_of s) table.name (spelling alias)
 rows-known s table alias = ap (λ c. record { symbols = s.symbols; scopes = known s.scopes; row = Some (record { name = table.name; alias = spelling alias; columns = c }) }) (table-columns (table_at s table.name))
 
+abbrev resolved_picks : ResolverScope → Several P → List ShapedPick
+resolved_picks s picks = map (λ p. p s) (map resolve_pick (map (λ e. e.0) (picks.first ∷ picks.rest)))
+
+abbrev seen_picks : Site → Several P → List PickSeen
+seen_picks site picks = at_each site (map pick_seen (map (λ e. e.0) (picks.first ∷ picks.rest)))
+
 -- the items on the rows
-items-on-rows : (s : ResolverScope) (picks : Several P) → Gives s.symbols
-    (items_referents (items_of (values_in (map (λ p. p s) (map resolve_pick (map (λ e. e.0) (picks.first ∷ picks.rest))))) (sets_in (map (λ p. p s) (map resolve_pick (map (λ e. e.0) (picks.first ∷ picks.rest)))))))
-    (in_items (of_rows (at_each (site_of s) (map pick_occurrences (map (λ e. e.0) (picks.first ∷ picks.rest))))) (of_all (at_each (site_of s) (map pick_occurrences (map (λ e. e.0) (picks.first ∷ picks.rest))))))
+items-on-rows : (s : ResolverScope) (picks : Several P) → AsItems s.symbols (values_in (resolved_picks s picks)) (sets_in (resolved_picks s picks)) (in_items (of_rows (seen_picks (site_of s) picks)) (of_all (seen_picks (site_of s) picks)))
 items-on-rows s picks =
-    let ps : List ShapedPick = map (λ p. p s) (map resolve_pick (map (λ e. e.0) (picks.first ∷ picks.rest))) in
-    let os : List PickOccurrences = at_each (site_of s) (map pick_occurrences (map (λ e. e.0) (picks.first ∷ picks.rest))) in
+    let ps : List ShapedPick = resolved_picks s picks in
+    let os : List PickSeen = seen_picks (site_of s) picks in
     let all : AllPicked s.symbols ps os = picks-picked s (picks.first ∷ picks.rest) in
-    items-give s.symbols (values_in ps) (sets_in ps) (of_rows os) (of_all os) (values-give s.symbols ps os all) (sets-picked s.symbols ps os all)
+    items-as s.symbols (values_in ps) (sets_in ps) (of_rows os) (of_all os) (values-as s.symbols ps os all) (sets-picked s.symbols ps os all)
 
 abbrev Fields : Place → Several P → Identifier → Option Identifier → Option E → Select-F E P L S W
 Fields place picks table alias condition = record { place = place; picks = picks; table = table; alias = alias; condition = condition }
 
-abbrev SelectGives : Select-F E P L S W → ResolverScope → Type 0
-SelectGives y s = Gives s.symbols (query_referents (resolve_select_layer (bare_select y) s).query) (listed_select (bare_select y) (site_of s))
+abbrev SelectAs : Select-F E P L S W → ResolverScope → Type 0
+SelectAs y s = AsQuery s.symbols (resolve_select_layer (bare_select y) s) (seen_select (bare_select y) (site_of s))
 
-fields-claim : (place : Place) (picks : Several P) (table : Identifier) (alias : Option Identifier) (condition : Option E) (s : ResolverScope) → SelectGives (Fields place picks table alias condition) s
-fields-claim place picks table alias None s = gives-as (referents-query _ _ _ None)
-    (subst (λ z. Gives s.symbols (items_referents (items_of (values_in (map (λ p. p (within s table alias)) (map resolve_pick (map (λ e. e.0) (picks.first ∷ picks.rest))))) (sets_in (map (λ p. p (within s table alias)) (map resolve_pick (map (λ e. e.0) (picks.first ∷ picks.rest)))))) ++ Table (number_of (table_at s table.name)) ∷ []) (in_query (at_each z (map pick_occurrences (map (λ e. e.0) (picks.first ∷ picks.rest)))) table.name None))
-    (rows-known s table alias)
-    (gives-both (items-on-rows (within s table alias) picks) (gives-one (ap (λ n. Table n ∷ []) (table-number (table_at s table.name))) gives-none)))
-fields-claim place picks table alias (Some test) s = gives-as (referents-query _ _ _ (Some _))
-    (subst (λ z. Gives s.symbols (items_referents (items_of (values_in (map (λ p. p (within s table alias)) (map resolve_pick (map (λ e. e.0) (picks.first ∷ picks.rest))))) (sets_in (map (λ p. p (within s table alias)) (map resolve_pick (map (λ e. e.0) (picks.first ∷ picks.rest)))))) ++ Table (number_of (table_at s table.name)) ∷ expr_referents (resolve_expr test.0 (within s table alias)).expr) (in_query (at_each z (map pick_occurrences (map (λ e. e.0) (picks.first ∷ picks.rest)))) table.name (Some (expr_occurrences test.0 z))))
-    (rows-known s table alias)
-    (gives-both (items-on-rows (within s table alias) picks) (gives-one (ap (λ n. Table n ∷ []) (table-number (table_at s table.name))) (test.1 (within s table alias)))))
+-- where nothing else is changed, a site for another
+moved : (symbols : SymbolTable) (m : ShapedQuery) (f : Site → QuerySeen) (a b : Site) → a ≡ b → AsQuery symbols m (f a) → AsQuery symbols m (f b)
+moved symbols m f a b e h = subst (λ z. AsQuery symbols m (f z)) e h
 
-select-claim : (y : Select-F E P L S W) (s : ResolverScope) → SelectGives y s
+fields-claim : (place : Place) (picks : Several P) (table : Identifier) (alias : Option Identifier) (condition : Option E) (s : ResolverScope) → SelectAs (Fields place picks table alias condition) s
+fields-claim place picks table alias None s =
+    let s' : ResolverScope = within s table alias in
+    let items = items-on-rows s' picks in
+    moved s.symbols (resolve_select_layer (bare_select (Fields place picks table alias None)) s) (λ z. in_query (seen_picks z picks) table.name None) (site_of s') (places.on_row (site_of s) table.name (spelling alias)) (rows-known s table alias)
+    (record { shapes = items.shapes; gives = gives-as (referents-query _ _ _ None) (gives-both items.gives (gives-one (ap (λ n. Table n ∷ []) (table-number (table_at s table.name))) gives-none)) })
+fields-claim place picks table alias (Some test) s =
+    let s' : ResolverScope = within s table alias in
+    let items = items-on-rows s' picks in
+    moved s.symbols (resolve_select_layer (bare_select (Fields place picks table alias (Some test))) s) (λ z. in_query (seen_picks z picks) table.name (Some (expr_seen test.0 z))) (site_of s') (places.on_row (site_of s) table.name (spelling alias)) (rows-known s table alias)
+    (record { shapes = items.shapes; gives = gives-as (referents-query _ _ _ (Some _)) (gives-both items.gives (gives-one (ap (λ n. Table n ∷ []) (table-number (table_at s table.name))) (test.1 s').gives)) })
+
+select-claim : (y : Select-F E P L S W) (s : ResolverScope) → SelectAs y s
 select-claim y s = fields-claim y.place y.picks y.table y.alias y.condition s
 
 select-step : (x : Select-F Expr Pick ChainLink Select When) (y : Select-F E P L S W) → bare_select y ≡ x → OfSelect (roll-Select x)
 select-step x y is s =
-    subst (λ z. Gives s.symbols (query_referents (resolve_query (roll-Select z) s).query) (query_occurrences (roll-Select z) (site_of s))) is
-    (subst (λ f. Gives s.symbols (query_referents (resolve_query (roll-Select (bare_select y)) s).query) (f (site_of s))) (sym (fold-roll-Select Listed (At PickOccurrences) Listed Listed Listed places.expr_layer places.pick_layer places.chain_link_layer places.select_layer places.when_layer (bare_select y)))
-    (subst (λ f. Gives s.symbols (query_referents (f s).query) (listed_select (bare_select y) (site_of s))) (sym (fold-roll-Select (Of Resolved) (Of ShapedPick) (Of (WrittenOperator × Resolved)) (Of ShapedQuery) (Of (Resolved × Resolved)) expr_layer pick_layer chain_link_layer select_layer when_layer (bare_select y)))
+    subst (λ z. AsQuery s.symbols (resolve_query (roll-Select z) s) (query_seen (roll-Select z) (site_of s))) is
+    (subst (λ f. AsQuery s.symbols (resolve_query (roll-Select (bare_select y)) s) (f (site_of s))) (sym (fold-roll-Select (At Seen) (At PickSeen) (At (WrittenOperator × Seen)) (At QuerySeen) (At Seen) places.expr_layer places.pick_layer places.chain_link_layer places.select_layer places.when_layer (bare_select y)))
+    (subst (λ f. AsQuery s.symbols (f s) (seen_select (bare_select y) (site_of s))) (sym (fold-roll-Select (Of Resolved) (Of ShapedPick) (Of (WrittenOperator × Resolved)) (Of ShapedQuery) (Of (Resolved × Resolved)) expr_layer pick_layer chain_link_layer select_layer when_layer (bare_select y)))
     (select-claim y s)))
 
 -- ---- the induction
 
-pub expr-gives : (e : Expr) (s : ResolverScope) → Gives s.symbols (expr_referents (resolve_expr e s).expr) (expr_occurrences e (site_of s))
-expr-gives = ind-Expr OfExpr OfPick OfChainLink OfSelect OfWhen expr-step pick-step chain_link-step select-step when-step
+pub expr-as : (e : Expr) (s : ResolverScope) → As s.symbols (resolve_expr e s) (expr_seen e (site_of s))
+expr-as = ind-Expr OfExpr OfPick OfChainLink OfSelect OfWhen expr-step pick-step chain_link-step select-step when-step
 
-pub query-gives : (q : Select) (s : ResolverScope) → Gives s.symbols (query_referents (resolve_query q s).query) (query_occurrences q (site_of s))
-query-gives = ind-Select OfExpr OfPick OfChainLink OfSelect OfWhen expr-step pick-step chain_link-step select-step when-step
+pub query-as : (q : Select) (s : ResolverScope) → AsQuery s.symbols (resolve_query q s) (query_seen q (site_of s))
+query-as = ind-Select OfExpr OfPick OfChainLink OfSelect OfWhen expr-step pick-step chain_link-step select-step when-step
+
+pub expr-gives : (e : Expr) (s : ResolverScope) → Gives s.symbols (expr_referents (resolve_expr e s).expr) (expr_seen e (site_of s)).occurrences
+expr-gives e s = (expr-as e s).gives
+
+pub query-gives : (q : Select) (s : ResolverScope) → Gives s.symbols (query_referents (resolve_query q s).query) (query_seen q (site_of s)).occurrences
+query-gives q s = (query-as q s).gives

@@ -12,8 +12,8 @@ use Rattle.psm_rules.specs.ExprFaults.{spelling}
 use Rattle.psm_tree.specs.declared.name.Target.{Target}
 use Rattle.psm_resolved.specs.declared.statement.ResolvedCondition.{ResolvedCondition}
 use Rattle.psm_resolve_expr.specs.ResolverScope.{Scopes, meant_in}
-use Rattle.psm_names.specs.Occurrences.{name_meaning}
-use Rattle.psm_names.specs.Sites.{slot, condition_known, declared_known, scope_known, known}
+use Rattle.psm_names.specs.Occurrences.{KnownVariable, name_meaning}
+use Rattle.psm_names.specs.Sites.{variable_known, condition_known, declared_known, scope_known, known}
 
 -- ---- among names
 
@@ -56,13 +56,13 @@ in_known (Loop label) = refl
 in_known (For label name d) = refl
 in_known Action = refl
 
-pub variable-known : (n : Spelling) (fs : Scopes) → variable n (known fs) ≡ option_map slot (variable n fs)
+pub variable-known : (n : Spelling) (fs : Scopes) → variable n (known fs) ≡ option_map variable_known (variable n fs)
 variable-known n [] = refl
 variable-known n (f ∷ outer) =
     ap (λ d. or_else (named n d.variables) (variable n (known outer))) (in_known f)
-    ∙ ap (λ a. or_else a (variable n (known outer))) (named-map slot n (declared_in f).variables)
-    ∙ ap (or_else (option_map slot (named n (declared_in f).variables))) (variable-known n outer)
-    ∙ or_else-map slot (named n (declared_in f).variables) (variable n outer)
+    ∙ ap (λ a. or_else a (variable n (known outer))) (named-map variable_known n (declared_in f).variables)
+    ∙ ap (or_else (option_map variable_known (named n (declared_in f).variables))) (variable-known n outer)
+    ∙ or_else-map variable_known (named n (declared_in f).variables) (variable n outer)
 
 pub condition-known : (n : Spelling) (fs : Scopes) → lookup.condition n (known fs) ≡ option_map condition_known (lookup.condition n fs)
 condition-known n [] = refl
@@ -76,10 +76,10 @@ pub cursor-known : (n : Spelling) (fs : Scopes) → lookup.cursor n (known fs) �
 cursor-known n [] = refl
 cursor-known n (f ∷ outer) = ap (λ d. or_else (named n d.cursors) (lookup.cursor n (known outer))) (in_known f) ∙ ap (or_else (named n (declared_in f).cursors)) (cursor-known n outer)
 
-abbrev slots : List (Spelling × Variable) → List (Spelling × ℕ)
-slots xs = map (λ p. (p.0, slot p.1)) xs
+abbrev slots : List (Spelling × Variable) → List (Spelling × KnownVariable)
+slots xs = map (λ p. (p.0, variable_known p.1)) xs
 
-called_by : (b : Bool) (xs : List (Spelling × Variable)) (there : Option (List (Spelling × ℕ))) (here : Option (List (Spelling × Variable))) → there ≡ option_map slots here → (if b then Some (slots xs) else there) ≡ option_map slots (if b then Some xs else here)
+called_by : (b : Bool) (xs : List (Spelling × Variable)) (there : Option (List (Spelling × KnownVariable))) (here : Option (List (Spelling × Variable))) → there ≡ option_map slots here → (if b then Some (slots xs) else there) ≡ option_map slots (if b then Some xs else here)
 called_by true xs there here e = refl
 called_by false xs there here e = e
 
@@ -91,25 +91,25 @@ called-known sees q (Loop label ∷ outer) = called-known sees q outer
 called-known sees q (For label name d ∷ outer) = called_by (is_spelled q name) d.variables (variables_called sees q (known outer)) (variables_called sees q outer) (called-known sees q outer)
 called-known sees q (Action ∷ outer) = called-known false q outer
 
-among-known : (n : Spelling) (o : Option (List (Spelling × Variable))) → named_among n (option_map slots o) ≡ option_map slot (named_among n o)
+among-known : (n : Spelling) (o : Option (List (Spelling × Variable))) → named_among n (option_map slots o) ≡ option_map variable_known (named_among n o)
 among-known n None = refl
-among-known n (Some xs) = named-map slot n xs
+among-known n (Some xs) = named-map variable_known n xs
 
-pub meant-known : (first : Spelling) (second : Option Spelling) (fs : Scopes) → meant first second (known fs) ≡ option_map slot (meant first second fs)
+pub meant-known : (first : Spelling) (second : Option Spelling) (fs : Scopes) → meant first second (known fs) ≡ option_map variable_known (meant first second fs)
 meant-known first None fs = variable-known first fs
 meant-known first (Some n) fs = ap (named_among n) (called-known true first fs) ∙ among-known n (variables_called true first fs)
 
 -- ---- names in expressions
 
-abbrev pub meaning_known : Meaning Variable (Option SqlType) → Meaning ℕ (Option SqlType)
+abbrev pub meaning_known : Meaning Variable (Option SqlType) → Meaning KnownVariable (Option SqlType)
 meaning_known (lookup.Column i t) = lookup.Column i t
-meaning_known (lookup.Variable v) = lookup.Variable v.slot
+meaning_known (lookup.Variable v) = lookup.Variable (variable_known v)
 
-as_variable-known : (o : Option Variable) → ◌≡◌ {A = Option (Meaning ℕ (Option SqlType))} (as_variable (option_map slot o)) (option_map meaning_known (as_variable o))
+as_variable-known : (o : Option Variable) → ◌≡◌ {A = Option (Meaning KnownVariable (Option SqlType))} (as_variable (option_map variable_known o)) (option_map meaning_known (as_variable o))
 as_variable-known None = refl
 as_variable-known (Some v) = refl
 
-on_row-known : (c : Option (ℕ × Option SqlType)) (o : Option Variable) → ◌≡◌ {A = Option (Meaning ℕ (Option SqlType))} (or_else (as_column c) (as_variable (option_map slot o))) (option_map meaning_known (or_else (as_column c) (as_variable o)))
+on_row-known : (c : Option (ℕ × Option SqlType)) (o : Option Variable) → ◌≡◌ {A = Option (Meaning KnownVariable (Option SqlType))} (or_else (as_column c) (as_variable (option_map variable_known o))) (option_map meaning_known (or_else (as_column c) (as_variable o)))
 on_row-known None o = as_variable-known o
 on_row-known (Some c) o = refl
 

@@ -13,6 +13,9 @@ use Rattle.psm_rules.specs.CheckerScope.{Columns, SymbolTable}
 use Rattle.psm_rules.specs.ExprFaults.{spelling}
 use Rattle.psm_rules.specs.StatementFaults.{several, good_state}
 use Rattle.psm_rules.specs.Types.{type_of}
+use Rattle.psm_rules.specs.declared.shape.Shape.{Shape}
+use Rattle.psm_rules.specs.declared.shape.Shape.TheVariants.{Value, Untyped}
+use Rattle.psm_rules.specs.declared.shape.Shape.TheVariants as shape
 use Rattle.psm_tree.specs.declared.name.Identifier.{Identifier}
 use Rattle.psm_tree.specs.declared.name.Target.{Target}
 use Rattle.psm_tree.specs.declared.types.State.{State}
@@ -31,23 +34,23 @@ use Rattle.psm_tree.specs.declared.statement.Declaration.TheVariants as declarat
 use Rattle.psm_tree.specs.declared.statement.ForCursor.{ForCursor}
 use Rattle.psm_tree.specs.declared.statement.ForHead.{ForHead}
 use Rattle.psm_resolved.specs.declared.statement.ResolvedCondition.{ResolvedCondition}
-use Rattle.psm_resolve_expr.specs.Exprs.{columns_in, type_known}
+use Rattle.psm_resolve_expr.specs.Exprs.{columns_in, resolve_expr, type_known}
 use Rattle.psm_resolve_expr.specs.ResolverScope as resolver
 use Rattle.psm_resolve_expr.specs.ResolverScope.{ResolverScope, on_row, table_at}
 use Rattle.psm_declare.specs.Numbering.{Numbering, with_slot, with_cursor, with_condition, next_slot, next_condition}
 use Rattle.psm_declare.specs.Declarations as declaring
 use Rattle.psm_declare.specs.Declarations.{Numbered, numbered_after, numbered_by, numbered_cursor, numbered_cursors, numbered_variable, numbered_variables}
 use Rattle.psm_resolve.specs.Blocks as blocks
-use Rattle.psm_resolve.specs.Blocks.{ForItem, for_items, items_in, items_of_pick, item_column, item_of, numbered_for_cursor, numbered_head, numbered_item, numbered_items, own_name, column_items}
+use Rattle.psm_resolve.specs.Blocks.{ForItem, items_in, items_of_pick, item_of, numbered_for_cursor, numbered_head, numbered_item, numbered_items, own_name, column_items}
 use Rattle.psm_resolve.specs.Files.{nothing_numbered, numbered_parameter, numbered_parameters, routine_numbered}
 use Rattle.psm_names.specs.Occurrences.{EnclosingScopes}
-use Rattle.psm_names.specs.ExprOccurrences.{row_of, columns_known}
-use Rattle.psm_names.specs.Declaring.{Ordinals, Point, naming_variable, naming_condition, naming_cursor, with_variable, with_variables, with_declaration, with_declarations, with_cursors, with_item, with_items, with_for_cursor, in_for, for_names, item_name, item_names, column_name, named_column, pick_names, one_variable, one_cursor, one_condition, as_state}
+use Rattle.psm_names.specs.ExprOccurrences.{expr_seen}
+use Rattle.psm_names.specs.Declaring.{Ordinals, Point, naming_variable, naming_condition, naming_cursor, with_variable, with_variables, with_declaration, with_declarations, with_cursors, with_item, with_items, with_for_cursor, in_for, item_name, items_of, named_column, pick_items, one_variable, one_cursor, one_condition, as_state}
 use Rattle.psm_names.specs.Declaring as points
 use Rattle.psm_names.specs.StatementOccurrences.{with_parameters, begin}
-use Rattle.psm_names.specs.Sites.{slot, condition_known, declared_known, scope_known, known}
+use Rattle.psm_names.specs.Sites.{variable_known, condition_known, declared_known, scope_known, known, site_of}
 use Rattle.psm_names.proofs.Knowing.{once-map, renamed}
-use Rattle.psm_names.proofs.Exprs.{table-columns}
+use Rattle.psm_names.proofs.Exprs.{expr-as, table-columns}
 
 abbrev pub ordinals : Numbering → Ordinals
 ordinals n = record { variables = length n.slots; cursors = n.cursors; conditions = length n.conditions }
@@ -70,13 +73,13 @@ at-point {a} {b} {n} {m} e f = ap (λ s. (s, n)) e ∙ ap (λ o. (b, o)) f
 
 -- ---- names in the innermost scope
 
-variable-in : (d : Declared Variable DeclaredCondition ℕ) (n : Spelling) (x : Variable) → declared_known (record d { variables = declared_once d.variables n x }) ≡ (let e = declared_known d in record e { variables = declared_once e.variables n x.slot })
-variable-in d n x = ap (λ vs. record { variables = vs; conditions = renamed condition_known d.conditions; cursors = d.cursors }) (once-map slot d.variables n x)
+variable-in : (d : Declared Variable DeclaredCondition ℕ) (n : Spelling) (x : Variable) → declared_known (record d { variables = declared_once d.variables n x }) ≡ (let e = declared_known d in record e { variables = declared_once e.variables n (variable_known x) })
+variable-in d n x = ap (λ vs. record { variables = vs; conditions = renamed condition_known d.conditions; cursors = d.cursors }) (once-map variable_known d.variables n x)
 
 condition-in : (d : Declared Variable DeclaredCondition ℕ) (n : Spelling) (x : DeclaredCondition) → declared_known (record d { conditions = declared_once d.conditions n x }) ≡ (let e = declared_known d in record e { conditions = declared_once e.conditions n (condition_known x) })
-condition-in d n x = ap (λ cs. record { variables = renamed slot d.variables; conditions = cs; cursors = d.cursors }) (once-map condition_known d.conditions n x)
+condition-in d n x = ap (λ cs. record { variables = renamed variable_known d.variables; conditions = cs; cursors = d.cursors }) (once-map condition_known d.conditions n x)
 
-naming-variable : (fs : resolver.Scopes) (n : Spelling) (x : Variable) → known (declaring.with_variable fs n x) ≡ naming_variable (known fs) n x.slot
+naming-variable : (fs : resolver.Scopes) (n : Spelling) (x : Variable) → known (declaring.with_variable fs n x) ≡ naming_variable (known fs) n (variable_known x)
 naming-variable [] n x = refl
 naming-variable (Routine name d ∷ outer) n x = ap (λ e. Routine name e ∷ known outer) (variable-in d n x)
 naming-variable (Compound label d ∷ outer) n x = ap (λ e. Compound label e ∷ known outer) (variable-in d n x)
@@ -102,12 +105,12 @@ naming-cursor (Action ∷ outer) n x = refl
 
 -- ---- variables and conditions
 
-pub variable-point : (t : SqlType) (numbered : Numbered) (name : Spelling) → point (numbered_variable t numbered name) ≡ with_variable (point numbered) name
+pub variable-point : (t : SqlType) (numbered : Numbered) (name : Spelling) → point (numbered_variable t numbered name) ≡ with_variable t (point numbered) name
 variable-point t numbered name = at-point (naming-variable numbered.0 name (declaring.variable_in t numbered.1)) (slot-more t numbered.1)
 
-variables-point : (t : SqlType) (numbered : Numbered) (ns : List Identifier) → point (numbered_variables t numbered ns) ≡ with_variables (point numbered) ns
+variables-point : (t : SqlType) (numbered : Numbered) (ns : List Identifier) → point (numbered_variables t numbered ns) ≡ with_variables t (point numbered) ns
 variables-point t numbered [] = refl
-variables-point t numbered (n ∷ ns) = variables-point t (numbered_variable t numbered n.name) ns ∙ ap (λ p. with_variables p ns) (variable-point t numbered n.name)
+variables-point t numbered (n ∷ ns) = variables-point t (numbered_variable t numbered n.name) ns ∙ ap (λ p. with_variables t p ns) (variable-point t numbered n.name)
 
 state-known : (s : Option Spelling) → condition_known (record { number = 0; state = s }) ≡ as_state s
 state-known None = refl
@@ -136,73 +139,81 @@ cursors-point numbered (x ∷ xs) = cursors-point (numbered_cursor numbered x) x
 
 -- ---- FOR
 
-abbrev pub names_of : List ForItem → List (Option Spelling)
-names_of is = map (λ i. i.0) is
+columns-items : (columns : Columns) → column_items columns ≡ map (λ c. (Some c.0, type_known c.1)) columns
+columns-items [] = refl
+columns-items (c ∷ columns) = ap (λ l. (Some c.0, type_known c.1) ∷ l) (columns-items columns)
 
-columns-named : (columns : Columns) → names_of (column_items columns) ≡ map (λ c. Some c.0) columns
-columns-named [] = refl
-columns-named (c ∷ columns) = ap (λ l. Some c.0 ∷ l) (columns-named columns)
+meant-item : (t : Target) (c : Option (ℕ × Option SqlType)) (v : Option Variable) → blocks.column_meant t (or_else (as_column c) (as_variable v)) ≡ named_column t c
+meant-item t None None = refl
+meant-item t None (Some v) = refl
+meant-item t (Some c) v = refl
 
-meant-named : (alias : Option Identifier) (t : Target) (c : Option (ℕ × Option SqlType)) (v : Option Variable) → own_name alias (blocks.column_meant t (or_else (as_column c) (as_variable v))) ≡ item_name alias (named_column t c)
-meant-named None t None None = refl
-meant-named None t None (Some v) = refl
-meant-named None t (Some c) v = refl
-meant-named (Some a) t None None = refl
-meant-named (Some a) t None (Some v) = refl
-meant-named (Some a) t (Some c) v = refl
+item-meant : (s : ResolverScope) (row : RowTable (Option SqlType)) (e : Expr-F Expr Pick ChainLink Select When) → blocks.item_column (on_row s row) e ≡ points.item_column row e
+item-meant s row (layers.Name t) = meant-item t (lookup.column_meant t.first.name (spelling t.second) row) (meant t.first.name (spelling t.second) s.scopes)
+item-meant s row e = refl
 
-none-named : (alias : Option Identifier) → own_name alias None ≡ item_name alias None
-none-named None = refl
-none-named (Some a) = refl
+name-same : (alias : Option Identifier) (c : Option points.Column) → own_name alias c ≡ item_name alias c
+name-same None None = refl
+name-same None (Some c) = refl
+name-same (Some a) c = refl
 
-item-named : (s : ResolverScope) (row : RowTable (Option SqlType)) (alias : Option Identifier) (e : Expr-F Expr Pick ChainLink Select When) → own_name alias (item_column (on_row s row) e) ≡ item_name alias (column_name row e)
-item-named s row alias (layers.Name t) = meant-named alias t (lookup.column_meant t.first.name (spelling t.second) row) (meant t.first.name (spelling t.second) s.scopes)
-item-named s row alias e = none-named alias
+wide-same : (x : Shape) → blocks.wide_type x ≡ points.wide_type x
+wide-same (Value t) = refl
+wide-same Untyped = refl
+wide-same shape.Condition = refl
 
-pick-named : (s : ResolverScope) (row : RowTable (Option SqlType)) (p : Pick-F Expr Pick ChainLink Select When) → names_of (items_of_pick (on_row s row) row.columns p) ≡ pick_names row p
-pick-named s row (layers.All place) = columns-named row.columns
-pick-named s row (layers.Expr e alias) = ap (λ n. n ∷ []) (item-named s row alias (out-Expr e))
-pick-named s row (layers.CountRows place alias) = refl
-pick-named s row (layers.Aggregate place function argument alias) = refl
+type-same : (c : Option points.Column) (x : Shape) → blocks.item_type c x ≡ points.item_type c x
+type-same (Some c) x = refl
+type-same None x = wide-same x
 
-names-append : (is js : List ForItem) → names_of (is ++ js) ≡ names_of is ++ names_of js
-names-append [] js = refl
-names-append (i ∷ is) js = ap (λ l. i.0 ∷ l) (names-append is js)
+item-same : (s : ResolverScope) (row : RowTable (Option SqlType)) (e : Expr) (alias : Option Identifier) → item_of (on_row s row) e alias ≡ (let column = points.item_column row (out-Expr e) in (item_name alias column, points.item_type column (expr_seen e (site_of (on_row s row))).shape))
+item-same s row e alias =
+    let m : Shape = (resolve_expr e (on_row s row)).shape in
+    let x : Shape = (expr_seen e (site_of (on_row s row))).shape in
+    let c : Option points.Column = points.item_column row (out-Expr e) in
+    ap (λ c. (own_name alias c, blocks.item_type c m)) (item-meant s row (out-Expr e))
+    ∙ ap (λ n. (n, blocks.item_type c m)) (name-same alias c)
+    ∙ ap (λ t. (item_name alias c, t)) (type-same c m ∙ ap (points.item_type c) (expr-as e (on_row s row)).shape)
 
-picks-named : (s : ResolverScope) (row : RowTable (Option SqlType)) (ps : List Pick) → names_of (items_in (on_row s row) row.columns ps) ≡ item_names row ps
-picks-named s row [] = refl
-picks-named s row (p ∷ ps) =
-    names-append (items_of_pick (on_row s row) row.columns (out-Pick p)) (items_in (on_row s row) row.columns ps)
-    ∙ ap (λ l. l ++ names_of (items_in (on_row s row) row.columns ps)) (pick-named s row (out-Pick p))
-    ∙ ap (λ l. pick_names row (out-Pick p) ++ l) (picks-named s row ps)
+pick-same : (s : ResolverScope) (row : RowTable (Option SqlType)) (p : Pick-F Expr Pick ChainLink Select When) → items_of_pick (on_row s row) row.columns p ≡ pick_items (site_of (on_row s row)) row p
+pick-same s row (layers.All place) = columns-items row.columns
+pick-same s row (layers.Expr e alias) = ap (λ i. i ∷ []) (item-same s row e alias)
+pick-same s row (layers.CountRows place alias) = refl
+pick-same s row (layers.Aggregate place function argument alias) = refl
 
-pub items-named : (s : ResolverScope) (select : Select) → names_of (for_items s select) ≡ for_names s.symbols select
-items-named s select =
-    picks-named s (record { name = (out-Select select).table.name; alias = spelling (out-Select select).alias; columns = columns_in (table_at s (out-Select select).table.name) }) (several (out-Select select).picks)
-    ∙ ap (λ c. item_names (record { name = (out-Select select).table.name; alias = spelling (out-Select select).alias; columns = c }) (several (out-Select select).picks)) (table-columns (table_at s (out-Select select).table.name))
+picks-same : (s : ResolverScope) (row : RowTable (Option SqlType)) (ps : List Pick) → items_in (on_row s row) row.columns ps ≡ items_of (site_of (on_row s row)) row ps
+picks-same s row [] = refl
+picks-same s row (p ∷ ps) =
+    ap (λ l. l ++ items_in (on_row s row) row.columns ps) (pick-same s row (out-Pick p))
+    ∙ ap (λ l. pick_items (site_of (on_row s row)) row (out-Pick p) ++ l) (picks-same s row ps)
 
-item-point : (numbered : Numbered) (i : ForItem) → point (numbered_item numbered i) ≡ with_item (point numbered) i.0
+pub items-same : (s : ResolverScope) (select : Select) → blocks.for_items s select ≡ points.for_items (site_of s) select
+items-same s select =
+    picks-same s (record { name = (out-Select select).table.name; alias = spelling (out-Select select).alias; columns = columns_in (table_at s (out-Select select).table.name) }) (several (out-Select select).picks)
+    ∙ ap (λ c. let row : RowTable (Option SqlType) = record { name = (out-Select select).table.name; alias = spelling (out-Select select).alias; columns = c } in items_of (record { symbols = s.symbols; scopes = known s.scopes; row = Some row }) row (several (out-Select select).picks)) (table-columns (table_at s (out-Select select).table.name))
+
+item-point : (numbered : Numbered) (i : ForItem) → point (numbered_item numbered i) ≡ with_item (point numbered) i
 item-point numbered (None, t) = at-point refl (slot-more t numbered.1)
 item-point numbered (Some name, t) = variable-point t numbered name
 
-items-point : (numbered : Numbered) (is : List ForItem) → point (numbered_items numbered is) ≡ with_items (point numbered) (names_of is)
+items-point : (numbered : Numbered) (is : List ForItem) → point (numbered_items numbered is) ≡ with_items (point numbered) is
 items-point numbered [] = refl
-items-point numbered (i ∷ is) = items-point (numbered_item numbered i) is ∙ ap (λ p. with_items p (names_of is)) (item-point numbered i)
+items-point numbered (i ∷ is) = items-point (numbered_item numbered i) is ∙ ap (λ p. with_items p is) (item-point numbered i)
 
 for_cursor-point : (numbered : Numbered) (cursor : Option ForCursor) → point (numbered_for_cursor numbered cursor) ≡ with_for_cursor (point numbered) cursor
 for_cursor-point numbered None = refl
 for_cursor-point numbered (Some cursor) = at-point (naming-cursor numbered.0 cursor.name.name numbered.1.cursors) refl
 
-pub head-point : (s : ResolverScope) (label : Option Spelling) (head : ForHead) (n : Numbering) → point (numbered_head s label head n) ≡ in_for s.symbols label head (known s.scopes, ordinals n)
+pub head-point : (s : ResolverScope) (label : Option Spelling) (head : ForHead) (n : Numbering) → point (numbered_head s label head n) ≡ in_for (site_of s) label head (ordinals n)
 head-point s label head n =
     let before : Numbered = (scope.For label head.name.name undeclared ∷ s.scopes, n) in
-    items-point (numbered_for_cursor before head.cursor) (for_items s head.query.query)
-    ∙ ap (λ p. with_items p (names_of (for_items s head.query.query))) (for_cursor-point before head.cursor)
-    ∙ ap (with_items (with_for_cursor (point before) head.cursor)) (items-named s head.query.query)
+    items-point (numbered_for_cursor before head.cursor) (blocks.for_items s head.query.query)
+    ∙ ap (λ p. with_items p (blocks.for_items s head.query.query)) (for_cursor-point before head.cursor)
+    ∙ ap (with_items (with_for_cursor (point before) head.cursor)) (items-same s head.query.query)
 
 -- ---- parameters
 
-parameter-point : (numbered : Numbered) (p : Parameter) → point (numbered_parameter numbered p) ≡ with_variable (point numbered) p.name.name
+parameter-point : (numbered : Numbered) (p : Parameter) → point (numbered_parameter numbered p) ≡ with_variable (type_known (type_of p.kind)) (point numbered) p.name.name
 parameter-point numbered p = at-point (naming-variable numbered.0 p.name.name _) (slot-more (type_known (type_of p.kind)) numbered.1)
 
 parameters-point : (numbered : Numbered) (ps : List Parameter) → point (numbered_parameters numbered ps) ≡ with_parameters (point numbered) ps

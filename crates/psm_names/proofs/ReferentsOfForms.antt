@@ -21,7 +21,7 @@ use Rattle.psm_resolved.specs.declared.expr.ResolvedItem.{ResolvedItem, roll-Res
 use Rattle.psm_resolved.specs.declared.expr.ResolvedOperation.{ResolvedOperation, roll-ResolvedOperation}
 use Rattle.psm_resolved.specs.declared.expr.ResolvedQuery.{ResolvedQuery, roll-ResolvedQuery}
 use Rattle.psm_resolved.specs.declared.expr.ResolvedWhen.{ResolvedWhen, roll-ResolvedWhen}
-use Rattle.psm_names.specs.Referents.{Null, Column, Variable, Table, together, in_several, perhaps}
+use Rattle.psm_names.specs.Referents.{Null, Column, Variable, Table, Function, together, in_several, perhaps}
 use Rattle.psm_names.specs.ExprReferents.{R, expr_layer, items_layer, item_layer, chain_link_layer, query_layer, when_layer, expr_referents, items_referents, item_referents, chain_link_referents, query_referents, when_referents}
 
 rolled : (layer : ResolvedExpr-F ResolvedExpr ResolvedItems ResolvedItem ResolvedOperation ResolvedQuery ResolvedWhen) → expr_referents (roll-ResolvedExpr layer) ≡ expr_layer (map-ResolvedExpr ResolvedExpr ResolvedItems ResolvedItem ResolvedOperation ResolvedQuery ResolvedWhen R R R R R R expr_referents items_referents item_referents chain_link_referents query_referents when_referents layer)
@@ -84,7 +84,7 @@ pub referents-Negated : (e : ResolvedExpr) → expr_referents (exprs.Negated e) 
 unfolding roll-ResolvedExpr Carrier.roll
 referents-Negated e = rolled (layers.Negated e)
 
-pub referents-Call : (function : ℕ) (arguments : List ResolvedExpr) → expr_referents (exprs.Call function arguments) ≡ together (map expr_referents arguments)
+pub referents-Call : (function : ℕ) (arguments : List ResolvedExpr) → expr_referents (exprs.Call function arguments) ≡ Function function ∷ together (map expr_referents arguments)
 unfolding roll-ResolvedExpr Carrier.roll
 referents-Call function arguments = rolled (layers.Call function arguments)
 

@@ -47,12 +47,12 @@ use Rattle.psm_resolve.specs.Statements as resolving
 use Rattle.psm_resolve.specs.Statements.{argument_of, arguments_of, call_of, condition_of, cursor_of, declared_as, diagnostics_of, level_of, number_of, on_table, row_of, rows_of, set_of, signal_of, simple_of, slot_in, slot_of, slots_of, state_of, state_or_success, table_of, target_in, which_in}
 use Rattle.psm_names.specs.Referents.{Referent, Column, Variable, Cursor, Condition, Block, Table, Procedure, together, perhaps}
 use Rattle.psm_names.specs.Occurrences as occurring
-use Rattle.psm_names.specs.Occurrences.{Occurrence, EachColumn, Assigned, ColumnName, TableName, CursorName, Label, ConditionName, StateName, ProcedureName, Site, or_zero, or_first, place_of, procedure_number, referents}
+use Rattle.psm_names.specs.Occurrences.{Occurrence, EachColumn, Assigned, ColumnName, TableName, CursorName, Label, ConditionName, StateName, ProcedureName, Site, or_zero, or_first, ordinal_in, place_of, procedure_number, referents}
 use Rattle.psm_names.specs.ExprOccurrences as places
 use Rattle.psm_names.specs.ExprOccurrences.{expr_occurrences}
 use Rattle.psm_names.specs.Declaring.{optional_occurrences}
 use Rattle.psm_names.specs.SimpleOccurrences.{as_target, in_argument, in_arguments, in_call, in_columns, in_condition, in_diagnostics, in_exprs, in_number, in_row, in_rows, in_set, in_sets, in_signal, in_targets, in_where, simple_occurrences}
-use Rattle.psm_names.specs.Sites.{slot, condition_known, known, site_of}
+use Rattle.psm_names.specs.Sites.{variable_known, condition_known, known, site_of}
 use Rattle.psm_names.specs.ExprReferents.{expr_referents}
 use Rattle.psm_names.specs.StatementReferents.{of_argument, of_diagnostics, of_exprs, of_number, of_rows, of_set, of_signal, of_slots, of_where, optional_referents, simple_referents}
 use Rattle.psm_names.proofs.Knowing.{condition-known, cursor-known, level-known, meant-known}
@@ -61,12 +61,12 @@ use Rattle.psm_names.proofs.Exprs.{expr-gives, query-gives, table-columns, table
 
 -- ---- numbers that look-up gives
 
-slot-or-zero : (o : Option Known) → slot_in o ≡ or_zero (option_map slot o)
+slot-or-zero : (o : Option Known) → slot_in o ≡ ordinal_in (option_map variable_known o)
 slot-or-zero None = refl
 slot-or-zero (Some v) = refl
 
 pub target-is : (symbols : SymbolTable) (scopes : Scopes) (t : Target) → Variable (slot_of scopes t) ∷ [] ≡ referents symbols (Assigned t (known scopes))
-target-is symbols scopes t = ap (λ k. Variable k ∷ []) (slot-or-zero (meant t.first.name (spelling t.second) scopes) ∙ ap or_zero (sym (meant-known t.first.name (spelling t.second) scopes)))
+target-is symbols scopes t = ap (λ k. Variable k ∷ []) (slot-or-zero (meant t.first.name (spelling t.second) scopes) ∙ ap ordinal_in (sym (meant-known t.first.name (spelling t.second) scopes)))
 
 cursor-is : (symbols : SymbolTable) (scopes : Scopes) (n : Identifier) → Cursor (cursor_of scopes n) ∷ [] ≡ referents symbols (CursorName n.name (known scopes))
 cursor-is symbols scopes n = ap (λ o. Cursor (or_zero o) ∷ []) (sym (cursor-known n.name scopes))

@@ -46,7 +46,7 @@ use Rattle.psm_names.specs.Occurrences.{Occurrence, Declared, Site, looked_up, r
 use Rattle.psm_names.specs.ExprOccurrences.{expr_occurrences, query_occurrences}
 use Rattle.psm_names.specs.ExprReferents as exprs
 use Rattle.psm_names.specs.ExprReferents.{R, expr_referents, items_referents, query_referents}
-use Rattle.psm_names.specs.Declaring.{Ordinals, Point, control, for_names, in_cursors, in_declaration, in_declarations, in_for, in_head, optional_occurrences, variables_from, with_cursors, with_declaration, with_declarations, with_variable}
+use Rattle.psm_names.specs.Declaring.{Ordinals, Point, control, in_cursors, in_declaration, in_declarations, in_for, in_head, optional_occurrences, variables_from, with_cursors, with_declaration, with_declarations, with_variable}
 use Rattle.psm_names.specs.StatementOccurrences as places
 use Rattle.psm_names.specs.StatementOccurrences.{Listing, all_of, begin, begun, block_occurrences, branch_occurrences, declaring, followed, handler_occurrences, in_value, only, routine_occurrences, statement_occurrences}
 use Rattle.psm_names.specs.StatementReferents.{branch_referents, handler_referents, of_cursor, of_declaration, of_head, of_slots, of_value, optional_referents, routine_referents, statement_referents}
@@ -54,7 +54,7 @@ use Rattle.psm_names.specs.Sites.{known, site_of}
 use Rattle.psm_names.proofs.Knowing.{levels-known}
 use Rattle.psm_names.proofs.LookedUp.{Gives, gives-as, gives-both, gives-none, gives-one}
 use Rattle.psm_names.proofs.Exprs.{expr-gives, query-gives}
-use Rattle.psm_names.proofs.Points.{begin-point, cursor-point, cursors-point, declaration-point, declarations-point, head-point, items-named, names_of, ordinals, point, slot-more}
+use Rattle.psm_names.proofs.Points.{begin-point, cursor-point, cursors-point, declaration-point, declarations-point, head-point, items-same, ordinals, point, slot-more}
 use Rattle.psm_names.proofs.Simples.{named-condition, optional-gives, simple-gives, state-is}
 use Rattle.psm_names.proofs.ReferentsOfForms.{referents-query}
 use Rattle.psm_names.proofs.ReferentsOfStatements.{standing-Case, standing-Compound, standing-For, standing-If, standing-Loop, standing-Repeat, standing-Simple, standing-While, standing-block, standing-branch, standing-handler}
@@ -87,7 +87,7 @@ slots-give : (symbols : SymbolTable) (k : ℕ) (ns : List Identifier) → Gives 
 slots-give symbols k [] = gives-none
 slots-give symbols k (n ∷ ns) = gives-one refl (slots-give symbols (suc k) ns)
 
-items-give : (symbols : SymbolTable) (k : ℕ) (is : List ForItem) → Gives symbols (of_slots (item_slots k is)) (variables_from k (names_of is))
+items-give : (symbols : SymbolTable) (k : ℕ) (is : List ForItem) → Gives symbols (of_slots (item_slots k is)) (variables_from k is)
 items-give symbols k [] = gives-none
 items-give symbols k (i ∷ is) = gives-one refl (items-give symbols (suc k) is)
 
@@ -126,7 +126,7 @@ head-gives : (s : ResolverScope) (head : ForHead) (n : Numbering) → Gives s.sy
 head-gives s head n =
     gives-one refl
     (gives-both (ordered-gives s head.query)
-    (subst (λ is. Gives s.symbols (of_slots (item_slots (next_slot n) (for_items s head.query.query))) (variables_from (next_slot n) is)) (items-named s head.query.query) (items-give s.symbols (next_slot n) (for_items s head.query.query))))
+    (subst (λ is. Gives s.symbols (of_slots (item_slots (next_slot n) (for_items s head.query.query))) (variables_from (next_slot n) is)) (items-same s head.query.query) (items-give s.symbols (next_slot n) (for_items s head.query.query))))
 
 declaring-lists : (s : ResolverScope) (numbered : Numbered) (xs : List Declaration) (cursors : List CursorDeclaration) →
     let declared = numbered_by numbered xs in
@@ -303,7 +303,7 @@ block-claim (layers.For place head statements) label s n =
     let numbered : Numbered = numbered_head s label head n in
     let within : ResolverScope = in_scopes s numbered.0 in
     let ss = all within (map resolve_statement (map (λ y. y.0) ys)) numbered.1 in
-    let after : Point = in_for s.symbols label head (known s.scopes, ordinals n) in
+    let after : Point = in_for (site_of s) label head (ordinals n) in
     let is : point numbered ≡ after = head-point s label head n in
     let own : Listing = λ m. (in_head (site_of s) head m, after.1) in
     let rest : Point → Listing = λ p. all_of (where_it_is s p) (steps ys) in

@@ -1,11 +1,18 @@
 -- What is declared up to a point of a routine, and the occurrences in declarations (ISO/IEC 9075-4:1996, compound statement).
 use Rattle.std.specs.Prelude.{ℕ, suc, List, [], ◌∷◌, ◌++◌, map, Option, Some, None, option_map}
 use Rattle.psm_value.specs.declared.sqltype.SqlType.{SqlType}
+use Rattle.psm_value.specs.declared.sqltype.SqlType.TheVariants as types
 use Rattle.psm_scope.specs.Scopes.{Spelling, For, undeclared}
 use Rattle.psm_scope.specs.Lookup.{RowTable, column_meant}
 use Rattle.psm_scope.specs.KeptScopes.{declared_here, redeclared}
 use Rattle.psm_rules.specs.CheckerScope.{Columns, SymbolTable}
-use Rattle.psm_rules.specs.BlockFaults.{declared_once, last_name}
+use Rattle.psm_rules.specs.BlockFaults.{declared_once, last_name, wide}
+use Rattle.psm_rules.specs.declared.shape.Shape.{Shape}
+use Rattle.psm_rules.specs.declared.shape.Shape.TheVariants.{Value, Untyped}
+use Rattle.psm_rules.specs.declared.shape.Shape.TheVariants as shape
+use Rattle.psm_rules.specs.Shapes.{family_of}
+use Rattle.psm_rules.specs.Types.{type_of}
+use Rattle.psm_resolve_expr.specs.Exprs.{type_known}
 use Rattle.psm_rules.specs.ExprFaults.{spelling}
 use Rattle.psm_rules.specs.StatementFaults.{several, good_state}
 use Rattle.psm_tree.specs.declared.name.Identifier.{Identifier}
@@ -26,8 +33,8 @@ use Rattle.psm_tree.specs.declared.statement.ForHead.{ForHead}
 use Rattle.psm_resolved.specs.declared.statement.ResolvedCondition.{ResolvedCondition}
 use Rattle.psm_resolved.specs.declared.statement.ResolvedCondition.TheVariants as conditions
 use Rattle.psm_names.specs.Referents.{Variable, Cursor, perhaps}
-use Rattle.psm_names.specs.Occurrences.{EnclosingScopes, Occurrence, Declared, Site}
-use Rattle.psm_names.specs.ExprOccurrences.{expr_occurrences, query_occurrences, row_of}
+use Rattle.psm_names.specs.Occurrences.{EnclosingScopes, KnownVariable, Occurrence, Declared, Site}
+use Rattle.psm_names.specs.ExprOccurrences.{expr_occurrences, expr_seen, on_row, query_occurrences, row_of}
 
 -- how many variables, cursors and conditions without an SQLSTATE are declared before a point of a routine
 pub record Ordinals : Type 0 where
@@ -50,7 +57,7 @@ Point = EnclosingScopes × Ordinals
 
 -- ---- a declaration in the innermost scope; a name that is declared there again stays what it is
 
-abbrev pub naming_variable : EnclosingScopes → Spelling → ℕ → EnclosingScopes
+abbrev pub naming_variable : EnclosingScopes → Spelling → KnownVariable → EnclosingScopes
 naming_variable scopes name x = let d = declared_here scopes in redeclared scopes (record d { variables = declared_once d.variables name x })
 
 abbrev pub naming_condition : EnclosingScopes → Spelling → ResolvedCondition → EnclosingScopes
@@ -59,12 +66,12 @@ naming_condition scopes name x = let d = declared_here scopes in redeclared scop
 abbrev pub naming_cursor : EnclosingScopes → Spelling → ℕ → EnclosingScopes
 naming_cursor scopes name x = let d = declared_here scopes in redeclared scopes (record d { cursors = declared_once d.cursors name x })
 
-abbrev pub with_variable : Point → Spelling → Point
-with_variable p name = (naming_variable p.0 name p.1.variables, one_variable p.1)
+abbrev pub with_variable : SqlType → Point → Spelling → Point
+with_variable t p name = (naming_variable p.0 name (record { ordinal = p.1.variables; kind = Some t }), one_variable p.1)
 
-abbrev pub with_variables : Point → List Identifier → Point
-with_variables p [] = p
-with_variables p (n ∷ ns) = with_variables (with_variable p n.name) ns
+abbrev pub with_variables : SqlType → Point → List Identifier → Point
+with_variables t p [] = p
+with_variables t p (n ∷ ns) = with_variables t (with_variable t p n.name) ns
 
 -- a text that is no SQLSTATE of a condition is in no accepted file
 abbrev pub as_state : Option Spelling → ResolvedCondition
@@ -84,7 +91,7 @@ abbrev pub control : SymbolTable → EnclosingScopes → Site
 control symbols scopes = record { symbols = symbols; scopes = scopes; row = None }
 
 abbrev pub with_declaration : Point → Declaration → Point
-with_declaration p (declarations.Variables place names kind default) = with_variables p (several names)
+with_declaration p (declarations.Variables place names kind default) = with_variables (type_known (type_of kind)) p (several names)
 with_declaration p (declarations.Condition place name state) = with_condition p name.name state
 
 abbrev pub with_declarations : Point → List Declaration → Point
@@ -117,39 +124,55 @@ abbrev pub in_cursors : SymbolTable → Point → List CursorDeclaration → Lis
 in_cursors symbols p [] = []
 in_cursors symbols p (x ∷ xs) = Declared (Cursor p.1.cursors) ∷ (query_occurrences x.query.query (control symbols p.0) ++ in_cursors symbols (with_cursor p x.name.name) xs)
 
--- ---- FOR: each item of its query declares a variable, and each column of `*` one; an item has its own name, or that of the column
--- that it is
+-- ---- FOR: each item of its query declares a variable, and each column of `*` one. An item has its own name, or that of the column
+-- that it is. It has the type of the column, or else NUMERIC(18, s) or VARCHAR(4000).
 
-abbrev pub named_column : Target → Option (ℕ × Option SqlType) → Option Spelling
+abbrev pub Item : Type 0
+Item = Option Spelling × SqlType
+
+abbrev pub Column : Type 0
+Column = Spelling × Option SqlType
+
+abbrev pub named_column : Target → Option (ℕ × Option SqlType) → Option Column
 named_column t None = None
-named_column t (Some c) = Some (last_name t.first t.second)
+named_column t (Some c) = Some (last_name t.first t.second, c.1)
 
-abbrev pub column_name : RowTable (Option SqlType) → Expr-F Expr Pick ChainLink Select When → Option Spelling
-column_name row (layers.Name t) = named_column t (column_meant t.first.name (spelling t.second) row)
-column_name row e = None
+abbrev pub item_column : RowTable (Option SqlType) → Expr-F Expr Pick ChainLink Select When → Option Column
+item_column row (layers.Name t) = named_column t (column_meant t.first.name (spelling t.second) row)
+item_column row e = None
 
-abbrev pub item_name : Option Identifier → Option Spelling → Option Spelling
+abbrev pub item_name : Option Identifier → Option Column → Option Spelling
 item_name (Some alias) column = Some alias.name
-item_name None column = column
+item_name None None = None
+item_name None (Some c) = Some c.0
 
-abbrev pub pick_names : RowTable (Option SqlType) → Pick-F Expr Pick ChainLink Select When → List (Option Spelling)
-pick_names row (layers.All place) = map (λ c. Some c.0) row.columns
-pick_names row (layers.Expr e alias) = item_name alias (column_name row (out-Expr e)) ∷ []
-pick_names row (layers.CountRows place alias) = []
-pick_names row (layers.Aggregate place function argument alias) = []
+abbrev pub wide_type : Shape → SqlType
+wide_type (Value t) = wide (family_of t.kind) t.scale
+wide_type Untyped = types.Integer
+wide_type shape.Condition = types.Integer
 
-abbrev pub item_names : RowTable (Option SqlType) → List Pick → List (Option Spelling)
-item_names row [] = []
-item_names row (p ∷ ps) = pick_names row (out-Pick p) ++ item_names row ps
+abbrev pub item_type : Option Column → Shape → SqlType
+item_type (Some c) s = type_known c.1
+item_type None s = wide_type s
 
-abbrev pub for_names : SymbolTable → Select → List (Option Spelling)
-for_names symbols select = let s = out-Select select in item_names (row_of symbols s.table.name (spelling s.alias)) (several s.picks)
+abbrev pub pick_items : Site → RowTable (Option SqlType) → Pick-F Expr Pick ChainLink Select When → List Item
+pick_items site row (layers.All place) = map (λ c. (Some c.0, type_known c.1)) row.columns
+pick_items site row (layers.Expr e alias) = let column = item_column row (out-Expr e) in (item_name alias column, item_type column (expr_seen e site).shape) ∷ []
+pick_items site row (layers.CountRows place alias) = []
+pick_items site row (layers.Aggregate place function argument alias) = []
 
-abbrev pub with_item : Point → Option Spelling → Point
-with_item p None = (p.0, one_variable p.1)
-with_item p (Some name) = with_variable p name
+abbrev pub items_of : Site → RowTable (Option SqlType) → List Pick → List Item
+items_of site row [] = []
+items_of site row (p ∷ ps) = pick_items site row (out-Pick p) ++ items_of site row ps
 
-abbrev pub with_items : Point → List (Option Spelling) → Point
+abbrev pub for_items : Site → Select → List Item
+for_items site select = let s = out-Select select in items_of (on_row site s.table.name (spelling s.alias)) (row_of site.symbols s.table.name (spelling s.alias)) (several s.picks)
+
+abbrev pub with_item : Point → Item → Point
+with_item p (None, t) = (p.0, one_variable p.1)
+with_item p (Some name, t) = with_variable t p name
+
+abbrev pub with_items : Point → List Item → Point
 with_items p [] = p
 with_items p (i ∷ is) = with_items (with_item p i) is
 
@@ -159,8 +182,8 @@ with_for_cursor p None = (p.0, one_cursor p.1)
 with_for_cursor p (Some cursor) = with_cursor p cursor.name.name
 
 -- the scope of the statements in FOR
-abbrev pub in_for : SymbolTable → Option Spelling → ForHead → Point → Point
-in_for symbols label head p = with_items (with_for_cursor (For label head.name.name undeclared ∷ p.0, p.1) head.cursor) (for_names symbols head.query.query)
+abbrev pub in_for : Site → Option Spelling → ForHead → Ordinals → Point
+in_for site label head n = with_items (with_for_cursor (For label head.name.name undeclared ∷ site.scopes, n) head.cursor) (for_items site head.query.query)
 
 abbrev pub in_head : Site → ForHead → Ordinals → List Occurrence
-in_head site head n = Declared (Cursor n.cursors) ∷ (query_occurrences head.query.query site ++ variables_from n.variables (for_names site.symbols head.query.query))
+in_head site head n = Declared (Cursor n.cursors) ∷ (query_occurrences head.query.query site ++ variables_from n.variables (for_items site head.query.query))

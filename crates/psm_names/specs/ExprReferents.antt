@@ -9,7 +9,7 @@ use Rattle.psm_resolved.specs.declared.expr.ResolvedItem.{ResolvedItem}
 use Rattle.psm_resolved.specs.declared.expr.ResolvedOperation.{ResolvedOperation}
 use Rattle.psm_resolved.specs.declared.expr.ResolvedQuery.{ResolvedQuery}
 use Rattle.psm_resolved.specs.declared.expr.ResolvedWhen.{ResolvedWhen}
-use Rattle.psm_names.specs.Referents.{Referent, Null, Column, Variable, Table, together, in_several, perhaps}
+use Rattle.psm_names.specs.Referents.{Referent, Null, Column, Variable, Table, Function, together, in_several, perhaps}
 
 abbrev pub R : Type 0
 R = List Referent
@@ -29,7 +29,7 @@ expr_layer (layers.In negated value list) = value ++ in_several list
 expr_layer (layers.Like negated value pattern escape) = value ++ (pattern ++ perhaps escape)
 expr_layer (layers.OperatorChain first chain_links) = first ++ together chain_links
 expr_layer (layers.Negated e) = e
-expr_layer (layers.Call function arguments) = together arguments
+expr_layer (layers.Call function arguments) = Function function ∷ together arguments
 expr_layer (layers.Scalar query) = query
 expr_layer (layers.Exists query) = query
 expr_layer (layers.Case operand whens otherwise scale) = perhaps operand ++ (in_several whens ++ perhaps otherwise)

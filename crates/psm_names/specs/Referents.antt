@@ -17,6 +17,7 @@ pub data Referent : Type 0 where
   Block : ℕ → Referent
   Table : ℕ → Referent
   Procedure : ℕ → Referent
+  Function : ℕ → Referent
 
 -- ---- parts one after another
 

@@ -7,18 +7,18 @@ use Rattle.psm_scope.specs.declared.known.DeclaredCondition.{DeclaredCondition}
 use Rattle.psm_resolved.specs.declared.statement.ResolvedCondition.{ResolvedCondition}
 use Rattle.psm_resolve_expr.specs.ResolverScope.{ResolverScope, Scopes}
 use Rattle.psm_resolve.specs.Statements.{state_or_number}
-use Rattle.psm_names.specs.Occurrences.{EnclosingScopes, Site}
+use Rattle.psm_names.specs.Occurrences.{EnclosingScopes, KnownVariable, Site}
 
-abbrev pub slot : Variable → ℕ
-slot v = v.slot
+abbrev pub variable_known : Variable → KnownVariable
+variable_known v = record { ordinal = v.slot; kind = v.kind }
 
 abbrev pub condition_known : DeclaredCondition → ResolvedCondition
 condition_known c = state_or_number c.state c.number
 
-abbrev pub declared_known : Declared Variable DeclaredCondition ℕ → Declared ℕ ResolvedCondition ℕ
-declared_known d = record { variables = map (λ p. (p.0, slot p.1)) d.variables; conditions = map (λ p. (p.0, condition_known p.1)) d.conditions; cursors = d.cursors }
+abbrev pub declared_known : Declared Variable DeclaredCondition ℕ → Declared KnownVariable ResolvedCondition ℕ
+declared_known d = record { variables = map (λ p. (p.0, variable_known p.1)) d.variables; conditions = map (λ p. (p.0, condition_known p.1)) d.conditions; cursors = d.cursors }
 
-abbrev pub scope_known : Scope Variable DeclaredCondition ℕ → Scope ℕ ResolvedCondition ℕ
+abbrev pub scope_known : Scope Variable DeclaredCondition ℕ → Scope KnownVariable ResolvedCondition ℕ
 scope_known (Routine name d) = Routine name (declared_known d)
 scope_known (Compound label d) = Compound label (declared_known d)
 scope_known (Loop label) = Loop label

@@ -4,6 +4,8 @@ use Rattle.psm_scope.specs.Scopes.{Spelling, Scope, Compound, Loop, Action, unde
 use Rattle.psm_scope.specs.Scopes as scope
 use Rattle.psm_rules.specs.CheckerScope.{SymbolTable}
 use Rattle.psm_rules.specs.StatementFaults.{several, label_name}
+use Rattle.psm_rules.specs.Types.{type_of}
+use Rattle.psm_resolve_expr.specs.Exprs.{type_known}
 use Rattle.psm_tree.specs.declared.expr.Expr.{Expr}
 use Rattle.psm_tree.specs.declared.file.Parameter.{Parameter}
 use Rattle.psm_tree.specs.declared.file.Routine.{Routine}
@@ -22,7 +24,7 @@ use Rattle.psm_tree.specs.declared.statement.Block.TheFolds.{fold-Statement, fol
 use Rattle.psm_resolved.specs.declared.statement.ResolvedCondition.{ResolvedCondition}
 use Rattle.psm_names.specs.Referents as referents
 use Rattle.psm_names.specs.Referents.{together}
-use Rattle.psm_names.specs.Occurrences.{EnclosingScopes, Occurrence, Declared, ConditionName, StateName, Site}
+use Rattle.psm_names.specs.Occurrences.{EnclosingScopes, KnownVariable, Occurrence, Declared, ConditionName, StateName, Site}
 use Rattle.psm_names.specs.ExprOccurrences.{expr_occurrences}
 use Rattle.psm_names.specs.Declaring.{Ordinals, Point, control, in_cursors, in_declarations, in_for, in_head, optional_occurrences, with_cursors, with_declarations, with_variable}
 use Rattle.psm_names.specs.SimpleOccurrences.{simple_occurrences}
@@ -51,7 +53,7 @@ all_of site (p ∷ ps) = followed (p site) (all_of site ps)
 abbrev pub in_scopes : Site → EnclosingScopes → Site
 in_scopes site scopes = record site { scopes = scopes }
 
-abbrev pub inside : Site → Scope ℕ ResolvedCondition ℕ → Site
+abbrev pub inside : Site → Scope KnownVariable ResolvedCondition ℕ → Site
 inside site f = in_scopes site (f ∷ site.scopes)
 
 -- a block, which LEAVE and ITERATE know by its level
@@ -74,7 +76,7 @@ compound label site xs cursors handlers statements n =
 
 abbrev pub for_loop : Option Spelling → Site → ForHead → List Part → Listing
 for_loop label site head statements n =
-    let point = in_for site.symbols label head (site.scopes, n) in
+    let point = in_for site label head n in
     followed (begun site) (followed (λ n. (in_head site head n, point.1)) (all_of (in_scopes site point.0) statements)) n
 
 abbrev pub block_layer : Block-F BlockPart Part Part Part → BlockPart
@@ -120,7 +122,7 @@ handler_occurrences = fold-Handler BlockPart Part Part Part block_layer statemen
 
 abbrev pub with_parameters : Point → List Parameter → Point
 with_parameters p [] = p
-with_parameters p (x ∷ xs) = with_parameters (with_variable p x.name.name) xs
+with_parameters p (x ∷ xs) = with_parameters (with_variable (type_known (type_of x.kind)) p x.name.name) xs
 
 abbrev pub begin : Routine → Point
 begin r = with_parameters (scope.Routine r.name.name undeclared ∷ [], record { variables = 0; cursors = 0; conditions = 0 }) r.parameters
