@@ -1,0 +1,9 @@
+pub mod Referents
+pub mod Occurrences
+pub mod ExprOccurrences
+pub mod ExprReferents
+pub mod Sites
+pub mod Declaring
+pub mod SimpleOccurrences
+pub mod StatementOccurrences
+pub mod StatementReferents
