@@ -24,7 +24,7 @@ use std::alloc::Global;
 /// `Refused` exactly where the bytes are no tokens, spell no module file or one with a fault, with the first fault: that
 /// of the tokens, the place where they stop to spell a module file, the token that opens level 101 of nesting, or the
 /// earliest part that breaks a rule. `Memory`.
-#[tactic(auto, using(crate::proofs::Building::module_given, crate::proofs::Building::module_refused))]
+#[tactic(auto, using(crate::proofs::Building::module_given))]
 pub fn build(alloc: Global, bytes: &[u8]) -> Result<RawCode, BuildFault>
     requires { length bytes.now < 4294967295 }
     // What is given stands for the module file, and a fault is the file's.
@@ -76,7 +76,7 @@ fn compiled(alloc: Global, tree: &FileTree) -> Result<RawCode, BuildFault>
 /// # Errors
 /// `Refused` exactly where the bytes are no tokens, spell no script or one with a fault over the tables and procedures of the code,
 /// with the first fault, as of a module file. `Memory`.
-#[tactic(auto, using(crate::proofs::Building::built_over, crate::proofs::Building::given_runs, crate::proofs::Building::script_given, crate::proofs::Building::script_refused_over))]
+#[tactic(auto, using(crate::proofs::Building::built_over, crate::proofs::Building::given_runs))]
 pub fn build_script(alloc: Global, code: &RawCode, bytes: &[u8]) -> Result<ScriptCode, BuildFault>
     requires { length bytes.now < 4294967295 }
     // What is given is the file's script, and a fault is the file's.
