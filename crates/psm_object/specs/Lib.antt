@@ -8,3 +8,9 @@ pub mod Handlers
 pub mod Routines
 pub mod Listing
 pub mod StatedLines
+pub mod Readers
+pub mod OperationForms
+pub mod InstructionForms
+pub mod Forms
+pub mod RoutineForms
+pub mod Due
