@@ -332,7 +332,7 @@ AllPicked symbols [] (o ∷ os) = ⊥
 AllPicked symbols (p ∷ ps) [] = ⊥
 AllPicked symbols (p ∷ ps) (o ∷ os) = AsPicked symbols p o × AllPicked symbols ps os
 
-together-append : {A B : Type 0} (g : A → List B) (xs ys : List A) → together (map g (xs ++ ys)) ≡ together (map g xs) ++ together (map g ys)
+pub together-append : {A B : Type 0} (g : A → List B) (xs ys : List A) → together (map g (xs ++ ys)) ≡ together (map g xs) ++ together (map g ys)
 together-append g [] ys = refl
 together-append g (x ∷ xs) ys = ap (λ l. g x ++ l) (together-append g xs ys) ∙ sym (append_assoc (g x) (together (map g xs)) (together (map g ys)))
 
