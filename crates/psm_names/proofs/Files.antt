@@ -1,13 +1,11 @@
 -- Names in the CHECKs of tables, and what the symbol table of a file gives for the names of its routines.
-use Rattle.std.proofs.Common.{◌≡◌, ℕ, suc, Bool, true, false, List, [], ◌∷◌, ◌++◌, length, map, Option, Some, None, option_map, is_some, ◌&&◌, refl, ap, sym, ◌∙◌, subst, if◌then◌else◌, arith}
+use Rattle.std.proofs.Common.{◌≡◌, ℕ, suc, Bool, true, false, List, [], ◌∷◌, ◌++◌, length, map, Option, Some, None, is_some, refl, ap, sym, ◌∙◌, subst, if◌then◌else◌}
 use Rattle.std.specs.Prelude.{nat_eq}
 use Rattle.std.specs.Cmp.Lexicographic.{same_text}
 use Rattle.std.proofs.lemmas.Bool.{and_parts, eqb-true}
 use Rattle.std.proofs.lemmas.List.{append_assoc, append-nil}
-use Rattle.psm_value.specs.declared.sqltype.SqlType.{SqlType}
-use Rattle.psm_scope.specs.Choice.{Signature}
 use Rattle.psm_scope.specs.Scopes.{Spelling, is_spelled}
-use Rattle.psm_scope.specs.Lookup.{or_else}
+use Rattle.psm_scope.specs.Lookup.{named, or_else}
 use Rattle.psm_scope.specs.Routines.{Header, is_header, procedure}
 use Rattle.psm_scope.specs.declared.procedures.ProcedureScope.{ProcedureScope}
 use Rattle.psm_rules.specs.CheckerScope.{SymbolTable}
@@ -29,7 +27,7 @@ use Rattle.psm_resolve.specs.SymbolTables.{known_symbols, next_procedure, with_k
 use Rattle.psm_names.specs.Referents.{together}
 use Rattle.psm_names.specs.Occurrences.{looked_up}
 use Rattle.psm_names.specs.ExprReferents.{expr_referents}
-use Rattle.psm_names.specs.FileOccurrences.{before, functions_in, in_checks, in_column_rule, in_element, in_table_rule, of_checks, or_next, procedure_from, result_of, results_in, signature_of}
+use Rattle.psm_names.specs.FileOccurrences.{AreNew, known_table, before, functions_in, in_checks, in_column_rule, in_element, in_table_rule, of_checks, or_next, procedure_from, result_of, results_in, signature_of}
 use Rattle.psm_names.specs.Sites.{site_of}
 use Rattle.psm_names.proofs.LookedUp.{Gives, gives-as, gives-both, gives-none}
 use Rattle.psm_names.specs.StatementOccurrences.{routine_occurrences}
@@ -172,6 +170,30 @@ functions-known f = routines-functions (with_known_tables no_symbols f.tables) 0
 
 pub results-known : (f : FileTree) → (known_symbols f).functions.results ≡ results_in f.«module».routines
 results-known f = routines-results (with_known_tables no_symbols f.tables) 0 f.«module».routines ∙ ap (λ c. c.results ++ results_in f.«module».routines) (tables-functions no_symbols f.tables)
+
+-- ---- tables
+
+table-new : (symbols : SymbolTable) (t : TableTree) → is_some (named t.name.name symbols.tables) ≡ false → (with_known_table symbols t).tables ≡ symbols.tables ++ known_table t ∷ []
+table-new symbols t e = ap (λ b. if b then symbols.tables else symbols.tables ++ known_table t ∷ []) e
+
+tables-new : (symbols : SymbolTable) (ts : List TableTree) → AreNew symbols.tables ts → (with_known_tables symbols ts).tables ≡ symbols.tables ++ map known_table ts
+tables-new symbols [] h = sym (append-nil symbols.tables)
+tables-new symbols (t ∷ ts) h =
+    let e = table-new symbols t h.0 in
+    tables-new (with_known_table symbols t) ts (subst (λ known. AreNew known ts) (sym e) h.1)
+    ∙ ap (λ l. l ++ map known_table ts) e
+    ∙ append_assoc symbols.tables (known_table t ∷ []) (map known_table ts)
+
+routine-tables : (symbols : SymbolTable) (i : ℕ) (r : Routine) (o : Option DataType) → (with_known_routine symbols i r o).tables ≡ symbols.tables
+routine-tables symbols i r None = refl
+routine-tables symbols i r (Some t) = refl
+
+routines-tables : (symbols : SymbolTable) (i : ℕ) (rs : List Routine) → (with_known_routines symbols i rs).tables ≡ symbols.tables
+routines-tables symbols i [] = refl
+routines-tables symbols i (r ∷ rs) = routines-tables (with_known_routine symbols i r r.returns) (next_procedure i r.returns) rs ∙ routine-tables symbols i r r.returns
+
+pub tables-known : (f : FileTree) → AreNew [] f.tables → (known_symbols f).tables ≡ map known_table f.tables
+tables-known f h = routines-tables (with_known_tables no_symbols f.tables) 0 f.«module».routines ∙ tables-new no_symbols f.tables h
 
 -- ---- files
 

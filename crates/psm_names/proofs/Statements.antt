@@ -1,16 +1,11 @@
 -- The referents of a resolved statement are those that look-up gives for its occurrences: an induction over statements.
-use Rattle.std.proofs.Common.{◌≡◌, ℕ, suc, Bool, List, [], ◌∷◌, ◌++◌, length, map, Option, Some, None, option_map, refl, ap, sym, ◌∙◌, subst}
-use Rattle.psm_list.specs.Several.{Several, several_map}
-use Rattle.psm_cond.specs.declared.handlers.ConditionValue.TheVariants as values
+use Rattle.std.proofs.Common.{◌≡◌, ℕ, suc, Bool, List, [], ◌∷◌, ◌++◌, length, map, Option, None, refl, ap, sym, ◌∙◌, subst}
 use Rattle.psm_scope.specs.Scopes.{Spelling, undeclared}
 use Rattle.psm_scope.specs.Scopes as scope
 use Rattle.psm_scope.specs.Lookup as lookup
 use Rattle.psm_rules.specs.StatementFaults.{label_name, several}
 use Rattle.psm_rules.specs.CheckerScope.{SymbolTable}
-use Rattle.psm_rules.specs.Types.{type_of}
-use Rattle.psm_value.specs.declared.sqltype.SqlType.{SqlType}
 use Rattle.psm_tree.specs.declared.name.Identifier.{Identifier}
-use Rattle.psm_tree.specs.declared.expr.Expr.{Expr}
 use Rattle.psm_tree.specs.declared.file.Routine.{Routine}
 use Rattle.psm_tree.specs.declared.statement.Block.{Block, roll-Block}
 use Rattle.psm_tree.specs.declared.statement.Branch.{Branch, roll-Branch}
@@ -32,29 +27,27 @@ use Rattle.psm_resolved.specs.declared.statement.ResolvedCondition.{ResolvedCond
 use Rattle.psm_resolved.specs.declared.statement.ResolvedCondition.TheVariants as conditions
 use Rattle.psm_resolved.specs.declared.statement.ResolvedHandler.{ResolvedHandler}
 use Rattle.psm_resolved.specs.declared.statement.ResolvedStatement.{ResolvedStatement}
-use Rattle.psm_resolve_expr.specs.Exprs.{resolve_query, type_known}
+use Rattle.psm_resolve_expr.specs.Exprs.{resolve_query}
 use Rattle.psm_resolve_expr.specs.ResolverScope.{ResolverScope, Scopes}
-use Rattle.psm_declare.specs.Numbering.{Numbering, next_slot, with_slot}
-use Rattle.psm_declare.specs.Declarations.{Numbered, cursors_of, declarations_of, is_downward, numbered_after, numbered_by, numbered_cursor, numbered_cursors, numbered_variables, numbered_variable, opened, ordered, ordered_query, slots_from}
-use Rattle.psm_declare.specs.Seen.{expr_at}
+use Rattle.psm_declare.specs.Numbering.{Numbering, next_slot}
+use Rattle.psm_declare.specs.Declarations.{Numbered, cursors_of, declarations_of, is_downward, numbered_after, numbered_by, numbered_cursor, numbered_cursors, opened, ordered, ordered_query, slots_from}
 use Rattle.psm_resolve.specs.Blocks as resolving
 use Rattle.psm_resolve.specs.Blocks.{ForItem, all, block_layer, branch_layer, for_items, handler_layer, head_of, in_scopes, in_loop, inside, item_slots, numbered_head, resolve_block, resolve_branch, resolve_handler, resolve_statement, statement_layer, value_for, value_of}
 use Rattle.psm_resolve.specs.Files.{resolve_routine, routine_numbered}
 use Rattle.psm_resolve.specs.Statements.{declared_as}
-use Rattle.psm_names.specs.Referents.{Referent, Variable, Cursor, Condition, Block as BlockReferent, Declaration as DeclarationOf, together, perhaps}
-use Rattle.psm_names.specs.Occurrences.{Occurrence, Declared, Site, looked_up, referents}
+use Rattle.psm_names.specs.Referents.{Referent, Condition, Block as BlockReferent, Declaration as DeclarationOf, together}
+use Rattle.psm_names.specs.Occurrences.{Occurrence, Site, looked_up}
 use Rattle.psm_names.specs.ExprOccurrences.{expr_occurrences, query_occurrences}
-use Rattle.psm_names.specs.ExprReferents as exprs
-use Rattle.psm_names.specs.ExprReferents.{R, expr_referents, items_referents, query_referents}
-use Rattle.psm_names.specs.Declaring.{Ordinals, Point, control, in_cursors, in_declaration, in_declarations, in_for, in_head, optional_occurrences, variables_from, with_cursors, with_declaration, with_declarations, with_variable}
+use Rattle.psm_names.specs.ExprReferents.{query_referents}
+use Rattle.psm_names.specs.Declaring.{Ordinals, Point, control, in_cursors, in_declarations, in_for, in_head, optional_occurrences, variables_from, with_cursors, with_declarations}
 use Rattle.psm_names.specs.StatementOccurrences as places
 use Rattle.psm_names.specs.StatementOccurrences.{Listing, all_of, begin, begun, block_occurrences, branch_occurrences, declaring, followed, handler_occurrences, in_value, only, routine_occurrences, statement_occurrences}
-use Rattle.psm_names.specs.StatementReferents.{branch_referents, handler_referents, of_cursor, of_declaration, of_head, declaring_slots, of_value, optional_referents, routine_referents, statement_referents}
+use Rattle.psm_names.specs.StatementReferents.{branch_referents, handler_referents, of_cursor, of_declaration, of_head, declaring_slots, of_value, routine_referents, statement_referents}
 use Rattle.psm_names.specs.Sites.{known, site_of}
 use Rattle.psm_names.proofs.Knowing.{levels-known}
 use Rattle.psm_names.proofs.LookedUp.{Gives, gives-as, gives-both, gives-none, gives-one}
 use Rattle.psm_names.proofs.Exprs.{expr-gives, query-gives}
-use Rattle.psm_names.proofs.Points.{begin-point, cursor-point, cursors-point, declaration-point, declarations-point, head-point, items-same, ordinals, point, slot-more}
+use Rattle.psm_names.proofs.Points.{begin-point, cursor-point, cursors-point, declaration-point, declarations-point, head-point, items-same, ordinals, point}
 use Rattle.psm_names.proofs.Simples.{named-condition, optional-gives, simple-gives, state-is}
 use Rattle.psm_names.proofs.ReferentsOfForms.{referents-query}
 use Rattle.psm_names.proofs.ReferentsOfStatements.{standing-Case, standing-Compound, standing-For, standing-If, standing-Loop, standing-Repeat, standing-Simple, standing-While, standing-block, standing-branch, standing-handler}

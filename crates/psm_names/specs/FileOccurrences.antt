@@ -1,14 +1,15 @@
 -- The occurrences of names in a module file: in its routines, and in the CHECKs of its tables (ISO/IEC 9075:1992, 11.9), which see the
 -- columns of their table alone; and what its names of routines mean.
-use Rattle.std.specs.Prelude.{ℕ, suc, List, [], ◌∷◌, ◌++◌, length, map, Option, Some, None, if◌then◌else◌}
+use Rattle.std.specs.Prelude.{◌≡◌, ℕ, suc, false, is_some, List, [], ◌∷◌, ◌++◌, length, map, Option, Some, None, if◌then◌else◌}
 use Rattle.psm_value.specs.declared.sqltype.SqlType.{SqlType}
 use Rattle.psm_scope.specs.Scopes.{Spelling}
 use Rattle.psm_scope.specs.Choice.{Signature}
+use Rattle.psm_scope.specs.Lookup.{named}
 use Rattle.psm_scope.specs.Routines.{is_header}
 use Rattle.psm_scope.specs.declared.procedures.ProcedureScope.{ProcedureScope}
 use Rattle.psm_rules.specs.FileFaults.{columns_of, kinds_of, no_symbols, parameter_of, table_elements}
+use Rattle.psm_rules.specs.CheckerScope.{Columns}
 use Rattle.psm_rules.specs.Types.{type_of}
-use Rattle.psm_tree.specs.declared.file.ColumnRule.{ColumnRule}
 use Rattle.psm_tree.specs.declared.file.ColumnRuleForm.{ColumnRuleForm}
 use Rattle.psm_tree.specs.declared.file.ColumnRuleForm.TheVariants as column_rules
 use Rattle.psm_tree.specs.declared.file.Element.{Element}
@@ -49,6 +50,16 @@ in_checks t = together (map (in_element (of_table t)) (table_elements t))
 
 abbrev pub of_checks : ResolvedTable → List Referent
 of_checks t = together (map expr_referents t.checks)
+
+-- ---- tables: where no two have one name, as in each accepted file, a table is known by its index among them
+
+abbrev pub known_table : TableTree → Spelling × Columns
+known_table t = (t.name.name, columns_of (table_elements t))
+
+-- no table has the name of one that is known or stands before it
+abbrev pub AreNew : List (Spelling × Columns) → List TableTree → Type 0
+AreNew known [] = Unit {0}
+AreNew known (t ∷ ts) = (is_some (named t.name.name known) ≡ false) × AreNew (known ++ known_table t ∷ []) ts
 
 -- ---- routines: a procedure is known by its number among the procedures, the first with that name and number of parameters counts;
 -- a function by that among the functions

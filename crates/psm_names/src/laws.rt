@@ -1,5 +1,5 @@
 //! The laws of name resolution.
-ghost use Rattle.std.specs.Prelude.{◌≡◌, ℕ, map};
+ghost use Rattle.std.specs.Prelude.{◌≡◌, ℕ, [], map};
 ghost use Rattle.psm_scope.specs.Routines.{procedure};
 ghost use Rattle.psm_scope.specs.Scopes.{Spelling};
 ghost use Rattle.psm_rules.specs.CheckerScope.{SymbolTable};
@@ -15,7 +15,7 @@ ghost use Rattle.psm_resolve.specs.SymbolTables.{known_symbols};
 ghost use Rattle.psm_names.specs.Occurrences.{looked_up};
 ghost use Rattle.psm_names.specs.ExprOccurrences.{expr_occurrences, query_occurrences};
 ghost use Rattle.psm_names.specs.ExprReferents.{expr_referents, query_referents};
-ghost use Rattle.psm_names.specs.FileOccurrences.{functions_in, in_checks, of_checks, procedure_from, results_in};
+ghost use Rattle.psm_names.specs.FileOccurrences.{AreNew, functions_in, in_checks, known_table, of_checks, procedure_from, results_in};
 ghost use Rattle.psm_names.specs.Sites.{site_of};
 ghost use Rattle.psm_names.specs.StatementOccurrences.{routine_occurrences};
 ghost use Rattle.psm_names.specs.StatementReferents.{routine_referents};
@@ -32,11 +32,13 @@ pub fn names_in_expressions_are_resolved()
     ensures queries { (q : Select) (s : ResolverScope) → query_referents (resolve_query q s).query ≡ looked_up s.symbols (query_occurrences q (site_of s)) }
 {}
 
-/// The same of the routines of a file and of the CHECKs of its tables. The number of a procedure is its index among the procedures
+/// The same of the routines of a file and of the CHECKs of its tables. The number of a table is its index, where no two
+/// have one name. The number of a procedure is its index among the procedures
 /// of the file, of which the first with a name and a number of parameters counts, and that of a function its index among the functions.
 pub fn names_in_files_are_resolved()
     ensures routines { (f : FileTree) → map routine_referents (resolved_file f).routines ≡ map (λ r. looked_up (known_symbols f) (routine_occurrences (known_symbols f) r)) f.«module».routines }
     ensures checks { (f : FileTree) → map of_checks (resolved_file f).tables ≡ map (λ t. looked_up no_symbols (in_checks t)) f.tables }
+    ensures tables { (f : FileTree) → AreNew [] f.tables → (known_symbols f).tables ≡ map known_table f.tables }
     ensures procedures { (f : FileTree) (n : Spelling) (count : ℕ) → procedure n count (known_symbols f).procedures ≡ procedure_from 0 n count f.«module».routines }
     ensures functions { (f : FileTree) → (known_symbols f).functions.signatures ≡ functions_in f.«module».routines }
     ensures results { (f : FileTree) → (known_symbols f).functions.results ≡ results_in f.«module».routines }

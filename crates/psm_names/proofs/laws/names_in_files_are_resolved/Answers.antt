@@ -1,4 +1,4 @@
-use Rattle.psm_names.proofs.Files.{all_checks, all_routines, functions-known, procedures-known, results-known}
+use Rattle.psm_names.proofs.Files.{all_checks, all_routines, functions-known, procedures-known, results-known, tables-known}
 use Rattle.psm_names.proofs.laws.names_in_files_are_resolved.Goals as goal
 
 pub returns-clause-routines : goal.returns-clause-routines
@@ -6,6 +6,9 @@ returns-clause-routines c = all_routines
 
 pub returns-clause-checks : goal.returns-clause-checks
 returns-clause-checks c = all_checks
+
+pub returns-clause-tables : goal.returns-clause-tables
+returns-clause-tables c = tables-known
 
 pub returns-clause-procedures : goal.returns-clause-procedures
 returns-clause-procedures c = procedures-known
